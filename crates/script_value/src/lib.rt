@@ -1,0 +1,8 @@
+//! Values of page scripts, what a visit answers, and how values are measured and compared.
+#![tactic(auto)]
+
+mod outcome;
+mod value;
+
+pub use outcome::{Fault, Op, Refusal, Reply, TxName};
+pub use value::{Bytes, Items, Str, Value, depth, equal, size};
