@@ -1,0 +1,10 @@
+use Rattle.std.proofs.Common.{refl}
+use Rattle.std.proofs.lemmas.Option.{slice_get_read}
+use Rattle.core_syntax.proofs.Trees.{tree_at_node}
+use Rattle.core_syntax.proofs.script.Script.node.Goals as goal
+
+pub returns-clause-tree : goal.returns-clause-tree
+returns-clause-tree c =
+    let within = rw (← c.self.view_is) at c.requires in
+    let here = slice_get_read _ _ c.args.number c.index.result.now refl within c.index.ensures in
+    rw (← c.self.view_is) (tree_at_node _ c.self.invariant _ _ here)

@@ -1,0 +1,8 @@
+//! The core language: its nodes, and the table of forms that makes them of data.
+#![tactic(auto)]
+
+mod expand;
+mod script;
+
+pub use expand::{SyntaxError, SyntaxKind};
+pub use script::{Node, Numbers, Script};
