@@ -2,3 +2,4 @@ pub mod Core
 pub mod Arena
 pub mod Layout
 pub mod Forms
+pub mod Setup

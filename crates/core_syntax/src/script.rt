@@ -82,6 +82,15 @@ impl Script {
         self.nodes.len()
     }
 
+    /// The number of the node that a run begins with.
+    pub fn root(&self) -> u32
+        ensures root { result ≡ 0 }
+        ensures within { 0 < length self.now }
+    {
+        let _nodes = &self.nodes;
+        0
+    }
+
     /// The node of a number.
     #[tactic(auto, using(crate::proofs::Trees::tree_at_node))]
     pub fn node(&self, number: u32) -> &Node

@@ -1,0 +1,6 @@
+//! Names.
+#![tactic(auto)]
+
+mod name;
+
+pub use name::PageName;

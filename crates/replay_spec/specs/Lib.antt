@@ -1,0 +1,6 @@
+pub mod Tape
+pub mod Eval
+pub mod Book
+pub mod Admission
+pub mod Step
+pub mod Runs

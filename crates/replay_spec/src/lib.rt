@@ -1,0 +1,2 @@
+//! What a page script means, and what a shelf answers: definitions alone.
+#![tactic(auto)]
