@@ -3,3 +3,4 @@ pub mod Arena
 pub mod Layout
 pub mod Forms
 pub mod Setup
+pub mod Scripts

@@ -3,6 +3,8 @@
 
 mod expand;
 mod script;
+mod setup;
 
 pub use expand::{SyntaxError, SyntaxKind};
 pub use script::{Node, Numbers, Script};
+pub use setup::{NamedScript, Setup};

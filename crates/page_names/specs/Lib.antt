@@ -1,1 +1,4 @@
+pub mod NameBytes
+pub mod Pieces
 pub mod Names
+pub mod Vectors

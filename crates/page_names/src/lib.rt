@@ -1,6 +1,8 @@
-//! Names.
+//! The names of scripts and of the pages that they send, and the URLs that spell them.
 #![tactic(auto)]
 
-mod name;
+mod names;
+mod urls;
+pub use urls::url_text;
 
-pub use name::PageName;
+pub use names::{PageName, ScriptName, Target};

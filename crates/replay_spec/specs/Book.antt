@@ -1,5 +1,5 @@
 -- The book of one shelf, and what one record does to it.
-use Rattle.std.specs.Prelude.{ℕ, zero, suc, ◌+◌, ◌==◌, not, List, [], ◌∷◌, ◌++◌, length, filter, Option, Some, None, if◌then◌else◌}
+use Rattle.std.specs.Prelude.{ℕ, zero, suc, ◌+◌, ◌==◌, not, List, [], ◌∷◌, ◌++◌, length, filter, nat_lt, Option, Some, None, if◌then◌else◌}
 use Rattle.script_value.specs.Val.{Val}
 use Rattle.script_value.specs.declared.outcome.TxName.{TxName}
 
@@ -12,7 +12,7 @@ pub record Page : Type 0 where
   pub reads : List Val
   pub inside : List TxName
 
--- a run of the script of this place in the setup, with its pages, the oldest first
+-- a run of the script of this place in the setup, with its pages in the order of their numbers
 pub record Instance : Type 0 where
   pub number : ℕ
   pub script : ℕ
@@ -50,11 +50,23 @@ abbrev pub mend : ℕ → (Instance → Instance) → List Instance → List Ins
 mend n f [] = []
 mend n f (i ∷ is) = if i.number == n then f i ∷ is else i ∷ mend n f is
 
+-- a page among others, in the order of their numbers
+abbrev pub put_page : Page → List Page → List Page
+put_page p [] = p ∷ []
+put_page p (q ∷ qs) =
+    if nat_lt p.number q.number then p ∷ q ∷ qs else (if p.number == q.number then p ∷ qs else q ∷ put_page p qs)
+
+-- an instance among others, in the order of their numbers
+abbrev pub put_instance : Instance → List Instance → List Instance
+put_instance i [] = i ∷ []
+put_instance i (j ∷ js) =
+    if nat_lt i.number j.number then i ∷ j ∷ js else (if i.number == j.number then i ∷ js else j ∷ put_instance i js)
+
 abbrev pub with_page : Page → Instance → Instance
-with_page p i = record i { pages = i.pages ++ p ∷ [] }
+with_page p i = record i { pages = put_page p i.pages }
 
 abbrev pub instances_by : Effect → List Instance → List Instance
-instances_by (opens n s p) is = is ++ record { number = n; script = s; pages = p ∷ [] } ∷ []
+instances_by (opens n s p) is = put_instance (record { number = n; script = s; pages = p ∷ [] }) is
 instances_by (extends i p) is = mend i (with_page p) is
 instances_by (ends i n) is = is
 

@@ -6,13 +6,13 @@ use Rattle.script_value.specs.declared.outcome.Fault.{Fault}
 use Rattle.script_value.specs.declared.outcome.Refusal.{Refusal}
 use Rattle.page_names.specs.Names.{Destination, spelling}
 use Rattle.page_names.specs.Names as names
-use Rattle.page_names.specs.declared.name.PageName.{PageName}
+use Rattle.page_names.specs.declared.names.PageName.{PageName}
 use Rattle.core_syntax.specs.Setup.{Named}
 use Rattle.replay_spec.specs.Tape.{Now, Segment, Answer, Tape, recorded, present, Stop}
 use Rattle.replay_spec.specs.Tape as tape
 use Rattle.replay_spec.specs.Eval.{run}
 use Rattle.replay_spec.specs.Book.{Page, Instance, Book, Effect, opens, extends, ends, land, draw, spend, chain}
-use Rattle.replay_spec.specs.Admission.{Admission, begins, resumes, refused, admit}
+use Rattle.replay_spec.specs.Admission.{Admission, begins, resumes, refused, refusal_of, admit}
 
 -- what a take gives: the right to publish one segment under this number and nonce
 pub record Ticket : Type 0 where
@@ -117,14 +117,13 @@ settle b no_memory d = (memory, b)
 settle b plain (answers r) = (r, b)
 settle b plain (records r e) = (r, land e b)
 
-abbrev pub take_admitted : Book → ℕ → Admission → Reply × Book
-take_admitted b nonce (refused r) = (refusal r, b)
-take_admitted b nonce (begins k s) = (taken b.drawn nonce, draw b)
-take_admitted b nonce (resumes s i p) = (taken b.drawn nonce, draw b)
+abbrev pub take_admitted : Book → ℕ → Option Refusal → Reply × Book
+take_admitted b nonce (Some r) = (refusal r, b)
+take_admitted b nonce None = (taken b.drawn nonce, draw b)
 
 abbrev pub take_by : List Named → Book → Destination → ℕ → Fate → Reply × Book
 take_by setup b target nonce no_memory = (memory, b)
-take_by setup b target nonce plain = take_admitted b nonce (admit setup b target)
+take_by setup b target nonce plain = take_admitted b nonce (refusal_of (admit setup b target))
 
 -- a publish spends its number, whatever its reply
 unfoldable pub step : List Named → Book → Event → Fate → Reply × Book

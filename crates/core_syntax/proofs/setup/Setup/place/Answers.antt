@@ -1,0 +1,10 @@
+use Rattle.std.proofs.Common.{sym, ◌∙◌}
+use Rattle.page_names.specs.Names.{name_of}
+use Rattle.core_syntax.specs.Scripts.{named_of, has_name}
+use Rattle.core_syntax.proofs.Places.{position_map}
+use Rattle.core_syntax.proofs.setup.Setup.place.Goals as goal
+
+pub returns : goal.returns
+returns c =
+    let same = position_map (has_name (name_of c.args.name.now)) named_of c.args.self.now.scripts.items in
+    c.place_of.ensures ∙ rw (c.as_bytes.ensures, c.deref.ensures.value) (sym same)

@@ -1,0 +1,71 @@
+ghost use Rattle.std.specs.Prelude.{◌≡◌, List, map, option_map, slice_get, position};
+ghost use Rattle.std.specs.Str.{bytes_eq};
+ghost use Rattle.page_names.specs.Names.{name_of};
+
+use crate::script::Script;
+use page_names::ScriptName;
+use script_value::Bytes;
+
+/// A script, with its name and its text.
+#[derive(Drop)]
+pub struct NamedScript {
+    pub name: ScriptName,
+    pub text: Bytes,
+    pub script: Script,
+}
+
+// Whether a script has this name.
+fn is_named(named: &NamedScript, name: &[u8]) -> bool
+    ensures { result ≡ bytes_eq (name_of named.now.name) name.now }
+{
+    named.name.as_bytes() == name
+}
+
+// The place of the first script of this name.
+fn place_of(scripts: &[NamedScript], name: &[u8]) -> Option<usize>
+    ensures { result ≡ position (λ s. bytes_eq (name_of s.name) name.now) scripts.now }
+{
+    scripts.iter().position(|named| is_named(named, name))
+}
+
+/// The scripts that are served.
+#[derive(Drop)]
+pub struct Setup {
+    scripts: Vec<NamedScript>,
+}
+
+impl Setup {
+    ghost use Rattle.core_syntax.specs.Arena.{tree_at};
+    ghost use Rattle.core_syntax.specs.Scripts.{named_of, scripts_of, place_named, core_at};
+
+    /// These scripts, in this order.
+    pub fn new(scripts: Vec<NamedScript>) -> Setup
+        ensures { scripts_of result ≡ map named_of scripts.items }
+    {
+        Setup { scripts }
+    }
+
+    /// The place of the first script of a name, from 0.
+    #[tactic(auto, using(crate::proofs::Places::position_map))]
+    pub fn place(&self, name: &ScriptName) -> Option<usize>
+        ensures { result ≡ place_named (name_of name.now) (scripts_of self.now) }
+    {
+        place_of(&self.scripts, name.as_bytes())
+    }
+
+    /// The script of a place, with its name and text.
+    pub fn get(&self, place: usize) -> Option<&NamedScript>
+        ensures { option_map (λ s. named_of s.now) result ≡ slice_get (scripts_of self.now) place }
+    {
+        self.scripts.get(place)
+    }
+
+    /// The first script of a name.
+    pub fn find(&self, name: &ScriptName) -> Option<&Script>
+        ensures { option_map (λ s. tree_at s.now 0) result ≡ core_at (scripts_of self.now) (place_named (name_of name.now) (scripts_of self.now)) }
+    {
+        let place = self.place(name)?;
+        let named = self.get(place)?;
+        Some(&named.script)
+    }
+}

@@ -1,0 +1,116 @@
+-- The entries of an ordered map as the lists of the book.
+use Rattle.std.proofs.Common.{◌≡◌, ◌<◌, ◌==◌, ℕ, List, [], ◌∷◌, map, Option, Some, None, option_map, Bool, true, false, cond, refl, sym, ap, ◌∙◌, ⊎_elim, arith, nat_lt}
+use Rattle.std.proofs.lemmas.Bool.{cases_eq, cases_lt, eq-eqb, ne_eqb}
+use Rattle.std.proofs.lemmas.Bool.Decides.{nat_tests}
+use Rattle.std.specs.Borrow.{Bor}
+use Rattle.std.specs.Option.{option_copied}
+use Rattle.std.specs.Ordering.{nat_cmp, is_eq, match_ordering}
+use Rattle.std.specs.Map.{lookup, set_value}
+use Rattle.std.specs.BTreeMap.{insert_entry, is_at}
+use Rattle.replay_spec.specs.Book.{Page, Instance, page_at, instance_at, put_page, put_instance, mend, with_page}
+use Rattle.instance_book.specs.declared.book.KeptPage.{KeptPage}
+use Rattle.instance_book.specs.declared.book.KeptInstance.{KeptInstance}
+use Rattle.instance_book.specs.Code.{page_of, instance_of}
+
+pub is_eq-nat_cmp : (n k : ℕ) → is_eq (nat_cmp n k) ≡ (k == n)
+is_eq-nat_cmp n k = grind (arith, nat_tests)
+
+pub page_found : (n : ℕ) (es : List (ℕ × KeptPage))
+    → option_map (λ v. page_of (n, v)) (lookup (is_at (nat_cmp n)) es) ≡ page_at n (map page_of es)
+page_found n [] = refl
+page_found n (e ∷ es) =
+    ⊎_elim
+    (λ same. let test : (e.0 == n) ≡ true = eq-eqb e.0 n same in rw (is_eq-nat_cmp n e.0, test) (ap (λ k. Some (page_of (k, e.1))) (sym same)))
+    (λ other. let test : (e.0 == n) ≡ false = ne_eqb e.0 n other in rw (is_eq-nat_cmp n e.0, test) (page_found n es))
+    (cases_eq e.0 n)
+
+pub instance_found : (n : ℕ) (es : List (ℕ × KeptInstance))
+    → option_map (λ v. instance_of (n, v)) (lookup (is_at (nat_cmp n)) es) ≡ instance_at n (map instance_of es)
+instance_found n [] = refl
+instance_found n (e ∷ es) =
+    ⊎_elim
+    (λ same. let test : (e.0 == n) ≡ true = eq-eqb e.0 n same in rw (is_eq-nat_cmp n e.0, test) (ap (λ k. Some (instance_of (k, e.1))) (sym same)))
+    (λ other. let test : (e.0 == n) ≡ false = ne_eqb e.0 n other in rw (is_eq-nat_cmp n e.0, test) (instance_found n es))
+    (cases_eq e.0 n)
+
+pub page_put : (n : ℕ) (v : KeptPage) (es : List (ℕ × KeptPage))
+    → map page_of (insert_entry nat_cmp es n v) ≡ put_page (page_of (n, v)) (map page_of es)
+page_put n v [] = refl
+page_put n v (e ∷ es) =
+    ⊎_elim
+    (λ below. let test : nat_lt n e.0 ≡ true = grind (arith, nat_tests) in rw test refl)
+    (λ above. let test : nat_lt n e.0 ≡ false = grind (arith, nat_tests) in
+    ⊎_elim
+    (λ same. let eq : (n == e.0) ≡ true = eq-eqb n e.0 same in rw (test, eq) (ap (λ k. page_of (k, v) ∷ map page_of es) (sym same)))
+    (λ other. let eq : (n == e.0) ≡ false = ne_eqb n e.0 other in rw (test, eq) (ap (λ ps. page_of e ∷ ps) (page_put n v es)))
+    (cases_eq n e.0))
+    (cases_lt n e.0)
+
+pub instance_put : (n : ℕ) (v : KeptInstance) (es : List (ℕ × KeptInstance))
+    → map instance_of (insert_entry nat_cmp es n v) ≡ put_instance (instance_of (n, v)) (map instance_of es)
+instance_put n v [] = refl
+instance_put n v (e ∷ es) =
+    ⊎_elim
+    (λ below. let test : nat_lt n e.0 ≡ true = grind (arith, nat_tests) in rw test refl)
+    (λ above. let test : nat_lt n e.0 ≡ false = grind (arith, nat_tests) in
+    ⊎_elim
+    (λ same. let eq : (n == e.0) ≡ true = eq-eqb n e.0 same in rw (test, eq) (ap (λ k. instance_of (k, v) ∷ map instance_of es) (sym same)))
+    (λ other. let eq : (n == e.0) ≡ false = ne_eqb n e.0 other in rw (test, eq) (ap (λ is. instance_of e ∷ is) (instance_put n v es)))
+    (cases_eq n e.0))
+    (cases_lt n e.0)
+
+-- an instance that was found and changed
+pub instance_mended : (n : ℕ) (f : Instance → Instance) (v w : KeptInstance) (es : List (ℕ × KeptInstance))
+    → lookup (is_at (nat_cmp n)) es ≡ Some v → f (instance_of (n, v)) ≡ instance_of (n, w)
+    → map instance_of (set_value (is_at (nat_cmp n)) es w) ≡ mend n f (map instance_of es)
+instance_mended n f v w [] found changed = let absent : None ≡ Some v = found in cc
+instance_mended n f v w (e ∷ es) found changed =
+    ⊎_elim
+    (λ same. let test : (e.0 == n) ≡ true = eq-eqb e.0 n same in
+    let here : Some e.1 ≡ Some v = rw (is_eq-nat_cmp n e.0, test) at found in
+    rw (is_eq-nat_cmp n e.0, test) (ap (λ i. i ∷ map instance_of es) (ap (λ k. instance_of (k, w)) same ∙ (sym changed ∙ cc))))
+    (λ other. let test : (e.0 == n) ≡ false = ne_eqb e.0 n other in
+    let later : lookup (is_at (nat_cmp n)) es ≡ Some v = rw (is_eq-nat_cmp n e.0, test) at found in
+    rw (is_eq-nat_cmp n e.0, test) (ap (λ is. instance_of e ∷ is) (instance_mended n f v w es later changed)))
+    (cases_eq e.0 n)
+
+-- an instance that is not there
+pub none_mended : (n : ℕ) (f : Instance → Instance) (es : List (ℕ × KeptInstance))
+    → lookup (is_at (nat_cmp n)) es ≡ None → mend n f (map instance_of es) ≡ map instance_of es
+none_mended n f [] none = refl
+none_mended n f (e ∷ es) none =
+    ⊎_elim
+    (λ same. let test : (e.0 == n) ≡ true = eq-eqb e.0 n same in
+    let here : Some e.1 ≡ None = rw (is_eq-nat_cmp n e.0, test) at none in cc)
+    (λ other. let test : (e.0 == n) ≡ false = ne_eqb e.0 n other in
+    let later : lookup (is_at (nat_cmp n)) es ≡ None = rw (is_eq-nat_cmp n e.0, test) at none in
+    rw test (ap (λ is. instance_of e ∷ is) (none_mended n f es later)))
+    (cases_eq e.0 n)
+
+-- what a reference refers to, mapped
+pub copied : {A B : Type 0} (f : A → B) (r : Option (Bor A)) → option_map (λ p. f p.now) r ≡ option_map f (option_copied r)
+copied f None = refl
+copied f (Some x) = refl
+
+mend_same : (n : ℕ) (is : List Instance) → mend n (λ i. i) is ≡ is
+mend_same n [] = refl
+mend_same n (i ∷ is) =
+    ⊎_elim
+    (λ same. let test : (i.number == n) ≡ true = eq-eqb i.number n same in rw test refl)
+    (λ other. let test : (i.number == n) ≡ false = ne_eqb i.number n other in rw test (ap (λ js. i ∷ js) (mend_same n is)))
+    (cases_eq i.number n)
+
+-- an instance that was found and put back as it was
+pub instance_kept : (n : ℕ) (v w : KeptInstance) (es : List (ℕ × KeptInstance))
+    → lookup (is_at (nat_cmp n)) es ≡ Some v → instance_of (n, v) ≡ instance_of (n, w)
+    → map instance_of (set_value (is_at (nat_cmp n)) es w) ≡ map instance_of es
+instance_kept n v w es found same = instance_mended n (λ i. i) v w es found same ∙ mend_same n (map instance_of es)
+
+-- one more page of an instance
+pub page_added : (n m : ℕ) (p : KeptPage) (v w : KeptInstance) (es : List (ℕ × KeptInstance))
+    → lookup (is_at (nat_cmp n)) es ≡ Some v → w.script ≡ v.script → w.pages.entries ≡ insert_entry nat_cmp v.pages.entries m p
+    → map instance_of (set_value (is_at (nat_cmp n)) es w) ≡ mend n (with_page (page_of (m, p))) (map instance_of es)
+page_added n m p v w es found script pages =
+    instance_mended n (with_page (page_of (m, p))) v w es found
+    (ap (λ (ps : List Page). record { number = n; script = v.script; pages = ps }) (sym (page_put m p v.pages.entries) ∙ ap (map page_of) (sym pages))
+    ∙ ap (λ (k : ℕ). record { number = n; script = k; pages = map page_of w.pages.entries }) (sym script))

@@ -1,0 +1,4 @@
+pub mod Code
+pub mod Effects
+pub mod Admissions
+pub mod Chains

@@ -1,0 +1,5 @@
+pub mod Text
+pub mod Step
+pub mod Visit
+pub mod Transcript
+pub mod Play
