@@ -2,9 +2,9 @@
 use Rattle.std.proofs.Common.{◌≡◌, ◌<◌, ◌+◌, ◌-◌, ℕ, zero, suc, List, [], ◌∷◌, ◌++◌, map, Option, Some, None, reverse, length, refl, sym, ap, ◌∙◌, arith, append_assoc}
 use Rattle.std.proofs.lemmas.List.{map-append, reverse-append}
 use Rattle.std.specs.Borrow.{Bor}
-use Rattle.replay_spec.specs.Tape.{Answer}
+use Rattle.replay_spec.specs.Tape.{Answer, Segment, Tape}
 use Rattle.replay_spec.specs.Book.{Page, chain_within, parent_of}
-use Rattle.replay_spec.specs.Step.{answers_to, past}
+use Rattle.replay_spec.specs.Step.{answers_to, past, newest, Ticket, chain_tape}
 use Rattle.instance_book.specs.declared.book.KeptPage.{KeptPage}
 use Rattle.instance_book.specs.Chains.{link_of}
 
@@ -33,3 +33,21 @@ pub answers_step : (name : List ℕ) (shelf instance : ℕ) (newest : Answer) (d
     ≡ (done ++ record { value = (link_of x).answer; segment = past name shelf instance (link_of x) } ∷ []) ++ answers_to name shelf instance (reverse (map link_of xs)) newest
 answers_step name shelf instance newest done xs x =
     rw (reverse_pushed xs x) (sym (append_assoc done (record { value = (link_of x).answer; segment = past name shelf instance (link_of x) } ∷ []) (answers_to name shelf instance (reverse (map link_of xs)) newest)))
+
+pub nothing_left : {A : Type 0} (xs : List A) → length xs ≡ 0 → xs ≡ []
+nothing_left [] h = refl
+nothing_left (x ∷ xs) h = absurd (omega arith)
+
+-- the whole tape: the root, the answers on the way, and then the newest
+pub taped : (name : List ℕ) (shelf instance : ℕ) (t : Ticket) (chain : List Page) (root : Link) (links : List Link) (done later : List Answer) (first : Segment) (last : Answer)
+    → chain ≡ reverse (map link_of (links ++ root ∷ []))
+    → first ≡ past name shelf instance (link_of root)
+    → last ≡ record { value = t.answer; segment = newest name shelf instance t }
+    → answers_to name shelf instance (reverse (map link_of links)) last ≡ done ++ last ∷ []
+    → later ≡ done ++ last ∷ []
+    → record { first = first; later = later } ≡ chain_tape name shelf instance chain t
+taped name shelf instance t chain root links done later first last c f l a e =
+    let order : chain ≡ link_of root ∷ reverse (map link_of links) = c ∙ reverse_pushed links root in
+    let answers : later ≡ answers_to name shelf instance (reverse (map link_of links)) (record { value = t.answer; segment = newest name shelf instance t }) =
+        e ∙ (sym a ∙ ap (answers_to name shelf instance (reverse (map link_of links))) l) in
+    rw (order, f, answers) refl
