@@ -1,4 +1,4 @@
-ghost use Rattle.std.specs.Prelude.{◌≡◌, ◌<◌, ◌+◌, ◌^◌, ◌==◌, ◌∷◌, [], not, filter, Some, None, MatchResult, IfOk, OnOk, OnErr, Contains};
+ghost use Rattle.std.specs.Prelude.{◌≡◌, ◌<◌, ◌≤◌, ◌+◌, ◌^◌, ◌==◌, ◌∷◌, [], not, filter, Some, None, MatchResult, IfOk, OnOk, OnErr, Contains};
 
 use crate::admission::{Admission, admission_to};
 use crate::decision::{Decision, Effect, decide};
@@ -55,6 +55,13 @@ impl Book {
         }
     }
 
+    /// The number of the shelf.
+    pub fn shelf(&self) -> u32
+        ensures { result ≡ (book_of self.now).shelf }
+    {
+        self.shelf
+    }
+
     /// The number that is drawn next.
     pub fn drawn(&self) -> u64
         ensures { result ≡ (book_of self.now).drawn }
@@ -77,7 +84,6 @@ impl Book {
     /// A take that is refused, or finds no memory, changes nothing.
     pub fn take(
         &mut self,
-        alloc: Global,
         setup: &Setup,
         target: Target,
         answer: Value,
@@ -85,6 +91,8 @@ impl Book {
     ) -> Result<Ticket, Reply>
         requires { (book_of self.old).drawn < 2 ^ 62 }
         ensures step { IsStep setup.now self.old (step.take (target_of target) (meaning answer) nonce) (taken_of result) self.new }
+        ensures out { IfOk result (λ t. Contains (book_of self.new).out t.number) }
+        ensures drawn { (book_of self.new).drawn ≤ (book_of self.old).drawn + 1 }
         ensures ticket { IfOk result (λ t. ticket_of t ≡ record { target = target_of target; answer = meaning answer; number = (book_of self.old).drawn; nonce = nonce }) }
     {
         if let Err(refusal) = self.admit(setup, &target) {
@@ -108,7 +116,8 @@ impl Book {
     /// The ticket's number is spent, whatever the reply.
     pub fn publish(&mut self, alloc: Global, setup: &Setup, ticket: &Ticket) -> Reply
         requires { Contains (book_of self.old).out ticket.now.number }
-        ensures { IsStep setup.now self.old (step.publish (ticket_of ticket.now)) (reply_of result) self.new }
+        ensures step { IsStep setup.now self.old (step.publish (ticket_of ticket.now)) (reply_of result) self.new }
+        ensures drawn { (book_of self.new).drawn ≡ (book_of self.old).drawn }
     {
         self.spend(ticket.number);
         match decide(alloc, self, setup, ticket) {

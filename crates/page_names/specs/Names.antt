@@ -1,6 +1,6 @@
 -- What a path names, and the one path that spells each name.
 pub use Rattle.page_names.specs.NameBytes.{is_name_byte, is_name}
-use Rattle.std.specs.Prelude.{ℕ, ◌+◌, ◌^◌, ◌<◌, List, [], ◌∷◌, ◌++◌, Option, Some, None, IsTrue, take, option_map, codes, if◌then◌else◌}
+use Rattle.std.specs.Prelude.{ℕ, ◌^◌, ◌<◌, List, ◌∷◌, ◌++◌, Option, Some, None, IsTrue, take, option_map, codes, if◌then◌else◌}
 use Rattle.std.specs.Fmt.{decimal}
 use Rattle.page_names.specs.Pieces.{◌>>=◌, cut_at, behind, number_below, hex_number, hex16}
 use Rattle.page_names.specs.declared.names.ScriptName.{ScriptName}

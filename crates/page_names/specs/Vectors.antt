@@ -1,7 +1,6 @@
 -- Paths, and what they name.
-use Rattle.std.specs.Prelude.{◌≡◌, ℕ, List, ◌++◌, Option, Some, None, codes, replicate, refl}
+use Rattle.std.specs.Prelude.{◌≡◌, ◌++◌, Some, None, codes, replicate, refl}
 use Rattle.std.specs.Fmt.{digits}
-use Rattle.page_names.specs.declared.names.PageName.{PageName}
 use Rattle.page_names.specs.Names.{start, page, spelling, destination_of}
 use Rattle.page_names.specs.Pieces.{hex16}
 

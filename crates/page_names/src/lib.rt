@@ -2,7 +2,12 @@
 #![tactic(auto)]
 
 mod names;
-mod urls;
-pub use urls::url_text;
+mod parse;
+pub mod pieces;
+#[cfg(test)]
+mod tests;
+mod write;
 
 pub use names::{PageName, ScriptName, Target};
+pub use parse::parse_target;
+pub use write::{url_text, write_url};

@@ -1,6 +1,8 @@
 ghost use Rattle.std.specs.Prelude.{IsTrue, take, ◌≤◌};
 ghost use Rattle.page_names.specs.NameBytes.{is_name};
 
+mod script;
+
 /// The name of a script: 1 to 32 of `a` to `z`, `0` to `9` and `-`.
 #[derive(Clone, Copy)]
 pub struct ScriptName {
@@ -8,18 +10,6 @@ pub struct ScriptName {
     len: usize,
     ghost within: { len ≤ 32 },
     ghost named: { IsTrue (is_name (take len bytes)) },
-}
-
-impl ScriptName {
-    ghost use Rattle.std.specs.Prelude.{◌≡◌};
-    ghost use Rattle.page_names.specs.Names.{name_of};
-
-    /// The bytes of the name.
-    pub fn as_bytes(&self) -> &[u8]
-        ensures { result.now ≡ name_of self.now }
-    {
-        &self.bytes[..self.len]
-    }
 }
 
 /// The name of a page of a script.

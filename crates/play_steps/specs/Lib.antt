@@ -1,5 +1,6 @@
-pub mod Text
 pub mod Step
+pub mod Got
 pub mod Visit
 pub mod Transcript
+pub mod Played
 pub mod Play

@@ -4,12 +4,13 @@ use Rattle.std.specs.Io.KnownBytes.{Appends}
 use Rattle.web_outside.specs.Pieces.{AppendsPart}
 use Rattle.core_syntax.specs.Setup.{Named}
 use Rattle.replay_spec.specs.Step.{Reply}
-use Rattle.play_steps.specs.declared.play.Turn.{Turn}
-use Rattle.play_steps.specs.declared.play.Turn.TheVariants.{Went, NoStep, Write as TurnWrite, Memory as TurnMemory}
+use Rattle.play_steps.specs.declared.run.Turn.{Turn}
+use Rattle.play_steps.specs.declared.run.Turn.TheVariants.{Went, NoStep, Write as TurnWrite, Memory as TurnMemory}
 use Rattle.play_steps.specs.Step.{Request, request_of}
-use Rattle.play_steps.specs.Visit.{Table, Fates, visit, reply_text}
-use Rattle.play_steps.specs.declared.play.PlayEnd.{PlayEnd}
-use Rattle.play_steps.specs.declared.play.PlayEnd.TheVariants.{Done, Line, Write, Memory}
+use Rattle.play_steps.specs.Visit.{Table, reply_text}
+use Rattle.play_steps.specs.Played.{IsVisit}
+use Rattle.play_steps.specs.declared.run.PlayEnd.{PlayEnd}
+use Rattle.play_steps.specs.declared.run.PlayEnd.TheVariants.{Done, Line, Write, Memory}
 use Rattle.play_steps.specs.Transcript.{Plays, PlaysPart, done, bad_line}
 
 abbrev pub Ends : PlayEnd → Option (List ℕ) → Option (List ℕ) → List Named → List ℕ → Type 0
@@ -17,11 +18,6 @@ Ends Done before after setup steps = Plays before after setup steps done
 Ends (Line n) before after setup steps = Plays before after setup steps (bad_line n)
 Ends Write before after setup steps = PlaysPart before after setup steps
 Ends Memory before after setup steps = PlaysPart before after setup steps
-
--- the reply and the table after it are those of a visit of this target, for some fates
-pub record IsVisit (setup : List Named) (t : Table) (target : List ℕ) (reply : Reply) (next : Table) : Type 0 where
-  pub fates : Fates
-  pub visit_is : visit setup t target fates ≡ (reply, next)
 
 -- the line is a request, and this is its visit
 pub record Visits (setup : List Named) (t next : Table) (line : List ℕ) : Type 0 where

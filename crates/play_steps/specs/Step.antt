@@ -3,7 +3,7 @@ use Rattle.std.specs.Prelude.{ℕ, ◌+◌, ◌-◌, ◌==◌, ◌&&◌, not, Bo
 use Rattle.std.specs.List.{list_all}
 use Rattle.std.specs.Char.{is_ascii_digit}
 use Rattle.form_urlencoded.specs.Form.{is_nonempty}
-use Rattle.play_steps.specs.Text.{◌>>=◌, cut_at, behind}
+use Rattle.page_names.specs.Pieces.{◌>>=◌, cut_at, behind}
 
 -- a worker and a target
 pub record Request : Type 0 where
@@ -40,3 +40,4 @@ requests_from line (b ∷ bytes) =
 
 unfoldable pub requests : List ℕ → List (Option Request)
 requests bytes = requests_from [] bytes
+

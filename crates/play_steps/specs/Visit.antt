@@ -85,14 +85,14 @@ line_text worker word = decimal worker ++ codes " " ++ word ++ codes "\n"
 
 -- a reply with a page
 abbrev pub page_text : ℕ → List ℕ → List ℕ
-page_text worker page =
-    decimal worker ++ codes " 200 " ++ decimal (length page) ++ codes "\n" ++ page ++ codes "\n"
+page_text worker bytes =
+    decimal worker ++ codes " 200 " ++ decimal (length bytes) ++ codes "\n" ++ bytes ++ codes "\n"
 
 -- the reply to a worker
 abbrev pub reply_text : ℕ → Reply → List ℕ
 reply_text worker (taken n nonce) = line_text worker (codes "taken " ++ decimal n)
-reply_text worker (shown page url) = page_text worker page
-reply_text worker (ended page) = page_text worker page
+reply_text worker (shown bytes url) = page_text worker bytes
+reply_text worker (ended bytes) = page_text worker bytes
 reply_text worker (refusal r) = line_text worker (refusal_word r)
 reply_text worker (fault f) = line_text worker (fault_word f)
 reply_text worker memory = line_text worker (codes "503 memory")

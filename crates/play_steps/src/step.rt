@@ -2,7 +2,7 @@ ghost use Rattle.std.specs.Prelude.{◌≡◌, ◌<◌, Some, None, option_map, 
 ghost use Rattle.std.specs.List.{list_all};
 ghost use Rattle.play_steps.specs.Step as spec;
 
-use crate::text::{behind, cut_at};
+use page_names::pieces::{behind, cut_at};
 
 /// A visit of a worker.
 #[derive(Clone, Copy)]
@@ -55,9 +55,9 @@ fn are_target_bytes(target: &[u8]) -> bool
 }
 
 impl<'a> Get<'a> {
-    ghost use Rattle.play_steps.specs.Seen.{request};
+    ghost use Rattle.play_steps.specs.Got.{request};
 
-    /// The step of a line.
+    /// The step that a line is: `get`, a worker from 0 to 15 and a target.
     #[tactic(auto, unfolding(crate::specs::Step::request_of))]
     pub fn parse(line: &'a [u8]) -> Option<Get<'a>>
         ensures { option_map request result ≡ spec.request_of line.now }

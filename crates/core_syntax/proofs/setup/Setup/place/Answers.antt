@@ -7,4 +7,4 @@ use Rattle.core_syntax.proofs.setup.Setup.place.Goals as goal
 pub returns : goal.returns
 returns c =
     let same = position_map (has_name (name_of c.args.name.now)) named_of c.args.self.now.scripts.items in
-    c.place_of.ensures ∙ rw (c.as_bytes.ensures, c.deref.ensures.value) (sym same)
+    c.place_of.ensures ∙ rw (c.as_bytes.ensures.bytes, c.deref.ensures.value) (sym same)

@@ -1,0 +1,6 @@
+pub mod Options
+pub mod Numerals
+pub mod Hex
+pub mod Cuts
+pub mod Spelled
+pub mod Letters
