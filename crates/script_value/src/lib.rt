@@ -1,8 +1,10 @@
 //! Values of page scripts, what a visit answers, and how values are measured and compared.
 #![tactic(auto)]
 
+mod number;
 mod outcome;
 mod value;
 
+pub use number::read_number;
 pub use outcome::{Fault, Op, Refusal, Reply, TxName};
 pub use value::{Bytes, Items, Str, Value, depth, equal, size};
