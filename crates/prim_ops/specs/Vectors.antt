@@ -1,0 +1,47 @@
+-- Small rows of the table, computed.
+use Rattle.std.specs.Prelude.{◌≡◌, ℕ, ◌^◌, ◌-◌, pos, negsuc, false, List, [], ◌∷◌, Ok, Err, codes, refl}
+use Rattle.std.specs.Fmt.{digits}
+use Rattle.script_value.specs.Val.{Val, number, truth, text, symbol, list, vals_of}
+use Rattle.script_value.specs.declared.outcome.Op.TheVariants as op
+use Rattle.script_value.specs.declared.outcome.Fault.TheVariants.{WrongType, Overflow, Binding}
+use Rattle.prim_ops.specs.Table.{value_of}
+
+-- (+ 3 4)
+pub sum_of_two : value_of op.Add (number (pos 3) ∷ number (pos 4) ∷ []) ≡ Ok (number (pos 7))
+sum_of_two = refl
+
+-- (+)
+pub sum_of_none : value_of op.Add [] ≡ Ok (number (pos 0))
+sum_of_none = refl
+
+-- the greatest number and 1, and then -1: the partial sum is out of range
+pub sum_too_great : value_of op.Add (number (pos (2 ^ 63 - 1)) ∷ number (pos 1) ∷ number (negsuc 0) ∷ []) ≡ Err Overflow
+sum_too_great = refl
+
+-- a text among numbers comes before an overflow
+pub sum_of_text : value_of op.Add (number (pos (2 ^ 63 - 1)) ∷ number (pos 1) ∷ text [] ∷ []) ≡ Err WrongType
+sum_of_text = refl
+
+pub text_of_minus : value_of op.NumberToString (number (negsuc 41) ∷ []) ≡ Ok (text (codes "-42"))
+unfolding digits
+text_of_minus = refl
+
+pub number_of_plus : value_of op.StringToNumber (text (codes "+5") ∷ []) ≡ Ok (number (pos 5))
+number_of_plus = refl
+
+pub number_of_sign : value_of op.StringToNumber (text (codes "-") ∷ []) ≡ Ok (truth false)
+number_of_sign = refl
+
+abbrev binding : List ℕ → List ℕ → Val
+binding k t = list (vals_of (symbol k ∷ text t ∷ []))
+
+pub one_binding : value_of op.ExtractBindingSingle (symbol (codes "n") ∷ list (vals_of (binding (codes "m") (codes "3") ∷ binding (codes "n") (codes "4") ∷ [])) ∷ [])
+    ≡ Ok (text (codes "4"))
+one_binding = refl
+
+pub two_bindings : value_of op.ExtractBindingSingle (symbol (codes "n") ∷ list (vals_of (binding (codes "n") (codes "3") ∷ binding (codes "n") (codes "4") ∷ [])) ∷ [])
+    ≡ Err Binding
+two_bindings = refl
+
+pub no_bindings : value_of op.ExtractBindingSingle (symbol (codes "n") ∷ list (vals_of (number (pos 1) ∷ [])) ∷ []) ≡ Err WrongType
+no_bindings = refl
