@@ -1,16 +1,10 @@
-//! Pages.
+//! Values as pages: texts and elements with attributes, escaped.
 #![tactic(auto)]
-ghost use Rattle.xexpr_page.specs.Page.{page_of, Renders};
-ghost use Rattle.script_value.specs.Meaning.{meaning};
 
-use script_value::{Bytes, Value};
-use std::alloc::Global;
+mod escape;
+mod fault;
+mod names;
+mod page;
 
-#[derive(Drop)]
-pub enum RenderFault { Memory, NotPage }
-
-pub fn render(_alloc: Global, value: &Value) -> Result<Bytes, RenderFault>
-    ensures { Renders result (page_of (meaning value.now)) }
-{
-    Err(RenderFault::Memory)
-}
+pub use fault::RenderFault;
+pub use page::render;

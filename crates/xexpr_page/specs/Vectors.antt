@@ -1,0 +1,33 @@
+-- Small pages, computed.
+use Rattle.std.specs.Prelude.{◌≡◌, ℕ, pos, List, [], ◌∷◌, Some, None, codes, refl}
+use Rattle.script_value.specs.Val.{Val, number, text, symbol, list, vals_of}
+use Rattle.xexpr_page.specs.Page.{page_of}
+
+abbrev words : List Val → Val
+words vs = list (vals_of vs)
+
+pub escaped_text : page_of (words (symbol (codes "p") ∷ text (codes "x<y&z") ∷ [])) ≡ Some (codes "<p>x&lt;y&amp;z</p>")
+escaped_text = refl
+
+pub a_link : page_of (words (symbol (codes "a") ∷ words (words (symbol (codes "href") ∷ text (codes "u\"v") ∷ []) ∷ []) ∷ text (codes "1") ∷ []))
+    ≡ Some (codes "<a href=\"u&quot;v\">1</a>")
+a_link = refl
+
+pub nested : page_of (words (symbol (codes "div") ∷ words [] ∷ words (symbol (codes "p") ∷ text (codes "a") ∷ []) ∷ text (codes "b") ∷ []))
+    ≡ Some (codes "<div><p>a</p>b</div>")
+nested = refl
+
+pub number_child : page_of (words (symbol (codes "p") ∷ number (pos 5) ∷ [])) ≡ None
+number_child = refl
+
+pub void_element : page_of (words (symbol (codes "br") ∷ [])) ≡ None
+void_element = refl
+
+pub script_element : page_of (words (symbol (codes "script") ∷ text (codes "x") ∷ [])) ≡ None
+script_element = refl
+
+pub empty_list : page_of (words []) ≡ None
+empty_list = refl
+
+pub empty_child : page_of (words (symbol (codes "p") ∷ words [] ∷ words [] ∷ [])) ≡ None
+empty_child = refl

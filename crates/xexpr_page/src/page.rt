@@ -1,0 +1,193 @@
+ghost use Rattle.std.specs.Prelude.{◌≡◌, ◌≤◌, ◌++◌, List, ℕ, map, option_map, Some, None, OnOk, if◌then◌else◌};
+ghost use Rattle.script_value.specs.Val.{list, vals_of, depth_all};
+ghost use Rattle.script_value.specs.Meaning.{meaning};
+ghost use Rattle.xexpr_page.specs.Page as spec;
+ghost use Rattle.xexpr_page.specs.Page.{page_of, element_of, children_of, Renders, Pushes};
+
+use crate::escape::{push_attribute_text, push_text};
+use crate::fault::RenderFault;
+use crate::names::{is_attribute, is_element};
+use script_value::{Bytes, Str, Value};
+use std::alloc::{AllocError, Global};
+
+/// The bytes of the page that a value is.
+///
+/// Where the value is no page, the answer is `NotPage`, and where memory runs out, `Memory`.
+pub fn render(alloc: Global, value: &Value) -> Result<Bytes, RenderFault>
+    ensures { Renders result (page_of (meaning value.now)) }
+{
+    let mut page = Vec::new(alloc);
+    push_page(&mut page, value)?;
+    Ok(Bytes::new(page))
+}
+
+// Puts a value behind the page.
+#[cycle(page)]
+fn push_page(page: &mut Vec<u8>, value: &Value) -> Result<(), RenderFault>
+    ensures { Pushes result page.old.items page.new.items (page_of (meaning value.now)) }
+{
+    match value {
+        Value::Text(text) => {
+            push_text(page, text.as_str())?;
+            Ok(())
+        }
+        Value::List(items) => push_list(page, items.as_slice()),
+        Value::Int(_) | Value::Truth(_) | Value::Symbol(_) => Err(RenderFault::NotPage),
+    }
+}
+
+// Puts the element that a list is behind the page.
+#[cycle(page)]
+fn push_list(page: &mut Vec<u8>, items: &[Value]) -> Result<(), RenderFault>
+    ensures { Pushes result page.old.items page.new.items (page_of (list (vals_of (map meaning items.now)))) }
+{
+    match items {
+        [] => Err(RenderFault::NotPage),
+        [first, rest @ ..] => match first {
+            Value::Symbol(name) => push_element(page, name, rest),
+            Value::Int(_) | Value::Truth(_) | Value::Text(_) | Value::List(_) => {
+                Err(RenderFault::NotPage)
+            }
+        },
+    }
+}
+
+// Puts an element of this name behind the page; its attributes, if there are any, are the first of its parts.
+#[cycle(page)]
+fn push_element(page: &mut Vec<u8>, name: &Str, parts: &[Value]) -> Result<(), RenderFault>
+    ensures { Pushes result page.old.items page.new.items (element_of name.now (vals_of (map meaning parts.now))) }
+{
+    let (attributes, children) = split_attributes(parts);
+    if !is_element(name.as_str()) {
+        return Err(RenderFault::NotPage);
+    }
+    push_start(page, name, attributes)?;
+    push_children(page, children)?;
+    push_end(page, name)?;
+    Ok(())
+}
+
+// Puts children behind the page, one after another.
+#[cycle(page)]
+fn push_children(page: &mut Vec<u8>, children: &[Value]) -> Result<(), RenderFault>
+    ensures { Pushes result page.old.items page.new.items (children_of (vals_of (map meaning children.now))) }
+{
+    for child in children {
+        push_page(page, child)?;
+    }
+    Ok(())
+}
+
+// The attributes that a value behind an element's name is.
+fn attributes_in(value: &Value) -> Option<&[Value]>
+    ensures { option_map (λ items. vals_of (map meaning items.now)) result ≡ spec.attributes_in (meaning value.now) }
+{
+    match value {
+        Value::List(items) => {
+            let items = items.as_slice();
+            if are_attributes(items) {
+                Some(items)
+            } else {
+                None
+            }
+        }
+        _ => None,
+    }
+}
+
+// Whether these items are attributes: none, or a list first.
+fn are_attributes(items: &[Value]) -> bool
+    ensures { spec.attributes_in (list (vals_of (map meaning items.now))) ≡ (if result then Some (vals_of (map meaning items.now)) else None) }
+{
+    match items {
+        [] => true,
+        [first, ..] => match first {
+            Value::List(_) => true,
+            Value::Int(_) | Value::Truth(_) | Value::Text(_) | Value::Symbol(_) => false,
+        },
+    }
+}
+
+// The attributes and the children among the parts behind an element's name.
+fn split_attributes(parts: &[Value]) -> (&[Value], &[Value])
+    ensures split { (n : List ℕ) → element_of n (vals_of (map meaning parts.now)) ≡ spec.element n (spec.attributes_of (vals_of (map meaning result.0.now))) (children_of (vals_of (map meaning result.1.now))) }
+    ensures within { depth_all (vals_of (map meaning result.1.now)) ≤ depth_all (vals_of (map meaning parts.now)) }
+{
+    match parts {
+        [] => (&[], &[]),
+        [first, children @ ..] => match attributes_in(first) {
+            Some(attributes) => (attributes, children),
+            None => (&[], parts),
+        },
+    }
+}
+
+// Puts `<NAME`, the attributes and `>` behind the page.
+fn push_start(page: &mut Vec<u8>, name: &Str, attributes: &[Value]) -> Result<(), RenderFault>
+    ensures { Pushes result page.old.items page.new.items (option_map (spec.start_tag name.now) (spec.attributes_of (vals_of (map meaning attributes.now)))) }
+{
+    page.push(b'<')?;
+    page.extend_from_slice(name.as_str().as_bytes())?;
+    push_attributes(page, attributes)?;
+    page.push(b'>')?;
+    Ok(())
+}
+
+// Puts `</NAME>` behind the page.
+fn push_end(page: &mut Vec<u8>, name: &Str) -> Result<(), AllocError>
+    ensures { OnOk result (page.new.items ≡ page.old.items ++ spec.end_tag name.now) }
+{
+    page.extend_from_slice(b"</")?;
+    page.extend_from_slice(name.as_str().as_bytes())?;
+    page.extend_from_slice(b">")?;
+    Ok(())
+}
+
+fn push_attributes(page: &mut Vec<u8>, attributes: &[Value]) -> Result<(), RenderFault>
+    ensures { Pushes result page.old.items page.new.items (spec.attributes_of (vals_of (map meaning attributes.now))) }
+{
+    for attribute in attributes {
+        push_attribute(page, attribute)?;
+    }
+    Ok(())
+}
+
+// Puts ` NAME="TEXT"` behind the page.
+fn push_attribute(page: &mut Vec<u8>, attribute: &Value) -> Result<(), RenderFault>
+    ensures { Pushes result page.old.items page.new.items (spec.attribute_of (meaning attribute.now)) }
+{
+    match attribute {
+        Value::List(pair) => push_pair(page, pair.as_slice()),
+        _ => Err(RenderFault::NotPage),
+    }
+}
+
+fn push_pair(page: &mut Vec<u8>, pair: &[Value]) -> Result<(), RenderFault>
+    ensures { Pushes result page.old.items page.new.items (spec.pair_in (vals_of (map meaning pair.now))) }
+{
+    match pair {
+        [] => Err(RenderFault::NotPage),
+        [_] => Err(RenderFault::NotPage),
+        [name, text] => push_pair_of(page, name, text),
+        [_, _, _, ..] => Err(RenderFault::NotPage),
+    }
+}
+
+fn push_pair_of(page: &mut Vec<u8>, name: &Value, text: &Value) -> Result<(), RenderFault>
+    ensures { Pushes result page.old.items page.new.items (spec.pair_text (meaning name.now) (meaning text.now)) }
+{
+    match (name, text) {
+        (Value::Symbol(name), Value::Text(text)) => {
+            if !is_attribute(name.as_str()) {
+                return Err(RenderFault::NotPage);
+            }
+            page.push(b' ')?;
+            page.extend_from_slice(name.as_str().as_bytes())?;
+            page.extend_from_slice(b"=\"")?;
+            push_attribute_text(page, text.as_str())?;
+            page.push(b'"')?;
+            Ok(())
+        }
+        _ => Err(RenderFault::NotPage),
+    }
+}
