@@ -1,2 +1,11 @@
 pub mod Trees
+pub mod Every
+pub mod Parts
+pub mod Layouts
+pub mod Puts
+pub mod Steps
+pub mod Seen
+pub mod Wholes
+pub mod Readings
+pub mod Scripts
 pub mod Places

@@ -1,9 +1,9 @@
 -- The tree at a number is the shape of the node there, over the trees of its parts.
-use Rattle.std.proofs.Common.{◌≡◌, ℕ, zero, suc, ◌+◌, ◌<◌, ◌≤◌, List, [], ◌∷◌, ◌++◌, map, length, Option, Some, None, slice_get, refl, ap, arith}
+use Rattle.std.proofs.Common.{◌≡◌, ℕ, zero, suc, ◌+◌, ◌<◌, ◌≤◌, List, [], ◌∷◌, ◌++◌, map, length, Option, Some, None, slice_get, refl, arith}
 use Rattle.std.specs.List.{AllByRecursion}
 use Rattle.core_syntax.specs.declared.script.Node.{Node}
 use Rattle.core_syntax.specs.declared.script.Node.TheVariants as node
-use Rattle.core_syntax.specs.Core.{Core, Cores, bind, send, cores_of}
+use Rattle.core_syntax.specs.Core.{Core}
 use Rattle.core_syntax.specs.Arena.{IsScript, IsBehind, parts, shape, shape_at, tree_within, tree_at}
 
 abbrev Same : (ℕ → Core) → (ℕ → Core) → ℕ → Type 0

@@ -1,12 +1,12 @@
 -- A script as a list of nodes, each before its parts, and the tree that it stands for.
-use Rattle.std.specs.Prelude.{◌≡◌, ℕ, zero, suc, ◌+◌, ◌<◌, ◌≤◌, List, [], ◌∷◌, ◌++◌, map, length, Option, Some, None, slice_get, false, IsTrue}
+use Rattle.std.specs.Prelude.{◌≡◌, ℕ, zero, suc, ◌<◌, List, [], ◌∷◌, ◌++◌, map, length, Option, Some, None, slice_get, false, IsTrue}
 use Rattle.std.specs.List.{AllByRecursion}
 use Rattle.script_value.specs.Val.{truth}
 use Rattle.script_value.specs.Meaning.{meaning}
 use Rattle.prim_ops.specs.Table.{takes}
 use Rattle.core_syntax.specs.declared.script.Node.{Node}
 use Rattle.core_syntax.specs.declared.script.Node.TheVariants as node
-use Rattle.core_syntax.specs.Core.{Core, Cores, lit, var, bind, prim, send, cores_of}
+use Rattle.core_syntax.specs.Core.{Core, lit, var, bind, prim, send, cores_of}
 
 -- the parts of a node
 abbrev pub parts : Node → List ℕ

@@ -1,30 +1,28 @@
 -- The table of forms: data as a script of the core language, or the first fault.
-use Rattle.std.specs.Prelude.{ℕ, suc, ◌+◌, ◌-◌, ◌==◌, ◌||◌, ◌&&◌, not, Bool, true, false, List, [], ◌∷◌, ◌++◌, length, Option, Some, None, Result, Ok, Err, nat_lt, codes, is_some, if◌then◌else◌}
+use Rattle.std.specs.Prelude.{ℕ, ◌+◌, ◌||◌, Bool, true, false, List, [], ◌∷◌, ◌++◌, length, Option, Some, None, Result, Ok, Err, nat_lt, codes, is_some, if◌then◌else◌}
 use Rattle.std.specs.Str.{bytes_eq}
 use Rattle.script_value.specs.Val.{Val, Vals, number, truth, text, symbol, list, no_vals, val}
 use Rattle.script_value.specs.declared.outcome.Op.{Op}
 use Rattle.script_value.specs.declared.outcome.Op.TheVariants as op
 use Rattle.prim_ops.specs.Table.{takes}
-use Rattle.core_syntax.specs.declared.expand.SyntaxKind.{SyntaxKind}
-use Rattle.core_syntax.specs.declared.expand.SyntaxKind.TheVariants.{Shape, Unbound, Duplicate, Arity, NestedSend, TooMany}
+use Rattle.core_syntax.specs.declared.faults.SyntaxKind.{SyntaxKind}
+use Rattle.core_syntax.specs.declared.faults.SyntaxKind.TheVariants.{Shape, Unbound, Duplicate, Arity, NestedSend, TooMany}
+use Rattle.core_syntax.specs.Shapes.{on, bound_name}
+use Rattle.core_syntax.specs.declared.heads.Head.{Head}
+use Rattle.core_syntax.specs.declared.heads.Head.TheVariants.{Quote, Let, Send, Apply}
 use Rattle.core_syntax.specs.Core.{Core, Cores, lit, var, bind, prim, send, no_cores, core, count, height}
-
--- what a name at the head of a list says
-pub data Head : Type 0 where
-  quotes binds sends : Head
-  applies : Op → Head
 
 -- the names of forms and operations
 abbrev pub head_of : List ℕ → Option Head
 head_of s =
-    if bytes_eq s (codes "quote") then Some quotes else
-    if bytes_eq s (codes "let") then Some binds else
-    if bytes_eq s (codes "send/suspend") then Some sends else
-    if bytes_eq s (codes "+") then Some (applies op.Add) else
-    if bytes_eq s (codes "list") then Some (applies op.List) else
-    if bytes_eq s (codes "number->string") then Some (applies op.NumberToString) else
-    if bytes_eq s (codes "string->number") then Some (applies op.StringToNumber) else
-    if bytes_eq s (codes "extract-binding/single") then Some (applies op.ExtractBindingSingle) else None
+    if bytes_eq s (codes "quote") then Some Quote else
+    if bytes_eq s (codes "let") then Some Let else
+    if bytes_eq s (codes "send/suspend") then Some Send else
+    if bytes_eq s (codes "+") then Some (Apply op.Add) else
+    if bytes_eq s (codes "list") then Some (Apply op.List) else
+    if bytes_eq s (codes "number->string") then Some (Apply op.NumberToString) else
+    if bytes_eq s (codes "string->number") then Some (Apply op.StringToNumber) else
+    if bytes_eq s (codes "extract-binding/single") then Some (Apply op.ExtractBindingSingle) else None
 
 -- the place of the innermost variable of this name, the outermost being 0; the scope has the innermost first
 abbrev pub place_of : List ℕ → List (List ℕ) → Option ℕ
@@ -39,16 +37,19 @@ abbrev pub ◌>>=◌ : {A B : Type 0} → Result A SyntaxKind → (A → Result 
 Ok x >>= f = f x
 Err k >>= f = Err k
 
--- the names of a `let`, the last first, where its bindings are lists of a symbol and an expression
+-- the names of a `let`, the last first, in front of others
 abbrev pub names_of : Vals → List (List ℕ) → Option (List (List ℕ))
 names_of no_vals names = Some names
-names_of (val (list (val (symbol x) (val e no_vals))) vs) names = names_of vs (x ∷ names)
-names_of _ names = None
+names_of (val v vs) names = on (bound_name v) (λ x. names_of vs (x ∷ names))
+
+-- a name is among others, or is that of a form or an operation
+abbrev pub is_bad_name : List ℕ → List (List ℕ) → Bool
+is_bad_name x xs = is_some (head_of x) || has_name x xs
 
 -- a name stands twice among these, or is that of a form or an operation
 abbrev pub are_bad : List (List ℕ) → Bool
 are_bad [] = false
-are_bad (x ∷ xs) = is_some (head_of x) || has_name x xs || are_bad xs
+are_bad (x ∷ xs) = is_bad_name x xs || are_bad xs
 
 -- these names may be bound together
 abbrev pub bound : Option (List (List ℕ)) → Result (List (List ℕ)) SyntaxKind
@@ -79,22 +80,22 @@ abbrev mutual
 
   pub form_of : List (List ℕ) → Bool → Option Head → Vals → Result Core SyntaxKind
   form_of scope inside None vs = Err Shape
-  form_of scope inside (Some quotes) vs = quoted vs
-  form_of scope inside (Some binds) (val (list bindings) (val body no_vals)) = do
+  form_of scope inside (Some Quote) vs = quoted vs
+  form_of scope inside (Some Let) (val (list bindings) (val body no_vals)) = do
     names ← bound (names_of bindings [])
     es ← bindings_of scope inside bindings
     b ← core_of (names ++ scope) inside body
     Ok (bind es b)
-  form_of scope inside (Some binds) _ = Err Shape
-  form_of scope true (Some sends) vs = Err NestedSend
-  form_of scope false (Some sends) (val (list (val (symbol l) (val (list (val (symbol u) no_vals)) (val body no_vals)))) no_vals) =
+  form_of scope inside (Some Let) _ = Err Shape
+  form_of scope true (Some Send) vs = Err NestedSend
+  form_of scope false (Some Send) (val (list (val (symbol l) (val (list (val (symbol u) no_vals)) (val body no_vals)))) no_vals) =
       if bytes_eq l (codes "lambda") then (do
         names ← bound (Some (u ∷ []))
         b ← core_of (names ++ scope) true body
         Ok (send b)) else Err Shape
-  form_of scope false (Some sends) _ = Err Shape
-  form_of scope inside (Some (applies o)) no_vals = if takes o 0 then Ok (prim o no_cores) else Err Arity
-  form_of scope inside (Some (applies o)) (val v vs) =
+  form_of scope false (Some Send) _ = Err Shape
+  form_of scope inside (Some (Apply o)) no_vals = if takes o 0 then Ok (prim o no_cores) else Err Arity
+  form_of scope inside (Some (Apply o)) (val v vs) =
       if takes o (vals_length vs + 1) then (do
         c ← core_of scope inside v
         cs ← cores_from scope inside vs
@@ -115,6 +116,31 @@ abbrev mutual
     cs ← bindings_of scope inside vs
     Ok (core c cs)
   bindings_of scope inside (val v vs) = Err Shape
+
+-- the expression of a binding
+abbrev pub binding_of : List (List ℕ) → Bool → Val → Result Core SyntaxKind
+binding_of scope inside (list (val x (val e no_vals))) = core_of scope inside e
+binding_of scope inside _ = Err Shape
+
+-- bindings and their body
+abbrev pub let_of : List (List ℕ) → Bool → Vals → Val → Result Core SyntaxKind
+let_of scope inside bindings body = do
+  names ← bound (names_of bindings [])
+  es ← bindings_of scope inside bindings
+  b ← core_of (names ++ scope) inside body
+  Ok (bind es b)
+
+-- a page of this parameter and body
+abbrev pub page_from : List (List ℕ) → List ℕ → Val → Result Core SyntaxKind
+page_from scope u body = do
+  names ← bound (Some (u ∷ []))
+  b ← core_of (names ++ scope) true body
+  Ok (send b)
+
+-- an operation over its operands
+abbrev pub operation_of : List (List ℕ) → Bool → Op → Vals → Result Core SyntaxKind
+operation_of scope inside o vs =
+    if takes o (vals_length vs) then cores_from scope inside vs >>= (λ cs. Ok (prim o cs)) else Err Arity
 
 -- more than 16,384 nodes, or one nested deeper than 1,024
 abbrev pub is_too_many : Core → Bool

@@ -1,6 +1,6 @@
 -- A tree as a list of nodes in pre-order, from a number on.
-use Rattle.std.specs.Prelude.{ℕ, suc, ◌+◌, List, [], ◌∷◌, ◌++◌}
-use Rattle.script_value.specs.Val.{Val, Vals, number, truth, text, symbol, list, items_of}
+use Rattle.std.specs.Prelude.{ℕ, ◌+◌, List, [], ◌∷◌, ◌++◌}
+use Rattle.script_value.specs.Val.{Val, number, truth, text, symbol, list, items_of}
 use Rattle.script_value.specs.declared.value.Value.{Value}
 use Rattle.script_value.specs.declared.value.Value.TheVariants as value
 use Rattle.core_syntax.specs.declared.script.Node.{Node}

@@ -1,6 +1,12 @@
 pub mod Core
 pub mod Arena
 pub mod Layout
+pub mod Shapes
 pub mod Forms
+pub mod Scope
+pub mod Emits
+pub mod Expands
+pub mod Whole
+pub mod Vectors
 pub mod Setup
 pub mod Scripts

@@ -74,6 +74,14 @@ impl Model for Script {
 }
 
 impl Script {
+    /// The script of these nodes.
+    pub fn from_nodes(nodes: Vec<Node>) -> Script
+        requires { IsScript nodes.items }
+        ensures { result ≡ nodes.items }
+    {
+        Script { nodes }
+    }
+
     /// How many nodes the script has.
     pub fn count(&self) -> usize
         ensures count { result ≡ length self.now }

@@ -1,0 +1,285 @@
+-- What is spelled so is read.
+use Rattle.std.proofs.Common.{◌≡◌, ◌≢◌, ℕ, zero, suc, ◌+◌, ◌-◌, ◌<◌, ◌≤◌, Bool, true, false, ⊎_elim, List, [], ◌∷◌, ◌++◌, length, take, drop, refl, sym, ap, ◌∙◌, subst, arith, append_assoc}
+use Rattle.std.specs.Prelude.{not, nat_lt, ◌==◌, Option, None, Some, Result, Ok, Err}
+use Rattle.std.proofs.lemmas.Bool.Decides.{nat_tests, eqb_tells}
+use Rattle.std.proofs.lemmas.List.{append-nil, length-append}
+use Rattle.std.proofs.Math.Seq.{take-append_seam, drop-append_seam}
+use Rattle.script_value.specs.Val.{Val, number, text, symbol, list, vals_of}
+use Rattle.sexp_reader.specs.declared.fault.ReadKind.TheVariants.{Token}
+use Rattle.sexp_reader.specs.declared.scan.Class.{Class}
+use Rattle.sexp_reader.specs.declared.scan.Class.TheVariants.{Blank, Comment, Opening, Closing, Mark, Quote, Stray, Plain}
+use Rattle.sexp_reader.specs.Letters.{class_of, is_plain, is_number, number_of, is_in_range, is_symbol}
+use Rattle.sexp_reader.specs.Read.{Fault, ◌>>=◌, past_gap, after_gap, token_len, word_at, text_from, escape_from, Level, opened, marked, State, put, open_list, open_mark, close_list, take_text, take_token, with_rest, piece, pieces, scan, read, most_levels}
+use Rattle.sexp_reader.specs.Spells.{NoNewline, AtLineEnd, AllPlain, IsToken, AtTokenEnd, Gap, no_gap, blank, comment, Letters, end_of_text, letter, escape, Datum, a_number, a_symbol, a_text, a_list, a_mark, Data, no_data, a_datum, Spells}
+use Rattle.sexp_reader.specs.Views.{is_marked}
+use Rattle.sexp_reader.proofs.Turns.{pick_true, pick_false, read_utf8, no_piece}
+
+-- gaps
+
+test_false : (a b : ℕ) → a ≢ b → (a == b) ≡ false
+test_false a b h = ⊎_elim (λ e. absurd (h e.1)) (λ e. e.0) (eqb_tells a b)
+
+line_end : (bytes : List ℕ) → AtLineEnd bytes → past_gap true bytes ≡ past_gap false bytes
+line_end [] h = refl
+line_end (b ∷ bs) h = rw h refl
+
+past_line : (line bytes : List ℕ) → NoNewline line → AtLineEnd bytes → past_gap true (line ++ bytes) ≡ past_gap false bytes
+past_line [] bytes n l = line_end bytes l
+past_line (b ∷ line) bytes n l = ap (λ v. past_gap (not v) (line ++ bytes)) (test_false b 10 n.0) ∙ past_line line bytes n.1 l
+
+pub gap_same : {bytes rest : List ℕ} → Gap bytes rest → after_gap bytes ≡ after_gap rest
+gap_same (no_gap r) = refl
+gap_same (blank b bytes rest e g) =
+    let past : Class → List ℕ = λ v. elim v [ Blank ↦ past_gap false bytes | Comment ↦ past_gap true bytes | _ ↦ b ∷ bytes ] in
+    ap past e ∙ gap_same g
+gap_same (comment b line bytes rest e n l g) =
+    let past : Class → List ℕ = λ v. elim v [ Blank ↦ past_gap false (line ++ bytes) | Comment ↦ past_gap true (line ++ bytes) | _ ↦ b ∷ (line ++ bytes) ] in
+    ap past e ∙ (past_line line bytes n l ∙ gap_same g)
+
+pub gap_shorter : {bytes rest : List ℕ} → Gap bytes rest → length rest ≤ length bytes
+gap_shorter (no_gap r) = omega arith
+gap_shorter (blank b bytes rest e g) = omega (arith, gap_shorter g)
+gap_shorter (comment b line bytes rest e n l g) = omega (arith, gap_shorter g, length-append line bytes)
+
+mutual
+  pub past_shorter : (bytes : List ℕ) → length (past_gap false bytes) ≤ length bytes
+  past_shorter [] = omega arith
+  past_shorter (b ∷ bs) =
+      let past : Class → List ℕ = λ v. elim v [ Blank ↦ past_gap false bs | Comment ↦ past_gap true bs | _ ↦ b ∷ bs ] in
+      elim (class_of b) as (λ v. length (past v) ≤ suc (length bs)) [
+        | Blank ↦ omega (arith, past_shorter bs)
+        | Comment ↦ omega (arith, line_shorter bs)
+        | _ ↦ omega arith
+      ]
+
+  line_shorter : (bytes : List ℕ) → length (past_gap true bytes) ≤ length bytes
+  line_shorter [] = omega arith
+  line_shorter (b ∷ bs) =
+      elim (b == 10) as (λ v. length (past_gap (not v) bs) ≤ suc (length bs)) [
+        | true ↦ omega (arith, past_shorter bs)
+        | false ↦ omega (arith, line_shorter bs)
+      ]
+
+-- whether a gap may begin with a byte of this class
+abbrev begins_gap : Class → Bool
+begins_gap Blank = true
+begins_gap Comment = true
+begins_gap _ = false
+
+no_gap_here : (b : ℕ) (bs : List ℕ) → begins_gap (class_of b) ≡ false → after_gap (b ∷ bs) ≡ b ∷ bs
+no_gap_here b bs h =
+    let past : Class → List ℕ = λ v. elim v [ Blank ↦ past_gap false bs | Comment ↦ past_gap true bs | _ ↦ b ∷ bs ] in
+    elim (class_of b) as (λ v. begins_gap v ≡ false → past v ≡ b ∷ bs) [ Blank ↦ λ e. absurd (cc) | Comment ↦ λ e. absurd (cc) | _ ↦ λ e. refl ] h
+
+plain_class : (c : Class) → is_plain c ≡ true → c ≡ Plain
+plain_class Plain h = refl
+plain_class Blank h = absurd (cc)
+plain_class Comment h = absurd (cc)
+plain_class Opening h = absurd (cc)
+plain_class Closing h = absurd (cc)
+plain_class Mark h = absurd (cc)
+plain_class Quote h = absurd (cc)
+plain_class Stray h = absurd (cc)
+
+-- tokens
+
+token_count : (token rest : List ℕ) → AllPlain token → AtTokenEnd rest → token_len (token ++ rest) ≡ length token
+token_count [] [] h e = refl
+token_count [] (b ∷ bs) h e =
+    let count : Bool → ℕ = λ v. elim v [ true ↦ suc (token_len bs) | false ↦ 0 ] in
+    ap count e
+token_count (b ∷ bs) rest h e =
+    let count : Bool → ℕ = λ v. elim v [ true ↦ suc (token_len (bs ++ rest)) | false ↦ 0 ] in
+    ap count h.0 ∙ ap suc (token_count bs rest h.1 e)
+
+token_front : (token rest : List ℕ) → AllPlain token → AtTokenEnd rest → take (token_len (token ++ rest)) (token ++ rest) ≡ token
+token_front token rest h e = rw (token_count token rest h e) (take-append_seam token rest)
+
+token_back : (token rest : List ℕ) → AllPlain token → AtTokenEnd rest → drop (token_len (token ++ rest)) (token ++ rest) ≡ rest
+token_back token rest h e = rw (token_count token rest h e) (drop-append_seam token rest)
+
+number_word : (place : ℕ) (token : List ℕ) → is_number token ≡ true → is_in_range (number_of token) ≡ true → word_at place token ≡ Ok (number (number_of token))
+number_word place token h k = pick_true _ _ _ h ∙ pick_true _ _ _ k
+
+symbol_word : (place : ℕ) (token : List ℕ) → is_number token ≡ false → is_symbol token ≡ true → word_at place token ≡ Ok (symbol token)
+symbol_word place token h k = pick_false _ _ _ h ∙ pick_true _ _ _ k
+
+token_again : (place : ℕ) (token rest : List ℕ) (v : Val) (state : State) → AllPlain token → AtTokenEnd rest → word_at place token ≡ Ok v
+    → take_token place (token ++ rest) state ≡ Ok (put v state.items state.levels, rest)
+token_again place token rest v state h e w =
+    let f : List ℕ → Result (State × List ℕ) Fault = λ back. word_at place (take (token_len (token ++ rest)) (token ++ rest)) >>= λ v. Ok (put v state.items state.levels, back) in
+    let g : List ℕ → Result (State × List ℕ) Fault = λ front. word_at place front >>= λ v. Ok (put v state.items state.levels, rest) in
+    let k : Result Val Fault → Result (State × List ℕ) Fault = λ r. r >>= λ v. Ok (put v state.items state.levels, rest) in
+    ap f (token_back token rest h e) ∙ (ap g (token_front token rest h e) ∙ ap k w)
+
+-- texts
+
+text_again : (place : ℕ) (done : List ℕ) {bytes chars rest : List ℕ} → Letters bytes chars rest → text_from place done bytes ≡ Ok (done ++ chars, rest)
+text_again place done (end_of_text rest) =
+    let f : List ℕ → Result (List ℕ × List ℕ) Fault = λ x. Ok (x, rest) in
+    ap f (sym (append-nil done))
+text_again place done (letter b bytes chars rest q r l) =
+    let f : List ℕ → Result (List ℕ × List ℕ) Fault = λ x. Ok (x, rest) in
+    let other : Bool → Result (List ℕ × List ℕ) Fault = λ v. elim v [ true ↦ escape_from place done bytes | false ↦ text_from place (done ++ b ∷ []) bytes ] in
+    let at_byte : Bool → Result (List ℕ × List ℕ) Fault = λ v. elim v [ true ↦ Ok (done, bytes) | false ↦ other (b == 92) ] in
+    ap at_byte (test_false b 34 q) ∙ (ap other (test_false b 92 r) ∙ (text_again place (done ++ b ∷ []) l ∙ ap f (append_assoc done (b ∷ []) chars)))
+text_again place done (escape b c bytes chars rest e l) =
+    let f : List ℕ → Result (List ℕ × List ℕ) Fault = λ x. Ok (x, rest) in
+    let at_byte : Option ℕ → Result (List ℕ × List ℕ) Fault = λ v. elim v [ None ↦ Err (place, Token) | Some d ↦ text_from place (done ++ d ∷ []) bytes ] in
+    ap at_byte e ∙ (text_again place (done ++ c ∷ []) l ∙ ap f (append_assoc done (c ∷ []) chars))
+
+letters_shorter : {bytes chars rest : List ℕ} → Letters bytes chars rest → length rest < length bytes
+letters_shorter (end_of_text rest) = omega arith
+letters_shorter (letter b bytes chars rest q r l) = omega (arith, letters_shorter l)
+letters_shorter (escape b c bytes chars rest e l) = omega (arith, letters_shorter l)
+
+-- levels
+
+put_plain : (v : Val) (items : List Val) (levels : List Level) → is_marked levels ≡ false → put v items levels ≡ record { items = items ++ v ∷ []; levels = levels }
+put_plain v items [] h = refl
+put_plain v items (opened at before ∷ levels) h = refl
+put_plain v items (marked at ∷ levels) h = absurd (cc)
+
+-- With enough pieces left, reading goes from one state and one text to another, with enough pieces left.
+pub record Reaches (k total : ℕ) (state : State) (bytes : List ℕ) (next : State) (rest : List ℕ) : Type 0 where
+  left : ℕ
+  enough : length rest < left
+  same : pieces k total state bytes ≡ pieces left total next rest
+
+-- one piece, and the gap behind it
+one_piece : (k total b : ℕ) (bs : List ℕ) (state next : State) (rest : List ℕ) → length (b ∷ bs) < k → length rest < length (b ∷ bs)
+    → piece (total - length (b ∷ bs)) b bs state ≡ Ok (next, rest) → Reaches k total state (b ∷ bs) next (after_gap rest)
+one_piece zero total b bs state next rest l s h = absurd (omega arith)
+one_piece (suc k) total b bs state next rest l s h =
+    let f : Result (State × List ℕ) Fault → Result (List Val) Fault = λ r. r >>= λ found. pieces k total found.0 (after_gap found.1) in
+    record { left = k; enough = omega (arith, past_shorter rest); same = ap f h }
+
+reaches_more : {k total : ℕ} {state next last : State} {bytes rest after : List ℕ} (r : Reaches k total state bytes next rest)
+    → Reaches r.left total next rest last after → Reaches k total state bytes last after
+reaches_more r t = record { left = t.left; enough = t.enough; same = r.same ∙ t.same }
+
+may_open : (n : ℕ) (state : State) → suc n + length state.levels ≡ 128 → nat_lt (length state.levels) most_levels ≡ true
+may_open n state h = grind (arith, nat_tests)
+
+-- the piece that a byte of each class begins
+piece_of : (place b : ℕ) (bs : List ℕ) (state : State) (c : Class) → class_of b ≡ c → piece place b bs state ≡ (elim c [
+  | Opening ↦ with_rest bs (open_list place state)
+  | Closing ↦ with_rest bs (close_list place state.items state.levels)
+  | Mark ↦ with_rest bs (open_mark place state)
+  | Quote ↦ take_text place bs state
+  | Plain ↦ take_token place (b ∷ bs) state
+  | _ ↦ Err (place, Token)
+])
+piece_of place b bs state c e =
+    let read_at : Class → Result (State × List ℕ) Fault = λ v. elim v [
+      | Opening ↦ with_rest bs (open_list place state)
+      | Closing ↦ with_rest bs (close_list place state.items state.levels)
+      | Mark ↦ with_rest bs (open_mark place state)
+      | Quote ↦ take_text place bs state
+      | Plain ↦ take_token place (b ∷ bs) state
+      | _ ↦ Err (place, Token)
+    ] in
+    ap read_at e
+
+open_piece : (n place b : ℕ) (bs : List ℕ) (state : State) → class_of b ≡ Opening → suc n + length state.levels ≡ 128
+    → piece place b bs state ≡ Ok (record { items = []; levels = opened place state.items ∷ state.levels }, bs)
+open_piece n place b bs state e h = piece_of place b bs state Opening e ∙ ap (λ r. with_rest bs r) (pick_true _ _ _ (may_open n state h))
+
+mark_piece : (n place b : ℕ) (bs : List ℕ) (state : State) → class_of b ≡ Mark → suc n + length state.levels ≡ 128
+    → piece place b bs state ≡ Ok (record { items = state.items; levels = marked place ∷ state.levels }, bs)
+mark_piece n place b bs state e h = piece_of place b bs state Mark e ∙ ap (λ r. with_rest bs r) (pick_true _ _ _ (may_open n state h))
+
+close_piece : (place at b : ℕ) (bs : List ℕ) (items before : List Val) (levels : List Level) → class_of b ≡ Closing
+    → piece place b bs (record { items = items; levels = opened at before ∷ levels }) ≡ Ok (put (list (vals_of items)) before levels, bs)
+close_piece place at b bs items before levels e = piece_of place b bs (record { items = items; levels = opened at before ∷ levels }) Closing e
+
+text_piece : (place b : ℕ) (bs : List ℕ) (state : State) (chars rest : List ℕ) → class_of b ≡ Quote → Letters bs chars rest
+    → piece place b bs state ≡ Ok (put (text chars) state.items state.levels, rest)
+text_piece place b bs state chars rest e l =
+    let f : Result (List ℕ × List ℕ) Fault → Result (State × List ℕ) Fault = λ r. r >>= λ found. Ok (put (text found.0) state.items state.levels, found.1) in
+    piece_of place b bs state Quote e ∙ ap f (text_again place [] l)
+
+token_starts : (token rest : List ℕ) → IsToken token → after_gap (token ++ rest) ≡ token ++ rest
+token_starts [] rest t = absurd t
+token_starts (b ∷ bs) rest t = no_gap_here b (bs ++ rest) (ap begins_gap (plain_class (class_of b) t.0))
+
+token_shorter : (token rest : List ℕ) → IsToken token → length rest < length (token ++ rest)
+token_shorter [] rest t = absurd t
+token_shorter (b ∷ bs) rest t = omega (arith, length-append bs rest)
+
+token_reaches : (k total : ℕ) (state : State) (token rest : List ℕ) (v : Val) → IsToken token → AtTokenEnd rest → ((place : ℕ) → word_at place token ≡ Ok v)
+    → length (token ++ rest) < k → Reaches k total state (token ++ rest) (put v state.items state.levels) (after_gap rest)
+token_reaches k total state [] rest v t e w l = absurd t
+token_reaches k total state (b ∷ bs) rest v t e w l =
+    let place : ℕ = total - length (b ∷ (bs ++ rest)) in
+    one_piece k total b (bs ++ rest) state (put v state.items state.levels) rest l (token_shorter (b ∷ bs) rest t)
+    (piece_of place b (bs ++ rest) state Plain (plain_class (class_of b) t.0) ∙ token_again place (b ∷ bs) rest v state t e (w place))
+
+datum_starts : {n : ℕ} {bytes : List ℕ} {v : Val} {rest : List ℕ} → Datum n bytes v rest → after_gap bytes ≡ bytes
+datum_starts (a_number n token rest t e h k) = token_starts token rest t
+datum_starts (a_symbol n token rest t e h k) = token_starts token rest t
+datum_starts (a_text n b bytes chars rest e l) = no_gap_here b bytes (ap begins_gap e)
+datum_starts (a_list n b c bytes vs rest e f d) = no_gap_here b bytes (ap begins_gap e)
+datum_starts (a_mark n b bytes middle v rest e g d) = no_gap_here b bytes (ap begins_gap e)
+
+mutual
+  datum_again : (k total : ℕ) (state : State) {n : ℕ} {bytes : List ℕ} {v : Val} {rest : List ℕ} → Datum n bytes v rest → n + length state.levels ≡ 128
+      → length bytes < k → Reaches k total state bytes (put v state.items state.levels) (after_gap rest)
+  datum_again k total state (a_number n token rest t e h i) c l =
+      token_reaches k total state token rest (number (number_of token)) t e (λ place. number_word place token h i) l
+  datum_again k total state (a_symbol n token rest t e h i) c l =
+      token_reaches k total state token rest (symbol token) t e (λ place. symbol_word place token h i) l
+  datum_again k total state (a_text n b bytes chars rest e t) c l =
+      one_piece k total b bytes state (put (text chars) state.items state.levels) rest l (omega (arith, letters_shorter t))
+      (text_piece (total - length (b ∷ bytes)) b bytes state chars rest e t)
+  datum_again k total state (a_list n b x bytes vs rest e f d) c l =
+      let place : ℕ = total - length (b ∷ bytes) in
+      let inner : State = record { items = []; levels = opened place state.items ∷ state.levels } in
+      let full : State = record { items = vs; levels = opened place state.items ∷ state.levels } in
+      let r = one_piece k total b bytes state inner bytes l (omega arith) (open_piece n place b bytes state e c) in
+      let s = data_again r.left total [] (opened place state.items ∷ state.levels) d refl (omega arith) r.enough in
+      let P : List ℕ → Type 0 = λ t. Reaches r.left total inner (after_gap bytes) full t in
+      let t = subst P (no_gap_here x rest (ap begins_gap f)) s in
+      let u = one_piece t.left total x rest full (put (list (vals_of vs)) state.items state.levels) rest t.enough (omega arith)
+      (close_piece (total - length (x ∷ rest)) place x rest vs state.items state.levels f) in
+      reaches_more r (reaches_more t u)
+  datum_again k total state (a_mark n b bytes middle v rest e g d) c l =
+      let place : ℕ = total - length (b ∷ bytes) in
+      let inner : State = record { items = state.items; levels = marked place ∷ state.levels } in
+      let r = one_piece k total b bytes state inner bytes l (omega arith) (mark_piece n place b bytes state e c) in
+      let P : List ℕ → Type 0 = λ t. Reaches k total state (b ∷ bytes) inner t in
+      let s = subst P (gap_same g ∙ datum_starts d) r in
+      reaches_more s (datum_again s.left total inner d (omega arith) s.enough)
+
+  data_again : (k total : ℕ) (items : List Val) (levels : List Level) {n : ℕ} {bytes : List ℕ} {vs : List Val} {rest : List ℕ} → Data n bytes vs rest
+      → is_marked levels ≡ false → n + length levels ≡ 128 → length (after_gap bytes) < k
+      → Reaches k total (record { items = items; levels = levels }) (after_gap bytes) (record { items = items ++ vs; levels = levels }) (after_gap rest)
+  data_again k total items levels (no_data n bytes rest g) m c l =
+      let P : List ℕ → Type 0 = λ t. length t < k in
+      let here : List Val × List ℕ → Result (List Val) Fault = λ x. pieces k total (record { items = x.0; levels = levels }) x.1 in
+      record {
+        left = k;
+        enough = subst P (gap_same g) l;
+        same = ap (λ t. pieces k total (record { items = items; levels = levels }) t) (gap_same g)
+            ∙ ap (λ t. pieces k total (record { items = t; levels = levels }) (after_gap rest)) (sym (append-nil items));
+      }
+  data_again k total items levels (a_datum n bytes middle v after vs rest g d more) m c l =
+      let here : State = record { items = items; levels = levels } in
+      let same : after_gap bytes ≡ middle = gap_same g ∙ datum_starts d in
+      let L : List ℕ → Type 0 = λ t. length t < k in
+      let r = datum_again k total here d c (subst L same l) in
+      let P : List ℕ → Type 0 = λ t. Reaches k total here t (put v items levels) (after_gap after) in
+      let Q : State → Type 0 = λ t. Reaches k total here (after_gap bytes) t (after_gap after) in
+      let s = subst Q (put_plain v items levels m) (subst P (sym same) r) in
+      let t = data_again s.left total (items ++ v ∷ []) levels more m c s.enough in
+      let W : List Val → Type 0 = λ x. Reaches k total here (after_gap bytes) (record { items = x; levels = levels }) (after_gap rest) in
+      subst W (append_assoc items (v ∷ []) vs) (reaches_more s t)
+
+scan_again : (bytes : List ℕ) (vs : List Val) → Data 128 bytes vs [] → scan bytes ≡ Ok vs
+scan_again bytes vs d =
+    let r = data_again (suc (length bytes)) (length bytes) [] [] d refl (omega arith) (omega (arith, past_shorter bytes)) in
+    r.same ∙ no_piece r.left (length bytes) (record { items = vs; levels = [] }) [] r.enough refl
+
+-- what is spelled so is read
+pub spells_read : (bytes : List ℕ) (vs : List Val) → Spells bytes vs → read bytes ≡ Ok vs
+spells_read bytes vs s = read_utf8 bytes s.short s.utf8 ∙ scan_again bytes vs s.grammar

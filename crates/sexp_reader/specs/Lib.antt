@@ -1,0 +1,5 @@
+pub mod Letters
+pub mod Read
+pub mod Spells
+pub mod Views
+pub mod Vectors

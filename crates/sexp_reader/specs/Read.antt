@@ -1,0 +1,154 @@
+-- Reading a text: its data, or the place and the kind of its first fault.
+use Rattle.std.specs.Prelude.{ℕ, zero, suc, ◌-◌, Bool, true, false, not, None, Some, Result, Ok, Err, List, [], ◌∷◌, ◌++◌, length, take, drop, nat_lt, ◌==◌, if◌then◌else◌}
+use Rattle.std.specs.Str.{is_utf8}
+use Rattle.std.specs.Str.Lossy.{utf8_valid_len}
+use Rattle.script_value.specs.Val.{Val, number, text, symbol, list, vals_of}
+use Rattle.sexp_reader.specs.declared.fault.ReadKind.{ReadKind}
+use Rattle.sexp_reader.specs.declared.fault.ReadKind.TheVariants.{Long, Utf8, Token, Unclosed, Unopened, Range, Deep}
+use Rattle.sexp_reader.specs.declared.scan.Class.TheVariants.{Blank, Comment, Opening, Closing, Mark, Quote, Plain}
+use Rattle.sexp_reader.specs.Letters.{class_of, is_plain, escaped, is_number, number_of, is_in_range, is_symbol, quote_name}
+
+-- a place and what is wrong there
+abbrev pub Fault : Type 0
+Fault = ℕ × ReadKind
+
+-- what comes after an answer: a fault goes through
+infixl 10 ◌>>=◌
+abbrev pub ◌>>=◌ : {A B : Type 0} → Result A Fault → (A → Result B Fault) → Result B Fault
+(Ok x) >>= f = f x
+(Err e) >>= f = Err e
+
+-- what stands behind space and comments; the test says whether a comment is open
+abbrev pub past_gap : Bool → List ℕ → List ℕ
+past_gap in_comment [] = []
+past_gap true (b ∷ bs) = past_gap (not (b == 10)) bs
+past_gap false (b ∷ bs) = elim (class_of b) [ Blank ↦ past_gap false bs | Comment ↦ past_gap true bs | _ ↦ b ∷ bs ]
+
+-- what stands behind space and comments, any or none
+abbrev pub after_gap : List ℕ → List ℕ
+after_gap bytes = past_gap false bytes
+
+-- how many bytes stand before the first that ends a token
+abbrev pub token_len : List ℕ → ℕ
+token_len [] = 0
+token_len (b ∷ bs) = elim (is_plain (class_of b)) [ true ↦ suc (token_len bs) | false ↦ 0 ]
+
+-- the datum that a token at this place is
+abbrev pub word_at : ℕ → List ℕ → Result Val Fault
+word_at place token =
+    if is_number token then (if is_in_range (number_of token) then Ok (number (number_of token)) else Err (place, Range))
+    else (if is_symbol token then Ok (symbol token) else Err (place, Token))
+
+-- the characters of a text behind those so far, whose quote is at this place, and what follows the text
+abbrev mutual
+  pub text_from : ℕ → List ℕ → List ℕ → Result (List ℕ × List ℕ) Fault
+  text_from place done [] = Err (place, Unclosed)
+  text_from place done (b ∷ bs) =
+      elim (b == 34) [
+        | true ↦ Ok (done, bs)
+        | false ↦ elim (b == 92) [ true ↦ escape_from place done bs | false ↦ text_from place (done ++ b ∷ []) bs ]
+      ]
+
+  pub escape_from : ℕ → List ℕ → List ℕ → Result (List ℕ × List ℕ) Fault
+  escape_from place done [] = Err (place, Unclosed)
+  escape_from place done (c ∷ bs) = elim (escaped c) [ None ↦ Err (place, Token) | Some d ↦ text_from place (done ++ d ∷ []) bs ]
+
+-- what is open: a list, with its place and the data before it on the level around it, or a mark, with its place
+pub data Level : Type 0 where
+  opened : ℕ → List Val → Level
+  marked : ℕ → Level
+
+-- the data so far on the innermost level, and the levels that are open, the innermost first
+pub record State : Type 0 where
+  pub items : List Val
+  pub levels : List Level
+
+-- nothing is read, and nothing is open
+abbrev pub start : State
+start = record { items = []; levels = [] }
+
+-- the list that a mark before a datum stands for
+abbrev pub quoted : Val → Val
+quoted v = list (vals_of (symbol quote_name ∷ v ∷ []))
+
+-- one more datum, which ends each mark right before it
+abbrev pub put : Val → List Val → List Level → State
+put v items [] = record { items = items ++ v ∷ []; levels = [] }
+put v items (opened place before ∷ levels) = record { items = items ++ v ∷ []; levels = opened place before ∷ levels }
+put v items (marked place ∷ levels) = put (quoted v) items levels
+
+-- how many lists and marks may be open
+abbrev pub most_levels : ℕ
+most_levels = 128
+
+-- a parenthesis at this place opens a list
+abbrev pub open_list : ℕ → State → Result State Fault
+open_list place state =
+    if nat_lt (length state.levels) most_levels then Ok (record { items = []; levels = opened place state.items ∷ state.levels })
+    else Err (place, Deep)
+
+-- a mark at this place
+abbrev pub open_mark : ℕ → State → Result State Fault
+open_mark place state =
+    if nat_lt (length state.levels) most_levels then Ok (record { items = state.items; levels = marked place ∷ state.levels })
+    else Err (place, Deep)
+
+-- a parenthesis at this place closes the innermost list
+abbrev pub close_list : ℕ → List Val → List Level → Result State Fault
+close_list place items [] = Err (place, Unopened)
+close_list place items (opened at before ∷ levels) = Ok (put (list (vals_of items)) before levels)
+close_list place items (marked at ∷ levels) = Err (at, Token)
+
+-- the data of the text at its end
+abbrev pub finish : List Val → List Level → Result (List Val) Fault
+finish items [] = Ok items
+finish items (opened at before ∷ levels) = Err (at, Unclosed)
+finish items (marked at ∷ levels) = Err (at, Unclosed)
+
+-- a text, of which what stands behind its quote is given, and what follows it
+abbrev pub take_text : ℕ → List ℕ → State → Result (State × List ℕ) Fault
+take_text place bytes state =
+    text_from place [] bytes >>= λ found. Ok (put (text found.0) state.items state.levels, found.1)
+
+-- a token and what follows it
+abbrev pub take_token : ℕ → List ℕ → State → Result (State × List ℕ) Fault
+take_token place bytes state =
+    word_at place (take (token_len bytes) bytes) >>= λ v. Ok (put v state.items state.levels, drop (token_len bytes) bytes)
+
+-- a state, and what follows the piece behind which it is
+abbrev pub with_rest : List ℕ → Result State Fault → Result (State × List ℕ) Fault
+with_rest bytes read = read >>= λ state. Ok (state, bytes)
+
+-- one piece at this place, which begins with a byte and goes on with bytes: the state behind it, and what follows it
+abbrev pub piece : ℕ → ℕ → List ℕ → State → Result (State × List ℕ) Fault
+piece place b bs state =
+    elim (class_of b) [
+      | Opening ↦ with_rest bs (open_list place state)
+      | Closing ↦ with_rest bs (close_list place state.items state.levels)
+      | Mark ↦ with_rest bs (open_mark place state)
+      | Quote ↦ take_text place bs state
+      | Plain ↦ take_token place (b ∷ bs) state
+      | _ ↦ Err (place, Token)
+    ]
+
+-- all data, of what stands behind a gap in a text of so many bytes, in at most so many pieces; scan gives it more than the text has bytes, so
+-- the first case is never met there
+abbrev pub pieces : ℕ → ℕ → State → List ℕ → Result (List Val) Fault
+pieces zero total state bytes = Err (total, Long)
+pieces (suc n) total state [] = finish state.items state.levels
+pieces (suc n) total state (b ∷ bs) =
+    piece (total - length (b ∷ bs)) b bs state >>= λ found. pieces n total found.0 (after_gap found.1)
+
+-- the data of a text that is UTF-8 and not too long, or its first fault
+abbrev pub scan : List ℕ → Result (List Val) Fault
+scan bytes = pieces (suc (length bytes)) (length bytes) start (after_gap bytes)
+
+-- how many bytes a text may have
+abbrev pub most_bytes : ℕ
+most_bytes = 65536
+
+-- a text's data or its first fault: first its length is tested, then whether it is UTF-8, and then it is scanned
+abbrev pub read : List ℕ → Result (List Val) Fault
+read bytes =
+    if nat_lt most_bytes (length bytes) then Err (most_bytes, Long) else
+    if is_utf8 bytes then scan bytes else Err (utf8_valid_len bytes, Utf8)

@@ -1,0 +1,49 @@
+-- What the reader's answers and its state stand for.
+use Rattle.std.specs.Prelude.{◌≡◌, ℕ, Bool, true, false, Result, Ok, Err, List, [], ◌∷◌, map, reverse}
+use Rattle.script_value.specs.Meaning.{meaning}
+use Rattle.sexp_reader.specs.declared.fault.ReadFault.{ReadFault}
+use Rattle.sexp_reader.specs.declared.fault.ReadFault.TheVariants.{Memory, At}
+use Rattle.sexp_reader.specs.declared.fault.ReadKind.TheVariants.{Unclosed}
+use Rattle.sexp_reader.specs.declared.reader.Level.{Level as LevelOf}
+use Rattle.sexp_reader.specs.declared.reader.Level.TheVariants.{Opened, Marked}
+use Rattle.sexp_reader.specs.declared.reader.Reader.{Reader}
+use Rattle.sexp_reader.specs.Read.{Fault, Level, opened, marked, State, piece}
+
+-- an answer with a fault is that fault; want of memory is free
+abbrev pub Fails : {Y : Type 0} → ReadFault → Result Y Fault → Type 0
+Fails Memory wanted = Unit {0}
+Fails (At error) wanted = wanted ≡ Err (error.place, error.kind)
+
+-- an answer, seen by view, is what is wanted
+abbrev pub Gives : {X Y : Type 0} → (X → Y) → Result X ReadFault → Result Y Fault → Type 0
+Gives view (Ok x) wanted = wanted ≡ Ok (view x)
+Gives view (Err e) wanted = Fails e wanted
+
+-- what is open
+abbrev pub level_of : LevelOf → Level
+level_of (Opened place before) = opened place (map meaning before.items)
+level_of (Marked place) = marked place
+
+-- what is open, the innermost first
+abbrev pub stack_of : List LevelOf → List Level
+stack_of levels = reverse (map level_of levels)
+
+abbrev pub state_of : Reader → State
+state_of reader = record { items = map meaning reader.items.items; levels = stack_of reader.levels.items }
+
+-- the piece that bytes begin with, at this place; where no byte is left, none
+abbrev pub piece_at : ℕ → List ℕ → State → Result (State × List ℕ) Fault
+piece_at place [] state = Err (place, Unclosed)
+piece_at place (b ∷ bs) state = piece place b bs state
+
+-- whether the innermost level is a mark
+abbrev pub is_marked : List Level → Bool
+is_marked [] = false
+is_marked (opened place before ∷ levels) = false
+is_marked (marked place ∷ levels) = true
+
+-- the levels without the innermost where that is a mark
+abbrev pub past_mark : List Level → List Level
+past_mark [] = []
+past_mark (opened place before ∷ levels) = opened place before ∷ levels
+past_mark (marked place ∷ levels) = levels

@@ -1,0 +1,238 @@
+ghost use Rattle.std.specs.Prelude.{◌≡◌, ◌+◌, ◌<◌, ◌≤◌, List, [], length, map, IfOk, OnOk, IsUtf8, Ok};
+ghost use Rattle.script_value.specs.Meaning.{meaning};
+ghost use Rattle.script_value.specs.Val.{Val};
+ghost use Rattle.sexp_reader.specs.Read as spec;
+ghost use Rattle.sexp_reader.specs.Spells.{Spells};
+ghost use Rattle.sexp_reader.specs.Views.{Gives, state_of, level_of, stack_of, piece_at, is_marked, past_mark};
+
+use crate::fault::{ReadFault, ReadKind, fault};
+use crate::scan::{Class, after_gap, class_of, text_at, token_len, word_at};
+use script_value::{Items, Str, Value};
+use std::alloc::{AllocError, Global};
+use std::mem;
+
+/// How many lists and marks may be open.
+const MOST_LEVELS: usize = 128;
+
+/// What is open, with its place.
+#[derive(Drop)]
+pub enum Level {
+    /// A list, and the data before it on the level around it.
+    Opened(u64, Vec<Value>),
+    /// A mark.
+    Marked(u64),
+}
+
+/// What was read so far.
+#[derive(Drop)]
+pub struct Reader {
+    /// The data on the innermost level.
+    pub items: Vec<Value>,
+    /// What is open, the innermost last.
+    pub levels: Vec<Level>,
+}
+
+// The list that a mark before a datum stands for.
+fn quoted(alloc: Global, value: Value) -> Result<Value, AllocError>
+    ensures { IfOk result (λ v. meaning v ≡ spec.quoted (meaning value)) }
+{
+    let name = String::from_str(alloc, "quote")?;
+    let mut items = Vec::new(alloc);
+    items.push(Value::Symbol(Str::new(name)))?;
+    items.push(value)?;
+    Ok(Value::List(Items::from_vec(items)))
+}
+
+impl Reader {
+    fn new(alloc: Global) -> Reader
+        ensures { state_of result ≡ spec.start }
+    {
+        Reader {
+            items: Vec::new(alloc),
+            levels: Vec::new(alloc),
+        }
+    }
+
+    // Takes off the innermost level where it is a mark, and says whether it is.
+    fn end_mark(&mut self) -> Result<bool, AllocError>
+        ensures marked { IfOk result (λ is_mark. is_mark ≡ is_marked (stack_of self.old.levels.items)) }
+        ensures levels { OnOk result (stack_of self.new.levels.items ≡ past_mark (stack_of self.old.levels.items)) }
+        ensures items { OnOk result (self.new.items ≡ self.old.items) }
+    {
+        match self.levels.pop() {
+            None => Ok(false),
+            Some(Level::Marked(_)) => Ok(true),
+            Some(level) => {
+                self.levels.push(level)?;
+                Ok(false)
+            }
+        }
+    }
+
+    // One more datum, which ends each mark right before it.
+    fn put(&mut self, alloc: Global, value: Value) -> Result<(), ReadFault>
+        ensures { Gives (λ _. state_of self.new) result (Ok (spec.put (meaning value) (map meaning self.old.items.items) (stack_of self.old.levels.items))) }
+    {
+        let mut value = value;
+        while self.end_mark()? {
+            value = quoted(alloc, value)?;
+        }
+        self.items.push(value)?;
+        Ok(())
+    }
+
+    // A parenthesis at this place opens a list.
+    fn open_list(&mut self, alloc: Global, place: u64) -> Result<(), ReadFault>
+        ensures { Gives (λ _. state_of self.new) result (spec.open_list place (state_of self.old)) }
+    {
+        if self.levels.len() >= MOST_LEVELS {
+            return Err(fault(place, ReadKind::Deep));
+        }
+        let before = mem::replace(&mut self.items, Vec::new(alloc));
+        self.levels.push(Level::Opened(place, before))?;
+        Ok(())
+    }
+
+    // A mark at this place.
+    fn open_mark(&mut self, place: u64) -> Result<(), ReadFault>
+        ensures { Gives (λ _. state_of self.new) result (spec.open_mark place (state_of self.old)) }
+    {
+        if self.levels.len() >= MOST_LEVELS {
+            return Err(fault(place, ReadKind::Deep));
+        }
+        self.levels.push(Level::Marked(place))?;
+        Ok(())
+    }
+
+    // A parenthesis at this place closes the innermost list.
+    fn close_list(&mut self, alloc: Global, place: u64) -> Result<(), ReadFault>
+        ensures { Gives (λ _. state_of self.new) result (spec.close_list place (map meaning self.old.items.items) (stack_of self.old.levels.items)) }
+    {
+        match self.levels.pop() {
+            None => Err(fault(place, ReadKind::Unopened)),
+            Some(Level::Marked(at)) => Err(fault(at, ReadKind::Token)),
+            Some(Level::Opened(_, before)) => {
+                let items = mem::replace(&mut self.items, before);
+                self.put(alloc, Value::List(Items::from_vec(items)))
+            }
+        }
+    }
+
+    // A text, of which what stands behind its quote is given; what follows it.
+    fn take_text<'a>(
+        &mut self,
+        alloc: Global,
+        place: u64,
+        bytes: &'a [u8],
+    ) -> Result<&'a [u8], ReadFault>
+        requires { IsUtf8 bytes.now }
+        ensures found { Gives (λ rest. (state_of self.new, rest.now)) result (spec.take_text place bytes.now (state_of self.old)) }
+        ensures shorter { IfOk result (λ rest. length rest.now ≤ length bytes.now) }
+    {
+        let (text, rest) = text_at(alloc, place, bytes)?;
+        self.put(alloc, Value::Text(text))?;
+        Ok(rest)
+    }
+
+    // A token; what follows it.
+    fn take_token<'a>(
+        &mut self,
+        alloc: Global,
+        place: u64,
+        bytes: &'a [u8],
+    ) -> Result<&'a [u8], ReadFault>
+        ensures found { Gives (λ rest. (state_of self.new, rest.now)) result (spec.take_token place bytes.now (state_of self.old)) }
+        ensures shorter { IfOk result (λ rest. length rest.now + spec.token_len bytes.now ≡ length bytes.now) }
+    {
+        let (token, rest) = bytes.split_at(token_len(bytes));
+        let value = word_at(alloc, place, token)?;
+        self.put(alloc, value)?;
+        Ok(rest)
+    }
+
+    // The piece that stands here; what follows it.
+    fn take_piece<'a>(
+        &mut self,
+        alloc: Global,
+        place: u64,
+        bytes: &'a [u8],
+    ) -> Result<&'a [u8], ReadFault>
+        requires { IsUtf8 bytes.now }
+        ensures found { Gives (λ rest. (state_of self.new, rest.now)) result (piece_at place bytes.now (state_of self.old)) }
+        ensures shorter { IfOk result (λ rest. length rest.now < length bytes.now) }
+    {
+        let [byte, tail @ ..] = bytes else {
+            return Err(fault(place, ReadKind::Unclosed));
+        };
+        match class_of(*byte) {
+            Class::Opening => {
+                self.open_list(alloc, place)?;
+                Ok(tail)
+            }
+            Class::Closing => {
+                self.close_list(alloc, place)?;
+                Ok(tail)
+            }
+            Class::Mark => {
+                self.open_mark(place)?;
+                Ok(tail)
+            }
+            Class::Quote => self.take_text(alloc, place, tail),
+            Class::Plain => self.take_token(alloc, place, bytes),
+            _ => Err(fault(place, ReadKind::Token)),
+        }
+    }
+
+    // The data of the text at its end.
+    fn finish(mut self) -> Result<Vec<Value>, ReadFault>
+        ensures { Gives (λ vs. map meaning vs.items) result (spec.finish (map meaning self.items.items) (stack_of self.levels.items)) }
+    {
+        match self.levels.pop() {
+            None => Ok(self.items),
+            Some(Level::Opened(at, _)) => Err(fault(at, ReadKind::Unclosed)),
+            Some(Level::Marked(at)) => Err(fault(at, ReadKind::Unclosed)),
+        }
+    }
+}
+
+// The data of a text that is UTF-8.
+fn scan(alloc: Global, text: &[u8]) -> Result<Vec<Value>, ReadFault>
+    requires { IsUtf8 text.now }
+    ensures { Gives (λ vs. map meaning vs.items) result (spec.scan text.now) }
+{
+    let mut reader = Reader::new(alloc);
+    let mut rest = after_gap(text);
+    while !rest.is_empty() {
+        let place = text.len() - rest.len();
+        rest = after_gap(reader.take_piece(alloc, place as u64, rest)?);
+    }
+    reader.finish()
+}
+
+/// How many bytes a text may have.
+const MOST_BYTES: usize = 65_536;
+
+// The data of a text, or its first fault.
+fn read_text(alloc: Global, text: &[u8]) -> Result<Vec<Value>, ReadFault>
+    ensures { Gives (λ vs. map meaning vs.items) result (spec.read text.now) }
+{
+    if text.len() > MOST_BYTES {
+        return Err(fault(MOST_BYTES as u64, ReadKind::Long));
+    }
+    match str::from_utf8(text) {
+        Ok(_) => scan(alloc, text),
+        Err(error) => Err(fault(error.valid_up_to() as u64, ReadKind::Utf8)),
+    }
+}
+
+/// The data that a text spells, or its first fault.
+pub fn read_all(alloc: Global, text: &[u8]) -> Result<Vec<Value>, ReadFault>
+    // The answer is that of reading, unless memory ran out.
+    ensures value { Gives (λ vs. map meaning vs.items) result (spec.read text.now) }
+    // What is read is spelled so.
+    ensures spelled { IfOk result (λ vs. Spells text.now (map meaning vs.items)) }
+    // What is spelled so is read, unless memory ran out.
+    ensures found { (wanted : List Val) → Spells text.now wanted → Gives (λ vs. map meaning vs.items) result (Ok wanted) }
+{
+    read_text(alloc, text)
+}

@@ -1,0 +1,7 @@
+use Rattle.std.proofs.Common.{◌≡◌, ◌++◌, take}
+use Rattle.std.specs.List.{flat_map}
+use Rattle.xexpr_page.specs.Page.{attribute_byte}
+use Rattle.xexpr_page.proofs.escape.push_attribute_text.Given as goal
+
+abbrev pub invariant-loop-byte : goal.invariant-loop-byte
+invariant-loop-byte l = l.page.items ≡ l.fn.page.items ++ flat_map attribute_byte (take l.byte-index l.byte-items)

@@ -1,0 +1,10 @@
+use Rattle.std.proofs.Common.{◌≡◌, map, drop}
+use Rattle.script_value.specs.Val.{vals_of}
+use Rattle.script_value.specs.Meaning.{meaning}
+use Rattle.xexpr_page.specs.Page.{attributes_of, appended}
+use Rattle.xexpr_page.proofs.page.push_attributes.Given as goal
+
+abbrev pub invariant-loop-attribute : goal.invariant-loop-attribute
+invariant-loop-attribute l =
+    appended l.fn.page.items (attributes_of (vals_of (map meaning l.attributes)))
+    ≡ appended l.page.items (attributes_of (vals_of (map meaning (drop l.attribute-index l.attributes))))
