@@ -1,9 +1,14 @@
 -- Pieces of a page, one behind the other.
-use Rattle.std.proofs.Common.{◌≡◌, ℕ, List, [], ◌∷◌, ◌++◌, map, length, Option, Some, None, option_map, refl, sym, ap, ◌∙◌, append_assoc, append-nil, arith}
-use Rattle.script_value.specs.Val.{vals_of}
+use Rattle.std.proofs.Common.{◌≡◌, ◌<◌, ◌≤◌, ◌+◌, ◌-◌, take, ℕ, zero, suc, List, [], ◌∷◌, ◌++◌, map, length, drop, get_or, add-one, true, Option, Some, None, option_map, refl, sym, ap, ◌∙◌, append_assoc, append-nil, arith}
+use Rattle.std.proofs.Math.Seq.{drop-cons}
+use Rattle.std.proofs.lemmas.List.{take_rest}
+use Rattle.script_value.specs.Val.{val, vals_of, depth, depth_all}
 use Rattle.script_value.specs.Meaning.{meaning}
 use Rattle.script_value.specs.declared.value.Value.{Value}
-use Rattle.xexpr_page.specs.Page.{join, appended, start_tag, end_tag, element, pair_in, is_element}
+use Rattle.std.specs.Prelude.{Result, Err}
+use Rattle.xexpr_page.specs.declared.fault.RenderFault.{RenderFault}
+use Rattle.xexpr_page.specs.declared.fault.RenderFault.TheVariants.{Memory, NotPage}
+use Rattle.xexpr_page.specs.Page.{Pushes, join, appended, start_tag, end_tag, element, element_of, pair_in, is_element, page_of, children_of, attribute_of, attributes_of}
 
 some_of : {A : Type 0} (x y : A) → Some x ≡ Some y → x ≡ y
 some_of x y e = cc
@@ -43,3 +48,64 @@ no_pair [] h = refl
 no_pair (x ∷ []) h = refl
 no_pair (x ∷ y ∷ []) h = absurd (h refl)
 no_pair (x ∷ y ∷ z ∷ xs) h = refl
+
+-- the children from a place on
+pub children_here : (xs : List Value) (i : ℕ) (d : Value) → i < length xs
+    → children_of (vals_of (map meaning (drop i xs))) ≡ join (page_of (meaning (get_or xs i d))) (children_of (vals_of (map meaning (drop (i + 1) xs))))
+children_here xs i d h = rw (drop-cons xs i d, add-one) refl
+
+pub attributes_here : (xs : List Value) (i : ℕ) (d : Value) → i < length xs
+    → attributes_of (vals_of (map meaning (drop i xs))) ≡ join (attribute_of (meaning (get_or xs i d))) (attributes_of (vals_of (map meaning (drop (i + 1) xs))))
+attributes_here xs i d h = rw (drop-cons xs i d, add-one) refl
+
+-- one child more
+pub child_more : (old now new : List ℕ) (xs : List Value) (i : ℕ) (d : Value) → i < length xs → d ≡ get_or xs i d
+    → appended old (children_of (vals_of (map meaning xs))) ≡ appended now (children_of (vals_of (map meaning (drop i xs))))
+    → appended now (page_of (meaning d)) ≡ Some new
+    → appended old (children_of (vals_of (map meaning xs))) ≡ appended new (children_of (vals_of (map meaning (drop (i + 1) xs))))
+child_more old now new xs i d h e inv step =
+    inv ∙ ap (appended now) (children_here xs i d h)
+    ∙ appended_join now new (page_of (meaning (get_or xs i d))) (children_of (vals_of (map meaning (drop (i + 1) xs)))) (rw (← e) step)
+
+-- a child that is no page
+pub child_none : (old now : List ℕ) (xs : List Value) (i : ℕ) (d : Value) → i < length xs → d ≡ get_or xs i d
+    → appended old (children_of (vals_of (map meaning xs))) ≡ appended now (children_of (vals_of (map meaning (drop i xs))))
+    → page_of (meaning d) ≡ None
+    → children_of (vals_of (map meaning xs)) ≡ None
+child_none old now xs i d h e inv none =
+    none_appended old (children_of (vals_of (map meaning xs)))
+    (inv ∙ appended_none now (children_of (vals_of (map meaning (drop i xs))))
+    (children_here xs i d h ∙ joined_none (page_of (meaning (get_or xs i d))) (children_of (vals_of (map meaning (drop (i + 1) xs)))) (rw (← e) none)))
+
+nth_depth : (xs : List Value) (i : ℕ) (d : Value) → i < length xs
+    → depth (meaning (get_or xs i d)) ≤ depth_all (vals_of (map meaning xs))
+nth_depth [] i d h = absurd (omega arith)
+nth_depth (x ∷ xs) zero d h = omega arith
+nth_depth (x ∷ xs) (suc i) d h = omega (arith, nth_depth xs i d (omega arith))
+
+-- a child nests less deep than all children
+pub child_depth : (xs : List Value) (i : ℕ) (d : Value) → i < length xs → d ≡ get_or xs i d
+    → depth (meaning d) ≤ depth_all (vals_of (map meaning xs))
+child_depth xs i d h e = rw e (nth_depth xs i d h)
+
+-- an element that was written: its start, its children and its end
+pub element_written : (old mid late : List ℕ) (n : List ℕ) (attributes children : Option (List ℕ))
+    → is_element n ≡ true
+    → appended old (option_map (start_tag n) attributes) ≡ Some mid
+    → appended mid children ≡ Some late
+    → appended old (element n attributes children) ≡ Some (late ++ end_tag n)
+element_written old mid late n attributes children named start inner =
+    rw named
+    (appended_join old mid (option_map (start_tag n) attributes) (join children (Some (end_tag n))) start
+    ∙ appended_join mid late children (Some (end_tag n)) inner)
+
+-- a fault that is handed on
+pub handed_on : (f : RenderFault) (old now new : List ℕ) (p q : Option (List ℕ)) → Pushes (Err f) now new p → (p ≡ None → q ≡ None) → Pushes (Err f) old new q
+handed_on Memory old now new p q h k = tt
+handed_on NotPage old now new p q h k = k h
+
+-- the first item of a list, and the others
+pub first_item : (xs : List Value) (d : Value) → 1 ≤ length xs → d ≡ get_or xs 0 d
+    → vals_of (map meaning xs) ≡ val (meaning d) (vals_of (map meaning (take (length xs - 1) (drop 1 xs))))
+first_item [] d h e = absurd (omega arith)
+first_item (x ∷ xs) d h e = rw (take_rest (x ∷ xs) 1) (ap (λ v. val (meaning v) (vals_of (map meaning xs))) (sym e))

@@ -1,5 +1,5 @@
 ghost use Rattle.std.specs.Prelude.{◌≡◌, ◌≤◌, ◌++◌, List, ℕ, map, option_map, Some, None, OnOk, if◌then◌else◌};
-ghost use Rattle.script_value.specs.Val.{list, vals_of, depth_all};
+ghost use Rattle.script_value.specs.Val.{list, val, vals_of, depth_all};
 ghost use Rattle.script_value.specs.Meaning.{meaning};
 ghost use Rattle.xexpr_page.specs.Page as spec;
 ghost use Rattle.xexpr_page.specs.Page.{page_of, element_of, children_of, Renders, Pushes};
@@ -43,12 +43,20 @@ fn push_list(page: &mut Vec<u8>, items: &[Value]) -> Result<(), RenderFault>
 {
     match items {
         [] => Err(RenderFault::NotPage),
-        [first, rest @ ..] => match first {
-            Value::Symbol(name) => push_element(page, name, rest),
-            Value::Int(_) | Value::Truth(_) | Value::Text(_) | Value::List(_) => {
-                Err(RenderFault::NotPage)
-            }
-        },
+        [first, parts @ ..] => push_named(page, first, parts),
+    }
+}
+
+// Puts the element that the first item of a list names behind the page.
+#[cycle(page)]
+fn push_named(page: &mut Vec<u8>, first: &Value, parts: &[Value]) -> Result<(), RenderFault>
+    ensures { Pushes result page.old.items page.new.items (page_of (list (val (meaning first.now) (vals_of (map meaning parts.now))))) }
+{
+    match first {
+        Value::Symbol(name) => push_element(page, name, parts),
+        Value::Int(_) | Value::Truth(_) | Value::Text(_) | Value::List(_) => {
+            Err(RenderFault::NotPage)
+        }
     }
 }
 
