@@ -89,7 +89,7 @@ impl Book {
         answer: Value,
         nonce: u64,
     ) -> Result<Ticket, Reply>
-        requires { (book_of self.old).drawn < 2 ^ 62 }
+        requires { (book_of self.old).drawn < 2 ^ 63 }
         ensures step { IsStep setup.now self.old (step.take (target_of target) (meaning answer) nonce) (taken_of result) self.new }
         ensures out { IfOk result (λ t. Contains (book_of self.new).out t.number) }
         ensures drawn { (book_of self.new).drawn ≤ (book_of self.old).drawn + 1 }

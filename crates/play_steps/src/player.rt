@@ -63,8 +63,8 @@ impl Player {
 
     /// One visit of a target: a take and, where that is given a number, the publish of its segment.
     pub fn visit(&mut self, alloc: Global, setup: &Setup, target: &[u8]) -> Reply
-        requires drawn { (table_of self.old).book.drawn < 2 ^ 62 }
-        requires nonce { (table_of self.old).nonce < 2 ^ 62 }
+        requires drawn { (table_of self.old).book.drawn < 2 ^ 63 }
+        requires nonce { (table_of self.old).nonce < 2 ^ 63 }
         ensures visited { IsVisit (scripts_of setup.now) (table_of self.old) target.now (reply_of result) (table_of self.new) }
         ensures drawn { (table_of self.new).book.drawn ≤ (table_of self.old).book.drawn + 1 }
         ensures nonce { (table_of self.new).nonce ≤ (table_of self.old).nonce + 1 }

@@ -41,8 +41,8 @@ fn play_line<O: Sink>(
     line: &[u8],
     output: &mut O,
 ) -> Turn
-    requires drawn { (table_of player.old).book.drawn < 2 ^ 62 }
-    requires nonce { (table_of player.old).nonce < 2 ^ 62 }
+    requires drawn { (table_of player.old).book.drawn < 2 ^ 63 }
+    requires nonce { (table_of player.old).nonce < 2 ^ 63 }
     ensures turned { Turns result (O.written output.old) (O.written output.new) (scripts_of setup.now) (table_of player.old) (table_of player.new) line.now }
     ensures drawn { (table_of player.new).book.drawn ≤ (table_of player.old).book.drawn + 1 }
     ensures nonce { (table_of player.new).nonce ≤ (table_of player.old).nonce + 1 }
@@ -64,7 +64,6 @@ fn play_line<O: Sink>(
 
 /// Plays the steps, one a line, over a shelf with nothing in it, and writes a reply to each.
 pub fn play<O: Sink>(alloc: Global, setup: &Setup, steps: &[u8], output: &mut O) -> PlayEnd
-    requires { length steps.now < 2 ^ 62 }
     ensures ended { Ends result (O.written output.old) (O.written output.new) (scripts_of setup.now) steps.now }
     ensures write { result ≡ PlayEnd.Write → Rose (O.fault_count output.old) (O.fault_count output.new) }
     ensures later { O.fault_count output.old ≤ O.fault_count output.new }

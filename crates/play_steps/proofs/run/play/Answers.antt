@@ -32,12 +32,6 @@ loop-rest-init g c =
       later = omega arith;
     }
 
-pub play_line-requires-clause-drawn : goal.play_line-requires-clause-drawn
-play_line-requires-clause-drawn g c = omega (arith, c.loop-rest.invariant.drawn, c.requires)
-
-pub play_line-requires-clause-nonce : goal.play_line-requires-clause-nonce
-play_line-requires-clause-nonce g c = omega (arith, c.loop-rest.invariant.nonce, c.requires)
-
 pub returns-in_default-clause-ended : goal.returns-in_default-clause-ended
 returns-in_default-clause-ended g c =
     let uncut : cut_at 10 c.loop-rest.rest.now ≡ None = search rules in

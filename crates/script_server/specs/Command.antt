@@ -1,0 +1,105 @@
+-- What the command answers.
+use Rattle.std.specs.Prelude.{◌≡◌, ◌≤◌, ◌∷◌, [], ℕ, List, length, map, Bool, false, true, Option, Some, None, IfSome, codes}
+use Rattle.std.specs.Borrow.{Bor}
+use Rattle.std.specs.Str.{bytes_eq}
+use Rattle.std.specs.Io.KnownBytes.{IsAtEnd}
+use Rattle.web_outside.specs.Causes.{Rose}
+use Rattle.web_outside.specs.Pieces.{AppendsUnlessFault, ReadsPast}
+use Rattle.core_syntax.specs.Setup.{Named}
+use Rattle.play_steps.specs.Step.{Request, requests}
+use Rattle.play_steps.specs.Transcript.{Plays, PlaysPart, done}
+use Rattle.script_server.specs.declared.command.Status.{Status}
+use Rattle.script_server.specs.declared.command.Status.TheVariants as status
+use Rattle.script_server.specs.Setup.{Parsed, setup_of}
+use Rattle.script_server.specs.Output.{Answers, BreaksOff, EndsAtLine, StopsWith}
+
+-- the words are the program's name and `play`
+abbrev pub is_play : List (List ℕ) → Bool
+is_play (name ∷ word ∷ []) = bytes_eq word (codes "play")
+is_play _ = false
+
+-- the texts of the words
+abbrev pub texts : List (Bor (List ℕ)) → List (List ℕ)
+texts words = map (λ w. w.now) words
+
+-- the status that the process ends with
+abbrev pub code_of : Status → ℕ
+code_of status.Done = 0
+code_of status.Usage = 2
+code_of status.Setup = 3
+code_of status.Line = 4
+code_of status.Read = 5
+code_of status.Write = 6
+code_of status.Memory = 10
+code_of status.Long = 11
+
+-- What a command met: the words; the bytes that its input had, and those that are left of it; what its output held
+-- before and holds after, where these are told; and the counts of faults of both, before and after.
+pub record Met : Type 0 where
+  pub words : List (List ℕ)
+  pub input : Option (List ℕ)
+  pub unread : Option (List ℕ)
+  pub held : Option (List ℕ)
+  pub holds : Option (List ℕ)
+  pub input_before : ℕ
+  pub input_after : ℕ
+  pub output_before : ℕ
+  pub output_after : ℕ
+
+-- the output grew by this line, or by a part of it where the output failed
+abbrev pub Prints : Met → List ℕ → Type 0
+Prints met line = AppendsUnlessFault met.held met.holds line met.output_before met.output_after
+
+-- the input was read to its end, and is not too long
+pub record ReadToEnd (met : Met) : Type 0 where
+  pub end : IsAtEnd met.unread
+  pub short : IfSome met.input (λ bytes. length bytes ≤ 16777216)
+
+-- the output is the whole transcript of the input, whose status is this
+abbrev pub Whole : Met → ℕ → Type 0
+Whole met status = IfSome met.input (λ bytes. Answers bytes met.held met.holds met.output_before met.output_after status)
+
+-- the output is a front of a transcript of the input, and then of this line
+abbrev pub Front : Met → List ℕ → Type 0
+Front met line = IfSome met.input (λ bytes. BreaksOff bytes line met.held met.holds)
+
+-- why the command ends so, and what it wrote
+abbrev pub Explains : Status → Met → Type 0
+Explains status.Done met = (is_play met.words ≡ true) × ReadToEnd met × Whole met 0
+Explains status.Usage met = (is_play met.words ≡ false) × Prints met (codes "error 2 usage\n")
+Explains status.Setup met = (is_play met.words ≡ true) × ReadToEnd met × Whole met 3
+Explains status.Line met = (is_play met.words ≡ true) × ReadToEnd met × Whole met 4
+Explains status.Read met = (is_play met.words ≡ true) × Rose met.input_before met.input_after × Prints met (codes "error 5 read\n")
+Explains status.Write met = (is_play met.words ≡ true) × ReadToEnd met × Rose met.output_before met.output_after × Front met []
+Explains status.Memory met = (is_play met.words ≡ true) × Front met (codes "error 10 memory\n")
+Explains status.Long met = (is_play met.words ≡ true) × ReadsPast met.input met.unread 16777216 × Prints met (codes "error 11 long\n")
+
+-- each line is a step
+abbrev pub AreSteps : List (Option Request) → Type 0
+AreSteps [] = Unit {0}
+AreSteps (None ∷ steps) = ⊥
+AreSteps (Some request ∷ steps) = AreSteps steps
+
+-- the input is a setup and steps, each in its grammar, and not too long
+pub record IsPlayable (bytes : List ℕ) : Type 0 where
+  pub setup : Parsed
+  pub begins : setup_of bytes ≡ Some setup
+  pub steps : AreSteps (requests setup.steps)
+  pub short : length bytes ≤ 16777216
+
+-- what playing the steps behind a setup leaves
+abbrev pub Finishes : Status → Option (List ℕ) → Option (List ℕ) → ℕ → ℕ → List Named → List ℕ → Type 0
+Finishes status.Done old new before after setup steps = Plays old new setup steps done
+Finishes status.Line old new before after setup steps = EndsAtLine old new before after setup steps
+Finishes status.Write old new before after setup steps = Rose before after × PlaysPart old new setup steps
+Finishes status.Memory old new before after setup steps = StopsWith old new (codes "error 10 memory\n") setup steps
+Finishes _ old new before after setup steps = ⊥
+
+-- what playing a whole input leaves
+abbrev pub Outputs : Status → List ℕ → Option (List ℕ) → Option (List ℕ) → ℕ → ℕ → Type 0
+Outputs status.Done input old new before after = Answers input old new before after 0
+Outputs status.Setup input old new before after = Answers input old new before after 3
+Outputs status.Line input old new before after = Answers input old new before after 4
+Outputs status.Write input old new before after = Rose before after × BreaksOff input [] old new
+Outputs status.Memory input old new before after = BreaksOff input (codes "error 10 memory\n") old new
+Outputs _ input old new before after = ⊥

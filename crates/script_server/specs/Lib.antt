@@ -1,0 +1,4 @@
+pub mod Setup
+pub mod Output
+pub mod Command
+pub mod Parses
