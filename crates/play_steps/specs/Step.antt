@@ -40,4 +40,3 @@ requests_from line (b ∷ bytes) =
 
 unfoldable pub requests : List ℕ → List (Option Request)
 requests bytes = requests_from [] bytes
-

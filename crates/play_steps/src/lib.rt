@@ -2,9 +2,9 @@
 #![tactic(auto)]
 
 mod answer;
-mod run;
 mod player;
 mod reply;
+mod run;
 mod step;
 
 pub use run::{PlayEnd, play};

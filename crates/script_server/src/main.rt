@@ -42,3 +42,6 @@ fn status<R: Env + Input + Print + AllocGlobal>(rt: &R) -> Result<u8, AllocError
 fn main(rt: HostRuntime) -> ExitCode {
     ExitCode::from(status(&rt).unwrap_or(OUT_OF_MEMORY))
 }
+
+#[cfg(test)]
+mod tests;

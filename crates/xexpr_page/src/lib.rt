@@ -8,3 +8,6 @@ mod page;
 
 pub use fault::RenderFault;
 pub use page::render;
+
+#[cfg(test)]
+mod tests;
