@@ -49,5 +49,5 @@ pub taped : (name : List ℕ) (shelf instance : ℕ) (t : Ticket) (chain : List 
 taped name shelf instance t chain root links done later first last c f l a e =
     let order : chain ≡ link_of root ∷ reverse (map link_of links) = c ∙ reverse_pushed links root in
     let answers : later ≡ answers_to name shelf instance (reverse (map link_of links)) (record { value = t.answer; segment = newest name shelf instance t }) =
-        e ∙ (sym a ∙ ap (answers_to name shelf instance (reverse (map link_of links))) l) in
+    e ∙ (sym a ∙ ap (answers_to name shelf instance (reverse (map link_of links))) l) in
     rw (order, f, answers) refl

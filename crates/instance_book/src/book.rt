@@ -143,20 +143,35 @@ impl Book {
         ensures err { OnErr result (book_of self.new ≡ book_of self.old) }
     {
         match effect {
-            Effect::Opens { number, script, page } => self.open(alloc, number, script, page),
-            Effect::Extends { instance, number, page } => self.extend(instance, number, page),
+            Effect::Opens {
+                number,
+                script,
+                page,
+            } => self.open(alloc, number, script, page),
+            Effect::Extends {
+                instance,
+                number,
+                page,
+            } => self.extend(instance, number, page),
             Effect::Ends { .. } => Ok(()),
         }
     }
 
     // A new instance with its first page.
-    fn open(&mut self, alloc: Global, number: u64, script: usize, page: KeptPage) -> Result<(), AllocError>
+    fn open(
+        &mut self,
+        alloc: Global,
+        number: u64,
+        script: usize,
+        page: KeptPage,
+    ) -> Result<(), AllocError>
         ensures ok { OnOk result (book_of self.new ≡ spec.land (effect_of (Effect.Opens number script page)) (book_of self.old)) }
         ensures err { OnErr result (book_of self.new ≡ book_of self.old) }
     {
         let mut pages = BTreeMap::new(alloc);
         pages.insert(number, page)?;
-        self.instances.insert(number, KeptInstance { script, pages })?;
+        self.instances
+            .insert(number, KeptInstance { script, pages })?;
         Ok(())
     }
 

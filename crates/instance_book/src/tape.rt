@@ -61,7 +61,10 @@ impl InstanceName {
 }
 
 // The parent of a page, where it has one among these.
-fn parent_of<'a>(pages: &'a BTreeMap<u64, KeptPage>, parent: Option<u64>) -> Option<(u64, &'a KeptPage)>
+fn parent_of<'a>(
+    pages: &'a BTreeMap<u64, KeptPage>,
+    parent: Option<u64>,
+) -> Option<(u64, &'a KeptPage)>
     ensures { option_map link_of result ≡ spec.parent_of (map page_of pages.now.entries) parent }
 {
     let number = parent?;

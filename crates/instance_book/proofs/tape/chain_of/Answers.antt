@@ -16,6 +16,6 @@ links-preserved c =
     let ps = map page_of c.args.pages.now.entries in
     let some : option_map link_of c.links.next ≡ Some (link_of (c.in-Some.number, c.in-Some.page)) = search rules in
     let walked : spec.chain_within (c.len-end.result - c.links.counter) ps (option_map link_of c.links.next) ++ reverse (map link_of c.links.links.items)
-        ≡ spec.chain_within (c.len-end.result - (c.links.counter + 1)) ps (option_map link_of c.parent_of-next.result) ++ reverse (map link_of c.push.new.self.items) =
-        rw (some, c.parent_of-next.ensures, c.in_ok-push.ensures.items) (chain_step c.len-end.result c.links.counter ps c.links.links.items (c.in-Some.number, c.in-Some.page) (omega arith)) in
+    ≡ spec.chain_within (c.len-end.result - (c.links.counter + 1)) ps (option_map link_of c.parent_of-next.result) ++ reverse (map link_of c.push.new.self.items) =
+    rw (some, c.parent_of-next.ensures, c.in_ok-push.ensures.items) (chain_step c.len-end.result c.links.counter ps c.links.links.items (c.in-Some.number, c.in-Some.page) (omega arith)) in
     (c.links.invariant.0, c.links.invariant.1 ∙ walked)

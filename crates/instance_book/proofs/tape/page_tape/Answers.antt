@@ -18,12 +18,12 @@ links-preserved c =
     let newest : tape.Answer = record { value = meaning c.args.ticket.now.answer; segment = segment_of c.in_ok-newest.newest } in
     let popped : c.links.links.items ≡ c.pop-in-links.new.self.items ++ (c.in-Some-pop.number, c.in-Some-pop.page) ∷ [] = c.in-Some-pop.ensures.items in
     let written : map answer_of c.push.new.self.items
-        ≡ map answer_of c.links.later.items ++ record { value = (page_of (c.in-Some-pop.number, c.in-Some-pop.page.now)).answer; segment = step.past (name_of home.name) home.shelf home.instance (page_of (c.in-Some-pop.number, c.in-Some-pop.page.now)) } ∷ [] =
-        ap (map answer_of) c.in_ok-push.ensures.items
-        ∙ map-append answer_of c.links.later.items (record { value = c.in_ok-try_clone.field-0; segment = c.in_ok-past.field-0 } ∷ [])
-        ∙ ap (λ (a : tape.Answer). map answer_of c.links.later.items ++ a ∷ [])
-        (ap (λ (v : Value). record { value = meaning v; segment = segment_of c.in_ok-past.field-0 }) c.in_ok-try_clone.ensures
-        ∙ ap (λ (s : tape.Segment). record { value = meaning c.in-Some-pop.page.now.answer; segment = s }) c.in_ok-past.ensures) in
+    ≡ map answer_of c.links.later.items ++ record { value = (page_of (c.in-Some-pop.number, c.in-Some-pop.page.now)).answer; segment = step.past (name_of home.name) home.shelf home.instance (page_of (c.in-Some-pop.number, c.in-Some-pop.page.now)) } ∷ [] =
+    ap (map answer_of) c.in_ok-push.ensures.items
+    ∙ map-append answer_of c.links.later.items (record { value = c.in_ok-try_clone.field-0; segment = c.in_ok-past.field-0 } ∷ [])
+    ∙ ap (λ (a : tape.Answer). map answer_of c.links.later.items ++ a ∷ [])
+    (ap (λ (v : Value). record { value = meaning v; segment = segment_of c.in_ok-past.field-0 }) c.in_ok-try_clone.ensures
+    ∙ ap (λ (s : tape.Segment). record { value = meaning c.in-Some-pop.page.now.answer; segment = s }) c.in_ok-past.ensures) in
     c.links.invariant ∙ rw (popped, written) (answers_step (name_of home.name) home.shelf home.instance newest (map answer_of c.links.later.items) c.pop-in-links.new.self.items (c.in-Some-pop.number, c.in-Some-pop.page))
 
 pub returns : goal.returns
@@ -33,12 +33,12 @@ returns c =
     let last : tape.Answer = record { value = meaning c.args.ticket.now.answer; segment = segment_of c.in_ok-newest.newest } in
     let empty : c.links.links.items ≡ [] = nothing_left c.links.links.items (omega (arith, c.links.links.ok.0, c.in_default-pop.ensures.cases)) in
     let walked : step.answers_to (name_of home.name) home.shelf home.instance (reverse (map link_of c.pop.new.self.items)) last
-        ≡ map answer_of c.links.later.items ++ last ∷ [] =
-        c.links.invariant ∙ rw empty refl in
+    ≡ map answer_of c.links.later.items ++ last ∷ [] =
+    c.links.invariant ∙ rw empty refl in
     let written : map answer_of c.push-2.new.self.items ≡ map answer_of c.links.later.items ++ last ∷ [] =
-        ap (map answer_of) c.in_ok-push-2.ensures.items
-        ∙ map-append answer_of c.links.later.items (record { value = c.in_ok-try_clone-2.field-0; segment = c.in_ok-newest.newest } ∷ [])
-        ∙ ap (λ (v : Value). map answer_of c.links.later.items ++ record { value = meaning v; segment = segment_of c.in_ok-newest.newest } ∷ []) c.in_ok-try_clone-2.ensures in
+    ap (map answer_of) c.in_ok-push-2.ensures.items
+    ∙ map-append answer_of c.links.later.items (record { value = c.in_ok-try_clone-2.field-0; segment = c.in_ok-newest.newest } ∷ [])
+    ∙ ap (λ (v : Value). map answer_of c.links.later.items ++ record { value = meaning v; segment = segment_of c.in_ok-newest.newest } ∷ []) c.in_ok-try_clone-2.ensures in
     taped (name_of home.name) home.shelf home.instance t
     (spec.chain (map page_of c.args.pages.now.entries) (page_of (c.args.number, c.args.page.now)))
     (c.in-Some.number, c.in-Some.page) c.pop.new.self.items (map answer_of c.links.later.items) (map answer_of c.push-2.new.self.items)

@@ -9,9 +9,9 @@ use Rattle.instance_book.proofs.tape.page_tape.Given as goal
 abbrev pub invariant-links : goal.invariant-links
 invariant-links l =
     step.answers_to (name_of l.home.name) l.home.shelf l.home.instance (reverse (map link_of l.initial.links.items))
-        (record { value = meaning l.ticket.answer; segment = segment_of l.newest })
+    (record { value = meaning l.ticket.answer; segment = segment_of l.newest })
     ≡ map answer_of l.later.items ++ step.answers_to (name_of l.home.name) l.home.shelf l.home.instance (reverse (map link_of l.links.items))
-        (record { value = meaning l.ticket.answer; segment = segment_of l.newest })
+    (record { value = meaning l.ticket.answer; segment = segment_of l.newest })
 
 abbrev pub decreases-links : goal.decreases-links
 decreases-links l = vec_len l.links

@@ -13,11 +13,11 @@ returns-in_err-insert-clause-err c =
     let found : lookup (is_at (nat_cmp c.args.instance)) c.args.self.now.instances.entries ≡ Some c.in-Some.kept.now = search rules in
     let after : KeptInstance = record { script = c.in-Some.kept.now.script; pages = c.insert.new.self } in
     let same : instance_of (c.args.instance, c.in-Some.kept.now) ≡ instance_of (c.args.instance, after) =
-        ap (λ (ps : List spec.Page). record { number = c.args.instance; script = c.in-Some.kept.now.script; pages = ps }) (ap (map page_of) (sym c.in_err-insert.ensures.err)) in
+    ap (λ (ps : List spec.Page). record { number = c.args.instance; script = c.in-Some.kept.now.script; pages = ps }) (ap (map page_of) (sym c.in_err-insert.ensures.err)) in
     let whole : book_of (record c.args.self.now { instances = c.get_mut.follows.lender after }) ≡ book_of c.args.self.now =
-        ap (λ (is : List spec.Instance). record (book_of c.args.self.now) { instances = is })
-        (ap (map instance_of) (c.get_mut.follows.holds after).0
-        ∙ instance_kept c.args.instance c.in-Some.kept.now after c.args.self.now.instances.entries found same) in
+    ap (λ (is : List spec.Instance). record (book_of c.args.self.now) { instances = is })
+    (ap (map instance_of) (c.get_mut.follows.holds after).0
+    ∙ instance_kept c.args.instance c.in-Some.kept.now after c.args.self.now.instances.entries found same) in
     search (rules, whole)
 
 pub returns-in_ok-insert-clause-ok : goal.returns-in_ok-insert-clause-ok
