@@ -1,5 +1,6 @@
-use crate::{ExpandFault, Node, Script, SyntaxKind, expand};
-use script_value::{Items, Op, Str, Value};
+use crate::{ExpandFault, NamedScript, Node, Script, Setup, SyntaxKind, expand};
+use page_names::ScriptName;
+use script_value::{Bytes, Items, Op, Str, Value};
 use std::alloc::{AllocError, Global};
 use std::test::Fail;
 
@@ -87,5 +88,42 @@ fn nodes_in_order(rt: HostRuntime) -> Result<(), Fail> {
     assert!(rt; is_sum);
     let is_first = matches!(script.node(3), Node::Var(0));
     assert!(rt; is_first);
+    Ok(())
+}
+
+fn script_name(name: &str) -> Result<ScriptName, Fail> {
+    Ok(ScriptName::new(name.as_bytes()).ok_or("a name")?)
+}
+
+/// The script of this name that is this value.
+fn named_script(alloc: Global, name: &str, value: i64) -> Result<NamedScript, Fail> {
+    let script = expanded(alloc, Value::Int(value)).ok().ok_or("a script")?;
+    Ok(NamedScript {
+        name: script_name(name)?,
+        text: Bytes::new(Vec::new(alloc)),
+        script,
+    })
+}
+
+fn is_value(script: &Script, value: i64) -> bool {
+    matches!(script.node(script.root()), Node::Lit(Value::Int(n)) if *n == value)
+}
+
+#[test]
+fn scripts_by_name(rt: HostRuntime) -> Result<(), Fail> {
+    let alloc = rt.alloc();
+    let mut scripts = vec![in alloc; named_script(alloc, "shop", 1)?]?;
+    scripts.push(named_script(alloc, "sum", 2)?)?;
+    scripts.push(named_script(alloc, "sum", 3)?)?;
+    let setup = Setup::new(scripts);
+    assert_eq!(rt; setup.place(&script_name("shop")?), Some(0));
+    assert_eq!(rt; setup.place(&script_name("sum")?), Some(1));
+    assert_eq!(rt; setup.place(&script_name("s")?), None);
+    let sum = setup.find(&script_name("sum")?).ok_or("the first sum")?;
+    assert!(rt; is_value(sum, 2));
+    let last = setup.get(2).ok_or("the last")?;
+    assert!(rt; is_value(&last.script, 3));
+    assert!(rt; setup.get(3).is_none());
+    assert!(rt; setup.find(&script_name("shopping")?).is_none());
     Ok(())
 }

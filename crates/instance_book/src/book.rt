@@ -27,10 +27,10 @@ pub struct KeptInstance {
 /// The book of one shelf.
 #[derive(Drop)]
 pub struct Book {
-    pub shelf: u32,
-    pub drawn: u64,
-    pub out: Vec<u64>,
-    pub instances: BTreeMap<u64, KeptInstance>,
+    pub(crate) shelf: u32,
+    drawn: u64,
+    out: Vec<u64>,
+    pub(crate) instances: BTreeMap<u64, KeptInstance>,
 }
 
 impl Book {

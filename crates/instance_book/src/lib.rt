@@ -5,6 +5,8 @@ mod admission;
 mod book;
 mod decision;
 mod tape;
+#[cfg(test)]
+mod tests;
 mod ticket;
 
 pub use book::Book;

@@ -5,7 +5,7 @@ use Rattle.script_value.specs.declared.outcome.TxName.{TxName}
 use Rattle.prim_ops.specs.Table.{value_of}
 use Rattle.xexpr_page.specs.Page.{page_of}
 use Rattle.core_syntax.specs.Core.{Core, Cores, lit, var, bind, prim, send, no_cores, core}
-use Rattle.replay_spec.specs.Tape.{Tape, Run, End, got, stop, Stop, after, ◌>>=◌, give, answer, with_url, send_page, final_page, begin}
+use Rattle.replay_spec.specs.Tape.{Tape, Run, End, got, stop, Stop, ◌>>=◌, give, answer, with_url, send_page, final_page, begin}
 
 -- a variable's value: the outermost is 0
 abbrev pub value_at : List Val → ℕ → Val

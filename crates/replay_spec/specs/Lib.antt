@@ -4,3 +4,5 @@ pub mod Book
 pub mod Admission
 pub mod Step
 pub mod Runs
+pub mod Laws
+pub mod Vectors

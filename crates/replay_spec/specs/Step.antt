@@ -6,7 +6,6 @@ use Rattle.script_value.specs.declared.outcome.Fault.{Fault}
 use Rattle.script_value.specs.declared.outcome.Refusal.{Refusal}
 use Rattle.page_names.specs.Names.{Destination, spelling}
 use Rattle.page_names.specs.Names as names
-use Rattle.page_names.specs.declared.names.PageName.{PageName}
 use Rattle.core_syntax.specs.Setup.{Named}
 use Rattle.replay_spec.specs.Tape.{Now, Segment, Answer, Tape, recorded, present, Stop}
 use Rattle.replay_spec.specs.Tape as tape

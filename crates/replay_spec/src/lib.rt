@@ -1,2 +1,19 @@
-//! What a page script means, and what a shelf answers: definitions alone.
+//! What a page script means, what a shelf answers, and laws of both.
 #![tactic(auto)]
+
+ghost use Rattle.replay_spec.specs.Laws.{RunsGoOn, RefusedIsUnchanged, AVisitIsLocal};
+
+/// A run over more events is the run over the first, and then over the others.
+pub fn runs_go_on()
+    ensures { RunsGoOn }
+{}
+
+/// A take that is not answered with a ticket changes nothing, and a publish that shows no page only spends its number.
+pub fn refused_is_unchanged()
+    ensures { RefusedIsUnchanged }
+{}
+
+/// What a visit comes to depends on the pages behind its own alone, and not on other pages or instances.
+pub fn a_visit_is_local()
+    ensures { AVisitIsLocal }
+{}
