@@ -1,5 +1,5 @@
 -- What `parse` reads is a number in range.
-use Rattle.std.proofs.Common.{◌≡◌, ℕ, ◌<◌, ℤ, pos, negsuc, Bool, true, false, ◌&&◌, List, length, refl, arith, rules, w64, Option, Some, None, Result, Ok, Err}
+use Rattle.std.proofs.Common.{◌≡◌, ℕ, ◌<◌, ℤ, pos, negsuc, Bool, true, false, ◌&&◌, List, length, refl, arith, rules, w64, None, Result, Ok, Err}
 use Rattle.std.specs.Prelude.{nat_lt, FitsSigned}
 use Rattle.std.specs.List.{list_all}
 use Rattle.std.specs.Result.{result_ok}
