@@ -6,11 +6,7 @@ use script_value::Bytes;
 use std::alloc::{AllocError, Global};
 
 /// The URL of a page, as a text.
-pub fn url_text(
-    alloc: Global,
-    name: &ScriptName,
-    numbers: PageName,
-) -> Result<String, AllocError>
+pub fn url_text(alloc: Global, name: &ScriptName, numbers: PageName) -> Result<String, AllocError>
     ensures { IfOk result (λ text. string_bytes text ≡ spelling (page (name_of name.now) numbers)) }
 {
     let name = name.as_str();

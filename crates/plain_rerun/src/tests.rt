@@ -18,21 +18,19 @@ fn form(values: Vec<Value>) -> Value {
 
 /// `(quote name)`
 fn quoted(alloc: Global, name: &str) -> Result<Value, AllocError> {
-    Ok(form(
-        vec![in alloc; symbol(alloc, "quote")?, symbol(alloc, name)?]?,
-    ))
+    Ok(form(vec![in alloc; symbol(alloc, "quote")?, symbol(alloc, name)?]?))
 }
 
 /// `(send/suspend (lambda (u) (list (quote a) u)))`
 fn ask(alloc: Global) -> Result<Value, AllocError> {
-    let page = form(
-        vec![in alloc; symbol(alloc, "list")?, quoted(alloc, "a")?, symbol(alloc, "u")?]?,
-    );
+    let page = form(vec![in alloc;
+        symbol(alloc, "list")?,
+        quoted(alloc, "a")?,
+        symbol(alloc, "u")?,
+    ]?);
     let parameters = form(vec![in alloc; symbol(alloc, "u")?]?);
     let function = form(vec![in alloc; symbol(alloc, "lambda")?, parameters, page]?);
-    Ok(form(
-        vec![in alloc; symbol(alloc, "send/suspend")?, function]?,
-    ))
+    Ok(form(vec![in alloc; symbol(alloc, "send/suspend")?, function]?))
 }
 
 /// `(let ((x ASK) (y ASK)) BODY)`
@@ -40,24 +38,22 @@ fn with_two(alloc: Global, body: Value) -> Result<Value, AllocError> {
     let first = form(vec![in alloc; symbol(alloc, "x")?, ask(alloc)?]?);
     let second = form(vec![in alloc; symbol(alloc, "y")?, ask(alloc)?]?);
     let bindings = form(vec![in alloc; first, second]?);
-    Ok(form(
-        vec![in alloc; symbol(alloc, "let")?, bindings, body]?,
-    ))
+    Ok(form(vec![in alloc; symbol(alloc, "let")?, bindings, body]?))
 }
 
 /// `(+ x y)`
 fn sum(alloc: Global) -> Result<Value, AllocError> {
-    Ok(form(
-        vec![in alloc; symbol(alloc, "+")?, symbol(alloc, "x")?, symbol(alloc, "y")?]?,
-    ))
+    Ok(form(vec![in alloc;
+        symbol(alloc, "+")?,
+        symbol(alloc, "x")?,
+        symbol(alloc, "y")?,
+    ]?))
 }
 
 /// `(list (quote p) (number->string (+ x y)))`
 fn sum_page(alloc: Global) -> Result<Value, AllocError> {
     let text = form(vec![in alloc; symbol(alloc, "number->string")?, sum(alloc)?]?);
-    Ok(form(
-        vec![in alloc; symbol(alloc, "list")?, quoted(alloc, "p")?, text]?,
-    ))
+    Ok(form(vec![in alloc; symbol(alloc, "list")?, quoted(alloc, "p")?, text]?))
 }
 
 fn script(alloc: Global, value: Value) -> Result<Script, Fail> {

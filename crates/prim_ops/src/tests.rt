@@ -17,9 +17,7 @@ fn list(values: Vec<Value>) -> Value {
 
 /// `(key value)`
 fn binding(alloc: Global, key: &str, value: &str) -> Result<Value, AllocError> {
-    Ok(list(
-        vec![in alloc; symbol(alloc, key)?, text(alloc, value)?]?,
-    ))
+    Ok(list(vec![in alloc; symbol(alloc, key)?, text(alloc, value)?]?))
 }
 
 fn applied(alloc: Global, op: Op, operands: Vec<Value>) -> Result<Value, ApplyFault> {
@@ -84,7 +82,9 @@ fn lists(rt: HostRuntime) -> Result<(), Fail> {
     for _ in 0..199 {
         value = list(vec![in alloc; value]?);
     }
-    let deepest = applied(alloc, Op::List, vec![in alloc; value]?).ok().ok_or("a list")?;
+    let deepest = applied(alloc, Op::List, vec![in alloc; value]?)
+        .ok()
+        .ok_or("a list")?;
     assert_eq!(rt; depth(&deepest), 200);
     let deeper = vec![in alloc; deepest]?;
     assert_eq!(rt; fault_of(alloc, Op::List, deeper), Some(Fault::Deep));
@@ -101,18 +101,33 @@ fn numbers_as_texts(rt: HostRuntime) -> Result<(), Fail> {
         (i64::MIN, "-9223372036854775808"),
     ] {
         let written = vec![in alloc; Value::Int(number)]?;
-        assert!(rt; gives(alloc, Op::NumberToString, written, &text(alloc, digits)?), "{number}");
+        assert!(rt;
+            gives(alloc, Op::NumberToString, written, &text(alloc, digits)?),
+            "{number}"
+        );
         let read = vec![in alloc; text(alloc, digits)?]?;
-        assert!(rt; gives(alloc, Op::StringToNumber, read, &Value::Int(number)), "{number}");
+        assert!(rt;
+            gives(alloc, Op::StringToNumber, read, &Value::Int(number)),
+            "{number}"
+        );
     }
     for digits in ["", "4x", "9223372036854775808", "-9223372036854775809"] {
         let read = vec![in alloc; text(alloc, digits)?]?;
-        assert!(rt; gives(alloc, Op::StringToNumber, read, &Value::Truth(false)), "{digits}");
+        assert!(rt;
+            gives(alloc, Op::StringToNumber, read, &Value::Truth(false)),
+            "{digits}"
+        );
     }
     let written = vec![in alloc; text(alloc, "1")?]?;
-    assert_eq!(rt; fault_of(alloc, Op::NumberToString, written), Some(Fault::WrongType));
+    assert_eq!(rt;
+        fault_of(alloc, Op::NumberToString, written),
+        Some(Fault::WrongType)
+    );
     let read = vec![in alloc; Value::Int(1)]?;
-    assert_eq!(rt; fault_of(alloc, Op::StringToNumber, read), Some(Fault::WrongType));
+    assert_eq!(rt;
+        fault_of(alloc, Op::StringToNumber, read),
+        Some(Fault::WrongType)
+    );
     Ok(())
 }
 
@@ -122,17 +137,42 @@ fn bindings(rt: HostRuntime) -> Result<(), Fail> {
     for (key, expected) in [("n", "4"), ("m", "")] {
         let all = vec![in alloc; binding(alloc, "n", "4")?, binding(alloc, "m", "")?]?;
         let operands = vec![in alloc; symbol(alloc, key)?, list(all)]?;
-        assert!(rt; gives(alloc, Op::ExtractBindingSingle, operands, &text(alloc, expected)?));
+        assert!(rt;
+            gives(
+                alloc,
+                Op::ExtractBindingSingle,
+                operands,
+                &text(alloc, expected)?
+            )
+        );
     }
-    let none = vec![in alloc; symbol(alloc, "x")?, list(vec![in alloc; binding(alloc, "n", "4")?]?)]?;
-    assert_eq!(rt; fault_of(alloc, Op::ExtractBindingSingle, none), Some(Fault::Binding));
+    let none = vec![in alloc;
+        symbol(alloc, "x")?,
+        list(vec![in alloc; binding(alloc, "n", "4")?]?),
+    ]?;
+    assert_eq!(rt;
+        fault_of(alloc, Op::ExtractBindingSingle, none),
+        Some(Fault::Binding)
+    );
     let two = vec![in alloc; binding(alloc, "n", "4")?, binding(alloc, "n", "4")?]?;
     let twice = vec![in alloc; symbol(alloc, "n")?, list(two)]?;
-    assert_eq!(rt; fault_of(alloc, Op::ExtractBindingSingle, twice), Some(Fault::Binding));
+    assert_eq!(rt;
+        fault_of(alloc, Op::ExtractBindingSingle, twice),
+        Some(Fault::Binding)
+    );
     let odd = vec![in alloc; binding(alloc, "n", "4")?, Value::Int(1)]?;
     let among = vec![in alloc; symbol(alloc, "n")?, list(odd)]?;
-    assert_eq!(rt; fault_of(alloc, Op::ExtractBindingSingle, among), Some(Fault::WrongType));
-    let key = vec![in alloc; text(alloc, "n")?, list(vec![in alloc; binding(alloc, "n", "4")?]?)]?;
-    assert_eq!(rt; fault_of(alloc, Op::ExtractBindingSingle, key), Some(Fault::WrongType));
+    assert_eq!(rt;
+        fault_of(alloc, Op::ExtractBindingSingle, among),
+        Some(Fault::WrongType)
+    );
+    let key = vec![in alloc;
+        text(alloc, "n")?,
+        list(vec![in alloc; binding(alloc, "n", "4")?]?),
+    ]?;
+    assert_eq!(rt;
+        fault_of(alloc, Op::ExtractBindingSingle, key),
+        Some(Fault::WrongType)
+    );
     Ok(())
 }

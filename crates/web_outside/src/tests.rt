@@ -16,7 +16,11 @@ fn reads_in_pieces(rt: HostRuntime) -> Result<(), Fail> {
         assert!(rt; 0 < greatest);
         let mut source = TextSource::new(hello(alloc)?, Vec::new(alloc), greatest);
         let bytes = read_all(alloc, &mut source).ok().ok_or("all bytes")?;
-        assert_eq!(rt; bytes.as_slice(), b"hello, world".as_slice(), "by {greatest}");
+        assert_eq!(rt;
+            bytes.as_slice(),
+            b"hello, world".as_slice(),
+            "by {greatest}"
+        );
         assert_eq!(rt; source.faults(), 0);
     }
     Ok(())
@@ -27,7 +31,10 @@ fn a_read_fails(rt: HostRuntime) -> Result<(), Fail> {
     let alloc = rt.alloc();
     let failing = [3u64].to_vec(alloc)?;
     let mut source = TextSource::new(hello(alloc)?, failing, 1);
-    assert_eq!(rt; read_all(alloc, &mut source).err(), Some(InputFault::Failed));
+    assert_eq!(rt;
+        read_all(alloc, &mut source).err(),
+        Some(InputFault::Failed)
+    );
     assert_eq!(rt; source.faults(), 1);
     let rest = read_all(alloc, &mut source).ok().ok_or("the rest")?;
     assert_eq!(rt; rest.as_slice(), b"lo, world".as_slice());
