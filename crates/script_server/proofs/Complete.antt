@@ -28,7 +28,7 @@ status_0 bytes p fates =
     (outcome bytes p.setup fates p.begins
     ∙ ap (finished (play_of p.setup.scripts p.setup.steps fates).0) (never_stuck p.setup.scripts first_table 1 (requests p.setup.steps) fates p.steps))
 
-known : (P : List ℕ → Type 0) (left : Option (List ℕ)) (bytes : List ℕ) → left ≡ Some bytes → IfSome left P → P bytes
+pub known : (P : List ℕ → Type 0) (left : Option (List ℕ)) (bytes : List ℕ) → left ≡ Some bytes → IfSome left P → P bytes
 known P left bytes e h = subst (λ w. IfSome w P) e h
 
 only_0 : (bytes : List ℕ) (p : IsPlayable bytes) (met : Met) (n : ℕ) → met.input ≡ Some bytes → Whole met n → 0 ≡ n
@@ -45,7 +45,7 @@ consumed_length (Some xs) (Some ys) bytes read e c =
     let whole : xs ≡ read ++ ys = c in
     omega (arith, ap length (sym same ∙ whole), length-append read ys)
 
-past_length : (old new : Option (List ℕ)) (bytes : List ℕ) (limit : ℕ) → old ≡ Some bytes → ReadsPast old new limit → limit < length bytes
+pub past_length : (old new : Option (List ℕ)) (bytes : List ℕ) (limit : ℕ) → old ≡ Some bytes → ReadsPast old new limit → limit < length bytes
 past_length old new bytes limit e past = omega (arith, past.past, consumed_length old new bytes past.read e past.consumed)
 
 differ : (m n : ℕ) → m ≡ n → m < n → ⊥

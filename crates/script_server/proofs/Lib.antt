@@ -1,3 +1,4 @@
 pub mod Endings
 pub mod Complete
+pub mod Due
 pub mod Tries

@@ -1,5 +1,5 @@
 -- What the command answers.
-use Rattle.std.specs.Prelude.{◌≡◌, ◌≤◌, ◌∷◌, [], ℕ, List, length, map, Bool, false, true, Option, Some, None, IfSome, codes}
+use Rattle.std.specs.Prelude.{◌≡◌, ◌⊎◌, ◌≤◌, ◌∷◌, [], ℕ, List, length, map, nat_le, Bool, false, true, Option, Some, None, IfSome, codes}
 use Rattle.std.specs.Borrow.{Bor}
 use Rattle.std.specs.Str.{bytes_eq}
 use Rattle.std.specs.Io.KnownBytes.{IsAtEnd}
@@ -73,6 +73,34 @@ Explains status.Read met = (is_play met.words ≡ true) × Rose met.input_before
 Explains status.Write met = (is_play met.words ≡ true) × ReadToEnd met × Rose met.output_before met.output_after × Front met []
 Explains status.Memory met = (is_play met.words ≡ true) × Front met (codes "error 10 memory\n")
 Explains status.Long met = (is_play met.words ≡ true) × ReadsPast met.input met.unread 16777216 × Prints met (codes "error 11 long\n")
+
+-- the status that is due to steps: 0, or 4 where a line is none
+abbrev pub due_to_steps : List (Option Request) → ℕ
+due_to_steps [] = 0
+due_to_steps (None ∷ steps) = 4
+due_to_steps (Some request ∷ steps) = due_to_steps steps
+
+-- the status that is due to an input: 3 where it begins with no setup
+abbrev pub due_to_setup : Option Parsed → ℕ
+due_to_setup None = 3
+due_to_setup (Some setup) = due_to_steps (requests setup.steps)
+
+-- 2 where the words are no command, and else 11 where the input is too long
+abbrev pub due_where : Bool → Bool → List ℕ → ℕ
+due_where false short bytes = 2
+due_where true false bytes = 11
+due_where true true bytes = due_to_setup (setup_of bytes)
+
+-- the status that is due to these words and this input: what a run answers that meets no fault and has memory
+abbrev pub due : List (List ℕ) → List ℕ → ℕ
+due words bytes = due_where (is_play words) (nat_le (length bytes) 16777216) bytes
+
+-- the status is the one that is due, or that of an input or an output that failed, or that of want of memory
+abbrev pub EndsAs : (status due input_before input_after output_before output_after : ℕ) → Type 0
+EndsAs status due input_before input_after output_before output_after =
+    (status ≡ due)
+    ⊎ (((status ≡ 5) × Rose input_before input_after)
+    ⊎ (((status ≡ 6) × Rose output_before output_after) ⊎ (status ≡ 10)))
 
 -- each line is a step
 abbrev pub AreSteps : List (Option Request) → Type 0

@@ -170,6 +170,9 @@ pub fn command<R, I: Source, O: Sink>(
       output_before = O.fault_count output.old;
       output_after = O.fault_count output.new;
     }) }
+    // The status is the one that is due, but for faults of the input and the output and for want of memory.
+    ensures exact { (bytes : List ℕ) → I.left input.old ≡ Some bytes
+        → spec.EndsAs result (spec.due (texts words.now) bytes) (I.fault_count input.old) (I.fault_count input.new) (O.fault_count output.old) (O.fault_count output.new) }
     // A run that no fault of the outside meets ends well, or for want of memory.
     ensures complete { (bytes : List ℕ) → I.left input.old ≡ Some bytes → spec.IsPlayable bytes → spec.is_play (texts words.now) ≡ true
         → ¬ (Rose (I.fault_count input.old) (I.fault_count input.new)) → ¬ (Rose (O.fault_count output.old) (O.fault_count output.new))
