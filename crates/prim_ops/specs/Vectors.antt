@@ -29,6 +29,19 @@ text_of_minus = refl
 pub number_of_plus : value_of op.StringToNumber (text (codes "+5") ∷ []) ≡ Ok (number (pos 5))
 number_of_plus = refl
 
+-- the ends of the range of 64 bits with a sign, and the numbers past them
+pub number_of_greatest : value_of op.StringToNumber (text (codes "9223372036854775807") ∷ []) ≡ Ok (number (pos (2 ^ 63 - 1)))
+number_of_greatest = refl
+
+pub number_of_past_greatest : value_of op.StringToNumber (text (codes "9223372036854775808") ∷ []) ≡ Ok (truth false)
+number_of_past_greatest = refl
+
+pub number_of_least : value_of op.StringToNumber (text (codes "-9223372036854775808") ∷ []) ≡ Ok (number (negsuc (2 ^ 63 - 1)))
+number_of_least = refl
+
+pub number_of_past_least : value_of op.StringToNumber (text (codes "-9223372036854775809") ∷ []) ≡ Ok (truth false)
+number_of_past_least = refl
+
 pub number_of_sign : value_of op.StringToNumber (text (codes "-") ∷ []) ≡ Ok (truth false)
 number_of_sign = refl
 
@@ -38,6 +51,10 @@ binding k t = list (vals_of (symbol k ∷ text t ∷ []))
 pub one_binding : value_of op.ExtractBindingSingle (symbol (codes "n") ∷ list (vals_of (binding (codes "m") (codes "3") ∷ binding (codes "n") (codes "4") ∷ [])) ∷ [])
     ≡ Ok (text (codes "4"))
 one_binding = refl
+
+pub unbound_key : value_of op.ExtractBindingSingle (symbol (codes "x") ∷ list (vals_of (binding (codes "n") (codes "4") ∷ [])) ∷ [])
+    ≡ Err Binding
+unbound_key = refl
 
 pub two_bindings : value_of op.ExtractBindingSingle (symbol (codes "n") ∷ list (vals_of (binding (codes "n") (codes "3") ∷ binding (codes "n") (codes "4") ∷ [])) ∷ [])
     ≡ Err Binding

@@ -8,3 +8,5 @@ mod table;
 pub use fault::ApplyFault;
 pub use table::{apply, takes};
 
+#[cfg(test)]
+mod tests;
