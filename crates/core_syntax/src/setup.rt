@@ -1,10 +1,11 @@
-ghost use Rattle.std.specs.Prelude.{◌≡◌, List, map, option_map, slice_get, position};
+ghost use Rattle.std.specs.Prelude.{◌≡◌, ◌++◌, ◌∷◌, [], List, length, map, option_map, slice_get, position, OnOk, OnErr};
 ghost use Rattle.std.specs.Str.{bytes_eq};
 ghost use Rattle.page_names.specs.Names.{name_of};
 
 use crate::script::Script;
 use page_names::ScriptName;
 use script_value::Bytes;
+use std::alloc::AllocError;
 
 /// A script, with its name and its text.
 #[derive(Drop)]
@@ -43,6 +44,23 @@ impl Setup {
         ensures { scripts_of result ≡ map named_of scripts.items }
     {
         Setup { scripts }
+    }
+
+    /// How many scripts there are.
+    pub fn len(&self) -> usize
+        ensures { result ≡ length (scripts_of self.now) }
+    {
+        self.scripts.len()
+    }
+
+    /// One more script, behind the others; without memory for it nothing changes.
+    #[tactic(auto, using(crate::proofs::Places::map_behind))]
+    pub fn push(&mut self, script: NamedScript) -> Result<(), AllocError>
+        ensures pushed { OnOk result (scripts_of self.new ≡ scripts_of self.old ++ named_of script ∷ []) }
+        ensures kept { OnErr result (scripts_of self.new ≡ scripts_of self.old) }
+    {
+        self.scripts.push(script)?;
+        Ok(())
     }
 
     /// The place of the first script of a name, from 0.

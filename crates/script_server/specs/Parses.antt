@@ -1,30 +1,34 @@
 -- What the program's setup stands for.
 use Rattle.std.specs.Prelude.{◌≡◌, ℕ, List, Option, Some, None, Result, Ok, Err, ⊤}
 use Rattle.page_names.specs.Names.{name_of}
-use Rattle.core_syntax.specs.Core.{Core}
-use Rattle.core_syntax.specs.Arena.{tree_at}
-use Rattle.core_syntax.specs.declared.script.Node.{Node}
-use Rattle.core_syntax.specs.Scripts.{scripts_of}
+use Rattle.core_syntax.specs.Scripts.{scripts_of, named_of}
+use Rattle.core_syntax.specs.Setup.{Named}
+use Rattle.core_syntax.specs.declared.setup.NamedScript.{NamedScript}
+use Rattle.script_server.specs.declared.fault.SetupError.{SetupError}
+use Rattle.script_server.specs.declared.fault.SetupError.TheVariants as error
+use Rattle.script_server.specs.declared.fault.SetupFault.{SetupFault}
+use Rattle.script_server.specs.declared.fault.SetupFault.TheVariants.{Memory, At}
 use Rattle.script_server.specs.declared.setup.Section.{Section}
 use Rattle.script_server.specs.declared.setup.Parsed.{Parsed}
-use Rattle.script_server.specs.declared.setup.SetupFault.{SetupFault}
-use Rattle.script_server.specs.declared.setup.SetupFault.TheVariants.{Memory, NoSection}
 use Rattle.script_server.specs.Setup as spec
 
-abbrev pub section_of : Section → spec.Section
-section_of s = record { name = name_of s.name; text = s.text.now; steps = s.steps.now }
+abbrev pub piece_of : Section → spec.Piece
+piece_of s = record { name = name_of s.name; text = s.text.now; rest = s.rest.now }
 
 abbrev pub parsed_of : Parsed → spec.Parsed
 parsed_of p = record { scripts = scripts_of p.setup; steps = p.steps.now }
 
--- the program's answer is that setup, unless memory ran out
-abbrev pub Parses : Result Parsed SetupFault → Option spec.Parsed → Type 0
-Parses (Ok p) o = o ≡ Some (parsed_of p)
-Parses (Err NoSection) o = o ≡ None
-Parses (Err Memory) o = ⊤
+abbrev pub fault_of : SetupError → spec.Fault
+fault_of (error.Setup place kind) = spec.at_section place kind
+fault_of (error.Read name e) = spec.at_text (name_of name) e.place e.kind
+fault_of (error.Syntax name e) = spec.at_form (name_of name) e.form e.kind
 
--- the same of the script of a text; a script is seen as its nodes
-abbrev pub Compiles : Result (List Node) SetupFault → Option Core → Type 0
-Compiles (Ok s) o = o ≡ Some (tree_at s 0)
-Compiles (Err NoSection) o = o ≡ None
-Compiles (Err Memory) o = ⊤
+-- an answer with a fault is that fault; want of memory is free
+abbrev pub Fails : {Y : Type 0} → SetupFault → Result Y spec.Fault → Type 0
+Fails Memory wanted = ⊤
+Fails (At e) wanted = wanted ≡ Err (fault_of e)
+
+-- an answer, seen by view, is what is wanted
+abbrev pub Gives : {X Y : Type 0} → (X → Y) → Result X SetupFault → Result Y spec.Fault → Type 0
+Gives view (Ok x) wanted = wanted ≡ Ok (view x)
+Gives view (Err e) wanted = Fails e wanted

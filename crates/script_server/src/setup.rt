@@ -1,50 +1,30 @@
-ghost use Rattle.std.specs.Prelude.{◌≡◌, ◌^◌, option_map, Some};
+ghost use Rattle.std.specs.Prelude.{◌≡◌, ◌≤◌, ◌<◌, ◌^◌, length, option_map, Some, IfSome, IfOk};
+ghost use Rattle.page_names.specs.Names.{name_of};
 ghost use Rattle.page_names.specs.Pieces.{number_below};
+ghost use Rattle.core_syntax.specs.Scripts.{scripts_of, named_of};
 ghost use Rattle.script_server.specs.Setup as spec;
-ghost use Rattle.script_server.specs.Parses.{Compiles};
-ghost use Rattle.script_server.specs.declared.setup.SetupFault.TheVariants.{Memory};
+ghost use Rattle.script_server.specs.Parses.{Gives, parsed_of};
 
+use crate::fault::{SetupError, SetupFault, SetupKind};
 use core_syntax::{ExpandFault, NamedScript, Script, Setup, expand};
 use page_names::ScriptName;
 use page_names::pieces::{behind, cut_at, number};
-use script_value::Bytes;
+use script_value::{Bytes, Value};
 use sexp_reader::{ReadFault, read_all};
-use std::alloc::{AllocError, AllocFailed, Global};
+use std::alloc::Global;
 
 /// The most bytes that a script has.
 const SCRIPT_LIMIT: u64 = 16_777_216;
 
-/// Why an input has no setup.
-#[derive(Clone, Copy, Debug, PartialEq, Eq)]
-pub enum SetupFault {
-    /// Memory ran out.
-    Memory,
-    /// The input does not begin with a script's section and `steps`, or the text is no script.
-    NoSection,
-}
+/// The most scripts that a setup has.
+const MOST_SCRIPTS: usize = 15;
 
-impl From<AllocError> for SetupFault {
-    ghost from_gives = { λ _ e. e ≡ Memory };
-
-    fn from(_e: AllocError) -> SetupFault {
-        SetupFault::Memory
-    }
-}
-
-impl<T: Drop> From<AllocFailed<T>> for SetupFault {
-    ghost from_gives = { λ _ e. e ≡ Memory };
-
-    fn from(_e: AllocFailed<T>) -> SetupFault {
-        SetupFault::Memory
-    }
-}
-
-/// The section of a script, and the steps behind it.
+/// The section of a script, and what follows it.
 #[derive(Clone, Copy)]
 pub struct Section<'a> {
     pub name: ScriptName,
     pub text: &'a [u8],
-    pub steps: &'a [u8],
+    pub rest: &'a [u8],
 }
 
 /// The scripts of an input, and the steps that play with them.
@@ -66,13 +46,29 @@ fn length_of(digits: &[u8]) -> Option<usize>
     }
 }
 
+fn fault(place: u64, kind: SetupKind) -> SetupFault
+    ensures { result ≡ SetupFault.At (SetupError.Setup place kind) }
+{
+    SetupFault::At(SetupError::Setup { place, kind })
+}
+
+// The data of the text of a script of this name.
+fn data_of(alloc: Global, name: ScriptName, text: &[u8]) -> Result<Vec<Value>, SetupFault>
+{
+    match read_all(alloc, text) {
+        Ok(data) => Ok(data),
+        Err(ReadFault::At(error)) => Err(SetupFault::At(SetupError::Read { name, error })),
+        Err(ReadFault::Memory) => Err(SetupFault::Memory),
+    }
+}
+
 impl<'a> Section<'a> {
-    ghost use Rattle.script_server.specs.Parses.{section_of};
+    ghost use Rattle.script_server.specs.Parses.{piece_of};
 
     // The section that the input begins with.
     #[tactic(auto, unfolding(crate::specs::Setup::section_in))]
     fn parse(input: &'a [u8]) -> Option<Section<'a>>
-        ensures { option_map section_of result ≡ spec.section_in input.now }
+        ensures section { option_map piece_of result ≡ spec.section_in input.now }
     {
         let section = behind(b"script ", input)?;
         let (name, rest) = cut_at(b' ', section)?;
@@ -83,48 +79,7 @@ impl<'a> Section<'a> {
             return None;
         }
         let (text, rest) = rest.split_at(len);
-        let steps = behind(b"\nsteps\n", rest)?;
-        Some(Section { name, text, steps })
-    }
-}
-
-// The script that a text is.
-fn compile(alloc: Global, text: &[u8]) -> Result<Script, SetupFault>
-    ensures { Compiles result (spec.core_in text.now) }
-{
-    let data = match read_all(alloc, text) {
-        Ok(data) => data,
-        Err(ReadFault::At(_)) => return Err(SetupFault::NoSection),
-        Err(ReadFault::Memory) => return Err(SetupFault::Memory),
-    };
-    match expand(alloc, &data) {
-        Ok(script) => Ok(script),
-        Err(ExpandFault::At(_)) => Err(SetupFault::NoSection),
-        Err(ExpandFault::Memory) => Err(SetupFault::Memory),
-    }
-}
-
-impl<'a> Parsed<'a> {
-    ghost use Rattle.script_server.specs.Parses.{Parses};
-
-    /// The setup that the input begins with: one script, and then `steps`.
-    #[tactic(auto, unfolding(crate::specs::Setup::setup_of))]
-    pub fn parse(alloc: Global, input: &'a [u8]) -> Result<Parsed<'a>, SetupFault>
-        ensures { Parses result (spec.setup_of input.now) }
-    {
-        let Some(section) = Section::parse(input) else {
-            return Err(SetupFault::NoSection);
-        };
-        let script = compile(alloc, section.text)?;
-        let mut scripts = Vec::new(alloc);
-        scripts.push(NamedScript {
-            name: section.name,
-            text: Bytes::new(section.text.to_vec(alloc)?),
-            script,
-        })?;
-        Ok(Parsed {
-            setup: Setup::new(scripts),
-            steps: section.steps,
-        })
+        let rest = behind(b"\n", rest)?;
+        Some(Section { name, text, rest })
     }
 }

@@ -16,6 +16,8 @@ pub enum ReadKind {
     Unclosed,
     /// A parenthesis closes what was never opened.
     Unopened,
+    /// A parenthesis or bracket closes one of the other kind.
+    Mismatch,
     /// A number needs more than 64 bits.
     Range,
     /// More than 128 lists and marks are open.
