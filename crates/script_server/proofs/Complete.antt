@@ -1,7 +1,7 @@
 -- A run that no fault meets.
-use Rattle.std.proofs.Common.{◌≡◌, ◌≤◌, ◌<◌, ◌+◌, ◌⊎◌, ◌∷◌, ℕ, List, [], Option, Some, None, true, false, refl, ap, sym, ◌∙◌, subst, inl, inr, arith, length, ◌++◌, length-append, IfSome, lit<}
+use Rattle.std.proofs.Common.{◌≡◌, ◌≤◌, ◌<◌, ◌+◌, ◌⊎◌, ◌∷◌, ℕ, List, [], Option, Some, None, Result, Ok, Err, true, false, refl, ap, sym, ◌∙◌, subst, inl, inr, arith, length, ◌++◌, length-append, IfSome, lit<}
 use Rattle.web_outside.specs.Causes.{Rose}
-use Rattle.script_server.specs.Setup.{Parsed, setup_of}
+use Rattle.script_server.specs.Setup.{Parsed, Fault, setup_of}
 use Rattle.core_syntax.specs.Setup.{Named}
 use Rattle.play_steps.specs.Step.{Request, requests}
 use Rattle.play_steps.specs.Visit.{Table, first_table, Fates, visit}

@@ -1,8 +1,8 @@
 -- The status that is due to the words and the input.
-use Rattle.std.proofs.Common.{◌≡◌, ◌≤◌, ◌<◌, ◌+◌, ◌⊎◌, ◌∷◌, ℕ, List, [], Option, Some, None, Bool, true, false, refl, ap, sym, ◌∙◌, subst, inl, inr, arith, length, IfSome, nat_le}
+use Rattle.std.proofs.Common.{◌≡◌, ◌≤◌, ◌<◌, ◌+◌, ◌⊎◌, ◌∷◌, ℕ, List, [], Option, Some, None, Result, Ok, Err, Bool, true, false, refl, ap, sym, ◌∙◌, subst, inl, inr, arith, length, IfSome, nat_le}
 use Rattle.std.proofs.lemmas.Bool.{le-leb, lt-leb}
 use Rattle.web_outside.specs.Causes.{Rose}
-use Rattle.script_server.specs.Setup.{Parsed, setup_of}
+use Rattle.script_server.specs.Setup.{Parsed, Fault, setup_of}
 use Rattle.core_syntax.specs.Setup.{Named}
 use Rattle.play_steps.specs.Step.{Request, requests}
 use Rattle.play_steps.specs.Visit.{Table, first_table, Fates, visit}
@@ -21,9 +21,9 @@ steps_status setup t number (None ∷ steps) fates replies = refl
 steps_status setup t number (Some request ∷ steps) fates replies =
     steps_status setup (visit setup t request.target (first_fates fates)).1 (number + 1) steps (later_fates fates) replies
 
-setup_status : (setup : Option Parsed) (fates : List Fates) → (played setup fates).status ≡ due_to_setup setup
-setup_status None fates = refl
-setup_status (Some setup) fates =
+setup_status : (setup : Result Parsed Fault) (fates : List Fates) → (played setup fates).status ≡ due_to_setup setup
+setup_status (Err e) fates = refl
+setup_status (Ok setup) fates =
     steps_status setup.scripts first_table 1 (requests setup.steps) fates (play_of setup.scripts setup.steps fates).0
 
 due_usage : (words : List (List ℕ)) (bytes : List ℕ) → is_play words ≡ false → due words bytes ≡ 2

@@ -1,14 +1,15 @@
 -- From what a run leaves to what a command answers.
-use Rattle.std.proofs.Common.{◌≡◌, ◌++◌, ◌⊎◌, ℕ, List, [], Option, Some, None, IfSome, append-nil, sym, ap, ◌∙◌, refl, subst, inl, inr, ◌≤◌, arith, codes}
+use Rattle.std.proofs.Common.{◌≡◌, ◌++◌, ◌⊎◌, ℕ, List, [], Option, Some, None, Result, Ok, Err, IfSome, append-nil, sym, ap, ◌∙◌, refl, subst, inl, inr, ◌≤◌, arith, codes}
 use Rattle.std.specs.Fmt.{decimal}
 use Rattle.std.specs.Io.KnownBytes.{Appends, Consumes, IsAtEnd}
 use Rattle.web_outside.specs.Causes.{Rose}
 use Rattle.web_outside.specs.Pieces.{AppendsUnlessFault}
 use Rattle.web_outside.proofs.Writes.{appends_then}
-use Rattle.script_server.specs.Setup.{Parsed, setup_of}
+use Rattle.script_server.specs.Setup.{Parsed, Fault, setup_of}
 use Rattle.core_syntax.specs.Setup.{Named}
 use Rattle.play_steps.specs.Visit.{Fates}
 use Rattle.play_steps.specs.Transcript.{End, done, bad_line, play_of, Plays, PlaysPart}
+use Rattle.script_server.specs.Faults.{fault_line}
 use Rattle.script_server.specs.Output.{finished, played, output_of, Answers, BreaksOff, EndsAtLine, StopsWith}
 
 -- what was read to its end is the input
@@ -99,12 +100,12 @@ replies_are : (replies : List ℕ) (end : End) → (finished replies end).replie
 replies_are replies done = refl
 replies_are replies (bad_line n) = refl
 
-pub outcome : (bytes : List ℕ) (s : Parsed) (fates : List Fates) → setup_of bytes ≡ Some s
+pub outcome : (bytes : List ℕ) (s : Parsed) (fates : List Fates) → setup_of bytes ≡ Ok s
     → output_of bytes fates ≡ finished (play_of s.scripts s.steps fates).0 (play_of s.scripts s.steps fates).1
 outcome bytes s fates e = ap (λ o. played o fates) e
 
 pub answers_done : (bytes : List ℕ) (s : Parsed) (old new : Option (List ℕ)) (before after : ℕ)
-    → setup_of bytes ≡ Some s → Plays old new s.scripts s.steps done → Answers bytes old new before after 0
+    → setup_of bytes ≡ Ok s → Plays old new s.scripts s.steps done → Answers bytes old new before after 0
 answers_done bytes s old new before after e p =
     let text = (play_of s.scripts s.steps p.fates).0 in
     let out = outcome bytes s p.fates e ∙ ap (finished text) p.end_is in
@@ -119,7 +120,7 @@ answers_done bytes s old new before after e p =
     }
 
 pub answers_line : (bytes : List ℕ) (s : Parsed) (old new : Option (List ℕ)) (before after : ℕ)
-    → setup_of bytes ≡ Some s → EndsAtLine old new before after s.scripts s.steps → Answers bytes old new before after 4
+    → setup_of bytes ≡ Ok s → EndsAtLine old new before after s.scripts s.steps → Answers bytes old new before after 4
 answers_line bytes s old new before after e p =
     let text = (play_of s.scripts s.steps p.fates).0 in
     let out = outcome bytes s p.fates e ∙ ap (finished text) p.end_is in
@@ -133,12 +134,12 @@ answers_line bytes s old new before after e p =
       whole = p.whole;
     }
 
-pub answers_setup : (bytes : List ℕ) (old new : Option (List ℕ)) (before after : ℕ)
-    → setup_of bytes ≡ None → AppendsUnlessFault old new (codes "error 3 setup 0 section\n") before after
+pub answers_setup : (bytes : List ℕ) (fault : Fault) (old new : Option (List ℕ)) (before after : ℕ)
+    → setup_of bytes ≡ Err fault → AppendsUnlessFault old new (fault_line fault) before after
     → Appends old old [] → Answers bytes old new before after 3
-answers_setup bytes old new before after e q none =
+answers_setup bytes fault old new before after e q none =
     let out = ap (λ o. played o []) e in
-    let line = line_of old old new [] (codes "error 3 setup 0 section\n") before after none q in
+    let line = line_of old old new [] (fault_line fault) before after none q in
     record {
       fates = [];
       status_is = ap (λ o. o.status) out;
@@ -150,7 +151,7 @@ answers_setup bytes old new before after e q none =
     }
 
 pub breaks_part : (bytes : List ℕ) (s : Parsed) (old new : Option (List ℕ))
-    → setup_of bytes ≡ Some s → PlaysPart old new s.scripts s.steps → BreaksOff bytes [] old new
+    → setup_of bytes ≡ Ok s → PlaysPart old new s.scripts s.steps → BreaksOff bytes [] old new
 breaks_part bytes s old new e p =
     let replies = ap (λ o. o.replies) (outcome bytes s p.fates e) ∙ replies_are _ _ in
     record {
@@ -165,7 +166,7 @@ breaks_part bytes s old new e p =
     }
 
 pub breaks_stop : (bytes : List ℕ) (s : Parsed) (old new : Option (List ℕ)) (error : List ℕ)
-    → setup_of bytes ≡ Some s → StopsWith old new error s.scripts s.steps → BreaksOff bytes error old new
+    → setup_of bytes ≡ Ok s → StopsWith old new error s.scripts s.steps → BreaksOff bytes error old new
 breaks_stop bytes s old new error e p =
     let replies = ap (λ o. o.replies) (outcome bytes s p.fates e) ∙ replies_are _ _ in
     record {

@@ -2,3 +2,4 @@ pub mod Endings
 pub mod Complete
 pub mod Due
 pub mod Tries
+pub mod Sections

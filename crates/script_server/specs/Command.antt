@@ -1,5 +1,5 @@
 -- What the command answers.
-use Rattle.std.specs.Prelude.{◌≡◌, ◌⊎◌, ◌≤◌, ◌∷◌, [], ℕ, List, length, map, nat_le, Bool, false, true, Option, Some, None, IfSome, codes}
+use Rattle.std.specs.Prelude.{◌≡◌, ◌⊎◌, ◌≤◌, ◌∷◌, [], ℕ, List, length, map, nat_le, Bool, false, true, Option, Some, None, Result, Ok, Err, IfSome, codes}
 use Rattle.std.specs.Borrow.{Bor}
 use Rattle.std.specs.Str.{bytes_eq}
 use Rattle.std.specs.Io.KnownBytes.{IsAtEnd}
@@ -10,7 +10,8 @@ use Rattle.play_steps.specs.Step.{Request, requests}
 use Rattle.play_steps.specs.Transcript.{Plays, PlaysPart, done}
 use Rattle.script_server.specs.declared.command.Status.{Status}
 use Rattle.script_server.specs.declared.command.Status.TheVariants as status
-use Rattle.script_server.specs.Setup.{Parsed, setup_of}
+use Rattle.script_server.specs.Setup.{Parsed, Fault, setup_of}
+use Rattle.script_server.specs.Faults.{fault_line}
 use Rattle.script_server.specs.Output.{Answers, BreaksOff, EndsAtLine, StopsWith}
 
 -- the words are the program's name and `play`
@@ -81,9 +82,9 @@ due_to_steps (None ∷ steps) = 4
 due_to_steps (Some request ∷ steps) = due_to_steps steps
 
 -- the status that is due to an input: 3 where it begins with no setup
-abbrev pub due_to_setup : Option Parsed → ℕ
-due_to_setup None = 3
-due_to_setup (Some setup) = due_to_steps (requests setup.steps)
+abbrev pub due_to_setup : Result Parsed Fault → ℕ
+due_to_setup (Err e) = 3
+due_to_setup (Ok setup) = due_to_steps (requests setup.steps)
 
 -- 2 where the words are no command, and else 11 where the input is too long
 abbrev pub due_where : Bool → Bool → List ℕ → ℕ
@@ -111,7 +112,7 @@ AreSteps (Some request ∷ steps) = AreSteps steps
 -- the input is a setup and steps, each in its grammar, and not too long
 pub record IsPlayable (bytes : List ℕ) : Type 0 where
   pub setup : Parsed
-  pub begins : setup_of bytes ≡ Some setup
+  pub begins : setup_of bytes ≡ Ok setup
   pub steps : AreSteps (requests setup.steps)
   pub short : length bytes ≤ 16777216
 
@@ -131,3 +132,9 @@ Outputs status.Line input old new before after = Answers input old new before af
 Outputs status.Write input old new before after = Rose before after × BreaksOff input [] old new
 Outputs status.Memory input old new before after = BreaksOff input (codes "error 10 memory\n") old new
 Outputs _ input old new before after = ⊥
+
+-- what telling a fault of the setup leaves: its line, or that of want of memory
+abbrev pub Tells : Status → Fault → Option (List ℕ) → Option (List ℕ) → ℕ → ℕ → Type 0
+Tells status.Setup fault old new before after = AppendsUnlessFault old new (fault_line fault) before after
+Tells status.Memory fault old new before after = AppendsUnlessFault old new (codes "error 10 memory\n") before after
+Tells _ fault old new before after = ⊥

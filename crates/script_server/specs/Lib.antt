@@ -1,4 +1,5 @@
 pub mod Setup
+pub mod Sections
 pub mod Faults
 pub mod Output
 pub mod Command

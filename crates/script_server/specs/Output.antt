@@ -1,12 +1,13 @@
 -- What a run of the program writes for its input, and how it may end.
-use Rattle.std.specs.Prelude.{◌≡◌, ◌⊎◌, ℕ, List, [], ◌++◌, Option, Some, None, codes}
+use Rattle.std.specs.Prelude.{◌≡◌, ◌⊎◌, ℕ, List, [], ◌++◌, Option, Some, None, Result, Ok, Err, codes}
 use Rattle.std.specs.Fmt.{decimal}
 use Rattle.std.specs.Io.KnownBytes.{Appends}
 use Rattle.web_outside.specs.Causes.{Rose}
 use Rattle.core_syntax.specs.Setup.{Named}
 use Rattle.play_steps.specs.Visit.{Fates}
 use Rattle.play_steps.specs.Transcript.{End, done, bad_line, play_of}
-use Rattle.script_server.specs.Setup.{Parsed, setup_of}
+use Rattle.script_server.specs.Setup.{Parsed, Fault, setup_of}
+use Rattle.script_server.specs.Faults.{fault_line}
 
 -- what is written for a whole input: the replies, the error's line and the status
 pub record Output : Type 0 where
@@ -18,9 +19,9 @@ abbrev pub finished : List ℕ → End → Output
 finished replies done = record { replies = replies; error = []; status = 0 }
 finished replies (bad_line n) = record { replies = replies; error = codes "error 4 " ++ decimal n ++ codes "\n"; status = 4 }
 
-abbrev pub played : Option Parsed → List Fates → Output
-played None fates = record { replies = []; error = codes "error 3 setup 0 section\n"; status = 3 }
-played (Some setup) fates =
+abbrev pub played : Result Parsed Fault → List Fates → Output
+played (Err e) fates = record { replies = []; error = fault_line e; status = 3 }
+played (Ok setup) fates =
     finished (play_of setup.scripts setup.steps fates).0 (play_of setup.scripts setup.steps fates).1
 
 abbrev pub output_of : List ℕ → List Fates → Output

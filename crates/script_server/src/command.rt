@@ -4,9 +4,11 @@ ghost use Rattle.web_outside.specs.Causes.{Rose};
 ghost use Rattle.core_syntax.specs.Scripts.{scripts_of};
 ghost use Rattle.script_server.specs.declared.command.Status.{Status};
 ghost use Rattle.script_server.specs.Command as spec;
-ghost use Rattle.script_server.specs.Command.{Explains, Met, texts, Outputs};
+ghost use Rattle.script_server.specs.Command.{Explains, Met, texts, Outputs, Tells};
+ghost use Rattle.script_server.specs.Parses.{fault_of};
 
-use crate::setup::{Parsed, SetupFault};
+use crate::fault::{SetupError, SetupFault, fault_line};
+use crate::setup::Parsed;
 use core_syntax::Setup;
 use play_steps::{PlayEnd, play};
 use std::alloc::{AllocError, Global};
@@ -19,7 +21,7 @@ pub enum Status {
     Done,
     /// The words are no command.
     Usage,
-    /// The input does not begin with a setup.
+    /// The input does not begin with a setup of scripts.
     Setup,
     /// A line behind the setup is no step.
     Line,
@@ -94,6 +96,22 @@ fn play_all<O: Sink>(alloc: Global, setup: &Setup, steps: &[u8], output: &mut O)
     }
 }
 
+// Tells the fault of a setup.
+fn tell_fault<O: Sink>(alloc: Global, error: &SetupError, output: &mut O) -> Status
+    ensures { Tells result (fault_of error.now) (O.written output.old) (O.written output.new) (O.fault_count output.old) (O.fault_count output.new) }
+{
+    match fault_line(alloc, error) {
+        Ok(text) => {
+            write_or_drop(output, text.as_bytes());
+            Status::Setup
+        }
+        Err(_) => {
+            write_or_drop(output, b"error 10 memory\n");
+            Status::Memory
+        }
+    }
+}
+
 // Plays the whole input.
 fn play_input<O: Sink>(alloc: Global, input: &[u8], output: &mut O) -> Status
     requires { length input.now ≤ 16777216 }
@@ -101,10 +119,7 @@ fn play_input<O: Sink>(alloc: Global, input: &[u8], output: &mut O) -> Status
 {
     match Parsed::parse(alloc, input) {
         Ok(parsed) => play_all(alloc, &parsed.setup, parsed.steps, output),
-        Err(SetupFault::NoSection) => {
-            write_or_drop(output, b"error 3 setup 0 section\n");
-            Status::Setup
-        }
+        Err(SetupFault::At(error)) => tell_fault(alloc, &error, output),
         Err(SetupFault::Memory) => {
             write_or_drop(output, b"error 10 memory\n");
             Status::Memory

@@ -3,6 +3,7 @@
 
 mod adapters;
 mod command;
+mod fault;
 mod setup;
 
 use adapters::{Reading, Writing};

@@ -6,10 +6,10 @@ ghost use Rattle.script_server.specs.Setup as spec;
 ghost use Rattle.script_server.specs.Parses.{Gives, parsed_of};
 
 use crate::fault::{SetupError, SetupFault, SetupKind};
-use core_syntax::{ExpandFault, NamedScript, Script, Setup, expand};
+use core_syntax::{ExpandFault, NamedScript, Setup, expand};
 use page_names::ScriptName;
 use page_names::pieces::{behind, cut_at, number};
-use script_value::{Bytes, Value};
+use script_value::Bytes;
 use sexp_reader::{ReadFault, read_all};
 use std::alloc::Global;
 
@@ -52,16 +52,6 @@ fn fault(place: u64, kind: SetupKind) -> SetupFault
     SetupFault::At(SetupError::Setup { place, kind })
 }
 
-// The data of the text of a script of this name.
-fn data_of(alloc: Global, name: ScriptName, text: &[u8]) -> Result<Vec<Value>, SetupFault>
-{
-    match read_all(alloc, text) {
-        Ok(data) => Ok(data),
-        Err(ReadFault::At(error)) => Err(SetupFault::At(SetupError::Read { name, error })),
-        Err(ReadFault::Memory) => Err(SetupFault::Memory),
-    }
-}
-
 impl<'a> Section<'a> {
     ghost use Rattle.script_server.specs.Parses.{piece_of};
 
@@ -69,6 +59,7 @@ impl<'a> Section<'a> {
     #[tactic(auto, unfolding(crate::specs::Setup::section_in))]
     fn parse(input: &'a [u8]) -> Option<Section<'a>>
         ensures section { option_map piece_of result ≡ spec.section_in input.now }
+        ensures shorter { IfSome result (λ s. length s.rest.now < length input.now) }
     {
         let section = behind(b"script ", input)?;
         let (name, rest) = cut_at(b' ', section)?;
@@ -81,5 +72,80 @@ impl<'a> Section<'a> {
         let (text, rest) = rest.split_at(len);
         let rest = behind(b"\n", rest)?;
         Some(Section { name, text, rest })
+    }
+}
+
+// The script of this name that a text is.
+fn compile(alloc: Global, name: ScriptName, text: &[u8]) -> Result<NamedScript, SetupFault>
+    ensures { Gives named_of result (spec.script_in (name_of name) text.now) }
+{
+    let data = match read_all(alloc, text) {
+        Ok(data) => data,
+        Err(ReadFault::At(error)) => return Err(SetupFault::At(SetupError::Read { name, error })),
+        Err(ReadFault::Memory) => return Err(SetupFault::Memory),
+    };
+    match expand(alloc, &data) {
+        Ok(script) => Ok(NamedScript {
+            name,
+            text: Bytes::new(text.to_vec(alloc)?),
+            script,
+        }),
+        Err(ExpandFault::At(error)) => Err(SetupFault::At(SetupError::Syntax { name, error })),
+        Err(ExpandFault::Memory) => Err(SetupFault::Memory),
+    }
+}
+
+// The script of the section that stands here behind these scripts, and what follows it.
+fn script_at<'a>(
+    alloc: Global,
+    place: u64,
+    setup: &Setup,
+    rest: &'a [u8],
+) -> Result<(NamedScript, &'a [u8]), SetupFault>
+    ensures found { Gives (λ x. (named_of x.0, x.1.now)) result (spec.script_at place (scripts_of setup.now) (spec.section_in rest.now)) }
+    ensures shorter { IfOk result (λ x. length x.1.now < length rest.now) }
+    ensures few { IfOk result (λ x. length (scripts_of setup.now) < 15) }
+{
+    let Some(section) = Section::parse(rest) else {
+        return Err(fault(place, SetupKind::Section));
+    };
+    if setup.place(&section.name).is_some() {
+        return Err(fault(place, SetupKind::Repeat));
+    }
+    if setup.len() >= MOST_SCRIPTS {
+        return Err(fault(place, SetupKind::Many));
+    }
+    let script = compile(alloc, section.name, section.text)?;
+    Ok((script, section.rest))
+}
+
+// The line `steps` stands here behind these scripts.
+fn ended<'a>(place: u64, setup: Setup, steps: &'a [u8]) -> Result<Parsed<'a>, SetupFault>
+    ensures { Gives parsed_of result (spec.ended place (scripts_of setup) steps.now) }
+{
+    if setup.len() == 0 {
+        return Err(fault(place, SetupKind::Empty));
+    }
+    Ok(Parsed { setup, steps })
+}
+
+impl<'a> Parsed<'a> {
+    /// The setup that the input begins with: sections of scripts, and then the line `steps`; or its first fault.
+    #[tactic(auto, unfolding(crate::specs::Setup::setup_of))]
+    pub fn parse(alloc: Global, input: &'a [u8]) -> Result<Parsed<'a>, SetupFault>
+        ensures value { Gives parsed_of result (spec.setup_of input.now) }
+    {
+        let mut setup = Setup::new(Vec::new(alloc));
+        let mut rest = input;
+        while !rest.is_empty() {
+            let place = (input.len() - rest.len()) as u64;
+            if let Some(steps) = behind(b"steps\n", rest) {
+                return ended(place, setup, steps);
+            }
+            let (script, later) = script_at(alloc, place, &setup, rest)?;
+            setup.push(script)?;
+            rest = later;
+        }
+        Err(fault(input.len() as u64, SetupKind::End))
     }
 }

@@ -165,7 +165,8 @@ fn other_names_are_unknown(rt: HostRuntime) -> Result<(), Fail> {
     for target in [
         "/servlets/other",
         "/servlets/sum/",
-        "/servlets/s%75m",
+        "/servlets/s%2575m",
+        "/servlets/s%7",
         "/servlets/sum;1*0*0*0000000000000000",
         "/servlets/sum;0*1*0*0000000000000000",
         "/servlets/sum;0*0*1*0000000000000000",
@@ -183,29 +184,138 @@ fn other_names_are_unknown(rt: HostRuntime) -> Result<(), Fail> {
     Ok(())
 }
 
-#[test]
-fn other_inputs_are_no_setup(rt: HostRuntime) -> Result<(), Fail> {
-    for input in [
-        "",
-        "steps\n",
-        "script sum 3\n'pa",
-        "script sum 3\n'pa\nsteps",
-        "script sum 03\n'pa\nsteps\n",
-        "script Sum 3\n'pa\nsteps\n",
-        "script sum 4\n'pa\nsteps\n",
-        "script sum 16777217\n'pa\nsteps\n",
-        "script  3\n'pa\nsteps\n",
-        "script sum 1\n(\nsteps\n",
-        "script sum 2\n[]\nsteps\n",
-        "script sum 2\n#t\nsteps\n",
-        "script sum 3\n1 2\nsteps\n",
-        "script sum 1\nx\nsteps\n",
-        "script sum 6\n(list)x\nsteps\n",
-    ] {
-        let (status, text) = played(&rt, &["hovgyelit", "play"], input.as_bytes(), &FAIR)?;
-        assert_eq!(rt; text.as_str(), "error 3 setup 0 section\n", "of {input}");
-        assert_eq!(rt; status, 3);
+// The line of status 3 that `play` writes for an input; the status stands first where it is another.
+fn fault_of(rt: &HostRuntime, input: &str) -> Result<String, Fail> {
+    let (status, text) = played(rt, &["hovgyelit", "play"], input.as_bytes(), &FAIR)?;
+    if status == 3 {
+        Ok(text)
+    } else {
+        Ok(format!(in rt.alloc(); "{status} {text}")?)
     }
+}
+
+#[test]
+fn the_first_fault_of_a_setup_is_told(rt: HostRuntime) -> Result<(), Fail> {
+    let rows = [
+        ("", "0 end"),
+        ("steps\n", "0 empty"),
+        ("steps", "0 section"),
+        ("script a 2\n'a\n", "14 end"),
+        ("script a 2\n'a\nsteps", "14 section"),
+        ("script a 2\n'a", "0 section"),
+        ("script a 02\n'a\nsteps\n", "0 section"),
+        ("script a 16777217\n'a\nsteps\n", "0 section"),
+        ("script A 2\n'a\nsteps\n", "0 section"),
+        ("script  2\n'a\nsteps\n", "0 section"),
+        ("script a  2\n'a\nsteps\n", "0 section"),
+        ("script a 2\n'a\nscript b 3\n'a\nsteps\n", "14 section"),
+        ("script a 2\n'a\nscript a 2\n'a\nsteps\n", "14 repeat"),
+        ("script a 2\n'a\nscript a 3\n'a\nsteps\n", "14 section"),
+        ("script a 2\n'a\nscript a 1\n(\nsteps\n", "14 repeat"),
+        (" script a 2\n'a\nsteps\n", "0 section"),
+    ];
+    for (input, wanted) in rows {
+        let line = fault_of(&rt, input)?;
+        let wanted = format!(in rt.alloc(); "error 3 setup {wanted}\n")?;
+        assert_eq!(rt; line.as_str(), wanted.as_str(), "of {input}");
+    }
+    let early = fault_of(&rt, "script a 1\n(\nscript a 1\n")?;
+    assert_eq!(rt; early.as_str(), "error 3 a read 0 unclosed\n");
+    Ok(())
+}
+
+#[test]
+fn the_first_fault_of_a_script_is_told(rt: HostRuntime) -> Result<(), Fail> {
+    let rows = [
+        ("", "syntax 0 shape"),
+        ("(p \"", "read 3 unclosed"),
+        ("(p]", "read 2 mismatch"),
+        ("1 )", "read 2 unopened"),
+        ("(list 1a)", "read 6 token"),
+        ("(list 9223372036854775808)", "read 6 range"),
+        ("(list 'p x)", "syntax 0 unbound"),
+        ("1 2", "syntax 0 shape"),
+        ("(define c (make-web-cell 1)) 'p", "syntax 0 shape"),
+        ("`p", "syntax 0 shape"),
+        ("(let ((a 1) (a 2)) a)", "syntax 0 duplicate"),
+        ("(number->string)", "syntax 0 arity"),
+        (
+            "(send/suspend (lambda (u) (send/suspend (lambda (v) v))))",
+            "syntax 0 nestedsend",
+        ),
+    ];
+    for (script, wanted) in rows {
+        let input = input_of(rt.alloc(), script, "get 0 /servlets/sum\n")?;
+        let line = fault_of(&rt, input.as_str())?;
+        let wanted = format!(in rt.alloc(); "error 3 sum {wanted}\n")?;
+        assert_eq!(rt; line.as_str(), wanted.as_str(), "of {script}");
+    }
+    Ok(())
+}
+
+// The line of status 3 for a script of this text, or the whole output where there is none.
+fn text_fault(rt: &HostRuntime, text: &str) -> Result<String, Fail> {
+    let input = input_of(rt.alloc(), text, "")?;
+    fault_of(rt, input.as_str())
+}
+
+#[test]
+fn texts_have_their_limits(rt: HostRuntime) -> Result<(), Fail> {
+    let alloc = rt.alloc();
+    let longest = nested(alloc, " ", "'a", "", 65_534)?;
+    let accepted = text_fault(&rt, longest.as_str())?;
+    assert_eq!(rt; accepted.as_str(), "0 ");
+    let long = nested(alloc, " ", "'a", "", 65_535)?;
+    let refused = text_fault(&rt, long.as_str())?;
+    assert_eq!(rt; refused.as_str(), "error 3 sum read 65536 long\n");
+    let open = nested(alloc, "(", "", "", 65_536)?;
+    let deep = text_fault(&rt, open.as_str())?;
+    assert_eq!(rt; deep.as_str(), "error 3 sum read 128 deep\n");
+    let wide = nested(alloc, " 1", "", "", 16_384)?;
+    let many = text_fault(&rt, format!(in alloc; "(list{wide})")?.as_str())?;
+    assert_eq!(rt; many.as_str(), "error 3 sum syntax 0 toomany\n");
+    Ok(())
+}
+
+#[test]
+fn a_setup_has_up_to_15_scripts(rt: HostRuntime) -> Result<(), Fail> {
+    let alloc = rt.alloc();
+    for (count, wanted) in [(15, "0 0 200 8\n<p>1</p>\n"), (16, "error 3 setup 330 many\n")] {
+        let mut input = String::new(alloc);
+        for place in 10..10 + count {
+            input.push_str(format!(in alloc; "script s{place} 8\n'(p \"1\")\n")?.as_str())?;
+        }
+        input.push_str("steps\nget 0 /servlets/s24\n")?;
+        let line = fault_of(&rt, input.as_str())?;
+        assert_eq!(rt; line.as_str(), wanted, "{count} scripts");
+    }
+    Ok(())
+}
+
+#[test]
+fn each_script_has_its_own_pages(rt: HostRuntime) -> Result<(), Fail> {
+    let length = SUM.len();
+    let input = format!(in rt.alloc(); "script ten 12\n'(p \"12345\")\nscript sum {length}\n{SUM}\nsteps
+get 0 /servlets/sum
+get 0 /servlets/ten
+get 0 /servlets/ten;0*0*0*0000000000000000?n=3
+get 0 /servlets/sum;0*0*00*0000000000000000?n=3
+get 0 /servlets/sum;0%2A0%2A0%2A0000000000000000?n=3
+get 0 /servlets/s%75m;0*0*2*0000000000000002?n=4
+")?;
+    let (status, text) = played(&rt, &["hovgyelit", "play"], input.as_bytes(), &FAIR)?;
+    assert_eq!(rt; text.as_str(), "0 200 52
+<a href=\"/servlets/sum;0*0*0*0000000000000000\">1</a>
+0 200 12
+<p>12345</p>
+0 404 unknown
+0 404 unknown
+0 200 52
+<a href=\"/servlets/sum;0*0*2*0000000000000002\">2</a>
+0 200 8
+<p>7</p>
+");
+    assert_eq!(rt; status, 0);
     Ok(())
 }
 

@@ -1,8 +1,8 @@
 use Rattle.std.proofs.Common.{◌≡◌, Some, None, ℕ, List, Option, rules}
 use Rattle.web_outside.proofs.Writes.{appends_none}
-use Rattle.script_server.specs.Setup.{Parsed, setup_of}
+use Rattle.script_server.specs.Setup.{Parsed, Fault, setup_of}
 use Rattle.script_server.specs.Parses.{parsed_of}
-use Rattle.script_server.specs.Command.{Finishes, Outputs}
+use Rattle.script_server.specs.Command.{Finishes, Outputs, Tells}
 use Rattle.script_server.specs.declared.command.Status.{Status}
 use Rattle.script_server.specs.declared.command.Status.TheVariants as status
 use Rattle.script_server.proofs.Endings.{answers_done, answers_line, answers_setup, breaks_part, breaks_stop, breaks_early}
@@ -10,7 +10,7 @@ use Rattle.script_server.proofs.command.play_input.Goals as goal
 
 -- what playing the steps behind a setup leaves is what playing the input leaves
 outputs : (status : Status) (bytes : List ℕ) (s : Parsed) (old new : Option (List ℕ)) (before after : ℕ)
-    → setup_of bytes ≡ Some s → Finishes status old new before after s.scripts s.steps → Outputs status bytes old new before after
+    → setup_of bytes ≡ Ok s → Finishes status old new before after s.scripts s.steps → Outputs status bytes old new before after
 outputs status.Done bytes s old new before after e p = answers_done bytes s old new before after e p
 outputs status.Usage bytes s old new before after e p = absurd p
 outputs status.Setup bytes s old new before after e p = absurd p
@@ -24,10 +24,21 @@ pub returns-in-Ok : goal.returns-in-Ok
 returns-in-Ok g c =
     outputs c.play_all.result c.args.input.now (parsed_of c.in-Ok.parsed) _ _ _ _ c.in-Ok.ensures c.play_all.ensures.ended
 
-pub returns-in-Err-NoSection : goal.returns-in-Err-NoSection
-returns-in-Err-NoSection g c =
-    let none : setup_of c.args.input.now ≡ None = search rules in
-    answers_setup c.args.input.now _ _ _ _ none c.write_or_drop.ensures.written (appends_none _)
+-- a told fault of the setup is the whole answer
+told : (status : Status) (bytes : List ℕ) (fault : Fault) (old new : Option (List ℕ)) (before after : ℕ)
+    → setup_of bytes ≡ Err fault → Tells status fault old new before after → Outputs status bytes old new before after
+told status.Done bytes fault old new before after e p = absurd p
+told status.Usage bytes fault old new before after e p = absurd p
+told status.Setup bytes fault old new before after e p = answers_setup bytes fault old new before after e p (appends_none old)
+told status.Line bytes fault old new before after e p = absurd p
+told status.Read bytes fault old new before after e p = absurd p
+told status.Write bytes fault old new before after e p = absurd p
+told status.Memory bytes fault old new before after e p = breaks_early bytes old new before after _ p (appends_none old)
+told status.Long bytes fault old new before after e p = absurd p
+
+pub returns-in-Err-At : goal.returns-in-Err-At
+returns-in-Err-At g c =
+    told c.tell_fault.result c.args.input.now _ _ _ _ _ c.in-Err-At.ensures c.tell_fault.ensures
 
 pub returns-in-Err-Memory : goal.returns-in-Err-Memory
 returns-in-Err-Memory g c =
