@@ -1,3 +1,5 @@
 pub mod Lines
 pub mod Runs
 pub mod Visits
+pub mod Goes
+pub mod Spelled

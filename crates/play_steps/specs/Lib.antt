@@ -4,3 +4,4 @@ pub mod Visit
 pub mod Transcript
 pub mod Played
 pub mod Play
+pub mod Laws

@@ -1,5 +1,5 @@
 -- A run that no fault meets.
-use Rattle.std.proofs.Common.{◌≡◌, ◌≤◌, ◌<◌, ◌+◌, ◌⊎◌, ◌∷◌, ℕ, List, [], Option, Some, None, Result, Ok, Err, true, false, refl, ap, sym, ◌∙◌, subst, inl, inr, arith, length, ◌++◌, length-append, IfSome, lit<}
+use Rattle.std.proofs.Common.{◌≡◌, ◌≤◌, ◌<◌, ◌+◌, ◌⊎◌, ◌∷◌, ℕ, List, [], Option, Some, None, Result, Ok, Err, true, false, refl, ap, sym, ◌∙◌, subst, inl, inr, arith, length, map, ◌++◌, length-append, IfSome, lit<}
 use Rattle.web_outside.specs.Causes.{Rose}
 use Rattle.script_server.specs.Setup.{Parsed, Fault, setup_of}
 use Rattle.core_syntax.specs.Setup.{Named}
@@ -9,24 +9,27 @@ use Rattle.play_steps.specs.Transcript.{End, done, bad_line, transcript, play_of
 use Rattle.script_server.specs.Output.{finished, output_of, Answers}
 use Rattle.web_outside.specs.Pieces.{ReadsPast}
 use Rattle.std.specs.Io.KnownBytes.{Consumes}
-use Rattle.script_server.specs.Command.{AreSteps, IsPlayable, Met, Explains, code_of, is_play, Whole}
+use Rattle.script_server.specs.Command.{IsPlayable, Met, Explains, code_of, is_play, Whole}
 use Rattle.script_server.specs.declared.command.Status.{Status}
 use Rattle.script_server.specs.declared.command.Status.TheVariants as status
+use Rattle.play_steps.proofs.Spelled.{lines_read}
 use Rattle.script_server.proofs.Endings.{outcome}
+use Rattle.script_server.proofs.Sections.{setup_found}
 
-never_stuck : (setup : List Named) (t : Table) (number : ℕ) (steps : List (Option Request)) (fates : List Fates)
-    → AreSteps steps → (transcript setup t number steps fates).1 ≡ done
+never_stuck : (setup : List Named) (t : Table) (number : ℕ) (rs : List Request) (fates : List Fates)
+    → (transcript setup t number (map Some rs) fates).1 ≡ done
 unfolding transcript
-never_stuck setup t number [] fates h = refl
-never_stuck setup t number (None ∷ steps) fates h = absurd h
-never_stuck setup t number (Some request ∷ steps) fates h =
-    never_stuck setup (visit setup t request.target (first_fates fates)).1 (number + 1) steps (later_fates fates) h
+never_stuck setup t number [] fates = refl
+never_stuck setup t number (r ∷ rs) fates =
+    never_stuck setup (visit setup t r.target (first_fates fates)).1 (number + 1) rs (later_fates fates)
 
 status_0 : (bytes : List ℕ) (p : IsPlayable bytes) (fates : List Fates) → (output_of bytes fates).status ≡ 0
 status_0 bytes p fates =
+    let read : requests p.setup.steps ≡ map Some p.requested = ap requests p.steps ∙ lines_read p.requested p.lawful in
     ap (λ o. o.status)
-    (outcome bytes p.setup fates p.begins
-    ∙ ap (finished (play_of p.setup.scripts p.setup.steps fates).0) (never_stuck p.setup.scripts first_table 1 (requests p.setup.steps) fates p.steps))
+    (outcome bytes p.setup fates (setup_found bytes p.setup p.spelled)
+    ∙ ap (finished (play_of p.setup.scripts p.setup.steps fates).0)
+    (ap (λ rs. (transcript p.setup.scripts first_table 1 rs fates).1) read ∙ never_stuck p.setup.scripts first_table 1 p.requested fates))
 
 pub known : (P : List ℕ → Type 0) (left : Option (List ℕ)) (bytes : List ℕ) → left ≡ Some bytes → IfSome left P → P bytes
 known P left bytes e h = subst (λ w. IfSome w P) e h

@@ -7,11 +7,13 @@ use Rattle.web_outside.specs.Causes.{Rose}
 use Rattle.web_outside.specs.Pieces.{AppendsUnlessFault, ReadsPast}
 use Rattle.core_syntax.specs.Setup.{Named}
 use Rattle.play_steps.specs.Step.{Request, requests}
+use Rattle.play_steps.specs.Laws.{lines_of, AreRequests}
 use Rattle.play_steps.specs.Transcript.{Plays, PlaysPart, done}
 use Rattle.script_server.specs.declared.command.Status.{Status}
 use Rattle.script_server.specs.declared.command.Status.TheVariants as status
 use Rattle.script_server.specs.Setup.{Parsed, Fault, setup_of}
 use Rattle.script_server.specs.Faults.{fault_line}
+use Rattle.script_server.specs.Sections.{IsSetup}
 use Rattle.script_server.specs.Output.{Answers, BreaksOff, EndsAtLine, StopsWith}
 
 -- the words are the program's name and `play`
@@ -103,17 +105,13 @@ EndsAs status due input_before input_after output_before output_after =
     ⊎ (((status ≡ 5) × Rose input_before input_after)
     ⊎ (((status ≡ 6) × Rose output_before output_after) ⊎ (status ≡ 10)))
 
--- each line is a step
-abbrev pub AreSteps : List (Option Request) → Type 0
-AreSteps [] = Unit {0}
-AreSteps (None ∷ steps) = ⊥
-AreSteps (Some request ∷ steps) = AreSteps steps
-
--- the input is a setup and steps, each in its grammar, and not too long
+-- the input spells a setup, and behind it a line for each of these requests, and is not too long
 pub record IsPlayable (bytes : List ℕ) : Type 0 where
   pub setup : Parsed
-  pub begins : setup_of bytes ≡ Ok setup
-  pub steps : AreSteps (requests setup.steps)
+  pub spelled : IsSetup bytes setup
+  pub requested : List Request
+  pub lawful : AreRequests requested
+  pub steps : setup.steps ≡ lines_of requested
   pub short : length bytes ≤ 16777216
 
 -- what playing the steps behind a setup leaves

@@ -1,0 +1,5 @@
+use Rattle.play_steps.proofs.Goes as laws
+use Rattle.play_steps.proofs.replies_go_on.Goals as goal
+
+pub returns : goal.returns
+returns c = laws.goes_on

@@ -1,0 +1,248 @@
+-- A setup is read exactly where it is spelled.
+use Rattle.std.proofs.Common.{◌≡◌, ℕ, zero, suc, ◌+◌, ◌-◌, ◌^◌, ◌≤◌, ◌<◌, ◌&&◌, Bool, true, false, IsTrue, List, [], ◌∷◌, ◌++◌, length, take, drop, nat_le, nat_lt, length-append, Option, Some, None, Result, Ok, Err, refl, sym, ◌∙◌, ap, subst, arith, codes, append-nil, if◌then◌else◌}
+use Rattle.std.proofs.Math.Seq.{take-append_seam, drop-append_seam}
+use Rattle.std.proofs.lemmas.List.{take-append-drop, append_assoc, length-take-le}
+use Rattle.std.specs.Fmt.{decimal}
+use Rattle.std.specs.List.{list_all}
+use Rattle.std.specs.Char.{is_ascii_digit}
+use Rattle.std.proofs.lemmas.Bool.{and_parts}
+use Rattle.std.proofs.lemmas.Bool.Decides.{nat_tests}
+use Rattle.page_names.specs.Names.{is_name, is_name_byte, name_in}
+use Rattle.page_names.specs.Pieces.{cut_at, behind, number_below}
+use Rattle.page_names.proofs.Options.{chosen, bound, some_same}
+use Rattle.page_names.proofs.Cuts.{behind_spelled, behind_found, cut_spelled, cut_found, lacks, lacking}
+use Rattle.page_names.proofs.Numerals.{number_spelled, number_found, decimal_digits}
+use Rattle.script_value.specs.Val.{Val}
+use Rattle.sexp_reader.specs.Spells.{Spells}
+use Rattle.sexp_reader.specs.Read.{read}
+use Rattle.sexp_reader.specs.declared.fault.ReadKind.{ReadKind}
+use Rattle.sexp_reader.proofs.Taken.{read_spells}
+use Rattle.sexp_reader.proofs.Again.{spells_read}
+use Rattle.core_syntax.specs.declared.faults.SyntaxKind.{SyntaxKind}
+use Rattle.core_syntax.specs.Core.{Core}
+use Rattle.core_syntax.specs.Forms.{script_of}
+use Rattle.core_syntax.specs.Setup.{Named}
+use Rattle.core_syntax.specs.Scripts.{place_named}
+use Rattle.script_server.specs.Setup.{Piece, Parsed, Fault, at_section, section_in, by_forms, by_data, script_in, named_next, with_rest, script_at, ended, setup_from, setup_by, setup_after, setup_of}
+use Rattle.script_server.specs.declared.fault.SetupKind.TheVariants.{Many}
+use Rattle.script_server.specs.Sections.{section_text, setup_text, IsScript, AreScripts, IsSetup}
+
+-- what is read is spelled so
+
+record IsPiece (input : List ℕ) (piece : Piece) : Type 0 where
+  pub whole : input ≡ section_text piece.name piece.text ++ piece.rest
+  pub named : is_name piece.name ≡ true
+  pub short : length piece.text < 16777217
+
+-- a test that gives a value was passed
+allowed : {A : Type 0} (b : Bool) (o : Option A) (y : A) → (if b then o else None) ≡ Some y → (b ≡ true) × (o ≡ Some y)
+allowed true o y e = (refl, e)
+allowed false o y e = absurd (let no : ⊥ = cc in no)
+
+around : (name count text rest : List ℕ)
+    → codes "script " ++ (name ++ 32 ∷ (count ++ 10 ∷ (text ++ (10 ∷ rest)))) ≡ codes "script " ++ (name ++ 32 ∷ (count ++ 10 ∷ (text ++ 10 ∷ []))) ++ rest
+around name count text rest =
+    rw (append_assoc name (32 ∷ (count ++ 10 ∷ (text ++ 10 ∷ []))) rest, append_assoc count (10 ∷ (text ++ 10 ∷ [])) rest, append_assoc text (10 ∷ []) rest) refl
+
+section_spelled : (input : List ℕ) (piece : Piece) → section_in input ≡ Some piece → IsPiece input piece
+unfolding section_in
+section_spelled input piece e =
+    let section = bound (behind (codes "script ") input) _ piece e in
+    let named = bound (cut_at 32 section.0) _ piece section.2 in
+    let line = bound (cut_at 10 named.0.1) _ piece named.2 in
+    let len = bound (number_below 16777217 line.0.0) _ piece line.2 in
+    let name = bound (name_in named.0.0) _ piece len.2 in
+    let fits = allowed (nat_le len.0 (length line.0.1)) _ piece name.2 in
+    let rest = bound (behind (10 ∷ []) (drop len.0 line.0.1)) _ piece fits.1 in
+    let is = chosen _ _ _ name.1 in
+    let counted = number_spelled 16777217 line.0.0 len.0 (omega arith) len.1 in
+    let text : List ℕ = take len.0 line.0.1 in
+    let within : len.0 ≤ length line.0.1 = grind (arith, nat_tests) in
+    let size : length text ≡ len.0 = length-take-le len.0 line.0.1 within in
+    let behind_text : line.0.1 ≡ text ++ (10 ∷ rest.0) =
+    sym (take-append-drop len.0 line.0.1) ∙ ap (λ xs. text ++ xs) (behind_spelled (10 ∷ []) (drop len.0 line.0.1) rest.0 rest.1) in
+    let whole : input ≡ codes "script " ++ (name.0 ++ 32 ∷ (decimal (length text) ++ 10 ∷ (text ++ (10 ∷ rest.0)))) =
+    behind_spelled (codes "script ") input section.0 section.1
+    ∙ ap (λ xs. codes "script " ++ xs) (cut_spelled 32 section.0 named.0.0 named.0.1 named.1
+    ∙ ap (λ xs. xs ++ 32 ∷ named.0.1) is.1
+    ∙ ap (λ xs. name.0 ++ 32 ∷ xs) (cut_spelled 10 named.0.1 line.0.0 line.0.1 line.1
+    ∙ ap (λ xs. xs ++ 10 ∷ line.0.1) (counted.0 ∙ ap decimal (sym size))
+    ∙ ap (λ xs. decimal (length text) ++ 10 ∷ xs) behind_text)) in
+    subst (IsPiece input) (some_same rest.2) (record {
+      whole = whole ∙ around name.0 (decimal (length text)) text rest.0;
+      named = ap is_name (sym is.1) ∙ is.0;
+      short = omega (arith, size, counted.1);
+    })
+
+-- a name, a text and a tree that make a script
+record Makes (name text : List ℕ) (s : Named) : Type 0 where
+  pub name_is : s.name ≡ name
+  pub text_is : s.text ≡ text
+  pub data_of : List Val
+  pub spelled : Spells text data_of
+  pub core : script_of data_of ≡ Ok s.core
+
+forms_made : (name text : List ℕ) (vs : List Val) (r : Result Core (SyntaxKind × ℕ)) (s : Named) → Spells text vs → script_of vs ≡ r
+    → by_forms name text r ≡ Ok s → Makes name text s
+forms_made name text vs (Ok c) s spelled e h =
+    let same : record { name = name; text = text; core = c } ≡ s = cc in
+    subst (Makes name text) same (record { name_is = refl; text_is = refl; data_of = vs; spelled = spelled; core = e })
+forms_made name text vs (Err x) s spelled e h = absurd (let no : ⊥ = cc in no)
+
+data_made : (name text : List ℕ) (r : Result (List Val) (ℕ × ReadKind)) (s : Named) → read text ≡ r → by_data name text r ≡ Ok s → Makes name text s
+data_made name text (Ok vs) s e h = forms_made name text vs (script_of vs) s (read_spells text vs e) refl h
+data_made name text (Err x) s e h = absurd (let no : ⊥ = cc in no)
+
+-- what a section that is read brings
+record Brings (scripts : List Named) (rest : List ℕ) (found : Named × List ℕ) : Type 0 where
+  pub whole : rest ≡ section_text found.0.name found.0.text ++ found.1
+  pub script : IsScript found.0
+  pub new : place_named found.0.name scripts ≡ None
+  pub few : length scripts < 15
+
+next_made : (place : ℕ) (scripts : List Named) (twin : Option ℕ) (piece : Piece) (s : Named) → named_next place scripts twin piece ≡ Ok s
+    → (twin ≡ None) × ((length scripts < 15) × Makes piece.name piece.text s)
+next_made place scripts (Some twin) piece s h = absurd (let no : ⊥ = cc in no)
+next_made place scripts None piece s h = by_test (nat_le 15 (length scripts)) refl h
+  where
+    by_test : (t : Bool) → nat_le 15 (length scripts) ≡ t
+        → (if t then Err (at_section place Many) else script_in piece.name piece.text) ≡ Ok s
+        → (None ≡ None) × ((length scripts < 15) × Makes piece.name piece.text s)
+    by_test true e k = absurd (let no : ⊥ = cc in no)
+    by_test false e k = (refl, (grind (arith, nat_tests), data_made piece.name piece.text (read piece.text) s refl k))
+
+rest_made : (rest : List ℕ) (r : Result Named Fault) (found : Named × List ℕ) → with_rest rest r ≡ Ok found → (r ≡ Ok found.0) × (found.1 ≡ rest)
+rest_made rest (Ok s) found h = (cc, cc)
+rest_made rest (Err e) found h = absurd (let no : ⊥ = cc in no)
+
+section_made : (place : ℕ) (scripts : List Named) (rest : List ℕ) (o : Option Piece) (found : Named × List ℕ) → section_in rest ≡ o
+    → script_at place scripts o ≡ Ok found → Brings scripts rest found
+section_made place scripts rest None found e h = absurd (let no : ⊥ = cc in no)
+section_made place scripts rest (Some piece) found e h =
+    let is = section_spelled rest piece e in
+    let later = rest_made piece.rest (named_next place scripts (place_named piece.name scripts) piece) found h in
+    let made = next_made place scripts (place_named piece.name scripts) piece found.0 later.0 in
+    let makes = made.1.1 in
+    record {
+      whole = is.whole ∙ ap (λ n. section_text n piece.text ++ piece.rest) (sym makes.name_is)
+          ∙ ap (λ t. section_text found.0.name t ++ piece.rest) (sym makes.text_is) ∙ ap (λ r. section_text found.0.name found.0.text ++ r) (sym later.1);
+      script = record {
+        named = ap is_name makes.name_is ∙ is.named;
+        data_of = makes.data_of;
+        spelled = subst (λ t. Spells t makes.data_of) (sym makes.text_is) makes.spelled;
+        core = makes.core;
+      };
+      new = ap (λ n. place_named n scripts) makes.name_is ∙ made.0;
+      few = made.1.0;
+    }
+
+-- scripts that follow, and spell what is left
+record Follows (scripts : List Named) (rest : List ℕ) (p : Parsed) : Type 0 where
+  pub more : List Named
+  pub are : p.scripts ≡ scripts ++ more
+  pub whole : rest ≡ setup_text more p.steps
+  pub scripts : AreScripts scripts more
+  pub some : 1 ≤ length p.scripts
+  pub few : length p.scripts ≤ 15
+
+follows_end : (place : ℕ) (scripts : List Named) (rest steps : List ℕ) (p : Parsed) → length scripts ≤ 15 → rest ≡ codes "steps\n" ++ steps
+    → ended place scripts steps ≡ Ok p → Follows scripts rest p
+follows_end place [] rest steps p few e h = absurd (let no : ⊥ = cc in no)
+follows_end place (s ∷ ss) rest steps p few e h =
+    let same : record { scripts = s ∷ ss; steps = steps } ≡ p = cc in
+    subst (Follows (s ∷ ss) rest) same
+    (record { more = []; are = sym (append-nil (s ∷ ss)); whole = e; scripts = tt; some = omega arith; few = few })
+
+follows : (n total : ℕ) (scripts : List Named) (rest : List ℕ) (p : Parsed) → length scripts ≤ 15 → setup_from n total scripts rest ≡ Ok p
+    → Follows scripts rest p
+follows zero total scripts rest p few h = absurd (let no : ⊥ = cc in no)
+follows (suc n) total scripts [] p few h = absurd (let no : ⊥ = cc in no)
+follows (suc n) total scripts (b ∷ bs) p few h = by_line (behind (codes "steps\n") (b ∷ bs)) refl h
+  where
+    rest : List ℕ
+    rest = b ∷ bs
+
+    place : ℕ
+    place = total - length rest
+
+    by_found : (r : Result (Named × List ℕ) Fault) → script_at place scripts (section_in rest) ≡ r → setup_after n total scripts r ≡ Ok p
+        → Follows scripts rest p
+    by_found (Err e) same k = absurd (let no : ⊥ = cc in no)
+    by_found (Ok found) same k =
+        let brings = section_made place scripts rest (section_in rest) found refl same in
+        let size : length (scripts ++ found.0 ∷ []) ≤ 15 = omega (arith, brings.few, length-append scripts (found.0 ∷ [])) in
+        let later = follows n total (scripts ++ found.0 ∷ []) found.1 p size k in
+        record {
+          more = found.0 ∷ later.more;
+          are = later.are ∙ append_assoc scripts (found.0 ∷ []) later.more;
+          whole = brings.whole ∙ ap (λ r. section_text found.0.name found.0.text ++ r) later.whole;
+          scripts = (brings.script, (brings.new, later.scripts));
+          some = later.some;
+          few = later.few;
+        }
+
+    by_line : (o : Option (List ℕ)) → behind (codes "steps\n") rest ≡ o → setup_by n total scripts rest o ≡ Ok p → Follows scripts rest p
+    by_line (Some steps) e k = follows_end place scripts rest steps p few (behind_spelled (codes "steps\n") rest steps e) k
+    by_line None e k = by_found (script_at place scripts (section_in rest)) refl k
+
+pub setup_spelled : (input : List ℕ) (p : Parsed) → setup_of input ≡ Ok p → IsSetup input p
+unfolding setup_of
+setup_spelled input p e =
+    let f = follows 16 (length input) [] input p (omega arith) e in
+    record {
+      some = f.some;
+      few = f.few;
+      scripts = subst (AreScripts []) (sym f.are) f.scripts;
+      spelled = f.whole ∙ ap (λ ss. setup_text ss p.steps) (sym f.are);
+    }
+
+-- what is spelled so is read
+
+section_found : (name text rest : List ℕ) → is_name name ≡ true → length text < 16777217
+    → section_in (section_text name text ++ rest) ≡ Some (record { name = name; text = text; rest = rest })
+unfolding section_in
+section_found name text rest named short =
+    let size = length text in
+    let line = text ++ (10 ∷ rest) in
+    let spaceless = lacking is_name_byte 32 refl name (and_parts _ (list_all is_name_byte name) named).1 in
+    let lineless = lacking is_ascii_digit 10 refl (decimal size) (decimal_digits size (omega arith)) in
+    let cut_name = cut_found 32 name (decimal size ++ 10 ∷ line) spaceless in
+    let cut_line = cut_found 10 (decimal size) line lineless in
+    let count = number_found 16777217 size (omega arith) short in
+    let within : nat_le size (length line) ≡ true = let l = length-append text (10 ∷ rest) in grind (arith, nat_tests) in
+    let front = take-append_seam text (10 ∷ rest) in
+    let back = drop-append_seam text (10 ∷ rest) in
+    rw (sym (around name (decimal size) text rest)) (rw (behind_found (codes "script ") (name ++ 32 ∷ (decimal size ++ 10 ∷ line)), cut_name, cut_line, count, named, within, front, back, behind_found (10 ∷ []) rest) refl)
+
+script_found : (s : Named) (place : ℕ) (scripts : List Named) (rest : List ℕ) → IsScript s → place_named s.name scripts ≡ None → length scripts < 15
+    → script_at place scripts (section_in (section_text s.name s.text ++ rest)) ≡ Ok (s, rest)
+script_found s place scripts rest is new few =
+    let found = section_found s.name s.text rest is.named (omega (arith, is.spelled.short)) in
+    let test : nat_le 15 (length scripts) ≡ false = grind (arith, nat_tests) in
+    rw (found, new, test, spells_read s.text is.data_of is.spelled, is.core) refl
+
+no_steps : (name text rest : List ℕ) → behind (codes "steps\n") (section_text name text ++ rest) ≡ None
+no_steps name text rest = refl
+
+found_from : (n total : ℕ) (scripts more : List Named) (steps : List ℕ) → length more < n → 1 ≤ length scripts + length more
+    → length scripts + length more ≤ 15 → AreScripts scripts more
+    → setup_from n total scripts (setup_text more steps) ≡ Ok (record { scripts = scripts ++ more; steps = steps })
+found_from zero total scripts more steps enough some few are = absurd (omega arith)
+found_from (suc n) total scripts [] steps enough some few are = at_end scripts some
+  where
+    at_end : (ss : List Named) → 1 ≤ length ss + 0 → setup_from (suc n) total ss (codes "steps\n" ++ steps) ≡ Ok (record { scripts = ss ++ []; steps = steps })
+    at_end [] some = absurd (omega arith)
+    at_end (s ∷ ss) some = rw (behind_found (codes "steps\n") steps, append-nil ss) refl
+found_from (suc n) total scripts (s ∷ more) steps enough some few are =
+    let rest = setup_text more steps in
+    let whole = section_text s.name s.text ++ rest in
+    let found = script_found s (total - length whole) scripts rest are.0 are.1.0 (omega arith) in
+    let size = length-append scripts (s ∷ []) in
+    let later = found_from n total (scripts ++ s ∷ []) more steps (omega arith) (omega (arith, size)) (omega (arith, size)) are.1.1 in
+    rw (no_steps s.name s.text rest, found) (later ∙ ap (λ ss. Ok (record { scripts = ss; steps = steps })) (append_assoc scripts (s ∷ []) more))
+
+pub setup_found : (input : List ℕ) (p : Parsed) → IsSetup input p → setup_of input ≡ Ok p
+unfolding setup_of
+setup_found input p is =
+    let found = found_from 16 (length input) [] p.scripts p.steps (omega (arith, is.few)) is.some is.few is.scripts in
+    ap (setup_from 16 (length input) []) is.spelled ∙ found
