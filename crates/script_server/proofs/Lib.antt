@@ -3,3 +3,4 @@ pub mod Complete
 pub mod Due
 pub mod Tries
 pub mod Sections
+pub mod Turns

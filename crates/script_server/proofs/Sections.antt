@@ -1,5 +1,5 @@
 -- A setup is read exactly where it is spelled.
-use Rattle.std.proofs.Common.{◌≡◌, ℕ, zero, suc, ◌+◌, ◌-◌, ◌^◌, ◌≤◌, ◌<◌, ◌&&◌, Bool, true, false, IsTrue, List, [], ◌∷◌, ◌++◌, length, take, drop, nat_le, nat_lt, length-append, Option, Some, None, Result, Ok, Err, refl, sym, ◌∙◌, ap, subst, arith, codes, append-nil, if◌then◌else◌}
+use Rattle.std.proofs.Common.{◌≡◌, ℕ, zero, suc, ◌+◌, ◌-◌, ◌^◌, ◌≤◌, ◌<◌, ◌&&◌, Bool, true, false, IsTrue, List, [], ◌∷◌, ◌++◌, length, take, drop, nat_le, nat_lt, length-append, Option, Some, None, Result, Ok, Err, IfOk, refl, sym, ◌∙◌, ap, subst, arith, codes, append-nil, if◌then◌else◌}
 use Rattle.std.proofs.Math.Seq.{take-append_seam, drop-append_seam}
 use Rattle.std.proofs.lemmas.List.{take-append-drop, append_assoc, length-take-le}
 use Rattle.std.specs.Fmt.{decimal}
@@ -10,7 +10,7 @@ use Rattle.std.proofs.lemmas.Bool.Decides.{nat_tests}
 use Rattle.page_names.specs.Names.{is_name, is_name_byte, name_in}
 use Rattle.page_names.specs.Pieces.{cut_at, behind, number_below}
 use Rattle.page_names.proofs.Options.{chosen, bound, some_same}
-use Rattle.page_names.proofs.Cuts.{behind_spelled, behind_found, cut_spelled, cut_found, lacks, lacking}
+use Rattle.page_names.proofs.Cuts.{behind_spelled, cut_spelled, cut_found, lacks, lacking}
 use Rattle.page_names.proofs.Numerals.{number_spelled, number_found, decimal_digits}
 use Rattle.script_value.specs.Val.{Val}
 use Rattle.sexp_reader.specs.Spells.{Spells}
@@ -23,8 +23,11 @@ use Rattle.core_syntax.specs.Core.{Core}
 use Rattle.core_syntax.specs.Forms.{script_of}
 use Rattle.core_syntax.specs.Setup.{Named}
 use Rattle.core_syntax.specs.Scripts.{place_named}
-use Rattle.script_server.specs.Setup.{Piece, Parsed, Fault, at_section, section_in, by_forms, by_data, script_in, named_next, with_rest, script_at, ended, setup_from, setup_by, setup_after, setup_of}
+use Rattle.script_server.specs.Setup.{Piece, Parsed, Fault, at_section, section_in, by_forms, by_data, script_in, named_next, with_rest, script_at, ended, after, unless_steps, setup_from, setup_of}
 use Rattle.script_server.specs.declared.fault.SetupKind.TheVariants.{Many}
+use Rattle.script_server.specs.declared.fault.SetupFault.{SetupFault}
+use Rattle.script_server.specs.declared.fault.SetupFault.TheVariants.{Memory, At}
+use Rattle.script_server.specs.Parses.{Gives}
 use Rattle.script_server.specs.Sections.{section_text, setup_text, IsScript, AreScripts, IsSetup}
 
 -- what is read is spelled so
@@ -43,6 +46,9 @@ around : (name count text rest : List ℕ)
     → codes "script " ++ (name ++ 32 ∷ (count ++ 10 ∷ (text ++ (10 ∷ rest)))) ≡ codes "script " ++ (name ++ 32 ∷ (count ++ 10 ∷ (text ++ 10 ∷ []))) ++ rest
 around name count text rest =
     rw (append_assoc name (32 ∷ (count ++ 10 ∷ (text ++ 10 ∷ []))) rest, append_assoc count (10 ∷ (text ++ 10 ∷ [])) rest, append_assoc text (10 ∷ []) rest) refl
+
+some_text : (name text : List ℕ) → 0 < length (section_text name text)
+some_text name text = omega (arith, length-append (codes "script ") (name ++ 32 ∷ (decimal (length text) ++ 10 ∷ (text ++ 10 ∷ []))))
 
 section_spelled : (input : List ℕ) (piece : Piece) → section_in input ≡ Some piece → IsPiece input piece
 unfolding section_in
@@ -74,6 +80,12 @@ section_spelled input piece e =
       short = omega (arith, size, counted.1);
     })
 
+-- what follows a section is shorter than the whole
+pub section_shorter : (input : List ℕ) (piece : Piece) → section_in input ≡ Some piece → length piece.rest < length input
+section_shorter input piece e =
+    let is = section_spelled input piece e in
+    omega (arith, ap length is.whole, length-append (section_text piece.name piece.text) piece.rest, some_text piece.name piece.text)
+
 -- a name, a text and a tree that make a script
 record Makes (name text : List ℕ) (s : Named) : Type 0 where
   pub name_is : s.name ≡ name
@@ -103,13 +115,13 @@ record Brings (scripts : List Named) (rest : List ℕ) (found : Named × List �
 next_made : (place : ℕ) (scripts : List Named) (twin : Option ℕ) (piece : Piece) (s : Named) → named_next place scripts twin piece ≡ Ok s
     → (twin ≡ None) × ((length scripts < 15) × Makes piece.name piece.text s)
 next_made place scripts (Some twin) piece s h = absurd (let no : ⊥ = cc in no)
-next_made place scripts None piece s h = by_test (nat_le 15 (length scripts)) refl h
+next_made place scripts None piece s h = (refl, by_test (nat_le 15 (length scripts)) refl h)
   where
     by_test : (t : Bool) → nat_le 15 (length scripts) ≡ t
         → (if t then Err (at_section place Many) else script_in piece.name piece.text) ≡ Ok s
-        → (None ≡ None) × ((length scripts < 15) × Makes piece.name piece.text s)
+        → (length scripts < 15) × Makes piece.name piece.text s
     by_test true e k = absurd (let no : ⊥ = cc in no)
-    by_test false e k = (refl, (grind (arith, nat_tests), data_made piece.name piece.text (read piece.text) s refl k))
+    by_test false e k = (grind (arith, nat_tests), data_made piece.name piece.text (read piece.text) s refl k)
 
 rest_made : (rest : List ℕ) (r : Result Named Fault) (found : Named × List ℕ) → with_rest rest r ≡ Ok found → (r ≡ Ok found.0) × (found.1 ≡ rest)
 rest_made rest (Ok s) found h = (cc, cc)
@@ -141,7 +153,7 @@ record Follows (scripts : List Named) (rest : List ℕ) (p : Parsed) : Type 0 wh
   pub more : List Named
   pub are : p.scripts ≡ scripts ++ more
   pub whole : rest ≡ setup_text more p.steps
-  pub scripts : AreScripts scripts more
+  pub good : AreScripts scripts more
   pub some : 1 ≤ length p.scripts
   pub few : length p.scripts ≤ 15
 
@@ -151,13 +163,15 @@ follows_end place [] rest steps p few e h = absurd (let no : ⊥ = cc in no)
 follows_end place (s ∷ ss) rest steps p few e h =
     let same : record { scripts = s ∷ ss; steps = steps } ≡ p = cc in
     subst (Follows (s ∷ ss) rest) same
-    (record { more = []; are = sym (append-nil (s ∷ ss)); whole = e; scripts = tt; some = omega arith; few = few })
+    (record { more = []; are = sym (append-nil (s ∷ ss)); whole = e; good = tt; some = omega arith; few = few })
 
 follows : (n total : ℕ) (scripts : List Named) (rest : List ℕ) (p : Parsed) → length scripts ≤ 15 → setup_from n total scripts rest ≡ Ok p
     → Follows scripts rest p
 follows zero total scripts rest p few h = absurd (let no : ⊥ = cc in no)
 follows (suc n) total scripts [] p few h = absurd (let no : ⊥ = cc in no)
-follows (suc n) total scripts (b ∷ bs) p few h = by_line (behind (codes "steps\n") (b ∷ bs)) refl h
+follows (suc n) total scripts (b ∷ bs) p few h =
+    by_line (behind (codes "steps\n") (b ∷ bs)) refl h
+    (λ found size k. follows n total (scripts ++ found.0 ∷ []) found.1 p size k)
   where
     rest : List ℕ
     rest = b ∷ bs
@@ -165,25 +179,32 @@ follows (suc n) total scripts (b ∷ bs) p few h = by_line (behind (codes "steps
     place : ℕ
     place = total - length rest
 
-    by_found : (r : Result (Named × List ℕ) Fault) → script_at place scripts (section_in rest) ≡ r → setup_after n total scripts r ≡ Ok p
+    go : Named × List ℕ → Result Parsed Fault
+    go found = setup_from n total (scripts ++ found.0 ∷ []) found.1
+
+    by_found : (r : Result (Named × List ℕ) Fault) → script_at place scripts (section_in rest) ≡ r → after r go ≡ Ok p
+        → ((found : Named × List ℕ) → length (scripts ++ found.0 ∷ []) ≤ 15 → go found ≡ Ok p → Follows (scripts ++ found.0 ∷ []) found.1 p)
         → Follows scripts rest p
-    by_found (Err e) same k = absurd (let no : ⊥ = cc in no)
-    by_found (Ok found) same k =
+    by_found (Err e) same k later_of = absurd (let no : ⊥ = cc in no)
+    by_found (Ok found) same k later_of =
         let brings = section_made place scripts rest (section_in rest) found refl same in
         let size : length (scripts ++ found.0 ∷ []) ≤ 15 = omega (arith, brings.few, length-append scripts (found.0 ∷ [])) in
-        let later = follows n total (scripts ++ found.0 ∷ []) found.1 p size k in
+        let later = later_of found size k in
         record {
           more = found.0 ∷ later.more;
           are = later.are ∙ append_assoc scripts (found.0 ∷ []) later.more;
           whole = brings.whole ∙ ap (λ r. section_text found.0.name found.0.text ++ r) later.whole;
-          scripts = (brings.script, (brings.new, later.scripts));
+          good = (brings.script, (brings.new, later.good));
           some = later.some;
           few = later.few;
         }
 
-    by_line : (o : Option (List ℕ)) → behind (codes "steps\n") rest ≡ o → setup_by n total scripts rest o ≡ Ok p → Follows scripts rest p
-    by_line (Some steps) e k = follows_end place scripts rest steps p few (behind_spelled (codes "steps\n") rest steps e) k
-    by_line None e k = by_found (script_at place scripts (section_in rest)) refl k
+    by_line : (o : Option (List ℕ)) → behind (codes "steps\n") rest ≡ o
+        → unless_steps o (ended place scripts) (after (script_at place scripts (section_in rest)) go) ≡ Ok p
+        → ((found : Named × List ℕ) → length (scripts ++ found.0 ∷ []) ≤ 15 → go found ≡ Ok p → Follows (scripts ++ found.0 ∷ []) found.1 p)
+        → Follows scripts rest p
+    by_line (Some steps) e k later_of = follows_end place scripts rest steps p few (behind_spelled (codes "steps\n") rest steps e) k
+    by_line None e k later_of = by_found (script_at place scripts (section_in rest)) refl k later_of
 
 pub setup_spelled : (input : List ℕ) (p : Parsed) → setup_of input ≡ Ok p → IsSetup input p
 unfolding setup_of
@@ -192,7 +213,7 @@ setup_spelled input p e =
     record {
       some = f.some;
       few = f.few;
-      scripts = subst (AreScripts []) (sym f.are) f.scripts;
+      scripts = subst (AreScripts []) (sym f.are) f.good;
       spelled = f.whole ∙ ap (λ ss. setup_text ss p.steps) (sym f.are);
     }
 
@@ -212,7 +233,7 @@ section_found name text rest named short =
     let within : nat_le size (length line) ≡ true = let l = length-append text (10 ∷ rest) in grind (arith, nat_tests) in
     let front = take-append_seam text (10 ∷ rest) in
     let back = drop-append_seam text (10 ∷ rest) in
-    rw (sym (around name (decimal size) text rest)) (rw (behind_found (codes "script ") (name ++ 32 ∷ (decimal size ++ 10 ∷ line)), cut_name, cut_line, count, named, within, front, back, behind_found (10 ∷ []) rest) refl)
+    rw (sym (around name (decimal size) text rest)) (rw (cut_name, cut_line, count, named, within, front, back) refl)
 
 script_found : (s : Named) (place : ℕ) (scripts : List Named) (rest : List ℕ) → IsScript s → place_named s.name scripts ≡ None → length scripts < 15
     → script_at place scripts (section_in (section_text s.name s.text ++ rest)) ≡ Ok (s, rest)
@@ -220,9 +241,6 @@ script_found s place scripts rest is new few =
     let found = section_found s.name s.text rest is.named (omega (arith, is.spelled.short)) in
     let test : nat_le 15 (length scripts) ≡ false = grind (arith, nat_tests) in
     rw (found, new, test, spells_read s.text is.data_of is.spelled, is.core) refl
-
-no_steps : (name text rest : List ℕ) → behind (codes "steps\n") (section_text name text ++ rest) ≡ None
-no_steps name text rest = refl
 
 found_from : (n total : ℕ) (scripts more : List Named) (steps : List ℕ) → length more < n → 1 ≤ length scripts + length more
     → length scripts + length more ≤ 15 → AreScripts scripts more
@@ -232,17 +250,30 @@ found_from (suc n) total scripts [] steps enough some few are = at_end scripts s
   where
     at_end : (ss : List Named) → 1 ≤ length ss + 0 → setup_from (suc n) total ss (codes "steps\n" ++ steps) ≡ Ok (record { scripts = ss ++ []; steps = steps })
     at_end [] some = absurd (omega arith)
-    at_end (s ∷ ss) some = rw (behind_found (codes "steps\n") steps, append-nil ss) refl
+    at_end (s ∷ ss) some = rw (append-nil ss) refl
 found_from (suc n) total scripts (s ∷ more) steps enough some few are =
     let rest = setup_text more steps in
     let whole = section_text s.name s.text ++ rest in
     let found = script_found s (total - length whole) scripts rest are.0 are.1.0 (omega arith) in
     let size = length-append scripts (s ∷ []) in
     let later = found_from n total (scripts ++ s ∷ []) more steps (omega arith) (omega (arith, size)) (omega (arith, size)) are.1.1 in
-    rw (no_steps s.name s.text rest, found) (later ∙ ap (λ ss. Ok (record { scripts = ss; steps = steps })) (append_assoc scripts (s ∷ []) more))
+    rw found (later ∙ ap (λ ss. Ok (record { scripts = ss; steps = steps })) (append_assoc scripts (s ∷ []) more))
 
 pub setup_found : (input : List ℕ) (p : Parsed) → IsSetup input p → setup_of input ≡ Ok p
 unfolding setup_of
 setup_found input p is =
-    let found = found_from 16 (length input) [] p.scripts p.steps (omega (arith, is.few)) is.some is.few is.scripts in
+    let found = found_from 16 (length input) [] p.scripts p.steps (omega (arith, is.few)) (omega (arith, is.some)) (omega (arith, is.few)) is.scripts in
     ap (setup_from 16 (length input) []) is.spelled ∙ found
+
+-- the answers of the code
+
+pub answer_spells : {X : Type 0} (view : X → Parsed) (input : List ℕ) (r : Result X SetupFault) → Gives view r (setup_of input)
+    → IfOk r (λ x. IsSetup input (view x))
+answer_spells view input (Ok x) h = setup_spelled input (view x) h
+answer_spells view input (Err e) h = tt
+
+pub answer_found : {X : Type 0} (view : X → Parsed) (input : List ℕ) (r : Result X SetupFault) → Gives view r (setup_of input)
+    → (wanted : Parsed) → IsSetup input wanted → Gives view r (Ok wanted)
+answer_found view input (Ok x) h wanted is = sym (setup_found input wanted is) ∙ h
+answer_found view input (Err Memory) h wanted is = tt
+answer_found view input (Err (At e)) h wanted is = sym (setup_found input wanted is) ∙ h

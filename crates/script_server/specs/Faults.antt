@@ -1,5 +1,5 @@
 -- The line that tells a fault of a setup.
-use Rattle.std.specs.Prelude.{ℕ, List, ◌++◌, codes}
+use Rattle.std.specs.Prelude.{ℕ, List, [], ◌∷◌, ◌++◌, codes}
 use Rattle.std.specs.Fmt.{decimal}
 use Rattle.sexp_reader.specs.declared.fault.ReadKind.{ReadKind}
 use Rattle.sexp_reader.specs.declared.fault.ReadKind.TheVariants as reading
@@ -36,6 +36,6 @@ syntax_word syntax.TooMany = codes "toomany"
 
 -- `error 3 setup PLACE WORD`, `error 3 NAME read PLACE KIND` or `error 3 NAME syntax FORM KIND`
 abbrev pub fault_line : Fault → List ℕ
-fault_line (at_section place kind) = codes "error 3 setup " ++ decimal place ++ codes " " ++ setup_word kind ++ codes "\n"
-fault_line (at_text name place kind) = codes "error 3 " ++ name ++ codes " read " ++ decimal place ++ codes " " ++ read_word kind ++ codes "\n"
-fault_line (at_form name form kind) = codes "error 3 " ++ name ++ codes " syntax " ++ decimal form ++ codes " " ++ syntax_word kind ++ codes "\n"
+fault_line (at_section place kind) = codes "error 3 setup " ++ (decimal place ++ 32 ∷ (setup_word kind ++ 10 ∷ []))
+fault_line (at_text name place kind) = codes "error 3 " ++ (name ++ (codes " read " ++ (decimal place ++ 32 ∷ (read_word kind ++ 10 ∷ []))))
+fault_line (at_form name form kind) = codes "error 3 " ++ (name ++ (codes " syntax " ++ (decimal form ++ 32 ∷ (syntax_word kind ++ 10 ∷ []))))

@@ -76,20 +76,23 @@ abbrev pub ended : ℕ → List Named → List ℕ → Result Parsed Fault
 ended place [] steps = Err (at_section place Empty)
 ended place (s ∷ ss) steps = Ok (record { scripts = s ∷ ss; steps = steps })
 
+-- what comes after an answer: a fault goes through
+abbrev pub after : {A B : Type 0} → Result A Fault → (A → Result B Fault) → Result B Fault
+after (Ok x) f = f x
+after (Err e) f = Err e
+
+-- what the line `steps` comes to where it stands, and else what stands there instead
+abbrev pub unless_steps : Option (List ℕ) → (List ℕ → Result Parsed Fault) → Result Parsed Fault → Result Parsed Fault
+unless_steps (Some steps) end other = end steps
+unless_steps None end other = other
+
 -- the setup behind these scripts, of an input with so many bytes; the count is of the sections and lines that are read at most
-abbrev mutual
-  pub setup_from : ℕ → ℕ → List Named → List ℕ → Result Parsed Fault
-  setup_from zero total scripts rest = Err (at_section (total - length rest) Many)
-  setup_from (suc n) total scripts [] = Err (at_section total End)
-  setup_from (suc n) total scripts (b ∷ bs) = setup_by n total scripts (b ∷ bs) (behind (codes "steps\n") (b ∷ bs))
-
-  pub setup_by : ℕ → ℕ → List Named → List ℕ → Option (List ℕ) → Result Parsed Fault
-  setup_by n total scripts rest (Some steps) = ended (total - length rest) scripts steps
-  setup_by n total scripts rest None = setup_after n total scripts (script_at (total - length rest) scripts (section_in rest))
-
-  pub setup_after : ℕ → ℕ → List Named → Result (Named × List ℕ) Fault → Result Parsed Fault
-  setup_after n total scripts (Ok found) = setup_from n total (scripts ++ found.0 ∷ []) found.1
-  setup_after n total scripts (Err e) = Err e
+abbrev pub setup_from : ℕ → ℕ → List Named → List ℕ → Result Parsed Fault
+setup_from zero total scripts rest = Err (at_section (total - length rest) Many)
+setup_from (suc n) total scripts [] = Err (at_section total End)
+setup_from (suc n) total scripts (b ∷ bs) =
+    unless_steps (behind (codes "steps\n") (b ∷ bs)) (ended (total - length (b ∷ bs)) scripts)
+    (after (script_at (total - length (b ∷ bs)) scripts (section_in (b ∷ bs))) (λ found. setup_from n total (scripts ++ found.0 ∷ []) found.1))
 
 -- the whole setup, or its first fault: 15 sections and the line behind them at most
 unfoldable pub setup_of : List ℕ → Result Parsed Fault

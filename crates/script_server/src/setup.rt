@@ -1,9 +1,10 @@
-ghost use Rattle.std.specs.Prelude.{◌≡◌, ◌≤◌, ◌<◌, ◌^◌, length, option_map, Some, IfSome, IfOk};
+ghost use Rattle.std.specs.Prelude.{◌≡◌, ◌≤◌, ◌<◌, ◌^◌, length, option_map, IfOk, Ok};
 ghost use Rattle.page_names.specs.Names.{name_of};
 ghost use Rattle.page_names.specs.Pieces.{number_below};
 ghost use Rattle.core_syntax.specs.Scripts.{scripts_of, named_of};
 ghost use Rattle.script_server.specs.Setup as spec;
 ghost use Rattle.script_server.specs.Parses.{Gives, parsed_of};
+ghost use Rattle.script_server.specs.Sections.{IsSetup};
 
 use crate::fault::{SetupError, SetupFault, SetupKind};
 use core_syntax::{ExpandFault, NamedScript, Setup, expand};
@@ -58,8 +59,7 @@ impl<'a> Section<'a> {
     // The section that the input begins with.
     #[tactic(auto, unfolding(crate::specs::Setup::section_in))]
     fn parse(input: &'a [u8]) -> Option<Section<'a>>
-        ensures section { option_map piece_of result ≡ spec.section_in input.now }
-        ensures shorter { IfSome result (λ s. length s.rest.now < length input.now) }
+        ensures { option_map piece_of result ≡ spec.section_in input.now }
     {
         let section = behind(b"script ", input)?;
         let (name, rest) = cut_at(b' ', section)?;
@@ -95,7 +95,8 @@ fn compile(alloc: Global, name: ScriptName, text: &[u8]) -> Result<NamedScript, 
     }
 }
 
-// The script of the section that stands here behind these scripts, and what follows it.
+// The script of the section that stands here, behind these scripts, and what follows it.
+#[tactic(auto, using(crate::proofs::Sections::section_shorter))]
 fn script_at<'a>(
     alloc: Global,
     place: u64,
@@ -130,10 +131,10 @@ fn ended<'a>(place: u64, setup: Setup, steps: &'a [u8]) -> Result<Parsed<'a>, Se
 }
 
 impl<'a> Parsed<'a> {
-    /// The setup that the input begins with: sections of scripts, and then the line `steps`; or its first fault.
+    // The setup that the input begins with, or its first fault.
     #[tactic(auto, unfolding(crate::specs::Setup::setup_of))]
-    pub fn parse(alloc: Global, input: &'a [u8]) -> Result<Parsed<'a>, SetupFault>
-        ensures value { Gives parsed_of result (spec.setup_of input.now) }
+    fn read(alloc: Global, input: &'a [u8]) -> Result<Parsed<'a>, SetupFault>
+        ensures { Gives parsed_of result (spec.setup_of input.now) }
     {
         let mut setup = Setup::new(Vec::new(alloc));
         let mut rest = input;
@@ -147,5 +148,18 @@ impl<'a> Parsed<'a> {
             rest = later;
         }
         Err(fault(input.len() as u64, SetupKind::End))
+    }
+
+    /// The setup that the input begins with: 1 to 15 sections of scripts, and then the line `steps`; or its first fault.
+    #[tactic(auto, using(crate::proofs::Sections::answer_spells, crate::proofs::Sections::answer_found))]
+    pub fn parse(alloc: Global, input: &'a [u8]) -> Result<Parsed<'a>, SetupFault>
+        // The answer is that of reading, unless memory ran out.
+        ensures value { Gives parsed_of result (spec.setup_of input.now) }
+        // What is read is spelled so.
+        ensures spelled { IfOk result (λ p. IsSetup input.now (parsed_of p)) }
+        // What is spelled so is read, unless memory ran out.
+        ensures found { (wanted : spec.Parsed) → IsSetup input.now wanted → Gives parsed_of result (Ok wanted) }
+    {
+        Parsed::read(alloc, input)
     }
 }

@@ -1,7 +1,7 @@
-use Rattle.std.proofs.Common.{◌≡◌, Some, None, ℕ, List, Option, rules}
+use Rattle.std.proofs.Common.{◌≡◌, ℕ, List, Option, Ok, Err, rules}
 use Rattle.web_outside.proofs.Writes.{appends_none}
 use Rattle.script_server.specs.Setup.{Parsed, Fault, setup_of}
-use Rattle.script_server.specs.Parses.{parsed_of}
+use Rattle.script_server.specs.Parses.{parsed_of, fault_of}
 use Rattle.script_server.specs.Command.{Finishes, Outputs, Tells}
 use Rattle.script_server.specs.declared.command.Status.{Status}
 use Rattle.script_server.specs.declared.command.Status.TheVariants as status
@@ -22,7 +22,7 @@ outputs status.Long bytes s old new before after e p = absurd p
 
 pub returns-in-Ok : goal.returns-in-Ok
 returns-in-Ok g c =
-    outputs c.play_all.result c.args.input.now (parsed_of c.in-Ok.parsed) _ _ _ _ c.in-Ok.ensures c.play_all.ensures.ended
+    outputs c.play_all.result c.args.input.now (parsed_of c.in-Ok.parsed) _ _ _ _ c.in-Ok.ensures.value c.play_all.ensures.ended
 
 -- a told fault of the setup is the whole answer
 told : (status : Status) (bytes : List ℕ) (fault : Fault) (old new : Option (List ℕ)) (before after : ℕ)
@@ -38,8 +38,9 @@ told status.Long bytes fault old new before after e p = absurd p
 
 pub returns-in-Err-At : goal.returns-in-Err-At
 returns-in-Err-At g c =
-    told c.tell_fault.result c.args.input.now _ _ _ _ _ c.in-Err-At.ensures c.tell_fault.ensures
+    let failed : setup_of c.args.input.now ≡ Err (fault_of c.in-Err-At.error) = search rules in
+    told c.tell_fault.result c.args.input.now _ _ _ _ _ failed c.tell_fault.ensures
 
 pub returns-in-Err-Memory : goal.returns-in-Err-Memory
 returns-in-Err-Memory g c =
-    breaks_early c.args.input.now _ _ _ _ _ c.write_or_drop-in-Err-Memory.ensures.written (appends_none _)
+    breaks_early c.args.input.now _ _ _ _ _ c.write_or_drop.ensures.written (appends_none _)
