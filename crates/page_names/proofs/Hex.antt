@@ -165,3 +165,11 @@ hex_found n small =
     let read = onto_value 16 0 n [] small in
     let none : 0 * 16 ^ 16 + n ≡ n = omega arith in read ∙ none in
     rw (len, all, value) refl
+
+pub hex16_length : (n : ℕ) → length (hex16 n) ≡ 16
+unfolding hex16
+hex16_length n = onto_length 16 n []
+
+pub hex16_digits : (n : ℕ) → list_all is_hex_digit (hex16 n) ≡ true
+unfolding hex16
+hex16_digits n = onto_hex 16 n [] refl

@@ -1,13 +1,12 @@
 -- A destination and its one spelling.
-use Rattle.std.proofs.Common.{◌≡◌, ℕ, ◌^◌, ◌<◌, true, List, ◌∷◌, ◌++◌, Option, Some, None, IsTrue, IfSome, option_map, refl, sym, ◌∙◌, ap, subst, arith, codes}
+use Rattle.std.proofs.Common.{◌≡◌, ℕ, ◌^◌, ◌<◌, true, List, ◌∷◌, ◌++◌, Option, Some, None, IsTrue, refl, ◌∙◌, ap, subst, arith, codes}
 use Rattle.std.specs.List.{list_all}
 use Rattle.std.specs.Char.{is_ascii_digit}
 use Rattle.std.specs.Fmt.{decimal}
 use Rattle.std.proofs.lemmas.Bool.{and_parts}
 use Rattle.page_names.specs.declared.names.PageName.{PageName}
-use Rattle.page_names.specs.declared.names.Target.{Target}
 use Rattle.page_names.specs.Pieces.{cut_at, behind, number_below, hex_number, hex16}
-use Rattle.page_names.specs.Names.{is_name_byte, is_name, Destination, start, page, spelling, numbers_spelling, IsPageName, IsDestination, name_in, numbers_in, destination_in, destination_of, target_of}
+use Rattle.page_names.specs.Names.{is_name_byte, is_name, Destination, start, page, spelling, numbers_spelling, IsPageName, IsDestination, name_in, numbers_in, destination_in, named_by}
 use Rattle.page_names.proofs.Options.{chosen, some_same, bound, mapped}
 use Rattle.page_names.proofs.Numerals.{number_spelled, number_found, decimal_digits}
 use Rattle.page_names.proofs.Hex.{hex_spelled, hex_found}
@@ -65,13 +64,13 @@ inner_spelled bytes (Some parts) d cut e =
     let P : Destination → Type 0 = λ x. (codes "/servlets/" ++ bytes ≡ spelling x) × IsDestination x in
     subst P (some_same b.2) (ap (λ xs. codes "/servlets/" ++ xs) whole, (named.1, numbered.1))
 
--- a path that names a destination is its spelling
-pub named_spelled : (path : List ℕ) (d : Destination) → destination_of path ≡ Some d → (path ≡ spelling d) × IsDestination d
-unfolding destination_of
-named_spelled path d e =
-    let b = bound (behind (codes "/servlets/") path) _ d e in
+-- bytes that name a destination are its spelling
+pub named_spelled : (bytes : List ℕ) (d : Destination) → named_by bytes ≡ Some d → (bytes ≡ spelling d) × IsDestination d
+unfolding named_by
+named_spelled bytes d e =
+    let b = bound (behind (codes "/servlets/") bytes) _ d e in
     let inner = inner_spelled b.0 (cut_at 59 b.0) d refl b.2 in
-    (behind_spelled (codes "/servlets/") path b.0 b.1 ∙ inner.0, inner.1)
+    (behind_spelled (codes "/servlets/") bytes b.0 b.1 ∙ inner.0, inner.1)
 
 -- ---- what is spelled so is read
 
@@ -96,21 +95,10 @@ ends : (name : List ℕ) → IsTrue (is_name name) → lacks 59 name ≡ true
 ends name is = let two = and_parts _ (list_all is_name_byte name) is in lacking is_name_byte 59 refl name two.1
 
 -- a destination's spelling names it
-pub spelling_named : (d : Destination) → IsDestination d → destination_of (spelling d) ≡ Some d
-unfolding destination_of
+pub spelling_named : (d : Destination) → IsDestination d → named_by (spelling d) ≡ Some d
+unfolding named_by
 spelling_named (start name) is = let whole = cut_none 59 name (ends name is) in rw (whole, is) refl
 spelling_named (page name numbers) is =
     let cut = cut_found 59 name (numbers_spelling numbers) (ends name is.0) in
     let found = numbers_found numbers is.1 in
     rw (cut, is.0, found) refl
-
--- what a reader's target says of the path
-pub target_spelled : (o : Option Target) (path : List ℕ) → option_map target_of o ≡ destination_of path
-    → IfSome o (λ t. path ≡ spelling (target_of t))
-target_spelled None path e = tt
-target_spelled (Some t) path e = (named_spelled path (target_of t) (sym e)).0
-
--- a page's URL names the page
-pub url_named : (bytes name : List ℕ) (numbers : PageName) → bytes ≡ spelling (page name numbers) → IsTrue (is_name name) → IsPageName numbers
-    → destination_of bytes ≡ Some (page name numbers)
-url_named bytes name numbers e is fits = ap destination_of e ∙ spelling_named (page name numbers) (is, fits)

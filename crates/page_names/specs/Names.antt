@@ -1,7 +1,8 @@
--- What a path names, and the one path that spells each name.
+-- What a path names, and the one spelling of each name.
 pub use Rattle.page_names.specs.NameBytes.{is_name_byte, is_name}
-use Rattle.std.specs.Prelude.{ℕ, ◌^◌, ◌<◌, List, ◌∷◌, ◌++◌, Option, Some, None, IsTrue, take, option_map, codes, if◌then◌else◌}
+use Rattle.std.specs.Prelude.{◌≡◌, ℕ, ◌^◌, ◌<◌, List, ◌∷◌, ◌++◌, Option, Some, None, IsTrue, take, option_map, codes, if◌then◌else◌}
 use Rattle.std.specs.Fmt.{decimal}
+use Rattle.percent_encoding.specs.Percent.{percent_decode}
 use Rattle.page_names.specs.Pieces.{◌>>=◌, cut_at, behind, number_below, hex_number, hex16}
 use Rattle.page_names.specs.declared.names.ScriptName.{ScriptName}
 use Rattle.page_names.specs.declared.names.PageName.{PageName}
@@ -26,7 +27,7 @@ target_of (Page name numbers) = page (name_of name) numbers
 abbrev pub numbers_spelling : PageName → List ℕ
 numbers_spelling p = decimal p.shelf ++ 42 ∷ (decimal p.instance ++ 42 ∷ (decimal p.page ++ 42 ∷ hex16 p.nonce))
 
--- the path of a destination: `/servlets/NAME` or `/servlets/NAME;S*I*K*N`
+-- the spelling of a destination: `/servlets/NAME` or `/servlets/NAME;S*I*K*N`
 abbrev pub spelling : Destination → List ℕ
 spelling (start name) = codes "/servlets/" ++ name
 spelling (page name numbers) = codes "/servlets/" ++ (name ++ 59 ∷ numbers_spelling numbers)
@@ -67,8 +68,20 @@ destination_in bytes (Some parts) = do
   numbers ← numbers_in parts.1
   Some (page name numbers)
 
--- what a path names, if it spells anything
-unfoldable pub destination_of : List ℕ → Option Destination
-destination_of path = do
-  bytes ← behind (codes "/servlets/") path
+-- what decoded bytes name, if they spell anything
+unfoldable pub named_by : List ℕ → Option Destination
+named_by decoded = do
+  bytes ← behind (codes "/servlets/") decoded
   destination_in bytes (cut_at 59 bytes)
+
+-- what a path names: its escapes are decoded, once
+unfoldable pub destination_of : List ℕ → Option Destination
+destination_of path = named_by (percent_decode path)
+
+-- each destination is what its spelling names, as a path too
+abbrev pub SpellingsAreRead : Type 0
+SpellingsAreRead = (d : Destination) → IsDestination d → destination_of (spelling d) ≡ Some d
+
+-- two destinations with one spelling are one
+abbrev pub SpellingsDiffer : Type 0
+SpellingsDiffer = (d e : Destination) → IsDestination d → IsDestination e → spelling d ≡ spelling e → d ≡ e

@@ -1,21 +1,22 @@
 -- Paths, and what they name.
 use Rattle.std.specs.Prelude.{◌≡◌, ◌++◌, Some, None, codes, replicate, refl}
 use Rattle.std.specs.Fmt.{digits}
-use Rattle.page_names.specs.Names.{start, page, spelling, destination_of}
+use Rattle.percent_encoding.specs.Percent.{percent_decode}
+use Rattle.page_names.specs.Names.{start, page, spelling, named_by, destination_of}
 use Rattle.page_names.specs.Pieces.{hex16}
 
 pub a_start : destination_of (codes "/servlets/sum") ≡ Some (start (codes "sum"))
-unfolding destination_of
+unfolding destination_of named_by percent_decode
 a_start = refl
 
 pub a_page : destination_of (codes "/servlets/sum;0*0*0*0000000000000000")
     ≡ Some (page (codes "sum") (record { shelf = 0; instance = 0; page = 0; nonce = 0 }))
-unfolding destination_of
+unfolding destination_of named_by percent_decode
 a_page = refl
 
 pub later_page : destination_of (codes "/servlets/my-shop2;3*10*4294967296*00000000deadbeef")
     ≡ Some (page (codes "my-shop2") (record { shelf = 3; instance = 10; page = 4294967296; nonce = 3735928559 }))
-unfolding destination_of
+unfolding destination_of named_by percent_decode
 later_page = refl
 
 pub last_nonce : spelling (page (codes "a") (record { shelf = 4294967295; instance = 0; page = 1; nonce = 18446744073709551615 }))
@@ -24,37 +25,64 @@ unfolding hex16 digits
 last_nonce = refl
 
 pub leading_zero : destination_of (codes "/servlets/sum;00*0*0*0000000000000000") ≡ None
-unfolding destination_of
+unfolding destination_of named_by percent_decode
 leading_zero = refl
 
 pub signed_number : destination_of (codes "/servlets/sum;0*+1*0*0000000000000000") ≡ None
-unfolding destination_of
+unfolding destination_of named_by percent_decode
 signed_number = refl
 
 pub great_shelf : destination_of (codes "/servlets/sum;4294967296*0*0*0000000000000000") ≡ None
-unfolding destination_of
+unfolding destination_of named_by percent_decode
 great_shelf = refl
 
 pub capital_nonce : destination_of (codes "/servlets/sum;0*0*0*00000000DEADBEEF") ≡ None
-unfolding destination_of
+unfolding destination_of named_by percent_decode
 capital_nonce = refl
 
 pub short_nonce : destination_of (codes "/servlets/sum;0*0*0*000000000000000") ≡ None
-unfolding destination_of
+unfolding destination_of named_by percent_decode
 short_nonce = refl
 
 pub long_name : destination_of (codes "/servlets/" ++ replicate 33 97) ≡ None
-unfolding destination_of
+unfolding destination_of named_by percent_decode
 long_name = refl
 
 pub longest_name : destination_of (codes "/servlets/" ++ replicate 32 97) ≡ Some (start (replicate 32 97))
-unfolding destination_of
+unfolding destination_of named_by percent_decode
 longest_name = refl
 
 pub capital_name : destination_of (codes "/servlets/Sum") ≡ None
-unfolding destination_of
+unfolding destination_of named_by percent_decode
 capital_name = refl
 
 pub empty_name : destination_of (codes "/servlets/") ≡ None
-unfolding destination_of
+unfolding destination_of named_by percent_decode
 empty_name = refl
+
+-- `%2A` is `*`
+pub escaped_star : destination_of (codes "/servlets/sum;0%2A0%2A0%2A0000000000000000")
+    ≡ Some (page (codes "sum") (record { shelf = 0; instance = 0; page = 0; nonce = 0 }))
+unfolding destination_of named_by percent_decode
+escaped_star = refl
+
+-- `%73` is `s`
+pub escaped_letter : destination_of (codes "/%73ervlets/sum") ≡ Some (start (codes "sum"))
+unfolding destination_of named_by percent_decode
+escaped_letter = refl
+
+-- `%3b` is `;`
+pub escaped_end : destination_of (codes "/servlets/sum%3b1*2*3*000000000000000a")
+    ≡ Some (page (codes "sum") (record { shelf = 1; instance = 2; page = 3; nonce = 10 }))
+unfolding destination_of named_by percent_decode
+escaped_end = refl
+
+-- `%252A` is `%2A`, and no `*`
+pub escaped_twice : destination_of (codes "/servlets/sum;0%252A0*0*0000000000000000") ≡ None
+unfolding destination_of named_by percent_decode
+escaped_twice = refl
+
+-- what is no escape stays as it is
+pub lone_percent : destination_of (codes "/servlets/sum%") ≡ None
+unfolding destination_of named_by percent_decode
+lone_percent = refl

@@ -1,6 +1,7 @@
 //! The names of scripts and of the pages that they send, and the URLs that spell them.
 #![tactic(auto)]
 
+mod escapes;
 mod names;
 mod parse;
 pub mod pieces;

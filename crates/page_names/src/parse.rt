@@ -1,19 +1,36 @@
 ghost use Rattle.std.specs.Prelude.{◌≡◌, Some, IfSome, option_map};
-ghost use Rattle.page_names.specs.Names.{Destination, IsDestination, spelling, destination_of, destination_in, numbers_in, target_of};
+ghost use Rattle.percent_encoding.specs.Percent.{percent_decode};
+ghost use Rattle.page_names.specs.Names.{Destination, IsDestination, spelling, named_by, destination_of, destination_in, numbers_in, target_of, SpellingsAreRead, SpellingsDiffer};
 ghost use Rattle.page_names.specs.Pieces.{cut_at};
 
+use crate::escapes::decode;
 use crate::names::{PageName, ScriptName, Target};
 use crate::pieces::{behind, cut_at, hex_number, number, small_number};
 
-/// What a path names, if it is spelled as a start or a page is.
-#[tactic(auto, using(crate::proofs::Spelled::named_spelled, crate::proofs::Spelled::spelling_named), unfolding(crate::specs::Names::destination_of))]
+/// The length of the longest spelling, of a page: `/servlets/`, a name, `;`, a `u32`, `*`, a
+/// `u64`, `*`, a `u64`, `*` and a nonce.
+const LONGEST_SPELLING: usize = 10 + 32 + 1 + 10 + 1 + 20 + 1 + 20 + 1 + 16;
+
+/// What a path names. Once its escapes are decoded, it is spelled as a start or a page is.
+#[tactic(auto, using(crate::proofs::Plain::long_path), unfolding(crate::specs::Names::destination_of))]
 pub fn parse_target(path: &[u8]) -> Option<Target>
     ensures value { option_map target_of result ≡ destination_of path.now }
-    ensures spelled { IfSome result (λ t. path.now ≡ spelling (target_of t)) }
+    ensures spelled { IfSome result (λ t. percent_decode path.now ≡ spelling (target_of t)) }
     ensures named { IfSome result (λ t. IsDestination (target_of t)) }
-    ensures found { (d : Destination) → IsDestination d → path.now ≡ spelling d → option_map target_of result ≡ Some d }
+    ensures found { (d : Destination) → IsDestination d → percent_decode path.now ≡ spelling d → option_map target_of result ≡ Some d }
+    ensures inverse { SpellingsAreRead }
+    ensures distinct { SpellingsDiffer }
 {
-    let rest = behind(b"/servlets/", path)?;
+    let mut room = [0; LONGEST_SPELLING];
+    let len = decode(path, &mut room)?;
+    target_in(&room[..len])
+}
+
+#[tactic(auto, unfolding(crate::specs::Names::named_by))]
+fn target_in(decoded: &[u8]) -> Option<Target>
+    ensures { option_map target_of result ≡ named_by decoded.now }
+{
+    let rest = behind(b"/servlets/", decoded)?;
     target_behind(rest)
 }
 

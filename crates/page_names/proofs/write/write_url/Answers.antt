@@ -2,7 +2,7 @@
 use Rattle.std.proofs.Common.{◌≡◌, arith}
 use Rattle.std.proofs.lemmas.Grind.{common_steps}
 use Rattle.page_names.specs.Names.{spelling, page, name_of, IsPageName}
-use Rattle.page_names.proofs.Spelled.{url_named}
+use Rattle.page_names.proofs.Plain.{url_named}
 use Rattle.page_names.proofs.write.write_url.Goals as goal
 
 pub returns-clause-read_back : goal.returns-clause-read_back
