@@ -1,7 +1,7 @@
+pub mod ByteClasses
+pub mod Truths
 pub mod Ascii
-pub mod Numbers
 pub mod Utf8
-pub mod Levels
 pub mod Turns
 pub mod Taken
 pub mod Again
