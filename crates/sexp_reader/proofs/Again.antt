@@ -1,23 +1,21 @@
 -- What is spelled so is read.
-use Rattle.std.proofs.Common.{◌≡◌, ◌≢◌, ℕ, zero, suc, ◌+◌, ◌-◌, ◌<◌, ◌≤◌, Bool, true, false, cond, ⊎_elim, List, [], ◌∷◌, ◌++◌, length, take, drop, refl, sym, ap, ◌∙◌, subst, arith, append_assoc}
+use Rattle.std.proofs.Common.{◌≡◌, ◌≢◌, ℕ, zero, suc, ◌+◌, ◌-◌, ◌<◌, ◌≤◌, Bool, true, false, ⊎_elim, List, [], ◌∷◌, ◌++◌, length, take, drop, refl, sym, ap, ◌∙◌, subst, arith, append_assoc}
 use Rattle.std.specs.Prelude.{not, nat_lt, ◌==◌, Option, None, Some, Result, Ok, Err}
 use Rattle.std.proofs.lemmas.Bool.Decides.{nat_tests, eqb_tells}
 use Rattle.std.proofs.lemmas.List.{append-nil, length-append}
 use Rattle.std.proofs.Math.Seq.{take-append_seam, drop-append_seam}
 use Rattle.std.specs.List.{list_all}
 use Rattle.std.specs.Char.{is_ascii_digit}
-use Rattle.std.specs.Str.Parse.{without_leading_sign}
-use Rattle.std.proofs.lemmas.Bool.{eqb-true}
 use Rattle.script_value.specs.Val.{Val, number, truth, text, symbol, list, vals_of}
 use Rattle.script_value.specs.Numbers.{is_number, number_of, is_in_range}
-use Rattle.sexp_reader.specs.declared.fault.ReadKind.TheVariants.{Token, Mismatch}
+use Rattle.sexp_reader.specs.declared.fault.ReadKind.TheVariants.{Token}
 use Rattle.sexp_reader.specs.declared.classes.Class.{Class}
 use Rattle.sexp_reader.specs.declared.classes.Class.TheVariants.{Blank, Comment, Opening, Closing, Marking, DoubleQuote, Plain}
 use Rattle.sexp_reader.specs.declared.classes.Delimiter.{Delimiter}
 use Rattle.sexp_reader.specs.declared.classes.Delimiter.TheVariants.{Parenthesis, Bracket}
 use Rattle.sexp_reader.specs.declared.classes.Mark.{Mark}
 use Rattle.sexp_reader.specs.declared.classes.Mark.TheVariants.{Quote, Quasiquote, Unquote, UnquoteSplicing}
-use Rattle.sexp_reader.specs.Letters.{class_of, is_plain, is_blank, ends_token, same_delimiter, whole_mark, name_of, truth_of, is_symbol}
+use Rattle.sexp_reader.specs.Letters.{class_of, is_plain, is_blank, ends_token, same_delimiter, whole_mark, name_of, is_symbol}
 use Rattle.sexp_reader.specs.Read.{Fault, ◌>>=◌, past_gap, after_gap, token_len, word_at, text_from, escape_from, Level, opened, marked, State, marked_list, put, open_list, open_mark, close_list, take_mark, take_text, take_token, with_rest, piece, pieces, scan, read, most_levels}
 use Rattle.sexp_reader.specs.Spells.{NoNewline, AtLineEnd, AllPlain, IsToken, AtTokenEnd, Gap, no_gap, blank, comment, Letters, end_of_text, letter, escape, Truth, short_true, long_true, short_false, long_false, Encloses, parentheses, brackets, Marks, quote, quasiquote, unquote, unquote_splicing, Datum, a_number, a_truth, a_symbol, a_text, a_list, a_mark, Data, no_data, a_datum, Spells}
 use Rattle.sexp_reader.specs.Views.{innermost_mark}
@@ -29,7 +27,7 @@ use Rattle.sexp_reader.proofs.Turns.{read_utf8, no_piece}
 
 -- gaps
 
-test_false : (a b : ℕ) → a ≢ b → (a == b) ≡ false
+pub test_false : (a b : ℕ) → a ≢ b → (a == b) ≡ false
 test_false a b h = ⊎_elim (λ e. absurd (h e.1)) (λ e. e.0) (eqb_tells a b)
 
 line_end : (bytes : List ℕ) → AtLineEnd bytes → past_gap true bytes ≡ past_gap false bytes

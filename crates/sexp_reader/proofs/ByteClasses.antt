@@ -1,8 +1,8 @@
 -- The bytes of the grammar and their classes.
-use Rattle.std.proofs.Common.{◌≡◌, ℕ, Bool, true, false, arith, refl}
+use Rattle.std.proofs.Common.{◌≡◌, ℕ, true, arith}
 use Rattle.std.specs.Prelude.{not}
 use Rattle.std.proofs.lemmas.Bool.Decides.{nat_tests}
-use Rattle.sexp_reader.specs.declared.classes.Class.TheVariants.{Blank, Comment, Opening, Closing, Marking, DoubleQuote, Plain}
+use Rattle.sexp_reader.specs.declared.classes.Class.TheVariants.{Blank, Comment, Opening, Closing, Marking, DoubleQuote}
 use Rattle.sexp_reader.specs.declared.classes.Delimiter.{Delimiter}
 use Rattle.sexp_reader.specs.declared.classes.Delimiter.TheVariants.{Parenthesis, Bracket}
 use Rattle.sexp_reader.specs.declared.classes.Mark.{Mark}

@@ -5,4 +5,5 @@ pub mod Utf8
 pub mod Turns
 pub mod Taken
 pub mod Again
-pub mod Laws
+pub mod Stays
+pub mod Exact

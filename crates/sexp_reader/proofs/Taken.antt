@@ -20,7 +20,7 @@ use Rattle.sexp_reader.specs.Letters.{class_of, is_plain, is_blank, ends_token, 
 use Rattle.sexp_reader.specs.Read.{Fault, past_gap, after_gap, token_len, word_at, text_from, escape_from, Level, opened, marked, State, start, marked_list, put, open_list, open_mark, close_list, finish, take_mark, take_text, take_token, with_rest, piece, pieces, scan, read, most_levels}
 use Rattle.sexp_reader.specs.Spells.{NoNewline, AtLineEnd, AllPlain, IsToken, AtTokenEnd, Gap, no_gap, blank, comment, Letters, end_of_text, letter, escape, Encloses, parentheses, brackets, Marks, quote, quasiquote, unquote, unquote_splicing, Datum, a_number, a_truth, a_symbol, a_text, a_list, a_mark, Data, no_data, a_datum, Spells}
 use Rattle.sexp_reader.proofs.Utf8.{same_rest, err_ok, bind_ok, choose_ok, other_word}
-use Rattle.sexp_reader.proofs.ByteClasses.{class_blank, class_comment, class_opening, class_closing, class_mark, class_text, opening_byte, closing_byte, mark_byte, plain_is}
+use Rattle.sexp_reader.proofs.ByteClasses.{class_blank, class_comment, class_opening, class_closing, class_mark, class_text, opening_byte, closing_byte, plain_is}
 use Rattle.sexp_reader.proofs.Truths.{truth_spelled}
 
 pub same_ok : {A : Type 0} (x y : A) (r : Result A Fault) → r ≡ Ok x → r ≡ Ok y → x ≡ y

@@ -1,5 +1,5 @@
 -- One piece after the other.
-use Rattle.std.proofs.Common.{◌≡◌, ℕ, zero, suc, ◌-◌, ◌<◌, ◌≤◌, Bool, true, false, cond, ⊎_elim, List, [], ◌∷◌, length, refl, sym, ap, ◌∙◌, arith}
+use Rattle.std.proofs.Common.{◌≡◌, ℕ, zero, suc, ◌-◌, ◌<◌, ◌≤◌, Bool, false, ⊎_elim, List, [], ◌∷◌, length, refl, sym, ap, ◌∙◌, arith}
 use Rattle.std.specs.Prelude.{Result, Ok, Err, IsUtf8, nat_lt, ◌==◌}
 use Rattle.std.specs.Str.{is_utf8}
 use Rattle.std.specs.Str.Lossy.{utf8_valid_len}
@@ -51,7 +51,7 @@ pub fails_piece : (e : ReadFault) (n total : ℕ) (state : State) (bytes : List 
 fails_piece Memory n total state bytes all l z same h = tt
 fails_piece (At error) n total state bytes all l z same h = sym same ∙ bad_piece n total state bytes (error.place, error.kind) l z h
 
-short_test : (n : ℕ) → n ≤ 65536 → nat_lt 65536 n ≡ false
+pub short_test : (n : ℕ) → n ≤ 65536 → nat_lt 65536 n ≡ false
 short_test n h = grind (arith, nat_tests)
 
 pub read_utf8 : (bytes : List ℕ) → length bytes ≤ 65536 → IsUtf8 bytes → read bytes ≡ scan bytes

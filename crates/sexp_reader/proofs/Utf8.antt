@@ -5,7 +5,7 @@ use Rattle.std.proofs.lemmas.List.{length-append}
 use Rattle.std.proofs.lemmas.Bool.Decides.{nat_tests}
 use Rattle.std.proofs.lemmas.Str.{IsUtf8-take, IsUtf8-drop, IsUtf8-nil, IsUtf8-append, IsCharBoundary-before_ascii, IsCharBoundary-after_ascii}
 use Rattle.std.proofs.Math.Seq.{take-append_seam, drop-append-add, get_or-append_seam}
-use Rattle.script_value.specs.Numbers.{is_number, number_of, is_in_range}
+use Rattle.script_value.specs.Numbers.{is_number}
 use Rattle.sexp_reader.specs.declared.classes.Class.{Class}
 use Rattle.sexp_reader.specs.declared.classes.Class.TheVariants.{Blank, Comment, Opening, Closing, Marking, DoubleQuote, Plain}
 use Rattle.sexp_reader.specs.declared.classes.Mark.{Mark}
@@ -15,7 +15,7 @@ use Rattle.sexp_reader.specs.declared.fault.ReadKind.TheVariants.{Token}
 use Rattle.sexp_reader.specs.Letters.{class_of, is_plain, whole_mark, escaped, truth_of, is_symbol}
 use Rattle.sexp_reader.specs.Read.{Fault, State, ◌>>=◌, text_from, escape_from, past_gap, word_at, token_len, with_rest, take_mark, take_text, take_token, put, open_list, open_mark, close_list}
 use Rattle.sexp_reader.specs.Views.{piece_at}
-use Rattle.script_value.specs.Val.{Val, number, truth, symbol, text}
+use Rattle.script_value.specs.Val.{Val, truth, symbol, text}
 use Rattle.std.proofs.Math.Seq.{take-length}
 use Rattle.std.proofs.lemmas.List.{take-append-drop}
 use Rattle.sexp_reader.proofs.Ascii.{AllAscii, ascii_utf8, number_ascii, truth_ascii, symbol_ascii}

@@ -3,11 +3,13 @@
 
 mod classes;
 mod fault;
+mod laws;
 mod reader;
 mod scan;
 mod words;
 
 pub use fault::{ReadError, ReadFault, ReadKind};
+pub use laws::faults_stay;
 pub use reader::read_all;
 
 #[cfg(test)]
