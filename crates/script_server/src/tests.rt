@@ -197,7 +197,7 @@ fn other_inputs_are_no_setup(rt: HostRuntime) -> Result<(), Fail> {
         "script  3\n'pa\nsteps\n",
         "script sum 1\n(\nsteps\n",
         "script sum 2\n[]\nsteps\n",
-        "script sum 2\n#t\nsteps\n",
+        "script sum 2\n#u\nsteps\n",
         "script sum 3\n1 2\nsteps\n",
         "script sum 1\nx\nsteps\n",
         "script sum 6\n(list)x\nsteps\n",
