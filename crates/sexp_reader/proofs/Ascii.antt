@@ -1,12 +1,15 @@
 -- Tokens that are numbers or symbols are ASCII.
 use Rattle.std.proofs.Common.{◌≡◌, ℕ, zero, suc, ◌<◌, Bool, true, false, List, [], ◌∷◌, length, get_or, refl, arith, ⊎_elim}
-use Rattle.std.specs.Prelude.{◌&&◌, IsUtf8, nat_lt}
+use Rattle.std.specs.Prelude.{◌&&◌, IsUtf8, Some, nat_lt}
 use Rattle.std.specs.List.{list_all}
 use Rattle.std.specs.Char.{is_ascii_digit}
 use Rattle.std.specs.Str.Parse.{without_leading_sign}
 use Rattle.std.proofs.lemmas.Str.{IsUtf8-from_ascii}
 use Rattle.std.proofs.lemmas.Bool.Decides.{nat_tests, eqb_tells}
-use Rattle.sexp_reader.specs.Letters.{is_number, is_symbol, is_symbol_byte}
+use Rattle.script_value.specs.Numbers.{is_number}
+use Rattle.sexp_reader.specs.Letters.{truth_of, is_symbol, is_symbol_byte}
+use Rattle.sexp_reader.specs.Spells.{Truth, short_true, long_true, short_false, long_false}
+use Rattle.sexp_reader.proofs.Truths.{truth_spelled}
 
 pub both : (a b : Bool) → (a && b) ≡ true → (a ≡ true) × (b ≡ true)
 both true true h = (refl, refl)
@@ -58,5 +61,11 @@ symbol_ascii [] h = tt
 symbol_ascii (b ∷ bs) h =
     all_ascii is_symbol_byte symbol_byte_ascii (b ∷ bs) (both _ _ (both _ _ (both _ _ h).0).0).0
 
-pub symbol_utf8 : (token : List ℕ) → is_symbol token ≡ true → IsUtf8 token
-symbol_utf8 token h = ascii_utf8 token (symbol_ascii token h)
+truth_bytes : {token : List ℕ} {b : Bool} → Truth token b → AllAscii token
+truth_bytes short_true = (omega arith, (omega arith, tt))
+truth_bytes long_true = (omega arith, (omega arith, (omega arith, (omega arith, (omega arith, tt)))))
+truth_bytes short_false = (omega arith, (omega arith, tt))
+truth_bytes long_false = (omega arith, (omega arith, (omega arith, (omega arith, (omega arith, (omega arith, tt))))))
+
+pub truth_ascii : (token : List ℕ) (b : Bool) → truth_of token ≡ Some b → AllAscii token
+truth_ascii token b h = truth_bytes (truth_spelled token b h)

@@ -1,20 +1,27 @@
 -- What is read is spelled so.
-use Rattle.std.proofs.Common.{◌≡◌, ◌≢◌, ℕ, zero, suc, ◌+◌, ◌-◌, ◌≤◌, Bool, true, false, ⊎_elim, List, [], ◌∷◌, ◌++◌, length, take, drop, refl, sym, ap, ◌∙◌, subst, arith, append_assoc}
-use Rattle.std.specs.Prelude.{not, nat_lt, ◌==◌, Option, None, Some, Result, Ok, Err}
+use Rattle.std.proofs.Common.{◌≡◌, ◌≢◌, ℕ, zero, suc, ◌+◌, ◌-◌, ◌≤◌, Bool, true, false, cond, ⊎_elim, List, [], ◌∷◌, ◌++◌, length, take, drop, refl, sym, ap, ◌∙◌, subst, arith, append_assoc}
+use Rattle.std.specs.Prelude.{not, nat_lt, ◌==◌, Option, None, Some, Result, Ok, Err, codes}
 use Rattle.std.proofs.lemmas.Bool.{eqb-true, eqb-false}
 use Rattle.std.proofs.lemmas.Bool.Decides.{nat_tests}
 use Rattle.std.proofs.lemmas.List.{append-nil, take-append-drop}
 use Rattle.std.specs.Str.{is_utf8}
 use Rattle.std.proofs.lemmas.Str.{IsUtf8-from_is_utf8}
 use Rattle.std.specs.Str.Lossy.{utf8_valid_len}
-use Rattle.script_value.specs.Val.{Val, number, text, symbol, list, vals_of}
-use Rattle.sexp_reader.specs.declared.fault.ReadKind.TheVariants.{Long, Utf8, Token, Range, Deep}
-use Rattle.sexp_reader.specs.declared.scan.Class.{Class}
-use Rattle.sexp_reader.specs.declared.scan.Class.TheVariants.{Blank, Comment, Opening, Closing, Mark, Quote, Plain}
-use Rattle.sexp_reader.specs.Letters.{class_of, is_plain, escaped, is_number, number_of, is_in_range, is_symbol}
-use Rattle.sexp_reader.specs.Read.{Fault, past_gap, after_gap, token_len, word_at, text_from, escape_from, Level, opened, marked, State, start, quoted, put, open_list, open_mark, close_list, finish, take_text, take_token, with_rest, piece, pieces, scan, read, most_levels}
-use Rattle.sexp_reader.specs.Spells.{NoNewline, AtLineEnd, AllPlain, IsToken, AtTokenEnd, Gap, no_gap, blank, comment, Letters, end_of_text, letter, escape, Datum, a_number, a_symbol, a_text, a_list, a_mark, Data, no_data, a_datum, Spells}
-use Rattle.sexp_reader.proofs.Utf8.{same_rest, err_ok, bind_ok, choose_ok}
+use Rattle.script_value.specs.Val.{Val, number, truth, text, symbol, list, vals_of}
+use Rattle.script_value.specs.Numbers.{is_number, number_of, is_in_range}
+use Rattle.sexp_reader.specs.declared.fault.ReadKind.TheVariants.{Long, Utf8, Token, Mismatch, Range, Deep}
+use Rattle.sexp_reader.specs.declared.classes.Class.{Class}
+use Rattle.sexp_reader.specs.declared.classes.Class.TheVariants.{Blank, Comment, Opening, Closing, Marking, DoubleQuote, Plain}
+use Rattle.sexp_reader.specs.declared.classes.Delimiter.{Delimiter}
+use Rattle.sexp_reader.specs.declared.classes.Delimiter.TheVariants.{Parenthesis, Bracket}
+use Rattle.sexp_reader.specs.declared.classes.Mark.{Mark}
+use Rattle.sexp_reader.specs.declared.classes.Mark.TheVariants.{Quote, Quasiquote, Unquote, UnquoteSplicing}
+use Rattle.sexp_reader.specs.Letters.{class_of, is_plain, is_blank, ends_token, same_delimiter, whole_mark, name_of, escaped, truth_of, is_symbol}
+use Rattle.sexp_reader.specs.Read.{Fault, past_gap, after_gap, token_len, word_at, text_from, escape_from, Level, opened, marked, State, start, marked_list, put, open_list, open_mark, close_list, finish, take_mark, take_text, take_token, with_rest, piece, pieces, scan, read, most_levels}
+use Rattle.sexp_reader.specs.Spells.{NoNewline, AtLineEnd, AllPlain, IsToken, AtTokenEnd, Gap, no_gap, blank, comment, Letters, end_of_text, letter, escape, Encloses, parentheses, brackets, Marks, quote, quasiquote, unquote, unquote_splicing, Datum, a_number, a_truth, a_symbol, a_text, a_list, a_mark, Data, no_data, a_datum, Spells}
+use Rattle.sexp_reader.proofs.Utf8.{same_rest, err_ok, bind_ok, choose_ok, other_word}
+use Rattle.sexp_reader.proofs.ByteClasses.{class_blank, class_comment, class_opening, class_closing, class_mark, class_text, opening_byte, closing_byte, plain_is}
+use Rattle.sexp_reader.proofs.Truths.{truth_spelled}
 
 pub same_ok : {A : Type 0} (x y : A) (r : Result A Fault) → r ≡ Ok x → r ≡ Ok y → x ≡ y
 same_ok x y r h k = cc
@@ -27,7 +34,7 @@ short_enough n h = grind (arith, nat_tests)
 pub gap_gap : {a b c : List ℕ} → Gap a b → Gap b c → Gap a c
 gap_gap (no_gap r) h = h
 gap_gap (blank b bytes rest e g) h = blank b bytes _ e (gap_gap g h)
-gap_gap (comment b line bytes rest e n l g) h = comment b line bytes _ e n l (gap_gap g h)
+gap_gap (comment line bytes rest n l g) h = comment line bytes _ n l (gap_gap g h)
 
 pub gap_data : {n : ℕ} {a b c : List ℕ} {vs : List Val} → Gap a b → Data n b vs c → Data n a vs c
 gap_data g (no_data n bytes rest h) = no_data n _ rest (gap_gap g h)
@@ -44,8 +51,8 @@ pub record Line (bytes after : List ℕ) : Type 0 where
 
 comment_gap : (b : ℕ) (bs after : List ℕ) → class_of b ≡ Comment → Line bs after → Gap (b ∷ bs) after
 comment_gap b bs after e l =
-    let P : List ℕ → Type 0 = λ t. Gap (b ∷ t) after in
-    subst P l.parts (comment b l.line l.rest after e l.clean l.ends l.gap)
+    let P : List ℕ → Type 0 = λ t. Gap (59 ∷ t) after in
+    rw (class_comment b e) (subst P l.parts (comment l.line l.rest after l.clean l.ends l.gap))
 
 mutual
   pub gap_of : (bytes : List ℕ) → Gap bytes (past_gap false bytes)
@@ -53,7 +60,7 @@ mutual
   gap_of (b ∷ bs) =
       let past : Class → List ℕ = λ v. elim v [ Blank ↦ past_gap false bs | Comment ↦ past_gap true bs | _ ↦ b ∷ bs ] in
       elim (class_of b) as (λ v. class_of b ≡ v → Gap (b ∷ bs) (past v)) [
-        | Blank ↦ λ e. blank b bs _ e (gap_of bs)
+        | Blank ↦ λ e. blank b bs _ (class_blank b e) (gap_of bs)
         | Comment ↦ λ e. comment_gap b bs (past_gap true bs) e (line_of bs)
         | _ ↦ λ e. no_gap (b ∷ bs)
       ] refl
@@ -63,7 +70,7 @@ mutual
   line_of (b ∷ bs) =
       elim (b == 10) as (λ v. (b == 10) ≡ v → Line (b ∷ bs) (past_gap (not v) bs)) [
         | true ↦ λ e. let q : b ≡ 10 = eqb-true b 10 e in
-            record { line = []; rest = b ∷ bs; parts = refl; clean = tt; ends = q; gap = blank b bs _ (ap class_of q) (gap_of bs) }
+            record { line = []; rest = b ∷ bs; parts = refl; clean = tt; ends = q; gap = blank b bs _ (ap is_blank q) (gap_of bs) }
         | false ↦ λ e. let more = line_of bs in
             record { line = b ∷ more.line; rest = more.rest; parts = ap (λ r. b ∷ r) more.parts; clean = (eqb-false b 10 e, more.clean); ends = more.ends; gap = more.gap }
       ] refl
@@ -115,11 +122,25 @@ mutual
 
 -- tokens
 
+not_true : (b : Bool) → not b ≡ true → b ≡ false
+not_true true h = cc
+not_true false h = refl
+
+not_false : (b : Bool) → not b ≡ false → b ≡ true
+not_false true h = refl
+not_false false h = cc
+
+plain_stays : (b : ℕ) → is_plain (class_of b) ≡ true → ends_token b ≡ false
+plain_stays b h = not_true (ends_token b) (sym (plain_is b) ∙ h)
+
+other_ends : (b : ℕ) → is_plain (class_of b) ≡ false → ends_token b ≡ true
+other_ends b h = not_false (ends_token b) (sym (plain_is b) ∙ h)
+
 pub token_plain : (bytes : List ℕ) → AllPlain (take (token_len bytes) bytes)
 token_plain [] = tt
 token_plain (b ∷ bs) =
     elim (is_plain (class_of b)) as (λ v. is_plain (class_of b) ≡ v → AllPlain (take (elim v [ true ↦ suc (token_len bs) | false ↦ 0 ]) (b ∷ bs))) [
-      | true ↦ λ e. (e, token_plain bs)
+      | true ↦ λ e. (plain_stays b e, token_plain bs)
       | false ↦ λ e. tt
     ] refl
 
@@ -128,28 +149,38 @@ token_ends [] = tt
 token_ends (b ∷ bs) =
     elim (is_plain (class_of b)) as (λ v. is_plain (class_of b) ≡ v → AtTokenEnd (drop (elim v [ true ↦ suc (token_len bs) | false ↦ 0 ]) (b ∷ bs))) [
       | true ↦ λ e. token_ends bs
-      | false ↦ λ e. e
+      | false ↦ λ e. other_ends b e
     ] refl
 
 token_here : (b : ℕ) (bs : List ℕ) → is_plain (class_of b) ≡ true → IsToken (take (token_len (b ∷ bs)) (b ∷ bs))
 token_here b bs h =
     let P : Bool → Type 0 = λ v. IsToken (take (elim v [ true ↦ suc (token_len bs) | false ↦ 0 ]) (b ∷ bs)) in
-    subst P (sym h) (h, token_plain bs)
+    subst P (sym h) (plain_stays b h, token_plain bs)
+
+-- a token that is no number
+name_read : (place n : ℕ) (token rest : List ℕ) (v : Val) (t : Option Bool) → truth_of token ≡ t → is_number token ≡ false
+    → other_word place token t ≡ Ok v → IsToken token → AtTokenEnd rest → Datum n (token ++ rest) v rest
+name_read place n token rest v (Some b) f a h t e =
+    let P : Val → Type 0 = λ w. Datum n (token ++ rest) w rest in
+    subst P (same_ok (truth b) v (Ok (truth b)) refl h) (a_truth n token b rest (truth_spelled token b f) e)
+name_read place n token rest v None f a h t e =
+    let P : Val → Type 0 = λ w. Datum n (token ++ rest) w rest in
+    let bad : Fault = (place, Token) in
+    ⊎_elim
+    (λ b. let k = same_ok (symbol token) v (Ok (symbol token)) refl b.1 in subst P k (a_symbol n token rest t e a b.0))
+    (λ b. absurd (err_ok bad v (Err bad) refl b.1))
+    (choose_ok (is_symbol token) (Ok (symbol token)) (Err bad) v h)
 
 word_read : (place n : ℕ) (token rest : List ℕ) (v : Val) → word_at place token ≡ Ok v → IsToken token → AtTokenEnd rest → Datum n (token ++ rest) v rest
 word_read place n token rest v h t e =
     let P : Val → Type 0 = λ w. Datum n (token ++ rest) w rest in
     let range : Fault = (place, Range) in
-    let bad : Fault = (place, Token) in
     ⊎_elim
     (λ a. ⊎_elim
     (λ b. let k = same_ok (number (number_of token)) v (Ok (number (number_of token))) refl b.1 in subst P k (a_number n token rest t e a.0 b.0))
     (λ b. absurd (err_ok range v (Err range) refl b.1))
     (choose_ok (is_in_range (number_of token)) (Ok (number (number_of token))) (Err range) v a.1))
-    (λ a. ⊎_elim
-    (λ b. let k = same_ok (symbol token) v (Ok (symbol token)) refl b.1 in subst P k (a_symbol n token rest t e a.0 b.0))
-    (λ b. absurd (err_ok bad v (Err bad) refl b.1))
-    (choose_ok (is_symbol token) (Ok (symbol token)) (Err bad) v a.1))
+    (λ a. name_read place n token rest v (truth_of token) refl a.0 a.1 t e)
     (choose_ok (is_number token) _ _ v h)
 
 -- what is still to come
@@ -158,34 +189,34 @@ word_read place n token rest v h t e =
 -- So many levels more may be opened.
 abbrev pub Takes : ℕ → Val → List Val → List Level → List ℕ → List Val → Type 0
 Takes n v items [] bytes all = (more : List Val) × Data n bytes more [] × (all ≡ (items ++ v ∷ []) ++ more)
-Takes n v items (opened at before ∷ levels) bytes all =
-    (more : List Val) × (c : ℕ) × (after : List ℕ) × (class_of c ≡ Closing) × Data n bytes more (c ∷ after)
+Takes n v items (opened d at before ∷ levels) bytes all =
+    (more : List Val) × (after : List ℕ) × Data n bytes more (closing_byte d ∷ after)
     × Takes (suc n) (list (vals_of ((items ++ v ∷ []) ++ more))) before levels after all
-Takes n v items (marked at ∷ levels) bytes all = Takes (suc n) (quoted v) items levels bytes all
+Takes n v items (marked m at ∷ levels) bytes all = Takes (suc n) (marked_list m v) items levels bytes all
 
 -- the same where nothing is given to the innermost level
 abbrev pub Completes : ℕ → List Val → List Level → List ℕ → List Val → Type 0
 Completes n items [] bytes all = (more : List Val) × Data n bytes more [] × (all ≡ items ++ more)
-Completes n items (opened at before ∷ levels) bytes all =
-    (more : List Val) × (c : ℕ) × (after : List ℕ) × (class_of c ≡ Closing) × Data n bytes more (c ∷ after)
+Completes n items (opened d at before ∷ levels) bytes all =
+    (more : List Val) × (after : List ℕ) × Data n bytes more (closing_byte d ∷ after)
     × Takes (suc n) (list (vals_of (items ++ more))) before levels after all
-Completes n items (marked at ∷ levels) bytes all =
-    (middle : List ℕ) × (v : Val) × (after : List ℕ) × Gap bytes middle × Datum n middle v after × Takes (suc n) (quoted v) items levels after all
+Completes n items (marked m at ∷ levels) bytes all =
+    (middle : List ℕ) × (v : Val) × (after : List ℕ) × Gap bytes middle × Datum n middle v after × Takes (suc n) (marked_list m v) items levels after all
 
 gap_completes : (n : ℕ) (items : List Val) (levels : List Level) (bytes middle : List ℕ) (all : List Val) → Gap bytes middle
     → Completes n items levels middle all → Completes n items levels bytes all
 gap_completes n items [] bytes middle all g c = (c.0, gap_data g c.1, c.2)
-gap_completes n items (opened at before ∷ levels) bytes middle all g c = (c.0, c.1, c.2, c.3, gap_data g c.4, c.5)
-gap_completes n items (marked at ∷ levels) bytes middle all g c = (c.0, c.1, c.2, gap_gap g c.3, c.4, c.5)
+gap_completes n items (opened d at before ∷ levels) bytes middle all g c = (c.0, c.1, gap_data g c.2, c.3)
+gap_completes n items (marked m at ∷ levels) bytes middle all g c = (c.0, c.1, c.2, gap_gap g c.3, c.4, c.5)
 
 datum_completes : (n : ℕ) (v : Val) (items : List Val) (levels : List Level) (bytes after : List ℕ) (all : List Val) → Datum n bytes v after
     → Takes n v items levels after all → Completes n items levels bytes all
 datum_completes n v items [] bytes after all d t =
     (v ∷ t.0, a_datum n bytes bytes v after t.0 [] (no_gap bytes) d t.1, t.2 ∙ append_assoc items (v ∷ []) t.0)
-datum_completes n v items (opened at before ∷ levels) bytes after all d t =
-    let P : List Val → Type 0 = λ vs. Takes (suc n) (list (vals_of vs)) before levels t.2 all in
-    (v ∷ t.0, t.1, t.2, t.3, a_datum n bytes bytes v after t.0 (t.1 ∷ t.2) (no_gap bytes) d t.4, subst P (append_assoc items (v ∷ []) t.0) t.5)
-datum_completes n v items (marked at ∷ levels) bytes after all d t = (bytes, v, after, no_gap bytes, d, t)
+datum_completes n v items (opened x at before ∷ levels) bytes after all d t =
+    let P : List Val → Type 0 = λ vs. Takes (suc n) (list (vals_of vs)) before levels t.1 all in
+    (v ∷ t.0, t.1, a_datum n bytes bytes v after t.0 (closing_byte x ∷ t.1) (no_gap bytes) d t.2, subst P (append_assoc items (v ∷ []) t.0) t.3)
+datum_completes n v items (marked m at ∷ levels) bytes after all d t = (bytes, v, after, no_gap bytes, d, t)
 
 -- how many levels more may be opened behind a piece, and what comes before it
 pub record Goes (n : ℕ) (state next : State) (bytes rest : List ℕ) (all : List Val) : Type 0 where
@@ -201,9 +232,9 @@ pub record Put (n : ℕ) (v : Val) (items : List Val) (levels : List Level) (res
 put_goes : (n : ℕ) (v : Val) (items : List Val) (levels : List Level) (rest : List ℕ) (all : List Val) → n + length levels ≡ 128
     → Put n v items levels rest all
 put_goes n v items [] rest all h = record { left = n; count = h; back = λ c. c }
-put_goes n v items (opened at before ∷ levels) rest all h = record { left = n; count = h; back = λ c. c }
-put_goes n v items (marked at ∷ levels) rest all h =
-    let more = put_goes (suc n) (quoted v) items levels rest all (omega arith) in
+put_goes n v items (opened d at before ∷ levels) rest all h = record { left = n; count = h; back = λ c. c }
+put_goes n v items (marked m at ∷ levels) rest all h =
+    let more = put_goes (suc n) (marked_list m v) items levels rest all (omega arith) in
     record { left = more.left; count = more.count; back = more.back }
 
 -- a datum that is read and given to the innermost level
@@ -224,31 +255,66 @@ opens : (n : ℕ) (state : State) → n + length state.levels ≡ 128 → nat_lt
 opens zero state h l = absurd (grind (arith, nat_tests))
 opens (suc m) state h l = (m, refl)
 
-list_goes : (m place b : ℕ) (bs : List ℕ) (items : List Val) (levels : List Level) (all : List Val) → suc m + length levels ≡ 128 → class_of b ≡ Opening
-    → Goes (suc m) (record { items = items; levels = levels }) (record { items = []; levels = opened place items ∷ levels }) (b ∷ bs) bs all
-list_goes m place b bs items levels all h e = record {
+encloses : (d : Delimiter) → Encloses (opening_byte d) (closing_byte d)
+encloses Parenthesis = parentheses
+encloses Bracket = brackets
+
+list_goes : (m place b : ℕ) (d : Delimiter) (bs : List ℕ) (items : List Val) (levels : List Level) (all : List Val) → suc m + length levels ≡ 128
+    → class_of b ≡ Opening d
+    → Goes (suc m) (record { items = items; levels = levels }) (record { items = []; levels = opened d place items ∷ levels }) (b ∷ bs) bs all
+list_goes m place b d bs items levels all h e = record {
   left = m;
   count = omega arith;
-  back = λ c. datum_completes (suc m) (list (vals_of c.0)) items levels (b ∷ bs) c.2 all (a_list m b c.1 bs c.0 c.2 e c.3 c.4) c.5;
+  back = λ c. let P : ℕ → Type 0 = λ x. Datum (suc m) (x ∷ bs) (list (vals_of c.0)) c.1 in
+      datum_completes (suc m) (list (vals_of c.0)) items levels (b ∷ bs) c.1 all
+      (subst P (sym (class_opening b d e)) (a_list m (opening_byte d) (closing_byte d) bs c.0 c.1 (encloses d) c.2)) c.3;
 }
 
-mark_goes : (m place b : ℕ) (bs : List ℕ) (items : List Val) (levels : List Level) (all : List Val) → suc m + length levels ≡ 128 → class_of b ≡ Mark
-    → Goes (suc m) (record { items = items; levels = levels }) (record { items = items; levels = marked place ∷ levels }) (b ∷ bs) bs all
-mark_goes m place b bs items levels all h e = record {
+-- a mark, of which the first byte and what stands behind that are given
+record Mark_spelled (b : ℕ) (bs : List ℕ) (p : Mark × List ℕ) : Type 0 where
+  spelling : List ℕ
+  means : Marks spelling (name_of p.0)
+  parts : spelling ++ p.1 ≡ b ∷ bs
+
+comma_spelled : (b : ℕ) (bs : List ℕ) → b ≡ 44 → Mark_spelled b bs (whole_mark Unquote bs)
+comma_spelled b [] q = record { spelling = codes ","; means = unquote; parts = ap (λ x. x ∷ []) (sym q) }
+comma_spelled b (c ∷ cs) q =
+    let split : Mark × List ℕ = (UnquoteSplicing, cs) in
+    let alone : Mark × List ℕ = (Unquote, c ∷ cs) in
+    elim (c == 64) as (λ v. (c == 64) ≡ v → Mark_spelled b (c ∷ cs) (cond v split alone)) [
+      | true ↦ λ e. record { spelling = codes ",@"; means = unquote_splicing; parts = rw (q, eqb-true c 64 e) refl }
+      | false ↦ λ e. record { spelling = codes ","; means = unquote; parts = ap (λ x. x ∷ c ∷ cs) (sym q) }
+    ] refl
+
+mark_spelled : (b : ℕ) (bs : List ℕ) (m : Mark) → class_of b ≡ Marking m → Mark_spelled b bs (whole_mark m bs)
+mark_spelled b bs Quote e = record { spelling = codes "'"; means = quote; parts = ap (λ x. x ∷ bs) (sym (class_mark b Quote e)) }
+mark_spelled b bs Quasiquote e = record { spelling = codes "`"; means = quasiquote; parts = ap (λ x. x ∷ bs) (sym (class_mark b Quasiquote e)) }
+mark_spelled b bs Unquote e = comma_spelled b bs (class_mark b Unquote e)
+mark_spelled b bs UnquoteSplicing e =
+    let f : class_of 44 ≡ Marking UnquoteSplicing = ap class_of (sym (class_mark b UnquoteSplicing e)) ∙ e in absurd (cc)
+
+mark_goes : (m place b : ℕ) (mark : Mark) (bs rest : List ℕ) (items : List Val) (levels : List Level) (all : List Val) → suc m + length levels ≡ 128
+    → Mark_spelled b bs (mark, rest)
+    → Goes (suc m) (record { items = items; levels = levels }) (record { items = items; levels = marked mark place ∷ levels }) (b ∷ bs) rest all
+mark_goes m place b mark bs rest items levels all h s = record {
   left = m;
   count = omega arith;
-  back = λ c. datum_completes (suc m) (quoted c.1) items levels (b ∷ bs) c.2 all (a_mark m b bs c.0 c.1 c.2 e c.3 c.4) c.5;
+  back = λ c. let P : List ℕ → Type 0 = λ t. Datum (suc m) t (marked_list mark c.1) c.2 in
+      datum_completes (suc m) (marked_list mark c.1) items levels (b ∷ bs) c.2 all
+      (subst P s.parts (a_mark m s.spelling (name_of mark) rest c.0 c.1 c.2 s.means c.3 c.4)) c.5;
 }
 
-close_goes : (n at b : ℕ) (bs : List ℕ) (items before : List Val) (levels : List Level) (all : List Val) → n + length (opened at before ∷ levels) ≡ 128 → class_of b ≡ Closing
-    → Goes n (record { items = items; levels = opened at before ∷ levels }) (put (list (vals_of items)) before levels) (b ∷ bs) bs all
-close_goes n at b bs items before levels all h e =
+close_goes : (n at b : ℕ) (d : Delimiter) (bs : List ℕ) (items before : List Val) (levels : List Level) (all : List Val)
+    → n + length (opened d at before ∷ levels) ≡ 128 → class_of b ≡ Closing d
+    → Goes n (record { items = items; levels = opened d at before ∷ levels }) (put (list (vals_of items)) before levels) (b ∷ bs) bs all
+close_goes n at b d bs items before levels all h e =
     let more = put_goes (suc n) (list (vals_of items)) before levels bs all (omega arith) in
     let P : List Val → Type 0 = λ vs. Takes (suc n) (list (vals_of vs)) before levels bs all in
+    let Q : ℕ → Type 0 = λ x. Data n (b ∷ bs) [] (x ∷ bs) in
     record {
       left = more.left;
       count = more.count;
-      back = λ c. ([], b, bs, e, no_data n (b ∷ bs) (b ∷ bs) (no_gap (b ∷ bs)), subst P (sym (append-nil items)) (more.back c));
+      back = λ c. ([], bs, subst Q (class_closing b d e) (no_data n (b ∷ bs) (b ∷ bs) (no_gap (b ∷ bs))), subst P (sym (append-nil items)) (more.back c));
     }
 
 rest_goes : (n : ℕ) (state : State) (bytes bs : List ℕ) (all : List Val) (r : Result State Fault) (p : State × List ℕ) → with_rest bs r ≡ Ok p
@@ -264,41 +330,53 @@ next_goes n state bytes bs all here next r h k g =
     let P : State → Type 0 = λ x. Goes n state x bytes bs all in
     subst P (same_ok here next r h k) g
 
-open_list_goes : (n place b : ℕ) (bs : List ℕ) (state next : State) (all : List Val) → n + length state.levels ≡ 128 → class_of b ≡ Opening
-    → open_list place state ≡ Ok next → Goes n state next (b ∷ bs) bs all
-open_list_goes n place b bs state next all h e k =
-    let here : State = record { items = []; levels = opened place state.items ∷ state.levels } in
+open_list_goes : (n place b : ℕ) (d : Delimiter) (bs : List ℕ) (state next : State) (all : List Val) → n + length state.levels ≡ 128
+    → class_of b ≡ Opening d → open_list d place state ≡ Ok next → Goes n state next (b ∷ bs) bs all
+open_list_goes n place b d bs state next all h e k =
+    let here : State = record { items = []; levels = opened d place state.items ∷ state.levels } in
     let deep : Fault = (place, Deep) in
     ⊎_elim
     (λ a. next_goes n state (b ∷ bs) bs all here next (Ok here) refl a.1 (
     let o = opens n state h a.0 in
     let P : ℕ → Type 0 = λ x. Goes x state here (b ∷ bs) bs all in
-    subst P (sym o.1) (list_goes o.0 place b bs state.items state.levels all (sym (ap (λ x. x + length state.levels) o.1) ∙ h) e)))
+    subst P (sym o.1) (list_goes o.0 place b d bs state.items state.levels all (sym (ap (λ x. x + length state.levels) o.1) ∙ h) e)))
     (λ a. absurd (err_ok deep next (Err deep) refl a.1))
     (choose_ok (nat_lt (length state.levels) most_levels) (Ok here) (Err deep) next k)
 
-open_mark_goes : (n place b : ℕ) (bs : List ℕ) (state next : State) (all : List Val) → n + length state.levels ≡ 128 → class_of b ≡ Mark
-    → open_mark place state ≡ Ok next → Goes n state next (b ∷ bs) bs all
-open_mark_goes n place b bs state next all h e k =
-    let here : State = record { items = state.items; levels = marked place ∷ state.levels } in
+open_mark_goes : (n place b : ℕ) (mark : Mark) (bs rest : List ℕ) (state next : State) (all : List Val) → n + length state.levels ≡ 128
+    → Mark_spelled b bs (mark, rest) → open_mark mark place state ≡ Ok next → Goes n state next (b ∷ bs) rest all
+open_mark_goes n place b mark bs rest state next all h s k =
+    let here : State = record { items = state.items; levels = marked mark place ∷ state.levels } in
     let deep : Fault = (place, Deep) in
     ⊎_elim
-    (λ a. next_goes n state (b ∷ bs) bs all here next (Ok here) refl a.1 (
+    (λ a. next_goes n state (b ∷ bs) rest all here next (Ok here) refl a.1 (
     let o = opens n state h a.0 in
-    let P : ℕ → Type 0 = λ x. Goes x state here (b ∷ bs) bs all in
-    subst P (sym o.1) (mark_goes o.0 place b bs state.items state.levels all (sym (ap (λ x. x + length state.levels) o.1) ∙ h) e)))
+    let P : ℕ → Type 0 = λ x. Goes x state here (b ∷ bs) rest all in
+    subst P (sym o.1) (mark_goes o.0 place b mark bs rest state.items state.levels all (sym (ap (λ x. x + length state.levels) o.1) ∙ h) s)))
     (λ a. absurd (err_ok deep next (Err deep) refl a.1))
     (choose_ok (nat_lt (length state.levels) most_levels) (Ok here) (Err deep) next k)
 
-close_list_goes : (n place b : ℕ) (bs : List ℕ) (items : List Val) (levels : List Level) (next : State) (all : List Val) → n + length levels ≡ 128
-    → class_of b ≡ Closing → close_list place items levels ≡ Ok next → Goes n (record { items = items; levels = levels }) next (b ∷ bs) bs all
-close_list_goes n place b bs items [] next all h e k = absurd (cc)
-close_list_goes n place b bs items (opened at before ∷ levels) next all h e k =
-    next_goes n _ (b ∷ bs) bs all (put (list (vals_of items)) before levels) next (Ok (put (list (vals_of items)) before levels)) refl k
-    (close_goes n at b bs items before levels all h e)
-close_list_goes n place b bs items (marked at ∷ levels) next all h e k = absurd (cc)
+same_kind : (d e : Delimiter) → same_delimiter d e ≡ true → d ≡ e
+same_kind Parenthesis Parenthesis h = refl
+same_kind Parenthesis Bracket h = absurd (cc)
+same_kind Bracket Parenthesis h = absurd (cc)
+same_kind Bracket Bracket h = refl
 
-text_goes : (n place b : ℕ) (bs : List ℕ) (state : State) (p : State × List ℕ) (all : List Val) → n + length state.levels ≡ 128 → class_of b ≡ Quote
+close_list_goes : (n place b : ℕ) (d : Delimiter) (bs : List ℕ) (items : List Val) (levels : List Level) (next : State) (all : List Val)
+    → n + length levels ≡ 128 → class_of b ≡ Closing d → close_list d place items levels ≡ Ok next
+    → Goes n (record { items = items; levels = levels }) next (b ∷ bs) bs all
+close_list_goes n place b d bs items [] next all h e k = absurd (cc)
+close_list_goes n place b d bs items (opened x at before ∷ levels) next all h e k =
+    let here : State = put (list (vals_of items)) before levels in
+    let other : Fault = (place, Mismatch) in
+    ⊎_elim
+    (λ a. next_goes n _ (b ∷ bs) bs all here next (Ok here) refl a.1
+    (close_goes n at b x bs items before levels all h (e ∙ ap (λ y. Closing y) (same_kind d x a.0))))
+    (λ a. absurd (err_ok other next (Err other) refl a.1))
+    (choose_ok (same_delimiter d x) (Ok here) (Err other) next k)
+close_list_goes n place b d bs items (marked m at ∷ levels) next all h e k = absurd (cc)
+
+text_goes : (n place b : ℕ) (bs : List ℕ) (state : State) (p : State × List ℕ) (all : List Val) → n + length state.levels ≡ 128 → class_of b ≡ DoubleQuote
     → take_text place bs state ≡ Ok p → Goes n state p.0 (b ∷ bs) p.1 all
 text_goes n place b bs state p all h e k =
     let f : List ℕ × List ℕ → Result (State × List ℕ) Fault = λ found. Ok (put (text found.0) state.items state.levels, found.1) in
@@ -306,8 +384,10 @@ text_goes n place b bs state p all h e k =
     let here : State × List ℕ = (put (text o.0.0) state.items state.levels, o.0.1) in
     let t = text_read place [] bs o.0 o.1 in
     let P : List ℕ → Type 0 = λ x. Datum n (b ∷ bs) (text x) o.0.1 in
+    let Q : ℕ → Type 0 = λ x. Datum n (x ∷ bs) (text t.chars) o.0.1 in
     same_goes n state (b ∷ bs) all here p (Ok here) refl o.2
-    (datum_goes n (text o.0.0) state (b ∷ bs) o.0.1 all h (subst P (sym t.found) (a_text n b bs t.chars o.0.1 e t.spelled)))
+    (datum_goes n (text o.0.0) state (b ∷ bs) o.0.1 all h
+    (subst P (sym t.found) (subst Q (sym (class_text b e)) (a_text n bs t.chars o.0.1 t.spelled))))
 
 token_goes : (n place b : ℕ) (bs : List ℕ) (state : State) (p : State × List ℕ) (all : List Val) → n + length state.levels ≡ 128 → class_of b ≡ Plain
     → take_token place (b ∷ bs) state ≡ Ok p → Goes n state p.0 (b ∷ bs) p.1 all
@@ -327,26 +407,29 @@ piece_goes : (n place b : ℕ) (bs : List ℕ) (state : State) (p : State × Lis
 piece_goes n place b bs state p all h k =
     let bad : Fault = (place, Token) in
     let read_at : Class → Result (State × List ℕ) Fault = λ v. elim v [
-      | Opening ↦ with_rest bs (open_list place state)
-      | Closing ↦ with_rest bs (close_list place state.items state.levels)
-      | Mark ↦ with_rest bs (open_mark place state)
-      | Quote ↦ take_text place bs state
+      | Opening d ↦ with_rest bs (open_list d place state)
+      | Closing d ↦ with_rest bs (close_list d place state.items state.levels)
+      | Marking m ↦ take_mark m place bs state
+      | DoubleQuote ↦ take_text place bs state
       | Plain ↦ take_token place (b ∷ bs) state
       | _ ↦ Err bad
     ] in
     elim (class_of b) as (λ v. class_of b ≡ v → read_at v ≡ Ok p → Goes n state p.0 (b ∷ bs) p.1 all) [
-      | Opening ↦ λ e r. rest_goes n state (b ∷ bs) bs all (open_list place state) p r (λ next s. open_list_goes n place b bs state next all h e s)
-      | Closing ↦ λ e r. rest_goes n state (b ∷ bs) bs all (close_list place state.items state.levels) p r (λ next s. close_list_goes n place b bs state.items state.levels next all h e s)
-      | Mark ↦ λ e r. rest_goes n state (b ∷ bs) bs all (open_mark place state) p r (λ next s. open_mark_goes n place b bs state next all h e s)
-      | Quote ↦ λ e r. text_goes n place b bs state p all h e r
+      | Opening d ↦ λ e r. rest_goes n state (b ∷ bs) bs all (open_list d place state) p r
+          (λ next s. open_list_goes n place b d bs state next all h e s)
+      | Closing d ↦ λ e r. rest_goes n state (b ∷ bs) bs all (close_list d place state.items state.levels) p r
+          (λ next s. close_list_goes n place b d bs state.items state.levels next all h e s)
+      | Marking m ↦ λ e r. rest_goes n state (b ∷ bs) (whole_mark m bs).1 all (open_mark (whole_mark m bs).0 place state) p r
+          (λ next s. open_mark_goes n place b (whole_mark m bs).0 bs (whole_mark m bs).1 state next all h (mark_spelled b bs m e) s)
+      | DoubleQuote ↦ λ e r. text_goes n place b bs state p all h e r
       | Plain ↦ λ e r. token_goes n place b bs state p all h e r
       | _ ↦ λ e r. absurd (err_ok bad p (Err bad) refl r)
     ] refl k
 
 finish_completes : (n : ℕ) (items : List Val) (levels : List Level) (all : List Val) → finish items levels ≡ Ok all → Completes n items levels [] all
 finish_completes n items [] all h = ([], no_data n [] [] (no_gap []), sym (same_ok items all (Ok items) refl h) ∙ sym (append-nil items))
-finish_completes n items (opened at before ∷ levels) all h = absurd (cc)
-finish_completes n items (marked at ∷ levels) all h = absurd (cc)
+finish_completes n items (opened d at before ∷ levels) all h = absurd (cc)
+finish_completes n items (marked m at ∷ levels) all h = absurd (cc)
 
 pieces_complete : (k total n : ℕ) (state : State) (bytes : List ℕ) (all : List Val) → n + length state.levels ≡ 128
     → pieces k total state bytes ≡ Ok all → Completes n state.items state.levels bytes all

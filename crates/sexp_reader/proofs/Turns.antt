@@ -1,5 +1,5 @@
 -- One piece after the other.
-use Rattle.std.proofs.Common.{◌≡◌, ℕ, zero, suc, ◌-◌, ◌<◌, ◌≤◌, Bool, true, false, cond, ⊎_elim, List, [], ◌∷◌, length, refl, sym, ap, ◌∙◌, arith}
+use Rattle.std.proofs.Common.{◌≡◌, ℕ, zero, suc, ◌-◌, ◌<◌, ◌≤◌, Bool, false, ⊎_elim, List, [], ◌∷◌, length, refl, sym, ap, ◌∙◌, arith}
 use Rattle.std.specs.Prelude.{Result, Ok, Err, IsUtf8, nat_lt, ◌==◌}
 use Rattle.std.specs.Str.{is_utf8}
 use Rattle.std.specs.Str.Lossy.{utf8_valid_len}
@@ -10,6 +10,7 @@ use Rattle.sexp_reader.specs.declared.fault.ReadKind.TheVariants.{Utf8}
 use Rattle.script_value.specs.Val.{Val}
 use Rattle.sexp_reader.specs.Read.{Fault, State, pieces, after_gap, ◌>>=◌, finish, start, read, scan}
 use Rattle.sexp_reader.specs.Views.{piece_at, Fails}
+use Rattle.sexp_reader.proofs.Utf8.{pick_true, pick_false}
 use Rattle.sexp_reader.specs.declared.fault.ReadFault.{ReadFault}
 use Rattle.sexp_reader.specs.declared.fault.ReadFault.TheVariants.{Memory, At}
 
@@ -50,15 +51,7 @@ pub fails_piece : (e : ReadFault) (n total : ℕ) (state : State) (bytes : List 
 fails_piece Memory n total state bytes all l z same h = tt
 fails_piece (At error) n total state bytes all l z same h = sym same ∙ bad_piece n total state bytes (error.place, error.kind) l z h
 
-pub pick_true : {A : Type 0} (b : Bool) (x y : A) → b ≡ true → cond b x y ≡ x
-pick_true true x y h = refl
-pick_true false x y h = absurd (cc)
-
-pub pick_false : {A : Type 0} (b : Bool) (x y : A) → b ≡ false → cond b x y ≡ y
-pick_false true x y h = absurd (cc)
-pick_false false x y h = refl
-
-short_test : (n : ℕ) → n ≤ 65536 → nat_lt 65536 n ≡ false
+pub short_test : (n : ℕ) → n ≤ 65536 → nat_lt 65536 n ≡ false
 short_test n h = grind (arith, nat_tests)
 
 pub read_utf8 : (bytes : List ℕ) → length bytes ≤ 65536 → IsUtf8 bytes → read bytes ≡ scan bytes

@@ -1,22 +1,24 @@
 -- What is left of a UTF-8 text behind a piece is UTF-8.
-use Rattle.std.proofs.Common.{◌≡◌, ℕ, ◌+◌, ◌<◌, Bool, true, false, cond, inl, inr, ⊎_elim, List, [], ◌∷◌, ◌++◌, length, get_or, take, drop, refl, sym, ap, subst, arith, append_assoc, ◌-◌}
-use Rattle.std.specs.Prelude.{not, IsUtf8, ◌==◌, None, Some, Result, Ok, Err, ◌⊎◌}
+use Rattle.std.proofs.Common.{◌≡◌, ℕ, ◌+◌, ◌<◌, Bool, true, false, cond, inl, inr, ⊎_elim, List, [], ◌∷◌, ◌++◌, length, get_or, take, drop, refl, sym, ap, ◌∙◌, subst, arith, append_assoc, ◌-◌}
+use Rattle.std.specs.Prelude.{not, IsUtf8, ◌==◌, Option, None, Some, Result, Ok, Err, ◌⊎◌}
 use Rattle.std.proofs.lemmas.List.{length-append}
 use Rattle.std.proofs.lemmas.Bool.Decides.{nat_tests}
 use Rattle.std.proofs.lemmas.Str.{IsUtf8-take, IsUtf8-drop, IsUtf8-nil, IsUtf8-append, IsCharBoundary-before_ascii, IsCharBoundary-after_ascii}
 use Rattle.std.proofs.Math.Seq.{take-append_seam, drop-append-add, get_or-append_seam}
-use Rattle.sexp_reader.specs.declared.scan.Class.{Class}
-use Rattle.sexp_reader.specs.declared.scan.Class.TheVariants.{Blank, Comment, Opening, Closing, Mark, Quote, Plain}
+use Rattle.script_value.specs.Numbers.{is_number}
+use Rattle.sexp_reader.specs.declared.classes.Class.{Class}
+use Rattle.sexp_reader.specs.declared.classes.Class.TheVariants.{Blank, Comment, Opening, Closing, Marking, DoubleQuote, Plain}
+use Rattle.sexp_reader.specs.declared.classes.Mark.{Mark}
+use Rattle.sexp_reader.specs.declared.classes.Mark.TheVariants.{Quote, Quasiquote, Unquote, UnquoteSplicing}
 use Rattle.std.proofs.lemmas.Bool.{eqb-true}
 use Rattle.sexp_reader.specs.declared.fault.ReadKind.TheVariants.{Token}
-use Rattle.sexp_reader.specs.Letters.{class_of, is_plain, escaped}
-use Rattle.sexp_reader.specs.Read.{Fault, State, ◌>>=◌, text_from, escape_from, past_gap, word_at, token_len, with_rest, take_text, take_token, put, open_list, open_mark, close_list}
-use Rattle.sexp_reader.specs.Letters.{is_number, is_symbol}
+use Rattle.sexp_reader.specs.Letters.{class_of, is_plain, whole_mark, escaped, truth_of, is_symbol}
+use Rattle.sexp_reader.specs.Read.{Fault, State, ◌>>=◌, text_from, escape_from, past_gap, word_at, token_len, with_rest, take_mark, take_text, take_token, put, open_list, open_mark, close_list}
 use Rattle.sexp_reader.specs.Views.{piece_at}
-use Rattle.script_value.specs.Val.{Val, symbol, text}
+use Rattle.script_value.specs.Val.{Val, truth, symbol, text}
 use Rattle.std.proofs.Math.Seq.{take-length}
 use Rattle.std.proofs.lemmas.List.{take-append-drop}
-use Rattle.sexp_reader.proofs.Ascii.{AllAscii, ascii_utf8, number_ascii, symbol_ascii}
+use Rattle.sexp_reader.proofs.Ascii.{AllAscii, ascii_utf8, number_ascii, truth_ascii, symbol_ascii}
 
 -- a text that is cut at an ASCII byte
 pub front_utf8 : (xs ys : List ℕ) (b : ℕ) → IsUtf8 (xs ++ b ∷ ys) → b < 128 → IsUtf8 xs
@@ -99,6 +101,14 @@ gap_utf8 false front (b ∷ bs) n u =
       | _ ↦ λ e. w
     ] refl
 
+pub pick_true : {A : Type 0} (b : Bool) (x y : A) → b ≡ true → cond b x y ≡ x
+pick_true true x y h = refl
+pick_true false x y h = absurd (cc)
+
+pub pick_false : {A : Type 0} (b : Bool) (x y : A) → b ≡ false → cond b x y ≡ y
+pick_false true x y h = absurd (cc)
+pick_false false x y h = refl
+
 pub bind_ok : {A B : Type 0} (r : Result A Fault) (f : A → Result B Fault) (y : B) → (r >>= f) ≡ Ok y → (x : A) × (r ≡ Ok x) × (f x ≡ Ok y)
 bind_ok (Ok x) f y h = (x, refl, h)
 bind_ok (Err e) f y h = absurd (cc)
@@ -112,17 +122,54 @@ ascii_front : (xs ys : List ℕ) → AllAscii xs → IsUtf8 (xs ++ ys) → IsUtf
 ascii_front [] ys h u = u
 ascii_front (x ∷ xs) ys h u = ascii_front xs ys h.1 (back_utf8 [] (xs ++ ys) x u h.0)
 
+-- what a token at this place is that is no number, where this is its truth value
+abbrev pub other_word : ℕ → List ℕ → Option Bool → Result Val Fault
+other_word place token (Some b) = Ok (truth b)
+other_word place token None = cond (is_symbol token) (Ok (symbol token)) (Err (place, Token))
+
 pub word_ascii : (place : ℕ) (token : List ℕ) (v : Val) → word_at place token ≡ Ok v → AllAscii token
 word_ascii place token v h =
+    let bad : Result Val Fault = Err (place, Token) in
     ⊎_elim (λ e. number_ascii token e.0)
-    (λ e. ⊎_elim (λ d. symbol_ascii token d.0) (λ d. absurd (err_ok (place, Token) v (Err (place, Token)) refl d.1))
-    (choose_ok (is_symbol token) (Ok (symbol token)) (Err (place, Token)) v e.1))
+    (λ e. elim (truth_of token) as (λ t. truth_of token ≡ t → other_word place token t ≡ Ok v → AllAscii token) [
+      | Some b ↦ λ d k. truth_ascii token b d
+      | None ↦ λ d k. ⊎_elim (λ f. symbol_ascii token f.0) (λ f. absurd (err_ok (place, Token) v bad refl f.1))
+          (choose_ok (is_symbol token) (Ok (symbol token)) bad v k)
+    ] refl e.1)
     (choose_ok (is_number token) _ _ v h)
+
+no_true : (b : Bool) → (b ≡ true → ⊥) → b ≡ false
+no_true true h = absurd (h refl)
+no_true false h = refl
+
+-- a token that is no text is no word
+pub not_word : (place : ℕ) (token : List ℕ) → (IsUtf8 token → ⊥) → word_at place token ≡ Err (place, Token)
+not_word place token u =
+    let n = no_true (is_number token) (λ e. u (ascii_utf8 token (number_ascii token e))) in
+    let s = no_true (is_symbol token) (λ e. u (ascii_utf8 token (symbol_ascii token e))) in
+    let t : truth_of token ≡ None = elim (truth_of token) as (λ v. truth_of token ≡ v → v ≡ None) [
+      | None ↦ λ e. refl
+      | Some b ↦ λ e. absurd (u (ascii_utf8 token (truth_ascii token b e)))
+    ] refl in
+    pick_false _ _ _ n ∙ (ap (other_word place token) t ∙ pick_false _ _ _ s)
 
 with_rest_is : (bs : List ℕ) (r : Result State Fault) (next : State) (rest : List ℕ) → with_rest bs r ≡ Ok (next, rest) → bs ≡ rest
 with_rest_is bs r next rest h =
     let e = bind_ok r (λ state. Ok (state, bs)) (next, rest) h in
     (same_rest (e.0, bs) (next, rest) (Ok (e.0, bs)) refl e.2).1
+
+whole_mark_utf8 : (mark : Mark) (bytes : List ℕ) → IsUtf8 bytes → IsUtf8 (whole_mark mark bytes).1
+whole_mark_utf8 Quote bytes u = u
+whole_mark_utf8 Quasiquote bytes u = u
+whole_mark_utf8 Unquote [] u = u
+whole_mark_utf8 Unquote (b ∷ bs) u =
+    let split : Mark × List ℕ = (UnquoteSplicing, bs) in
+    let alone : Mark × List ℕ = (Unquote, b ∷ bs) in
+    elim (b == 64) as (λ v. (b == 64) ≡ v → IsUtf8 (cond v split alone).1) [
+      | true ↦ λ e. let q : b ≡ 64 = eqb-true b 64 e in let s : b < 128 = omega arith in back_utf8 [] bs b u s
+      | false ↦ λ e. u
+    ] refl
+whole_mark_utf8 UnquoteSplicing bytes u = u
 
 text_rest : (place : ℕ) (bs : List ℕ) (state next : State) (rest : List ℕ) → IsUtf8 bs → take_text place bs state ≡ Ok (next, rest) → IsUtf8 rest
 text_rest place bs state next rest u h =
@@ -146,18 +193,19 @@ piece_utf8 place (b ∷ bs) state next rest u h =
     let p : State × List ℕ = (next, rest) in
     let bad : Fault = (place, Token) in
     let read_at : Class → Result (State × List ℕ) Fault = λ v. elim v [
-      | Opening ↦ with_rest bs (open_list place state)
-      | Closing ↦ with_rest bs (close_list place state.items state.levels)
-      | Mark ↦ with_rest bs (open_mark place state)
-      | Quote ↦ take_text place bs state
+      | Opening d ↦ with_rest bs (open_list d place state)
+      | Closing d ↦ with_rest bs (close_list d place state.items state.levels)
+      | Marking m ↦ take_mark m place bs state
+      | DoubleQuote ↦ take_text place bs state
       | Plain ↦ take_token place (b ∷ bs) state
       | _ ↦ Err bad
     ] in
     elim (class_of b) as (λ v. class_of b ≡ v → read_at v ≡ Ok p → IsUtf8 rest) [
-      | Opening ↦ λ e k. subst P (with_rest_is bs (open_list place state) next rest k) (back_utf8 [] bs b u (class_ascii b (ap is_plain e)))
-      | Closing ↦ λ e k. subst P (with_rest_is bs (close_list place state.items state.levels) next rest k) (back_utf8 [] bs b u (class_ascii b (ap is_plain e)))
-      | Mark ↦ λ e k. subst P (with_rest_is bs (open_mark place state) next rest k) (back_utf8 [] bs b u (class_ascii b (ap is_plain e)))
-      | Quote ↦ λ e k. text_rest place bs state next rest (back_utf8 [] bs b u (class_ascii b (ap is_plain e))) k
+      | Opening d ↦ λ e k. subst P (with_rest_is bs (open_list d place state) next rest k) (back_utf8 [] bs b u (class_ascii b (ap is_plain e)))
+      | Closing d ↦ λ e k. subst P (with_rest_is bs (close_list d place state.items state.levels) next rest k) (back_utf8 [] bs b u (class_ascii b (ap is_plain e)))
+      | Marking m ↦ λ e k. subst P (with_rest_is (whole_mark m bs).1 (open_mark (whole_mark m bs).0 place state) next rest k)
+          (whole_mark_utf8 m bs (back_utf8 [] bs b u (class_ascii b (ap is_plain e))))
+      | DoubleQuote ↦ λ e k. text_rest place bs state next rest (back_utf8 [] bs b u (class_ascii b (ap is_plain e))) k
       | Plain ↦ λ e k. token_rest place (b ∷ bs) state next rest u k
       | _ ↦ λ e k. absurd (err_ok bad p (Err bad) refl k)
     ] refl h

@@ -1,40 +1,66 @@
 -- The bytes of a script's text, and the words that they make.
-use Rattle.std.specs.Prelude.{ℕ, ◌^◌, ℤ, pos, negsuc, Bool, true, false, ◌&&◌, ◌||◌, not, Option, None, Some, List, [], ◌∷◌, length, nat_lt, ◌==◌, if◌then◌else◌}
+use Rattle.std.specs.Prelude.{ℕ, Bool, true, false, ◌&&◌, ◌||◌, not, Option, None, Some, List, [], ◌∷◌, ◌==◌, codes, if◌then◌else◌}
 use Rattle.std.specs.List.{list_all}
-use Rattle.std.specs.Str.Parse.{without_leading_sign, signed_digits_value}
+use Rattle.std.specs.Str.{bytes_eq}
 use Rattle.std.specs.Char.{is_ascii_digit, is_ascii_alphanumeric}
-use Rattle.sexp_reader.specs.declared.scan.Class.{Class}
-use Rattle.sexp_reader.specs.declared.scan.Class.TheVariants.{Blank, Comment, Opening, Closing, Mark, Quote, Stray, Plain}
+use Rattle.sexp_reader.specs.declared.classes.Class.{Class}
+use Rattle.sexp_reader.specs.declared.classes.Class.TheVariants.{Blank, Comment, Opening, Closing, Marking, DoubleQuote, Plain}
+use Rattle.sexp_reader.specs.declared.classes.Delimiter.{Delimiter}
+use Rattle.sexp_reader.specs.declared.classes.Delimiter.TheVariants.{Parenthesis, Bracket}
+use Rattle.sexp_reader.specs.declared.classes.Mark.{Mark}
+use Rattle.sexp_reader.specs.declared.classes.Mark.TheVariants.{Quote, Quasiquote, Unquote, UnquoteSplicing}
 
 -- whether a byte is a space, a tab, a newline or a carriage return
 abbrev pub is_blank : ℕ → Bool
 is_blank b = (b == 32) || (b == 9) || (b == 10) || (b == 13)
 
--- whether a byte ends a token and begins no piece: [ ] ` ,
-abbrev pub is_stray : ℕ → Bool
-is_stray b = (b == 91) || (b == 93) || (b == 96) || (b == 44)
+-- whether a byte ends a token: one of those, or one of ; ( [ ) ] ' ` , "
+abbrev pub ends_token : ℕ → Bool
+ends_token b =
+    is_blank b || (b == 59) || (b == 40) || (b == 91) || (b == 41) || (b == 93) || (b == 39) || (b == 96) || (b == 44) || (b == 34)
 
--- what a byte is where a piece may begin: ; ( ) ' " have a class each, and what ends no token is plain
+-- what a byte is where a piece may begin: ; ( [ ) ] ' ` , " in this order, and what ends no token is plain
 abbrev pub class_of : ℕ → Class
 class_of b =
     if is_blank b then Blank else
     if b == 59 then Comment else
-    if b == 40 then Opening else
-    if b == 41 then Closing else
-    if b == 39 then Mark else
-    if b == 34 then Quote else
-    if is_stray b then Stray else Plain
+    if b == 40 then Opening Parenthesis else
+    if b == 91 then Opening Bracket else
+    if b == 41 then Closing Parenthesis else
+    if b == 93 then Closing Bracket else
+    if b == 39 then Marking Quote else
+    if b == 96 then Marking Quasiquote else
+    if b == 44 then Marking Unquote else
+    if b == 34 then DoubleQuote else Plain
 
 -- whether a class is that of a token's bytes
 abbrev pub is_plain : Class → Bool
 is_plain Plain = true
 is_plain Blank = false
 is_plain Comment = false
-is_plain Opening = false
-is_plain Closing = false
-is_plain Mark = false
-is_plain Quote = false
-is_plain Stray = false
+is_plain (Opening delimiter) = false
+is_plain (Closing delimiter) = false
+is_plain (Marking mark) = false
+is_plain DoubleQuote = false
+
+-- whether what closes a list is of the kind that opened it
+abbrev pub same_delimiter : Delimiter → Delimiter → Bool
+same_delimiter Parenthesis Parenthesis = true
+same_delimiter Parenthesis Bracket = false
+same_delimiter Bracket Parenthesis = false
+same_delimiter Bracket Bracket = true
+
+-- the whole of a mark whose first byte is this mark, and what follows it: a comma right before @ is one mark with it
+abbrev pub whole_mark : Mark → List ℕ → Mark × List ℕ
+whole_mark Unquote (b ∷ bs) = if b == 64 then (UnquoteSplicing, bs) else (Unquote, b ∷ bs)
+whole_mark mark bytes = (mark, bytes)
+
+-- the name at the head of the list that a mark before a datum stands for
+abbrev pub name_of : Mark → List ℕ
+name_of Quote = codes "quote"
+name_of Quasiquote = codes "quasiquote"
+name_of Unquote = codes "unquote"
+name_of UnquoteSplicing = codes "unquote-splicing"
 
 -- the character that a backslash and a byte stand for in a text: \\ \" \n \t \r, and no others
 abbrev pub escaped : ℕ → Option ℕ
@@ -45,18 +71,13 @@ escaped b =
     if b == 116 then Some 9 else
     if b == 114 then Some 13 else None
 
--- whether a token is a number: a sign or none, and then one digit or more
-abbrev pub is_number : List ℕ → Bool
-is_number token = nat_lt 0 (length (without_leading_sign token)) && list_all is_ascii_digit (without_leading_sign token)
-
--- the number that a token is
-abbrev pub number_of : List ℕ → ℤ
-number_of token = signed_digits_value 10 token
-
--- whether a number is in the range of 64 bits with a sign
-abbrev pub is_in_range : ℤ → Bool
-is_in_range (pos n) = nat_lt n (2 ^ 63)
-is_in_range (negsuc n) = nat_lt n (2 ^ 63)
+-- the truth value that a token is
+abbrev pub truth_of : List ℕ → Option Bool
+truth_of token =
+    if bytes_eq token (codes "#t") then Some true else
+    if bytes_eq token (codes "#true") then Some true else
+    if bytes_eq token (codes "#f") then Some false else
+    if bytes_eq token (codes "#false") then Some false else None
 
 -- whether a byte is one of ! $ % & * / : < = > ? ^ _ ~ + - .
 abbrev pub is_symbol_sign : ℕ → Bool
@@ -81,7 +102,3 @@ is_empty (b ∷ bs) = false
 abbrev pub is_symbol : List ℕ → Bool
 is_symbol [] = false
 is_symbol (b ∷ bs) = list_all is_symbol_byte (b ∷ bs) && not (is_ascii_digit b) && not (b == 46) && (not (is_sign b) || is_empty bs)
-
--- the name of the list that a mark stands for: quote
-abbrev pub quote_name : List ℕ
-quote_name = 113 ∷ 117 ∷ 111 ∷ 116 ∷ 101 ∷ []

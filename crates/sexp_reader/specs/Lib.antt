@@ -2,4 +2,5 @@ pub mod Letters
 pub mod Read
 pub mod Spells
 pub mod Views
+pub mod Laws
 pub mod Vectors

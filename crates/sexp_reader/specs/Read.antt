@@ -2,11 +2,14 @@
 use Rattle.std.specs.Prelude.{ℕ, zero, suc, ◌-◌, Bool, true, false, not, None, Some, Result, Ok, Err, List, [], ◌∷◌, ◌++◌, length, take, drop, nat_lt, ◌==◌, if◌then◌else◌}
 use Rattle.std.specs.Str.{is_utf8}
 use Rattle.std.specs.Str.Lossy.{utf8_valid_len}
-use Rattle.script_value.specs.Val.{Val, number, text, symbol, list, vals_of}
+use Rattle.script_value.specs.Val.{Val, number, truth, text, symbol, list, vals_of}
+use Rattle.script_value.specs.Numbers.{is_number, number_of, is_in_range}
 use Rattle.sexp_reader.specs.declared.fault.ReadKind.{ReadKind}
-use Rattle.sexp_reader.specs.declared.fault.ReadKind.TheVariants.{Long, Utf8, Token, Unclosed, Unopened, Range, Deep}
-use Rattle.sexp_reader.specs.declared.scan.Class.TheVariants.{Blank, Comment, Opening, Closing, Mark, Quote, Plain}
-use Rattle.sexp_reader.specs.Letters.{class_of, is_plain, escaped, is_number, number_of, is_in_range, is_symbol, quote_name}
+use Rattle.sexp_reader.specs.declared.fault.ReadKind.TheVariants.{Long, Utf8, Token, Unclosed, Unopened, Mismatch, Range, Deep}
+use Rattle.sexp_reader.specs.declared.classes.Class.TheVariants.{Blank, Comment, Opening, Closing, Marking, DoubleQuote, Plain}
+use Rattle.sexp_reader.specs.declared.classes.Delimiter.{Delimiter}
+use Rattle.sexp_reader.specs.declared.classes.Mark.{Mark}
+use Rattle.sexp_reader.specs.Letters.{class_of, is_plain, same_delimiter, whole_mark, name_of, escaped, truth_of, is_symbol}
 
 -- a place and what is wrong there
 abbrev pub Fault : Type 0
@@ -37,7 +40,7 @@ token_len (b ∷ bs) = elim (is_plain (class_of b)) [ true ↦ suc (token_len bs
 abbrev pub word_at : ℕ → List ℕ → Result Val Fault
 word_at place token =
     if is_number token then (if is_in_range (number_of token) then Ok (number (number_of token)) else Err (place, Range))
-    else (if is_symbol token then Ok (symbol token) else Err (place, Token))
+    else elim (truth_of token) [ Some b ↦ Ok (truth b) | None ↦ if is_symbol token then Ok (symbol token) else Err (place, Token) ]
 
 -- the characters of a text behind those so far, whose quote is at this place, and what follows the text
 abbrev mutual
@@ -55,8 +58,8 @@ abbrev mutual
 
 -- what is open: a list, with its place and the data before it on the level around it, or a mark, with its place
 pub data Level : Type 0 where
-  opened : ℕ → List Val → Level
-  marked : ℕ → Level
+  opened : Delimiter → ℕ → List Val → Level
+  marked : Mark → ℕ → Level
 
 -- the data so far on the innermost level, and the levels that are open, the innermost first
 pub record State : Type 0 where
@@ -68,42 +71,43 @@ abbrev pub start : State
 start = record { items = []; levels = [] }
 
 -- the list that a mark before a datum stands for
-abbrev pub quoted : Val → Val
-quoted v = list (vals_of (symbol quote_name ∷ v ∷ []))
+abbrev pub marked_list : Mark → Val → Val
+marked_list mark v = list (vals_of (symbol (name_of mark) ∷ v ∷ []))
 
 -- one more datum, which ends each mark right before it
 abbrev pub put : Val → List Val → List Level → State
 put v items [] = record { items = items ++ v ∷ []; levels = [] }
-put v items (opened place before ∷ levels) = record { items = items ++ v ∷ []; levels = opened place before ∷ levels }
-put v items (marked place ∷ levels) = put (quoted v) items levels
+put v items (opened delimiter at before ∷ levels) = record { items = items ++ v ∷ []; levels = opened delimiter at before ∷ levels }
+put v items (marked mark at ∷ levels) = put (marked_list mark v) items levels
 
 -- how many lists and marks may be open
 abbrev pub most_levels : ℕ
 most_levels = 128
 
--- a parenthesis at this place opens a list
-abbrev pub open_list : ℕ → State → Result State Fault
-open_list place state =
-    if nat_lt (length state.levels) most_levels then Ok (record { items = []; levels = opened place state.items ∷ state.levels })
+-- a parenthesis or bracket at this place opens a list
+abbrev pub open_list : Delimiter → ℕ → State → Result State Fault
+open_list delimiter place state =
+    if nat_lt (length state.levels) most_levels then Ok (record { items = []; levels = opened delimiter place state.items ∷ state.levels })
     else Err (place, Deep)
 
 -- a mark at this place
-abbrev pub open_mark : ℕ → State → Result State Fault
-open_mark place state =
-    if nat_lt (length state.levels) most_levels then Ok (record { items = state.items; levels = marked place ∷ state.levels })
+abbrev pub open_mark : Mark → ℕ → State → Result State Fault
+open_mark mark place state =
+    if nat_lt (length state.levels) most_levels then Ok (record { items = state.items; levels = marked mark place ∷ state.levels })
     else Err (place, Deep)
 
--- a parenthesis at this place closes the innermost list
-abbrev pub close_list : ℕ → List Val → List Level → Result State Fault
-close_list place items [] = Err (place, Unopened)
-close_list place items (opened at before ∷ levels) = Ok (put (list (vals_of items)) before levels)
-close_list place items (marked at ∷ levels) = Err (at, Token)
+-- a parenthesis or bracket at this place closes the innermost list; a mark right before it has no datum
+abbrev pub close_list : Delimiter → ℕ → List Val → List Level → Result State Fault
+close_list delimiter place items [] = Err (place, Unopened)
+close_list delimiter place items (opened opening at before ∷ levels) =
+    if same_delimiter delimiter opening then Ok (put (list (vals_of items)) before levels) else Err (place, Mismatch)
+close_list delimiter place items (marked mark at ∷ levels) = Err (at, Token)
 
 -- the data of the text at its end
 abbrev pub finish : List Val → List Level → Result (List Val) Fault
 finish items [] = Ok items
-finish items (opened at before ∷ levels) = Err (at, Unclosed)
-finish items (marked at ∷ levels) = Err (at, Unclosed)
+finish items (opened delimiter at before ∷ levels) = Err (at, Unclosed)
+finish items (marked mark at ∷ levels) = Err (at, Unclosed)
 
 -- a text, of which what stands behind its quote is given, and what follows it
 abbrev pub take_text : ℕ → List ℕ → State → Result (State × List ℕ) Fault
@@ -119,14 +123,18 @@ take_token place bytes state =
 abbrev pub with_rest : List ℕ → Result State Fault → Result (State × List ℕ) Fault
 with_rest bytes read = read >>= λ state. Ok (state, bytes)
 
+-- a mark, of which the first byte and what stands behind that are given, and what follows it
+abbrev pub take_mark : Mark → ℕ → List ℕ → State → Result (State × List ℕ) Fault
+take_mark mark place bytes state = with_rest (whole_mark mark bytes).1 (open_mark (whole_mark mark bytes).0 place state)
+
 -- one piece at this place, which begins with a byte and goes on with bytes: the state behind it, and what follows it
 abbrev pub piece : ℕ → ℕ → List ℕ → State → Result (State × List ℕ) Fault
 piece place b bs state =
     elim (class_of b) [
-      | Opening ↦ with_rest bs (open_list place state)
-      | Closing ↦ with_rest bs (close_list place state.items state.levels)
-      | Mark ↦ with_rest bs (open_mark place state)
-      | Quote ↦ take_text place bs state
+      | Opening delimiter ↦ with_rest bs (open_list delimiter place state)
+      | Closing delimiter ↦ with_rest bs (close_list delimiter place state.items state.levels)
+      | Marking mark ↦ take_mark mark place bs state
+      | DoubleQuote ↦ take_text place bs state
       | Plain ↦ take_token place (b ∷ bs) state
       | _ ↦ Err (place, Token)
     ]

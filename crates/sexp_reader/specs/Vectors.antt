@@ -1,8 +1,9 @@
 -- Small texts and what they read as.
-use Rattle.std.specs.Prelude.{◌≡◌, pos, negsuc, Ok, Err, [], ◌∷◌, refl, codes}
-use Rattle.script_value.specs.Val.{number, text, symbol, list, vals_of}
-use Rattle.sexp_reader.specs.declared.fault.ReadKind.TheVariants.{Token, Unclosed, Unopened, Range}
-use Rattle.sexp_reader.specs.Read.{scan, quoted}
+use Rattle.std.specs.Prelude.{◌≡◌, pos, negsuc, true, false, Ok, Err, [], ◌∷◌, refl, codes}
+use Rattle.script_value.specs.Val.{number, truth, text, symbol, list, vals_of}
+use Rattle.sexp_reader.specs.declared.fault.ReadKind.TheVariants.{Token, Unclosed, Unopened, Mismatch, Range}
+use Rattle.sexp_reader.specs.declared.classes.Mark.TheVariants.{Quote, Quasiquote, Unquote, UnquoteSplicing}
+use Rattle.sexp_reader.specs.Read.{scan, marked_list}
 
 -- the text that is open is the innermost
 pub inner_text : scan (codes "(p \"") ≡ Err (3, Unclosed)
@@ -21,7 +22,7 @@ pub inner_mark : scan (codes "('')") ≡ Err (2, Token)
 inner_mark = refl
 
 pub four_data : scan (codes "a\"b\"(c)'d")
-    ≡ Ok (symbol (codes "a") ∷ text (codes "b") ∷ list (vals_of (symbol (codes "c") ∷ [])) ∷ quoted (symbol (codes "d")) ∷ [])
+    ≡ Ok (symbol (codes "a") ∷ text (codes "b") ∷ list (vals_of (symbol (codes "c") ∷ [])) ∷ marked_list Quote (symbol (codes "d")) ∷ [])
 four_data = refl
 
 pub too_large : scan (codes "9223372036854775808") ≡ Err (0, Range)
@@ -51,7 +52,7 @@ bad_escape = refl
 pub open_escape : scan (codes "\"\\") ≡ Err (0, Unclosed)
 open_escape = refl
 
-pub two_marks : scan (codes "''a") ≡ Ok (quoted (quoted (symbol (codes "a"))) ∷ [])
+pub two_marks : scan (codes "''a") ≡ Ok (marked_list Quote (marked_list Quote (symbol (codes "a"))) ∷ [])
 two_marks = refl
 
 pub empty_list : scan (codes "()") ≡ Ok (list (vals_of []) ∷ [])
@@ -60,9 +61,46 @@ empty_list = refl
 pub escapes : scan (codes "\"\\n\\\"\"") ≡ Ok (text (10 ∷ 34 ∷ []) ∷ [])
 escapes = refl
 
--- brackets are no pieces
-pub bracket : scan (codes "a [") ≡ Err (2, Token)
-bracket = refl
+pub bracketed : scan (codes "[a (b)]") ≡ Ok (list (vals_of (symbol (codes "a") ∷ list (vals_of (symbol (codes "b") ∷ [])) ∷ [])) ∷ [])
+bracketed = refl
+
+-- the list that is open decides
+pub other_closes : scan (codes "[(a])") ≡ Err (3, Mismatch)
+other_closes = refl
+
+pub bracket_unopened : scan (codes "a]") ≡ Err (1, Unopened)
+bracket_unopened = refl
+
+-- the mark comes before the kind of what closes
+pub mark_before_other : scan (codes "(a ,]") ≡ Err (3, Token)
+mark_before_other = refl
+
+pub each_mark : scan (codes "'a `b ,c ,@d")
+    ≡ Ok (marked_list Quote (symbol (codes "a")) ∷ marked_list Quasiquote (symbol (codes "b")) ∷ marked_list Unquote (symbol (codes "c"))
+    ∷ marked_list UnquoteSplicing (symbol (codes "d")) ∷ [])
+each_mark = refl
+
+-- a comma and an @ that do not touch are no mark
+pub apart : scan (codes ", @d") ≡ Err (2, Token)
+apart = refl
+
+pub gap_behind_mark : scan (codes "' ; x\n x") ≡ Ok (marked_list Quote (symbol (codes "x")) ∷ [])
+gap_behind_mark = refl
+
+pub splice_of_nothing : scan (codes "(,@)") ≡ Err (1, Token)
+splice_of_nothing = refl
+
+pub mark_at_end : scan (codes "(a `") ≡ Err (3, Unclosed)
+mark_at_end = refl
+
+pub truths : scan (codes "#t #true #f #false") ≡ Ok (truth true ∷ truth true ∷ truth false ∷ truth false ∷ [])
+truths = refl
+
+pub no_truth : scan (codes "a #tr") ≡ Err (2, Token)
+no_truth = refl
+
+pub hash_inside : scan (codes "a#t") ≡ Err (0, Token)
+hash_inside = refl
 
 pub point : scan (codes ".5") ≡ Err (0, Token)
 point = refl

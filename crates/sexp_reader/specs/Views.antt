@@ -1,6 +1,7 @@
 -- What the reader's answers and its state stand for.
-use Rattle.std.specs.Prelude.{◌≡◌, ℕ, Bool, true, false, Result, Ok, Err, List, [], ◌∷◌, map, reverse}
+use Rattle.std.specs.Prelude.{◌≡◌, ℕ, Option, None, Some, Result, Ok, Err, List, [], ◌∷◌, map, reverse}
 use Rattle.script_value.specs.Meaning.{meaning}
+use Rattle.sexp_reader.specs.declared.classes.Mark.{Mark}
 use Rattle.sexp_reader.specs.declared.fault.ReadFault.{ReadFault}
 use Rattle.sexp_reader.specs.declared.fault.ReadFault.TheVariants.{Memory, At}
 use Rattle.sexp_reader.specs.declared.fault.ReadKind.TheVariants.{Unclosed}
@@ -21,8 +22,8 @@ Gives view (Err e) wanted = Fails e wanted
 
 -- what is open
 abbrev pub level_of : LevelOf → Level
-level_of (Opened place before) = opened place (map meaning before.items)
-level_of (Marked place) = marked place
+level_of (Opened delimiter at before) = opened delimiter at (map meaning before.items)
+level_of (Marked mark at) = marked mark at
 
 -- what is open, the innermost first
 abbrev pub stack_of : List LevelOf → List Level
@@ -36,14 +37,14 @@ abbrev pub piece_at : ℕ → List ℕ → State → Result (State × List ℕ) 
 piece_at place [] state = Err (place, Unclosed)
 piece_at place (b ∷ bs) state = piece place b bs state
 
--- whether the innermost level is a mark
-abbrev pub is_marked : List Level → Bool
-is_marked [] = false
-is_marked (opened place before ∷ levels) = false
-is_marked (marked place ∷ levels) = true
+-- the mark that the innermost level is
+abbrev pub innermost_mark : List Level → Option Mark
+innermost_mark [] = None
+innermost_mark (opened delimiter at before ∷ levels) = None
+innermost_mark (marked mark at ∷ levels) = Some mark
 
 -- the levels without the innermost where that is a mark
 abbrev pub past_mark : List Level → List Level
 past_mark [] = []
-past_mark (opened place before ∷ levels) = opened place before ∷ levels
-past_mark (marked place ∷ levels) = levels
+past_mark (opened delimiter at before ∷ levels) = opened delimiter at before ∷ levels
+past_mark (marked mark at ∷ levels) = levels

@@ -14,13 +14,13 @@ pub enum ReadKind {
     Token,
     /// The text ended inside a list or a text, or after a mark.
     Unclosed,
-    /// A parenthesis closes what was never opened.
+    /// A parenthesis or bracket closes what was never opened.
     Unopened,
-    /// A parenthesis or bracket closes one of the other kind.
+    /// A parenthesis closes a bracket, or a bracket a parenthesis.
     Mismatch,
     /// A number needs more than 64 bits.
     Range,
-    /// More than 128 lists and marks are open.
+    /// More than 128 lists and marks would be open.
     Deep,
 }
 

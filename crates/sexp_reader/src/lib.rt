@@ -1,11 +1,15 @@
-//! The text of a script as data: numbers, symbols, texts, lists and marks.
+//! The text of a script as data: numbers, truth values, symbols, texts, lists and marks.
 #![tactic(auto)]
 
+mod classes;
 mod fault;
+mod laws;
 mod reader;
 mod scan;
+mod words;
 
 pub use fault::{ReadError, ReadFault, ReadKind};
+pub use laws::faults_stay;
 pub use reader::read_all;
 
 #[cfg(test)]

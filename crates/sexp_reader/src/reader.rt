@@ -3,10 +3,12 @@ ghost use Rattle.script_value.specs.Meaning.{meaning};
 ghost use Rattle.script_value.specs.Val.{Val};
 ghost use Rattle.sexp_reader.specs.Read as spec;
 ghost use Rattle.sexp_reader.specs.Spells.{Spells};
-ghost use Rattle.sexp_reader.specs.Views.{Gives, state_of, level_of, stack_of, piece_at, is_marked, past_mark};
+ghost use Rattle.sexp_reader.specs.Views.{Gives, state_of, level_of, stack_of, piece_at, innermost_mark, past_mark};
 
+use crate::classes::{Class, Delimiter, Mark, class_of, name_of, whole_mark};
 use crate::fault::{ReadFault, ReadKind, fault};
-use crate::scan::{Class, after_gap, class_of, text_at, token_len, word_at};
+use crate::scan::{after_gap, text_at, token_len};
+use crate::words::word_at;
 use script_value::{Items, Str, Value};
 use std::alloc::{AllocError, Global};
 use std::mem;
@@ -18,9 +20,9 @@ const MOST_LEVELS: usize = 128;
 #[derive(Drop)]
 pub enum Level {
     /// A list, and the data before it on the level around it.
-    Opened(u64, Vec<Value>),
+    Opened(Delimiter, u64, Vec<Value>),
     /// A mark.
-    Marked(u64),
+    Marked(Mark, u64),
 }
 
 /// What was read so far.
@@ -33,10 +35,10 @@ pub struct Reader {
 }
 
 // The list that a mark before a datum stands for.
-fn quoted(alloc: Global, value: Value) -> Result<Value, AllocError>
-    ensures { IfOk result (λ v. meaning v ≡ spec.quoted (meaning value)) }
+fn marked_list(alloc: Global, mark: Mark, value: Value) -> Result<Value, AllocError>
+    ensures { IfOk result (λ v. meaning v ≡ spec.marked_list mark (meaning value)) }
 {
-    let name = String::from_str(alloc, "quote")?;
+    let name = String::from_str(alloc, name_of(mark))?;
     let mut items = Vec::new(alloc);
     items.push(Value::Symbol(Str::new(name)))?;
     items.push(value)?;
@@ -53,18 +55,18 @@ impl Reader {
         }
     }
 
-    // Takes off the innermost level where it is a mark, and says whether it is.
-    fn end_mark(&mut self) -> Result<bool, AllocError>
-        ensures marked { IfOk result (λ is_mark. is_mark ≡ is_marked (stack_of self.old.levels.items)) }
+    // Takes off the innermost level where it is a mark, and says which.
+    fn end_mark(&mut self) -> Result<Option<Mark>, AllocError>
+        ensures marked { IfOk result (λ mark. mark ≡ innermost_mark (stack_of self.old.levels.items)) }
         ensures levels { OnOk result (stack_of self.new.levels.items ≡ past_mark (stack_of self.old.levels.items)) }
         ensures items { OnOk result (self.new.items ≡ self.old.items) }
     {
         match self.levels.pop() {
-            None => Ok(false),
-            Some(Level::Marked(_)) => Ok(true),
+            None => Ok(None),
+            Some(Level::Marked(mark, _)) => Ok(Some(mark)),
             Some(level) => {
                 self.levels.push(level)?;
-                Ok(false)
+                Ok(None)
             }
         }
     }
@@ -74,48 +76,76 @@ impl Reader {
         ensures { Gives (λ _. state_of self.new) result (Ok (spec.put (meaning value) (map meaning self.old.items.items) (stack_of self.old.levels.items))) }
     {
         let mut value = value;
-        while self.end_mark()? {
-            value = quoted(alloc, value)?;
+        while let Some(mark) = self.end_mark()? {
+            value = marked_list(alloc, mark, value)?;
         }
         self.items.push(value)?;
         Ok(())
     }
 
-    // A parenthesis at this place opens a list.
-    fn open_list(&mut self, alloc: Global, place: u64) -> Result<(), ReadFault>
-        ensures { Gives (λ _. state_of self.new) result (spec.open_list place (state_of self.old)) }
+    // A parenthesis or bracket at this place opens a list.
+    fn open_list(
+        &mut self,
+        alloc: Global,
+        delimiter: Delimiter,
+        place: u64,
+    ) -> Result<(), ReadFault>
+        ensures { Gives (λ _. state_of self.new) result (spec.open_list delimiter place (state_of self.old)) }
     {
         if self.levels.len() >= MOST_LEVELS {
             return Err(fault(place, ReadKind::Deep));
         }
         let before = mem::replace(&mut self.items, Vec::new(alloc));
-        self.levels.push(Level::Opened(place, before))?;
+        self.levels.push(Level::Opened(delimiter, place, before))?;
         Ok(())
     }
 
     // A mark at this place.
-    fn open_mark(&mut self, place: u64) -> Result<(), ReadFault>
-        ensures { Gives (λ _. state_of self.new) result (spec.open_mark place (state_of self.old)) }
+    fn open_mark(&mut self, mark: Mark, place: u64) -> Result<(), ReadFault>
+        ensures { Gives (λ _. state_of self.new) result (spec.open_mark mark place (state_of self.old)) }
     {
         if self.levels.len() >= MOST_LEVELS {
             return Err(fault(place, ReadKind::Deep));
         }
-        self.levels.push(Level::Marked(place))?;
+        self.levels.push(Level::Marked(mark, place))?;
         Ok(())
     }
 
-    // A parenthesis at this place closes the innermost list.
-    fn close_list(&mut self, alloc: Global, place: u64) -> Result<(), ReadFault>
-        ensures { Gives (λ _. state_of self.new) result (spec.close_list place (map meaning self.old.items.items) (stack_of self.old.levels.items)) }
+    // A parenthesis or bracket at this place closes the innermost list.
+    fn close_list(
+        &mut self,
+        alloc: Global,
+        delimiter: Delimiter,
+        place: u64,
+    ) -> Result<(), ReadFault>
+        ensures { Gives (λ _. state_of self.new) result (spec.close_list delimiter place (map meaning self.old.items.items) (stack_of self.old.levels.items)) }
     {
         match self.levels.pop() {
             None => Err(fault(place, ReadKind::Unopened)),
-            Some(Level::Marked(at)) => Err(fault(at, ReadKind::Token)),
-            Some(Level::Opened(_, before)) => {
+            Some(Level::Marked(_, at)) => Err(fault(at, ReadKind::Token)),
+            Some(Level::Opened(opening, _, before)) => {
+                if delimiter != opening {
+                    return Err(fault(place, ReadKind::Mismatch));
+                }
                 let items = mem::replace(&mut self.items, before);
                 self.put(alloc, Value::List(Items::from_vec(items)))
             }
         }
+    }
+
+    // A mark, of which the first byte and what stands behind that are given; what follows it.
+    fn take_mark<'a>(
+        &mut self,
+        mark: Mark,
+        place: u64,
+        bytes: &'a [u8],
+    ) -> Result<&'a [u8], ReadFault>
+        ensures found { Gives (λ rest. (state_of self.new, rest.now)) result (spec.take_mark mark place bytes.now (state_of self.old)) }
+        ensures shorter { IfOk result (λ rest. length rest.now ≤ length bytes.now) }
+    {
+        let (mark, rest) = whole_mark(mark, bytes);
+        self.open_mark(mark, place)?;
+        Ok(rest)
     }
 
     // A text, of which what stands behind its quote is given; what follows it.
@@ -165,21 +195,18 @@ impl Reader {
             return Err(fault(place, ReadKind::Unclosed));
         };
         match class_of(*byte) {
-            Class::Opening => {
-                self.open_list(alloc, place)?;
+            Class::Opening(delimiter) => {
+                self.open_list(alloc, delimiter, place)?;
                 Ok(tail)
             }
-            Class::Closing => {
-                self.close_list(alloc, place)?;
+            Class::Closing(delimiter) => {
+                self.close_list(alloc, delimiter, place)?;
                 Ok(tail)
             }
-            Class::Mark => {
-                self.open_mark(place)?;
-                Ok(tail)
-            }
-            Class::Quote => self.take_text(alloc, place, tail),
+            Class::Marking(mark) => self.take_mark(mark, place, tail),
+            Class::DoubleQuote => self.take_text(alloc, place, tail),
             Class::Plain => self.take_token(alloc, place, bytes),
-            _ => Err(fault(place, ReadKind::Token)),
+            Class::Blank | Class::Comment => Err(fault(place, ReadKind::Token)),
         }
     }
 
@@ -189,8 +216,10 @@ impl Reader {
     {
         match self.levels.pop() {
             None => Ok(self.items),
-            Some(Level::Opened(at, _)) => Err(fault(at, ReadKind::Unclosed)),
-            Some(Level::Marked(at)) => Err(fault(at, ReadKind::Unclosed)),
+            Some(Level::Opened(_, at, _) | Level::Marked(_, at)) => Err(fault(
+                at,
+                ReadKind::Unclosed,
+            )),
         }
     }
 }

@@ -1,6 +1,6 @@
 use Rattle.std.proofs.Common.{map}
 use Rattle.script_value.specs.Meaning.{meaning}
-use Rattle.sexp_reader.proofs.Laws.{answer_spells, answer_found}
+use Rattle.sexp_reader.proofs.Exact.{answer_spells, answer_found}
 use Rattle.sexp_reader.proofs.reader.read_all.Goals as goal
 
 pub returns-clause-spelled : goal.returns-clause-spelled

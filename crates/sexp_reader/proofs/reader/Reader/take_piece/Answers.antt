@@ -5,4 +5,4 @@ use Rattle.sexp_reader.proofs.reader.Reader.take_piece.Goals as goal
 
 pub take_text-requires : goal.take_text-requires
 take_text-requires c =
-    tail_utf8 c.args.bytes.now c.requires (omega arith) (ap is_plain (sym c.class_of.ensures ∙ c.in-Quote.is))
+    tail_utf8 c.args.bytes.now c.requires (omega arith) (ap is_plain (sym c.class_of.ensures ∙ c.in-DoubleQuote.is))
