@@ -74,10 +74,11 @@ request_spelled line r e =
     let is = chosen (is_target parts.0.1) _ r worker.2 in
     let number = worker_spelled parts.0.0 worker.0 worker.1 in
     let P : Request → Type 0 = λ x. (line ≡ codes "get " ++ (decimal x.worker ++ 32 ∷ x.target)) × ((x.worker ≤ 15) × (is_target x.target ≡ true)) in
-    subst P is.1
-    (behind_spelled (codes "get ") line rest.0 rest.1
-    ∙ ap (λ xs. codes "get " ++ xs) (cut_spelled 32 rest.0 parts.0.0 parts.0.1 parts.1 ∙ ap (λ xs. xs ++ 32 ∷ parts.0.1) number.0),
-    (number.1, is.0))
+    subst P is.1 (
+      behind_spelled (codes "get ") line rest.0 rest.1
+          ∙ ap (λ xs. codes "get " ++ xs) (cut_spelled 32 rest.0 parts.0.0 parts.0.1 parts.1 ∙ ap (λ xs. xs ++ 32 ∷ parts.0.1) number.0),
+      (number.1, is.0),
+    )
 
 request_found : (r : Request) → r.worker ≤ 15 → is_target r.target ≡ true
     → request_of (codes "get " ++ (decimal r.worker ++ 32 ∷ r.target)) ≡ Some r
@@ -98,8 +99,11 @@ lineless r small is =
 
 line_ends : (r : Request) (rest : List ℕ) → line_of r ++ rest ≡ (codes "get " ++ (decimal r.worker ++ 32 ∷ r.target)) ++ 10 ∷ rest
 line_ends r rest =
-    rw (append_assoc (decimal r.worker) (32 ∷ (r.target ++ 10 ∷ [])) rest, append_assoc r.target (10 ∷ []) rest,
-    append_assoc (decimal r.worker) (32 ∷ r.target) (10 ∷ rest)) refl
+    rw (
+      append_assoc (decimal r.worker) (32 ∷ (r.target ++ 10 ∷ [])) rest,
+      append_assoc r.target (10 ∷ []) rest,
+      append_assoc (decimal r.worker) (32 ∷ r.target) (10 ∷ rest),
+    ) refl
 
 pub lines_read : (rs : List Request) → AreRequests rs → requests (lines_of rs) ≡ map Some rs
 lines_read [] are = requests_nil
@@ -142,9 +146,11 @@ lines_spelled (r ∷ rs) (b ∷ bs) e = by_front (front_of (b ∷ bs) (omega ari
     by_front (cut bytes line after w n) go k =
         let h = heads (sym n ∙ k) in
         let one = request_spelled line r h.0 in
-        let later = go after h.1 in
-        (w ∙ ap (λ xs. xs ++ 10 ∷ after) one.0 ∙ ap (λ xs. (codes "get " ++ (decimal r.worker ++ 32 ∷ r.target)) ++ 10 ∷ xs) later.0
-        ∙ sym (line_ends r (lines_of rs)), (one.1.0, (one.1.1, later.1)))
+        let later = go after h.1 in (
+          w ∙ ap (λ xs. xs ++ 10 ∷ after) one.0 ∙ ap (λ xs. (codes "get " ++ (decimal r.worker ++ 32 ∷ r.target)) ++ 10 ∷ xs) later.0
+              ∙ sym (line_ends r (lines_of rs)),
+          (one.1.0, (one.1.1, later.1)),
+        )
 
 pub lines_are_requests : LinesAreRequests
 lines_are_requests rs = (lines_read rs, lines_spelled rs)

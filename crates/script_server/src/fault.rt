@@ -27,11 +27,20 @@ pub enum SetupKind {
 #[derive(Clone, Copy)]
 pub enum SetupError {
     /// Of the section that begins at this byte of the input.
-    Setup { place: u64, kind: SetupKind },
+    Setup {
+        place: u64,
+        kind: SetupKind,
+    },
     /// Of the text of the script of this name.
-    Read { name: ScriptName, error: ReadError },
+    Read {
+        name: ScriptName,
+        error: ReadError,
+    },
     /// Of a form of the script of this name.
-    Syntax { name: ScriptName, error: SyntaxError },
+    Syntax {
+        name: ScriptName,
+        error: SyntaxError,
+    },
 }
 
 /// Why an input gave no setup.

@@ -280,7 +280,10 @@ fn texts_have_their_limits(rt: HostRuntime) -> Result<(), Fail> {
 #[test]
 fn a_setup_has_up_to_15_scripts(rt: HostRuntime) -> Result<(), Fail> {
     let alloc = rt.alloc();
-    for (count, wanted) in [(15, "0 0 200 8\n<p>1</p>\n"), (16, "error 3 setup 330 many\n")] {
+    for (count, wanted) in [
+        (15, "0 0 200 8\n<p>1</p>\n"),
+        (16, "error 3 setup 330 many\n"),
+    ] {
         let mut input = String::new(alloc);
         for place in 10..10 + count {
             input.push_str(format!(in alloc; "script s{place} 8\n'(p \"1\")\n")?.as_str())?;
@@ -295,16 +298,20 @@ fn a_setup_has_up_to_15_scripts(rt: HostRuntime) -> Result<(), Fail> {
 #[test]
 fn each_script_has_its_own_pages(rt: HostRuntime) -> Result<(), Fail> {
     let length = SUM.len();
-    let input = format!(in rt.alloc(); "script ten 12\n'(p \"12345\")\nscript sum {length}\n{SUM}\nsteps
+    let input = format!(in rt.alloc();
+        "script ten 12\n'(p \"12345\")\nscript sum {length}\n{SUM}\nsteps
 get 0 /servlets/sum
 get 0 /servlets/ten
 get 0 /servlets/ten;0*0*0*0000000000000000?n=3
 get 0 /servlets/sum;0*0*00*0000000000000000?n=3
 get 0 /servlets/sum;0%2A0%2A0%2A0000000000000000?n=3
 get 0 /servlets/s%75m;0*0*2*0000000000000002?n=4
-")?;
+"
+    )?;
     let (status, text) = played(&rt, &["hovgyelit", "play"], input.as_bytes(), &FAIR)?;
-    assert_eq!(rt; text.as_str(), "0 200 52
+    assert_eq!(rt;
+        text.as_str(),
+        "0 200 52
 <a href=\"/servlets/sum;0*0*0*0000000000000000\">1</a>
 0 200 12
 <p>12345</p>
@@ -314,7 +321,8 @@ get 0 /servlets/s%75m;0*0*2*0000000000000002?n=4
 <a href=\"/servlets/sum;0*0*2*0000000000000002\">2</a>
 0 200 8
 <p>7</p>
-");
+"
+    );
     assert_eq!(rt; status, 0);
     Ok(())
 }

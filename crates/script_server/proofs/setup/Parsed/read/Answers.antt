@@ -25,7 +25,7 @@ pub loop-rest-preserved : goal.loop-rest-preserved
 loop-rest-preserved c =
     let reached = c.loop-rest.invariant in
     let found : spec.script_at (length c.args.input.now - length c.loop-rest.rest.now) (scripts_of c.loop-rest.setup) (spec.section_in c.loop-rest.rest.now)
-        ≡ Ok (named_of c.in_ok-script.script, c.in_ok-script.later.now) = search rules in
+    ≡ Ok (named_of c.in_ok-script.script, c.in_ok-script.later.now) = search rules in
     let none : behind (codes "steps\n") c.loop-rest.rest.now ≡ None = search rules in
     let some : 0 < length c.loop-rest.rest.now = search rules in
     let more : scripts_of c.push.new.self ≡ scripts_of c.loop-rest.setup ++ named_of c.in_ok-script.script ∷ [] = search rules in
