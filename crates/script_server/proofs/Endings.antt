@@ -75,7 +75,7 @@ ends_at_line old mid new before after setup steps number p q =
     }
 
 pub stops_with : (old mid new : Option (List ℕ)) (before after : ℕ) (setup : List Named) (steps error : List ℕ)
-    → PlaysPart old mid setup steps → AppendsUnlessFault mid new error before after → StopsWith old new error setup steps
+    → PlaysPart old mid setup steps → AppendsUnlessFault mid new error before after → StopsWith old new before after error setup steps
 stops_with old mid new before after setup steps error p q =
     let line = line_of old mid new p.part.front error before after p.part.written q in
     record {
@@ -87,6 +87,7 @@ stops_with old mid new before after setup steps error p q =
       cut = line.cut;
       error_is = line.is;
       written = line.written;
+      whole = line.whole;
     }
 
 pub part_of_whole : (old new : Option (List ℕ)) (setup : List Named) (steps : List ℕ) (end : End)
@@ -150,9 +151,9 @@ answers_setup bytes fault old new before after e q none =
       whole = line.whole;
     }
 
-pub breaks_part : (bytes : List ℕ) (s : Parsed) (old new : Option (List ℕ))
-    → setup_of bytes ≡ Ok s → PlaysPart old new s.scripts s.steps → BreaksOff bytes [] old new
-breaks_part bytes s old new e p =
+pub breaks_part : (bytes : List ℕ) (s : Parsed) (old new : Option (List ℕ)) (before after : ℕ)
+    → setup_of bytes ≡ Ok s → PlaysPart old new s.scripts s.steps → BreaksOff bytes [] old new before after
+breaks_part bytes s old new before after e p =
     let replies = ap (λ o. o.replies) (outcome bytes s p.fates e) ∙ replies_are _ _ in
     record {
       fates = p.fates;
@@ -163,11 +164,12 @@ breaks_part bytes s old new e p =
       cut = [];
       error_is = refl;
       written = subst (Appends old new) (sym (append-nil p.part.front)) p.part.written;
+      whole = inl refl;
     }
 
-pub breaks_stop : (bytes : List ℕ) (s : Parsed) (old new : Option (List ℕ)) (error : List ℕ)
-    → setup_of bytes ≡ Ok s → StopsWith old new error s.scripts s.steps → BreaksOff bytes error old new
-breaks_stop bytes s old new error e p =
+pub breaks_stop : (bytes : List ℕ) (s : Parsed) (old new : Option (List ℕ)) (before after : ℕ) (error : List ℕ)
+    → setup_of bytes ≡ Ok s → StopsWith old new before after error s.scripts s.steps → BreaksOff bytes error old new before after
+breaks_stop bytes s old new before after error e p =
     let replies = ap (λ o. o.replies) (outcome bytes s p.fates e) ∙ replies_are _ _ in
     record {
       fates = p.fates;
@@ -178,10 +180,11 @@ breaks_stop bytes s old new error e p =
       cut = p.cut;
       error_is = p.error_is;
       written = p.written;
+      whole = p.whole;
     }
 
 pub breaks_early : (bytes : List ℕ) (old new : Option (List ℕ)) (before after : ℕ) (error : List ℕ)
-    → AppendsUnlessFault old new error before after → Appends old old [] → BreaksOff bytes error old new
+    → AppendsUnlessFault old new error before after → Appends old old [] → BreaksOff bytes error old new before after
 breaks_early bytes old new before after error q none =
     let line = line_of old old new [] error before after none q in
     record {
@@ -193,4 +196,5 @@ breaks_early bytes old new before after error q none =
       cut = line.cut;
       error_is = line.is;
       written = line.written;
+      whole = line.whole;
     }

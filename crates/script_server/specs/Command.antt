@@ -62,9 +62,9 @@ pub record ReadToEnd (met : Met) : Type 0 where
 abbrev pub Whole : Met → ℕ → Type 0
 Whole met status = IfSome met.input (λ bytes. Answers bytes met.held met.holds met.output_before met.output_after status)
 
--- the output is a front of a transcript of the input, and then of this line
+-- the output is a front of a transcript of the input, and then this line, or a part of it where the output failed
 abbrev pub Front : Met → List ℕ → Type 0
-Front met line = IfSome met.input (λ bytes. BreaksOff bytes line met.held met.holds)
+Front met line = IfSome met.input (λ bytes. BreaksOff bytes line met.held met.holds met.output_before met.output_after)
 
 -- why the command ends so, and what it wrote
 abbrev pub Explains : Status → Met → Type 0
@@ -119,7 +119,7 @@ abbrev pub Finishes : Status → Option (List ℕ) → Option (List ℕ) → ℕ
 Finishes status.Done old new before after setup steps = Plays old new setup steps done
 Finishes status.Line old new before after setup steps = EndsAtLine old new before after setup steps
 Finishes status.Write old new before after setup steps = Rose before after × PlaysPart old new setup steps
-Finishes status.Memory old new before after setup steps = StopsWith old new (codes "error 10 memory\n") setup steps
+Finishes status.Memory old new before after setup steps = StopsWith old new before after (codes "error 10 memory\n") setup steps
 Finishes _ old new before after setup steps = ⊥
 
 -- what playing a whole input leaves
@@ -127,8 +127,8 @@ abbrev pub Outputs : Status → List ℕ → Option (List ℕ) → Option (List 
 Outputs status.Done input old new before after = Answers input old new before after 0
 Outputs status.Setup input old new before after = Answers input old new before after 3
 Outputs status.Line input old new before after = Answers input old new before after 4
-Outputs status.Write input old new before after = Rose before after × BreaksOff input [] old new
-Outputs status.Memory input old new before after = BreaksOff input (codes "error 10 memory\n") old new
+Outputs status.Write input old new before after = Rose before after × BreaksOff input [] old new before after
+Outputs status.Memory input old new before after = BreaksOff input (codes "error 10 memory\n") old new before after
 Outputs _ input old new before after = ⊥
 
 -- what telling a fault of the setup leaves: its line, or that of want of memory

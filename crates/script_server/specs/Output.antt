@@ -38,8 +38,8 @@ pub record Answers (input : List ℕ) (old new : Option (List ℕ)) (before afte
   pub written : Appends old new ((output_of input fates).replies ++ shown)
   pub whole : (cut ≡ []) ⊎ Rose before after
 
--- The sink grew by a front of the replies of some fates, and then by a front of the line.
-pub record BreaksOff (input error : List ℕ) (old new : Option (List ℕ)) : Type 0 where
+-- The sink grew by a front of the replies of some fates, and then by the line, cut short only where the sink's count rose.
+pub record BreaksOff (input error : List ℕ) (old new : Option (List ℕ)) (before after : ℕ) : Type 0 where
   pub fates : List Fates
   pub front : List ℕ
   pub rest : List ℕ
@@ -48,6 +48,7 @@ pub record BreaksOff (input error : List ℕ) (old new : Option (List ℕ)) : Ty
   pub cut : List ℕ
   pub error_is : error ≡ shown ++ cut
   pub written : Appends old new (front ++ shown)
+  pub whole : (cut ≡ []) ⊎ Rose before after
 
 -- the replies of some fates, up to a line that is no step, and then its error, whole or cut by a fault
 pub record EndsAtLine (old new : Option (List ℕ)) (before after : ℕ) (setup : List Named) (steps : List ℕ) : Type 0 where
@@ -60,8 +61,8 @@ pub record EndsAtLine (old new : Option (List ℕ)) (before after : ℕ) (setup 
   pub written : Appends old new ((play_of setup steps fates).0 ++ shown)
   pub whole : (cut ≡ []) ⊎ Rose before after
 
--- a front of the replies of some fates, and then of an error
-pub record StopsWith (old new : Option (List ℕ)) (error : List ℕ) (setup : List Named) (steps : List ℕ) : Type 0 where
+-- a front of the replies of some fates, and then an error, whole or cut by a fault
+pub record StopsWith (old new : Option (List ℕ)) (before after : ℕ) (error : List ℕ) (setup : List Named) (steps : List ℕ) : Type 0 where
   pub fates : List Fates
   pub front : List ℕ
   pub rest : List ℕ
@@ -70,3 +71,4 @@ pub record StopsWith (old new : Option (List ℕ)) (error : List ℕ) (setup : L
   pub cut : List ℕ
   pub error_is : error ≡ shown ++ cut
   pub written : Appends old new (front ++ shown)
+  pub whole : (cut ≡ []) ⊎ Rose before after

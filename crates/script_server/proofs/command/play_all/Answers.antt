@@ -14,8 +14,9 @@ returns-in-Ok-line_error-clause-ended g c =
 
 pub returns-in-Err-line_error-clause-ended : goal.returns-in-Err-line_error-clause-ended
 returns-in-Err-line_error-clause-ended g c =
-    stops_with _ _ _ _ _ _ _ _ (part_of_whole _ _ _ _ _ c.in-Line.ensures.ended) c.write_or_drop-in-Err-line_error.ensures.written
+    stops_with _ _ _ _ _ _ _ _ (part_of_whole _ _ _ _ _ c.in-Line.ensures.ended)
+    (since _ _ _ _ _ _ c.in-Line.ensures.later c.write_or_drop-in-Err-line_error.ensures.written)
 
 pub returns-in-Memory-clause-ended : goal.returns-in-Memory-clause-ended
 returns-in-Memory-clause-ended g c =
-    stops_with _ _ _ _ _ _ _ _ c.in-Memory.ensures.ended c.write_or_drop-in-Memory.ensures.written
+    stops_with _ _ _ _ _ _ _ _ c.in-Memory.ensures.ended (since _ _ _ _ _ _ c.in-Memory.ensures.later c.write_or_drop-in-Memory.ensures.written)

@@ -16,8 +16,8 @@ outputs status.Usage bytes s old new before after e p = absurd p
 outputs status.Setup bytes s old new before after e p = absurd p
 outputs status.Line bytes s old new before after e p = answers_line bytes s old new before after e p
 outputs status.Read bytes s old new before after e p = absurd p
-outputs status.Write bytes s old new before after e p = (p.0, breaks_part bytes s old new e p.1)
-outputs status.Memory bytes s old new before after e p = breaks_stop bytes s old new _ e p
+outputs status.Write bytes s old new before after e p = (p.0, breaks_part bytes s old new before after e p.1)
+outputs status.Memory bytes s old new before after e p = breaks_stop bytes s old new before after _ e p
 outputs status.Long bytes s old new before after e p = absurd p
 
 pub returns-in-Ok : goal.returns-in-Ok
