@@ -56,10 +56,7 @@ fn emit_variable(
     match scope.place_of(name) {
         None => Err(EmitFault::Syntax(SyntaxKind::Unbound)),
         Some(place) => {
-            if place > u32::MAX as usize {
-                return Err(EmitFault::Memory);
-            }
-            out.push(left, Node::Var(place as u32))?;
+            out.push(left, Node::Var(place))?;
             Ok(())
         }
     }

@@ -41,7 +41,7 @@ pub enum Node {
     /// A value that the script spells.
     Lit(Value),
     /// A variable, by its place in the environment; the outermost is 0.
-    Var(u32),
+    Var(usize),
     /// The bindings, left to right, and then the body.
     Let { bindings: Numbers, body: u32 },
     /// An operation over its operands, left to right.

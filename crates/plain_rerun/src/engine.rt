@@ -107,10 +107,10 @@ fn applied(alloc: Global, op: Op, operands: Items) -> Result<Value, Halt>
 }
 
 // A variable's value.
-fn variable(alloc: Global, place: u32, env: &Items) -> Result<Value, AllocError>
+fn variable(alloc: Global, place: usize, env: &Items) -> Result<Value, AllocError>
     ensures { IfOk result (λ v. meaning v ≡ value_at env.now place) }
 {
-    match env.get(place as usize) {
+    match env.get(place) {
         Some(value) => value.try_clone(alloc),
         None => Ok(Value::Truth(false)),
     }
