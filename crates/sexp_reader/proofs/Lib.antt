@@ -6,4 +6,5 @@ pub mod Turns
 pub mod Taken
 pub mod Again
 pub mod Stays
+pub mod GoesOn
 pub mod Exact

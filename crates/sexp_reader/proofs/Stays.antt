@@ -23,11 +23,11 @@ use Rattle.sexp_reader.proofs.Turns.{read_utf8, short_test}
 use Rattle.sexp_reader.proofs.Again.{test_false}
 
 -- what is left, with more behind it
-abbrev extend : {A : Type 0} → List ℕ → Result (A × List ℕ) Fault → Result (A × List ℕ) Fault
+abbrev pub extend : {A : Type 0} → List ℕ → Result (A × List ℕ) Fault → Result (A × List ℕ) Fault
 extend more (Ok p) = Ok (p.0, p.1 ++ more)
 extend more (Err e) = Err e
 
-kinds_met : (e : Fault) (place : ℕ) (kind : ReadKind) {A : Type 0} (r : Result A Fault) → r ≡ Err e → r ≡ Err (place, kind) → e.1 ≡ kind
+pub kinds_met : (e : Fault) (place : ℕ) (kind : ReadKind) {A : Type 0} (r : Result A Fault) → r ≡ Err e → r ≡ Err (place, kind) → e.1 ≡ kind
 kinds_met e place kind r h k = let s : e ≡ (place, kind) = cc in ap (λ x. x.1) s
 
 -- a kind of fault that is not met inside
@@ -37,7 +37,7 @@ outside p k place kind r h o e i =
     let s : k ≡ kind = kinds_met (p, k) place kind r h e in
     let t : is_met_inside k ≡ true = ap is_met_inside s ∙ i in cc
 
-gap_more : (in_comment : Bool) (bytes more : List ℕ) (b : ℕ) (bs : List ℕ) → past_gap in_comment bytes ≡ b ∷ bs
+pub gap_more : (in_comment : Bool) (bytes more : List ℕ) (b : ℕ) (bs : List ℕ) → past_gap in_comment bytes ≡ b ∷ bs
     → past_gap in_comment (bytes ++ more) ≡ (b ∷ bs) ++ more
 gap_more in_comment [] more b bs h = absurd (cc)
 gap_more true (x ∷ xs) more b bs h = gap_more (not (x == 10)) xs more b bs h
@@ -137,7 +137,7 @@ rest_more rest more (Err e) = refl
 
 -- pieces
 
-piece_more : (place b : ℕ) (bs more : List ℕ) (state : State) → AtTokenEnd more → (piece place b bs state ≡ Err (place, Unclosed) → ⊥)
+pub piece_more : (place b : ℕ) (bs more : List ℕ) (state : State) → AtTokenEnd more → (piece place b bs state ≡ Err (place, Unclosed) → ⊥)
     → piece place b (bs ++ more) state ≡ extend more (piece place b bs state)
 piece_more place b bs more state e h =
     let read_at : List ℕ → Class → Result (State × List ℕ) Fault = λ t v. elim v [

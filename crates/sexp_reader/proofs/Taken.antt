@@ -203,13 +203,13 @@ Completes n items (opened d at before ∷ levels) bytes all =
 Completes n items (marked m at ∷ levels) bytes all =
     (middle : List ℕ) × (v : Val) × (after : List ℕ) × Gap bytes middle × Datum n middle v after × Takes (suc n) (marked_list m v) items levels after all
 
-gap_completes : (n : ℕ) (items : List Val) (levels : List Level) (bytes middle : List ℕ) (all : List Val) → Gap bytes middle
+pub gap_completes : (n : ℕ) (items : List Val) (levels : List Level) (bytes middle : List ℕ) (all : List Val) → Gap bytes middle
     → Completes n items levels middle all → Completes n items levels bytes all
 gap_completes n items [] bytes middle all g c = (c.0, gap_data g c.1, c.2)
 gap_completes n items (opened d at before ∷ levels) bytes middle all g c = (c.0, c.1, gap_data g c.2, c.3)
 gap_completes n items (marked m at ∷ levels) bytes middle all g c = (c.0, c.1, c.2, gap_gap g c.3, c.4, c.5)
 
-datum_completes : (n : ℕ) (v : Val) (items : List Val) (levels : List Level) (bytes after : List ℕ) (all : List Val) → Datum n bytes v after
+pub datum_completes : (n : ℕ) (v : Val) (items : List Val) (levels : List Level) (bytes after : List ℕ) (all : List Val) → Datum n bytes v after
     → Takes n v items levels after all → Completes n items levels bytes all
 datum_completes n v items [] bytes after all d t =
     (v ∷ t.0, a_datum n bytes bytes v after t.0 [] (no_gap bytes) d t.1, t.2 ∙ append_assoc items (v ∷ []) t.0)
@@ -220,9 +220,9 @@ datum_completes n v items (marked m at ∷ levels) bytes after all d t = (bytes,
 
 -- how many levels more may be opened behind a piece, and what comes before it
 pub record Goes (n : ℕ) (state next : State) (bytes rest : List ℕ) (all : List Val) : Type 0 where
-  left : ℕ
-  count : left + length next.levels ≡ 128
-  back : Completes left next.items next.levels rest all → Completes n state.items state.levels bytes all
+  pub left : ℕ
+  pub count : left + length next.levels ≡ 128
+  pub back : Completes left next.items next.levels rest all → Completes n state.items state.levels bytes all
 
 pub record Put (n : ℕ) (v : Val) (items : List Val) (levels : List Level) (rest : List ℕ) (all : List Val) : Type 0 where
   left : ℕ
@@ -402,7 +402,7 @@ token_goes n place b bs state p all h e k =
     (datum_goes n o.0 state (b ∷ bs) rest all h
     (subst P (take-append-drop (token_len (b ∷ bs)) (b ∷ bs)) (word_read place n token rest o.0 o.1 (token_here b bs (ap is_plain e)) (token_ends (b ∷ bs)))))
 
-piece_goes : (n place b : ℕ) (bs : List ℕ) (state : State) (p : State × List ℕ) (all : List Val) → n + length state.levels ≡ 128
+pub piece_goes : (n place b : ℕ) (bs : List ℕ) (state : State) (p : State × List ℕ) (all : List Val) → n + length state.levels ≡ 128
     → piece place b bs state ≡ Ok p → Goes n state p.0 (b ∷ bs) p.1 all
 piece_goes n place b bs state p all h k =
     let bad : Fault = (place, Token) in

@@ -9,7 +9,7 @@ mod scan;
 mod words;
 
 pub use fault::{ReadError, ReadFault, ReadKind};
-pub use laws::faults_stay;
+pub use laws::{faults_stay, unclosed_goes_on};
 pub use reader::read_all;
 
 #[cfg(test)]
