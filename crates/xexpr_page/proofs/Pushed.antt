@@ -1,14 +1,15 @@
 -- Pieces of a page, one behind the other.
-use Rattle.std.proofs.Common.{◌≡◌, ◌<◌, ◌≤◌, ◌+◌, ◌-◌, take, ℕ, zero, suc, List, [], ◌∷◌, ◌++◌, map, length, drop, get_or, add-one, true, Option, Some, None, option_map, refl, sym, ap, ◌∙◌, append_assoc, append-nil, arith}
+use Rattle.std.proofs.Common.{◌≡◌, ◌<◌, ◌≤◌, ◌+◌, ◌-◌, take, ℕ, zero, suc, List, [], ◌∷◌, ◌++◌, map, length, drop, get_or, add-one, true, Option, Some, None, option_map, refl, sym, ap, ◌∙◌, append_assoc, arith}
 use Rattle.std.proofs.Math.Seq.{drop-cons}
 use Rattle.std.proofs.lemmas.List.{take_rest}
 use Rattle.script_value.specs.Val.{val, vals_of, depth, depth_all}
 use Rattle.script_value.specs.Meaning.{meaning}
 use Rattle.script_value.specs.declared.value.Value.{Value}
-use Rattle.std.specs.Prelude.{Result, Err}
+use Rattle.std.specs.Prelude.{Err}
 use Rattle.xexpr_page.specs.declared.fault.RenderFault.{RenderFault}
 use Rattle.xexpr_page.specs.declared.fault.RenderFault.TheVariants.{Memory, NotPage}
-use Rattle.xexpr_page.specs.Page.{Pushes, join, appended, start_tag, end_tag, element, element_of, pair_in, is_element, page_of, children_of, attribute_of, attributes_of}
+use Rattle.xexpr_page.specs.Markup.{start_tag, end_tag, is_element}
+use Rattle.xexpr_page.specs.Page.{Pushes, join, appended, element, pair_in, page_of, children_of, attribute_of, attributes_of}
 
 some_of : {A : Type 0} (x y : A) → Some x ≡ Some y → x ≡ y
 some_of x y e = cc

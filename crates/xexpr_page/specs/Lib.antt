@@ -1,2 +1,5 @@
+pub mod Markup
 pub mod Page
+pub mod Renders
+pub mod Laws
 pub mod Vectors

@@ -1,5 +1,5 @@
 -- Small pages, computed.
-use Rattle.std.specs.Prelude.{◌≡◌, ℕ, pos, List, [], ◌∷◌, Some, None, codes, refl}
+use Rattle.std.specs.Prelude.{◌≡◌, pos, List, [], ◌∷◌, Some, None, codes, refl}
 use Rattle.script_value.specs.Val.{Val, number, text, symbol, list, vals_of}
 use Rattle.xexpr_page.specs.Page.{page_of}
 

@@ -1,6 +1,5 @@
 ghost use Rattle.std.specs.Prelude.{◌≡◌, ◌++◌, OnOk};
-ghost use Rattle.std.specs.List.{flat_map};
-ghost use Rattle.xexpr_page.specs.Page as spec;
+ghost use Rattle.xexpr_page.specs.Markup as spec;
 
 use std::alloc::AllocError;
 
@@ -28,7 +27,7 @@ fn push_attribute_byte(page: &mut Vec<u8>, byte: u8) -> Result<(), AllocError>
 
 /// Puts a text behind the page, with `&`, `<` and `>` as entities.
 pub fn push_text(page: &mut Vec<u8>, text: &str) -> Result<(), AllocError>
-    ensures { OnOk result (page.new.items ≡ page.old.items ++ flat_map spec.text_byte text.now) }
+    ensures { OnOk result (page.new.items ≡ page.old.items ++ spec.escaped_text text.now) }
 {
     for byte in text.as_bytes() {
         push_text_byte(page, *byte)?;
@@ -38,7 +37,7 @@ pub fn push_text(page: &mut Vec<u8>, text: &str) -> Result<(), AllocError>
 
 /// Puts an attribute's text behind the page, with `&`, `<`, `>` and `"` as entities.
 pub fn push_attribute_text(page: &mut Vec<u8>, text: &str) -> Result<(), AllocError>
-    ensures { OnOk result (page.new.items ≡ page.old.items ++ flat_map spec.attribute_byte text.now) }
+    ensures { OnOk result (page.new.items ≡ page.old.items ++ spec.escaped_attribute text.now) }
 {
     for byte in text.as_bytes() {
         push_attribute_byte(page, *byte)?;

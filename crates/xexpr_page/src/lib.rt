@@ -3,10 +3,12 @@
 
 mod escape;
 mod fault;
+mod laws;
 mod names;
 mod page;
 
 pub use fault::RenderFault;
+pub use laws::{attributes_stay_inside, texts_stay_inside};
 pub use page::render;
 
 #[cfg(test)]

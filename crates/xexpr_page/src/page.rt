@@ -1,8 +1,10 @@
-ghost use Rattle.std.specs.Prelude.{◌≡◌, ◌≤◌, ◌++◌, List, ℕ, map, option_map, Some, None, OnOk, if◌then◌else◌};
+ghost use Rattle.std.specs.Prelude.{◌≡◌, ◌≤◌, ◌++◌, List, ℕ, map, option_map, Some, None, OnOk, IfOk, if◌then◌else◌};
 ghost use Rattle.script_value.specs.Val.{list, val, vals_of, depth_all};
 ghost use Rattle.script_value.specs.Meaning.{meaning};
 ghost use Rattle.xexpr_page.specs.Page as spec;
-ghost use Rattle.xexpr_page.specs.Page.{page_of, element_of, children_of, Renders, Pushes};
+ghost use Rattle.xexpr_page.specs.Markup.{start_tag, end_tag};
+ghost use Rattle.xexpr_page.specs.Page.{page_of, element_of, children_of, Gives, Pushes};
+ghost use Rattle.xexpr_page.specs.Renders.{Renders};
 
 use crate::escape::{push_attribute_text, push_text};
 use crate::fault::RenderFault;
@@ -14,7 +16,12 @@ use std::alloc::{AllocError, Global};
 ///
 /// Where the value is no page, the answer is `NotPage`, and where memory runs out, `Memory`.
 pub fn render(alloc: Global, value: &Value) -> Result<Bytes, RenderFault>
-    ensures { Renders result (page_of (meaning value.now)) }
+    // The answer is the page of the value, or that there is none, unless memory ran out.
+    ensures page { Gives result (page_of (meaning value.now)) }
+    // What is shown are bytes that the grammar of pages gives the value.
+    ensures shown { IfOk result (λ bytes. Renders (meaning value.now) bytes) }
+    // Where that grammar gives the value bytes, they are shown, unless memory ran out.
+    ensures found { (wanted : List ℕ) → Renders (meaning value.now) wanted → Gives result (Some wanted) }
 {
     let mut page = Vec::new(alloc);
     push_page(&mut page, value)?;
@@ -132,7 +139,7 @@ fn split_attributes(parts: &[Value]) -> (&[Value], &[Value])
 
 // Puts `<NAME`, the attributes and `>` behind the page.
 fn push_start(page: &mut Vec<u8>, name: &Str, attributes: &[Value]) -> Result<(), RenderFault>
-    ensures { Pushes result page.old.items page.new.items (option_map (spec.start_tag name.now) (spec.attributes_of (vals_of (map meaning attributes.now)))) }
+    ensures { Pushes result page.old.items page.new.items (option_map (start_tag name.now) (spec.attributes_of (vals_of (map meaning attributes.now)))) }
 {
     page.push(b'<')?;
     page.extend_from_slice(name.as_str().as_bytes())?;
@@ -143,7 +150,7 @@ fn push_start(page: &mut Vec<u8>, name: &Str, attributes: &[Value]) -> Result<()
 
 // Puts `</NAME>` behind the page.
 fn push_end(page: &mut Vec<u8>, name: &Str) -> Result<(), AllocError>
-    ensures { OnOk result (page.new.items ≡ page.old.items ++ spec.end_tag name.now) }
+    ensures { OnOk result (page.new.items ≡ page.old.items ++ end_tag name.now) }
 {
     page.extend_from_slice(b"</")?;
     page.extend_from_slice(name.as_str().as_bytes())?;

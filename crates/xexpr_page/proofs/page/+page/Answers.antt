@@ -1,7 +1,8 @@
-use Rattle.std.proofs.Common.{◌≡◌, ◌∙◌, ap, sym, refl, rules, arith, true, map}
+use Rattle.std.proofs.Common.{◌≡◌, rules, arith, true, map}
 use Rattle.std.proofs.lemmas.Result.{err_from_is_err_and}
 use Rattle.script_value.specs.Val.{vals_of}
 use Rattle.script_value.specs.Meaning.{meaning}
+use Rattle.xexpr_page.specs.Markup.{is_element}
 use Rattle.xexpr_page.specs.Page as spec
 use Rattle.xexpr_page.proofs.Pushed.{child_more, child_none, child_depth, element_written, handed_on, first_item}
 use Rattle.xexpr_page.proofs.page.+page.Goals as goal
@@ -26,7 +27,7 @@ push_children-returns-in_err-push_page t c =
 
 pub push_element-returns : goal.push_element-returns
 push_element-returns t c =
-    let named : spec.is_element c.args.name.now ≡ true = search rules in
+    let named : is_element c.args.name.now ≡ true = search rules in
     rw (c.split_attributes.ensures.split c.args.name.now, c.in_ok-push_end.ensures)
     (element_written c.args.page.now.items c.push_start.new.page.items c.push_children.new.page.items c.args.name.now
     (spec.attributes_of (vals_of (map meaning c.split_attributes.result.0.now)))

@@ -1,0 +1,21 @@
+use Rattle.std.proofs.Common.{◌≡◌, Some, rules}
+use Rattle.std.specs.Prelude.{Ok}
+use Rattle.script_value.specs.Meaning.{meaning}
+use Rattle.xexpr_page.specs.Page.{page_of, Gives}
+use Rattle.xexpr_page.proofs.Grammar.{page_renders, answer_found}
+use Rattle.xexpr_page.proofs.page.render.Goals as goal
+
+pub returns-in_err-push_page-clause-found : goal.returns-in_err-push_page-clause-found
+returns-in_err-push_page-clause-found c =
+    let given : Gives c.from_residual.result (page_of (meaning c.args.value.now)) = search rules in
+    answer_found (meaning c.args.value.now) c.from_residual.result given
+
+pub returns-clause-shown : goal.returns-clause-shown
+returns-clause-shown c =
+    let given : page_of (meaning c.args.value.now) ≡ Some c.new.result = search rules in
+    page_renders (meaning c.args.value.now) c.new.result given
+
+pub returns-clause-found : goal.returns-clause-found
+returns-clause-found c =
+    let given : page_of (meaning c.args.value.now) ≡ Some c.new.result = search rules in
+    answer_found (meaning c.args.value.now) (Ok c.new.result) given

@@ -1,0 +1,27 @@
+-- Which bytes are the page of a value: the grammar of pages by cases.
+use Rattle.std.specs.Prelude.{◌≡◌, ℕ, true, List, [], ◌++◌}
+use Rattle.script_value.specs.Val.{Val, Vals, text, symbol, list, no_vals, val}
+use Rattle.xexpr_page.specs.Markup.{is_element, is_attribute, escaped_text, one_attribute, start_tag, end_tag}
+
+-- Attributes vs bytes: each of these values is a list of a name and a text, and the bytes are they as attributes, in order
+pub data Attributes : Vals → List ℕ → Type 0 where
+  no_attributes : Attributes no_vals []
+  attribute : (n t : List ℕ) (vs : Vals) (others : List ℕ) → is_attribute n ≡ true → Attributes vs others
+      → Attributes (val (list (val (symbol n) (val (text t) no_vals))) vs) (one_attribute n t ++ others)
+
+mutual
+  -- Renders v bytes: the bytes are the page of v
+  pub data Renders : Val → List ℕ → Type 0 where
+    -- a text gives its characters, escaped
+    a_text : (t : List ℕ) → Renders (text t) (escaped_text t)
+    -- (NAME child ..) gives the start tag, the children and the end tag
+    an_element : (n : List ℕ) (vs : Vals) (children : List ℕ) → is_element n ≡ true → Children vs children
+        → Renders (list (val (symbol n) vs)) (start_tag n [] ++ children ++ end_tag n)
+    -- (NAME (attribute ..) child ..) gives the same with the attributes in the start tag; a list of attributes is no child
+    with_attributes : (n : List ℕ) (ws vs : Vals) (attributes children : List ℕ) → is_element n ≡ true → Attributes ws attributes
+        → Children vs children → Renders (list (val (symbol n) (val (list ws) vs))) (start_tag n attributes ++ children ++ end_tag n)
+
+  -- Children vs bytes: the bytes are the pages of vs, one behind the other
+  pub data Children : Vals → List ℕ → Type 0 where
+    no_children : Children no_vals []
+    a_child : (v : Val) (vs : Vals) (first others : List ℕ) → Renders v first → Children vs others → Children (val v vs) (first ++ others)
