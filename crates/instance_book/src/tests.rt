@@ -17,35 +17,22 @@ fn form(values: Vec<Value>) -> Value {
     Value::List(Items::from_vec(values))
 }
 
-/// `(send/suspend (lambda (u) body))`
-fn page(alloc: Global, body: Value) -> Result<Value, AllocError> {
+/// `(send/suspend (lambda (u) "shown"))`
+fn page(alloc: Global, shown: &str) -> Result<Value, AllocError> {
     let parameters = form(vec![in alloc; symbol(alloc, "u")?]?);
-    let function = form(vec![in alloc; symbol(alloc, "lambda")?, parameters, body]?);
+    let function = form(vec![in alloc; symbol(alloc, "lambda")?, parameters, text(alloc, shown)?]?);
     Ok(form(vec![in alloc; symbol(alloc, "send/suspend")?, function]?))
 }
 
-/// `(let ((name value)) body)`
-fn binding(alloc: Global, name: &str, value: Value, body: Value) -> Result<Value, AllocError> {
-    let pair = form(vec![in alloc; symbol(alloc, name)?, value]?);
-    let bindings = form(vec![in alloc; pair]?);
-    Ok(form(vec![in alloc; symbol(alloc, "let")?, bindings, body]?))
-}
-
-/// `(list 'p a)`, or `(list 'p a b)`
-fn paragraph(alloc: Global, last: Option<&str>) -> Result<Value, AllocError> {
-    let word = form(vec![in alloc; symbol(alloc, "quote")?, symbol(alloc, "p")?]?);
-    let mut parts = vec![in alloc; symbol(alloc, "list")?, word, symbol(alloc, "a")?]?;
-    if let Some(name) = last {
-        parts.push(symbol(alloc, name)?)?;
-    }
-    Ok(form(parts))
-}
-
-/// `(let ((a PAGE)) (let ((b PAGE)) (list 'p a b)))`: two pages, and then their answers.
+/// `(list 'p PAGE PAGE)`: two pages, and then their answers.
 fn two_pages(alloc: Global) -> Result<Value, AllocError> {
-    let second = page(alloc, paragraph(alloc, None)?)?;
-    let rest = binding(alloc, "b", second, paragraph(alloc, Some("b"))?)?;
-    binding(alloc, "a", page(alloc, text(alloc, "a")?)?, rest)
+    let word = form(vec![in alloc; symbol(alloc, "quote")?, symbol(alloc, "p")?]?);
+    Ok(form(vec![in alloc;
+        symbol(alloc, "list")?,
+        word,
+        page(alloc, "a")?,
+        page(alloc, "b")?,
+    ]?))
 }
 
 fn target(path: &str) -> Result<Target, Fail> {
@@ -62,37 +49,32 @@ fn setup(alloc: Global) -> Result<Setup, Fail> {
     Ok(Setup::new(vec![in alloc; NamedScript { name, text, script }]?))
 }
 
-/// The reply of a visit, a take and its publish.
+/// The reply of a visit, a take and its publish; the nonce is 10 above the number.
 fn visit(
     alloc: Global,
     book: &mut Book,
     setup: &Setup,
     path: &str,
     answer: &str,
-    nonce: u64,
 ) -> Result<Reply, Fail> {
-    if book.drawn() >= 1_000 {
+    let drawn = book.drawn();
+    if drawn >= 1_000 {
         return Err(Fail::from("too many visits"));
     }
     let answer = text(alloc, answer)?;
-    match book.take(setup, target(path)?, answer, nonce) {
+    match book.take(setup, target(path)?, answer, drawn + 10) {
         Ok(ticket) => Ok(book.publish(alloc, setup, &ticket)),
         Err(reply) => Ok(reply),
     }
 }
 
+/// Whether a page is shown under a URL, or without one at the script's end.
 fn shows(reply: &Reply, page: &str, path: &str) -> bool {
     match reply {
         Reply::Page { bytes, url } => {
             bytes.as_slice() == page.as_bytes() && url.as_slice() == path.as_bytes()
         }
-        _ => false,
-    }
-}
-
-fn ends(reply: &Reply, page: &str) -> bool {
-    match reply {
-        Reply::Ended(bytes) => bytes.as_slice() == page.as_bytes(),
+        Reply::Ended(bytes) => bytes.as_slice() == page.as_bytes() && path == "",
         _ => false,
     }
 }
@@ -110,18 +92,17 @@ fn each_page_has_its_own_state(rt: HostRuntime) -> Result<(), Fail> {
     let alloc = rt.alloc();
     let setup = setup(alloc)?;
     let mut book = Book::empty(alloc, 7);
-    let first = visit(alloc, &mut book, &setup, "/servlets/s", "", 10)?;
-    assert!(rt; shows(&first, "a", FIRST));
-    let second = visit(alloc, &mut book, &setup, FIRST, "x", 11)?;
-    assert!(rt; shows(&second, "<p>x</p>", SECOND));
-    let last = visit(alloc, &mut book, &setup, SECOND, "y", 12)?;
-    assert!(rt; ends(&last, "<p>xy</p>"));
-    let again = visit(alloc, &mut book, &setup, FIRST, "z", 13)?;
-    assert!(rt; shows(&again, "<p>z</p>", AGAIN));
-    let behind = visit(alloc, &mut book, &setup, AGAIN, "w", 14)?;
-    assert!(rt; ends(&behind, "<p>zw</p>"));
-    let older = visit(alloc, &mut book, &setup, SECOND, "v", 15)?;
-    assert!(rt; ends(&older, "<p>xv</p>"));
+    for (path, answer, page, url) in [
+        ("/servlets/s", "", "a", FIRST),
+        (FIRST, "x", "b", SECOND),
+        (SECOND, "y", "<p>xy</p>", ""),
+        (FIRST, "z", "b", AGAIN),
+        (AGAIN, "w", "<p>zw</p>", ""),
+        (SECOND, "v", "<p>xv</p>", ""),
+    ] {
+        let reply = visit(alloc, &mut book, &setup, path, answer)?;
+        assert!(rt; shows(&reply, page, url), "{path} {answer}");
+    }
     assert_eq!(rt; book.drawn(), 6);
     Ok(())
 }
@@ -131,9 +112,9 @@ fn an_unknown_page_is_refused(rt: HostRuntime) -> Result<(), Fail> {
     let alloc = rt.alloc();
     let setup = setup(alloc)?;
     let mut book = Book::empty(alloc, 7);
-    let first = visit(alloc, &mut book, &setup, "/servlets/s", "", 10)?;
+    let first = visit(alloc, &mut book, &setup, "/servlets/s", "")?;
     assert!(rt; shows(&first, "a", FIRST));
-    let refused = visit(alloc, &mut book, &setup, NO_NONCE, "x", 11)?;
+    let refused = visit(alloc, &mut book, &setup, NO_NONCE, "x")?;
     let is_unknown = matches!(refused, Reply::Refused(Refusal::Unknown));
     assert!(rt; is_unknown);
     assert_eq!(rt; book.drawn(), 1);
