@@ -1,5 +1,5 @@
 // The real input and output, which count their own faults.
-ghost use Rattle.std.specs.Prelude.{◌≡◌};
+ghost use Rattle.std.specs.Prelude.{◌≡◌, None};
 ghost use Rattle.std.proofs.Common.{refl};
 
 use std::io::{ErrorKind, Read, Write};
@@ -43,6 +43,8 @@ impl<R: Read> Source for Reading<R> {
 
 impl<W: Write> Sink for Writing<W> {
     ghost written = { λ s. W.contents s.inner };
+
+    ghost handed = { λ _. None };
 
     ghost fault_count = { λ s. s.count };
 

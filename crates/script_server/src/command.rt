@@ -1,6 +1,7 @@
 ghost use Rattle.std.specs.Prelude.{◌≡◌, ◌≢◌, ◌⊎◌, Some, ◌≤◌, ◌<◌, ◌^◌, ◌+◌, ◌++◌, List, ℕ, length, codes, IfSome, IfOk, IsTrue, Contains, true, false, [], ◌∷◌, string_bytes};
 ghost use Rattle.std.specs.Fmt.{decimal};
 ghost use Rattle.web_outside.specs.Causes.{Rose};
+ghost use Rattle.web_outside.specs.Pieces.{HandsOn, HandsOnUnlessFault};
 ghost use Rattle.core_syntax.specs.Scripts.{scripts_of};
 ghost use Rattle.script_server.specs.declared.command.Status.{Status};
 ghost use Rattle.script_server.specs.Command as spec;
@@ -71,6 +72,8 @@ fn line_error(alloc: Global, number: u64) -> Result<String, AllocError>
 // Plays the steps behind a setup.
 fn play_all<O: Sink>(alloc: Global, setup: &Setup, steps: &[u8], output: &mut O) -> Status
     ensures ended { spec.Finishes result (O.written output.old) (O.written output.new) (O.fault_count output.old) (O.fault_count output.new) (scripts_of setup.now) steps.now }
+    ensures handed { HandsOnUnlessFault (O.written output.new) (O.handed output.new) (O.fault_count output.old) (O.fault_count output.new) }
+    ensures done { result ≡ Status.Done → HandsOn (O.written output.new) (O.handed output.new) }
     ensures later { O.fault_count output.old ≤ O.fault_count output.new }
 {
     match play(alloc, setup, steps, output) {
@@ -98,7 +101,8 @@ fn play_all<O: Sink>(alloc: Global, setup: &Setup, steps: &[u8], output: &mut O)
 
 // Tells the fault of a setup.
 fn tell_fault<O: Sink>(alloc: Global, error: &SetupError, output: &mut O) -> Status
-    ensures { Tells result (fault_of error.now) (O.written output.old) (O.written output.new) (O.fault_count output.old) (O.fault_count output.new) }
+    ensures tells { Tells result (fault_of error.now) (O.written output.old) (O.written output.new) (O.fault_count output.old) (O.fault_count output.new) }
+    ensures handed { HandsOnUnlessFault (O.written output.new) (O.handed output.new) (O.fault_count output.old) (O.fault_count output.new) }
 {
     match fault_line(alloc, error) {
         Ok(text) => {
@@ -115,7 +119,9 @@ fn tell_fault<O: Sink>(alloc: Global, error: &SetupError, output: &mut O) -> Sta
 // Plays the whole input.
 fn play_input<O: Sink>(alloc: Global, input: &[u8], output: &mut O) -> Status
     requires { length input.now ≤ 16777216 }
-    ensures { Outputs result input.now (O.written output.old) (O.written output.new) (O.fault_count output.old) (O.fault_count output.new) }
+    ensures outputs { Outputs result input.now (O.written output.old) (O.written output.new) (O.fault_count output.old) (O.fault_count output.new) }
+    ensures handed { HandsOnUnlessFault (O.written output.new) (O.handed output.new) (O.fault_count output.old) (O.fault_count output.new) }
+    ensures done { result ≡ Status.Done → HandsOn (O.written output.new) (O.handed output.new) }
 {
     match Parsed::parse(alloc, input) {
         Ok(parsed) => play_all(alloc, &parsed.setup, parsed.steps, output),
@@ -129,7 +135,7 @@ fn play_input<O: Sink>(alloc: Global, input: &[u8], output: &mut O) -> Status
 
 // Reads the input and plays it.
 fn run<I: Source, O: Sink>(alloc: Global, words: &[&str], input: &mut I, output: &mut O) -> Status
-    ensures { Explains result (record {
+    ensures explained { Explains result (record {
       words = texts words.now;
       input = I.left input.old;
       unread = I.left input.new;
@@ -140,6 +146,8 @@ fn run<I: Source, O: Sink>(alloc: Global, words: &[&str], input: &mut I, output:
       output_before = O.fault_count output.old;
       output_after = O.fault_count output.new;
     }) }
+    ensures handed { HandsOnUnlessFault (O.written output.new) (O.handed output.new) (O.fault_count output.old) (O.fault_count output.new) }
+    ensures done { result ≡ Status.Done → HandsOn (O.written output.new) (O.handed output.new) }
 {
     if !is_play(words) {
         write_or_drop(output, b"error 2 usage\n");
@@ -192,6 +200,9 @@ pub fn command<R, I: Source, O: Sink>(
     ensures complete { (bytes : List ℕ) → I.left input.old ≡ Some bytes → spec.IsPlayable bytes → spec.is_play (texts words.now) ≡ true
         → ¬ (Rose (I.fault_count input.old) (I.fault_count input.new)) → ¬ (Rose (O.fault_count output.old) (O.fault_count output.new))
         → (result ≡ 0) ⊎ (result ≡ 10) }
+    // All that was written was handed on, unless the output failed; a run that ends well has handed on all in any case.
+    ensures handed { HandsOnUnlessFault (O.written output.new) (O.handed output.new) (O.fault_count output.old) (O.fault_count output.new) }
+    ensures done { result ≡ 0 → HandsOn (O.written output.new) (O.handed output.new) }
     ensures usage { result ≡ 2 → spec.is_play (texts words.now) ≡ false }
     ensures read { result ≡ 5 → Rose (I.fault_count input.old) (I.fault_count input.new) }
     ensures write { result ≡ 6 → Rose (O.fault_count output.old) (O.fault_count output.new) }

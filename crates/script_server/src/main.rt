@@ -1,6 +1,9 @@
 //! Plays page scripts: reads a setup and steps, and writes the replies.
 #![tactic(auto)]
 
+ghost use Rattle.std.specs.Prelude.{◌≡◌, codes};
+ghost use Rattle.web_outside.specs.Pieces.{AppendsUnlessFault, HandsOnUnlessFault};
+
 mod adapters;
 mod command;
 mod fault;
@@ -56,7 +59,11 @@ fn run<R: Env + Input + Print + AllocGlobal>(rt: &R) -> u8 {
 }
 
 // Says that memory ran out before the command began, and answers the status of that.
-fn out_of_memory<O: Sink>(output: &mut O) -> u8 {
+fn out_of_memory<O: Sink>(output: &mut O) -> u8
+    ensures status { result ≡ 10 }
+    ensures line { AppendsUnlessFault (O.written output.old) (O.written output.new) (codes "error 10 memory\n") (O.fault_count output.old) (O.fault_count output.new) }
+    ensures handed { HandsOnUnlessFault (O.written output.new) (O.handed output.new) (O.fault_count output.old) (O.fault_count output.new) }
+{
     write_or_drop(output, b"error 10 memory\n");
     OUT_OF_MEMORY
 }

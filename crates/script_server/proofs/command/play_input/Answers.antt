@@ -20,8 +20,8 @@ outputs status.Write bytes s old new before after e p = (p.0, breaks_part bytes 
 outputs status.Memory bytes s old new before after e p = breaks_stop bytes s old new before after _ e p
 outputs status.Long bytes s old new before after e p = absurd p
 
-pub returns-in-Ok : goal.returns-in-Ok
-returns-in-Ok g c =
+pub returns-in-Ok-clause-outputs : goal.returns-in-Ok-clause-outputs
+returns-in-Ok-clause-outputs g c =
     outputs c.play_all.result c.args.input.now (parsed_of c.in-Ok.parsed) _ _ _ _ c.in-Ok.ensures.value c.play_all.ensures.ended
 
 -- a told fault of the setup is the whole answer
@@ -36,11 +36,11 @@ told status.Write bytes fault old new before after e p = absurd p
 told status.Memory bytes fault old new before after e p = breaks_early bytes old new before after _ p (appends_none old)
 told status.Long bytes fault old new before after e p = absurd p
 
-pub returns-in-Err-At : goal.returns-in-Err-At
-returns-in-Err-At g c =
+pub returns-in-Err-At-clause-outputs : goal.returns-in-Err-At-clause-outputs
+returns-in-Err-At-clause-outputs g c =
     let failed : setup_of c.args.input.now ≡ Err (fault_of c.in-Err-At.error) = search rules in
-    told c.tell_fault.result c.args.input.now _ _ _ _ _ failed c.tell_fault.ensures
+    told c.tell_fault.result c.args.input.now _ _ _ _ _ failed c.tell_fault.ensures.tells
 
-pub returns-in-Err-Memory : goal.returns-in-Err-Memory
-returns-in-Err-Memory g c =
+pub returns-in-Err-Memory-clause-outputs : goal.returns-in-Err-Memory-clause-outputs
+returns-in-Err-Memory-clause-outputs g c =
     breaks_early c.args.input.now _ _ _ _ _ c.write_or_drop.ensures.written (appends_none _)

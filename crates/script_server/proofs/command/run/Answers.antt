@@ -23,13 +23,13 @@ explain status.Write met bytes play read end short p = (play, read_to_end met by
 explain status.Memory met bytes play read end short p = (play, whole_input _ _ _ _ read end p)
 explain status.Long met bytes play read end short p = absurd p
 
-pub returns-in-Err-Memory : goal.returns-in-Err-Memory
-returns-in-Err-Memory g c =
+pub returns-in-Err-Memory-clause-explained : goal.returns-in-Err-Memory-clause-explained
+returns-in-Err-Memory-clause-explained g c =
     let plays : is_play (texts c.args.words.now) ≡ true = search rules in
     (plays, always _ _ (λ bytes. breaks_early bytes _ _ _ _ _ c.write_or_drop-in-Err-Memory.ensures.written (appends_none _)))
 
-pub returns-in-Ok : goal.returns-in-Ok
-returns-in-Ok g c =
+pub returns-in-Ok-clause-explained : goal.returns-in-Ok-clause-explained
+returns-in-Ok-clause-explained g c =
     let plays : is_play (texts c.args.words.now) ≡ true = search rules in
     let short : length c.in-Ok.bytes.items ≤ 16777216 = omega (arith, c.in-Ok.bytes.ok.0, c.in-Ok.ensures.within) in
-    explain c.play_input.result _ c.in-Ok.bytes.items plays c.in-Ok.ensures.whole c.in-Ok.ensures.end short (rw c.deref.ensures.value at c.play_input.ensures)
+    explain c.play_input.result _ c.in-Ok.bytes.items plays c.in-Ok.ensures.whole c.in-Ok.ensures.end short (rw c.deref.ensures.value at c.play_input.ensures.outputs)
