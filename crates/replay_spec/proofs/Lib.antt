@@ -1,3 +1,9 @@
 pub mod Goes
 pub mod Refused
+pub mod Numbered
+pub mod Ancestors
+pub mod Tidy
+pub mod Landed
+pub mod Admitted
+pub mod Stays
 pub mod Local

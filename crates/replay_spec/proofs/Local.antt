@@ -31,7 +31,7 @@ start_local b c t k s shelf (tape.shown bytes inside) =
 start_local b c t k s shelf (tape.ended bytes) = refl
 start_local b c t k s shelf (tape.faulted f) = refl
 
-page_decided : (b c : Book) (t : Ticket) (s : Named) (i j : Instance) (p : Page) → b.shelf ≡ c.shelf → i.number ≡ j.number
+pub page_decided : (b c : Book) (t : Ticket) (s : Named) (i j : Instance) (p : Page) → b.shelf ≡ c.shelf → i.number ≡ j.number
     → chain i.pages p ≡ chain j.pages p → decide b t (resumes s i p) ≡ decide c t (resumes s j p)
 page_decided b c t s i j p shelf number pages =
     ap (λ (x : Tape). page_stops b t s i p (run s.core x)) (tape_local b c t s i j p shelf number pages)

@@ -37,30 +37,33 @@ pub data Effect : Type 0 where
   -- a page of the instance was answered, and the script ended there
   ends : (instance number : ℕ) → Effect
 
+-- the first of a number
+abbrev pub at_number : {A : Type 0} → (A → ℕ) → ℕ → List A → Option A
+at_number number n [] = None
+at_number number n (x ∷ xs) = if number x == n then Some x else at_number number n xs
+
 abbrev pub instance_at : ℕ → List Instance → Option Instance
-instance_at n [] = None
-instance_at n (i ∷ is) = if i.number == n then Some i else instance_at n is
+instance_at n is = at_number (λ i. i.number) n is
 
 abbrev pub page_at : ℕ → List Page → Option Page
-page_at n [] = None
-page_at n (p ∷ ps) = if p.number == n then Some p else page_at n ps
+page_at n ps = at_number (λ p. p.number) n ps
 
 -- the first instance of this number, changed
 abbrev pub mend : ℕ → (Instance → Instance) → List Instance → List Instance
 mend n f [] = []
 mend n f (i ∷ is) = if i.number == n then f i ∷ is else i ∷ mend n f is
 
--- a page among others, in the order of their numbers
-abbrev pub put_page : Page → List Page → List Page
-put_page p [] = p ∷ []
-put_page p (q ∷ qs) =
-    if nat_lt p.number q.number then p ∷ q ∷ qs else (if p.number == q.number then p ∷ qs else q ∷ put_page p qs)
+-- one more among others in the order of their numbers, in the place of the one of its number
+abbrev pub put_in_order : {A : Type 0} → (A → ℕ) → A → List A → List A
+put_in_order number x [] = x ∷ []
+put_in_order number x (y ∷ ys) =
+    if nat_lt (number x) (number y) then x ∷ y ∷ ys else (if number x == number y then x ∷ ys else y ∷ put_in_order number x ys)
 
--- an instance among others, in the order of their numbers
+abbrev pub put_page : Page → List Page → List Page
+put_page p ps = put_in_order (λ q. q.number) p ps
+
 abbrev pub put_instance : Instance → List Instance → List Instance
-put_instance i [] = i ∷ []
-put_instance i (j ∷ js) =
-    if nat_lt i.number j.number then i ∷ j ∷ js else (if i.number == j.number then i ∷ js else j ∷ put_instance i js)
+put_instance i is = put_in_order (λ j. j.number) i is
 
 abbrev pub with_page : Page → Instance → Instance
 with_page p i = record i { pages = put_page p i.pages }
