@@ -2,8 +2,12 @@
 use Rattle.std.specs.Prelude.{◌≡◌, ℕ, ◌+◌, ◌≤◌, List, [], ◌∷◌, ◌++◌, length, map, codes, Option, Some, true}
 use Rattle.std.specs.Fmt.{decimal}
 use Rattle.core_syntax.specs.Setup.{Named}
+use Rattle.replay_spec.specs.Book.{empty_book}
+use Rattle.replay_spec.specs.Step.{Event, Fate}
+use Rattle.replay_spec.specs.Runs.{after}
+use Rattle.replay_spec.specs.Laws.{AreLawful}
 use Rattle.play_steps.specs.Step.{Request, is_target, requests}
-use Rattle.play_steps.specs.Visit.{Table, Fates, visit}
+use Rattle.play_steps.specs.Visit.{Table, first_table, Fates, visit}
 use Rattle.play_steps.specs.Transcript.{transcript, first_fates, later_fates}
 
 -- the table that visits leave, and the fates that are left behind them
@@ -19,6 +23,12 @@ RepliesGoOn =
     let first = transcript setup t number (map Some rs) fates in
     let later = transcript setup left.0 (number + length rs) more left.1 in
     transcript setup t number (map Some rs ++ more) fates ≡ (first.0 ++ later.0, later.1)
+
+-- the book that visits leave is what lawful events make of an empty one, so what holds of all of these holds of it
+abbrev pub VisitsAreLawful : Type 0
+VisitsAreLawful =
+    (setup : List Named) (rs : List Request) (fates : List Fates)
+    → (xs : List (Event × Fate)) × (AreLawful setup xs (empty_book 0) × ((left_by setup first_table rs fates).0.book ≡ after setup xs (empty_book 0)))
 
 -- the line of a request: `get W TARGET` and a newline
 abbrev pub line_of : Request → List ℕ
