@@ -1,5 +1,3 @@
-ghost use Rattle.std.specs.Prelude.{◌<◌};
-
 use crate::command::command;
 use std::alloc::Global;
 use std::test::Fail;
@@ -8,14 +6,15 @@ use web_outside::{TextSink, TextSource};
 const SUM: &str =
     "(let ((a (string->number (extract-binding/single 'n (send/suspend (lambda (u) (list 'a (list (list 'href u)) \"1\")))))) (b (string->number (extract-binding/single 'n (send/suspend (lambda (u) (list 'a (list (list 'href u)) \"2\"))))))) (list 'p (number->string (+ a b))))";
 
-// How the outside treats a run: which reads and writes fail, the greatest piece of a read, and the room of the output.
+// How the outside treats a run: which reads and writes fail, the greatest piece of a read, the room of the output, and
+// whether its flushes fail.
 #[derive(Clone, Copy)]
 struct Outside<'a> {
     reads: &'a [u64],
     greatest: usize,
     writes: &'a [u64],
     room: usize,
-    ghost moves: { 0 < greatest },
+    stuck: bool,
 }
 
 const FAIR: Outside<'static> = Outside {
@@ -23,37 +22,50 @@ const FAIR: Outside<'static> = Outside {
     greatest: 4096,
     writes: &[],
     room: 100_000,
+    stuck: false,
 };
 
-// The status, and what was written.
+const PLAY: &[&str] = &["hovgyelit", "play"];
+
+// The status, what was written, and whether all of that was handed on.
+#[derive(Drop)]
+struct Outcome {
+    status: u8,
+    text: String,
+    handed: bool,
+}
+
 fn played(
     rt: &HostRuntime,
     words: &[&str],
     input: &[u8],
     outside: &Outside,
-) -> Result<(u8, String), Fail> {
+) -> Result<Outcome, Fail> {
     let alloc = rt.alloc();
-    let mut source = TextSource::new(
-        input.to_vec(alloc)?,
-        outside.reads.to_vec(alloc)?,
-        outside.greatest,
-    );
+    let reads = outside.reads.to_vec(alloc)?;
+    let mut source = TextSource::new(input.to_vec(alloc)?, reads, outside.greatest.max(1));
     let mut sink = TextSink::new(alloc, outside.room, outside.writes.to_vec(alloc)?)?;
+    if outside.stuck {
+        sink.stick();
+    }
     let status = command(rt, alloc, words, &mut source, &mut sink);
-    let text = String::from_utf8(sink.bytes().to_vec(alloc)?).map_err(|_| "no text")?;
-    Ok((status, text))
+    Ok(Outcome {
+        status,
+        text: String::from_str(alloc, str::from_utf8(sink.bytes())?)?,
+        handed: sink.handed() == sink.bytes(),
+    })
 }
 
-// The input with a script and steps.
+// The input with a script of the name `sum` and steps.
 fn input_of(alloc: Global, script: &str, steps: &str) -> Result<String, Fail> {
     let length = script.len();
     Ok(format!(in alloc; "script sum {length}\n{script}\nsteps\n{steps}")?)
 }
 
 // What `play` answers for a script and steps.
-fn answered(rt: &HostRuntime, script: &str, steps: &str) -> Result<(u8, String), Fail> {
+fn answered(rt: &HostRuntime, script: &str, steps: &str) -> Result<Outcome, Fail> {
     let input = input_of(rt.alloc(), script, steps)?;
-    played(rt, &["hovgyelit", "play"], input.as_bytes(), &FAIR)
+    played(rt, PLAY, input.as_bytes(), &FAIR)
 }
 
 const VISITS: &str = "get 0 /servlets/sum
@@ -88,192 +100,194 @@ const SHOWN: &str = "0 200 52
 fn a_sum_goes_on_and_back_and_again(rt: HostRuntime) -> Result<(), Fail> {
     let input = input_of(rt.alloc(), SUM, VISITS)?;
     for greatest in [1, 7, 5000] {
-        let outside = Outside {
-            reads: &[],
-            greatest,
-            writes: &[],
-            room: 10_000,
-        };
-        let (status, text) = played(&rt, &["hovgyelit", "play"], input.as_bytes(), &outside)?;
-        assert_eq!(rt; text.as_str(), SHOWN, "in pieces of {greatest}");
-        assert_eq!(rt; status, 0);
+        let outside = Outside { greatest, ..FAIR };
+        let outcome = played(&rt, PLAY, input.as_bytes(), &outside)?;
+        assert_eq!(rt; outcome.text.as_str(), SHOWN, "in pieces of {greatest}");
+        assert_eq!(rt; outcome.status, 0);
+        assert!(rt; outcome.handed);
     }
     Ok(())
 }
+
+// Scripts, and what their start is answered.
+const STARTS: &[(&str, &str)] = &[
+    ("(list 'p (number->string (+ 'a 1)))", "0 500 type\n"),
+    (
+        "(number->string (+ 9223372036854775807 1))",
+        "0 500 overflow\n",
+    ),
+    ("(extract-binding/single 'n '())", "0 500 binding\n"),
+    (
+        "(extract-binding/single 'n '((n \"1\") (n \"2\")))",
+        "0 500 binding\n",
+    ),
+    ("5", "0 500 page\n"),
+    ("'(br)", "0 500 page\n"),
+    ("(send/suspend (lambda (u) 5))", "0 500 page\n"),
+    ("'(p \"x<y&z\")", "0 200 19\n<p>x&lt;y&amp;z</p>\n"),
+];
 
 #[test]
 fn a_script_stops_by_its_own_faults(rt: HostRuntime) -> Result<(), Fail> {
-    let rows = [
-        ("(list 'p (number->string (+ 'a 1)))", "0 500 type\n"),
-        (
-            "(number->string (+ 9223372036854775807 1))",
-            "0 500 overflow\n",
-        ),
-        ("(extract-binding/single 'n '())", "0 500 binding\n"),
-        (
-            "(extract-binding/single 'n '((n \"1\") (n \"2\")))",
-            "0 500 binding\n",
-        ),
-        ("5", "0 500 page\n"),
-        ("'(br)", "0 500 page\n"),
-        ("(send/suspend (lambda (u) 5))", "0 500 page\n"),
-        ("'(p \"x<y&z\")", "0 200 19\n<p>x&lt;y&amp;z</p>\n"),
-    ];
-    for (script, reply) in rows {
-        let (status, text) = answered(&rt, script, "get 0 /servlets/sum\n")?;
-        assert_eq!(rt; text.as_str(), reply, "of {script}");
-        assert_eq!(rt; status, 0);
+    for (script, reply) in STARTS {
+        let outcome = answered(&rt, script, "get 0 /servlets/sum\n")?;
+        assert_eq!(rt; outcome.text.as_str(), *reply, "of {script}");
+        assert_eq!(rt; outcome.status, 0);
     }
     Ok(())
 }
 
-// `open` as often as `count` says, then the middle, and `close` as often.
-fn nested(
+// A text between others, as often as `count` says.
+fn repeated(
     alloc: Global,
-    open: &str,
-    middle: &str,
-    close: &str,
+    before: &str,
+    text: &str,
     count: usize,
+    after: &str,
 ) -> Result<String, Fail> {
-    let mut text = String::new(alloc);
+    let mut all = String::from_str(alloc, before)?;
     for _ in 0..count {
-        text.push_str(open)?;
+        all.push_str(text)?;
     }
-    text.push_str(middle)?;
-    for _ in 0..count {
-        text.push_str(close)?;
-    }
-    Ok(text)
+    all.push_str(after)?;
+    Ok(all)
 }
 
 #[test]
 fn a_value_nests_200_lists_deep(rt: HostRuntime) -> Result<(), Fail> {
     let alloc = rt.alloc();
-    let inner = nested(alloc, "(", "", ")", 100)?;
+    let inner = repeated(alloc, "'", "(", 100, "")?;
+    let inner = repeated(alloc, inner.as_str(), ")", 100, "")?;
     for (count, reply) in [(100, "0 500 page\n"), (101, "0 500 deep\n")] {
-        let outer = nested(alloc, "(list ", "a", ")", count)?;
-        let script = format!(in alloc; "(let ((a '{inner})) {outer})")?;
-        let (status, text) = answered(&rt, script.as_str(), "get 0 /servlets/sum\n")?;
-        assert_eq!(rt; text.as_str(), reply, "{count} lists around 100");
-        assert_eq!(rt; status, 0);
+        let outer = repeated(alloc, "", "(list ", count, "a")?;
+        let outer = repeated(alloc, outer.as_str(), ")", count, "")?;
+        let script = format!(in alloc; "(let ((a {inner})) {outer})")?;
+        let outcome = answered(&rt, script.as_str(), "get 0 /servlets/sum\n")?;
+        assert_eq!(rt; outcome.text.as_str(), reply, "{count} lists around 100");
     }
     Ok(())
 }
+
+const UNKNOWN: &[&str] = &[
+    "/servlets/other",
+    "/servlets/sum/",
+    "/servlets/s%2575m",
+    "/servlets/s%7",
+    "/servlets/sum;1*0*0*0000000000000000",
+    "/servlets/sum;0*1*0*0000000000000000",
+    "/servlets/sum;0*0*1*0000000000000000",
+    "/servlets/sum;0*0*0*0000000000000001",
+    "/servlets/sum;0*0*00*0000000000000000",
+    "/servlets/sum;0*0*0*000000000000000A",
+    "/servlets/other;0*0*0*0000000000000000",
+    "!",
+];
 
 #[test]
 fn other_names_are_unknown(rt: HostRuntime) -> Result<(), Fail> {
-    for target in [
-        "/servlets/other",
-        "/servlets/sum/",
-        "/servlets/s%2575m",
-        "/servlets/s%7",
-        "/servlets/sum;1*0*0*0000000000000000",
-        "/servlets/sum;0*1*0*0000000000000000",
-        "/servlets/sum;0*0*1*0000000000000000",
-        "/servlets/sum;0*0*0*0000000000000001",
-        "/servlets/sum;0*0*00*0000000000000000",
-        "/servlets/sum;0*0*0*000000000000000A",
-        "/servlets/other;0*0*0*0000000000000000",
-        "!",
-    ] {
+    for target in UNKNOWN {
         let steps = format!(in rt.alloc(); "get 0 /servlets/sum\nget 3 {target}?n=1\n")?;
-        let (status, text) = answered(&rt, SUM, steps.as_str())?;
-        assert!(rt; text.ends_with("\n3 404 unknown\n"), "{target}");
-        assert_eq!(rt; status, 0);
+        let outcome = answered(&rt, SUM, steps.as_str())?;
+        assert!(rt; outcome.text.ends_with("\n3 404 unknown\n"), "{target}");
+        assert_eq!(rt; outcome.status, 0);
     }
     Ok(())
 }
 
-// The line of status 3 that `play` writes for an input; the status stands first where it is another.
-fn fault_of(rt: &HostRuntime, input: &str) -> Result<String, Fail> {
-    let (status, text) = played(rt, &["hovgyelit", "play"], input.as_bytes(), &FAIR)?;
-    if status == 3 {
-        Ok(text)
-    } else {
-        Ok(format!(in rt.alloc(); "{status} {text}")?)
-    }
-}
+// Inputs, and what is told of their setups.
+const SETUPS: &[(&str, &str)] = &[
+    ("", "setup 0 end"),
+    ("steps\n", "setup 0 empty"),
+    ("steps", "setup 0 section"),
+    ("script a 2\n'a\n", "setup 14 end"),
+    ("script a 2\n'a\nsteps", "setup 14 section"),
+    ("script a 2\n'a", "setup 0 section"),
+    ("script a 02\n'a\nsteps\n", "setup 0 section"),
+    ("script a 16777217\n'a\nsteps\n", "setup 0 section"),
+    ("script A 2\n'a\nsteps\n", "setup 0 section"),
+    ("script  2\n'a\nsteps\n", "setup 0 section"),
+    ("script a  2\n'a\nsteps\n", "setup 0 section"),
+    (
+        "script a 2\n'a\nscript b 3\n'a\nsteps\n",
+        "setup 14 section",
+    ),
+    (
+        "script a 2\n'a\nscript a 2\n'a\nsteps\n",
+        "setup 14 repeat",
+    ),
+    (
+        "script a 2\n'a\nscript a 3\n'a\nsteps\n",
+        "setup 14 section",
+    ),
+    (
+        "script a 2\n'a\nscript a 1\n(\nsteps\n",
+        "setup 14 repeat",
+    ),
+    (" script a 2\n'a\nsteps\n", "setup 0 section"),
+    ("script a 1\n(\nscript a 1\n", "a read 0 unclosed"),
+    ("script a 0\n\nsteps\n", "a syntax 0 shape"),
+];
 
 #[test]
 fn the_first_fault_of_a_setup_is_told(rt: HostRuntime) -> Result<(), Fail> {
-    let rows = [
-        ("", "0 end"),
-        ("steps\n", "0 empty"),
-        ("steps", "0 section"),
-        ("script a 2\n'a\n", "14 end"),
-        ("script a 2\n'a\nsteps", "14 section"),
-        ("script a 2\n'a", "0 section"),
-        ("script a 02\n'a\nsteps\n", "0 section"),
-        ("script a 16777217\n'a\nsteps\n", "0 section"),
-        ("script A 2\n'a\nsteps\n", "0 section"),
-        ("script  2\n'a\nsteps\n", "0 section"),
-        ("script a  2\n'a\nsteps\n", "0 section"),
-        ("script a 2\n'a\nscript b 3\n'a\nsteps\n", "14 section"),
-        ("script a 2\n'a\nscript a 2\n'a\nsteps\n", "14 repeat"),
-        ("script a 2\n'a\nscript a 3\n'a\nsteps\n", "14 section"),
-        ("script a 2\n'a\nscript a 1\n(\nsteps\n", "14 repeat"),
-        (" script a 2\n'a\nsteps\n", "0 section"),
-    ];
-    for (input, wanted) in rows {
-        let line = fault_of(&rt, input)?;
-        let wanted = format!(in rt.alloc(); "error 3 setup {wanted}\n")?;
-        assert_eq!(rt; line.as_str(), wanted.as_str(), "of {input}");
+    for (input, fault) in SETUPS {
+        let outcome = played(&rt, PLAY, input.as_bytes(), &FAIR)?;
+        let line = format!(in rt.alloc(); "error 3 {fault}\n")?;
+        assert_eq!(rt; outcome.text.as_str(), line.as_str(), "of {input}");
+        assert_eq!(rt; outcome.status, 3);
+        assert!(rt; outcome.handed);
     }
-    let early = fault_of(&rt, "script a 1\n(\nscript a 1\n")?;
-    assert_eq!(rt; early.as_str(), "error 3 a read 0 unclosed\n");
     Ok(())
 }
+
+// Whether the script of this text is refused with this fault.
+fn is_refused(rt: &HostRuntime, script: &str, fault: &str) -> Result<bool, Fail> {
+    let outcome = answered(rt, script, "")?;
+    let line = format!(in rt.alloc(); "error 3 sum {fault}\n")?;
+    Ok(outcome.status == 3 && outcome.text.as_str() == line.as_str())
+}
+
+const FAULTS: &[(&str, &str)] = &[
+    ("(p \"", "read 3 unclosed"),
+    ("(p]", "read 2 mismatch"),
+    ("1 )", "read 2 unopened"),
+    ("(list 1a)", "read 6 token"),
+    ("(list 9223372036854775808)", "read 6 range"),
+    ("(list 'p x)", "syntax 0 unbound"),
+    ("1 2", "syntax 0 shape"),
+    ("(define c (make-web-cell 1)) 'p", "syntax 0 shape"),
+    ("`p", "syntax 0 shape"),
+    ("(let ((a 1) (a 2)) a)", "syntax 0 duplicate"),
+    ("(number->string)", "syntax 0 arity"),
+    (
+        "(send/suspend (lambda (u) (send/suspend (lambda (v) v))))",
+        "syntax 0 nestedsend",
+    ),
+];
 
 #[test]
 fn the_first_fault_of_a_script_is_told(rt: HostRuntime) -> Result<(), Fail> {
-    let rows = [
-        ("", "syntax 0 shape"),
-        ("(p \"", "read 3 unclosed"),
-        ("(p]", "read 2 mismatch"),
-        ("1 )", "read 2 unopened"),
-        ("(list 1a)", "read 6 token"),
-        ("(list 9223372036854775808)", "read 6 range"),
-        ("(list 'p x)", "syntax 0 unbound"),
-        ("1 2", "syntax 0 shape"),
-        ("(define c (make-web-cell 1)) 'p", "syntax 0 shape"),
-        ("`p", "syntax 0 shape"),
-        ("(let ((a 1) (a 2)) a)", "syntax 0 duplicate"),
-        ("(number->string)", "syntax 0 arity"),
-        (
-            "(send/suspend (lambda (u) (send/suspend (lambda (v) v))))",
-            "syntax 0 nestedsend",
-        ),
-    ];
-    for (script, wanted) in rows {
-        let input = input_of(rt.alloc(), script, "get 0 /servlets/sum\n")?;
-        let line = fault_of(&rt, input.as_str())?;
-        let wanted = format!(in rt.alloc(); "error 3 sum {wanted}\n")?;
-        assert_eq!(rt; line.as_str(), wanted.as_str(), "of {script}");
+    for (script, fault) in FAULTS {
+        assert!(rt; is_refused(&rt, script, fault)?, "of {script}");
     }
     Ok(())
 }
 
-// The line of status 3 for a script of this text, or the whole output where there is none.
-fn text_fault(rt: &HostRuntime, text: &str) -> Result<String, Fail> {
-    let input = input_of(rt.alloc(), text, "")?;
-    fault_of(rt, input.as_str())
-}
+// Long texts: what stands before and behind the part that is repeated, and what is told of them.
+const LIMITS: &[(&str, &str, usize, &str, &str)] = &[
+    ("", " ", 65_535, "'a", "read 65536 long"),
+    ("", "(", 65_536, "", "read 128 deep"),
+    ("(list", " 1", 16_384, ")", "syntax 0 toomany"),
+];
 
 #[test]
 fn texts_have_their_limits(rt: HostRuntime) -> Result<(), Fail> {
-    let alloc = rt.alloc();
-    let longest = nested(alloc, " ", "'a", "", 65_534)?;
-    let accepted = text_fault(&rt, longest.as_str())?;
-    assert_eq!(rt; accepted.as_str(), "0 ");
-    let long = nested(alloc, " ", "'a", "", 65_535)?;
-    let refused = text_fault(&rt, long.as_str())?;
-    assert_eq!(rt; refused.as_str(), "error 3 sum read 65536 long\n");
-    let open = nested(alloc, "(", "", "", 65_536)?;
-    let deep = text_fault(&rt, open.as_str())?;
-    assert_eq!(rt; deep.as_str(), "error 3 sum read 128 deep\n");
-    let wide = nested(alloc, " 1", "", "", 16_384)?;
-    let many = text_fault(&rt, format!(in alloc; "(list{wide})")?.as_str())?;
-    assert_eq!(rt; many.as_str(), "error 3 sum syntax 0 toomany\n");
+    for (before, text, count, after, fault) in LIMITS {
+        let script = repeated(rt.alloc(), before, text, *count, after)?;
+        assert!(rt; is_refused(&rt, script.as_str(), fault)?, "{fault}");
+    }
+    let longest = repeated(rt.alloc(), "", " ", 65_534, "'a")?;
+    assert_eq!(rt; answered(&rt, longest.as_str(), "")?.status, 0);
     Ok(())
 }
 
@@ -281,7 +295,7 @@ fn texts_have_their_limits(rt: HostRuntime) -> Result<(), Fail> {
 fn a_setup_has_up_to_15_scripts(rt: HostRuntime) -> Result<(), Fail> {
     let alloc = rt.alloc();
     for (count, wanted) in [
-        (15, "0 0 200 8\n<p>1</p>\n"),
+        (15, "0 200 8\n<p>1</p>\n"),
         (16, "error 3 setup 330 many\n"),
     ] {
         let mut input = String::new(alloc);
@@ -289,8 +303,8 @@ fn a_setup_has_up_to_15_scripts(rt: HostRuntime) -> Result<(), Fail> {
             input.push_str(format!(in alloc; "script s{place} 8\n'(p \"1\")\n")?.as_str())?;
         }
         input.push_str("steps\nget 0 /servlets/s24\n")?;
-        let line = fault_of(&rt, input.as_str())?;
-        assert_eq!(rt; line.as_str(), wanted, "{count} scripts");
+        let outcome = played(&rt, PLAY, input.as_bytes(), &FAIR)?;
+        assert_eq!(rt; outcome.text.as_str(), wanted, "{count} scripts");
     }
     Ok(())
 }
@@ -308,9 +322,9 @@ get 0 /servlets/sum;0%2A0%2A0%2A0000000000000000?n=3
 get 0 /servlets/s%75m;0*0*2*0000000000000002?n=4
 "
     )?;
-    let (status, text) = played(&rt, &["hovgyelit", "play"], input.as_bytes(), &FAIR)?;
+    let outcome = played(&rt, PLAY, input.as_bytes(), &FAIR)?;
     assert_eq!(rt;
-        text.as_str(),
+        outcome.text.as_str(),
         "0 200 52
 <a href=\"/servlets/sum;0*0*0*0000000000000000\">1</a>
 0 200 12
@@ -323,43 +337,46 @@ get 0 /servlets/s%75m;0*0*2*0000000000000002?n=4
 <p>7</p>
 "
     );
-    assert_eq!(rt; status, 0);
+    assert_eq!(rt; outcome.status, 0);
     Ok(())
 }
 
+const NO_STEPS: &[&str] = &[
+    "get 16 /x\n",
+    "get 00 /x\n",
+    "get 0  /x\n",
+    "get 0 /x",
+    "get 0 \n",
+    "take 0 /x\n",
+    "\n",
+];
+
 #[test]
 fn a_line_that_is_no_step_ends_the_run(rt: HostRuntime) -> Result<(), Fail> {
-    for line in [
-        "get 16 /x\n",
-        "get 00 /x\n",
-        "get 0  /x\n",
-        "get 0 /x",
-        "get 0 \n",
-        "take 0 /x\n",
-        "\n",
-    ] {
+    for line in NO_STEPS {
         let steps = format!(in rt.alloc(); "get 1 /none\n{line}")?;
-        let (status, text) = answered(&rt, "'a", steps.as_str())?;
-        assert_eq!(rt; text.as_str(), "1 404 unknown\nerror 4 2\n", "at {line}");
-        assert_eq!(rt; status, 4);
+        let outcome = answered(&rt, "'a", steps.as_str())?;
+        assert_eq!(rt; outcome.text.as_str(), "1 404 unknown\nerror 4 2\n", "at {line}");
+        assert_eq!(rt; outcome.status, 4);
+        assert!(rt; outcome.handed);
     }
     Ok(())
 }
 
-// Whether a command of these words is refused, and says so.
-fn is_refused(rt: &HostRuntime, words: &[&str]) -> Result<bool, Fail> {
-    let (status, text) = played(rt, words, b"", &FAIR)?;
-    Ok(status == 2 && text.as_str() == "error 2 usage\n")
-}
+const NO_COMMANDS: &[&[&str]] = &[
+    &["hovgyelit"],
+    &["hovgyelit", "serve"],
+    &["hovgyelit", "play", "play"],
+];
 
 #[test]
 fn other_words_are_refused(rt: HostRuntime) -> Result<(), Fail> {
-    let name_alone = is_refused(&rt, &["hovgyelit"])?;
-    assert!(rt; name_alone);
-    let another_word = is_refused(&rt, &["hovgyelit", "serve"])?;
-    assert!(rt; another_word);
-    let one_word_more = is_refused(&rt, &["hovgyelit", "play", "play"])?;
-    assert!(rt; one_word_more);
+    for words in NO_COMMANDS {
+        let outcome = played(&rt, words, b"", &FAIR)?;
+        assert_eq!(rt; outcome.text.as_str(), "error 2 usage\n");
+        assert_eq!(rt; outcome.status, 2);
+        assert!(rt; outcome.handed);
+    }
     Ok(())
 }
 
@@ -368,13 +385,12 @@ fn a_failing_read_ends_with_5(rt: HostRuntime) -> Result<(), Fail> {
     let outside = Outside {
         reads: &[1],
         greatest: 9,
-        writes: &[],
-        room: 100,
+        ..FAIR
     };
     let input = input_of(rt.alloc(), SUM, VISITS)?;
-    let (status, text) = played(&rt, &["hovgyelit", "play"], input.as_bytes(), &outside)?;
-    assert_eq!(rt; text.as_str(), "error 5 read\n");
-    assert_eq!(rt; status, 5);
+    let outcome = played(&rt, PLAY, input.as_bytes(), &outside)?;
+    assert_eq!(rt; outcome.text.as_str(), "error 5 read\n");
+    assert_eq!(rt; outcome.status, 5);
     Ok(())
 }
 
@@ -383,44 +399,53 @@ fn a_failing_write_leaves_a_front(rt: HostRuntime) -> Result<(), Fail> {
     let input = input_of(rt.alloc(), SUM, VISITS)?;
     // One write a reply.
     for failing in 0..8 {
+        let writes = [failing];
         let outside = Outside {
-            reads: &[],
-            greatest: 4096,
-            writes: &[failing],
-            room: 10_000,
+            writes: &writes,
+            ..FAIR
         };
-        let (status, text) = played(&rt, &["hovgyelit", "play"], input.as_bytes(), &outside)?;
-        assert_eq!(rt; status, 6, "at write {failing}");
-        assert!(rt; SHOWN.starts_with(text.as_str()), "at write {failing}");
-        assert!(rt; text.len() < SHOWN.len(), "at write {failing}");
+        let outcome = played(&rt, PLAY, input.as_bytes(), &outside)?;
+        assert_eq!(rt; outcome.status, 6, "at write {failing}");
+        assert!(rt; SHOWN.starts_with(outcome.text.as_str()), "at write {failing}");
+        assert!(rt; outcome.text.len() < SHOWN.len(), "at write {failing}");
     }
+    let outside = Outside { room: 20, ..FAIR };
+    let outcome = played(&rt, PLAY, input.as_bytes(), &outside)?;
+    assert_eq!(rt; outcome.status, 6);
+    assert_eq!(rt; outcome.text.as_str(), "0 200 52\n<a href=\"/s");
+    Ok(())
+}
+
+#[test]
+fn a_failing_flush_ends_with_6(rt: HostRuntime) -> Result<(), Fail> {
+    let input = input_of(rt.alloc(), SUM, VISITS)?;
     let outside = Outside {
-        reads: &[],
-        greatest: 4096,
-        writes: &[],
-        room: 20,
+        stuck: true,
+        ..FAIR
     };
-    let (status, text) = played(&rt, &["hovgyelit", "play"], input.as_bytes(), &outside)?;
-    assert_eq!(rt; status, 6);
-    assert_eq!(rt; text.as_str(), "0 200 52\n<a href=\"/s");
+    let outcome = played(&rt, PLAY, input.as_bytes(), &outside)?;
+    assert_eq!(rt; outcome.text.as_str(), SHOWN);
+    assert_eq!(rt; outcome.status, 6);
+    assert!(rt; !outcome.handed);
+    // An error's line that is not handed on changes no status.
+    let outcome = played(&rt, PLAY, b"steps\n", &outside)?;
+    assert_eq!(rt; outcome.status, 3);
+    assert!(rt; !outcome.handed);
     Ok(())
 }
 
 #[test]
 fn a_long_input_is_refused(rt: HostRuntime) -> Result<(), Fail> {
-    let alloc = rt.alloc();
-    let long = vec![in alloc; b' '; 16_777_217]?;
+    let long = vec![in rt.alloc(); b' '; 16_777_217]?;
     let outside = Outside {
-        reads: &[],
         greatest: 65_536,
-        writes: &[],
-        room: 100,
+        ..FAIR
     };
-    let (status, text) = played(&rt, &["hovgyelit", "play"], &long, &outside)?;
-    assert_eq!(rt; text.as_str(), "error 11 long\n");
-    assert_eq!(rt; status, 11);
-    let (status, text) = played(&rt, &["hovgyelit", "play"], &long[1..], &outside)?;
-    assert_eq!(rt; text.as_str(), "error 3 setup 0 section\n");
-    assert_eq!(rt; status, 3);
+    let outcome = played(&rt, PLAY, &long, &outside)?;
+    assert_eq!(rt; outcome.text.as_str(), "error 11 long\n");
+    assert_eq!(rt; outcome.status, 11);
+    let outcome = played(&rt, PLAY, &long[1..], &outside)?;
+    assert_eq!(rt; outcome.text.as_str(), "error 3 setup 0 section\n");
+    assert_eq!(rt; outcome.status, 3);
     Ok(())
 }
