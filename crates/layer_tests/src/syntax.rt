@@ -1,0 +1,95 @@
+use crate::texts::{data, named_script, script};
+use core_syntax::{ExpandFault, Node, Script, Setup, SyntaxError, SyntaxKind, expand};
+use page_names::ScriptName;
+use script_value::{Op, Value};
+use std::alloc::Global;
+use std::test::Fail;
+
+// The fault of a text's data, if it has one.
+fn fault_of(alloc: Global, text: &str) -> Result<Option<SyntaxError>, Fail> {
+    match expand(alloc, data(alloc, text)?.as_slice()) {
+        Ok(_) => Ok(None),
+        Err(ExpandFault::At(error)) => Ok(Some(error)),
+        Err(ExpandFault::Memory) => Err(Fail::from("memory")),
+    }
+}
+
+const NESTED: &str = "(send/suspend (lambda (u) (send/suspend (lambda (v) 1))))";
+
+#[test]
+fn each_fault_of_syntax(rt: HostRuntime) -> Result<(), Fail> {
+    for (text, kind) in [
+        ("", SyntaxKind::Shape),
+        ("1 2", SyntaxKind::Shape),
+        ("(quote)", SyntaxKind::Shape),
+        ("(list x)", SyntaxKind::Unbound),
+        ("(list 'p x)", SyntaxKind::Unbound),
+        ("(let ((let 1)) 1)", SyntaxKind::Duplicate),
+        ("(number->string)", SyntaxKind::Arity),
+        (NESTED, SyntaxKind::NestedSend),
+    ] {
+        let wanted = Some(SyntaxError { kind, form: 0 });
+        assert_eq!(rt; fault_of(rt.alloc(), text)?, wanted, "{text}");
+    }
+    Ok(())
+}
+
+#[test]
+fn a_script_has_at_most_16384_nodes(rt: HostRuntime) -> Result<(), Fail> {
+    let mut text = String::from_str(rt.alloc(), "(list")?;
+    for _ in 0..16_383 {
+        text.push_str(" 1")?;
+    }
+    let too_many = SyntaxError {
+        kind: SyntaxKind::TooMany,
+        form: 0,
+    };
+    for (behind, wanted) in [(")", None), (" 1)", Some(too_many))] {
+        let mut text = text.clone()?;
+        text.push_str(behind)?;
+        assert_eq!(rt; fault_of(rt.alloc(), text.as_str())?, wanted);
+    }
+    Ok(())
+}
+
+#[test]
+fn nodes_stand_in_order(rt: HostRuntime) -> Result<(), Fail> {
+    let script = script(rt.alloc(), "(let ((a 1)) (+ a))")?;
+    assert_eq!(rt; script.count(), 4);
+    let is_sum = matches!(script.node(2), Node::Prim { op: Op::Add, .. });
+    assert!(rt; is_sum);
+    let is_first = matches!(script.node(3), Node::Var(0));
+    assert!(rt; is_first);
+    Ok(())
+}
+
+fn is_value(script: &Script, value: i64) -> bool {
+    matches!(script.node(script.root()), Node::Lit(Value::Int(n)) if *n == value)
+}
+
+#[test]
+fn scripts_are_found_by_name(rt: HostRuntime) -> Result<(), Fail> {
+    let alloc = rt.alloc();
+    let mut setup = Setup::new(vec![in alloc; named_script(alloc, "shop", "1")?]?);
+    setup.push(named_script(alloc, "sum", "2")?)?;
+    setup.push(named_script(alloc, "sum", "3")?)?;
+    assert_eq!(rt; setup.len(), 3);
+    for (name, place, value) in [
+        ("shop", Some(0), Some(1)),
+        ("sum", Some(1), Some(2)),
+        ("s", None, None),
+        ("shopping", None, None),
+    ] {
+        let name = ScriptName::new(name.as_bytes()).ok_or("no name")?;
+        assert_eq!(rt; setup.place(&name), place, "{place:?}");
+        let is_found = match (setup.find(&name), value) {
+            (Some(script), Some(value)) => is_value(script, value),
+            (found, wanted) => found.is_none() && wanted.is_none(),
+        };
+        assert!(rt; is_found, "{place:?}");
+    }
+    let last = setup.get(2).ok_or("no script")?;
+    assert!(rt; is_value(&last.script, 3));
+    assert!(rt; setup.get(3).is_none());
+    Ok(())
+}
