@@ -1,4 +1,4 @@
-use crate::texts::{SUM, datum, named_script, text_of};
+use crate::texts::{SUM, datum, setup, text_of};
 use core_syntax::Setup;
 use instance_book::Book;
 use page_names::{Target, parse_target};
@@ -10,24 +10,7 @@ fn target(path: &str) -> Result<Target, Fail> {
     Ok(parse_target(path.as_bytes()).ok_or("no target")?)
 }
 
-// The reply of a take with this nonce, and of its publish.
-fn reply(
-    alloc: Global,
-    book: &mut Book,
-    setup: &Setup,
-    nonce: u64,
-    path: &str,
-    answer: &str,
-) -> Result<Reply, Fail> {
-    if book.drawn() >= 1_000 {
-        return Err(Fail::from("too many visits"));
-    }
-    match book.take(setup, target(path)?, datum(alloc, answer)?, nonce) {
-        Ok(ticket) => Ok(book.publish(alloc, setup, &ticket)),
-        Err(reply) => Ok(reply),
-    }
-}
-
+// The reply as a text.
 fn told(alloc: Global, reply: &Reply) -> Result<String, Fail> {
     Ok(match reply {
         Reply::Page { bytes, url } => {
@@ -38,6 +21,24 @@ fn told(alloc: Global, reply: &Reply) -> Result<String, Fail> {
         Reply::Fault(fault) => format!(in alloc; "{fault:?}")?,
         Reply::Memory => return Err(Fail::from("memory")),
     })
+}
+
+// What a take with this nonce and its publish answer.
+fn visited(
+    alloc: Global,
+    book: &mut Book,
+    setup: &Setup,
+    nonce: u64,
+    path: &str,
+    answer: &str,
+) -> Result<String, Fail> {
+    if book.drawn() >= 1_000 {
+        return Err(Fail::from("too many visits"));
+    }
+    match book.take(setup, target(path)?, datum(alloc, answer)?, nonce) {
+        Ok(ticket) => told(alloc, &book.publish(alloc, setup, &ticket)),
+        Err(reply) => told(alloc, &reply),
+    }
 }
 
 const START: &str = "/servlets/sum";
@@ -69,7 +70,7 @@ const SHOWS_12: &str =
 #[test]
 fn a_sum_goes_on_and_back_and_again(rt: HostRuntime) -> Result<(), Fail> {
     let alloc = rt.alloc();
-    let setup = Setup::new(vec![in alloc; named_script(alloc, "sum", SUM)?]?);
+    let setup = setup(alloc, &[("sum", SUM)])?;
     let mut book = Book::empty(alloc, 0);
     let rows = [
         (0u64, START, "()", SHOWS_0),
@@ -87,8 +88,8 @@ fn a_sum_goes_on_and_back_and_again(rt: HostRuntime) -> Result<(), Fail> {
         (12, START, "()", SHOWS_12),
     ];
     for (nonce, path, answer, wanted) in rows {
-        let reply = reply(alloc, &mut book, &setup, nonce, path, answer)?;
-        assert_eq!(rt; told(alloc, &reply)?.as_str(), wanted, "{path} {answer}");
+        let reply = visited(alloc, &mut book, &setup, nonce, path, answer)?;
+        assert_eq!(rt; reply.as_str(), wanted, "{path} {answer}");
     }
     assert_eq!(rt; book.drawn(), 13);
     Ok(())
@@ -106,24 +107,38 @@ const NO_NONCE: &str = "/servlets/s;7*0*0*000000000000000b";
 #[test]
 fn what_is_unknown_is_refused_and_draws_nothing(rt: HostRuntime) -> Result<(), Fail> {
     let alloc = rt.alloc();
-    let mut setup = Setup::new(vec![in alloc; named_script(alloc, "s", LETTERS)?]?);
-    setup.push(named_script(alloc, "ten", "'(p \"12345\")")?)?;
+    let setup = setup(alloc, &[("s", LETTERS), ("ten", "'(p \"12345\")")])?;
     let mut book = Book::empty(alloc, 7);
     let rows = [
-        (10u64, "/servlets/s", "()", "a at /servlets/s;7*0*0*000000000000000a"),
+        (
+            10u64,
+            "/servlets/s",
+            "()",
+            "a at /servlets/s;7*0*0*000000000000000a",
+        ),
         (11, NO_NONCE, "\"x\"", "Unknown"),
-        (11, "/servlets/ten;7*0*0*000000000000000a", "\"x\"", "Unknown"),
+        (
+            11,
+            "/servlets/ten;7*0*0*000000000000000a",
+            "\"x\"",
+            "Unknown",
+        ),
         (11, "/servlets/s;0*0*0*000000000000000a", "\"x\"", "Unknown"),
         (11, "/servlets/s;7*1*0*000000000000000a", "\"x\"", "Unknown"),
         (11, SECOND, "\"x\"", "Unknown"),
         (11, "/servlets/none", "\"x\"", "Unknown"),
-        (11, FIRST, "\"x\"", "b at /servlets/s;7*0*1*000000000000000b"),
+        (
+            11,
+            FIRST,
+            "\"x\"",
+            "b at /servlets/s;7*0*1*000000000000000b",
+        ),
         (12, SECOND, "\"y\"", "<p>xy</p>"),
         (13, "/servlets/ten", "()", "<p>12345</p>"),
     ];
     for (nonce, path, answer, wanted) in rows {
-        let reply = reply(alloc, &mut book, &setup, nonce, path, answer)?;
-        assert_eq!(rt; told(alloc, &reply)?.as_str(), wanted, "{path} {answer}");
+        let reply = visited(alloc, &mut book, &setup, nonce, path, answer)?;
+        assert_eq!(rt; reply.as_str(), wanted, "{path} {answer}");
     }
     assert_eq!(rt; book.drawn(), 4);
     assert_eq!(rt; book.shelf(), 7);

@@ -56,7 +56,11 @@ fn a_script_stops_behind_its_answers(rt: HostRuntime) -> Result<(), Fail> {
         (PAGES, "9223372036854775807 1", "Overflow"),
         (NUMBERS, "1 2", "NotPage"),
     ] {
-        assert_eq!(rt; told(rt.alloc(), text, answers)?.as_str(), wanted, "{answers}");
+        assert_eq!(rt;
+            told(rt.alloc(), text, answers)?.as_str(),
+            wanted,
+            "{answers}"
+        );
     }
     Ok(())
 }

@@ -38,15 +38,35 @@ const NUMBERS: [(Op, &str, Result<&str, Fault>); 18] = [
     (Op::Add, "", Ok("0")),
     (Op::Add, "9223372036854775807 1 -1", Err(Fault::Overflow)),
     (Op::Add, "-9223372036854775808 -1", Err(Fault::Overflow)),
-    (Op::Add, r#"9223372036854775807 1 "1""#, Err(Fault::WrongType)),
+    (
+        Op::Add,
+        r#"9223372036854775807 1 "1""#,
+        Err(Fault::WrongType),
+    ),
     (Op::NumberToString, "0", Ok(r#""0""#)),
     (Op::NumberToString, "-42", Ok(r#""-42""#)),
-    (Op::NumberToString, "9223372036854775807", Ok(r#""9223372036854775807""#)),
-    (Op::NumberToString, "-9223372036854775808", Ok(r#""-9223372036854775808""#)),
+    (
+        Op::NumberToString,
+        "9223372036854775807",
+        Ok(r#""9223372036854775807""#),
+    ),
+    (
+        Op::NumberToString,
+        "-9223372036854775808",
+        Ok(r#""-9223372036854775808""#),
+    ),
     (Op::NumberToString, r#""1""#, Err(Fault::WrongType)),
     (Op::StringToNumber, r#""-42""#, Ok("-42")),
-    (Op::StringToNumber, r#""9223372036854775807""#, Ok("9223372036854775807")),
-    (Op::StringToNumber, r#""-9223372036854775808""#, Ok("-9223372036854775808")),
+    (
+        Op::StringToNumber,
+        r#""9223372036854775807""#,
+        Ok("9223372036854775807"),
+    ),
+    (
+        Op::StringToNumber,
+        r#""-9223372036854775808""#,
+        Ok("-9223372036854775808"),
+    ),
     (Op::StringToNumber, r#""""#, Ok("#f")),
     (Op::StringToNumber, r#""4x""#, Ok("#f")),
     (Op::StringToNumber, r#""9223372036854775808""#, Ok("#f")),
@@ -56,21 +76,51 @@ const NUMBERS: [(Op, &str, Result<&str, Fault>); 18] = [
 
 const BINDINGS: [(Op, &str, Result<&str, Fault>); 7] = [
     (Op::List, r#"1 "a""#, Ok(r#"(1 "a")"#)),
-    (Op::ExtractBindingSingle, r#"n ((n "4") (m ""))"#, Ok(r#""4""#)),
-    (Op::ExtractBindingSingle, r#"m ((n "4") (m ""))"#, Ok(r#""""#)),
-    (Op::ExtractBindingSingle, r#"x ((n "4"))"#, Err(Fault::Binding)),
-    (Op::ExtractBindingSingle, r#"n ((n "4") (n "4"))"#, Err(Fault::Binding)),
-    (Op::ExtractBindingSingle, r#"n ((n "4") 1)"#, Err(Fault::WrongType)),
-    (Op::ExtractBindingSingle, r#""n" ((n "4"))"#, Err(Fault::WrongType)),
+    (
+        Op::ExtractBindingSingle,
+        r#"n ((n "4") (m ""))"#,
+        Ok(r#""4""#),
+    ),
+    (
+        Op::ExtractBindingSingle,
+        r#"m ((n "4") (m ""))"#,
+        Ok(r#""""#),
+    ),
+    (
+        Op::ExtractBindingSingle,
+        r#"x ((n "4"))"#,
+        Err(Fault::Binding),
+    ),
+    (
+        Op::ExtractBindingSingle,
+        r#"n ((n "4") (n "4"))"#,
+        Err(Fault::Binding),
+    ),
+    (
+        Op::ExtractBindingSingle,
+        r#"n ((n "4") 1)"#,
+        Err(Fault::WrongType),
+    ),
+    (
+        Op::ExtractBindingSingle,
+        r#""n" ((n "4"))"#,
+        Err(Fault::WrongType),
+    ),
 ];
 
 #[test]
 fn operations_give_values_or_stop(rt: HostRuntime) -> Result<(), Fail> {
     for (op, operands, wanted) in NUMBERS {
-        assert!(rt; gives(rt.alloc(), op, operands, wanted)?, "{op:?} {operands}");
+        assert!(rt;
+            gives(rt.alloc(), op, operands, wanted)?,
+            "{op:?} {operands}"
+        );
     }
     for (op, operands, wanted) in BINDINGS {
-        assert!(rt; gives(rt.alloc(), op, operands, wanted)?, "{op:?} {operands}");
+        assert!(rt;
+            gives(rt.alloc(), op, operands, wanted)?,
+            "{op:?} {operands}"
+        );
     }
     Ok(())
 }

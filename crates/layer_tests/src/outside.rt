@@ -50,23 +50,45 @@ fn an_input_has_at_most_16777216_bytes(rt: HostRuntime) -> Result<(), Fail> {
     Ok(())
 }
 
+// How each text was written, what is there in the end, and how often a write failed.
+fn written(alloc: Global, room: usize, failing: &[u64], texts: &[&str]) -> Result<String, Fail> {
+    let mut sink = TextSink::new(alloc, room, failing.to_vec(alloc)?)?;
+    let mut marks = String::new(alloc);
+    for text in texts {
+        let mark = match write_all(&mut sink, text.as_bytes()) {
+            Ok(()) => "+",
+            Err(Failed) => "-",
+        };
+        marks.push_str(mark)?;
+    }
+    write_or_drop(&mut sink, b"!");
+    let flushed = sink.flush().is_ok();
+    let text = str::from_utf8(sink.bytes())?;
+    let faults = sink.faults();
+    Ok(format!(in alloc; "{marks} {text} {faults} {flushed}")?)
+}
+
 #[test]
 fn texts_are_written_until_a_sink_is_full_or_fails(rt: HostRuntime) -> Result<(), Fail> {
-    let alloc = rt.alloc();
-    for (room, failing, first, second, third, written, faults) in [
-        (12, NONE, ("hello, ", Ok(())), ("", Ok(())), "world", "hello, world", 0),
-        (4, NONE, ("hello", Err(Failed)), ("", Ok(())), "more", "hell", 2),
-        (100, &[1], ("one", Ok(())), ("two", Err(Failed)), "three", "onethree", 1),
+    for (room, failing, texts, wanted) in [
+        (
+            13,
+            NONE,
+            ["hello, ", "", "world"],
+            "+++ hello, world! 0 true",
+        ),
+        (4, NONE, ["hello", "", "more"], "-+- hell 3 true"),
+        (100, &[1], ["one", "two", "three"], "+-+ onethree! 1 true"),
     ] {
-        let mut sink = TextSink::new(alloc, room, failing.to_vec(alloc)?)?;
-        assert_eq!(rt; write_all(&mut sink, first.0.as_bytes()), first.1, "{written}");
-        assert_eq!(rt; write_all(&mut sink, second.0.as_bytes()), second.1, "{written}");
-        write_or_drop(&mut sink, third.as_bytes());
-        assert_eq!(rt; sink.flush(), Ok(()));
-        assert_eq!(rt; sink.bytes(), written.as_bytes(), "{written}");
-        assert_eq!(rt; sink.faults(), faults, "{written}");
+        let told = written(rt.alloc(), room, failing, &texts)?;
+        assert_eq!(rt; told.as_str(), wanted, "room for {room}");
     }
-    let told = format!(in alloc; "{Failed}")?;
+    Ok(())
+}
+
+#[test]
+fn a_failure_has_its_words(rt: HostRuntime) -> Result<(), Fail> {
+    let told = format!(in rt.alloc(); "{Failed}")?;
     assert_eq!(rt; told.as_str(), "the outside failed");
     Ok(())
 }

@@ -18,7 +18,10 @@ fn texts_and_elements_are_pages(rt: HostRuntime) -> Result<(), Fail> {
     let alloc = rt.alloc();
     for (text, page) in [
         (r#"(p "x<y&z>\"")"#, Some("<p>x&lt;y&amp;z&gt;\"</p>")),
-        (r#"(a ((href "a\"b<")) "1")"#, Some(r#"<a href="a&quot;b&lt;">1</a>"#)),
+        (
+            r#"(a ((href "a\"b<")) "1")"#,
+            Some(r#"<a href="a&quot;b&lt;">1</a>"#),
+        ),
         (
             r#"(p ((class "a\"b")) "x<y&z")"#,
             Some(r#"<p class="a&quot;b">x&lt;y&amp;z</p>"#),

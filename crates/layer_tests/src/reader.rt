@@ -6,9 +6,18 @@ use std::test::Fail;
 
 #[test]
 fn each_kind_of_datum_is_read(rt: HostRuntime) -> Result<(), Fail> {
-    let values = data(rt.alloc(), "-7 #t \"s\u{fc}\\\\\\\"\\n\\t\\r\" a->b? (1 ())")?;
+    let values = data(
+        rt.alloc(),
+        "-7 #t \"s\u{fc}\\\\\\\"\\n\\t\\r\" a->b? (1 ())",
+    )?;
     let are_read = match values.as_slice() {
-        [Value::Int(-7), Value::Truth(true), Value::Text(text), Value::Symbol(name), Value::List(items)] => {
+        [
+            Value::Int(-7),
+            Value::Truth(true),
+            Value::Text(text),
+            Value::Symbol(name),
+            Value::List(items),
+        ] => {
             text.as_str() == "s\u{fc}\\\"\n\t\r" && name.as_str() == "a->b?" && items.len() == 2
         }
         _ => false,
@@ -31,7 +40,10 @@ fn marks_brackets_and_spaces_are_read(rt: HostRuntime) -> Result<(), Fail> {
         ("; all of it", ""),
         ("a\"b\"(c)'d", "a \"b\" (c) (quote d)"),
         ("[a (b [c])]", "(a (b (c)))"),
-        ("'a `b ,c ,@d", "(quote a) (quasiquote b) (unquote c) (unquote-splicing d)"),
+        (
+            "'a `b ,c ,@d",
+            "(quote a) (quasiquote b) (unquote c) (unquote-splicing d)",
+        ),
         ("''a", "(quote (quote a))"),
         ("' x", "(quote x)"),
         ("' ; here\n (a b)", "(quote (a b))"),
@@ -41,11 +53,20 @@ fn marks_brackets_and_spaces_are_read(rt: HostRuntime) -> Result<(), Fail> {
         ("+5 -0 007", "5 0 7"),
         ("\"a\nb\"", "\"a\\nb\""),
         ("\"\u{e9}\" ; \u{e9}", "\"\u{e9}\""),
-        ("9223372036854775807 -9223372036854775808", "+9223372036854775807 -09223372036854775808"),
+        (
+            "9223372036854775807 -9223372036854775808",
+            "+9223372036854775807 -09223372036854775808",
+        ),
     ] {
         assert!(rt; read_alike(rt.alloc(), text, plain)?, "{text}");
     }
-    for (text, other) in [("#t", "#f"), ("+", "-"), ("a", "A"), ("a", "\"a\""), ("1", "1 1")] {
+    for (text, other) in [
+        ("#t", "#f"),
+        ("+", "-"),
+        ("a", "A"),
+        ("a", "\"a\""),
+        ("1", "1 1"),
+    ] {
         assert!(rt; !read_alike(rt.alloc(), text, other)?, "{text}");
     }
     Ok(())
@@ -60,7 +81,7 @@ fn fault_of(alloc: Global, text: &[u8]) -> Result<Option<ReadError>, Fail> {
     }
 }
 
-const FAULTS: [(&[u8], u64, ReadKind); 31] = [
+const FAULTS: &[(&[u8], u64, ReadKind)] = &[
     (b"9223372036854775808", 0, ReadKind::Range),
     (b"1 -9223372036854775809", 2, ReadKind::Range),
     (b"(p \"", 3, ReadKind::Unclosed),
@@ -97,14 +118,23 @@ const FAULTS: [(&[u8], u64, ReadKind); 31] = [
 #[test]
 fn the_first_fault_has_its_place(rt: HostRuntime) -> Result<(), Fail> {
     for (text, place, kind) in FAULTS {
-        let wanted = Some(ReadError { place, kind });
+        let wanted = Some(ReadError {
+            place: *place,
+            kind: *kind,
+        });
         assert_eq!(rt; fault_of(rt.alloc(), text)?, wanted, "{text:?}");
     }
     Ok(())
 }
 
 // A byte so many times, and then another as often.
-fn repeated(alloc: Global, byte: u8, count: usize, other: u8, others: usize) -> Result<Vec<u8>, Fail> {
+fn repeated(
+    alloc: Global,
+    byte: u8,
+    count: usize,
+    other: u8,
+    others: usize,
+) -> Result<Vec<u8>, Fail> {
     let mut text = vec![in alloc; byte; count]?;
     let behind = vec![in alloc; other; others]?;
     text.extend_from_slice(&behind)?;

@@ -1,5 +1,5 @@
-use crate::texts::{data, named_script, script};
-use core_syntax::{ExpandFault, Node, Script, Setup, SyntaxError, SyntaxKind, expand};
+use crate::texts::{data, script, setup};
+use core_syntax::{ExpandFault, Node, Script, SyntaxError, SyntaxKind, expand};
 use page_names::ScriptName;
 use script_value::{Op, Value};
 use std::alloc::Global;
@@ -69,10 +69,7 @@ fn is_value(script: &Script, value: i64) -> bool {
 
 #[test]
 fn scripts_are_found_by_name(rt: HostRuntime) -> Result<(), Fail> {
-    let alloc = rt.alloc();
-    let mut setup = Setup::new(vec![in alloc; named_script(alloc, "shop", "1")?]?);
-    setup.push(named_script(alloc, "sum", "2")?)?;
-    setup.push(named_script(alloc, "sum", "3")?)?;
+    let setup = setup(rt.alloc(), &[("shop", "1"), ("sum", "2"), ("sum", "3")])?;
     assert_eq!(rt; setup.len(), 3);
     for (name, place, value) in [
         ("shop", Some(0), Some(1)),

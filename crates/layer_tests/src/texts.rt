@@ -1,4 +1,4 @@
-use core_syntax::{NamedScript, Script, expand};
+use core_syntax::{NamedScript, Script, Setup, expand};
 use page_names::ScriptName;
 use script_value::{Bytes, Str, Value, equal};
 use sexp_reader::read_all;
@@ -37,13 +37,17 @@ pub fn script(alloc: Global, text: &str) -> Result<Script, Fail> {
     Ok(expand(alloc, data(alloc, text)?.as_slice())?)
 }
 
-/// A script of a setup.
-pub fn named_script(alloc: Global, name: &str, text: &str) -> Result<NamedScript, Fail> {
-    Ok(NamedScript {
-        name: ScriptName::new(name.as_bytes()).ok_or("no name")?,
-        text: Bytes::new(text.as_bytes().to_vec(alloc)?),
-        script: script(alloc, text)?,
-    })
+/// The setup of these names and texts of scripts.
+pub fn setup(alloc: Global, scripts: &[(&str, &str)]) -> Result<Setup, Fail> {
+    let mut setup = Setup::new(Vec::new(alloc));
+    for (name, text) in scripts {
+        setup.push(NamedScript {
+            name: ScriptName::new(name.as_bytes()).ok_or("no name")?,
+            text: Bytes::new(text.as_bytes().to_vec(alloc)?),
+            script: script(alloc, text)?,
+        })?;
+    }
+    Ok(setup)
 }
 
 /// The text of some bytes.
