@@ -2,7 +2,7 @@ use crate::texts::{SUM, datum, setup, text_of};
 use core_syntax::Setup;
 use instance_book::Book;
 use page_names::{Target, parse_target};
-use script_value::Reply;
+use script_value::{Refusal, Reply};
 use std::alloc::Global;
 use std::test::Fail;
 
@@ -67,29 +67,30 @@ const SHOWS_7: &str =
 const SHOWS_12: &str =
     r#"<a href="/servlets/sum;0*12*12*000000000000000c">1</a> at /servlets/sum;0*12*12*000000000000000c"#;
 
+const SUM_VISITS: &[(u64, &str, &str, &str)] = &[
+    (0, START, "()", SHOWS_0),
+    (1, PAGE_0, "((n \"3\"))", SHOWS_1),
+    (2, PAGE_1, "((n \"4\"))", "<p>7</p>"),
+    (3, PAGE_0, "((n \"10\"))", SHOWS_3),
+    (4, PAGE_3, "((n \"4\"))", "<p>14</p>"),
+    (5, PAGE_1, "((n \"1\"))", "<p>4</p>"),
+    (6, PAGE_0, "((n \"3\"))", SHOWS_6),
+    (7, PAGE_0, "((n \"3\"))", SHOWS_7),
+    (8, PAGE_1, "((n \"x\"))", "WrongType"),
+    (9, PAGE_1, "()", "Binding"),
+    (10, PAGE_1, "((n \"1\") (n \"2\"))", "Binding"),
+    (11, PAGE_1, "((n \"9223372036854775807\"))", "Overflow"),
+    (12, START, "()", SHOWS_12),
+];
+
 #[test]
 fn a_sum_goes_on_and_back_and_again(rt: HostRuntime) -> Result<(), Fail> {
     let alloc = rt.alloc();
     let setup = setup(alloc, &[("sum", SUM)])?;
     let mut book = Book::empty(alloc, 0);
-    let rows = [
-        (0u64, START, "()", SHOWS_0),
-        (1, PAGE_0, "((n \"3\"))", SHOWS_1),
-        (2, PAGE_1, "((n \"4\"))", "<p>7</p>"),
-        (3, PAGE_0, "((n \"10\"))", SHOWS_3),
-        (4, PAGE_3, "((n \"4\"))", "<p>14</p>"),
-        (5, PAGE_1, "((n \"1\"))", "<p>4</p>"),
-        (6, PAGE_0, "((n \"3\"))", SHOWS_6),
-        (7, PAGE_0, "((n \"3\"))", SHOWS_7),
-        (8, PAGE_1, "((n \"x\"))", "WrongType"),
-        (9, PAGE_1, "()", "Binding"),
-        (10, PAGE_1, "((n \"1\") (n \"2\"))", "Binding"),
-        (11, PAGE_1, "((n \"9223372036854775807\"))", "Overflow"),
-        (12, START, "()", SHOWS_12),
-    ];
-    for (nonce, path, answer, wanted) in rows {
-        let reply = visited(alloc, &mut book, &setup, nonce, path, answer)?;
-        assert_eq!(rt; reply.as_str(), wanted, "{path} {answer}");
+    for (nonce, path, answer, wanted) in SUM_VISITS {
+        let reply = visited(alloc, &mut book, &setup, *nonce, path, answer)?;
+        assert_eq!(rt; reply.as_str(), *wanted, "{path} {answer}");
     }
     assert_eq!(rt; book.drawn(), 13);
     Ok(())
@@ -104,45 +105,58 @@ const SECOND: &str = "/servlets/s;7*0*1*000000000000000b";
 
 const NO_NONCE: &str = "/servlets/s;7*0*0*000000000000000b";
 
+const LETTER_VISITS: &[(u64, &str, &str, &str)] = &[
+    (
+        10,
+        "/servlets/s",
+        "()",
+        "a at /servlets/s;7*0*0*000000000000000a",
+    ),
+    (11, NO_NONCE, "\"x\"", "Unknown"),
+    (
+        11,
+        "/servlets/ten;7*0*0*000000000000000a",
+        "\"x\"",
+        "Unknown",
+    ),
+    (11, "/servlets/s;0*0*0*000000000000000a", "\"x\"", "Unknown"),
+    (11, "/servlets/s;7*1*0*000000000000000a", "\"x\"", "Unknown"),
+    (11, SECOND, "\"x\"", "Unknown"),
+    (11, "/servlets/none", "\"x\"", "Unknown"),
+    (
+        11,
+        FIRST,
+        "\"x\"",
+        "b at /servlets/s;7*0*1*000000000000000b",
+    ),
+    (12, SECOND, "\"y\"", "<p>xy</p>"),
+    (13, "/servlets/ten", "()", "<p>12345</p>"),
+];
+
 #[test]
 fn what_is_unknown_is_refused_and_draws_nothing(rt: HostRuntime) -> Result<(), Fail> {
     let alloc = rt.alloc();
     let setup = setup(alloc, &[("s", LETTERS), ("ten", "'(p \"12345\")")])?;
     let mut book = Book::empty(alloc, 7);
-    let rows = [
-        (
-            10u64,
-            "/servlets/s",
-            "()",
-            "a at /servlets/s;7*0*0*000000000000000a",
-        ),
-        (11, NO_NONCE, "\"x\"", "Unknown"),
-        (
-            11,
-            "/servlets/ten;7*0*0*000000000000000a",
-            "\"x\"",
-            "Unknown",
-        ),
-        (11, "/servlets/s;0*0*0*000000000000000a", "\"x\"", "Unknown"),
-        (11, "/servlets/s;7*1*0*000000000000000a", "\"x\"", "Unknown"),
-        (11, SECOND, "\"x\"", "Unknown"),
-        (11, "/servlets/none", "\"x\"", "Unknown"),
-        (
-            11,
-            FIRST,
-            "\"x\"",
-            "b at /servlets/s;7*0*1*000000000000000b",
-        ),
-        (12, SECOND, "\"y\"", "<p>xy</p>"),
-        (13, "/servlets/ten", "()", "<p>12345</p>"),
-    ];
-    for (nonce, path, answer, wanted) in rows {
-        let reply = visited(alloc, &mut book, &setup, nonce, path, answer)?;
-        assert_eq!(rt; reply.as_str(), wanted, "{path} {answer}");
+    for (nonce, path, answer, wanted) in LETTER_VISITS {
+        let reply = visited(alloc, &mut book, &setup, *nonce, path, answer)?;
+        assert_eq!(rt; reply.as_str(), *wanted, "{path} {answer}");
     }
     assert_eq!(rt; book.drawn(), 4);
+    Ok(())
+}
+
+#[test]
+fn a_page_is_admitted_by_its_nonce(rt: HostRuntime) -> Result<(), Fail> {
+    let alloc = rt.alloc();
+    let setup = setup(alloc, &[("s", LETTERS)])?;
+    let mut book = Book::empty(alloc, 7);
+    visited(alloc, &mut book, &setup, 10, "/servlets/s", "()")?;
     assert_eq!(rt; book.shelf(), 7);
     assert!(rt; book.admit(&setup, &target(FIRST)?).is_ok());
-    assert!(rt; book.admit(&setup, &target(NO_NONCE)?).is_err());
+    assert_eq!(rt;
+        book.admit(&setup, &target(NO_NONCE)?).err(),
+        Some(Refusal::Unknown)
+    );
     Ok(())
 }

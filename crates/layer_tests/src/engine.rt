@@ -30,11 +30,13 @@ fn tape(alloc: Global, answers: &str) -> Result<Tape, Fail> {
 // How the script of a text stops over some answers.
 fn told(alloc: Global, text: &str, answers: &str) -> Result<String, Fail> {
     let script = script(alloc, text)?;
-    Ok(match rerun(alloc, &script, &tape(alloc, answers)?)? {
-        PlainEnd::Shown(page) => format!(in alloc; "shown {}", text_of(&page)?)?,
-        PlainEnd::Ended(page) => format!(in alloc; "ended {}", text_of(&page)?)?,
-        PlainEnd::Faulted(fault) => format!(in alloc; "{fault:?}")?,
-    })
+    let (word, page) = match rerun(alloc, &script, &tape(alloc, answers)?)? {
+        PlainEnd::Shown(page) => ("shown", page),
+        PlainEnd::Ended(page) => ("ended", page),
+        PlainEnd::Faulted(fault) => return Ok(format!(in alloc; "{fault:?}")?),
+    };
+    let page = text_of(&page)?;
+    Ok(format!(in alloc; "{word} {page}")?)
 }
 
 // Two pages, and then the sum of their answers as a page.
@@ -45,20 +47,22 @@ const PAGES: &str =
 const NUMBERS: &str =
     "(let ((x (send/suspend (lambda (u) (list 'a u)))) (y (send/suspend (lambda (u) (list 'a u))))) (+ x y))";
 
+const STOPS: &[(&str, &str, &str)] = &[
+    (PAGES, "", "shown <a>/0</a>"),
+    (PAGES, "40", "shown <a>/1</a>"),
+    (PAGES, "40 2", "ended <p>42</p>"),
+    (PAGES, "1 2 3", "ended <p>3</p>"),
+    (PAGES, "1 \"2\"", "WrongType"),
+    (PAGES, "9223372036854775807 1", "Overflow"),
+    (NUMBERS, "1 2", "NotPage"),
+];
+
 #[test]
 fn a_script_stops_behind_its_answers(rt: HostRuntime) -> Result<(), Fail> {
-    for (text, answers, wanted) in [
-        (PAGES, "", "shown <a>/0</a>"),
-        (PAGES, "40", "shown <a>/1</a>"),
-        (PAGES, "40 2", "ended <p>42</p>"),
-        (PAGES, "1 2 3", "ended <p>3</p>"),
-        (PAGES, "1 \"2\"", "WrongType"),
-        (PAGES, "9223372036854775807 1", "Overflow"),
-        (NUMBERS, "1 2", "NotPage"),
-    ] {
+    for (text, answers, wanted) in STOPS {
         assert_eq!(rt;
             told(rt.alloc(), text, answers)?.as_str(),
-            wanted,
+            *wanted,
             "{answers}"
         );
     }

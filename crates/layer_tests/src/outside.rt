@@ -13,23 +13,31 @@ fn taken(alloc: Global, source: &mut TextSource) -> Result<String, Fail> {
     }
 }
 
-const NONE: &[u64] = &[];
+// What two reads of everything give, and how often a read failed.
+fn taken_twice(alloc: Global, greatest: usize, failing: &[u64]) -> Result<String, Fail> {
+    if greatest == 0 {
+        return Err(Fail::from("no pieces"));
+    }
+    let text = b"hello, world".as_slice().to_vec(alloc)?;
+    let mut source = TextSource::new(text, failing.to_vec(alloc)?, greatest);
+    let first = taken(alloc, &mut source)?;
+    let rest = taken(alloc, &mut source)?;
+    let faults = source.faults();
+    Ok(format!(in alloc; "{first}|{rest}|{faults}")?)
+}
+
+const READS: &[(usize, &[u64], &str)] = &[
+    (1, &[], "hello, world||0"),
+    (5, &[], "hello, world||0"),
+    (100, &[], "hello, world||0"),
+    (1, &[3], "Failed|lo, world|1"),
+];
 
 #[test]
 fn an_input_is_read_in_pieces(rt: HostRuntime) -> Result<(), Fail> {
-    let alloc = rt.alloc();
-    for (greatest, failing, read, rest) in [
-        (1, NONE, "hello, world", ""),
-        (5, NONE, "hello, world", ""),
-        (100, NONE, "hello, world", ""),
-        (1, &[3], "Failed", "lo, world"),
-    ] {
-        assert!(rt; 0 < greatest);
-        let text = b"hello, world".as_slice().to_vec(alloc)?;
-        let mut source = TextSource::new(text, failing.to_vec(alloc)?, greatest);
-        assert_eq!(rt; taken(alloc, &mut source)?.as_str(), read, "by {greatest}");
-        assert_eq!(rt; taken(alloc, &mut source)?.as_str(), rest, "by {greatest}");
-        assert_eq!(rt; source.faults(), failing.len() as u64);
+    for (greatest, failing, wanted) in READS {
+        let told = taken_twice(rt.alloc(), *greatest, failing)?;
+        assert_eq!(rt; told.as_str(), *wanted, "by {greatest}");
     }
     Ok(())
 }
@@ -68,20 +76,22 @@ fn written(alloc: Global, room: usize, failing: &[u64], texts: &[&str]) -> Resul
     Ok(format!(in alloc; "{marks} {text} {faults} {flushed}")?)
 }
 
+const WRITES: &[(usize, &[u64], &[&str], &str)] = &[
+    (
+        13,
+        &[],
+        &["hello, ", "", "world"],
+        "+++ hello, world! 0 true",
+    ),
+    (4, &[], &["hello", "", "more"], "-+- hell 3 true"),
+    (100, &[1], &["one", "two", "three"], "+-+ onethree! 1 true"),
+];
+
 #[test]
 fn texts_are_written_until_a_sink_is_full_or_fails(rt: HostRuntime) -> Result<(), Fail> {
-    for (room, failing, texts, wanted) in [
-        (
-            13,
-            NONE,
-            ["hello, ", "", "world"],
-            "+++ hello, world! 0 true",
-        ),
-        (4, NONE, ["hello", "", "more"], "-+- hell 3 true"),
-        (100, &[1], ["one", "two", "three"], "+-+ onethree! 1 true"),
-    ] {
-        let told = written(rt.alloc(), room, failing, &texts)?;
-        assert_eq!(rt; told.as_str(), wanted, "room for {room}");
+    for (room, failing, texts, wanted) in WRITES {
+        let told = written(rt.alloc(), *room, failing, texts)?;
+        assert_eq!(rt; told.as_str(), *wanted, "room for {room}");
     }
     Ok(())
 }

@@ -13,31 +13,33 @@ fn is_page(alloc: Global, value: &Value, wanted: Option<&str>) -> Result<bool, F
     }
 }
 
+const PAGES: &[(&str, Option<&str>)] = &[
+    (r#"(p "x<y&z>\"")"#, Some("<p>x&lt;y&amp;z&gt;\"</p>")),
+    (
+        r#"(a ((href "a\"b<")) "1")"#,
+        Some(r#"<a href="a&quot;b&lt;">1</a>"#),
+    ),
+    (
+        r#"(p ((class "a\"b")) "x<y&z")"#,
+        Some(r#"<p class="a&quot;b">x&lt;y&amp;z</p>"#),
+    ),
+    (
+        r#"(div ((class "a\"b")) (p "x") (p () "y"))"#,
+        Some(r#"<div class="a&quot;b"><p>x</p><p>y</p></div>"#),
+    ),
+    (r#"(br "x")"#, None),
+    (r#"(script "x")"#, None),
+    (r#"(P "x")"#, None),
+    ("(p 5)", None),
+    ("5", None),
+];
+
 #[test]
 fn texts_and_elements_are_pages(rt: HostRuntime) -> Result<(), Fail> {
     let alloc = rt.alloc();
-    for (text, page) in [
-        (r#"(p "x<y&z>\"")"#, Some("<p>x&lt;y&amp;z&gt;\"</p>")),
-        (
-            r#"(a ((href "a\"b<")) "1")"#,
-            Some(r#"<a href="a&quot;b&lt;">1</a>"#),
-        ),
-        (
-            r#"(p ((class "a\"b")) "x<y&z")"#,
-            Some(r#"<p class="a&quot;b">x&lt;y&amp;z</p>"#),
-        ),
-        (
-            r#"(div ((class "a\"b")) (p "x") (p () "y"))"#,
-            Some(r#"<div class="a&quot;b"><p>x</p><p>y</p></div>"#),
-        ),
-        (r#"(br "x")"#, None),
-        (r#"(script "x")"#, None),
-        (r#"(P "x")"#, None),
-        ("(p 5)", None),
-        ("5", None),
-    ] {
+    for (text, page) in PAGES {
         let value = datum(alloc, text)?;
-        assert!(rt; is_page(alloc, &value, page)?, "{text}");
+        assert!(rt; is_page(alloc, &value, *page)?, "{text}");
     }
     Ok(())
 }

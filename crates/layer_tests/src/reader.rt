@@ -33,31 +33,33 @@ fn read_alike(alloc: Global, text: &str, other: &str) -> Result<bool, Fail> {
     Ok(ones.len() == others.len() && ones.iter().zip(others.iter()).all(|(a, b)| equal(a, b)))
 }
 
+const ALIKE: &[(&str, &str)] = &[
+    ("", " \t\r\n"),
+    ("; all of it", ""),
+    ("a\"b\"(c)'d", "a \"b\" (c) (quote d)"),
+    ("[a (b [c])]", "(a (b (c)))"),
+    (
+        "'a `b ,c ,@d",
+        "(quote a) (quasiquote b) (unquote c) (unquote-splicing d)",
+    ),
+    ("''a", "(quote (quote a))"),
+    ("' x", "(quote x)"),
+    ("' ; here\n (a b)", "(quote (a b))"),
+    ("#t #true #f #false", "#t #t #f #f"),
+    ("1 ; one\n2", "1 2"),
+    ("1 ; one\r2", "1"),
+    ("+5 -0 007", "5 0 7"),
+    ("\"a\nb\"", "\"a\\nb\""),
+    ("\"\u{e9}\" ; \u{e9}", "\"\u{e9}\""),
+    (
+        "9223372036854775807 -9223372036854775808",
+        "+9223372036854775807 -09223372036854775808",
+    ),
+];
+
 #[test]
 fn marks_brackets_and_spaces_are_read(rt: HostRuntime) -> Result<(), Fail> {
-    for (text, plain) in [
-        ("", " \t\r\n"),
-        ("; all of it", ""),
-        ("a\"b\"(c)'d", "a \"b\" (c) (quote d)"),
-        ("[a (b [c])]", "(a (b (c)))"),
-        (
-            "'a `b ,c ,@d",
-            "(quote a) (quasiquote b) (unquote c) (unquote-splicing d)",
-        ),
-        ("''a", "(quote (quote a))"),
-        ("' x", "(quote x)"),
-        ("' ; here\n (a b)", "(quote (a b))"),
-        ("#t #true #f #false", "#t #t #f #f"),
-        ("1 ; one\n2", "1 2"),
-        ("1 ; one\r2", "1"),
-        ("+5 -0 007", "5 0 7"),
-        ("\"a\nb\"", "\"a\\nb\""),
-        ("\"\u{e9}\" ; \u{e9}", "\"\u{e9}\""),
-        (
-            "9223372036854775807 -9223372036854775808",
-            "+9223372036854775807 -09223372036854775808",
-        ),
-    ] {
+    for (text, plain) in ALIKE {
         assert!(rt; read_alike(rt.alloc(), text, plain)?, "{text}");
     }
     for (text, other) in [

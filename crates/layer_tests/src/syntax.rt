@@ -1,5 +1,5 @@
 use crate::texts::{data, script, setup};
-use core_syntax::{ExpandFault, Node, Script, SyntaxError, SyntaxKind, expand};
+use core_syntax::{ExpandFault, Node, Script, Setup, SyntaxError, SyntaxKind, expand};
 use page_names::ScriptName;
 use script_value::{Op, Value};
 use std::alloc::Global;
@@ -16,19 +16,24 @@ fn fault_of(alloc: Global, text: &str) -> Result<Option<SyntaxError>, Fail> {
 
 const NESTED: &str = "(send/suspend (lambda (u) (send/suspend (lambda (v) 1))))";
 
+const FAULTS: &[(&str, SyntaxKind)] = &[
+    ("", SyntaxKind::Shape),
+    ("1 2", SyntaxKind::Shape),
+    ("(quote)", SyntaxKind::Shape),
+    ("(list x)", SyntaxKind::Unbound),
+    ("(list 'p x)", SyntaxKind::Unbound),
+    ("(let ((let 1)) 1)", SyntaxKind::Duplicate),
+    ("(number->string)", SyntaxKind::Arity),
+    (NESTED, SyntaxKind::NestedSend),
+];
+
 #[test]
 fn each_fault_of_syntax(rt: HostRuntime) -> Result<(), Fail> {
-    for (text, kind) in [
-        ("", SyntaxKind::Shape),
-        ("1 2", SyntaxKind::Shape),
-        ("(quote)", SyntaxKind::Shape),
-        ("(list x)", SyntaxKind::Unbound),
-        ("(list 'p x)", SyntaxKind::Unbound),
-        ("(let ((let 1)) 1)", SyntaxKind::Duplicate),
-        ("(number->string)", SyntaxKind::Arity),
-        (NESTED, SyntaxKind::NestedSend),
-    ] {
-        let wanted = Some(SyntaxError { kind, form: 0 });
+    for (text, kind) in FAULTS {
+        let wanted = Some(SyntaxError {
+            kind: *kind,
+            form: 0,
+        });
         assert_eq!(rt; fault_of(rt.alloc(), text)?, wanted, "{text}");
     }
     Ok(())
@@ -63,30 +68,30 @@ fn nodes_stand_in_order(rt: HostRuntime) -> Result<(), Fail> {
     Ok(())
 }
 
-fn is_value(script: &Script, value: i64) -> bool {
-    matches!(script.node(script.root()), Node::Lit(Value::Int(n)) if *n == value)
+fn value_of(script: &Script) -> Option<i64> {
+    match script.node(script.root()) {
+        Node::Lit(Value::Int(value)) => Some(*value),
+        _ => None,
+    }
+}
+
+// The place of the script of a name, and its value.
+fn found(setup: &Setup, name: &str) -> Option<(usize, i64)> {
+    let name = ScriptName::new(name.as_bytes())?;
+    let place = setup.place(&name)?;
+    Some((place, value_of(setup.find(&name)?)?))
 }
 
 #[test]
 fn scripts_are_found_by_name(rt: HostRuntime) -> Result<(), Fail> {
     let setup = setup(rt.alloc(), &[("shop", "1"), ("sum", "2"), ("sum", "3")])?;
-    assert_eq!(rt; setup.len(), 3);
-    for (name, place, value) in [
-        ("shop", Some(0), Some(1)),
-        ("sum", Some(1), Some(2)),
-        ("s", None, None),
-        ("shopping", None, None),
-    ] {
-        let name = ScriptName::new(name.as_bytes()).ok_or("no name")?;
-        assert_eq!(rt; setup.place(&name), place, "{place:?}");
-        let is_found = match (setup.find(&name), value) {
-            (Some(script), Some(value)) => is_value(script, value),
-            (found, wanted) => found.is_none() && wanted.is_none(),
-        };
-        assert!(rt; is_found, "{place:?}");
-    }
+    assert_eq!(rt; found(&setup, "shop"), Some((0, 1)));
+    assert_eq!(rt; found(&setup, "sum"), Some((1, 2)));
+    assert_eq!(rt; found(&setup, "s"), None);
+    assert_eq!(rt; found(&setup, "shopping"), None);
     let last = setup.get(2).ok_or("no script")?;
-    assert!(rt; is_value(&last.script, 3));
+    assert_eq!(rt; value_of(&last.script), Some(3));
+    assert_eq!(rt; setup.len(), 3);
     assert!(rt; setup.get(3).is_none());
     Ok(())
 }
