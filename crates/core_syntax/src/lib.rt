@@ -15,6 +15,3 @@ pub use faults::{ExpandFault, SyntaxError, SyntaxKind};
 pub use forms::expand;
 pub use script::{Node, Numbers, Script};
 pub use setup::{NamedScript, Setup};
-
-#[cfg(test)]
-mod tests;

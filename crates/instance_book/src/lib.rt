@@ -5,8 +5,6 @@ mod admission;
 mod book;
 mod decision;
 mod tape;
-#[cfg(test)]
-mod tests;
 mod ticket;
 
 pub use book::Book;

@@ -5,8 +5,6 @@ mod escapes;
 mod names;
 mod parse;
 pub mod pieces;
-#[cfg(test)]
-mod tests;
 mod write;
 
 pub use names::{PageName, ScriptName, Target};

@@ -6,6 +6,3 @@ mod tape;
 
 pub use engine::rerun;
 pub use tape::{Answer, Now, PlainEnd, Reads, Tape};
-
-#[cfg(test)]
-mod tests;

@@ -7,6 +7,3 @@ mod table;
 
 pub use fault::ApplyFault;
 pub use table::{apply, takes};
-
-#[cfg(test)]
-mod tests;

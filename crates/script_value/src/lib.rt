@@ -8,6 +8,3 @@ mod value;
 pub use number::read_number;
 pub use outcome::{Fault, Op, Refusal, Reply, TxName};
 pub use value::{Bytes, Items, Str, Value, depth, equal, size};
-
-#[cfg(test)]
-mod tests;

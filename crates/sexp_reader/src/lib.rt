@@ -11,6 +11,3 @@ mod words;
 pub use fault::{ReadError, ReadFault, ReadKind};
 pub use laws::{faults_stay, unclosed_goes_on};
 pub use reader::read_all;
-
-#[cfg(test)]
-mod tests;

@@ -10,6 +10,3 @@ mod page;
 pub use fault::RenderFault;
 pub use laws::{attributes_stay_inside, texts_stay_inside};
 pub use page::render;
-
-#[cfg(test)]
-mod tests;

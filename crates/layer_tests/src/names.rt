@@ -1,4 +1,4 @@
-use crate::{ScriptName, Target, parse_target, write_url};
+use page_names::{ScriptName, Target, parse_target, write_url};
 use script_value::Bytes;
 use std::alloc::{AllocError, Global};
 
@@ -31,44 +31,46 @@ fn respelled(alloc: Global, path: &str) -> Result<Bytes, AllocError> {
     }
 }
 
+const PATHS: &[(&str, &str)] = &[
+    ("/servlets/sum", "/servlets/sum"),
+    ("/%73ervlets%2Fsum", "/servlets/sum"),
+    (
+        "/servlets/sum;3*10*4294967296*00000000deadbeef",
+        "/servlets/sum;3*10*4294967296*00000000deadbeef",
+    ),
+    (
+        "/servlets/sum;0%2A0%2a0*0000000000000000",
+        "/servlets/sum;0*0*0*0000000000000000",
+    ),
+    (
+        "/servlets/sum%3B0*0*0*000000000000000%61",
+        "/servlets/sum;0*0*0*000000000000000a",
+    ),
+    ("/servlets/sum;0%252A0*0*0000000000000000", ""),
+    ("/servlets/sum%", ""),
+    ("/servlets/sum%2", ""),
+    ("/servlets/sum/", ""),
+    ("/servlets/", ""),
+    (
+        "/servlets/abcdefghijklmnopqrstuvwxyz012345",
+        "/servlets/abcdefghijklmnopqrstuvwxyz012345",
+    ),
+    ("/servlets/abcdefghijklmnopqrstuvwxyz0123456", ""),
+    ("/servlets/a;03*10*1*00000000deadbeef", ""),
+    ("/servlets/a;3*10*1*00000000DEADBEEF", ""),
+    (
+        "/servlets/a;4294967295*0*0*0000000000000000",
+        "/servlets/a;4294967295*0*0*0000000000000000",
+    ),
+    ("/servlets/a;4294967296*0*0*0000000000000000", ""),
+    ("/servlets/a;0*18446744073709551616*0*0000000000000000", ""),
+    ("/servlets/a;0*0*18446744073709551616*0000000000000000", ""),
+    (LONGEST, LONGEST),
+];
+
 #[test]
 fn paths_name_what_their_decoded_bytes_spell(rt: HostRuntime) -> Result<(), AllocError> {
-    for (path, spelling) in [
-        ("/servlets/sum", "/servlets/sum"),
-        ("/%73ervlets%2Fsum", "/servlets/sum"),
-        (
-            "/servlets/sum;3*10*4294967296*00000000deadbeef",
-            "/servlets/sum;3*10*4294967296*00000000deadbeef",
-        ),
-        (
-            "/servlets/sum;0%2A0%2a0*0000000000000000",
-            "/servlets/sum;0*0*0*0000000000000000",
-        ),
-        (
-            "/servlets/sum%3B0*0*0*000000000000000%61",
-            "/servlets/sum;0*0*0*000000000000000a",
-        ),
-        ("/servlets/sum;0%252A0*0*0000000000000000", ""),
-        ("/servlets/sum%", ""),
-        ("/servlets/sum%2", ""),
-        ("/servlets/sum/", ""),
-        ("/servlets/", ""),
-        (
-            "/servlets/abcdefghijklmnopqrstuvwxyz012345",
-            "/servlets/abcdefghijklmnopqrstuvwxyz012345",
-        ),
-        ("/servlets/abcdefghijklmnopqrstuvwxyz0123456", ""),
-        ("/servlets/a;03*10*1*00000000deadbeef", ""),
-        ("/servlets/a;3*10*1*00000000DEADBEEF", ""),
-        (
-            "/servlets/a;4294967295*0*0*0000000000000000",
-            "/servlets/a;4294967295*0*0*0000000000000000",
-        ),
-        ("/servlets/a;4294967296*0*0*0000000000000000", ""),
-        ("/servlets/a;0*18446744073709551616*0*0000000000000000", ""),
-        ("/servlets/a;0*0*18446744073709551616*0000000000000000", ""),
-        (LONGEST, LONGEST),
-    ] {
+    for (path, spelling) in PATHS {
         assert_eq!(rt;
             respelled(rt.alloc(), path)?.as_slice(),
             spelling.as_bytes(),
