@@ -6,7 +6,7 @@ use Rattle.web_outside.proofs.Writes.{appends_none, appends_then, then_part, lon
 use Rattle.core_syntax.specs.Setup.{Named}
 use Rattle.replay_spec.specs.Step.{Reply}
 use Rattle.play_steps.specs.Step.{Request, request_of, requests}
-use Rattle.play_steps.specs.Visit.{Table, first_table, Fates, visit, reply_text}
+use Rattle.play_steps.specs.Visit.{Table, first_table, Fates, reply_text}
 use Rattle.play_steps.specs.Played.{IsVisit}
 use Rattle.play_steps.specs.Transcript.{End, done, bad_line, transcript, Plays, PlaysPart}
 use Rattle.play_steps.specs.Play.{Visits, visit_text}

@@ -1,12 +1,12 @@
 -- A visit, by what its take and its publish come to.
-use Rattle.std.proofs.Common.{◌≡◌, ◌+◌, ℕ, List, Option, Some, None, Bool, true, false, refl, sym, ap, ◌∙◌}
+use Rattle.std.proofs.Common.{◌≡◌, ◌+◌, ℕ, List, Some, None, true, false, refl}
 use Rattle.script_value.specs.Val.{Val}
 use Rattle.script_value.specs.declared.outcome.Refusal.TheVariants.{Unknown}
 use Rattle.page_names.specs.Names.{Destination, destination_of}
 use Rattle.core_syntax.specs.Setup.{Named}
 use Rattle.replay_spec.specs.Book.{Book}
-use Rattle.replay_spec.specs.Step.{Fate, Reply, taken, shown, ended, refusal, fault, memory, step, take, publish, plain, no_memory, Ticket}
-use Rattle.play_steps.specs.Visit.{Table, Fates, visit, is_here, aimed_visit, taken_visit, path_and_query, answer_to}
+use Rattle.replay_spec.specs.Step.{Fate, Reply, taken, shown, ended, refusal, fault, memory, step, take, publish, plain, no_memory}
+use Rattle.play_steps.specs.Visit.{Table, Fates, is_here, path_and_query, answer_to}
 use Rattle.script_value.specs.declared.outcome.Reply.{Reply as ProgramReply}
 use Rattle.script_value.specs.declared.outcome.Reply.TheVariants as reply
 use Rattle.instance_book.specs.Code.{reply_of}

@@ -3,7 +3,7 @@ use Rattle.page_names.specs.Pieces.{cut_at}
 use Rattle.core_syntax.specs.Setup.{Named}
 use Rattle.core_syntax.specs.Scripts.{scripts_of}
 use Rattle.play_steps.specs.Step.{Request, requests}
-use Rattle.play_steps.specs.Visit.{Table, first_table}
+use Rattle.play_steps.specs.Visit.{Table}
 use Rattle.play_steps.specs.Played.{table_of}
 use Rattle.play_steps.specs.Transcript.{Plays, PlaysPart, bad_line}
 use Rattle.play_steps.proofs.Lines.{requests_cut, requests_uncut, requests_nil, shorter}

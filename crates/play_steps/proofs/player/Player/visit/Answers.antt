@@ -1,4 +1,4 @@
-use Rattle.std.proofs.Common.{◌≡◌, ◌∙◌, ℕ, Some, None, option_map, false, true, rules, ap, sym}
+use Rattle.std.proofs.Common.{◌≡◌, ◌∙◌, ℕ, Some, None, false, true, rules, ap, sym}
 use Rattle.core_syntax.specs.Scripts.{scripts_of}
 use Rattle.page_names.specs.Names.{target_of, destination_of}
 use Rattle.script_value.specs.Meaning.{meaning}
