@@ -7,34 +7,15 @@ use Rattle.std.proofs.Math.Utf8.{encode}
 use Rattle.form_urlencoded.specs.Form.{raw_pairs, split}
 use Rattle.percent_encoding.specs.Percent.{percent_decode}
 use Rattle.script_value.specs.Val.{Val, number, symbol, text, list, vals_of}
-use Rattle.script_value.specs.declared.outcome.Op.TheVariants as op
 use Rattle.page_names.specs.Names.{destination_of, named_by}
 use Rattle.page_names.specs.Pieces.{hex16}
-use Rattle.core_syntax.specs.Core.{Core, lit, var, bind, prim, send, cores_of}
+use Rattle.core_syntax.specs.Core.{Core, lit}
+use Rattle.core_syntax.specs.Vectors.{sum_core}
 use Rattle.core_syntax.specs.Setup.{Named}
 use Rattle.replay_spec.specs.Step.{plain, no_memory, step}
 use Rattle.play_steps.specs.Step.{request_of, requests}
 use Rattle.play_steps.specs.Visit.{answer_to}
 use Rattle.play_steps.specs.Transcript.{transcript, play_of, done, bad_line}
-
--- `(list 'a (list (list 'href u)) LABEL)`
-abbrev link : List ℕ → Core
-link label =
-    prim op.List (cores_of (lit (symbol (codes "a"))
-    ∷ prim op.List (cores_of (prim op.List (cores_of (lit (symbol (codes "href")) ∷ var 0 ∷ [])) ∷ []))
-    ∷ lit (text label) ∷ []))
-
--- `(string->number (extract-binding/single 'n (send/suspend (lambda (u) LINK))))`
-abbrev asked : List ℕ → Core
-asked label =
-    prim op.StringToNumber (cores_of (prim op.ExtractBindingSingle (cores_of (lit (symbol (codes "n")) ∷ send (link label) ∷ [])) ∷ []))
-
--- `(let ((a ASKED) (b ASKED)) (list 'p (number->string (+ a b))))`
-abbrev sum : Core
-sum =
-    bind (cores_of (asked (codes "1") ∷ asked (codes "2") ∷ []))
-    (prim op.List (cores_of (lit (symbol (codes "p"))
-    ∷ prim op.NumberToString (cores_of (prim op.Add (cores_of (var 0 ∷ var 1 ∷ [])) ∷ [])) ∷ [])))
 
 -- `'(p "12345")`
 abbrev ten : Core
@@ -42,16 +23,16 @@ ten = lit (list (vals_of (symbol (codes "p") ∷ text (codes "12345") ∷ [])))
 
 abbrev setup : List Named
 setup =
-    record { name = codes "sum"; text = []; core = sum }
+    record { name = codes "sum"; text = []; core = sum_core }
     ∷ record { name = codes "ten"; text = []; core = ten }
     ∷ record { name = codes "five"; text = []; core = lit (number (pos 5)) } ∷ []
 
 -- lines, each ended by a newline
-abbrev lines : List (List ℕ) → List ℕ
+abbrev pub lines : List (List ℕ) → List ℕ
 lines [] = []
 lines (l ∷ ls) = l ++ 10 ∷ lines ls
 
--- a start shows the page of its first question
+-- a start of the script that asks for two numbers shows the page of its first question
 abbrev start_steps : List ℕ
 start_steps = lines (codes "get 0 /servlets/sum" ∷ [])
 
@@ -227,7 +208,8 @@ abbrev binding : List ℕ → List ℕ → Val
 binding key words = list (vals_of (symbol key ∷ text words ∷ []))
 
 -- an answer has its query's pairs in their order, decoded; an empty piece is none
-pub the_pairs : answer_to (codes "n=a+b&&m=%26&n=&k") ≡ list (vals_of (binding (codes "n") (codes "a b") ∷ binding (codes "m") (codes "&") ∷ binding (codes "n") [] ∷ binding (codes "k") [] ∷ []))
+pub the_pairs : answer_to (codes "n=a+b&&m=%26&n=&k")
+    ≡ list (vals_of (binding (codes "n") (codes "a b") ∷ binding (codes "m") (codes "&") ∷ binding (codes "n") [] ∷ binding (codes "k") [] ∷ []))
 unfolding percent_decode raw_pairs split utf8_lossy utf8_valid_len is_utf8 chars encode
 the_pairs = refl
 
