@@ -6,21 +6,10 @@ use Rattle.std.specs.Result.{result_ok}
 use Rattle.std.specs.Char.{is_ascii_digit}
 use Rattle.std.specs.Str.Parse.{IsNumeral, without_leading_sign, digits_value, ParsesSigned}
 use Rattle.std.proofs.lemmas.Str.Parse.{IsDigitsTest, IsNumeralModel, numerals_by_value}
+use Rattle.std.proofs.lemmas.Bool.{and_parts, and_from}
 use Rattle.std.proofs.lemmas.Bool.Decides.{nat_tests}
 use Rattle.std.proofs.lemmas.Result.{OkIff-at_err, OkIff-at_ok}
 use Rattle.script_value.specs.Numbers.{is_number, number_of, is_in_range, number_in}
-
-first_of : (a b : Bool) → (a && b) ≡ true → a ≡ true
-first_of true b h = refl
-first_of false b h = h
-
-second_of : (a b : Bool) → (a && b) ≡ true → b ≡ true
-second_of true b h = h
-second_of false b h = cc
-
-both_of : (a b : Bool) → a ≡ true → b ≡ true → (a && b) ≡ true
-both_of true b h k = k
-both_of false b h k = h
 
 abbrev pub IsDigits : List ℕ → Type 0
 IsDigits ds = list_all is_ascii_digit ds ≡ true
@@ -33,15 +22,16 @@ digits_model = numerals_by_value IsDigits digits_test
 
 pub number_is_numeral : (text : List ℕ) → is_number text ≡ true → IsNumeral 10 (without_leading_sign text)
 number_is_numeral text h =
-    let some = first_of (nat_lt 0 (length (without_leading_sign text))) (list_all is_ascii_digit (without_leading_sign text)) h in
+    let two = and_parts (nat_lt 0 (length (without_leading_sign text))) (list_all is_ascii_digit (without_leading_sign text)) h in
+    let some = two.0 in
     let p : 0 < length (without_leading_sign text) = grind (arith, nat_tests, some) in
-    (p, digits_model.to (without_leading_sign text) (second_of (nat_lt 0 (length (without_leading_sign text))) (list_all is_ascii_digit (without_leading_sign text)) h))
+    (p, digits_model.to (without_leading_sign text) two.1)
 
 numeral_is_number : (text : List ℕ) → IsNumeral 10 (without_leading_sign text) → is_number text ≡ true
 numeral_is_number text h =
     let q = h.0 in
     let some : nat_lt 0 (length (without_leading_sign text)) ≡ true = grind (arith, nat_tests) in
-    both_of _ _ some (digits_model.from (without_leading_sign text) h.1)
+    and_from _ _ some (digits_model.from (without_leading_sign text) h.1)
 
 pub fits_test : (z : ℤ) → FitsSigned w64 z → is_in_range z ≡ true
 fits_test (pos n) h = grind (arith, nat_tests)

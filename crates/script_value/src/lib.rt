@@ -5,7 +5,7 @@ mod number;
 mod outcome;
 mod value;
 
-pub use number::read_number;
+pub use number::{are_digits, read_number};
 pub use outcome::{Fault, Op, Refusal, Reply, TxName};
 pub use value::{Bytes, Items, Str, Value, depth, equal, size};
 
