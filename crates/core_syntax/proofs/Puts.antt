@@ -3,7 +3,6 @@ use Rattle.std.proofs.Common.{◌≡◌, ℕ, ◌+◌, ◌-◌, ◌<◌, ◌≤�
 use Rattle.std.specs.Prelude.{IfSome, option_map, slice_set}
 use Rattle.std.proofs.lemmas.Bool.{cases_lt}
 use Rattle.std.proofs.lemmas.Bool.Decides.{nat_tests}
-use Rattle.script_value.specs.Val.{Val, vals_of, items_of}
 use Rattle.script_value.specs.Meaning.{meaning}
 use Rattle.script_value.specs.declared.value.Value.{Value}
 use Rattle.script_value.specs.declared.value.Value.TheVariants as value
