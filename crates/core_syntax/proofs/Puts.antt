@@ -3,11 +3,11 @@ use Rattle.std.proofs.Common.{◌≡◌, ℕ, ◌+◌, ◌-◌, ◌<◌, ◌≤�
 use Rattle.std.specs.Prelude.{IfSome, option_map, slice_set}
 use Rattle.std.proofs.lemmas.Bool.{cases_lt}
 use Rattle.std.proofs.lemmas.Bool.Decides.{nat_tests}
-use Rattle.script_value.specs.Val.{Val, vals_of, items_of}
 use Rattle.script_value.specs.Meaning.{meaning}
 use Rattle.script_value.specs.declared.value.Value.{Value}
 use Rattle.script_value.specs.declared.value.Value.TheVariants as value
 use Rattle.script_value.specs.declared.outcome.Op.{Op}
+use Rattle.script_value.proofs.Folds.{items_of-vals_of}
 use Rattle.core_syntax.specs.declared.script.Node.{Node}
 use Rattle.core_syntax.specs.declared.script.Node.TheVariants as node
 use Rattle.core_syntax.specs.Core.{Core, Cores, lit, var, bind, prim, send, count, count_all, height, height_all}
@@ -48,10 +48,6 @@ fit_cases ns new left m h =
 pub over_more : (n left m h n2 left2 m2 h2 : ℕ) → n + m ≤ n2 + m2 → (left < h → left2 < h2) → Over n left m h → Over n2 left2 m2 h2
 over_more n left m h n2 left2 m2 h2 p q (inl a) = inl (omega arith)
 over_more n left m h n2 left2 m2 h2 p q (inr a) = inr (q a)
-
-items_of-vals_of : (vs : List Val) → items_of (vals_of vs) ≡ vs
-items_of-vals_of [] = refl
-items_of-vals_of (v ∷ vs) = ap (λ r. v ∷ r) (items_of-vals_of vs)
 
 value_from-meaning : (v : Value) → value_from (meaning v) ≡ v
 value_from-meaning (value.Int n) = refl

@@ -1,8 +1,8 @@
 -- Walking from a page to its root, and the tape of the pages on the way.
-use Rattle.std.proofs.Common.{◌≡◌, ◌<◌, ◌+◌, ◌-◌, ℕ, zero, suc, List, [], ◌∷◌, ◌++◌, map, Option, Some, None, reverse, length, refl, sym, ap, ◌∙◌, arith, append_assoc}
+use Rattle.std.proofs.Common.{◌≡◌, ◌<◌, ◌+◌, ◌-◌, ℕ, zero, suc, List, [], ◌∷◌, ◌++◌, map, Some, None, reverse, length, refl, sym, ap, ◌∙◌, arith, append_assoc}
 use Rattle.std.proofs.lemmas.List.{map-append, reverse-append}
 use Rattle.std.specs.Borrow.{Bor}
-use Rattle.replay_spec.specs.Tape.{Answer, Segment, Tape}
+use Rattle.replay_spec.specs.Tape.{Answer, Segment}
 use Rattle.replay_spec.specs.Book.{Page, chain_within, parent_of}
 use Rattle.replay_spec.specs.Step.{answers_to, past, newest, Ticket, chain_tape}
 use Rattle.instance_book.specs.declared.book.KeptPage.{KeptPage}

@@ -1,15 +1,13 @@
 -- What the program's book stands for in the definitions.
-use Rattle.std.specs.Prelude.{◌≡◌, ℕ, List, [], map, Option, Some, None, Result, Ok, Err, reverse, ⊤, option_map, slice_get}
+use Rattle.std.specs.Prelude.{◌≡◌, ℕ, [], map, Result, Ok, Err}
 use Rattle.script_value.specs.Meaning.{meaning}
 use Rattle.script_value.specs.declared.outcome.Reply.{Reply}
 use Rattle.script_value.specs.declared.outcome.Reply.TheVariants as reply
-use Rattle.page_names.specs.Names.{target_of, name_of}
-use Rattle.core_syntax.specs.Setup.{Named}
-use Rattle.core_syntax.specs.Scripts.{named_of, scripts_of}
+use Rattle.page_names.specs.Names.{target_of}
+use Rattle.core_syntax.specs.Scripts.{scripts_of}
 use Rattle.core_syntax.specs.declared.setup.Setup.{Setup}
 use Rattle.replay_spec.specs.Book as spec
 use Rattle.replay_spec.specs.Step as step
-use Rattle.replay_spec.specs.Admission as admission
 use Rattle.instance_book.specs.declared.book.Book.{Book}
 use Rattle.instance_book.specs.declared.book.KeptPage.{KeptPage}
 use Rattle.instance_book.specs.declared.book.KeptInstance.{KeptInstance}

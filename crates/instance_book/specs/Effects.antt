@@ -1,5 +1,4 @@
 -- What the program's decisions stand for in the definitions.
-use Rattle.std.specs.Prelude.{ℕ}
 use Rattle.replay_spec.specs.Book as spec
 use Rattle.replay_spec.specs.Step as step
 use Rattle.instance_book.specs.declared.decision.Effect.{Effect}

@@ -3,16 +3,17 @@ use Rattle.std.proofs.Common.{◌≡◌, ℕ, suc, ◌+◌, ◌<◌, ◌==◌, n
 use Rattle.std.proofs.Math.Seq.{take-append_seam, drop-append_seam, drop-append-add}
 use Rattle.std.proofs.lemmas.List.{take-append-drop}
 use Rattle.std.specs.List.{list_all, position_or_len}
+use Rattle.std.proofs.lemmas.Option.{cond_some}
 use Rattle.std.proofs.lemmas.Bool.{and_parts, eq-eqb}
 use Rattle.std.proofs.lemmas.Bool.Decides.{nat_tests}
 use Rattle.std.proofs.lemmas.Slice.Eq.{bytes_eq-Decides}
+use Rattle.script_value.specs.Texts.{lacks}
 use Rattle.page_names.specs.Pieces.{cut_at, behind}
-use Rattle.page_names.proofs.Options.{chosen}
 
 -- the front, and what stands behind it
 pub behind_spelled : (front bytes rest : List ℕ) → behind front bytes ≡ Some rest → bytes ≡ front ++ rest
 behind_spelled front bytes rest e =
-    let c = chosen _ _ _ e in
+    let c = cond_some _ _ _ e in
     let same = (bytes_eq-Decides (take (length front) bytes) front).0 c.0 in
     let whole = take-append-drop (length front) bytes in
     sym whole ∙ ap (λ xs. xs ++ drop (length front) bytes) same ∙ ap (λ xs. front ++ xs) c.1
@@ -49,10 +50,6 @@ pub cut_spelled : (byte : ℕ) (bytes before after : List ℕ) → cut_at byte b
 cut_spelled byte bytes before after e =
     let c = cut_parts byte bytes before after e in
     rw (c.1, c.2) (split byte bytes c.0)
-
--- a text without the byte
-abbrev pub lacks : ℕ → List ℕ → Bool
-lacks byte bytes = list_all (λ b. not (b == byte)) bytes
 
 place_behind : (byte : ℕ) (before after : List ℕ) → lacks byte before ≡ true → place byte (before ++ byte ∷ after) ≡ length before
 place_behind byte [] after h = let same : (byte == byte) ≡ true = eq-eqb byte byte refl in rw same refl

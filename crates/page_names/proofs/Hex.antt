@@ -15,7 +15,7 @@ use Rattle.std.proofs.lemmas.List.{length-replicate}
 use Rattle.std.proofs.lemmas.Str.Ascii.{IsAscii-nil, IsAscii-cons}
 use Rattle.std.proofs.lemmas.Str.Parse.{without_leading_plus_none}
 use Rattle.page_names.specs.Pieces.{is_hex_digit, hex_number, hex_onto, hex16}
-use Rattle.page_names.proofs.Options.{chosen}
+use Rattle.std.proofs.lemmas.Option.{cond_some}
 
 glyph_is : (d : ℕ) → d < 16 → is_hex_digit (digit_glyph false d) ≡ true
 glyph_is d small = grind (arith, nat_tests)
@@ -145,7 +145,7 @@ hex_read ds r len h p =
 pub hex_spelled : (ds : List ℕ) (n : ℕ) → hex_number ds ≡ Some n → (ds ≡ hex16 n) × (n < 2 ^ 64)
 unfolding hex16
 hex_spelled ds n e =
-    let c = chosen (length ds == 16 && list_all is_hex_digit ds) (digits_value 16 ds) n e in
+    let c = cond_some (length ds == 16 && list_all is_hex_digit ds) (digits_value 16 ds) n e in
     let tests = and_parts (length ds == 16) (list_all is_hex_digit ds) c.0 in
     let len : length ds ≡ 16 = grind (arith, nat_tests) in
     let back = onto_back ds 0 0 [] tests.1 in

@@ -12,7 +12,7 @@ use Rattle.std.proofs.lemmas.Fmt.{decimal-digits_value, digits_decimal, digits_v
 use Rattle.std.proofs.lemmas.Str.{IsUtf8-from_ascii}
 use Rattle.std.proofs.lemmas.Str.Parse.{IsNumeralModel, numerals_by_value, parse_digits}
 use Rattle.page_names.specs.Pieces.{is_numeral, number_below}
-use Rattle.page_names.proofs.Options.{chosen}
+use Rattle.std.proofs.lemmas.Option.{cond_some}
 
 abbrev AreDigits : List ℕ → Type 0
 AreDigits ds = list_all is_ascii_digit ds ≡ true
@@ -49,7 +49,7 @@ numeral_read k ds r h p =
 -- what is read is spelled so, and fits
 pub number_spelled : (bound : ℕ) (ds : List ℕ) (n : ℕ) → bound ≤ 2 ^ 64 → number_below bound ds ≡ Some n → (ds ≡ decimal n) × (n < bound)
 number_spelled bound ds n within e =
-    let c = chosen _ _ _ e in
+    let c = cond_some _ _ _ e in
     let tests = and_parts _ _ c.0 in
     let num = numeral ds tests.0 in
     let below : digits_value 10 ds < bound = grind (arith, nat_tests) in

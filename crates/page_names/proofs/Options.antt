@@ -1,11 +1,6 @@
 -- What an optional value says of its parts.
 use Rattle.std.proofs.Common.{◌≡◌, Bool, true, false, Option, Some, None, refl, if◌then◌else◌, option_and_then, option_map}
 
--- a choice that gives a value passed its test
-pub chosen : {A : Type 0} (b : Bool) (x y : A) → (if b then Some x else None) ≡ Some y → (b ≡ true) × (x ≡ y)
-chosen true x y e = (refl, cc)
-chosen false x y e = absurd (let no : ⊥ = cc in no)
-
 -- a chain that gives a value had one at its first step
 pub bound : {A B : Type 0} (o : Option A) (f : A → Option B) (y : B) → option_and_then f o ≡ Some y → (x : A) × (o ≡ Some x) × (f x ≡ Some y)
 bound None f y e = absurd (let no : ⊥ = cc in no)
@@ -15,6 +10,3 @@ bound (Some x) f y e = (x, refl, e)
 pub mapped : {A B : Type 0} (o : Option A) (f : A → B) (y : B) → option_map f o ≡ Some y → (x : A) × (o ≡ Some x) × (f x ≡ y)
 mapped None f y e = absurd (let no : ⊥ = cc in no)
 mapped (Some x) f y e = (x, refl, cc)
-
-pub some_same : {A : Type 0} {x y : A} → Some x ≡ Some y → x ≡ y
-some_same e = cc

@@ -8,23 +8,19 @@ use Rattle.std.proofs.lemmas.Bool.Decides.{nat_tests}
 use Rattle.std.proofs.lemmas.Fmt.{length-decimal-le}
 use Rattle.percent_encoding.specs.Percent.{percent_decode}
 use Rattle.percent_encoding.proofs.PercentLemmas.{percent_decode-nil, percent_decode_not_percent}
+use Rattle.script_value.specs.Texts.{lacks}
+use Rattle.script_value.proofs.Texts.{lacks-append}
 use Rattle.page_names.specs.declared.names.PageName.{PageName}
 use Rattle.page_names.specs.declared.names.Target.{Target}
 use Rattle.page_names.specs.Pieces.{is_hex_digit, hex16}
 use Rattle.page_names.specs.Names.{is_name_byte, is_name, Destination, start, page, spelling, numbers_spelling, IsPageName, IsDestination, named_by, destination_of, target_of, SpellingsAreRead, SpellingsDiffer}
-use Rattle.page_names.proofs.Options.{some_same}
+use Rattle.std.proofs.lemmas.Option.{same_Some}
 use Rattle.page_names.proofs.Numerals.{decimal_digits}
 use Rattle.page_names.proofs.Hex.{hex16_length, hex16_digits}
-use Rattle.page_names.proofs.Cuts.{lacks, lacking}
+use Rattle.page_names.proofs.Cuts.{lacking}
 use Rattle.page_names.proofs.Spelled.{named_spelled, spelling_named}
 
 -- ---- escapes
-
-lacks_append : (byte : ℕ) (xs ys : List ℕ) → lacks byte xs ≡ true → lacks byte ys ≡ true → lacks byte (xs ++ ys) ≡ true
-lacks_append byte [] ys left right = right
-lacks_append byte (x ∷ xs) ys left right =
-    let two = and_parts (not (x == byte)) (lacks byte xs) left in
-    and_from _ _ two.0 (lacks_append byte xs ys two.1 right)
 
 -- bytes without `%` decode to themselves
 decode_plain : (bytes : List ℕ) → lacks 37 bytes ≡ true → percent_decode bytes ≡ bytes
@@ -43,13 +39,13 @@ plain_decimal n small = lacking is_ascii_digit 37 refl (decimal n) (decimal_digi
 plain_numbers : (p : PageName) → IsPageName p → lacks 37 (numbers_spelling p) ≡ true
 plain_numbers p fits =
     let nonce = lacking is_hex_digit 37 refl (hex16 p.nonce) (hex16_digits p.nonce) in
-    let number = lacks_append 37 (decimal p.page) _ (plain_decimal p.page fits.page) nonce in
-    let instance = lacks_append 37 (decimal p.instance) _ (plain_decimal p.instance fits.instance) number in
-    lacks_append 37 (decimal p.shelf) _ (plain_decimal p.shelf (omega (arith, fits.shelf))) instance
+    let number = lacks-append 37 (decimal p.page) _ (plain_decimal p.page fits.page) nonce in
+    let instance = lacks-append 37 (decimal p.instance) _ (plain_decimal p.instance fits.instance) number in
+    lacks-append 37 (decimal p.shelf) _ (plain_decimal p.shelf (omega (arith, fits.shelf))) instance
 
 plain_spelling : (d : Destination) → IsDestination d → lacks 37 (spelling d) ≡ true
 plain_spelling (start name) is = plain_name name is
-plain_spelling (page name numbers) is = lacks_append 37 name _ (plain_name name is.0) (plain_numbers numbers is.1)
+plain_spelling (page name numbers) is = lacks-append 37 name _ (plain_name name is.0) (plain_numbers numbers is.1)
 
 -- so a spelling names its destination as a path too
 pub spelling_read : SpellingsAreRead
@@ -58,7 +54,7 @@ spelling_read d is = ap named_by (decode_plain (spelling d) (plain_spelling d is
 
 pub spellings_differ : SpellingsDiffer
 spellings_differ d e is_d is_e same =
-    some_same (sym (spelling_named d is_d) ∙ ap named_by same ∙ spelling_named e is_e)
+    same_Some _ _ (sym (spelling_named d is_d) ∙ ap named_by same ∙ spelling_named e is_e)
 
 -- ---- lengths
 

@@ -7,10 +7,12 @@ use Rattle.std.proofs.lemmas.Bool.{and_parts}
 use Rattle.page_names.specs.declared.names.PageName.{PageName}
 use Rattle.page_names.specs.Pieces.{cut_at, behind, number_below, hex_number, hex16}
 use Rattle.page_names.specs.Names.{is_name_byte, is_name, Destination, start, page, spelling, numbers_spelling, IsPageName, IsDestination, name_in, numbers_in, destination_in, named_by}
-use Rattle.page_names.proofs.Options.{chosen, some_same, bound, mapped}
+use Rattle.std.proofs.lemmas.Option.{cond_some, same_Some}
+use Rattle.script_value.specs.Texts.{lacks}
+use Rattle.page_names.proofs.Options.{bound, mapped}
 use Rattle.page_names.proofs.Numerals.{number_spelled, number_found, decimal_digits}
 use Rattle.page_names.proofs.Hex.{hex_spelled, hex_found}
-use Rattle.page_names.proofs.Cuts.{behind_spelled, cut_spelled, cut_found, cut_none, lacks, lacking}
+use Rattle.page_names.proofs.Cuts.{behind_spelled, cut_spelled, cut_found, cut_none, lacking}
 
 -- ---- what is read is spelled so
 
@@ -39,11 +41,11 @@ numbers_spelled bytes p e =
     one ∙ ap (λ x. x ++ 42 ∷ a.0.1) shelf.0 ∙ ap (λ x. decimal s.0 ++ 42 ∷ x) later in
     let fits : IsPageName read = record { shelf = shelf.1; instance = instance.1; page = number.1; nonce = nonce.1 } in
     let P : PageName → Type 0 = λ q. (bytes ≡ numbers_spelling q) × IsPageName q in
-    subst P (some_same n.2) (spelled, fits)
+    subst P (same_Some _ _ n.2) (spelled, fits)
 
 name_spelled : (bytes name : List ℕ) → name_in bytes ≡ Some name → (bytes ≡ name) × IsTrue (is_name name)
 name_spelled bytes name e =
-    let c = chosen (is_name bytes) bytes name e in
+    let c = cond_some (is_name bytes) bytes name e in
     let P : List ℕ → Type 0 = λ n. IsTrue (is_name n) in
     (c.1, subst P c.1 c.0)
 
@@ -62,7 +64,7 @@ inner_spelled bytes (Some parts) d cut e =
     let whole : bytes ≡ a.0 ++ 59 ∷ numbers_spelling b.0 =
     cut_spelled 59 bytes parts.0 parts.1 cut ∙ ap (λ n. n ++ 59 ∷ parts.1) named.0 ∙ ap (λ n. a.0 ++ 59 ∷ n) numbered.0 in
     let P : Destination → Type 0 = λ x. (codes "/servlets/" ++ bytes ≡ spelling x) × IsDestination x in
-    subst P (some_same b.2) (ap (λ xs. codes "/servlets/" ++ xs) whole, (named.1, numbered.1))
+    subst P (same_Some _ _ b.2) (ap (λ xs. codes "/servlets/" ++ xs) whole, (named.1, numbered.1))
 
 -- bytes that name a destination are its spelling
 pub named_spelled : (bytes : List ℕ) (d : Destination) → named_by bytes ≡ Some d → (bytes ≡ spelling d) × IsDestination d

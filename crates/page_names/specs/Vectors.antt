@@ -28,6 +28,10 @@ pub leading_zero : destination_of (codes "/servlets/sum;00*0*0*0000000000000000"
 unfolding destination_of named_by percent_decode
 leading_zero = refl
 
+pub page_leading_zero : destination_of (codes "/servlets/sum;0*0*00*0000000000000000") ≡ None
+unfolding destination_of named_by percent_decode
+page_leading_zero = refl
+
 pub signed_number : destination_of (codes "/servlets/sum;0*+1*0*0000000000000000") ≡ None
 unfolding destination_of named_by percent_decode
 signed_number = refl
@@ -39,6 +43,10 @@ great_shelf = refl
 pub capital_nonce : destination_of (codes "/servlets/sum;0*0*0*00000000DEADBEEF") ≡ None
 unfolding destination_of named_by percent_decode
 capital_nonce = refl
+
+pub long_nonce : destination_of (codes "/servlets/sum;0*0*0*00000000000000000") ≡ None
+unfolding destination_of named_by percent_decode
+long_nonce = refl
 
 pub short_nonce : destination_of (codes "/servlets/sum;0*0*0*000000000000000") ≡ None
 unfolding destination_of named_by percent_decode
@@ -86,3 +94,12 @@ escaped_twice = refl
 pub lone_percent : destination_of (codes "/servlets/sum%") ≡ None
 unfolding destination_of named_by percent_decode
 lone_percent = refl
+
+-- nothing may stand behind a page's nonce, nor before the path
+pub more_behind : destination_of (codes "/servlets/sum;0*0*0*0000000000000000*0") ≡ None
+unfolding destination_of named_by percent_decode
+more_behind = refl
+
+pub more_before : destination_of (codes "//servlets/sum") ≡ None
+unfolding destination_of named_by percent_decode
+more_before = refl

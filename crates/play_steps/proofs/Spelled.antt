@@ -8,8 +8,10 @@ use Rattle.std.proofs.lemmas.Fmt.{decimal_digit}
 use Rattle.std.proofs.lemmas.List.Folds.{list_all-append}
 use Rattle.std.proofs.lemmas.Bool.Decides.{nat_tests}
 use Rattle.page_names.specs.Pieces.{cut_at, behind}
-use Rattle.page_names.proofs.Options.{chosen, bound}
-use Rattle.page_names.proofs.Cuts.{behind_spelled, cut_spelled, cut_found, lacks, lacking}
+use Rattle.std.proofs.lemmas.Option.{cond_some}
+use Rattle.script_value.specs.Texts.{lacks}
+use Rattle.page_names.proofs.Options.{bound}
+use Rattle.page_names.proofs.Cuts.{behind_spelled, cut_spelled, cut_found, lacking}
 use Rattle.page_names.proofs.Numerals.{decimal_digits}
 use Rattle.play_steps.specs.Step.{Request, worker_of, is_target, is_target_byte, request_of, requests}
 use Rattle.play_steps.specs.Laws.{line_of, lines_of, AreRequests, LinesAreRequests}
@@ -50,12 +52,12 @@ ten_and (suc (suc (suc (suc (suc (suc k)))))) h = absurd (omega arith)
 worker_spelled : (ds : List ℕ) (n : ℕ) → worker_of ds ≡ Some n → (ds ≡ decimal n) × (n ≤ 15)
 worker_spelled [] n e = absurd (let no : ⊥ = cc in no)
 worker_spelled (d ∷ []) n e =
-    let c = chosen (is_ascii_digit d) (d - 48) n e in
+    let c = cond_some (is_ascii_digit d) (d - 48) n e in
     let digit : (48 ≤ d) × (d ≤ 57) = (grind (arith, nat_tests), grind (arith, nat_tests)) in
     let same : 48 + n ≡ d = omega (arith, c.1, digit.0) in
     (ap (λ x. x ∷ []) (sym same) ∙ sym (decimal_digit n (omega (arith, same, digit.1))), omega (arith, same, digit.1))
 worker_spelled (t ∷ d ∷ []) n e =
-    let c = chosen (t == 49 && nat_le 48 d && nat_le d 53) (10 + (d - 48)) n e in
+    let c = cond_some (t == 49 && nat_le 48 d && nat_le d 53) (10 + (d - 48)) n e in
     let facts : (t ≡ 49) × ((48 ≤ d) × (d ≤ 53)) = (grind (arith, nat_tests), (grind (arith, nat_tests), grind (arith, nat_tests))) in
     let last : 48 + (d - 48) ≡ d = omega (arith, facts.1.0) in
     let ten = ten_and (d - 48) (omega (arith, facts.1.1)) in
@@ -71,7 +73,7 @@ request_spelled line r e =
     let rest = bound (behind (codes "get ") line) _ r e in
     let parts = bound (cut_at 32 rest.0) _ r rest.2 in
     let worker = bound (worker_of parts.0.0) _ r parts.2 in
-    let is = chosen (is_target parts.0.1) _ r worker.2 in
+    let is = cond_some (is_target parts.0.1) _ r worker.2 in
     let number = worker_spelled parts.0.0 worker.0 worker.1 in
     let P : Request → Type 0 = λ x. (line ≡ codes "get " ++ (decimal x.worker ++ 32 ∷ x.target)) × ((x.worker ≤ 15) × (is_target x.target ≡ true)) in
     subst P is.1 (

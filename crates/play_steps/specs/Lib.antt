@@ -5,3 +5,4 @@ pub mod Transcript
 pub mod Played
 pub mod Play
 pub mod Laws
+pub mod Vectors

@@ -1,9 +1,9 @@
 -- Small rows of the table, computed.
-use Rattle.std.specs.Prelude.{◌≡◌, ℕ, ◌^◌, ◌-◌, pos, negsuc, false, List, [], ◌∷◌, Ok, Err, codes, refl}
+use Rattle.std.specs.Prelude.{◌≡◌, ℕ, zero, suc, ◌^◌, ◌-◌, pos, negsuc, false, List, [], ◌∷◌, Ok, Err, codes, refl}
 use Rattle.std.specs.Fmt.{digits}
 use Rattle.script_value.specs.Val.{Val, number, truth, text, symbol, list, vals_of}
 use Rattle.script_value.specs.declared.outcome.Op.TheVariants as op
-use Rattle.script_value.specs.declared.outcome.Fault.TheVariants.{WrongType, Overflow, Binding}
+use Rattle.script_value.specs.declared.outcome.Fault.TheVariants.{WrongType, Overflow, Deep, Binding}
 use Rattle.prim_ops.specs.Table.{value_of}
 
 -- (+ 3 4)
@@ -18,6 +18,9 @@ sum_of_none = refl
 pub sum_too_great : value_of op.Add (number (pos (2 ^ 63 - 1)) ∷ number (pos 1) ∷ number (negsuc 0) ∷ []) ≡ Err Overflow
 sum_too_great = refl
 
+pub sum_too_small : value_of op.Add (number (negsuc (2 ^ 63 - 1)) ∷ number (negsuc 0) ∷ number (pos 1) ∷ []) ≡ Err Overflow
+sum_too_small = refl
+
 -- a text among numbers comes before an overflow
 pub sum_of_text : value_of op.Add (number (pos (2 ^ 63 - 1)) ∷ number (pos 1) ∷ text [] ∷ []) ≡ Err WrongType
 sum_of_text = refl
@@ -25,6 +28,16 @@ sum_of_text = refl
 pub text_of_minus : value_of op.NumberToString (number (negsuc 41) ∷ []) ≡ Ok (text (codes "-42"))
 unfolding digits
 text_of_minus = refl
+
+pub text_of_least : value_of op.NumberToString (number (negsuc (2 ^ 63 - 1)) ∷ []) ≡ Ok (text (codes "-9223372036854775808"))
+unfolding digits
+text_of_least = refl
+
+pub text_of_text : value_of op.NumberToString (text (codes "5") ∷ []) ≡ Err WrongType
+text_of_text = refl
+
+pub number_of_number : value_of op.StringToNumber (number (pos 5) ∷ []) ≡ Err WrongType
+number_of_number = refl
 
 pub number_of_plus : value_of op.StringToNumber (text (codes "+5") ∷ []) ≡ Ok (number (pos 5))
 number_of_plus = refl
@@ -62,3 +75,15 @@ two_bindings = refl
 
 pub no_bindings : value_of op.ExtractBindingSingle (symbol (codes "n") ∷ list (vals_of (number (pos 1) ∷ [])) ∷ []) ≡ Err WrongType
 no_bindings = refl
+
+-- a list in a list, so many deep
+abbrev lists : ℕ → Val
+lists zero = list (vals_of [])
+lists (suc n) = list (vals_of (lists n ∷ []))
+
+-- a list may be 200 deep, and no deeper
+pub deepest_list : value_of op.List (lists 198 ∷ []) ≡ Ok (lists 199)
+deepest_list = refl
+
+pub too_deep_list : value_of op.List (number (pos 1) ∷ lists 199 ∷ []) ≡ Err Deep
+too_deep_list = refl

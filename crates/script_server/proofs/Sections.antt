@@ -9,8 +9,10 @@ use Rattle.std.proofs.lemmas.Bool.{and_parts}
 use Rattle.std.proofs.lemmas.Bool.Decides.{nat_tests}
 use Rattle.page_names.specs.Names.{is_name, is_name_byte, name_in}
 use Rattle.page_names.specs.Pieces.{cut_at, behind, number_below}
-use Rattle.page_names.proofs.Options.{chosen, bound, some_same}
-use Rattle.page_names.proofs.Cuts.{behind_spelled, cut_spelled, cut_found, lacks, lacking}
+use Rattle.std.proofs.lemmas.Option.{cond_some, same_Some}
+use Rattle.script_value.specs.Texts.{lacks}
+use Rattle.page_names.proofs.Options.{bound}
+use Rattle.page_names.proofs.Cuts.{behind_spelled, cut_spelled, cut_found, lacking}
 use Rattle.page_names.proofs.Numerals.{number_spelled, number_found, decimal_digits}
 use Rattle.script_value.specs.Val.{Val}
 use Rattle.sexp_reader.specs.Spells.{Spells}
@@ -60,7 +62,7 @@ section_spelled input piece e =
     let name = bound (name_in named.0.0) _ piece len.2 in
     let fits = allowed (nat_le len.0 (length line.0.1)) _ piece name.2 in
     let rest = bound (behind (10 ∷ []) (drop len.0 line.0.1)) _ piece fits.1 in
-    let is = chosen _ _ _ name.1 in
+    let is = cond_some _ _ _ name.1 in
     let counted = number_spelled 16777217 line.0.0 len.0 (omega arith) len.1 in
     let text : List ℕ = take len.0 line.0.1 in
     let within : len.0 ≤ length line.0.1 = grind (arith, nat_tests) in
@@ -74,7 +76,7 @@ section_spelled input piece e =
     ∙ ap (λ xs. name.0 ++ 32 ∷ xs) (cut_spelled 10 named.0.1 line.0.0 line.0.1 line.1
     ∙ ap (λ xs. xs ++ 10 ∷ line.0.1) (counted.0 ∙ ap decimal (sym size))
     ∙ ap (λ xs. decimal (length text) ++ 10 ∷ xs) behind_text)) in
-    subst (IsPiece input) (some_same rest.2) (record {
+    subst (IsPiece input) (same_Some _ _ rest.2) (record {
       whole = whole ∙ around name.0 (decimal (length text)) text rest.0;
       named = ap is_name (sym is.1) ∙ is.0;
       short = omega (arith, size, counted.1);

@@ -4,3 +4,4 @@ pub mod Faults
 pub mod Output
 pub mod Command
 pub mod Parses
+pub mod Vectors

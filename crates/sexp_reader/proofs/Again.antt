@@ -21,7 +21,7 @@ use Rattle.sexp_reader.specs.Spells.{NoNewline, AtLineEnd, AllPlain, IsToken, At
 use Rattle.sexp_reader.specs.Views.{innermost_mark}
 use Rattle.sexp_reader.proofs.ByteClasses.{plain_is}
 use Rattle.sexp_reader.proofs.Truths.{truth_read, truth_no_number, symbol_no_truth}
-use Rattle.sexp_reader.proofs.Ascii.{both}
+use Rattle.std.proofs.lemmas.Bool.{and_parts}
 use Rattle.sexp_reader.proofs.Utf8.{pick_true, pick_false, other_word}
 use Rattle.sexp_reader.proofs.Turns.{read_utf8, no_piece}
 
@@ -290,8 +290,8 @@ datum_starts (a_mark n mark name bytes middle v rest m g d) = mark_starts bytes 
 
 no_number : (bs : List ℕ) → is_number (64 ∷ bs) ≡ true → ⊥
 no_number bs h =
-    let all = (both (nat_lt 0 (length (64 ∷ bs))) (list_all is_ascii_digit (64 ∷ bs)) h).1 in
-    let first : is_ascii_digit 64 ≡ true = (both (is_ascii_digit 64) (list_all is_ascii_digit bs) all).0 in cc
+    let all = (and_parts (nat_lt 0 (length (64 ∷ bs))) (list_all is_ascii_digit (64 ∷ bs)) h).1 in
+    let first : is_ascii_digit 64 ≡ true = (and_parts (is_ascii_digit 64) (list_all is_ascii_digit bs) all).0 in cc
 
 no_symbol : (bs : List ℕ) → is_symbol (64 ∷ bs) ≡ true → ⊥
 no_symbol bs h = cc

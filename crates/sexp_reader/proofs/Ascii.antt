@@ -5,16 +5,12 @@ use Rattle.std.specs.List.{list_all}
 use Rattle.std.specs.Char.{is_ascii_digit}
 use Rattle.std.specs.Str.Parse.{without_leading_sign}
 use Rattle.std.proofs.lemmas.Str.{IsUtf8-from_ascii}
+use Rattle.std.proofs.lemmas.Bool.{and_parts}
 use Rattle.std.proofs.lemmas.Bool.Decides.{nat_tests, eqb_tells}
 use Rattle.script_value.specs.Numbers.{is_number}
 use Rattle.sexp_reader.specs.Letters.{truth_of, is_symbol, is_symbol_byte}
 use Rattle.sexp_reader.specs.Spells.{Truth, short_true, long_true, short_false, long_false}
 use Rattle.sexp_reader.proofs.Truths.{truth_spelled}
-
-pub both : (a b : Bool) → (a && b) ≡ true → (a ≡ true) × (b ≡ true)
-both true true h = (refl, refl)
-both true false h = absurd (cc)
-both false b h = absurd (cc)
 
 abbrev pub AllAscii : List ℕ → Type 0
 AllAscii [] = Unit {0}
@@ -30,7 +26,7 @@ ascii_utf8 bs h = IsUtf8-from_ascii bs (ascii_at bs h)
 
 pub all_ascii : (p : ℕ → Bool) → ((b : ℕ) → p b ≡ true → b < 128) → (bs : List ℕ) → list_all p bs ≡ true → AllAscii bs
 all_ascii p f [] h = tt
-all_ascii p f (b ∷ bs) h = let e = both (p b) (list_all p bs) h in (f b e.0, all_ascii p f bs e.1)
+all_ascii p f (b ∷ bs) h = let e = and_parts (p b) (list_all p bs) h in (f b e.0, all_ascii p f bs e.1)
 
 pub digit_ascii : (b : ℕ) → is_ascii_digit b ≡ true → b < 128
 digit_ascii b h = grind (arith, nat_tests)
@@ -51,7 +47,7 @@ signed_ascii b bs h =
 pub number_ascii : (token : List ℕ) → is_number token ≡ true → AllAscii token
 number_ascii [] h = tt
 number_ascii (b ∷ bs) h =
-    signed_ascii b bs (all_ascii is_ascii_digit digit_ascii (without_leading_sign (b ∷ bs)) (both (nat_lt 0 (length (without_leading_sign (b ∷ bs)))) (list_all is_ascii_digit (without_leading_sign (b ∷ bs))) h).1)
+    signed_ascii b bs (all_ascii is_ascii_digit digit_ascii (without_leading_sign (b ∷ bs)) (and_parts (nat_lt 0 (length (without_leading_sign (b ∷ bs)))) (list_all is_ascii_digit (without_leading_sign (b ∷ bs))) h).1)
 
 pub number_utf8 : (token : List ℕ) → is_number token ≡ true → IsUtf8 token
 number_utf8 token h = ascii_utf8 token (number_ascii token h)
@@ -59,7 +55,7 @@ number_utf8 token h = ascii_utf8 token (number_ascii token h)
 pub symbol_ascii : (token : List ℕ) → is_symbol token ≡ true → AllAscii token
 symbol_ascii [] h = tt
 symbol_ascii (b ∷ bs) h =
-    all_ascii is_symbol_byte symbol_byte_ascii (b ∷ bs) (both _ _ (both _ _ (both _ _ h).0).0).0
+    all_ascii is_symbol_byte symbol_byte_ascii (b ∷ bs) (and_parts _ _ (and_parts _ _ (and_parts _ _ h).0).0).0
 
 truth_bytes : {token : List ℕ} {b : Bool} → Truth token b → AllAscii token
 truth_bytes short_true = (omega arith, (omega arith, tt))

@@ -1,9 +1,12 @@
 -- Small texts and what they read as.
-use Rattle.std.specs.Prelude.{◌≡◌, pos, negsuc, true, false, Ok, Err, [], ◌∷◌, refl, codes}
+use Rattle.std.specs.Prelude.{◌≡◌, pos, negsuc, true, false, Ok, Err, [], ◌∷◌, ◌++◌, replicate, refl, codes}
+use Rattle.std.specs.Str.{is_utf8, chars}
+use Rattle.std.specs.Str.Lossy.{utf8_valid_len}
+use Rattle.std.proofs.Math.Utf8.{encode}
 use Rattle.script_value.specs.Val.{number, truth, text, symbol, list, vals_of}
-use Rattle.sexp_reader.specs.declared.fault.ReadKind.TheVariants.{Token, Unclosed, Unopened, Mismatch, Range}
+use Rattle.sexp_reader.specs.declared.fault.ReadKind.TheVariants.{Token, Unclosed, Unopened, Mismatch, Range, Deep, Long, Utf8}
 use Rattle.sexp_reader.specs.declared.classes.Mark.TheVariants.{Quote, Quasiquote, Unquote, UnquoteSplicing}
-use Rattle.sexp_reader.specs.Read.{scan, marked_list}
+use Rattle.sexp_reader.specs.Read.{read, scan, marked_list}
 
 -- the text that is open is the innermost
 pub inner_text : scan (codes "(p \"") ≡ Err (3, Unclosed)
@@ -104,3 +107,32 @@ hash_inside = refl
 
 pub point : scan (codes ".5") ≡ Err (0, Token)
 point = refl
+
+-- the parenthesis that opens level 129, and a mark that does
+pub too_deep : scan (replicate 129 40) ≡ Err (128, Deep)
+too_deep = refl
+
+pub mark_too_deep : scan (replicate 128 91 ++ codes "'a") ≡ Err (128, Deep)
+mark_too_deep = refl
+
+-- 128 levels are none too many
+pub deep_enough : scan (replicate 128 39 ++ codes ")") ≡ Err (127, Token)
+deep_enough = refl
+
+-- a text of too many bytes is not read on, whatever is wrong with it
+pub too_long : read (replicate 65537 255) ≡ Err (65536, Long)
+too_long = refl
+
+-- what is no UTF-8 is told first, at the first such byte
+pub no_utf8 : read (41 ∷ 195 ∷ []) ≡ Err (1, Utf8)
+unfolding is_utf8 chars encode utf8_valid_len
+no_utf8 = refl
+
+-- an e with an accent stands in a text and in a comment, and in no token
+pub other_characters : read (34 ∷ 195 ∷ 169 ∷ 34 ∷ 59 ∷ 195 ∷ 169 ∷ []) ≡ Ok (text (195 ∷ 169 ∷ []) ∷ [])
+unfolding is_utf8 chars encode utf8_valid_len
+other_characters = refl
+
+pub other_token : read (97 ∷ 32 ∷ 195 ∷ 169 ∷ []) ≡ Err (2, Token)
+unfolding is_utf8 chars encode utf8_valid_len
+other_token = refl

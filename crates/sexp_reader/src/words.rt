@@ -1,6 +1,5 @@
 ghost use Rattle.std.specs.Prelude.{◌≡◌};
 ghost use Rattle.std.specs.List.{list_all};
-ghost use Rattle.std.specs.Char.{is_ascii_digit};
 ghost use Rattle.std.specs.Str.Parse.{without_leading_sign};
 ghost use Rattle.script_value.specs.Meaning.{meaning};
 ghost use Rattle.script_value.specs.Numbers as numbers;
@@ -9,15 +8,8 @@ ghost use Rattle.sexp_reader.specs.Read as spec;
 ghost use Rattle.sexp_reader.specs.Views.{Gives};
 
 use crate::fault::{ReadFault, ReadKind, fault};
-use script_value::{Str, Value, read_number};
+use script_value::{Str, Value, are_digits, read_number};
 use std::alloc::Global;
-
-// Whether each byte is a decimal digit.
-fn are_digits(bytes: &[u8]) -> bool
-    ensures { result ≡ list_all is_ascii_digit bytes.now }
-{
-    bytes.iter().all(|byte| byte.is_ascii_digit())
-}
 
 // What follows a sign, or all bytes where none stands first.
 fn without_sign(token: &[u8]) -> &[u8]

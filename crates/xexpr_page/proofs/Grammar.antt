@@ -1,6 +1,8 @@
 -- The function of a page and its grammar.
 use Rattle.std.proofs.Common.{◌≡◌, ℕ, Bool, true, false, List, [], ◌++◌, Option, Some, None, option_map, cond, refl, sym, ap, ◌∙◌, subst, append_assoc}
 use Rattle.std.specs.Prelude.{Result, Ok, Err}
+use Rattle.std.proofs.lemmas.Bool.{cond-true}
+use Rattle.std.proofs.lemmas.Option.{same_Some}
 use Rattle.script_value.specs.Val.{Val, Vals, text, symbol, list, no_vals, val}
 use Rattle.xexpr_page.specs.declared.fault.RenderFault.{RenderFault}
 use Rattle.xexpr_page.specs.declared.fault.RenderFault.TheVariants.{Memory, NotPage}
@@ -10,22 +12,18 @@ use Rattle.xexpr_page.specs.Renders.{Attributes, no_attributes, attribute, Rende
 
 -- from the grammar to the function
 
-if_true : {A : Type 0} (b : Bool) (p q : Option A) → b ≡ true → cond b p q ≡ p
-if_true true p q h = refl
-if_true false p q h = absurd (cc)
-
 join_some : (p q : Option (List ℕ)) (a b : List ℕ) → p ≡ Some a → q ≡ Some b → join p q ≡ Some (a ++ b)
 join_some p q a b h k = rw (h, k) refl
 
 attributes_page : {vs : Vals} {bytes : List ℕ} → Attributes vs bytes → attributes_of vs ≡ Some bytes
 attributes_page no_attributes = refl
 attributes_page (attribute n t vs others h more) =
-    join_some _ _ (one_attribute n t) others (if_true (is_attribute n) (Some (one_attribute n t)) None h) (attributes_page more)
+    join_some _ _ (one_attribute n t) others (cond-true (is_attribute n) (Some (one_attribute n t)) None h) (attributes_page more)
 
 element_page : (n : List ℕ) (p q : Option (List ℕ)) (attributes children : List ℕ) → is_element n ≡ true → p ≡ Some attributes → q ≡ Some children
     → element n p q ≡ Some (start_tag n attributes ++ children ++ end_tag n)
 element_page n p q attributes children named h k =
-    if_true (is_element n) _ None named
+    cond-true (is_element n) _ None named
     ∙ join_some _ _ (start_tag n attributes) (children ++ end_tag n) (ap (option_map (start_tag n)) h) (join_some q _ children (end_tag n) k refl)
     ∙ ap Some (sym (append_assoc (start_tag n attributes) children (end_tag n)))
 
@@ -64,13 +62,10 @@ record Joined (p q : Option (List ℕ)) (bytes : List ℕ) : Type 0 where
   is_others : q ≡ Some others
   parts : first ++ others ≡ bytes
 
-some_of : {A : Type 0} (x y : A) → Some x ≡ Some y → x ≡ y
-some_of x y e = cc
-
 joined : (p q : Option (List ℕ)) (bytes : List ℕ) → join p q ≡ Some bytes → Joined p q bytes
 joined None q bytes h = absurd (cc)
 joined (Some a) None bytes h = absurd (cc)
-joined (Some a) (Some b) bytes h = record { first = a; others = b; is_first = refl; is_others = refl; parts = some_of (a ++ b) bytes h }
+joined (Some a) (Some b) bytes h = record { first = a; others = b; is_first = refl; is_others = refl; parts = same_Some (a ++ b) bytes h }
 
 taken : {A : Type 0} (b : Bool) (p : Option A) (x : A) → cond b p None ≡ Some x → (b ≡ true) × (p ≡ Some x)
 taken true p x h = (refl, h)
@@ -79,7 +74,7 @@ taken false p x h = absurd (cc)
 mapped : (f : List ℕ → List ℕ) (p : Option (List ℕ)) (bytes : List ℕ) → option_map f p ≡ Some bytes
     → (a : List ℕ) × (p ≡ Some a) × (f a ≡ bytes)
 mapped f None bytes h = absurd (cc)
-mapped f (Some a) bytes h = (a, refl, some_of (f a) bytes h)
+mapped f (Some a) bytes h = (a, refl, same_Some (f a) bytes h)
 
 -- an element's name, attributes and children
 record Element (n : List ℕ) (p q : Option (List ℕ)) (bytes : List ℕ) : Type 0 where
@@ -96,7 +91,7 @@ element_parts n p q bytes h =
     let j = joined (option_map (start_tag n) p) (join q (Some (end_tag n))) bytes t.1 in
     let m = mapped (start_tag n) p j.first j.is_first in
     let k = joined q (Some (end_tag n)) j.others j.is_others in
-    let e : end_tag n ≡ k.others = some_of _ _ k.is_others in
+    let e : end_tag n ≡ k.others = same_Some _ _ k.is_others in
     record {
       named = t.0;
       attributes = m.0;
@@ -121,7 +116,7 @@ pair_found : (v w : Val) (vs : Vals) (first others : List ℕ) → pair_text v w
     → Attributes (val (list (val v (val w no_vals))) vs) (first ++ others)
 pair_found (symbol n) (text t) vs first others h more =
     let named = taken (is_attribute n) (Some (one_attribute n t)) first h in
-    attributes_as _ (one_attribute n t ++ others) (first ++ others) (ap (λ b. b ++ others) (some_of (one_attribute n t) first named.1))
+    attributes_as _ (one_attribute n t ++ others) (first ++ others) (ap (λ b. b ++ others) (same_Some (one_attribute n t) first named.1))
     (attribute n t vs others named.0 more)
 pair_found _ _ vs first others h more = absurd (cc)
 
@@ -131,7 +126,7 @@ attribute_found (list (val v (val w no_vals))) vs first others h more = pair_fou
 attribute_found _ vs first others h more = absurd (cc)
 
 attributes_found : (vs : Vals) (bytes : List ℕ) → attributes_of vs ≡ Some bytes → Attributes vs bytes
-attributes_found no_vals bytes h = attributes_as no_vals [] bytes (some_of [] bytes h) no_attributes
+attributes_found no_vals bytes h = attributes_as no_vals [] bytes (same_Some [] bytes h) no_attributes
 attributes_found (val v vs) bytes h =
     let j = joined (attribute_of v) (attributes_of vs) bytes h in
     attributes_as (val v vs) (j.first ++ j.others) bytes j.parts
@@ -149,7 +144,7 @@ plain_element : (n : List ℕ) (vs : Vals) (bytes : List ℕ) → AreFound vs �
     → Renders (list (val (symbol n) vs)) bytes
 plain_element n vs bytes f h =
     let e = element_parts n (Some []) (children_of vs) bytes h in
-    let a : [] ≡ e.attributes = some_of [] e.attributes e.is_attributes in
+    let a : [] ≡ e.attributes = same_Some [] e.attributes e.is_attributes in
     renders_as _ _ bytes (ap (λ b. start_tag n b ++ e.children ++ end_tag n) a ∙ e.parts)
     (an_element n vs e.children e.named (f e.children e.is_children))
 
@@ -174,12 +169,12 @@ child_found v vs f g bytes h =
 
 mutual
   pub page_renders : (v : Val) (bytes : List ℕ) → page_of v ≡ Some bytes → Renders v bytes
-  page_renders (text t) bytes h = renders_as (text t) (escaped_text t) bytes (some_of _ _ h) (a_text t)
+  page_renders (text t) bytes h = renders_as (text t) (escaped_text t) bytes (same_Some _ _ h) (a_text t)
   page_renders (list (val (symbol n) vs)) bytes h = let f = children_found vs in element_found n vs bytes f.0 f.1 h
   page_renders _ bytes h = absurd (cc)
 
   children_found : (vs : Vals) → AreFound vs × AreFoundBehind vs
-  children_found no_vals = (λ bytes h. children_as no_vals [] bytes (some_of [] bytes h) no_children, tt)
+  children_found no_vals = (λ bytes h. children_as no_vals [] bytes (same_Some [] bytes h) no_children, tt)
   children_found (val v vs) = let f = children_found vs in (child_found v vs (page_renders v) f.0, f.0)
 
 pub answer_found : (v : Val) (r : Result (List ℕ) RenderFault) → Gives r (page_of v) → (wanted : List ℕ) → Renders v wanted → Gives r (Some wanted)

@@ -2,28 +2,23 @@
 use Rattle.std.proofs.Common.{◌≡◌, ℕ, Bool, true, false, List, [], ◌∷◌, ◌++◌, cond, refl, ◌∙◌}
 use Rattle.std.specs.Prelude.{◌==◌, ◌&&◌, not, codes}
 use Rattle.std.proofs.lemmas.Bool.{eqb-false}
-use Rattle.std.proofs.lemmas.List.Folds.{list_all-append}
+use Rattle.script_value.specs.Texts.{lacks}
+use Rattle.script_value.proofs.Texts.{lacks-append}
 use Rattle.xexpr_page.specs.Markup.{text_byte, attribute_byte, escaped_text, escaped_attribute}
-use Rattle.xexpr_page.specs.Laws.{lacks, is_entity, nothing, entity, other, Inside}
-
-both_true : (a b : Bool) → a ≡ true → b ≡ true → (a && b) ≡ true
-both_true a b h k = rw (h, k) refl
-
-lacks_both : (c : ℕ) (e rest : List ℕ) → lacks c e ≡ true → lacks c rest ≡ true → lacks c (e ++ rest) ≡ true
-lacks_both c e rest h k = list_all-append (λ d. not (d == c)) e rest ∙ both_true _ _ h k
+use Rattle.xexpr_page.specs.Laws.{is_entity, nothing, entity, other, Inside}
 
 lacks_one : (c b : ℕ) → (b == c) ≡ false → lacks c (b ∷ []) ≡ true
 lacks_one c b h = rw h refl
 
 entity_inside : (e rest : List ℕ) → lacks 60 e ≡ true → lacks 62 e ≡ true → is_entity e ≡ true → Inside rest → Inside (e ++ rest)
 entity_inside e rest l g h i =
-    record { no_less = lacks_both 60 e rest l i.no_less; no_greater = lacks_both 62 e rest g i.no_greater; entities = entity e rest h i.entities }
+    record { no_less = lacks-append 60 e rest l i.no_less; no_greater = lacks-append 62 e rest g i.no_greater; entities = entity e rest h i.entities }
 
 byte_inside : (b : ℕ) (rest : List ℕ) → (b == 38) ≡ false → (b == 60) ≡ false → (b == 62) ≡ false → Inside rest → Inside (b ∷ rest)
 byte_inside b rest a l g i =
     record {
-      no_less = lacks_both 60 (b ∷ []) rest (lacks_one 60 b l) i.no_less;
-      no_greater = lacks_both 62 (b ∷ []) rest (lacks_one 62 b g) i.no_greater;
+      no_less = lacks-append 60 (b ∷ []) rest (lacks_one 60 b l) i.no_less;
+      no_greater = lacks-append 62 (b ∷ []) rest (lacks_one 62 b g) i.no_greater;
       entities = other b rest (eqb-false b 38 a) i.entities;
     }
 
@@ -63,8 +58,8 @@ attribute_byte_inside : (b : ℕ) (rest : List ℕ) → Quoted rest → Quoted (
 attribute_byte_inside b rest q =
     let byte : Bool → List ℕ = λ v. cond v (codes "&quot;") (text_byte b) in
     elim (b == 34) as (λ v. (b == 34) ≡ v → Quoted (byte v ++ rest)) [
-      | true ↦ λ e. (entity_inside (codes "&quot;") rest refl refl refl q.0, lacks_both 34 (codes "&quot;") rest refl q.1)
-      | false ↦ λ e. (text_byte_inside b rest q.0, lacks_both 34 (text_byte b) rest (text_byte_lacks b e) q.1)
+      | true ↦ λ e. (entity_inside (codes "&quot;") rest refl refl refl q.0, lacks-append 34 (codes "&quot;") rest refl q.1)
+      | false ↦ λ e. (text_byte_inside b rest q.0, lacks-append 34 (text_byte b) rest (text_byte_lacks b e) q.1)
     ] refl
 
 pub texts_inside : (t : List ℕ) → Inside (escaped_text t)

@@ -2,6 +2,7 @@
 use Rattle.std.proofs.Common.{◌≡◌, ◌<◌, ◌≤◌, ◌+◌, ◌-◌, take, ℕ, zero, suc, List, [], ◌∷◌, ◌++◌, map, length, drop, get_or, add-one, true, Option, Some, None, option_map, refl, sym, ap, ◌∙◌, append_assoc, arith}
 use Rattle.std.proofs.Math.Seq.{drop-cons}
 use Rattle.std.proofs.lemmas.List.{take_rest}
+use Rattle.std.proofs.lemmas.Option.{same_Some}
 use Rattle.script_value.specs.Val.{val, vals_of, depth, depth_all}
 use Rattle.script_value.specs.Meaning.{meaning}
 use Rattle.script_value.specs.declared.value.Value.{Value}
@@ -11,15 +12,12 @@ use Rattle.xexpr_page.specs.declared.fault.RenderFault.TheVariants.{Memory, NotP
 use Rattle.xexpr_page.specs.Markup.{start_tag, end_tag, is_element}
 use Rattle.xexpr_page.specs.Page.{Pushes, join, appended, element, pair_in, page_of, children_of, attribute_of, attributes_of}
 
-some_of : {A : Type 0} (x y : A) → Some x ≡ Some y → x ≡ y
-some_of x y e = cc
-
 -- one piece more, and what is left
 pub appended_join : (old new : List ℕ) (p q : Option (List ℕ)) → appended old p ≡ Some new → appended old (join p q) ≡ appended new q
 appended_join old new None q e = let h : None ≡ Some new = e in cc
 appended_join old new (Some a) None e = refl
 appended_join old new (Some a) (Some b) e =
-    let h : old ++ a ≡ new = some_of (old ++ a) new e in
+    let h : old ++ a ≡ new = same_Some (old ++ a) new e in
     rw (← h) (ap Some (sym (append_assoc old a b)))
 
 pub joined_none : (p q : Option (List ℕ)) → p ≡ None → join p q ≡ None

@@ -1,12 +1,8 @@
 -- What no text can do to the page that it stands in.
 use Rattle.std.specs.Prelude.{◌≡◌, ◌≢◌, ℕ, ◌==◌, ◌||◌, not, Bool, true, List, [], ◌∷◌, ◌++◌, codes}
-use Rattle.std.specs.List.{list_all}
 use Rattle.std.specs.Str.{bytes_eq}
+use Rattle.script_value.specs.Texts.{lacks}
 use Rattle.xexpr_page.specs.Markup.{escaped_text, escaped_attribute}
-
--- a byte that stands nowhere among these
-abbrev pub lacks : ℕ → List ℕ → Bool
-lacks b bytes = list_all (λ c. not (c == b)) bytes
 
 abbrev pub is_entity : List ℕ → Bool
 is_entity e = bytes_eq e (codes "&amp;") || bytes_eq e (codes "&lt;") || bytes_eq e (codes "&gt;") || bytes_eq e (codes "&quot;")

@@ -1,5 +1,4 @@
 use Rattle.std.proofs.Common.{◌∙◌, ap, option_map}
-use Rattle.std.specs.Map.{lookup}
 use Rattle.instance_book.specs.Code.{page_of}
 use Rattle.instance_book.proofs.Entries.{page_found, copied}
 use Rattle.instance_book.proofs.admission.page_in.Goals as goal

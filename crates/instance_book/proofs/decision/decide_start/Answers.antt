@@ -1,7 +1,6 @@
-use Rattle.std.proofs.Common.{◌≡◌, ◌∙◌, ap, sym, refl, rules}
+use Rattle.std.proofs.Common.{◌≡◌, ◌∙◌, ap, refl, rules}
 use Rattle.core_syntax.specs.Scripts.{named_of}
 use Rattle.replay_spec.specs.Step as step
-use Rattle.replay_spec.specs.Tape as tape
 use Rattle.replay_spec.specs.Eval.{run}
 use Rattle.plain_rerun.specs.Code.{stop_of, tape_of}
 use Rattle.instance_book.specs.Code.{book_of, ticket_of}

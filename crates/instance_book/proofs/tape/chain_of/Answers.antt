@@ -1,4 +1,4 @@
-use Rattle.std.proofs.Common.{◌≡◌, ◌∙◌, ◌-◌, ◌+◌, ◌++◌, ap, sym, rules, arith, map, option_map, reverse, Some, None}
+use Rattle.std.proofs.Common.{◌≡◌, ◌∙◌, ◌-◌, ◌+◌, ◌++◌, rules, arith, map, option_map, reverse, Some, None}
 use Rattle.replay_spec.specs.Book as spec
 use Rattle.instance_book.specs.Code.{page_of}
 use Rattle.instance_book.specs.Chains.{link_of}

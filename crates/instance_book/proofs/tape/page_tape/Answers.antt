@@ -1,4 +1,4 @@
-use Rattle.std.proofs.Common.{◌≡◌, ◌∙◌, ◌++◌, ◌∷◌, [], ap, sym, refl, rules, map, reverse, arith, List}
+use Rattle.std.proofs.Common.{◌≡◌, ◌∙◌, ◌++◌, ◌∷◌, [], ap, refl, map, reverse, arith, List}
 use Rattle.std.proofs.lemmas.List.{map-append}
 use Rattle.script_value.specs.Meaning.{meaning}
 use Rattle.script_value.specs.declared.value.Value.{Value}
@@ -6,7 +6,7 @@ use Rattle.page_names.specs.Names.{name_of}
 use Rattle.replay_spec.specs.Tape as tape
 use Rattle.replay_spec.specs.Step as step
 use Rattle.replay_spec.specs.Book as spec
-use Rattle.plain_rerun.specs.Code.{segment_of, answer_of, tape_of}
+use Rattle.plain_rerun.specs.Code.{segment_of, answer_of}
 use Rattle.instance_book.specs.Code.{ticket_of, page_of}
 use Rattle.instance_book.specs.Chains.{link_of}
 use Rattle.instance_book.proofs.Links.{answers_step, nothing_left, taped}

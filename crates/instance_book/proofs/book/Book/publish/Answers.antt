@@ -1,6 +1,5 @@
-use Rattle.std.proofs.Common.{◌≡◌, ◌∙◌, ap, sym, rules}
+use Rattle.std.proofs.Common.{◌≡◌, ◌∙◌, ap, sym}
 use Rattle.core_syntax.specs.Scripts.{scripts_of}
-use Rattle.page_names.specs.Names.{target_of}
 use Rattle.replay_spec.specs.Book as spec
 use Rattle.replay_spec.specs.Admission.{admit}
 use Rattle.replay_spec.specs.Step as step

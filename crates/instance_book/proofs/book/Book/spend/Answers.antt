@@ -1,6 +1,5 @@
-use Rattle.std.proofs.Common.{◌∙◌, ap, List, ℕ, ◌==◌, not, rules}
+use Rattle.std.proofs.Common.{ap, List, ℕ, ◌==◌, not, rules}
 use Rattle.std.proofs.lemmas.Fn.{filter_same}
-use Rattle.replay_spec.specs.Book as spec
 use Rattle.instance_book.specs.Code.{book_of}
 use Rattle.instance_book.proofs.book.Book.spend.Goals as goal
 

@@ -1,7 +1,5 @@
-use Rattle.std.proofs.Common.{refl, rules, ap, ◌∙◌, List, ℕ, sym}
-use Rattle.replay_spec.specs.Step as step
+use Rattle.std.proofs.Common.{refl, rules}
 use Rattle.replay_spec.specs.Step.{step}
-use Rattle.instance_book.specs.Code.{book_of}
 use Rattle.instance_book.proofs.book.Book.take.Goals as goal
 
 pub returns-in-Err-clause-step : goal.returns-in-Err-clause-step
