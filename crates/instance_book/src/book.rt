@@ -81,7 +81,8 @@ impl Book {
 
     /// Takes the next number for a visit of the target, where that is admitted.
     ///
-    /// A target that is not admitted is refused, and takes no memory. A take that is refused, or finds no memory, changes nothing.
+    /// A target that is not admitted is refused, whatever memory there is.
+    /// A take that is refused, or finds no memory, changes nothing.
     pub fn take(
         &mut self,
         setup: &Setup,
@@ -114,7 +115,8 @@ impl Book {
 
     /// Runs the segment of a ticket and publishes what it shows, where its target is still admitted.
     ///
-    /// The ticket's number is spent, whatever the reply. A target that is no more admitted is refused, and takes no memory.
+    /// The ticket's number is spent, whatever the reply.
+    /// A target that is not admitted is refused, whatever memory there is.
     pub fn publish(&mut self, alloc: Global, setup: &Setup, ticket: &Ticket) -> Reply
         requires { Contains (book_of self.old).out ticket.now.number }
         ensures step { IsStep setup.now self.old (step.publish (ticket_of ticket.now)) (reply_of result) self.new }
