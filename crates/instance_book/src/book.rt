@@ -1,4 +1,4 @@
-ghost use Rattle.std.specs.Prelude.{◌≡◌, ◌<◌, ◌≤◌, ◌+◌, ◌^◌, ◌==◌, ◌∷◌, [], not, filter, Some, None, MatchResult, IfOk, OnOk, OnErr, Contains};
+ghost use Rattle.std.specs.Prelude.{◌≡◌, ◌<◌, ◌≤◌, ◌+◌, ◌^◌, ◌==◌, ◌∷◌, [], not, filter, Some, None, Err, MatchResult, IfOk, IfSome, OnOk, OnErr, Contains};
 
 use crate::admission::{Admission, admission_to};
 use crate::decision::{Decision, Effect, decide};
@@ -81,6 +81,7 @@ impl Book {
 
     /// Takes the next number for a visit of the target, where that is admitted.
     ///
+    /// A target that is not admitted is refused, whatever memory there is.
     /// A take that is refused, or finds no memory, changes nothing.
     pub fn take(
         &mut self,
@@ -91,6 +92,7 @@ impl Book {
     ) -> Result<Ticket, Reply>
         requires { (book_of self.old).drawn < 2 ^ 63 }
         ensures step { IsStep setup.now self.old (step.take (target_of target) (meaning answer) nonce) (taken_of result) self.new }
+        ensures refused { IfSome (refusal_of (admit (scripts_of setup.now) (book_of self.old) (target_of target))) (λ r. result ≡ Err (Reply.Refused r)) }
         ensures out { IfOk result (λ t. Contains (book_of self.new).out t.number) }
         ensures drawn { (book_of self.new).drawn ≤ (book_of self.old).drawn + 1 }
         ensures ticket { IfOk result (λ t. ticket_of t ≡ record { target = target_of target; answer = meaning answer; number = (book_of self.old).drawn; nonce = nonce }) }
@@ -114,9 +116,11 @@ impl Book {
     /// Runs the segment of a ticket and publishes what it shows, where its target is still admitted.
     ///
     /// The ticket's number is spent, whatever the reply.
+    /// A target that is not admitted is refused, whatever memory there is.
     pub fn publish(&mut self, alloc: Global, setup: &Setup, ticket: &Ticket) -> Reply
         requires { Contains (book_of self.old).out ticket.now.number }
         ensures step { IsStep setup.now self.old (step.publish (ticket_of ticket.now)) (reply_of result) self.new }
+        ensures refused { IfSome (refusal_of (admit (scripts_of setup.now) (book_of self.old) (target_of ticket.now.target))) (λ r. result ≡ Reply.Refused r) }
         ensures drawn { (book_of self.new).drawn ≡ (book_of self.old).drawn }
     {
         self.spend(ticket.number);

@@ -1,4 +1,4 @@
-ghost use Rattle.std.specs.Prelude.{◌≡◌, IfOk, string_bytes};
+ghost use Rattle.std.specs.Prelude.{◌≡◌, Ok, IfOk, IfSome, string_bytes};
 ghost use Rattle.core_syntax.specs.Scripts.{named_of, scripts_of};
 ghost use Rattle.page_names.specs.Names.{target_of, name_of};
 ghost use Rattle.replay_spec.specs.Admission as admission;
@@ -176,7 +176,8 @@ pub fn decide(
     setup: &Setup,
     ticket: &Ticket,
 ) -> Result<Decision, AllocError>
-    ensures { IfOk result (λ d. decision_of d ≡ step.decide (book_of book.now) (ticket_of ticket.now) (admission.admit (scripts_of setup.now) (book_of book.now) (target_of ticket.now.target))) }
+    ensures decided { IfOk result (λ d. decision_of d ≡ step.decide (book_of book.now) (ticket_of ticket.now) (admission.admit (scripts_of setup.now) (book_of book.now) (target_of ticket.now.target))) }
+    ensures refused { IfSome (admission.refusal_of (admission.admit (scripts_of setup.now) (book_of book.now) (target_of ticket.now.target))) (λ r. result ≡ Ok (Decision.Answers (Reply.Refused r))) }
 {
     match admission_to(book, setup, &ticket.target) {
         Admission::Begins { place, script } => decide_start(alloc, book, ticket, place, script),

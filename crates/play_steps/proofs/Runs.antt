@@ -8,7 +8,7 @@ use Rattle.replay_spec.specs.Step.{Reply}
 use Rattle.play_steps.specs.Step.{Request, request_of, requests}
 use Rattle.play_steps.specs.Visit.{Table, first_table, Fates, reply_text}
 use Rattle.play_steps.specs.Played.{IsVisit}
-use Rattle.play_steps.specs.Transcript.{End, done, bad_line, transcript, Plays, PlaysPart}
+use Rattle.play_steps.specs.Transcript.{End, done, bad_line, transcript, Plays, PlaysPart, Pauses}
 use Rattle.play_steps.specs.Play.{Visits, visit_text}
 
 -- a text, and then what a run gives
@@ -19,14 +19,23 @@ after text run = (text ++ run.0, run.1)
 pub record Reached
     (old now : Option (List ℕ)) (setup : List Named) (all : List (Option Request)) (t : Table) (number : ℕ)
     (left : List (Option Request)) : Type 0 where
+  pub front : List (Option Request)
+  pub cut : all ≡ front ++ left
   pub fates : List Fates
   pub text : List ℕ
   pub written : Appends old now text
-  pub goes_on : (later : List Fates)
-      → transcript setup first_table 1 all (fates ++ later) ≡ after text (transcript setup t number left later)
+  pub goes_on : (rest : List (Option Request)) (later : List Fates)
+      → transcript setup first_table 1 (front ++ rest) (fates ++ later) ≡ after text (transcript setup t number rest later)
+
+-- the whole run goes on from there
+all_goes_on : (old now : Option (List ℕ)) (setup : List Named) (all : List (Option Request)) (t : Table) (number : ℕ) (left : List (Option Request))
+    (reached : Reached old now setup all t number left) (later : List Fates)
+    → transcript setup first_table 1 all (reached.fates ++ later) ≡ after reached.text (transcript setup t number left later)
+all_goes_on old now setup all t number left reached later =
+    ap (λ steps. transcript setup first_table 1 steps (reached.fates ++ later)) reached.cut ∙ reached.goes_on left later
 
 pub start : (old : Option (List ℕ)) (setup : List Named) (all : List (Option Request)) → Reached old old setup all first_table 1 all
-start old setup all = record { fates = []; text = []; written = appends_none old; goes_on = λ later. refl }
+start old setup all = record { front = []; cut = refl; fates = []; text = []; written = appends_none old; goes_on = λ rest later. refl }
 
 -- one visit of a run
 visited : (setup : List Named) (t next : Table) (number : ℕ) (request : Request) (left : List (Option Request)) (reply : Reply)
@@ -51,14 +60,17 @@ pub one_more : (old now new : Option (List ℕ)) (setup : List Named) (all : Lis
     → Appends now new (visit_text v)
     → Reached old new setup all next (number + 1) left
 one_more old now new setup all t next number line left v reached written = record {
+  front = reached.front ++ request_of line ∷ [];
+  cut = reached.cut ∙ sym (append_assoc reached.front (request_of line ∷ []) left);
   fates = reached.fates ++ v.visited.fates ∷ [];
   text = reached.text ++ visit_text v;
   written = appends_then old now new _ _ reached.written written;
-  goes_on = λ later.
-      ap (transcript setup first_table 1 all) (append_assoc reached.fates (v.visited.fates ∷ []) later)
-      ∙ (reached.goes_on (v.visited.fates ∷ later)
-      ∙ (ap (after reached.text) (visited_next setup t next number line left v later)
-      ∙ ap (λ w. (w, (transcript setup next (number + 1) left later).1)) (sym (append_assoc reached.text (visit_text v) (transcript setup next (number + 1) left later).0))));
+  goes_on = λ rest later.
+      ap (λ steps. transcript setup first_table 1 steps ((reached.fates ++ v.visited.fates ∷ []) ++ later)) (append_assoc reached.front (request_of line ∷ []) rest)
+      ∙ (ap (transcript setup first_table 1 (reached.front ++ request_of line ∷ rest)) (append_assoc reached.fates (v.visited.fates ∷ []) later)
+      ∙ (reached.goes_on (request_of line ∷ rest) (v.visited.fates ∷ later)
+      ∙ (ap (after reached.text) (visited_next setup t next number line rest v later)
+      ∙ ap (λ w. (w, (transcript setup next (number + 1) rest later).1)) (sym (append_assoc reached.text (visit_text v) (transcript setup next (number + 1) rest later).0)))));
 }
 
 ends : (setup : List Named) (all : List (Option Request)) (fates : List Fates) (text : List ℕ) (end : End)
@@ -81,7 +93,7 @@ ended : (old now : Option (List ℕ)) (setup : List Named) (steps : List ℕ) (t
     → transcript setup t number left [] ≡ ([], end)
     → Plays old now setup steps end
 ended old now setup steps t number left end reached e =
-    let whole = ends setup (requests steps) reached.fates reached.text end (reached.goes_on [] ∙ ap (after reached.text) e) in
+    let whole = ends setup (requests steps) reached.fates reached.text end (all_goes_on _ _ _ _ _ _ _ reached [] ∙ ap (after reached.text) e) in
     record {
       fates = reached.fates;
       end_is = ap (λ r. r.1) whole;
@@ -101,12 +113,28 @@ at_line old now setup steps t number left reached =
 pub between : (old now : Option (List ℕ)) (setup : List Named) (steps : List ℕ) (t : Table) (number : ℕ) (left : List (Option Request))
     → Reached old now setup (requests steps) t number left → PlaysPart old now setup steps
 between old now setup steps t number left reached =
-    let e = reached.goes_on [] in
+    let e = all_goes_on _ _ _ _ _ _ _ reached [] in
     record {
       fates = reached.fates ++ [];
       part = subst (AppendsPart old now) (sym (ap (λ r. r.0) e))
           (longer_part old now reached.text (transcript setup t number left []).0 (whole_part old now reached.text reached.written));
     }
+
+-- the run broke off before the reply to a request
+pub paused : (old now : Option (List ℕ)) (setup : List Named) (steps : List ℕ) (t : Table) (number : ℕ) (request : Request) (left : List (Option Request))
+    → Reached old now setup (requests steps) t number (Some request ∷ left) → Pauses old now setup steps
+paused old now setup steps t number request left reached = record {
+  front = reached.front;
+  request = request;
+  rest = left;
+  cut = reached.cut;
+  fates = reached.fates;
+  text = reached.text;
+  replies = ends setup reached.front reached.fates reached.text done
+      (ap (λ s. transcript setup first_table 1 s (reached.fates ++ [])) (sym (append-nil reached.front))
+      ∙ (reached.goes_on [] [] ∙ ap (after reached.text) (over setup t number)));
+  written = reached.written;
+}
 
 -- the run broke off in a reply
 pub inside : (old now new : Option (List ℕ)) (setup : List Named) (steps : List ℕ) (t next : Table) (number : ℕ)
@@ -115,7 +143,7 @@ pub inside : (old now new : Option (List ℕ)) (setup : List Named) (steps : Lis
     → AppendsPart now new (visit_text v)
     → PlaysPart old new setup steps
 inside old now new setup steps t next number line left v reached part =
-    let e = reached.goes_on (v.visited.fates ∷ []) ∙ ap (after reached.text) (visited_next setup t next number line left v []) in
+    let e = all_goes_on _ _ _ _ _ _ _ reached (v.visited.fates ∷ []) ∙ ap (after reached.text) (visited_next setup t next number line left v []) in
     record {
       fates = reached.fates ++ v.visited.fates ∷ [];
       part = subst (AppendsPart old new) (sym (ap (λ r. r.0) e))

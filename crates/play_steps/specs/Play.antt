@@ -34,4 +34,4 @@ abbrev pub Turns : Turn → Option (List ℕ) → Option (List ℕ) → List Nam
 Turns Went before after setup t next line = (v : Visits setup t next line) × Appends before after (visit_text v)
 Turns NoStep before after setup t next line = (request_of line ≡ None) × (after ≡ before)
 Turns TurnWrite before after setup t next line = (v : Visits setup t next line) × AppendsPart before after (visit_text v)
-Turns TurnMemory before after setup t next line = after ≡ before
+Turns TurnMemory before after setup t next line = Visits setup t next line × (after ≡ before)

@@ -44,3 +44,14 @@ pub record Plays (before after : Option (List ℕ)) (setup : List Named) (steps 
 pub record PlaysPart (before after : Option (List ℕ)) (setup : List Named) (steps : List ℕ) : Type 0 where
   pub fates : List Fates
   pub part : AppendsPart before after (play_of setup steps fates).0
+
+-- the sink grew by the replies of some fates to the steps before this request, all of them and whole
+pub record Pauses (before after : Option (List ℕ)) (setup : List Named) (steps : List ℕ) : Type 0 where
+  pub front : List (Option Request)
+  pub request : Request
+  pub rest : List (Option Request)
+  pub cut : requests steps ≡ front ++ Some request ∷ rest
+  pub fates : List Fates
+  pub text : List ℕ
+  pub replies : transcript setup first_table 1 front fates ≡ (text, done)
+  pub written : Appends before after text

@@ -3,6 +3,7 @@ ghost use Rattle.core_syntax.specs.Scripts.{scripts_of};
 ghost use Rattle.web_outside.specs.Causes.{Rose};
 ghost use Rattle.play_steps.specs.Played.{table_of};
 ghost use Rattle.play_steps.specs.Play.{Ends, Turns};
+ghost use Rattle.play_steps.specs.Transcript.{Pauses};
 
 use crate::player::Player;
 use crate::reply::reply_text;
@@ -66,6 +67,7 @@ fn play_line<O: Sink>(
 pub fn play<O: Sink>(alloc: Global, setup: &Setup, steps: &[u8], output: &mut O) -> PlayEnd
     ensures ended { Ends result (O.written output.old) (O.written output.new) (scripts_of setup.now) steps.now }
     ensures write { result ≡ PlayEnd.Write → Rose (O.fault_count output.old) (O.fault_count output.new) }
+    ensures memory { result ≡ PlayEnd.Memory → Pauses (O.written output.old) (O.written output.new) (scripts_of setup.now) steps.now }
     ensures later { O.fault_count output.old ≤ O.fault_count output.new }
 {
     let mut player = Player::new(alloc);

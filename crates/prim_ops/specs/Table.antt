@@ -1,5 +1,5 @@
 -- The table of operations: a value or a fault, one row an operation.
-use Rattle.std.specs.Prelude.{◌≡◌, ℕ, ◌^◌, ◌==◌, ◌&&◌, ℤ, pos, negsuc, ◌+ℤ◌, Bool, true, false, List, [], ◌∷◌, ◌++◌, Option, Some, None, is_some, Result, Ok, Err, ⊤, nat_lt, if◌then◌else◌}
+use Rattle.std.specs.Prelude.{◌≡◌, ℕ, ◌^◌, ◌==◌, ◌&&◌, ℤ, pos, negsuc, ◌+ℤ◌, Bool, true, false, List, [], ◌∷◌, ◌++◌, Option, Some, None, is_some, Result, Ok, Err, IsOk, nat_lt, if◌then◌else◌}
 use Rattle.std.specs.Borrow.{Bor}
 use Rattle.std.specs.Fmt.{signed_decimal}
 use Rattle.std.specs.Str.{bytes_eq}
@@ -96,10 +96,10 @@ value_of op.NumberToString vs = text_of_number vs
 value_of op.StringToNumber vs = number_of_text vs
 value_of op.ExtractBindingSingle vs = single_binding vs
 
--- the program's answer is that of the table, unless memory ran out
+-- the program's answer is that of the table, unless memory ran out for a value; a fault takes no memory
 abbrev pub Applies : Result Value ApplyFault → Result Val Fault → Type 0
 Applies (Ok v) row = row ≡ Ok (meaning v)
-Applies (Err Memory) row = ⊤
+Applies (Err Memory) row = IsOk row
 Applies (Err (FaultOf k)) row = row ≡ Err k
 
 -- the same where no memory is taken

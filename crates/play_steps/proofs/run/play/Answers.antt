@@ -5,9 +5,9 @@ use Rattle.core_syntax.specs.Scripts.{scripts_of}
 use Rattle.play_steps.specs.Step.{Request, requests}
 use Rattle.play_steps.specs.Visit.{Table}
 use Rattle.play_steps.specs.Played.{table_of}
-use Rattle.play_steps.specs.Transcript.{Plays, PlaysPart, bad_line}
+use Rattle.play_steps.specs.Transcript.{Plays, PlaysPart, Pauses, bad_line}
 use Rattle.play_steps.proofs.Lines.{requests_cut, requests_uncut, requests_nil, shorter}
-use Rattle.play_steps.proofs.Runs.{Reached, start, one_more, inside, between, at_end, at_line}
+use Rattle.play_steps.proofs.Runs.{Reached, start, one_more, inside, between, paused, at_end, at_line}
 use Rattle.play_steps.proofs.run.play.Goals as goal
 
 -- what is left, seen by its first line
@@ -59,7 +59,16 @@ returns-in-Write-clause-ended g c =
 pub returns-in-Memory-clause-ended : goal.returns-in-Memory-clause-ended
 returns-in-Memory-clause-ended g c =
     let here = between _ _ _ _ _ _ _ c.loop-rest.invariant.reached in
-    subst (λ w. PlaysPart (g.O.Sink.written c.args.output.now) w (scripts_of c.args.setup.now) c.args.steps.now) (sym c.in-Memory.ensures.turned) here
+    subst (λ w. PlaysPart (g.O.Sink.written c.args.output.now) w (scripts_of c.args.setup.now) c.args.steps.now) (sym c.in-Memory.ensures.turned.1) here
+
+pub returns-in-Memory-clause-memory : goal.returns-in-Memory-clause-memory
+returns-in-Memory-clause-memory g c = λ _.
+    let cut : cut_at 10 c.loop-rest.rest.now ≡ Some (c.in-Some.line.now, c.in-Some.after.now) = search rules in
+    let first = requests_cut c.loop-rest.rest.now c.in-Some.line.now c.in-Some.after.now cut
+    ∙ ap (λ r. r ∷ requests c.in-Some.after.now) c.in-Memory.ensures.turned.0.spelled in
+    let here = paused _ _ _ _ _ _ c.in-Memory.ensures.turned.0.request (requests c.in-Some.after.now)
+    (at_first _ _ _ _ _ _ _ _ first c.loop-rest.invariant.reached) in
+    subst (λ w. Pauses (g.O.Sink.written c.args.output.now) w (scripts_of c.args.setup.now) c.args.steps.now) (sym c.in-Memory.ensures.turned.1) here
 
 pub loop-rest-preserved : goal.loop-rest-preserved
 loop-rest-preserved g c =

@@ -12,7 +12,7 @@ pub returns-in-Ok-Answers-clause-step : goal.returns-in-Ok-Answers-clause-step
 returns-in-Ok-Answers-clause-step c =
     let t = ticket_of c.args.ticket.now in
     let decided : step.answers (reply_of c.in-Ok-Answers.reply) ≡ step.decide (book_of c.args.self.now) t (admit (scripts_of c.args.setup.now) (book_of c.args.self.now) t.target) =
-    sym (ap decision_of c.in-Ok-Answers.field-0-is) ∙ (rw c.spend.ensures at c.in-Ok-Answers.ensures) in
+    sym (ap decision_of c.in-Ok-Answers.field-0-is) ∙ (rw c.spend.ensures at c.in-Ok-Answers.ensures.decided) in
     answered (scripts_of c.args.setup.now) (book_of c.args.self.now) t (reply_of c.in-Ok-Answers.reply) decided
     ∙ ap (λ (b : spec.Book). (reply_of c.in-Ok-Answers.reply, b)) (sym c.spend.ensures)
 
@@ -20,7 +20,7 @@ pub returns-in-Ok-clause-step : goal.returns-in-Ok-clause-step
 returns-in-Ok-clause-step c =
     let t = ticket_of c.args.ticket.now in
     let decided : step.records (reply_of c.in-Ok-Records.reply) (effect_of c.in-Ok-Records.effect) ≡ step.decide (book_of c.args.self.now) t (admit (scripts_of c.args.setup.now) (book_of c.args.self.now) t.target) =
-    sym (ap decision_of c.in-Ok-Records.field-0-is) ∙ (rw c.spend.ensures at c.in-Ok-Records.ensures) in
+    sym (ap decision_of c.in-Ok-Records.field-0-is) ∙ (rw c.spend.ensures at c.in-Ok-Records.ensures.decided) in
     recorded (scripts_of c.args.setup.now) (book_of c.args.self.now) t (reply_of c.in-Ok-Records.reply) (effect_of c.in-Ok-Records.effect) decided
     ∙ ap (λ (b : spec.Book). (reply_of c.in-Ok-Records.reply, b)) (ap (spec.land (effect_of c.in-Ok-Records.effect)) (sym c.spend.ensures) ∙ sym c.in-Ok.ensures.ok)
 
