@@ -1,16 +1,17 @@
 -- From what a run leaves to what a command answers.
-use Rattle.std.proofs.Common.{◌≡◌, ◌++◌, ◌⊎◌, ℕ, List, [], Option, Some, None, Result, Ok, Err, IfSome, append-nil, sym, ap, ◌∙◌, refl, subst, inl, inr, ◌≤◌, arith, codes}
+use Rattle.std.proofs.Common.{◌≡◌, ◌+◌, ◌++◌, ◌∷◌, ◌⊎◌, ℕ, List, [], Option, Some, None, Result, Ok, Err, IfSome, append-nil, sym, ap, ◌∙◌, refl, subst, inl, inr, ◌≤◌, arith, codes}
 use Rattle.std.specs.Fmt.{decimal}
 use Rattle.std.specs.Io.KnownBytes.{Appends, Consumes, IsAtEnd}
 use Rattle.web_outside.specs.Causes.{Rose}
-use Rattle.web_outside.specs.Pieces.{AppendsUnlessFault}
+use Rattle.web_outside.specs.Pieces.{AppendsPart, AppendsUnlessFault}
 use Rattle.web_outside.proofs.Writes.{appends_then}
 use Rattle.script_server.specs.Setup.{Parsed, Fault, setup_of}
 use Rattle.core_syntax.specs.Setup.{Named}
-use Rattle.play_steps.specs.Visit.{Fates}
-use Rattle.play_steps.specs.Transcript.{End, done, bad_line, play_of, Plays, PlaysPart}
+use Rattle.play_steps.specs.Step.{Request, requests}
+use Rattle.play_steps.specs.Visit.{Table, first_table, Fates, visit, reply_text}
+use Rattle.play_steps.specs.Transcript.{End, done, bad_line, first_fates, later_fates, transcript, play_of, Plays, PlaysPart, Pauses as Paused}
 use Rattle.script_server.specs.Faults.{fault_line}
-use Rattle.script_server.specs.Output.{finished, played, output_of, Answers, BreaksOff, EndsAtLine, StopsWith}
+use Rattle.script_server.specs.Output.{finished, played, output_of, Answers, BreaksOff, RepliesTo, nothing, to_steps, Pauses, EndsAtLine, StopsWith}
 
 -- what was read to its end is the input
 pub whole_input : (left rest : Option (List ℕ)) (bytes : List ℕ) (P : List ℕ → Type 0)
@@ -74,15 +75,41 @@ ends_at_line old mid new before after setup steps number p q =
       whole = line.whole;
     }
 
-pub stops_with : (old mid new : Option (List ℕ)) (before after : ℕ) (setup : List Named) (steps error : List ℕ)
-    → PlaysPart old mid setup steps → AppendsUnlessFault mid new error before after → StopsWith old new before after error setup steps
-stops_with old mid new before after setup steps error p q =
-    let line = line_of old mid new p.part.front error before after p.part.written q in
+-- what is written for steps up to one that is none is whole replies to those before it
+record Until (setup : List Named) (t : Table) (number : ℕ) (steps : List (Option Request)) (fates : List Fates) (text : List ℕ) : Type 0 where
+  front : List (Option Request)
+  rest : List (Option Request)
+  cut : steps ≡ front ++ rest
+  replies : transcript setup t number front fates ≡ (text, done)
+
+until_bad : (setup : List Named) (t : Table) (number m : ℕ) (steps : List (Option Request)) (fates : List Fates)
+    → (transcript setup t number steps fates).1 ≡ bad_line m → Until setup t number steps fates (transcript setup t number steps fates).0
+unfolding transcript
+until_bad setup t number m [] fates e = absurd (let no : ⊥ = cc in no)
+until_bad setup t number m (None ∷ steps) fates e = record { front = []; rest = None ∷ steps; cut = refl; replies = refl }
+until_bad setup t number m (Some r ∷ steps) fates e =
+    let visited = visit setup t r.target (first_fates fates) in
+    let later = until_bad setup visited.1 (number + 1) m steps (later_fates fates) e in
     record {
-      fates = p.fates;
-      front = p.part.front;
-      rest = p.part.rest;
-      replies = p.part.is;
+      front = Some r ∷ later.front;
+      rest = later.rest;
+      cut = ap (λ xs. Some r ∷ xs) later.cut;
+      replies = ap (λ x. (reply_text r.worker visited.0 ++ x.0, x.1)) later.replies;
+    }
+
+replied_until : (setup : List Named) (steps : List ℕ) (fates : List Fates) (m : ℕ) → (play_of setup steps fates).1 ≡ bad_line m
+    → RepliesTo setup steps (play_of setup steps fates).0
+replied_until setup steps fates m e =
+    let until = until_bad setup first_table 1 m (requests steps) fates e in
+    record { front = until.front; rest = until.rest; cut = until.cut; fates = fates; replies = until.replies }
+
+stops_behind : (old mid new : Option (List ℕ)) (before after : ℕ) (setup : List Named) (steps error text : List ℕ)
+    → RepliesTo setup steps text → Appends old mid text → AppendsUnlessFault mid new error before after → StopsWith old new before after error setup steps
+stops_behind old mid new before after setup steps error text replied p q =
+    let line = line_of old mid new text error before after p q in
+    record {
+      text = text;
+      replied = replied;
       shown = line.shown;
       cut = line.cut;
       error_is = line.is;
@@ -90,12 +117,16 @@ stops_with old mid new before after setup steps error p q =
       whole = line.whole;
     }
 
-pub part_of_whole : (old new : Option (List ℕ)) (setup : List Named) (steps : List ℕ) (end : End)
-    → Plays old new setup steps end → PlaysPart old new setup steps
-part_of_whole old new setup steps end p = record {
-  fates = p.fates;
-  part = record { front = (play_of setup steps p.fates).0; rest = []; is = sym (append-nil _); written = p.written };
-}
+pub stops_with : (old mid new : Option (List ℕ)) (before after : ℕ) (setup : List Named) (steps error : List ℕ)
+    → Paused old mid setup steps → AppendsUnlessFault mid new error before after → StopsWith old new before after error setup steps
+stops_with old mid new before after setup steps error p q =
+    let replied : RepliesTo setup steps p.text = record { front = p.front; rest = Some p.request ∷ p.rest; cut = p.cut; fates = p.fates; replies = p.replies } in
+    stops_behind old mid new before after setup steps error p.text replied p.written q
+
+pub stops_at_line : (old mid new : Option (List ℕ)) (before after : ℕ) (setup : List Named) (steps error : List ℕ) (number : ℕ)
+    → Plays old mid setup steps (bad_line number) → AppendsUnlessFault mid new error before after → StopsWith old new before after error setup steps
+stops_at_line old mid new before after setup steps error number p q =
+    stops_behind old mid new before after setup steps error _ (replied_until setup steps p.fates number p.end_is) p.written q
 
 replies_are : (replies : List ℕ) (end : End) → (finished replies end).replies ≡ replies
 replies_are replies done = refl
@@ -151,47 +182,31 @@ answers_setup bytes fault old new before after e q none =
       whole = line.whole;
     }
 
-pub breaks_part : (bytes : List ℕ) (s : Parsed) (old new : Option (List ℕ)) (before after : ℕ)
-    → setup_of bytes ≡ Ok s → PlaysPart old new s.scripts s.steps → BreaksOff bytes [] old new before after
-breaks_part bytes s old new before after e p =
+pub breaks_part : (bytes : List ℕ) (s : Parsed) (old new : Option (List ℕ))
+    → setup_of bytes ≡ Ok s → PlaysPart old new s.scripts s.steps → BreaksOff bytes old new
+breaks_part bytes s old new e p =
     let replies = ap (λ o. o.replies) (outcome bytes s p.fates e) ∙ replies_are _ _ in
-    record {
-      fates = p.fates;
-      front = p.part.front;
-      rest = p.part.rest;
-      replies = replies ∙ p.part.is;
-      shown = [];
-      cut = [];
-      error_is = refl;
-      written = subst (Appends old new) (sym (append-nil p.part.front)) p.part.written;
-      whole = inl refl;
-    }
+    record { fates = p.fates; part = subst (AppendsPart old new) (sym replies) p.part }
 
-pub breaks_stop : (bytes : List ℕ) (s : Parsed) (old new : Option (List ℕ)) (before after : ℕ) (error : List ℕ)
-    → setup_of bytes ≡ Ok s → StopsWith old new before after error s.scripts s.steps → BreaksOff bytes error old new before after
-breaks_stop bytes s old new before after error e p =
-    let replies = ap (λ o. o.replies) (outcome bytes s p.fates e) ∙ replies_are _ _ in
-    record {
-      fates = p.fates;
-      front = p.front;
-      rest = p.rest;
-      replies = replies ∙ p.replies;
-      shown = p.shown;
-      cut = p.cut;
-      error_is = p.error_is;
-      written = p.written;
-      whole = p.whole;
-    }
+pub pauses_stop : (bytes : List ℕ) (s : Parsed) (old new : Option (List ℕ)) (before after : ℕ) (error : List ℕ)
+    → setup_of bytes ≡ Ok s → StopsWith old new before after error s.scripts s.steps → Pauses bytes error old new before after
+pauses_stop bytes s old new before after error e p = record {
+  text = p.text;
+  replied = to_steps bytes p.text s e p.replied;
+  shown = p.shown;
+  cut = p.cut;
+  error_is = p.error_is;
+  written = p.written;
+  whole = p.whole;
+}
 
-pub breaks_early : (bytes : List ℕ) (old new : Option (List ℕ)) (before after : ℕ) (error : List ℕ)
-    → AppendsUnlessFault old new error before after → Appends old old [] → BreaksOff bytes error old new before after
-breaks_early bytes old new before after error q none =
+pub pauses_early : (bytes : List ℕ) (old new : Option (List ℕ)) (before after : ℕ) (error : List ℕ)
+    → AppendsUnlessFault old new error before after → Appends old old [] → Pauses bytes error old new before after
+pauses_early bytes old new before after error q none =
     let line = line_of old old new [] error before after none q in
     record {
-      fates = [];
-      front = [];
-      rest = (output_of bytes []).replies;
-      replies = refl;
+      text = [];
+      replied = nothing bytes;
       shown = line.shown;
       cut = line.cut;
       error_is = line.is;

@@ -14,7 +14,7 @@ use Rattle.script_server.specs.declared.command.Status.TheVariants as status
 use Rattle.script_server.specs.Setup.{Parsed, Fault, setup_of}
 use Rattle.script_server.specs.Faults.{fault_line}
 use Rattle.script_server.specs.Sections.{IsSetup}
-use Rattle.script_server.specs.Output.{Answers, BreaksOff, EndsAtLine, StopsWith}
+use Rattle.script_server.specs.Output.{Answers, BreaksOff, Pauses, EndsAtLine, StopsWith}
 
 -- the words are the program's name and `play`
 abbrev pub is_play : List (List ℕ) → Bool
@@ -62,9 +62,13 @@ pub record ReadToEnd (met : Met) : Type 0 where
 abbrev pub Whole : Met → ℕ → Type 0
 Whole met status = IfSome met.input (λ bytes. Answers bytes met.held met.holds met.output_before met.output_after status)
 
--- the output is a front of a transcript of the input, and then this line, or a part of it where the output failed
-abbrev pub Front : Met → List ℕ → Type 0
-Front met line = IfSome met.input (λ bytes. BreaksOff bytes line met.held met.holds met.output_before met.output_after)
+-- the output is a front of the transcript of the input
+abbrev pub Front : Met → Type 0
+Front met = IfSome met.input (λ bytes. BreaksOff bytes met.held met.holds)
+
+-- the output is whole replies to the first of the input's steps, and then this line, or a part of it where the output failed
+abbrev pub Paused : Met → List ℕ → Type 0
+Paused met line = IfSome met.input (λ bytes. Pauses bytes line met.held met.holds met.output_before met.output_after)
 
 -- why the command ends so, and what it wrote
 abbrev pub Explains : Status → Met → Type 0
@@ -73,8 +77,8 @@ Explains status.Usage met = (is_play met.words ≡ false) × Prints met (codes "
 Explains status.Setup met = (is_play met.words ≡ true) × ReadToEnd met × Whole met 3
 Explains status.Line met = (is_play met.words ≡ true) × ReadToEnd met × Whole met 4
 Explains status.Read met = (is_play met.words ≡ true) × Rose met.input_before met.input_after × Prints met (codes "error 5 read\n")
-Explains status.Write met = (is_play met.words ≡ true) × ReadToEnd met × Rose met.output_before met.output_after × Front met []
-Explains status.Memory met = (is_play met.words ≡ true) × Front met (codes "error 10 memory\n")
+Explains status.Write met = (is_play met.words ≡ true) × ReadToEnd met × Rose met.output_before met.output_after × Front met
+Explains status.Memory met = (is_play met.words ≡ true) × Paused met (codes "error 10 memory\n")
 Explains status.Long met = (is_play met.words ≡ true) × ReadsPast met.input met.unread 16777216 × Prints met (codes "error 11 long\n")
 
 -- the status that is due to steps: 0, or 4 where a line is none
@@ -127,8 +131,8 @@ abbrev pub Outputs : Status → List ℕ → Option (List ℕ) → Option (List 
 Outputs status.Done input old new before after = Answers input old new before after 0
 Outputs status.Setup input old new before after = Answers input old new before after 3
 Outputs status.Line input old new before after = Answers input old new before after 4
-Outputs status.Write input old new before after = Rose before after × BreaksOff input [] old new before after
-Outputs status.Memory input old new before after = BreaksOff input (codes "error 10 memory\n") old new before after
+Outputs status.Write input old new before after = Rose before after × BreaksOff input old new
+Outputs status.Memory input old new before after = Pauses input (codes "error 10 memory\n") old new before after
 Outputs _ input old new before after = ⊥
 
 -- what telling a fault of the setup leaves: its line, or that of want of memory

@@ -4,8 +4,10 @@ use Rattle.std.specs.Fmt.{decimal}
 use Rattle.std.specs.Io.KnownBytes.{Appends}
 use Rattle.web_outside.specs.Causes.{Rose}
 use Rattle.core_syntax.specs.Setup.{Named}
-use Rattle.play_steps.specs.Visit.{Fates}
-use Rattle.play_steps.specs.Transcript.{End, done, bad_line, play_of}
+use Rattle.web_outside.specs.Pieces.{AppendsPart}
+use Rattle.play_steps.specs.Step.{Request, requests}
+use Rattle.play_steps.specs.Visit.{Fates, first_table}
+use Rattle.play_steps.specs.Transcript.{End, done, bad_line, transcript, play_of}
 use Rattle.script_server.specs.Setup.{Parsed, Fault, setup_of}
 use Rattle.script_server.specs.Faults.{fault_line}
 
@@ -38,16 +40,32 @@ pub record Answers (input : List ℕ) (old new : Option (List ℕ)) (before afte
   pub written : Appends old new ((output_of input fates).replies ++ shown)
   pub whole : (cut ≡ []) ⊎ Rose before after
 
--- The sink grew by a front of the replies of some fates, and then by the line, cut short only where the sink's count rose.
-pub record BreaksOff (input error : List ℕ) (old new : Option (List ℕ)) (before after : ℕ) : Type 0 where
+-- the sink grew by a front of the replies of some fates
+pub record BreaksOff (input : List ℕ) (old new : Option (List ℕ)) : Type 0 where
   pub fates : List Fates
-  pub front : List ℕ
-  pub rest : List ℕ
-  pub replies : (output_of input fates).replies ≡ front ++ rest
+  pub part : AppendsPart old new (output_of input fates).replies
+
+-- whole replies of some fates to the first of the steps, as many as there are
+pub record RepliesTo (setup : List Named) (steps text : List ℕ) : Type 0 where
+  pub front : List (Option Request)
+  pub rest : List (Option Request)
+  pub cut : requests steps ≡ front ++ rest
+  pub fates : List Fates
+  pub replies : transcript setup first_table 1 front fates ≡ (text, done)
+
+-- whole replies to the first of an input's steps, or nothing
+pub data Replied : List ℕ → List ℕ → Type 0 where
+  nothing : (input : List ℕ) → Replied input []
+  to_steps : (input text : List ℕ) (setup : Parsed) → setup_of input ≡ Ok setup → RepliesTo setup.scripts setup.steps text → Replied input text
+
+-- The sink grew by whole replies to the first of the steps, and then by the line, cut short only where the sink's count rose.
+pub record Pauses (input error : List ℕ) (old new : Option (List ℕ)) (before after : ℕ) : Type 0 where
+  pub text : List ℕ
+  pub replied : Replied input text
   pub shown : List ℕ
   pub cut : List ℕ
   pub error_is : error ≡ shown ++ cut
-  pub written : Appends old new (front ++ shown)
+  pub written : Appends old new (text ++ shown)
   pub whole : (cut ≡ []) ⊎ Rose before after
 
 -- the replies of some fates, up to a line that is no step, and then its error, whole or cut by a fault
@@ -61,14 +79,12 @@ pub record EndsAtLine (old new : Option (List ℕ)) (before after : ℕ) (setup 
   pub written : Appends old new ((play_of setup steps fates).0 ++ shown)
   pub whole : (cut ≡ []) ⊎ Rose before after
 
--- a front of the replies of some fates, and then an error, whole or cut by a fault
+-- whole replies to the first of the steps, and then an error, whole or cut by a fault
 pub record StopsWith (old new : Option (List ℕ)) (before after : ℕ) (error : List ℕ) (setup : List Named) (steps : List ℕ) : Type 0 where
-  pub fates : List Fates
-  pub front : List ℕ
-  pub rest : List ℕ
-  pub replies : (play_of setup steps fates).0 ≡ front ++ rest
+  pub text : List ℕ
+  pub replied : RepliesTo setup steps text
   pub shown : List ℕ
   pub cut : List ℕ
   pub error_is : error ≡ shown ++ cut
-  pub written : Appends old new (front ++ shown)
+  pub written : Appends old new (text ++ shown)
   pub whole : (cut ≡ []) ⊎ Rose before after

@@ -211,18 +211,12 @@ const SETUPS: &[(&str, &str)] = &[
         "script a 2\n'a\nscript b 3\n'a\nsteps\n",
         "setup 14 section",
     ),
-    (
-        "script a 2\n'a\nscript a 2\n'a\nsteps\n",
-        "setup 14 repeat",
-    ),
+    ("script a 2\n'a\nscript a 2\n'a\nsteps\n", "setup 14 repeat"),
     (
         "script a 2\n'a\nscript a 3\n'a\nsteps\n",
         "setup 14 section",
     ),
-    (
-        "script a 2\n'a\nscript a 1\n(\nsteps\n",
-        "setup 14 repeat",
-    ),
+    ("script a 2\n'a\nscript a 1\n(\nsteps\n", "setup 14 repeat"),
     (" script a 2\n'a\nsteps\n", "setup 0 section"),
     ("script a 1\n(\nscript a 1\n", "a read 0 unclosed"),
     ("script a 0\n\nsteps\n", "a syntax 0 shape"),
@@ -356,7 +350,11 @@ fn a_line_that_is_no_step_ends_the_run(rt: HostRuntime) -> Result<(), Fail> {
     for line in NO_STEPS {
         let steps = format!(in rt.alloc(); "get 1 /none\n{line}")?;
         let outcome = answered(&rt, "'a", steps.as_str())?;
-        assert_eq!(rt; outcome.text.as_str(), "1 404 unknown\nerror 4 2\n", "at {line}");
+        assert_eq!(rt;
+            outcome.text.as_str(),
+            "1 404 unknown\nerror 4 2\n",
+            "at {line}"
+        );
         assert_eq!(rt; outcome.status, 4);
         assert!(rt; outcome.handed);
     }
@@ -406,7 +404,10 @@ fn a_failing_write_leaves_a_front(rt: HostRuntime) -> Result<(), Fail> {
         };
         let outcome = played(&rt, PLAY, input.as_bytes(), &outside)?;
         assert_eq!(rt; outcome.status, 6, "at write {failing}");
-        assert!(rt; SHOWN.starts_with(outcome.text.as_str()), "at write {failing}");
+        assert!(rt;
+            SHOWN.starts_with(outcome.text.as_str()),
+            "at write {failing}"
+        );
         assert!(rt; outcome.text.len() < SHOWN.len(), "at write {failing}");
     }
     let outside = Outside { room: 20, ..FAIR };

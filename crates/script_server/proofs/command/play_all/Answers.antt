@@ -1,6 +1,6 @@
-use Rattle.std.proofs.Common.{subst, ◌∙◌}
+use Rattle.std.proofs.Common.{subst, refl, ◌∙◌}
 use Rattle.web_outside.specs.Pieces.{AppendsUnlessFault}
-use Rattle.script_server.proofs.Endings.{ends_at_line, since, stops_with, part_of_whole}
+use Rattle.script_server.proofs.Endings.{ends_at_line, since, stops_with, stops_at_line}
 use Rattle.script_server.proofs.command.play_all.Goals as goal
 
 pub returns-in-Ok-line_error-clause-ended : goal.returns-in-Ok-line_error-clause-ended
@@ -14,9 +14,9 @@ returns-in-Ok-line_error-clause-ended g c =
 
 pub returns-in-Err-line_error-clause-ended : goal.returns-in-Err-line_error-clause-ended
 returns-in-Err-line_error-clause-ended g c =
-    stops_with _ _ _ _ _ _ _ _ (part_of_whole _ _ _ _ _ c.in-Line.ensures.ended)
+    stops_at_line _ _ _ _ _ _ _ _ _ c.in-Line.ensures.ended
     (since _ _ _ _ _ _ c.in-Line.ensures.later c.write_or_drop-in-Err-line_error.ensures.written)
 
 pub returns-in-Memory-clause-ended : goal.returns-in-Memory-clause-ended
 returns-in-Memory-clause-ended g c =
-    stops_with _ _ _ _ _ _ _ _ c.in-Memory.ensures.ended (since _ _ _ _ _ _ c.in-Memory.ensures.later c.write_or_drop-in-Memory.ensures.written)
+    stops_with _ _ _ _ _ _ _ _ (c.in-Memory.ensures.memory refl) (since _ _ _ _ _ _ c.in-Memory.ensures.later c.write_or_drop-in-Memory.ensures.written)

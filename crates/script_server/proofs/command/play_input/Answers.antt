@@ -5,7 +5,7 @@ use Rattle.script_server.specs.Parses.{parsed_of, fault_of}
 use Rattle.script_server.specs.Command.{Finishes, Outputs, Tells}
 use Rattle.script_server.specs.declared.command.Status.{Status}
 use Rattle.script_server.specs.declared.command.Status.TheVariants as status
-use Rattle.script_server.proofs.Endings.{answers_done, answers_line, answers_setup, breaks_part, breaks_stop, breaks_early}
+use Rattle.script_server.proofs.Endings.{answers_done, answers_line, answers_setup, breaks_part, pauses_stop, pauses_early}
 use Rattle.script_server.proofs.command.play_input.Goals as goal
 
 -- what playing the steps behind a setup leaves is what playing the input leaves
@@ -16,8 +16,8 @@ outputs status.Usage bytes s old new before after e p = absurd p
 outputs status.Setup bytes s old new before after e p = absurd p
 outputs status.Line bytes s old new before after e p = answers_line bytes s old new before after e p
 outputs status.Read bytes s old new before after e p = absurd p
-outputs status.Write bytes s old new before after e p = (p.0, breaks_part bytes s old new before after e p.1)
-outputs status.Memory bytes s old new before after e p = breaks_stop bytes s old new before after _ e p
+outputs status.Write bytes s old new before after e p = (p.0, breaks_part bytes s old new e p.1)
+outputs status.Memory bytes s old new before after e p = pauses_stop bytes s old new before after _ e p
 outputs status.Long bytes s old new before after e p = absurd p
 
 pub returns-in-Ok-clause-outputs : goal.returns-in-Ok-clause-outputs
@@ -33,7 +33,7 @@ told status.Setup bytes fault old new before after e p = answers_setup bytes fau
 told status.Line bytes fault old new before after e p = absurd p
 told status.Read bytes fault old new before after e p = absurd p
 told status.Write bytes fault old new before after e p = absurd p
-told status.Memory bytes fault old new before after e p = breaks_early bytes old new before after _ p (appends_none old)
+told status.Memory bytes fault old new before after e p = pauses_early bytes old new before after _ p (appends_none old)
 told status.Long bytes fault old new before after e p = absurd p
 
 pub returns-in-Err-At-clause-outputs : goal.returns-in-Err-At-clause-outputs
@@ -43,4 +43,4 @@ returns-in-Err-At-clause-outputs g c =
 
 pub returns-in-Err-Memory-clause-outputs : goal.returns-in-Err-Memory-clause-outputs
 returns-in-Err-Memory-clause-outputs g c =
-    breaks_early c.args.input.now _ _ _ _ _ c.write_or_drop.ensures.written (appends_none _)
+    pauses_early c.args.input.now _ _ _ _ _ c.write_or_drop.ensures.written (appends_none _)

@@ -4,7 +4,7 @@ use Rattle.web_outside.proofs.Writes.{appends_none}
 use Rattle.script_server.specs.Command.{Explains, Outputs, Met, ReadToEnd, is_play, texts}
 use Rattle.script_server.specs.declared.command.Status.{Status}
 use Rattle.script_server.specs.declared.command.Status.TheVariants as status
-use Rattle.script_server.proofs.Endings.{whole_input, always, breaks_early}
+use Rattle.script_server.proofs.Endings.{whole_input, always, pauses_early}
 use Rattle.script_server.proofs.command.run.Goals as goal
 
 read_to_end : (met : Met) (bytes : List ℕ) → Consumes met.input met.unread bytes → IsAtEnd met.unread → length bytes ≤ 16777216 → ReadToEnd met
@@ -26,7 +26,7 @@ explain status.Long met bytes play read end short p = absurd p
 pub returns-in-Err-Memory-clause-explained : goal.returns-in-Err-Memory-clause-explained
 returns-in-Err-Memory-clause-explained g c =
     let plays : is_play (texts c.args.words.now) ≡ true = search rules in
-    (plays, always _ _ (λ bytes. breaks_early bytes _ _ _ _ _ c.write_or_drop-in-Err-Memory.ensures.written (appends_none _)))
+    (plays, always _ _ (λ bytes. pauses_early bytes _ _ _ _ _ c.write_or_drop-in-Err-Memory.ensures.written (appends_none _)))
 
 pub returns-in-Ok-clause-explained : goal.returns-in-Ok-clause-explained
 returns-in-Ok-clause-explained g c =
