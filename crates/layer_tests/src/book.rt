@@ -23,7 +23,7 @@ fn told(alloc: Global, reply: &Reply) -> Result<String, Fail> {
     })
 }
 
-// What a take with this nonce and its publish answer.
+// What a take with this nonce and its publish answer. A take asks for a bound on the numbers that were drawn.
 fn visited(
     alloc: Global,
     book: &mut Book,
@@ -103,6 +103,8 @@ const FIRST: &str = "/servlets/s;7*0*0*000000000000000a";
 
 const SECOND: &str = "/servlets/s;7*0*1*000000000000000b";
 
+const AGAIN: &str = "/servlets/s;7*0*3*000000000000000d";
+
 const NO_NONCE: &str = "/servlets/s;7*0*0*000000000000000b";
 
 const LETTER_VISITS: &[(u64, &str, &str, &str)] = &[
@@ -130,11 +132,19 @@ const LETTER_VISITS: &[(u64, &str, &str, &str)] = &[
         "b at /servlets/s;7*0*1*000000000000000b",
     ),
     (12, SECOND, "\"y\"", "<p>xy</p>"),
-    (13, "/servlets/ten", "()", "<p>12345</p>"),
+    (
+        13,
+        FIRST,
+        "\"z\"",
+        "b at /servlets/s;7*0*3*000000000000000d",
+    ),
+    (14, AGAIN, "\"w\"", "<p>zw</p>"),
+    (15, SECOND, "\"v\"", "<p>xv</p>"),
+    (16, "/servlets/ten", "()", "<p>12345</p>"),
 ];
 
 #[test]
-fn what_is_unknown_is_refused_and_draws_nothing(rt: HostRuntime) -> Result<(), Fail> {
+fn letters_go_on_and_back_and_the_unknown_is_refused(rt: HostRuntime) -> Result<(), Fail> {
     let alloc = rt.alloc();
     let setup = setup(alloc, &[("s", LETTERS), ("ten", "'(p \"12345\")")])?;
     let mut book = Book::empty(alloc, 7);
@@ -142,7 +152,7 @@ fn what_is_unknown_is_refused_and_draws_nothing(rt: HostRuntime) -> Result<(), F
         let reply = visited(alloc, &mut book, &setup, *nonce, path, answer)?;
         assert_eq!(rt; reply.as_str(), *wanted, "{path} {answer}");
     }
-    assert_eq!(rt; book.drawn(), 4);
+    assert_eq!(rt; book.drawn(), 7);
     Ok(())
 }
 

@@ -56,6 +56,7 @@ const PATHS: &[(&str, &str)] = &[
         "/servlets/abcdefghijklmnopqrstuvwxyz012345",
     ),
     ("/servlets/abcdefghijklmnopqrstuvwxyz0123456", ""),
+    ("/servlets/sum;0*0*00*0000000000000000", ""),
     ("/servlets/a;03*10*1*00000000deadbeef", ""),
     ("/servlets/a;3*10*1*00000000DEADBEEF", ""),
     (

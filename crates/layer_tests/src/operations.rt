@@ -56,6 +56,7 @@ const CALLS: &[(Op, &str, Result<&str, Fault>)] = &[
         Ok(r#""-9223372036854775808""#),
     ),
     (Op::NumberToString, r#""1""#, Err(Fault::WrongType)),
+    (Op::StringToNumber, r#""0""#, Ok("0")),
     (Op::StringToNumber, r#""-42""#, Ok("-42")),
     (
         Op::StringToNumber,

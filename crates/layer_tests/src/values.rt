@@ -28,7 +28,10 @@ fn values_have_their_depth_and_size(rt: HostRuntime) -> Result<(), Fail> {
 #[test]
 fn values_are_equal_to_their_copies_alone(rt: HostRuntime) -> Result<(), Fail> {
     let alloc = rt.alloc();
-    let mut values = data(alloc, r#"0 1 #f #t "" "a" a () (0) (a "bc" (1 #t ()))"#)?;
+    let mut values = data(
+        alloc,
+        r#"0 1 #f #t "" "a" a () (0) (a "bc" (1 #t ())) ((a "bc" (1 #t ())))"#,
+    )?;
     values.push(symbol(alloc, "")?)?;
     for i in 0..values.len() {
         let copy = values[i].try_clone(alloc)?;
