@@ -34,10 +34,6 @@ pub answers_step : (name : List ℕ) (shelf instance : ℕ) (newest : Answer) (d
 answers_step name shelf instance newest done xs x =
     rw (reverse_pushed xs x) (sym (append_assoc done (record { value = (link_of x).answer; segment = past name shelf instance (link_of x) } ∷ []) (answers_to name shelf instance (reverse (map link_of xs)) newest)))
 
-pub nothing_left : {A : Type 0} (xs : List A) → length xs ≡ 0 → xs ≡ []
-nothing_left [] h = refl
-nothing_left (x ∷ xs) h = absurd (omega arith)
-
 -- the whole tape: the root, the answers on the way, and then the newest
 pub taped : (name : List ℕ) (shelf instance : ℕ) (t : Ticket) (chain : List Page) (root : Link) (links : List Link) (done later : List Answer) (first : Segment) (last : Answer)
     → chain ≡ reverse (map link_of (links ++ root ∷ []))
