@@ -10,7 +10,6 @@ use Rattle.std.proofs.lemmas.Bool.Decides.{nat_tests}
 use Rattle.page_names.specs.Names.{is_name, is_name_byte, name_in}
 use Rattle.page_names.specs.Pieces.{cut_at, behind, number_below}
 use Rattle.std.proofs.lemmas.Option.{cond_some, same_Some}
-use Rattle.script_value.specs.Texts.{lacks}
 use Rattle.script_value.proofs.Options.{allowed, bound}
 use Rattle.page_names.proofs.Cuts.{behind_spelled, cut_spelled, cut_found, lacking}
 use Rattle.page_names.proofs.Numerals.{number_spelled, number_found, decimal_digits}

@@ -10,7 +10,7 @@ use Rattle.sexp_reader.specs.declared.classes.Class.{Class}
 use Rattle.sexp_reader.specs.declared.classes.Class.TheVariants.{Blank, Comment, Opening, Closing, Marking, DoubleQuote, Plain}
 use Rattle.sexp_reader.specs.declared.classes.Mark.{Mark}
 use Rattle.sexp_reader.specs.declared.classes.Mark.TheVariants.{Quote, Quasiquote, Unquote, UnquoteSplicing}
-use Rattle.std.proofs.lemmas.Bool.{eqb-true, cond-true, cond-false, false_from_ne_true}
+use Rattle.std.proofs.lemmas.Bool.{eqb-true, cond-false, false_from_ne_true}
 use Rattle.sexp_reader.specs.declared.fault.ReadKind.TheVariants.{Token}
 use Rattle.sexp_reader.specs.Letters.{class_of, is_plain, whole_mark, escaped, truth_of, is_symbol}
 use Rattle.sexp_reader.specs.Read.{Fault, State, ◌>>=◌, text_from, escape_from, past_gap, word_at, token_len, with_rest, take_mark, take_text, take_token, put, open_list, open_mark, close_list}

@@ -1,4 +1,4 @@
-use Rattle.std.proofs.Common.{◌≡◌, ◌≤◌, ℕ, suc, List, [], ◌∷◌, length, Option, Some, None, subst, sym, ap, ◌∙◌, refl, rules, arith}
+use Rattle.std.proofs.Common.{◌≡◌, ◌≤◌, ℕ, suc, List, [], ◌∷◌, length, Option, Some, None, subst, sym, ap, ◌∙◌, rules, arith}
 use Rattle.std.proofs.lemmas.List.{nil_from_length}
 use Rattle.page_names.specs.Pieces.{cut_at}
 use Rattle.core_syntax.specs.Setup.{Named}
