@@ -1,9 +1,9 @@
 -- Names in a scope, the last first.
-use Rattle.std.proofs.Common.{◌≡◌, ℕ, zero, suc, ◌+◌, ◌-◌, ◌<◌, ◌≤◌, Bool, true, false, List, [], ◌∷◌, ◌++◌, length, map, take, drop, get_or, reverse, Some, refl, sym, ap, ◌∙◌, arith, inl, inr}
-use Rattle.std.specs.Prelude.{◌||◌}
+use Rattle.std.proofs.Common.{◌≡◌, ℕ, zero, suc, ◌+◌, ◌-◌, ◌<◌, ◌≤◌, true, false, List, [], ◌∷◌, ◌++◌, length, map, take, drop, get_or, reverse, Some, refl, sym, ap, ◌∙◌, arith, inl, inr}
 use Rattle.std.specs.Borrow.{Bor}
 use Rattle.std.specs.Str.{bytes_eq}
 use Rattle.std.proofs.lemmas.List.{map_more, reverse-append, length-reverse, length-map, take-append-drop, drop_all, take-map, map-append, length-take, length-drop}
+use Rattle.std.proofs.Math.Bool.{or-true}
 use Rattle.std.proofs.lemmas.Bool.{cases_lt}
 use Rattle.core_syntax.specs.Scope.{seen}
 use Rattle.core_syntax.specs.Forms.{place_of, are_bad, is_bad_name}
@@ -47,13 +47,9 @@ seen_kept names c =
     let l : length (map (λ n. n.now) names) ≡ length names = length-map names (λ n. n.now) in
     ap reverse (sym (take-map (λ n. n.now) (length names - c) names)) ∙ (rw (← l) (reverse_take (map (λ n. n.now) names) c))
 
-or_true : (b : Bool) → (b || true) ≡ true
-or_true true = refl
-or_true false = refl
-
 bad_front : (xs ys : List (List ℕ)) → are_bad ys ≡ true → are_bad (xs ++ ys) ≡ true
 bad_front [] ys h = h
-bad_front (x ∷ xs) ys h = rw (bad_front xs ys h) (or_true (is_bad_name x (xs ++ ys)))
+bad_front (x ∷ xs) ys h = rw (bad_front xs ys h) (or-true (is_bad_name x (xs ++ ys)))
 
 seen_split : (names : List (Bor (List ℕ))) (k : ℕ) → seen names ≡ seen (drop k names) ++ seen (take k names)
 seen_split names k =

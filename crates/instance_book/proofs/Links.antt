@@ -1,5 +1,5 @@
 -- Walking from a page to its root, and the tape of the pages on the way.
-use Rattle.std.proofs.Common.{◌≡◌, ◌<◌, ◌+◌, ◌-◌, ℕ, zero, suc, List, [], ◌∷◌, ◌++◌, map, Some, None, reverse, length, refl, sym, ap, ◌∙◌, arith, append_assoc}
+use Rattle.std.proofs.Common.{◌≡◌, ◌<◌, ◌+◌, ◌-◌, ℕ, zero, suc, List, [], ◌∷◌, ◌++◌, map, Some, None, reverse, refl, sym, ap, ◌∙◌, arith, append_assoc}
 use Rattle.std.proofs.lemmas.List.{map-append, reverse-append}
 use Rattle.std.specs.Borrow.{Bor}
 use Rattle.replay_spec.specs.Tape.{Answer, Segment}
@@ -33,10 +33,6 @@ pub answers_step : (name : List ℕ) (shelf instance : ℕ) (newest : Answer) (d
     ≡ (done ++ record { value = (link_of x).answer; segment = past name shelf instance (link_of x) } ∷ []) ++ answers_to name shelf instance (reverse (map link_of xs)) newest
 answers_step name shelf instance newest done xs x =
     rw (reverse_pushed xs x) (sym (append_assoc done (record { value = (link_of x).answer; segment = past name shelf instance (link_of x) } ∷ []) (answers_to name shelf instance (reverse (map link_of xs)) newest)))
-
-pub nothing_left : {A : Type 0} (xs : List A) → length xs ≡ 0 → xs ≡ []
-nothing_left [] h = refl
-nothing_left (x ∷ xs) h = absurd (omega arith)
 
 -- the whole tape: the root, the answers on the way, and then the newest
 pub taped : (name : List ℕ) (shelf instance : ℕ) (t : Ticket) (chain : List Page) (root : Link) (links : List Link) (done later : List Answer) (first : Segment) (last : Answer)

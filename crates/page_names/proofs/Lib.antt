@@ -1,4 +1,3 @@
-pub mod Options
 pub mod Numerals
 pub mod Hex
 pub mod Cuts

@@ -10,7 +10,7 @@ use Rattle.std.proofs.lemmas.Bool.Decides.{nat_tests}
 use Rattle.page_names.specs.Pieces.{cut_at, behind}
 use Rattle.std.proofs.lemmas.Option.{cond_some}
 use Rattle.script_value.specs.Texts.{lacks}
-use Rattle.page_names.proofs.Options.{bound}
+use Rattle.script_value.proofs.Options.{bound}
 use Rattle.page_names.proofs.Cuts.{behind_spelled, cut_spelled, cut_found, lacking}
 use Rattle.page_names.proofs.Numerals.{decimal_digits}
 use Rattle.play_steps.specs.Step.{Request, worker_of, is_target, is_target_byte, request_of, requests}

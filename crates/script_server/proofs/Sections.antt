@@ -10,8 +10,7 @@ use Rattle.std.proofs.lemmas.Bool.Decides.{nat_tests}
 use Rattle.page_names.specs.Names.{is_name, is_name_byte, name_in}
 use Rattle.page_names.specs.Pieces.{cut_at, behind, number_below}
 use Rattle.std.proofs.lemmas.Option.{cond_some, same_Some}
-use Rattle.script_value.specs.Texts.{lacks}
-use Rattle.page_names.proofs.Options.{bound}
+use Rattle.script_value.proofs.Options.{allowed, bound}
 use Rattle.page_names.proofs.Cuts.{behind_spelled, cut_spelled, cut_found, lacking}
 use Rattle.page_names.proofs.Numerals.{number_spelled, number_found, decimal_digits}
 use Rattle.script_value.specs.Val.{Val}
@@ -38,11 +37,6 @@ record IsPiece (input : List ℕ) (piece : Piece) : Type 0 where
   pub whole : input ≡ section_text piece.name piece.text ++ piece.rest
   pub named : is_name piece.name ≡ true
   pub short : length piece.text < 16777217
-
--- a test that gives a value was passed
-allowed : {A : Type 0} (b : Bool) (o : Option A) (y : A) → (if b then o else None) ≡ Some y → (b ≡ true) × (o ≡ Some y)
-allowed true o y e = (refl, e)
-allowed false o y e = absurd (let no : ⊥ = cc in no)
 
 around : (name count text rest : List ℕ)
     → codes "script " ++ (name ++ 32 ∷ (count ++ 10 ∷ (text ++ (10 ∷ rest)))) ≡ codes "script " ++ (name ++ 32 ∷ (count ++ 10 ∷ (text ++ 10 ∷ []))) ++ rest

@@ -21,8 +21,8 @@ use Rattle.sexp_reader.specs.Spells.{NoNewline, AtLineEnd, AllPlain, IsToken, At
 use Rattle.sexp_reader.specs.Views.{innermost_mark}
 use Rattle.sexp_reader.proofs.ByteClasses.{plain_is}
 use Rattle.sexp_reader.proofs.Truths.{truth_read, truth_no_number, symbol_no_truth}
-use Rattle.std.proofs.lemmas.Bool.{and_parts}
-use Rattle.sexp_reader.proofs.Utf8.{pick_true, pick_false, other_word}
+use Rattle.std.proofs.lemmas.Bool.{and_parts, cond-true, cond-false}
+use Rattle.sexp_reader.proofs.Utf8.{other_word}
 use Rattle.sexp_reader.proofs.Turns.{read_utf8, no_piece}
 
 -- gaps
@@ -42,7 +42,7 @@ pub gap_same : {bytes rest : List ℕ} → Gap bytes rest → after_gap bytes �
 gap_same (no_gap r) = refl
 gap_same (blank b bytes rest e g) =
     let past : Class → List ℕ = λ v. elim v [ Blank ↦ past_gap false bytes | Comment ↦ past_gap true bytes | _ ↦ b ∷ bytes ] in
-    ap past (pick_true _ _ _ e) ∙ gap_same g
+    ap past (cond-true _ _ _ e) ∙ gap_same g
 gap_same (comment line bytes rest n l g) = past_line line bytes n l ∙ gap_same g
 
 pub gap_shorter : {bytes rest : List ℕ} → Gap bytes rest → length rest ≤ length bytes
@@ -110,15 +110,15 @@ token_back : (token rest : List ℕ) → AllPlain token → AtTokenEnd rest → 
 token_back token rest h e = rw (token_count token rest h e) (drop-append_seam token rest)
 
 number_word : (place : ℕ) (token : List ℕ) → is_number token ≡ true → is_in_range (number_of token) ≡ true → word_at place token ≡ Ok (number (number_of token))
-number_word place token h k = pick_true _ _ _ h ∙ pick_true _ _ _ k
+number_word place token h k = cond-true _ _ _ h ∙ cond-true _ _ _ k
 
 symbol_word : (place : ℕ) (token : List ℕ) → is_number token ≡ false → is_symbol token ≡ true → word_at place token ≡ Ok (symbol token)
 symbol_word place token h k =
-    pick_false _ _ _ h ∙ (ap (other_word place token) (symbol_no_truth token k) ∙ pick_true _ _ _ k)
+    cond-false _ _ _ h ∙ (ap (other_word place token) (symbol_no_truth token k) ∙ cond-true _ _ _ k)
 
 truth_word : (place : ℕ) (token : List ℕ) (b : Bool) → Truth token b → word_at place token ≡ Ok (truth b)
 truth_word place token b t =
-    pick_false _ _ _ (truth_no_number t) ∙ ap (other_word place token) (truth_read t)
+    cond-false _ _ _ (truth_no_number t) ∙ ap (other_word place token) (truth_read t)
 
 token_again : (place : ℕ) (token rest : List ℕ) (v : Val) (state : State) → AllPlain token → AtTokenEnd rest → word_at place token ≡ Ok v
     → take_token place (token ++ rest) state ≡ Ok (put v state.items state.levels, rest)
@@ -199,14 +199,14 @@ piece_of place b bs state c e =
 
 open_piece : (n place b : ℕ) (d : Delimiter) (bs : List ℕ) (state : State) → class_of b ≡ Opening d → suc n + length state.levels ≡ 128
     → piece place b bs state ≡ Ok (record { items = []; levels = opened d place state.items ∷ state.levels }, bs)
-open_piece n place b d bs state e h = piece_of place b bs state (Opening d) e ∙ ap (λ r. with_rest bs r) (pick_true _ _ _ (may_open n state h))
+open_piece n place b d bs state e h = piece_of place b bs state (Opening d) e ∙ ap (λ r. with_rest bs r) (cond-true _ _ _ (may_open n state h))
 
 mark_piece : (n place b : ℕ) (m mark : Mark) (bs rest : List ℕ) (state : State) → class_of b ≡ Marking m → whole_mark m bs ≡ (mark, rest)
     → suc n + length state.levels ≡ 128
     → piece place b bs state ≡ Ok (record { items = state.items; levels = marked mark place ∷ state.levels }, rest)
 mark_piece n place b m mark bs rest state e w h =
     let taken : Mark × List ℕ → Result (State × List ℕ) Fault = λ p. with_rest p.1 (open_mark p.0 place state) in
-    piece_of place b bs state (Marking m) e ∙ (ap taken w ∙ ap (λ r. with_rest rest r) (pick_true _ _ _ (may_open n state h)))
+    piece_of place b bs state (Marking m) e ∙ (ap taken w ∙ ap (λ r. with_rest rest r) (cond-true _ _ _ (may_open n state h)))
 
 same_as_itself : (d : Delimiter) → same_delimiter d d ≡ true
 same_as_itself Parenthesis = refl
@@ -216,7 +216,7 @@ close_piece : (place at b : ℕ) (d : Delimiter) (bs : List ℕ) (items before :
     → piece place b bs (record { items = items; levels = opened d at before ∷ levels }) ≡ Ok (put (list (vals_of items)) before levels, bs)
 close_piece place at b d bs items before levels e =
     piece_of place b bs (record { items = items; levels = opened d at before ∷ levels }) (Closing d) e
-    ∙ ap (λ r. with_rest bs r) (pick_true _ _ _ (same_as_itself d))
+    ∙ ap (λ r. with_rest bs r) (cond-true _ _ _ (same_as_itself d))
 
 text_piece : (place : ℕ) (bs : List ℕ) (state : State) (chars rest : List ℕ) → Letters bs chars rest
     → piece place 34 bs state ≡ Ok (put (text chars) state.items state.levels, rest)
@@ -296,16 +296,13 @@ no_number bs h =
 no_symbol : (bs : List ℕ) → is_symbol (64 ∷ bs) ≡ true → ⊥
 no_symbol bs h = cc
 
-not_first : (b : ℕ) → (b ≡ 64 → ⊥) → (b == 64) ≡ false
-not_first b h = test_false b 64 h
-
 number_begins : (token rest : List ℕ) → IsToken token → is_number token ≡ true → begins_with_at (token ++ rest) ≡ false
 number_begins [] rest t h = absurd t
-number_begins (b ∷ bs) rest t h = not_first b (λ e. no_number bs (ap (λ x. is_number (x ∷ bs)) (sym e) ∙ h))
+number_begins (b ∷ bs) rest t h = test_false b 64 (λ e. no_number bs (ap (λ x. is_number (x ∷ bs)) (sym e) ∙ h))
 
 symbol_begins : (token rest : List ℕ) → IsToken token → is_symbol token ≡ true → begins_with_at (token ++ rest) ≡ false
 symbol_begins [] rest t h = absurd t
-symbol_begins (b ∷ bs) rest t h = not_first b (λ e. no_symbol bs (ap (λ x. is_symbol (x ∷ bs)) (sym e) ∙ h))
+symbol_begins (b ∷ bs) rest t h = test_false b 64 (λ e. no_symbol bs (ap (λ x. is_symbol (x ∷ bs)) (sym e) ∙ h))
 
 truth_begins : {token : List ℕ} {b : Bool} (rest : List ℕ) → Truth token b → begins_with_at (token ++ rest) ≡ false
 truth_begins rest short_true = refl
@@ -336,7 +333,7 @@ no_blank b h e = let f : is_blank 64 ≡ true = ap is_blank (sym e) ∙ h in cc
 
 gap_begins : {bytes middle : List ℕ} → Gap bytes middle → begins_with_at middle ≡ false → begins_with_at bytes ≡ false
 gap_begins (no_gap rest) h = h
-gap_begins (blank b bytes rest e g) h = not_first b (no_blank b e)
+gap_begins (blank b bytes rest e g) h = test_false b 64 (no_blank b e)
 gap_begins (comment line bytes rest n l g) h = refl
 
 -- how a mark is read that bytes follow
@@ -352,7 +349,7 @@ record Mark_read (spelling name bytes : List ℕ) : Type 0 where
 
 alone : (bytes : List ℕ) → begins_with_at bytes ≡ false → whole_mark Unquote bytes ≡ (Unquote, bytes)
 alone [] h = refl
-alone (b ∷ bs) h = pick_false _ _ _ h
+alone (b ∷ bs) h = cond-false _ _ _ h
 
 mark_read : {spelling name : List ℕ} (bytes : List ℕ) → Marks spelling name → begins_with_at bytes ≡ false → Mark_read spelling name bytes
 mark_read bytes quote h =

@@ -1,6 +1,6 @@
 -- Tokens that are numbers or symbols are ASCII.
-use Rattle.std.proofs.Common.{◌≡◌, ℕ, zero, suc, ◌<◌, Bool, true, false, List, [], ◌∷◌, length, get_or, refl, arith, ⊎_elim}
-use Rattle.std.specs.Prelude.{◌&&◌, IsUtf8, Some, nat_lt}
+use Rattle.std.proofs.Common.{◌≡◌, ℕ, zero, suc, ◌<◌, Bool, true, List, [], ◌∷◌, length, get_or, arith, ⊎_elim}
+use Rattle.std.specs.Prelude.{IsUtf8, Some, nat_lt}
 use Rattle.std.specs.List.{list_all}
 use Rattle.std.specs.Char.{is_ascii_digit}
 use Rattle.std.specs.Str.Parse.{without_leading_sign}

@@ -3,7 +3,7 @@ use Rattle.std.proofs.Common.{◌≡◌, ℕ, zero, suc, ◌+◌, ◌-◌, ◌�
 use Rattle.std.specs.Prelude.{not, ◌==◌, Option, None, Some, Result, Ok, Err}
 use Rattle.std.specs.Str.{IsUtf8, is_utf8}
 use Rattle.std.specs.Str.Lossy.{utf8_valid_len}
-use Rattle.std.proofs.lemmas.Bool.{cases_Bool}
+use Rattle.std.proofs.lemmas.Bool.{cases_Bool, cond-false}
 use Rattle.std.proofs.lemmas.List.{length-append, take-append-le, drop-append-le}
 use Rattle.std.proofs.lemmas.Str.{IsUtf8-append, IsUtf8-from_is_utf8}
 use Rattle.script_value.specs.Val.{Val, text}
@@ -18,7 +18,6 @@ use Rattle.sexp_reader.specs.Read.{Fault, ◌>>=◌, past_gap, after_gap, token_
 use Rattle.sexp_reader.specs.Spells.{AtTokenEnd}
 use Rattle.sexp_reader.specs.Laws.{is_met_inside, FaultsStay}
 use Rattle.sexp_reader.proofs.ByteClasses.{plain_is}
-use Rattle.sexp_reader.proofs.Utf8.{pick_false}
 use Rattle.sexp_reader.proofs.Turns.{read_utf8, short_test}
 use Rattle.sexp_reader.proofs.Again.{test_false}
 
@@ -125,7 +124,7 @@ whole_more Quote bytes more e = refl
 whole_more Quasiquote bytes more e = refl
 whole_more Unquote [] [] e = refl
 whole_more Unquote [] (b ∷ bs) e =
-    pick_false _ _ _ (test_false b 64 (λ q. let f : ends_token 64 ≡ true = ap ends_token (sym q) ∙ e in cc))
+    cond-false _ _ _ (test_false b 64 (λ q. let f : ends_token 64 ≡ true = ap ends_token (sym q) ∙ e in cc))
 whole_more Unquote (b ∷ bs) more e =
     let whole : List ℕ → Bool → Mark × List ℕ = λ t v. cond v (UnquoteSplicing, t) (Unquote, b ∷ t) in
     elim (b == 64) as (λ v. whole (bs ++ more) v ≡ ((whole bs v).0, (whole bs v).1 ++ more)) [ true ↦ refl | false ↦ refl ]
@@ -221,7 +220,7 @@ scan_more bytes more place kind e i h =
 inside_utf8 : (bytes : List ℕ) (place : ℕ) (kind : ReadKind) → length bytes ≤ 65536 → is_met_inside kind ≡ true → read bytes ≡ Err (place, kind) → IsUtf8 bytes
 inside_utf8 bytes place kind l i h =
     ⊎_elim (λ e. IsUtf8-from_is_utf8 bytes e)
-    (λ e. absurd (outside (utf8_valid_len bytes) Utf8 place kind (read bytes) (pick_false _ _ _ (short_test (length bytes) l) ∙ pick_false _ _ _ e) refl h i))
+    (λ e. absurd (outside (utf8_valid_len bytes) Utf8 place kind (read bytes) (cond-false _ _ _ (short_test (length bytes) l) ∙ cond-false _ _ _ e) refl h i))
     (cases_Bool (is_utf8 bytes))
 
 pub faults_stay : FaultsStay

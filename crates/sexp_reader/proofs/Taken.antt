@@ -1,7 +1,7 @@
 -- What is read is spelled so.
 use Rattle.std.proofs.Common.{◌≡◌, ◌≢◌, ℕ, zero, suc, ◌+◌, ◌-◌, ◌≤◌, Bool, true, false, cond, ⊎_elim, List, [], ◌∷◌, ◌++◌, length, take, drop, refl, sym, ap, ◌∙◌, subst, arith, append_assoc}
 use Rattle.std.specs.Prelude.{not, nat_lt, ◌==◌, Option, None, Some, Result, Ok, Err, codes}
-use Rattle.std.proofs.lemmas.Bool.{eqb-true, eqb-false}
+use Rattle.std.proofs.lemmas.Bool.{eqb-true, eqb-false, not-true, not-false}
 use Rattle.std.proofs.lemmas.Bool.Decides.{nat_tests}
 use Rattle.std.proofs.lemmas.List.{append-nil, take-append-drop}
 use Rattle.std.specs.Str.{is_utf8}
@@ -122,19 +122,11 @@ mutual
 
 -- tokens
 
-not_true : (b : Bool) → not b ≡ true → b ≡ false
-not_true true h = cc
-not_true false h = refl
-
-not_false : (b : Bool) → not b ≡ false → b ≡ true
-not_false true h = refl
-not_false false h = cc
-
 plain_stays : (b : ℕ) → is_plain (class_of b) ≡ true → ends_token b ≡ false
-plain_stays b h = not_true (ends_token b) (sym (plain_is b) ∙ h)
+plain_stays b h = not-true (ends_token b) (sym (plain_is b) ∙ h)
 
 other_ends : (b : ℕ) → is_plain (class_of b) ≡ false → ends_token b ≡ true
-other_ends b h = not_false (ends_token b) (sym (plain_is b) ∙ h)
+other_ends b h = not-false (ends_token b) (sym (plain_is b) ∙ h)
 
 pub token_plain : (bytes : List ℕ) → AllPlain (take (token_len bytes) bytes)
 token_plain [] = tt

@@ -4,13 +4,12 @@ use Rattle.std.specs.Prelude.{Result, Ok, Err, IsUtf8, nat_lt, ◌==◌}
 use Rattle.std.specs.Str.{is_utf8}
 use Rattle.std.specs.Str.Lossy.{utf8_valid_len}
 use Rattle.std.proofs.lemmas.Str.{is_utf8-from_IsUtf8, IsUtf8-from_is_utf8}
-use Rattle.std.proofs.lemmas.Bool.{cases_Bool}
+use Rattle.std.proofs.lemmas.Bool.{cases_Bool, cond-true, cond-false}
 use Rattle.std.proofs.lemmas.Bool.Decides.{nat_tests}
 use Rattle.sexp_reader.specs.declared.fault.ReadKind.TheVariants.{Utf8}
 use Rattle.script_value.specs.Val.{Val}
 use Rattle.sexp_reader.specs.Read.{Fault, State, pieces, after_gap, ◌>>=◌, finish, start, read, scan}
 use Rattle.sexp_reader.specs.Views.{piece_at, Fails}
-use Rattle.sexp_reader.proofs.Utf8.{pick_true, pick_false}
 use Rattle.sexp_reader.specs.declared.fault.ReadFault.{ReadFault}
 use Rattle.sexp_reader.specs.declared.fault.ReadFault.TheVariants.{Memory, At}
 
@@ -55,7 +54,7 @@ pub short_test : (n : ℕ) → n ≤ 65536 → nat_lt 65536 n ≡ false
 short_test n h = grind (arith, nat_tests)
 
 pub read_utf8 : (bytes : List ℕ) → length bytes ≤ 65536 → IsUtf8 bytes → read bytes ≡ scan bytes
-read_utf8 bytes l u = pick_false _ _ _ (short_test (length bytes) l) ∙ pick_true _ _ _ (is_utf8-from_IsUtf8 bytes u)
+read_utf8 bytes l u = cond-false _ _ _ (short_test (length bytes) l) ∙ cond-true _ _ _ (is_utf8-from_IsUtf8 bytes u)
 
 not_utf8 : (bytes : List ℕ) → (IsUtf8 bytes → ⊥) → is_utf8 bytes ≡ false
 not_utf8 bytes h = ⊎_elim (λ e. absurd (h (IsUtf8-from_is_utf8 bytes e))) (λ e. e) (cases_Bool (is_utf8 bytes))
@@ -63,7 +62,7 @@ not_utf8 bytes h = ⊎_elim (λ e. absurd (h (IsUtf8-from_is_utf8 bytes e))) (λ
 pub read_bytes : (bytes : List ℕ) (e : ReadFault) (place : ℕ) → length bytes ≤ 65536 → (IsUtf8 bytes → ⊥) → place ≡ utf8_valid_len bytes
     → e ≡ At (record { place = place; kind = Utf8 }) → Fails e (read bytes)
 read_bytes bytes e place l u p h =
-    rw (h, p) (pick_false _ _ _ (short_test (length bytes) l) ∙ pick_false _ _ _ (not_utf8 bytes u))
+    rw (h, p) (cond-false _ _ _ (short_test (length bytes) l) ∙ cond-false _ _ _ (not_utf8 bytes u))
 
 pub some_left : (n : ℕ) (b : Bool) → b ≡ (n == 0) → b ≡ false → 0 < n
 some_left zero b e h = absurd (cc)

@@ -10,7 +10,7 @@ use Rattle.sexp_reader.specs.declared.classes.Class.{Class}
 use Rattle.sexp_reader.specs.declared.classes.Class.TheVariants.{Blank, Comment, Opening, Closing, Marking, DoubleQuote, Plain}
 use Rattle.sexp_reader.specs.declared.classes.Mark.{Mark}
 use Rattle.sexp_reader.specs.declared.classes.Mark.TheVariants.{Quote, Quasiquote, Unquote, UnquoteSplicing}
-use Rattle.std.proofs.lemmas.Bool.{eqb-true}
+use Rattle.std.proofs.lemmas.Bool.{eqb-true, cond-false, false_from_ne_true}
 use Rattle.sexp_reader.specs.declared.fault.ReadKind.TheVariants.{Token}
 use Rattle.sexp_reader.specs.Letters.{class_of, is_plain, whole_mark, escaped, truth_of, is_symbol}
 use Rattle.sexp_reader.specs.Read.{Fault, State, ◌>>=◌, text_from, escape_from, past_gap, word_at, token_len, with_rest, take_mark, take_text, take_token, put, open_list, open_mark, close_list}
@@ -101,14 +101,6 @@ gap_utf8 false front (b ∷ bs) n u =
       | _ ↦ λ e. w
     ] refl
 
-pub pick_true : {A : Type 0} (b : Bool) (x y : A) → b ≡ true → cond b x y ≡ x
-pick_true true x y h = refl
-pick_true false x y h = absurd (cc)
-
-pub pick_false : {A : Type 0} (b : Bool) (x y : A) → b ≡ false → cond b x y ≡ y
-pick_false true x y h = absurd (cc)
-pick_false false x y h = refl
-
 pub bind_ok : {A B : Type 0} (r : Result A Fault) (f : A → Result B Fault) (y : B) → (r >>= f) ≡ Ok y → (x : A) × (r ≡ Ok x) × (f x ≡ Ok y)
 bind_ok (Ok x) f y h = (x, refl, h)
 bind_ok (Err e) f y h = absurd (cc)
@@ -138,20 +130,16 @@ word_ascii place token v h =
     ] refl e.1)
     (choose_ok (is_number token) _ _ v h)
 
-no_true : (b : Bool) → (b ≡ true → ⊥) → b ≡ false
-no_true true h = absurd (h refl)
-no_true false h = refl
-
 -- a token that is no text is no word
 pub not_word : (place : ℕ) (token : List ℕ) → (IsUtf8 token → ⊥) → word_at place token ≡ Err (place, Token)
 not_word place token u =
-    let n = no_true (is_number token) (λ e. u (ascii_utf8 token (number_ascii token e))) in
-    let s = no_true (is_symbol token) (λ e. u (ascii_utf8 token (symbol_ascii token e))) in
+    let n = false_from_ne_true (is_number token) (λ e. u (ascii_utf8 token (number_ascii token e))) in
+    let s = false_from_ne_true (is_symbol token) (λ e. u (ascii_utf8 token (symbol_ascii token e))) in
     let t : truth_of token ≡ None = elim (truth_of token) as (λ v. truth_of token ≡ v → v ≡ None) [
       | None ↦ λ e. refl
       | Some b ↦ λ e. absurd (u (ascii_utf8 token (truth_ascii token b e)))
     ] refl in
-    pick_false _ _ _ n ∙ (ap (other_word place token) t ∙ pick_false _ _ _ s)
+    cond-false _ _ _ n ∙ (ap (other_word place token) t ∙ cond-false _ _ _ s)
 
 with_rest_is : (bs : List ℕ) (r : Result State Fault) (next : State) (rest : List ℕ) → with_rest bs r ≡ Ok (next, rest) → bs ≡ rest
 with_rest_is bs r next rest h =

@@ -1,9 +1,10 @@
 -- The function of a page and its grammar.
-use Rattle.std.proofs.Common.{◌≡◌, ℕ, Bool, true, false, List, [], ◌++◌, Option, Some, None, option_map, cond, refl, sym, ap, ◌∙◌, subst, append_assoc}
+use Rattle.std.proofs.Common.{◌≡◌, ℕ, true, List, [], ◌++◌, Option, Some, None, option_map, refl, sym, ap, ◌∙◌, subst, append_assoc}
 use Rattle.std.specs.Prelude.{Result, Ok, Err}
 use Rattle.std.proofs.lemmas.Bool.{cond-true}
 use Rattle.std.proofs.lemmas.Option.{same_Some}
 use Rattle.script_value.specs.Val.{Val, Vals, text, symbol, list, no_vals, val}
+use Rattle.script_value.proofs.Options.{allowed, mapped}
 use Rattle.xexpr_page.specs.declared.fault.RenderFault.{RenderFault}
 use Rattle.xexpr_page.specs.declared.fault.RenderFault.TheVariants.{Memory, NotPage}
 use Rattle.xexpr_page.specs.Markup.{is_element, is_attribute, escaped_text, one_attribute, start_tag, end_tag}
@@ -67,15 +68,6 @@ joined None q bytes h = absurd (cc)
 joined (Some a) None bytes h = absurd (cc)
 joined (Some a) (Some b) bytes h = record { first = a; others = b; is_first = refl; is_others = refl; parts = same_Some (a ++ b) bytes h }
 
-taken : {A : Type 0} (b : Bool) (p : Option A) (x : A) → cond b p None ≡ Some x → (b ≡ true) × (p ≡ Some x)
-taken true p x h = (refl, h)
-taken false p x h = absurd (cc)
-
-mapped : (f : List ℕ → List ℕ) (p : Option (List ℕ)) (bytes : List ℕ) → option_map f p ≡ Some bytes
-    → (a : List ℕ) × (p ≡ Some a) × (f a ≡ bytes)
-mapped f None bytes h = absurd (cc)
-mapped f (Some a) bytes h = (a, refl, same_Some (f a) bytes h)
-
 -- an element's name, attributes and children
 record Element (n : List ℕ) (p q : Option (List ℕ)) (bytes : List ℕ) : Type 0 where
   named : is_element n ≡ true
@@ -87,9 +79,9 @@ record Element (n : List ℕ) (p q : Option (List ℕ)) (bytes : List ℕ) : Typ
 
 element_parts : (n : List ℕ) (p q : Option (List ℕ)) (bytes : List ℕ) → element n p q ≡ Some bytes → Element n p q bytes
 element_parts n p q bytes h =
-    let t = taken (is_element n) _ bytes h in
+    let t = allowed (is_element n) _ bytes h in
     let j = joined (option_map (start_tag n) p) (join q (Some (end_tag n))) bytes t.1 in
-    let m = mapped (start_tag n) p j.first j.is_first in
+    let m = mapped p (start_tag n) j.first j.is_first in
     let k = joined q (Some (end_tag n)) j.others j.is_others in
     let e : end_tag n ≡ k.others = same_Some _ _ k.is_others in
     record {
@@ -115,7 +107,7 @@ renders_as v a b e h = subst (λ c. Renders v c) e h
 pair_found : (v w : Val) (vs : Vals) (first others : List ℕ) → pair_text v w ≡ Some first → Attributes vs others
     → Attributes (val (list (val v (val w no_vals))) vs) (first ++ others)
 pair_found (symbol n) (text t) vs first others h more =
-    let named = taken (is_attribute n) (Some (one_attribute n t)) first h in
+    let named = allowed (is_attribute n) (Some (one_attribute n t)) first h in
     attributes_as _ (one_attribute n t ++ others) (first ++ others) (ap (λ b. b ++ others) (same_Some (one_attribute n t) first named.1))
     (attribute n t vs others named.0 more)
 pair_found _ _ vs first others h more = absurd (cc)

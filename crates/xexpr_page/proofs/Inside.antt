@@ -1,6 +1,6 @@
 -- What is escaped stays inside.
-use Rattle.std.proofs.Common.{◌≡◌, ℕ, Bool, true, false, List, [], ◌∷◌, ◌++◌, cond, refl, ◌∙◌}
-use Rattle.std.specs.Prelude.{◌==◌, ◌&&◌, not, codes}
+use Rattle.std.proofs.Common.{◌≡◌, ℕ, Bool, true, false, List, [], ◌∷◌, ◌++◌, cond, refl}
+use Rattle.std.specs.Prelude.{◌==◌, codes}
 use Rattle.std.proofs.lemmas.Bool.{eqb-false}
 use Rattle.script_value.specs.Texts.{lacks}
 use Rattle.script_value.proofs.Texts.{lacks-append}

@@ -1,5 +1,5 @@
 -- What no text can do to the page that it stands in.
-use Rattle.std.specs.Prelude.{◌≡◌, ◌≢◌, ℕ, ◌==◌, ◌||◌, not, Bool, true, List, [], ◌∷◌, ◌++◌, codes}
+use Rattle.std.specs.Prelude.{◌≡◌, ◌≢◌, ℕ, ◌||◌, Bool, true, List, [], ◌∷◌, ◌++◌, codes}
 use Rattle.std.specs.Str.{bytes_eq}
 use Rattle.script_value.specs.Texts.{lacks}
 use Rattle.xexpr_page.specs.Markup.{escaped_text, escaped_attribute}

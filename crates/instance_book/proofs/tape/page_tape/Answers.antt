@@ -1,5 +1,5 @@
 use Rattle.std.proofs.Common.{◌≡◌, ◌∙◌, ◌++◌, ◌∷◌, [], ap, refl, map, reverse, arith, List}
-use Rattle.std.proofs.lemmas.List.{map-append}
+use Rattle.std.proofs.lemmas.List.{map-append, nil_from_length}
 use Rattle.script_value.specs.Meaning.{meaning}
 use Rattle.script_value.specs.declared.value.Value.{Value}
 use Rattle.page_names.specs.Names.{name_of}
@@ -9,7 +9,7 @@ use Rattle.replay_spec.specs.Book as spec
 use Rattle.plain_rerun.specs.Code.{segment_of, answer_of}
 use Rattle.instance_book.specs.Code.{ticket_of, page_of}
 use Rattle.instance_book.specs.Chains.{link_of}
-use Rattle.instance_book.proofs.Links.{answers_step, nothing_left, taped}
+use Rattle.instance_book.proofs.Links.{answers_step, taped}
 use Rattle.instance_book.proofs.tape.page_tape.Goals as goal
 
 pub links-preserved : goal.links-preserved
@@ -31,7 +31,7 @@ returns c =
     let home = c.args.home.now in
     let t = ticket_of c.args.ticket.now in
     let last : tape.Answer = record { value = meaning c.args.ticket.now.answer; segment = segment_of c.in_ok-newest.newest } in
-    let empty : c.links.links.items ≡ [] = nothing_left c.links.links.items (omega (arith, c.links.links.ok.0, c.in_default-pop.ensures.cases)) in
+    let empty : c.links.links.items ≡ [] = nil_from_length c.links.links.items (omega (arith, c.links.links.ok.0, c.in_default-pop.ensures.cases)) in
     let walked : step.answers_to (name_of home.name) home.shelf home.instance (reverse (map link_of c.pop.new.self.items)) last
     ≡ map answer_of c.links.later.items ++ last ∷ [] =
     c.links.invariant ∙ rw empty refl in

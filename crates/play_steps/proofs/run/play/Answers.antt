@@ -1,4 +1,5 @@
-use Rattle.std.proofs.Common.{◌≡◌, ◌≤◌, ℕ, suc, List, [], ◌∷◌, length, Option, Some, None, subst, sym, ap, ◌∙◌, refl, rules, arith}
+use Rattle.std.proofs.Common.{◌≡◌, ◌≤◌, ℕ, suc, List, [], ◌∷◌, length, Option, Some, None, subst, sym, ap, ◌∙◌, rules, arith}
+use Rattle.std.proofs.lemmas.List.{nil_from_length}
 use Rattle.page_names.specs.Pieces.{cut_at}
 use Rattle.core_syntax.specs.Setup.{Named}
 use Rattle.core_syntax.specs.Scripts.{scripts_of}
@@ -14,10 +15,6 @@ use Rattle.play_steps.proofs.run.play.Goals as goal
 at_first : (old now : Option (List ℕ)) (setup : List Named) (all : List (Option Request)) (t : Table) (number : ℕ) (a b : List (Option Request))
     → a ≡ b → Reached old now setup all t number a → Reached old now setup all t number b
 at_first old now setup all t number a b e reached = subst (Reached old now setup all t number) e reached
-
-nil_of : (bytes : List ℕ) → length bytes ≤ 0 → bytes ≡ []
-nil_of [] h = refl
-nil_of (b ∷ bytes) h = absurd (omega arith)
 
 pub loop-rest-init : goal.loop-rest-init
 loop-rest-init g c =
@@ -86,7 +83,7 @@ loop-rest-preserved g c =
 
 pub returns-clause-ended : goal.returns-clause-ended
 returns-clause-ended g c =
-    let short : length c.loop-rest.rest.now ≤ 0 = grind arith in
-    let none = nil_of c.loop-rest.rest.now short in
+    let short : length c.loop-rest.rest.now ≡ 0 = grind arith in
+    let none = nil_from_length c.loop-rest.rest.now short in
     at_end _ _ _ _ _ _
     (at_first _ _ _ _ _ _ _ _ (ap requests none ∙ requests_nil) c.loop-rest.invariant.reached)

@@ -1,4 +1,5 @@
 use Rattle.std.proofs.Common.{rules, ◌≡◌, ◌≤◌, ◌<◌, length, Some, None, Ok, Err, ℕ, ◌+◌, ◌-◌, List, [], ◌∷◌, ◌++◌, refl, arith, ap, sym, ◌∙◌, subst, codes, length-append}
+use Rattle.std.proofs.lemmas.List.{nil_from_length}
 use Rattle.page_names.specs.Pieces.{behind}
 use Rattle.core_syntax.specs.Scripts.{scripts_of, named_of}
 use Rattle.script_server.specs.Setup as spec
@@ -35,13 +36,9 @@ loop-rest-preserved c =
       within = omega (arith, reached.within, c.in_ok-script.ensures.shorter);
     }
 
-empty : (rest : List ℕ) → length rest ≡ 0 → rest ≡ []
-empty [] e = refl
-empty (b ∷ bs) e = absurd (omega arith)
-
 pub returns : goal.returns
 returns c =
     let reached = c.loop-rest.invariant in
     let over : length c.loop-rest.rest.now ≡ 0 = search rules in
-    let whole = reached.goes_on ∙ rw (empty c.loop-rest.rest.now over) (at_end (length c.args.input.now) (scripts_of c.loop-rest.setup) reached.few) in
+    let whole = reached.goes_on ∙ rw (nil_from_length c.loop-rest.rest.now over) (at_end (length c.args.input.now) (scripts_of c.loop-rest.setup) reached.few) in
     rw c.fault.ensures whole
