@@ -4,7 +4,7 @@ use Rattle.std.specs.Borrow.{Bor}
 use Rattle.std.specs.Str.{bytes_eq}
 use Rattle.std.specs.Io.KnownBytes.{IsAtEnd}
 use Rattle.web_outside.specs.Causes.{Rose}
-use Rattle.web_outside.specs.Pieces.{AppendsUnlessFault, ReadsPast}
+use Rattle.web_outside.specs.Pieces.{AppendsUnlessFault, ReadsPast, ConsumesSome}
 use Rattle.core_syntax.specs.Setup.{Named}
 use Rattle.play_steps.specs.Step.{Request, requests}
 use Rattle.play_steps.specs.Laws.{lines_of, AreRequests}
@@ -53,6 +53,10 @@ pub record Met : Type 0 where
 abbrev pub Prints : Met → List ℕ → Type 0
 Prints met line = AppendsUnlessFault met.held met.holds line met.output_before met.output_after
 
+-- nothing was read, and no read failed
+abbrev pub Untouched : Met → Type 0
+Untouched met = (met.unread ≡ met.input) × (met.input_after ≡ met.input_before)
+
 -- the input was read to its end, and is not too long
 pub record ReadToEnd (met : Met) : Type 0 where
   pub end : IsAtEnd met.unread
@@ -73,12 +77,12 @@ Paused met line = IfSome met.input (λ bytes. Pauses bytes line met.held met.hol
 -- why the command ends so, and what it wrote
 abbrev pub Explains : Status → Met → Type 0
 Explains status.Done met = (is_play met.words ≡ true) × ReadToEnd met × Whole met 0
-Explains status.Usage met = (is_play met.words ≡ false) × Prints met (codes "error 2 usage\n")
+Explains status.Usage met = (is_play met.words ≡ false) × Prints met (codes "error 2 usage\n") × Untouched met
 Explains status.Setup met = (is_play met.words ≡ true) × ReadToEnd met × Whole met 3
 Explains status.Line met = (is_play met.words ≡ true) × ReadToEnd met × Whole met 4
-Explains status.Read met = (is_play met.words ≡ true) × Rose met.input_before met.input_after × Prints met (codes "error 5 read\n")
+Explains status.Read met = (is_play met.words ≡ true) × Rose met.input_before met.input_after × Prints met (codes "error 5 read\n") × ConsumesSome met.input met.unread
 Explains status.Write met = (is_play met.words ≡ true) × ReadToEnd met × Rose met.output_before met.output_after × Front met
-Explains status.Memory met = (is_play met.words ≡ true) × Paused met (codes "error 10 memory\n")
+Explains status.Memory met = (is_play met.words ≡ true) × Paused met (codes "error 10 memory\n") × ConsumesSome met.input met.unread
 Explains status.Long met = (is_play met.words ≡ true) × ReadsPast met.input met.unread 16777216 × Prints met (codes "error 11 long\n")
 
 -- the status that is due to steps: 0, or 4 where a line is none

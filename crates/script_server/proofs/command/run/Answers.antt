@@ -20,13 +20,13 @@ explain status.Setup met bytes play read end short p = (play, read_to_end met by
 explain status.Line met bytes play read end short p = (play, read_to_end met bytes read end short, whole_input _ _ _ _ read end p)
 explain status.Read met bytes play read end short p = absurd p
 explain status.Write met bytes play read end short p = (play, read_to_end met bytes read end short, p.0, whole_input _ _ _ _ read end p.1)
-explain status.Memory met bytes play read end short p = (play, whole_input _ _ _ _ read end p)
+explain status.Memory met bytes play read end short p = (play, whole_input _ _ _ _ read end p, (bytes, read))
 explain status.Long met bytes play read end short p = absurd p
 
 pub returns-in-Err-Memory-clause-explained : goal.returns-in-Err-Memory-clause-explained
 returns-in-Err-Memory-clause-explained g c =
     let plays : is_play (texts c.args.words.now) ≡ true = search rules in
-    (plays, always _ _ (λ bytes. pauses_early bytes _ _ _ _ _ c.write_or_drop-in-Err-Memory.ensures.written (appends_none _)))
+    (plays, always _ _ (λ bytes. pauses_early bytes _ _ _ _ _ c.write_or_drop-in-Err-Memory.ensures.written (appends_none _)), c.read_all.ensures.front)
 
 pub returns-in-Ok-clause-explained : goal.returns-in-Ok-clause-explained
 returns-in-Ok-clause-explained g c =
