@@ -1,11 +1,10 @@
 -- A run that no fault meets.
-use Rattle.std.proofs.Common.{◌≡◌, ◌≤◌, ◌<◌, ◌+◌, ◌⊎◌, ◌∷◌, ℕ, List, [], Option, Some, None, Result, Ok, Err, true, false, refl, ap, sym, ◌∙◌, subst, inl, inr, arith, length, map, ◌++◌, length-append, IfSome, lit<}
+use Rattle.std.proofs.Common.{◌≡◌, ◌≤◌, ◌<◌, ◌+◌, ◌⊎◌, ◌∷◌, ℕ, List, [], Option, Some, None, true, false, refl, ap, sym, ◌∙◌, subst, inl, inr, arith, length, map, ◌++◌, length-append, IfSome, lit<}
 use Rattle.web_outside.specs.Causes.{Rose}
-use Rattle.script_server.specs.Setup.{Parsed, Fault, setup_of}
 use Rattle.core_syntax.specs.Setup.{Named}
 use Rattle.play_steps.specs.Step.{Request, requests}
 use Rattle.play_steps.specs.Visit.{Table, first_table, Fates, visit}
-use Rattle.play_steps.specs.Transcript.{End, done, bad_line, transcript, play_of, first_fates, later_fates}
+use Rattle.play_steps.specs.Transcript.{done, transcript, play_of, first_fates, later_fates}
 use Rattle.script_server.specs.Output.{finished, output_of, Answers}
 use Rattle.web_outside.specs.Pieces.{ReadsPast}
 use Rattle.std.specs.Io.KnownBytes.{Consumes}

@@ -1,13 +1,12 @@
 -- The status that is due to the words and the input.
-use Rattle.std.proofs.Common.{◌≡◌, ◌≤◌, ◌<◌, ◌+◌, ◌⊎◌, ◌∷◌, ℕ, List, [], Option, Some, None, Result, Ok, Err, Bool, true, false, refl, ap, sym, ◌∙◌, subst, inl, inr, arith, length, IfSome, nat_le}
+use Rattle.std.proofs.Common.{◌≡◌, ◌≤◌, ◌<◌, ◌+◌, ◌∷◌, ℕ, List, [], Option, Some, None, Result, Ok, Err, true, false, refl, ap, sym, ◌∙◌, subst, inl, inr, length, nat_le}
 use Rattle.std.proofs.lemmas.Bool.{le-leb, lt-leb}
-use Rattle.web_outside.specs.Causes.{Rose}
 use Rattle.script_server.specs.Setup.{Parsed, Fault, setup_of}
 use Rattle.core_syntax.specs.Setup.{Named}
 use Rattle.play_steps.specs.Step.{Request, requests}
 use Rattle.play_steps.specs.Visit.{Table, first_table, Fates, visit}
 use Rattle.play_steps.specs.Transcript.{transcript, play_of, first_fates, later_fates}
-use Rattle.script_server.specs.Output.{finished, played, output_of, Answers}
+use Rattle.script_server.specs.Output.{finished, played, Answers}
 use Rattle.script_server.specs.Command.{Met, Explains, EndsAs, ReadToEnd, code_of, is_play, Whole, due, due_where, due_to_steps, due_to_setup}
 use Rattle.script_server.specs.declared.command.Status.{Status}
 use Rattle.script_server.specs.declared.command.Status.TheVariants as status

@@ -1,5 +1,5 @@
 -- From what a run leaves to what a command answers.
-use Rattle.std.proofs.Common.{◌≡◌, ◌+◌, ◌++◌, ◌∷◌, ◌⊎◌, ℕ, List, [], Option, Some, None, Result, Ok, Err, IfSome, append-nil, sym, ap, ◌∙◌, refl, subst, inl, inr, ◌≤◌, arith, codes}
+use Rattle.std.proofs.Common.{◌≡◌, ◌+◌, ◌++◌, ◌∷◌, ◌⊎◌, ℕ, List, [], Option, Some, None, Ok, Err, IfSome, append-nil, sym, ap, ◌∙◌, refl, subst, inl, inr, ◌≤◌, arith, codes}
 use Rattle.std.specs.Fmt.{decimal}
 use Rattle.std.specs.Io.KnownBytes.{Appends, Consumes, IsAtEnd}
 use Rattle.web_outside.specs.Causes.{Rose}

@@ -1,5 +1,5 @@
 -- A call that was tried again.
-use Rattle.std.proofs.Common.{◌≡◌, ℕ, List, Option, Some, None, refl, sym, ap, ◌∙◌, ◌++◌}
+use Rattle.std.proofs.Common.{ℕ, List, Option, Some, None, refl, sym, ap, ◌∙◌, ◌++◌}
 use Rattle.std.specs.Io.KnownBytes.{Keeps, Consumes, Appends}
 
 pub keeps_same : (a : Option (List ℕ)) → Keeps a a

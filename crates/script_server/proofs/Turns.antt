@@ -1,5 +1,5 @@
 -- The turns of reading a setup.
-use Rattle.std.proofs.Common.{◌≡◌, ◌≢◌, ℕ, zero, suc, ◌+◌, ◌-◌, ◌≤◌, ◌<◌, List, [], ◌∷◌, ◌++◌, length, length-append, Option, Some, None, Result, Ok, Err, refl, sym, ◌∙◌, ap, arith, codes}
+use Rattle.std.proofs.Common.{◌≡◌, ℕ, suc, ◌-◌, ◌≤◌, ◌<◌, List, [], ◌∷◌, ◌++◌, length, length-append, Some, None, Result, Ok, Err, refl, sym, ◌∙◌, ap, arith, codes}
 use Rattle.page_names.specs.Pieces.{behind}
 use Rattle.core_syntax.specs.Setup.{Named}
 use Rattle.script_server.specs.declared.fault.SetupKind.TheVariants.{End}

@@ -1,9 +1,7 @@
 -- What the program's setup stands for.
-use Rattle.std.specs.Prelude.{◌≡◌, ℕ, List, Option, Some, None, Result, Ok, Err, ⊤}
+use Rattle.std.specs.Prelude.{◌≡◌, Result, Ok, Err, ⊤}
 use Rattle.page_names.specs.Names.{name_of}
-use Rattle.core_syntax.specs.Scripts.{scripts_of, named_of}
-use Rattle.core_syntax.specs.Setup.{Named}
-use Rattle.core_syntax.specs.declared.setup.NamedScript.{NamedScript}
+use Rattle.core_syntax.specs.Scripts.{scripts_of}
 use Rattle.script_server.specs.declared.fault.SetupError.{SetupError}
 use Rattle.script_server.specs.declared.fault.SetupError.TheVariants as error
 use Rattle.script_server.specs.declared.fault.SetupFault.{SetupFault}

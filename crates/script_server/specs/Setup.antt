@@ -1,5 +1,5 @@
 -- The setup: sections of scripts, each `script NAME LENGTH`, the script's bytes and a newline, and then the line `steps`.
-use Rattle.std.specs.Prelude.{ℕ, zero, suc, ◌-◌, ◌&&◌, Bool, true, false, List, [], ◌∷◌, ◌++◌, Option, Some, None, Result, Ok, Err, take, drop, length, nat_le, codes, if◌then◌else◌}
+use Rattle.std.specs.Prelude.{ℕ, zero, suc, ◌-◌, List, [], ◌∷◌, ◌++◌, Option, Some, None, Result, Ok, Err, take, drop, length, nat_le, codes, if◌then◌else◌}
 use Rattle.script_value.specs.Val.{Val}
 use Rattle.page_names.specs.Names.{name_in}
 use Rattle.page_names.specs.Pieces.{◌>>=◌, cut_at, behind, number_below}

@@ -1,4 +1,4 @@
-use Rattle.std.proofs.Common.{◌≡◌, ◌≤◌, length, true, rules, arith, List, ℕ, Option, IfSome}
+use Rattle.std.proofs.Common.{◌≡◌, ◌≤◌, length, true, rules, arith, List, ℕ}
 use Rattle.std.specs.Io.KnownBytes.{Consumes, IsAtEnd}
 use Rattle.web_outside.proofs.Writes.{appends_none}
 use Rattle.script_server.specs.Command.{Explains, Outputs, Met, ReadToEnd, is_play, texts}

@@ -1,9 +1,9 @@
-use Rattle.std.proofs.Common.{rules, ◌≡◌, ◌≤◌, ◌<◌, length, Some, None, Ok, Err, ℕ, ◌+◌, ◌-◌, List, [], ◌∷◌, ◌++◌, refl, arith, ap, sym, ◌∙◌, subst, codes, length-append}
+use Rattle.std.proofs.Common.{rules, ◌≡◌, ◌<◌, length, None, Ok, Err, ◌-◌, [], ◌∷◌, ◌++◌, arith, ap, ◌∙◌, codes, length-append}
 use Rattle.std.proofs.lemmas.List.{nil_from_length}
 use Rattle.page_names.specs.Pieces.{behind}
 use Rattle.core_syntax.specs.Scripts.{scripts_of, named_of}
 use Rattle.script_server.specs.Setup as spec
-use Rattle.script_server.specs.Parses.{Gives, Fails, parsed_of}
+use Rattle.script_server.specs.Parses.{Fails}
 use Rattle.script_server.proofs.Turns.{begins, goes_on, fails, at_end}
 use Rattle.script_server.proofs.setup.Parsed.read.Goals as goal
 
