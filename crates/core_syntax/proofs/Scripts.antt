@@ -1,5 +1,5 @@
 -- From one form to a script.
-use Rattle.std.proofs.Common.{◌≡◌, ℕ, ◌<◌, ◌≤◌, true, false, List, [], ◌∷◌, ◌++◌, Option, Some, None, Result, Ok, Err, refl, sym, subst, ap, ◌∙◌, arith, inl, inr}
+use Rattle.std.proofs.Common.{◌≡◌, ℕ, ◌<◌, ◌≤◌, true, false, List, [], ◌∷◌, ◌++◌, length, Option, Some, None, Result, Ok, Err, refl, sym, subst, ap, ◌∙◌, arith, inl, inr}
 use Rattle.std.proofs.lemmas.Bool.Decides.{nat_tests}
 use Rattle.script_value.specs.Val.{Val, vals_of}
 use Rattle.core_syntax.specs.declared.script.Node.{Node}
@@ -79,3 +79,9 @@ unmade x old s scope v e f h g =
     limit_none x s (core_of [] false v)
     (subst (λ (o : Option (List Node)). Emitted (Ok x) o s 1024 (core_of [] false v)) e
     (subst (λ (z : List (List ℕ)). Emitted (Ok x) old s 1024 (core_of z false v)) f h)) (sym g)
+
+-- what has an only item has one
+pub one_length : (vs : List Val) (v : Val) → Some v ≡ one_of (vals_of vs) → length vs ≡ 1
+one_length [] v e = absurd (let no : ⊥ = cc in no)
+one_length (w ∷ []) v e = refl
+one_length (w ∷ x ∷ vs) v e = absurd (let no : ⊥ = cc in no)

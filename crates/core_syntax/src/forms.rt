@@ -1,4 +1,4 @@
-ghost use Rattle.std.specs.Prelude.{◌≡◌, ℕ, List, [], ◌∷◌, map, IfOk, OnOk, Ok, Err, Some, None, Result, false, option_map};
+ghost use Rattle.std.specs.Prelude.{◌≡◌, ℕ, List, [], ◌∷◌, map, IfOk, OnOk, Ok, Err, Some, None, Result, false, option_map, length};
 ghost use Rattle.script_value.specs.Meaning.{meaning};
 ghost use Rattle.core_syntax.specs.declared.faults.SyntaxKind.{SyntaxKind};
 ghost use Rattle.core_syntax.specs.Core.{Core};
@@ -23,6 +23,8 @@ const DEPTH_LIMIT: u32 = 1_024;
 pub fn expand(alloc: Global, forms: &[Value]) -> Result<Script, ExpandFault>
     ensures table { Expands result (script_of (map meaning forms.now)) }
     ensures numbered { IfOk result (λ s. s ≡ layout 0 (tree_at s 0)) }
+    // That these are no one expression is told, whatever memory there is.
+    ensures memory { result ≡ Err ExpandFault.Memory → length forms.now ≡ 1 }
 {
     match one_of(forms) {
         None => Err(at_first(SyntaxKind::Shape)),

@@ -1,4 +1,4 @@
-ghost use Rattle.std.specs.Prelude.{◌≡◌, ◌+◌, ◌<◌, ◌≤◌, List, [], length, map, IfOk, OnOk, IsUtf8, Ok};
+ghost use Rattle.std.specs.Prelude.{◌≡◌, ◌+◌, ◌<◌, ◌≤◌, List, [], length, map, IfOk, OnOk, IsUtf8, Ok, Err};
 ghost use Rattle.script_value.specs.Meaning.{meaning};
 ghost use Rattle.script_value.specs.Val.{Val};
 ghost use Rattle.sexp_reader.specs.Read as spec;
@@ -243,7 +243,8 @@ const MOST_BYTES: usize = 65_536;
 
 // The data of a text, or its first fault.
 fn read_text(alloc: Global, text: &[u8]) -> Result<Vec<Value>, ReadFault>
-    ensures { Gives (λ vs. map meaning vs.items) result (spec.read text.now) }
+    ensures value { Gives (λ vs. map meaning vs.items) result (spec.read text.now) }
+    ensures memory { result ≡ Err ReadFault.Memory → (length text.now ≤ 65536) × IsUtf8 text.now }
 {
     if text.len() > MOST_BYTES {
         return Err(fault(MOST_BYTES as u64, ReadKind::Long));
@@ -262,6 +263,8 @@ pub fn read_all(alloc: Global, text: &[u8]) -> Result<Vec<Value>, ReadFault>
     ensures spelled { IfOk result (λ vs. Spells text.now (map meaning vs.items)) }
     // What is spelled so is read, unless memory ran out.
     ensures found { (wanted : List Val) → Spells text.now wanted → Gives (λ vs. map meaning vs.items) result (Ok wanted) }
+    // A text that is too long, or is no UTF-8, is told so, whatever memory there is.
+    ensures memory { result ≡ Err ReadFault.Memory → (length text.now ≤ 65536) × IsUtf8 text.now }
 {
     read_text(alloc, text)
 }
