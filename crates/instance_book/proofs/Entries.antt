@@ -7,7 +7,7 @@ use Rattle.std.specs.Option.{option_copied}
 use Rattle.std.specs.Ordering.{nat_cmp, is_eq}
 use Rattle.std.specs.Map.{lookup, set_value}
 use Rattle.std.specs.BTreeMap.{insert_entry, is_at}
-use Rattle.replay_spec.specs.Book.{Page, Instance, page_at, instance_at, put_page, put_instance, mend, with_page}
+use Rattle.replay_spec.specs.Book.{Page, Instance, at_number, page_at, instance_at, put_in_order, put_page, put_instance, mend, with_page}
 use Rattle.instance_book.specs.declared.book.KeptPage.{KeptPage}
 use Rattle.instance_book.specs.declared.book.KeptInstance.{KeptInstance}
 use Rattle.instance_book.specs.Code.{page_of, instance_of}
@@ -15,49 +15,46 @@ use Rattle.instance_book.specs.Code.{page_of, instance_of}
 pub is_eq-nat_cmp : (n k : ℕ) → is_eq (nat_cmp n k) ≡ (k == n)
 is_eq-nat_cmp n k = grind (arith, nat_tests)
 
+-- what stands under a number in a map is what is found by that number among what its entries stand for
+found : {V B : Type 0} (number : B → ℕ) (view : ℕ × V → B) → ((e : ℕ × V) → number (view e) ≡ e.0) → (n : ℕ) (es : List (ℕ × V))
+    → option_map (λ v. view (n, v)) (lookup (is_at (nat_cmp n)) es) ≡ at_number number n (map view es)
+found number view numbered n [] = refl
+found number view numbered n (e ∷ es) =
+    ⊎_elim
+    (λ same. let test : (e.0 == n) ≡ true = eq-eqb e.0 n same in rw (numbered e, is_eq-nat_cmp n e.0, test) (ap (λ k. Some (view (k, e.1))) (sym same)))
+    (λ other. let test : (e.0 == n) ≡ false = ne_eqb e.0 n other in rw (numbered e, is_eq-nat_cmp n e.0, test) (found number view numbered n es))
+    (cases_eq e.0 n)
+
+-- what is put into a map is put in order among what its entries stand for
+put : {V B : Type 0} (number : B → ℕ) (view : ℕ × V → B) → ((e : ℕ × V) → number (view e) ≡ e.0) → (n : ℕ) (v : V) (es : List (ℕ × V))
+    → map view (insert_entry nat_cmp es n v) ≡ put_in_order number (view (n, v)) (map view es)
+put number view numbered n v [] = refl
+put number view numbered n v (e ∷ es) =
+    let mine : number (view (n, v)) ≡ n = numbered (n, v) in
+    ⊎_elim
+    (λ below. let test : nat_lt n e.0 ≡ true = grind (arith, nat_tests) in rw (mine, numbered e, test) refl)
+    (λ above. let test : nat_lt n e.0 ≡ false = grind (arith, nat_tests) in
+    ⊎_elim
+    (λ same. let eq : (n == e.0) ≡ true = eq-eqb n e.0 same in rw (mine, numbered e, test, eq) (ap (λ k. view (k, v) ∷ map view es) (sym same)))
+    (λ other. let eq : (n == e.0) ≡ false = ne_eqb n e.0 other in rw (mine, numbered e, test, eq) (ap (λ xs. view e ∷ xs) (put number view numbered n v es)))
+    (cases_eq n e.0))
+    (cases_lt n e.0)
+
 pub page_found : (n : ℕ) (es : List (ℕ × KeptPage))
     → option_map (λ v. page_of (n, v)) (lookup (is_at (nat_cmp n)) es) ≡ page_at n (map page_of es)
-page_found n [] = refl
-page_found n (e ∷ es) =
-    ⊎_elim
-    (λ same. let test : (e.0 == n) ≡ true = eq-eqb e.0 n same in rw (is_eq-nat_cmp n e.0, test) (ap (λ k. Some (page_of (k, e.1))) (sym same)))
-    (λ other. let test : (e.0 == n) ≡ false = ne_eqb e.0 n other in rw (is_eq-nat_cmp n e.0, test) (page_found n es))
-    (cases_eq e.0 n)
+page_found n es = found (λ p. p.number) page_of (λ e. refl) n es
 
 pub instance_found : (n : ℕ) (es : List (ℕ × KeptInstance))
     → option_map (λ v. instance_of (n, v)) (lookup (is_at (nat_cmp n)) es) ≡ instance_at n (map instance_of es)
-instance_found n [] = refl
-instance_found n (e ∷ es) =
-    ⊎_elim
-    (λ same. let test : (e.0 == n) ≡ true = eq-eqb e.0 n same in rw (is_eq-nat_cmp n e.0, test) (ap (λ k. Some (instance_of (k, e.1))) (sym same)))
-    (λ other. let test : (e.0 == n) ≡ false = ne_eqb e.0 n other in rw (is_eq-nat_cmp n e.0, test) (instance_found n es))
-    (cases_eq e.0 n)
+instance_found n es = found (λ i. i.number) instance_of (λ e. refl) n es
 
 pub page_put : (n : ℕ) (v : KeptPage) (es : List (ℕ × KeptPage))
     → map page_of (insert_entry nat_cmp es n v) ≡ put_page (page_of (n, v)) (map page_of es)
-page_put n v [] = refl
-page_put n v (e ∷ es) =
-    ⊎_elim
-    (λ below. let test : nat_lt n e.0 ≡ true = grind (arith, nat_tests) in rw test refl)
-    (λ above. let test : nat_lt n e.0 ≡ false = grind (arith, nat_tests) in
-    ⊎_elim
-    (λ same. let eq : (n == e.0) ≡ true = eq-eqb n e.0 same in rw (test, eq) (ap (λ k. page_of (k, v) ∷ map page_of es) (sym same)))
-    (λ other. let eq : (n == e.0) ≡ false = ne_eqb n e.0 other in rw (test, eq) (ap (λ ps. page_of e ∷ ps) (page_put n v es)))
-    (cases_eq n e.0))
-    (cases_lt n e.0)
+page_put n v es = put (λ p. p.number) page_of (λ e. refl) n v es
 
 pub instance_put : (n : ℕ) (v : KeptInstance) (es : List (ℕ × KeptInstance))
     → map instance_of (insert_entry nat_cmp es n v) ≡ put_instance (instance_of (n, v)) (map instance_of es)
-instance_put n v [] = refl
-instance_put n v (e ∷ es) =
-    ⊎_elim
-    (λ below. let test : nat_lt n e.0 ≡ true = grind (arith, nat_tests) in rw test refl)
-    (λ above. let test : nat_lt n e.0 ≡ false = grind (arith, nat_tests) in
-    ⊎_elim
-    (λ same. let eq : (n == e.0) ≡ true = eq-eqb n e.0 same in rw (test, eq) (ap (λ k. instance_of (k, v) ∷ map instance_of es) (sym same)))
-    (λ other. let eq : (n == e.0) ≡ false = ne_eqb n e.0 other in rw (test, eq) (ap (λ is. instance_of e ∷ is) (instance_put n v es)))
-    (cases_eq n e.0))
-    (cases_lt n e.0)
+instance_put n v es = put (λ i. i.number) instance_of (λ e. refl) n v es
 
 -- an instance that was found and changed
 pub instance_mended : (n : ℕ) (f : Instance → Instance) (v w : KeptInstance) (es : List (ℕ × KeptInstance))
