@@ -1,6 +1,5 @@
 -- What the program's values stand for in the definitions.
-use Rattle.std.specs.Prelude.{◌≡◌, ℕ, List, [], map, Result, Ok, Err, ⊤}
-use Rattle.script_value.specs.Val.{Val}
+use Rattle.std.specs.Prelude.{◌≡◌, [], map, Result, Ok, Err, ⊤}
 use Rattle.script_value.specs.Meaning.{meaning}
 use Rattle.plain_rerun.specs.declared.tape.Now.{Now}
 use Rattle.plain_rerun.specs.declared.tape.Reads.{Reads}
