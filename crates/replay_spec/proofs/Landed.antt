@@ -2,10 +2,11 @@
 use Rattle.std.proofs.Common.{◌≡◌, ◌≢◌, ◌==◌, ◌⊎◌, ℕ, List, [], ◌∷◌, length, Option, Some, None, Bool, true, false, refl, sym, ap, subst, ◌∙◌, inl, inr, ⊎_elim, arith}
 use Rattle.std.proofs.lemmas.Bool.{ne_eqb, cases_eq}
 use Rattle.std.proofs.lemmas.Bool.Decides.{nat_tests}
+use Rattle.std.proofs.lemmas.Option.{same_Some}
 use Rattle.replay_spec.specs.Book.{Page, Instance, Book, instance_at, page_at, put_page, parent_of, with_page, mend, opens, extends, land, spend}
 use Rattle.replay_spec.proofs.Numbered.{put_found, put_other, put_length}
 use Rattle.replay_spec.proofs.Ancestors.{Rooted, put_grown, ancestors_grown}
-use Rattle.replay_spec.proofs.Tidy.{Among, Unused, Tidy, Kept, Follows, same_some, stays, unused_spent, tidy_spend}
+use Rattle.replay_spec.proofs.Tidy.{Among, Unused, Tidy, Kept, Follows, stays, unused_spent, tidy_spend}
 
 -- the instances of other numbers are found as before
 mend_other : (k n : ℕ) (p : Page) (is : List Instance) → n ≢ k → instance_at k (mend n (with_page p) is) ≡ instance_at k is
@@ -32,7 +33,7 @@ mend_found n p (j ∷ is) i found = by_test (j.number == n) refl (mend_found n p
         → instance_at n (mend n (with_page p) (j ∷ is)) ≡ Some (with_page p i)
     by_test true e later =
         let here : Some j ≡ Some i = rw e at found in
-        rw (e, e) (ap (λ x. Some (with_page p x)) (same_some j i here))
+        rw (e, e) (ap (λ x. Some (with_page p x)) (same_Some j i here))
     by_test false e later = rw (e, e) (later (rw e at found))
 
 -- the book in which a start opened an instance
@@ -47,12 +48,12 @@ alone : (p q : Page) (m : ℕ) → page_at m (p ∷ []) ≡ Some q → p ≡ q
 alone p q m found = by_test (p.number == m) refl
   where
     by_test : (t : Bool) → (p.number == m) ≡ t → p ≡ q
-    by_test true e = same_some p q (rw e at found)
+    by_test true e = same_Some p q (rw e at found)
     by_test false e = absurd (let none : None ≡ Some q = rw e at found in let no : ⊥ = cc in no)
 
 opened_new : (b : Book) (n script : ℕ) (p : Page) (i : Instance) → instance_at n (opened b n script p).instances ≡ Some i → fresh n script p ≡ i
 opened_new b n script p i found =
-    same_some (fresh n script p) i (sym (put_found (λ (j : Instance). j.number) (fresh n script p) b.instances) ∙ found)
+    same_Some (fresh n script p) i (sym (put_found (λ (j : Instance). j.number) (fresh n script p) b.instances) ∙ found)
 
 opened_old : (b : Book) (n script : ℕ) (p : Page) (k : ℕ) → n ≢ k → instance_at k (opened b n script p).instances ≡ instance_at k b.instances
 opened_old b n script p k other = put_other (λ (j : Instance). j.number) k (fresh n script p) b.instances other
@@ -106,7 +107,7 @@ extended_cases b n k p i here m j found =
     ⊎_elim
     (λ same.
     let mine : instance_at k (extended b n k p).instances ≡ Some j = rw same at found in
-    inl (same, same_some (with_page p i) j (sym (mend_found k p b.instances i here) ∙ mine)))
+    inl (same, same_Some (with_page p i) j (sym (mend_found k p b.instances i here) ∙ mine)))
     (λ other. inr (sym (mend_other m k p b.instances (λ e. other (sym e))) ∙ found)) (cases_eq m k)
 
 pub tidy_extend : (b : Book) (n k : ℕ) (p q : Page) (i : Instance) → Tidy b → Among n b.out → instance_at k b.instances ≡ Some i
@@ -160,7 +161,7 @@ tidy_extend b n k p q i t out here answered numbered child = record {
         ⊎_elim
         (λ same.
         let mine : page_at p.number (put_page p i.pages) ≡ Some r = subst (λ x. page_at x (put_page p i.pages) ≡ Some r) (sym same) found in
-        let page : p ≡ r = same_some p r (sym (put_found (λ (x : Page). x.number) p i.pages) ∙ mine) in subst (Rooted (put_page p i.pages)) page new_rooted)
+        let page : p ≡ r = same_Some p r (sym (put_found (λ (x : Page). x.number) p i.pages) ∙ mine) in subst (Rooted (put_page p i.pages)) page new_rooted)
         (λ other. old_rooted r (t.rooted k i here m r (sym (put_other (λ (x : Page). x.number) m p i.pages other) ∙ found))) (cases_eq p.number m)
 
     rooted : (l : ℕ) (j : Instance) → instance_at l (extended b n k p).instances ≡ Some j → (m : ℕ) (r : Page) → page_at m j.pages ≡ Some r → Rooted j.pages r
@@ -184,7 +185,7 @@ follows_extend b n k p i t out here numbered = record { shelf = refl; kept = kep
         ⊎_elim
         (λ same.
         let mine : instance_at k b.instances ≡ Some j = rw same at found in
-        let instance : i ≡ j = same_some i j (sym here ∙ mine) in
+        let instance : i ≡ j = same_Some i j (sym here ∙ mine) in
         let there : Kept m i (extended b n k p) = record {
           later = with_page p i;
           found = rw same (mend_found k p b.instances i here);
