@@ -1,0 +1,71 @@
+-- What contracts see of the forms in memory that give links.
+use Rattle.std.specs.Prelude.{◌≡◌, ◌==◌, ◌||◌, ◌+◌, ◌-◌, ◌^◌, not, min, ℕ, Bool, false, List, [], length, map, sum_by, Option, Some, Result, Ok, Err}
+use Rattle.web_outside.specs.declared.link.TextLink.{TextLink}
+use Rattle.web_outside.specs.declared.list_porch.ListPorch.{ListPorch}
+use Rattle.web_outside.specs.declared.list_door.ListDoor.{ListDoor}
+use Rattle.web_outside.specs.declared.door.DoorFault.{DoorFault}
+use Rattle.web_outside.specs.declared.door.DoorFault.TheVariants.{Failed, Memory}
+use Rattle.web_outside.specs.declared.seeds.SeedFault.{SeedFault}
+use Rattle.web_outside.specs.declared.seeds.SeedFault.TheVariants.{Failed as SeedFailed, Memory as SeedMemory}
+use Rattle.web_outside.specs.Views.{is_listed}
+
+-- the links that are still to come, in order
+abbrev pub porch_coming : ListPorch → List TextLink
+porch_coming porch = porch.coming.items
+
+-- the links that were handed back, in order
+abbrev pub porch_served : ListPorch → List TextLink
+porch_served porch = porch.served.items
+
+-- no more links come: as many were given as may be, or none is to come
+abbrev pub porch_ended : ListPorch → Bool
+porch_ended porch = (porch.given == porch.most) || (length porch.coming.items == 0)
+
+-- a porch that gave no link yet, gives at most so many, and counts no fault
+pub record IsOpened (connections : ℕ) (porch : ListPorch) : Type 0 where
+  pub served : porch.served.items ≡ []
+  pub given : porch.given ≡ 0
+  pub most : porch.most ≡ connections
+  pub home : porch.lent ≡ false
+  pub calls : porch.calls ≡ 0
+  pub faults : porch.faults ≡ 0
+
+-- the links to come, which a porch in memory tells
+abbrev pub tells_coming : ListPorch → Option (List TextLink)
+tells_coming porch = Some (porch_coming porch)
+
+-- the links to come of each porch
+abbrev pub all_coming : List ListPorch → List (List TextLink)
+all_coming porches = map porch_coming porches
+
+-- the links that the porches of a door will give, which a door in memory tells
+abbrev pub tells_all : ListDoor → Option (List (List TextLink))
+tells_all door = Some (all_coming door.porches.items)
+
+-- the numbers of the calls that fail, of each porch
+abbrev pub all_failing : List ListPorch → List (List ℕ)
+all_failing porches = map (λ porch. porch.failing.items) porches
+
+-- the next listening fails: it is listed, or there is not one porch for each worker
+abbrev pub listen_fails : ListDoor → ℕ → Bool
+listen_fails door workers = is_listed door.listens door.failing.items || not (length door.porches.items == workers)
+
+-- how often a listening failed, after one with this answer
+abbrev pub faults_after_listen : {T : Type 0} → Result T DoorFault → ℕ → ℕ
+faults_after_listen (Ok porches) faults = faults
+faults_after_listen (Err Failed) faults = min (faults + 1) (2 ^ 64 - 1)
+faults_after_listen (Err Memory) faults = faults
+
+-- the faults of all the porches
+abbrev pub all_faults : List ListPorch → ℕ
+all_faults porches = sum_by (λ porch. porch.faults) porches
+
+-- what a porch is told at first stays
+abbrev pub SamePorch : ListPorch → ListPorch → Type 0
+SamePorch old new = (new.most ≡ old.most) × (new.failing.items ≡ old.failing.items)
+
+-- how often a draw failed, after one with this answer
+abbrev pub faults_after_draw : {T : Type 0} → Result T SeedFault → ℕ → ℕ
+faults_after_draw (Ok sources) faults = faults
+faults_after_draw (Err SeedFailed) faults = min (faults + 1) (2 ^ 64 - 1)
+faults_after_draw (Err SeedMemory) faults = faults
