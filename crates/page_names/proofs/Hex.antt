@@ -14,7 +14,7 @@ use Rattle.std.proofs.lemmas.Str.{IsUtf8-from_ascii}
 use Rattle.std.proofs.lemmas.List.{length-replicate}
 use Rattle.std.proofs.lemmas.Str.Ascii.{IsAscii-nil, IsAscii-cons}
 use Rattle.std.proofs.lemmas.Str.Parse.{without_leading_plus_none}
-use Rattle.page_names.specs.Pieces.{is_hex_digit, hex_number, hex_onto, hex16}
+use Rattle.page_names.specs.Hex.{is_hex_digit, hex_number, hex_onto, hex16}
 use Rattle.std.proofs.lemmas.Option.{cond_some}
 
 glyph_is : (d : ℕ) → d < 16 → is_hex_digit (digit_glyph false d) ≡ true

@@ -12,12 +12,13 @@ use Rattle.script_value.specs.Texts.{lacks}
 use Rattle.script_value.proofs.Texts.{lacks-append}
 use Rattle.page_names.specs.declared.names.PageName.{PageName}
 use Rattle.page_names.specs.declared.names.Target.{Target}
-use Rattle.page_names.specs.Pieces.{is_hex_digit, hex16}
-use Rattle.page_names.specs.Names.{is_name_byte, is_name, Destination, start, page, spelling, numbers_spelling, IsPageName, IsDestination, named_by, destination_of, target_of, SpellingsAreRead, SpellingsDiffer}
+use Rattle.page_names.specs.Hex.{is_hex_digit, hex16}
+use Rattle.page_names.specs.Names.{is_name_byte, is_name, Destination, start, page, spelling, numbers_spelling, IsPageName, IsDestination, named_by, destination_of, SpellingsAreRead, SpellingsDiffer}
+use Rattle.page_names.specs.Views.{target_of}
 use Rattle.std.proofs.lemmas.Option.{same_Some}
-use Rattle.page_names.proofs.Numerals.{decimal_digits}
+use Rattle.script_value.proofs.Numerals.{decimal_digits}
 use Rattle.page_names.proofs.Hex.{hex16_length, hex16_digits}
-use Rattle.page_names.proofs.Cuts.{lacking}
+use Rattle.script_value.proofs.Cuts.{lacking}
 use Rattle.page_names.proofs.Spelled.{named_spelled, spelling_named}
 
 -- ---- escapes

@@ -5,14 +5,15 @@ use Rattle.std.specs.Char.{is_ascii_digit}
 use Rattle.std.specs.Fmt.{decimal}
 use Rattle.std.proofs.lemmas.Bool.{and_parts}
 use Rattle.page_names.specs.declared.names.PageName.{PageName}
-use Rattle.page_names.specs.Pieces.{cut_at, behind, number_below, hex_number, hex16}
+use Rattle.script_value.specs.Pieces.{cut_at, behind, number_below}
+use Rattle.page_names.specs.Hex.{hex_number, hex16}
 use Rattle.page_names.specs.Names.{is_name_byte, is_name, Destination, start, page, spelling, numbers_spelling, IsPageName, IsDestination, name_in, numbers_in, destination_in, named_by}
 use Rattle.std.proofs.lemmas.Option.{cond_some, same_Some}
 use Rattle.script_value.specs.Texts.{lacks}
 use Rattle.script_value.proofs.Options.{bound, mapped}
-use Rattle.page_names.proofs.Numerals.{number_spelled, number_found, decimal_digits}
+use Rattle.script_value.proofs.Numerals.{number_spelled, number_found, decimal_digits}
 use Rattle.page_names.proofs.Hex.{hex_spelled, hex_found}
-use Rattle.page_names.proofs.Cuts.{behind_spelled, cut_spelled, cut_found, cut_none, lacking}
+use Rattle.script_value.proofs.Cuts.{behind_spelled, cut_spelled, cut_found, cut_none, lacking}
 
 -- ---- what is read is spelled so
 

@@ -1,4 +1,5 @@
 pub mod NameBytes
-pub mod Pieces
+pub mod Hex
 pub mod Names
+pub mod Views
 pub mod Vectors

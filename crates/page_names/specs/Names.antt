@@ -1,27 +1,16 @@
 -- What a path names, and the one spelling of each name.
 pub use Rattle.page_names.specs.NameBytes.{is_name_byte, is_name}
-use Rattle.std.specs.Prelude.{◌≡◌, ℕ, ◌^◌, ◌<◌, List, ◌∷◌, ◌++◌, Option, Some, None, IsTrue, take, option_map, codes, if◌then◌else◌}
+use Rattle.std.specs.Prelude.{◌≡◌, ℕ, ◌^◌, ◌<◌, List, ◌∷◌, ◌++◌, Option, Some, None, IsTrue, option_map, codes, if◌then◌else◌}
 use Rattle.std.specs.Fmt.{decimal}
 use Rattle.percent_encoding.specs.Percent.{percent_decode}
-use Rattle.page_names.specs.Pieces.{◌>>=◌, cut_at, behind, number_below, hex_number, hex16}
-use Rattle.page_names.specs.declared.names.ScriptName.{ScriptName}
+use Rattle.script_value.specs.Pieces.{◌>>=◌, cut_at, behind, number_below}
+use Rattle.page_names.specs.Hex.{hex_number, hex16}
 use Rattle.page_names.specs.declared.names.PageName.{PageName}
-use Rattle.page_names.specs.declared.names.Target.{Target}
-use Rattle.page_names.specs.declared.names.Target.TheVariants.{Start, Page}
 
 -- the start of a script, or a page of it
 pub data Destination : Type 0 where
   start : List ℕ → Destination
   page : List ℕ → PageName → Destination
-
--- the bytes of a name
-abbrev pub name_of : ScriptName → List ℕ
-name_of name = take name.len name.bytes
-
--- what a target means
-abbrev pub target_of : Target → Destination
-target_of (Start name) = start (name_of name)
-target_of (Page name numbers) = page (name_of name) numbers
 
 -- the numbers of a page, as its URL has them: `S*I*K*N`
 abbrev pub numbers_spelling : PageName → List ℕ
@@ -77,6 +66,10 @@ named_by decoded = do
 -- what a path names: its escapes are decoded, once
 unfoldable pub destination_of : List ℕ → Option Destination
 destination_of path = named_by (percent_decode path)
+
+-- what is found in these bytes is any destination whose spelling they are
+abbrev pub FindsEach : List ℕ → Option Destination → Type 0
+FindsEach bytes found = (d : Destination) → IsDestination d → bytes ≡ spelling d → found ≡ Some d
 
 -- each destination is what its spelling names, as a path too
 abbrev pub SpellingsAreRead : Type 0

@@ -3,7 +3,7 @@ use Rattle.std.specs.Prelude.{◌≡◌, ◌++◌, Some, None, codes, replicate,
 use Rattle.std.specs.Fmt.{digits}
 use Rattle.percent_encoding.specs.Percent.{percent_decode}
 use Rattle.page_names.specs.Names.{start, page, spelling, named_by, destination_of}
-use Rattle.page_names.specs.Pieces.{hex16}
+use Rattle.page_names.specs.Hex.{hex16}
 
 pub a_start : destination_of (codes "/servlets/sum") ≡ Some (start (codes "sum"))
 unfolding destination_of named_by percent_decode

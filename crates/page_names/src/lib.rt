@@ -2,9 +2,9 @@
 #![tactic(auto)]
 
 mod escapes;
+mod hexadecimal;
 mod names;
 mod parse;
-pub mod pieces;
 mod write;
 
 pub use names::{PageName, ScriptName, Target};

@@ -4,7 +4,7 @@ ghost use Rattle.page_names.specs.NameBytes.{is_name};
 mod script;
 
 /// The name of a script: 1 to 32 of `a` to `z`, `0` to `9` and `-`.
-#[derive(Clone, Copy)]
+#[derive(Clone, Copy, Debug)]
 pub struct ScriptName {
     bytes: [u8; 32],
     len: usize,

@@ -1,11 +1,13 @@
 ghost use Rattle.std.specs.Prelude.{◌≡◌, Some, IfSome, option_map};
 ghost use Rattle.percent_encoding.specs.Percent.{percent_decode};
-ghost use Rattle.page_names.specs.Names.{Destination, IsDestination, spelling, named_by, destination_of, destination_in, numbers_in, target_of, SpellingsAreRead, SpellingsDiffer};
-ghost use Rattle.page_names.specs.Pieces.{cut_at};
+ghost use Rattle.page_names.specs.Names.{FindsEach, IsDestination, spelling, named_by, destination_of, destination_in, numbers_in, SpellingsAreRead, SpellingsDiffer};
+ghost use Rattle.page_names.specs.Views.{target_of};
+ghost use Rattle.script_value.specs.Pieces.{cut_at};
 
 use crate::escapes::decode;
+use crate::hexadecimal::hex_number;
 use crate::names::{PageName, ScriptName, Target};
-use crate::pieces::{behind, cut_at, hex_number, number, small_number};
+use script_value::pieces::{behind, cut_at, number, small_number};
 
 /// The length of the longest spelling, of a page: `/servlets/`, a name, `;`, a `u32`, `*`, a
 /// `u64`, `*`, a `u64`, `*` and a nonce.
@@ -17,7 +19,7 @@ pub fn parse_target(path: &[u8]) -> Option<Target>
     ensures value { option_map target_of result ≡ destination_of path.now }
     ensures spelled { IfSome result (λ t. percent_decode path.now ≡ spelling (target_of t)) }
     ensures named { IfSome result (λ t. IsDestination (target_of t)) }
-    ensures found { (d : Destination) → IsDestination d → percent_decode path.now ≡ spelling d → option_map target_of result ≡ Some d }
+    ensures found { FindsEach (percent_decode path.now) (option_map target_of result) }
     ensures inverse { SpellingsAreRead }
     ensures distinct { SpellingsDiffer }
 {

@@ -1,5 +1,6 @@
 ghost use Rattle.std.specs.Prelude.{◌≡◌, Some, IfOk, string_bytes};
-ghost use Rattle.page_names.specs.Names.{page, spelling, numbers_spelling, destination_of, name_of};
+ghost use Rattle.page_names.specs.Names.{page, spelling, numbers_spelling, destination_of};
+ghost use Rattle.page_names.specs.Views.{name_of};
 
 use crate::names::{PageName, ScriptName};
 use script_value::Bytes;

@@ -1,6 +1,7 @@
 ghost use Rattle.std.specs.Prelude.{◌≡◌, ◌↔◌, IsTrue, option_map};
 ghost use Rattle.std.specs.List.{list_all};
-ghost use Rattle.page_names.specs.Names.{is_name_byte, is_name, name_of, name_in};
+ghost use Rattle.page_names.specs.Names.{is_name_byte, is_name, name_in};
+ghost use Rattle.page_names.specs.Views.{name_of};
 
 use crate::names::ScriptName;
 

@@ -1,6 +1,7 @@
 -- What the path names, and what follows from it.
 use Rattle.std.proofs.Common.{◌≡◌, None, option_map, sym, ◌∙◌, ap}
-use Rattle.page_names.specs.Names.{named_by, destination_of, target_of}
+use Rattle.page_names.specs.Names.{named_by, destination_of}
+use Rattle.page_names.specs.Views.{target_of}
 use Rattle.page_names.proofs.Plain.{long_path, target_spelled, target_found, spelling_read, spellings_differ}
 use Rattle.page_names.proofs.parse.parse_target.Goals as goal
 

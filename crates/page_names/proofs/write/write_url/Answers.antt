@@ -1,7 +1,8 @@
 -- The URL is the page's spelling, so it names the page.
 use Rattle.std.proofs.Common.{◌≡◌, arith}
 use Rattle.std.proofs.lemmas.Grind.{common_steps}
-use Rattle.page_names.specs.Names.{spelling, page, name_of, IsPageName}
+use Rattle.page_names.specs.Names.{spelling, page, IsPageName}
+use Rattle.page_names.specs.Views.{name_of}
 use Rattle.page_names.proofs.Plain.{url_named}
 use Rattle.page_names.proofs.write.write_url.Goals as goal
 
