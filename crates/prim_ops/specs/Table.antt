@@ -1,100 +1,146 @@
 -- The table of operations: a value or a fault, one row an operation.
-use Rattle.std.specs.Prelude.{◌≡◌, ℕ, ◌==◌, ◌&&◌, ℤ, pos, ◌+ℤ◌, Bool, true, false, List, [], ◌∷◌, ◌++◌, Option, Some, None, is_some, Result, Ok, Err, IsOk, nat_lt, if◌then◌else◌}
+use Rattle.std.specs.Prelude.{◌≡◌, ℕ, ◌==◌, pos, int_lt, int_le, Bool, true, false, List, [], ◌∷◌, Option, Some, None, Result, Ok, Err, IsOk, nat_lt, if◌then◌else◌}
 use Rattle.std.specs.Borrow.{Bor}
-use Rattle.std.specs.Fmt.{signed_decimal}
-use Rattle.std.specs.Str.{bytes_eq}
-use Rattle.script_value.specs.Val.{Val, Vals, number, truth, text, symbol, list, no_vals, val, vals_of, depth}
-use Rattle.script_value.specs.Meaning.{meaning}
-use Rattle.script_value.specs.Numbers.{number_in, is_in_range}
+use Rattle.std.specs.Ordering.{int_eq}
+use Rattle.script_value.specs.Val.{Val, number, truth, text, symbol, list, no_vals}
+use Rattle.script_value.specs.Views.{meaning}
 use Rattle.script_value.specs.declared.value.Value.{Value}
 use Rattle.script_value.specs.declared.outcome.Op.{Op}
 use Rattle.script_value.specs.declared.outcome.Op.TheVariants as op
 use Rattle.script_value.specs.declared.outcome.Fault.{Fault}
-use Rattle.script_value.specs.declared.outcome.Fault.TheVariants.{WrongType, Overflow, Deep, Binding}
+use Rattle.script_value.specs.declared.outcome.Fault.TheVariants.{WrongType}
+use Rattle.prim_ops.specs.Same.{same}
+use Rattle.prim_ops.specs.Numbers as numbers
+use Rattle.prim_ops.specs.Lists as lists
+use Rattle.prim_ops.specs.Texts as texts
+use Rattle.prim_ops.specs.Bindings as bindings
 use Rattle.prim_ops.specs.declared.fault.ApplyFault.{ApplyFault}
 use Rattle.prim_ops.specs.declared.fault.ApplyFault.TheVariants.{Memory, Fault as FaultOf}
 
 -- an operation takes this number of operands
 abbrev pub takes : Op → ℕ → Bool
 takes op.Add n = true
+takes op.Multiply n = true
+takes op.Subtract n = nat_lt 0 n
+takes op.Quotient n = n == 2
+takes op.Remainder n = n == 2
+takes op.Equal n = n == 2
+takes op.Less n = n == 2
+takes op.Greater n = n == 2
+takes op.AtMost n = n == 2
+takes op.AtLeast n = n == 2
+takes op.Not n = n == 1
+takes op.IsEqual n = n == 2
+takes op.IsNumber n = n == 1
+takes op.IsString n = n == 1
+takes op.IsSymbol n = n == 1
+takes op.IsBoolean n = n == 1
+takes op.IsList n = n == 1
+takes op.IsNull n = n == 1
 takes op.List n = true
+takes op.Cons n = n == 2
+takes op.Car n = n == 1
+takes op.Cdr n = n == 1
+takes op.Append n = true
+takes op.Length n = n == 1
+takes op.Reverse n = n == 1
+takes op.ListRef n = n == 2
+takes op.StringAppend n = true
+takes op.StringLength n = n == 1
+takes op.StringEqual n = n == 2
 takes op.NumberToString n = n == 1
 takes op.StringToNumber n = n == 1
+takes op.SymbolToString n = n == 1
+takes op.StringToSymbol n = n == 1
 takes op.ExtractBindingSingle n = n == 2
+takes op.ExtractBindings n = n == 2
+takes op.ExistsBinding n = n == 2
 
--- each of these is a number
-abbrev pub are_numbers : List Val → Bool
-are_numbers [] = true
-are_numbers (number n ∷ vs) = are_numbers vs
-are_numbers _ = false
+-- #f, and nothing else, is false
+abbrev pub is_false : Val → Bool
+is_false (truth false) = true
+is_false _ = false
 
--- the sum from left to right, each partial sum in the range of 64 bits with a sign
-abbrev pub sum_from : ℤ → List Val → Result Val Fault
-sum_from s [] = Ok (number s)
-sum_from s (number n ∷ vs) = if is_in_range (s +ℤ n) then sum_from (s +ℤ n) vs else Err Overflow
-sum_from s _ = Err WrongType
+abbrev pub is_number : Val → Bool
+is_number (number n) = true
+is_number _ = false
 
--- a list, unless it nests deeper than 200
-abbrev pub list_of : List Val → Result Val Fault
-list_of vs = if nat_lt 200 (depth (list (vals_of vs))) then Err Deep else Ok (list (vals_of vs))
+abbrev pub is_text : Val → Bool
+is_text (text t) = true
+is_text _ = false
 
-abbrev pub text_of_number : List Val → Result Val Fault
-text_of_number (number n ∷ []) = Ok (text (signed_decimal n))
-text_of_number _ = Err WrongType
+abbrev pub is_symbol : Val → Bool
+is_symbol (symbol s) = true
+is_symbol _ = false
 
--- the number, or #f
-abbrev pub number_or_false : Option ℤ → Val
-number_or_false None = truth false
-number_or_false (Some n) = number n
+abbrev pub is_truth : Val → Bool
+is_truth (truth b) = true
+is_truth _ = false
 
-abbrev pub number_of_text : List Val → Result Val Fault
-number_of_text (text t ∷ []) = Ok (number_or_false (number_in t))
-number_of_text _ = Err WrongType
+abbrev pub is_list : Val → Bool
+is_list (list vs) = true
+is_list _ = false
 
--- a symbol and a text
-abbrev pub pair_of : Val → Val → Option (List ℕ × List ℕ)
-pair_of (symbol k) (text t) = Some (k, t)
-pair_of _ _ = None
+abbrev pub is_empty_list : Val → Bool
+is_empty_list (list no_vals) = true
+is_empty_list _ = false
 
-abbrev pub pair_in : Vals → Option (List ℕ × List ℕ)
-pair_in (val v (val w no_vals)) = pair_of v w
-pair_in _ = None
+abbrev pub one : List Val → Option Val
+one (v ∷ []) = Some v
+one _ = None
 
--- a binding is a list of a symbol and a text
-abbrev pub binding_in : Val → Option (List ℕ × List ℕ)
-binding_in (list vs) = pair_in vs
-binding_in _ = None
+abbrev pub two : List Val → Option (Val × Val)
+two (v ∷ w ∷ []) = Some (v, w)
+two _ = None
 
-abbrev pub are_bindings : Vals → Bool
-are_bindings no_vals = true
-are_bindings (val v vs) = is_some (binding_in v) && are_bindings vs
+-- one value of any kind, and whether the test holds of it
+abbrev pub asks : (Val → Bool) → List Val → Result Val Fault
+asks test (v ∷ []) = Ok (truth (test v))
+asks test _ = Err WrongType
 
--- the text of a binding of this key
-abbrev pub text_for : List ℕ → Option (List ℕ × List ℕ) → List (List ℕ)
-text_for key None = []
-text_for key (Some b) = if bytes_eq b.0 key then b.1 ∷ [] else []
-
--- the texts of the key, in order
-abbrev pub texts_for : List ℕ → Vals → List (List ℕ)
-texts_for key no_vals = []
-texts_for key (val v vs) = text_for key (binding_in v) ++ texts_for key vs
-
--- the one text, where there is one
-abbrev pub single : List (List ℕ) → Result Val Fault
-single (t ∷ []) = Ok (text t)
-single _ = Err Binding
-
-abbrev pub single_binding : List Val → Result Val Fault
-single_binding (symbol key ∷ list vs ∷ []) = if are_bindings vs then single (texts_for key vs) else Err WrongType
-single_binding _ = Err WrongType
+-- two values of any kind, and whether they are the same
+abbrev pub are_equal : List Val → Result Val Fault
+are_equal (v ∷ w ∷ []) = Ok (truth (same v w))
+are_equal _ = Err WrongType
 
 -- what an operation gives for its operands
 abbrev pub value_of : Op → List Val → Result Val Fault
-value_of op.Add vs = if are_numbers vs then sum_from (pos 0) vs else Err WrongType
-value_of op.List vs = list_of vs
-value_of op.NumberToString vs = text_of_number vs
-value_of op.StringToNumber vs = number_of_text vs
-value_of op.ExtractBindingSingle vs = single_binding vs
+value_of op.Add vs = if numbers.are_numbers vs then numbers.sum_from (pos 0) vs else Err WrongType
+value_of op.Multiply vs = if numbers.are_numbers vs then numbers.product_from (pos 1) vs else Err WrongType
+value_of op.Subtract vs = if numbers.are_numbers vs then numbers.difference vs else Err WrongType
+value_of op.Quotient vs = numbers.of_two numbers.quotient_of (numbers.two_numbers vs)
+value_of op.Remainder vs = numbers.of_two numbers.remainder_of (numbers.two_numbers vs)
+value_of op.Equal vs = numbers.compares int_eq vs
+value_of op.Less vs = numbers.compares int_lt vs
+value_of op.Greater vs = numbers.compares (λ a b. int_lt b a) vs
+value_of op.AtMost vs = numbers.compares int_le vs
+value_of op.AtLeast vs = numbers.compares (λ a b. int_le b a) vs
+value_of op.Not vs = asks is_false vs
+value_of op.IsEqual vs = are_equal vs
+value_of op.IsNumber vs = asks is_number vs
+value_of op.IsString vs = asks is_text vs
+value_of op.IsSymbol vs = asks is_symbol vs
+value_of op.IsBoolean vs = asks is_truth vs
+value_of op.IsList vs = asks is_list vs
+value_of op.IsNull vs = asks is_empty_list vs
+value_of op.List vs = lists.list_of vs
+value_of op.Cons vs = lists.cons vs
+value_of op.Car vs = lists.first vs
+value_of op.Cdr vs = lists.rest vs
+value_of op.Append vs = lists.append vs
+value_of op.Length vs = lists.length_of vs
+value_of op.Reverse vs = lists.reversed vs
+value_of op.ListRef vs = lists.item vs
+value_of op.StringAppend vs = if texts.are_texts vs then Ok (text (texts.joined vs)) else Err WrongType
+value_of op.StringLength vs = texts.length_of vs
+value_of op.StringEqual vs = texts.equal_texts vs
+value_of op.NumberToString vs = texts.text_of_number vs
+value_of op.StringToNumber vs = texts.number_of_text vs
+value_of op.SymbolToString vs = texts.text_of_symbol vs
+value_of op.StringToSymbol vs = texts.symbol_of_text vs
+value_of op.ExtractBindingSingle vs = bindings.of_texts bindings.single vs
+value_of op.ExtractBindings vs = bindings.of_texts bindings.all_texts vs
+value_of op.ExistsBinding vs = bindings.of_texts bindings.any_text vs
 
 -- the program's answer is that of the table, unless memory ran out for a value; a fault takes no memory
 abbrev pub Applies : Result Value ApplyFault → Result Val Fault → Type 0
@@ -109,5 +155,5 @@ Answers (Err k) row = row ≡ Err k
 
 -- the one text of these, or the fault where there is not one
 abbrev pub Finds : Result (Bor (List ℕ)) Fault → List (List ℕ) → Type 0
-Finds (Ok t) texts = texts ≡ t.now ∷ []
-Finds (Err k) texts = single texts ≡ Err k
+Finds (Ok t) ts = ts ≡ t.now ∷ []
+Finds (Err k) ts = bindings.single ts ≡ Err k

@@ -3,13 +3,16 @@ ghost use Rattle.prim_ops.specs.declared.fault.ApplyFault.TheVariants.{Memory, F
 
 use script_value::Fault;
 use std::alloc::{AllocError, AllocFailed};
+use thiserror::Error;
 
 /// Why an operation gives no value.
-#[derive(Clone, Copy, Debug, PartialEq, Eq)]
+#[derive(Clone, Copy, Debug, PartialEq, Eq, Error)]
 pub enum ApplyFault {
     /// Memory ran out.
+    #[error("memory ran out")]
     Memory,
     /// The operands do not fit the operation, or its value no limit.
+    #[error("{0}")]
     Fault(Fault),
 }
 

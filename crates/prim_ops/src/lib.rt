@@ -3,7 +3,12 @@
 
 mod bindings;
 mod fault;
+mod kinds;
+mod lists;
+mod numbers;
+mod operands;
 mod table;
+mod texts;
 
 pub use fault::ApplyFault;
 pub use table::{apply, takes};

@@ -1,25 +1,61 @@
-ghost use Rattle.std.specs.Prelude.{◌≡◌, length, map, pos, IsTrue, Ok, Err};
-ghost use Rattle.script_value.specs.Meaning.{meaning};
-ghost use Rattle.script_value.specs.declared.outcome.Op.TheVariants as op;
+ghost use Rattle.std.specs.Prelude.{◌≡◌, length, IsTrue};
 ghost use Rattle.prim_ops.specs.Table as spec;
 ghost use Rattle.prim_ops.specs.Table.{Applies, value_of};
 
-use crate::bindings::single_binding;
+use crate::bindings::{all_bindings, exists_binding, single_binding};
 use crate::fault::ApplyFault;
-use script_value::{Fault, Items, Op, Str, Value, depth, read_number};
+use crate::kinds::{
+    are_same, is_boolean, is_list, is_not, is_null, is_number, is_string, is_symbol,
+};
+use crate::lists::{append, car, cdr, cons, length, list, list_ref, reverse};
+use crate::numbers::{
+    add, are_equal, is_at_least, is_at_most, is_greater, is_less, multiply, quotient, remainder,
+    subtract,
+};
+use crate::texts::{
+    number_to_string, string_append, string_equal, string_length, string_to_number,
+    string_to_symbol, symbol_to_string,
+};
+use script_value::{Items, Op, Value};
 use std::alloc::Global;
-
-/// The depth of the deepest value that an operation gives.
-const DEPTH_LIMIT: u32 = 200;
 
 /// Whether an operation takes this number of operands.
 pub fn takes(op: Op, count: usize) -> bool
     ensures { result ≡ spec.takes op count }
 {
     match op {
-        Op::Add | Op::List => true,
-        Op::NumberToString | Op::StringToNumber => count == 1,
-        Op::ExtractBindingSingle => count == 2,
+        Op::Add | Op::Multiply | Op::List | Op::Append | Op::StringAppend => true,
+        Op::Subtract => count > 0,
+        Op::Not
+        | Op::IsNumber
+        | Op::IsString
+        | Op::IsSymbol
+        | Op::IsBoolean
+        | Op::IsList
+        | Op::IsNull
+        | Op::Car
+        | Op::Cdr
+        | Op::Length
+        | Op::Reverse
+        | Op::StringLength
+        | Op::NumberToString
+        | Op::StringToNumber
+        | Op::SymbolToString
+        | Op::StringToSymbol => count == 1,
+        Op::Quotient
+        | Op::Remainder
+        | Op::Equal
+        | Op::Less
+        | Op::Greater
+        | Op::AtMost
+        | Op::AtLeast
+        | Op::IsEqual
+        | Op::Cons
+        | Op::ListRef
+        | Op::StringEqual
+        | Op::ExtractBindingSingle
+        | Op::ExtractBindings
+        | Op::ExistsBinding => count == 2,
     }
 }
 
@@ -30,84 +66,40 @@ pub fn apply(alloc: Global, op: Op, operands: Items) -> Result<Value, ApplyFault
 {
     match op {
         Op::Add => Ok(add(operands.as_slice())?),
+        Op::Multiply => Ok(multiply(operands.as_slice())?),
+        Op::Subtract => Ok(subtract(operands.as_slice())?),
+        Op::Quotient => Ok(quotient(operands.as_slice())?),
+        Op::Remainder => Ok(remainder(operands.as_slice())?),
+        Op::Equal => Ok(are_equal(operands.as_slice())?),
+        Op::Less => Ok(is_less(operands.as_slice())?),
+        Op::Greater => Ok(is_greater(operands.as_slice())?),
+        Op::AtMost => Ok(is_at_most(operands.as_slice())?),
+        Op::AtLeast => Ok(is_at_least(operands.as_slice())?),
+        Op::Not => Ok(is_not(operands.as_slice())?),
+        Op::IsEqual => Ok(are_same(operands.as_slice())?),
+        Op::IsNumber => Ok(is_number(operands.as_slice())?),
+        Op::IsString => Ok(is_string(operands.as_slice())?),
+        Op::IsSymbol => Ok(is_symbol(operands.as_slice())?),
+        Op::IsBoolean => Ok(is_boolean(operands.as_slice())?),
+        Op::IsList => Ok(is_list(operands.as_slice())?),
+        Op::IsNull => Ok(is_null(operands.as_slice())?),
         Op::List => Ok(list(operands)?),
+        Op::Cons => cons(operands),
+        Op::Car => Ok(car(operands)?),
+        Op::Cdr => Ok(cdr(operands)?),
+        Op::Append => append(alloc, operands),
+        Op::Length => Ok(length(operands.as_slice())?),
+        Op::Reverse => Ok(reverse(operands)?),
+        Op::ListRef => Ok(list_ref(operands)?),
+        Op::StringAppend => string_append(alloc, operands.as_slice()),
+        Op::StringLength => Ok(string_length(operands.as_slice())?),
+        Op::StringEqual => Ok(string_equal(operands.as_slice())?),
         Op::NumberToString => number_to_string(alloc, operands.as_slice()),
         Op::StringToNumber => Ok(string_to_number(operands.as_slice())?),
+        Op::SymbolToString => Ok(symbol_to_string(operands)?),
+        Op::StringToSymbol => Ok(string_to_symbol(operands)?),
         Op::ExtractBindingSingle => single_binding(alloc, operands.as_slice()),
-    }
-}
-
-// The sum of numbers.
-fn add(values: &[Value]) -> Result<Value, Fault>
-    ensures { spec.Answers result (value_of op.Add (map meaning values.now)) }
-{
-    if are_numbers(values) {
-        sum(values)
-    } else {
-        Err(Fault::WrongType)
-    }
-}
-
-fn are_numbers(values: &[Value]) -> bool
-    ensures { result ≡ spec.are_numbers (map meaning values.now) }
-{
-    for value in values {
-        let Value::Int(_) = value else {
-            return false;
-        };
-    }
-    true
-}
-
-fn sum(values: &[Value]) -> Result<Value, Fault>
-    ensures { spec.Answers result (spec.sum_from (pos 0) (map meaning values.now)) }
-{
-    let mut sum: i64 = 0;
-    for value in values {
-        let Value::Int(number) = value else {
-            return Err(Fault::WrongType);
-        };
-        match sum.checked_add(*number) {
-            Some(next) => sum = next,
-            None => return Err(Fault::Overflow),
-        }
-    }
-    Ok(Value::Int(sum))
-}
-
-// A list, unless it nests too deep.
-fn list(items: Items) -> Result<Value, Fault>
-    ensures { spec.Answers result (spec.list_of items) }
-{
-    let value = Value::List(items);
-    if depth(&value) > DEPTH_LIMIT {
-        return Err(Fault::Deep);
-    }
-    Ok(value)
-}
-
-// A number in decimal.
-fn number_to_string(alloc: Global, values: &[Value]) -> Result<Value, ApplyFault>
-    ensures { Applies result (spec.text_of_number (map meaning values.now)) }
-{
-    match values {
-        [Value::Int(number)] => {
-            let number = *number;
-            Ok(Value::Text(Str::new(format!(in alloc; "{number}")?)))
-        }
-        _ => Err(ApplyFault::Fault(Fault::WrongType)),
-    }
-}
-
-// The number that a text is, or #f.
-fn string_to_number(values: &[Value]) -> Result<Value, Fault>
-    ensures { spec.Answers result (spec.number_of_text (map meaning values.now)) }
-{
-    match values {
-        [Value::Text(text)] => match read_number(text.as_str()) {
-            Some(number) => Ok(Value::Int(number)),
-            None => Ok(Value::Truth(false)),
-        },
-        _ => Err(Fault::WrongType),
+        Op::ExtractBindings => all_bindings(alloc, operands.as_slice()),
+        Op::ExistsBinding => Ok(exists_binding(operands.as_slice())?),
     }
 }

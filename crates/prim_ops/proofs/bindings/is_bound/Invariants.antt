@@ -1,0 +1,9 @@
+use Rattle.std.proofs.Common.{◌≡◌, map, drop}
+use Rattle.script_value.specs.Val.{vals_of}
+use Rattle.script_value.specs.Views.{meaning}
+use Rattle.prim_ops.specs.Bindings.{texts_for}
+use Rattle.prim_ops.proofs.bindings.is_bound.Given as goal
+
+abbrev pub invariant-loop-value : goal.invariant-loop-value
+invariant-loop-value l =
+    texts_for l.key (vals_of (map meaning l.values)) ≡ texts_for l.key (vals_of (map meaning (drop l.value-index l.values)))
