@@ -1,15 +1,16 @@
 -- The function of a page and its grammar.
-use Rattle.std.proofs.Common.{◌≡◌, ℕ, true, List, [], ◌++◌, Option, Some, None, option_map, refl, sym, ap, ◌∙◌, subst, append_assoc}
+use Rattle.std.proofs.Common.{◌≡◌, ℕ, Bool, true, false, ◌&&◌, not, cond, List, [], ◌∷◌, ◌++◌, Option, Some, None, option_map, refl, sym, ap, ◌∙◌, subst, append_assoc, arith}
 use Rattle.std.specs.Prelude.{Result, Ok, Err}
-use Rattle.std.proofs.lemmas.Bool.{cond-true}
+use Rattle.std.specs.List.{list_all}
+use Rattle.std.proofs.lemmas.Bool.{cond-true, cond-false}
 use Rattle.std.proofs.lemmas.Option.{same_Some}
 use Rattle.script_value.specs.Val.{Val, Vals, text, symbol, list, no_vals, val}
 use Rattle.script_value.proofs.Options.{allowed, mapped}
 use Rattle.xexpr_page.specs.declared.fault.RenderFault.{RenderFault}
 use Rattle.xexpr_page.specs.declared.fault.RenderFault.TheVariants.{Memory, NotPage}
-use Rattle.xexpr_page.specs.Markup.{is_element, is_attribute, escaped_text, one_attribute, start_tag, end_tag}
-use Rattle.xexpr_page.specs.Page.{join, pair_text, attribute_of, attributes_of, element, attributes_in, element_with, page_of, element_of, children_of, Gives}
-use Rattle.xexpr_page.specs.Renders.{Attributes, no_attributes, attribute, Renders, a_text, an_element, with_attributes, Children, no_children, a_child}
+use Rattle.xexpr_page.specs.Markup.{is_lower, is_element_byte, is_void, is_raw_text, is_element, is_attribute, is_entity_name, named_entity, escaped_text, one_attribute, start_tag, end_tag}
+use Rattle.xexpr_page.specs.Page.{join, pair_text, attribute_of, attributes_of, element, attributes_in, element_with, void_with, void_of, entity_of, page_of, element_of, children_of, Gives}
+use Rattle.xexpr_page.specs.Renders.{Attributes, no_attributes, attribute, Renders, a_text, an_entity, a_void, a_void_with, an_element, with_attributes, Children, no_children, a_child}
 
 -- from the grammar to the function
 
@@ -28,6 +29,20 @@ element_page n p q attributes children named h k =
     ∙ join_some _ _ (start_tag n attributes) (children ++ end_tag n) (ap (option_map (start_tag n)) h) (join_some q _ children (end_tag n) k refl)
     ∙ ap Some (sym (append_assoc (start_tag n attributes) children (end_tag n)))
 
+-- an element that may have children is not void
+pub element_not_void : (n : List ℕ) → is_element n ≡ true → is_void n ≡ false
+element_not_void [] h = absurd (cc)
+element_not_void (b ∷ bs) h = third_fails (is_lower b) (list_all is_element_byte bs) (is_void (b ∷ bs)) (is_raw_text (b ∷ bs)) h
+  where
+    third_fails : (x y z u : Bool) → (x && y && not z && not u) ≡ true → z ≡ false
+    third_fails x y z u h = grind arith
+
+void_page : (n : List ℕ) (vs : Vals) (bytes : List ℕ) → is_void n ≡ true → void_of n vs ≡ Some bytes → page_of (list (val (symbol n) vs)) ≡ Some bytes
+void_page n vs bytes v h = cond-true (is_void n) (void_of n vs) (element_of n vs) v ∙ h
+
+nonvoid_page : (n : List ℕ) (vs : Vals) (bytes : List ℕ) → is_element n ≡ true → element_of n vs ≡ Some bytes → page_of (list (val (symbol n) vs)) ≡ Some bytes
+nonvoid_page n vs bytes e h = cond-false (is_void n) (void_of n vs) (element_of n vs) (element_not_void n e) ∙ h
+
 -- a page is no list of attributes
 page_none : (v : Val) (bytes : List ℕ) → page_of v ≡ Some bytes → attributes_in v ≡ None
 page_none (list no_vals) bytes h = absurd (cc)
@@ -42,13 +57,19 @@ attributes_here (attribute n t vs others h more) = refl
 mutual
   pub renders_page : {v : Val} {bytes : List ℕ} → Renders v bytes → page_of v ≡ Some bytes
   renders_page (a_text t) = refl
-  renders_page (an_element n vs children named no_children) = element_page n _ _ [] [] named refl refl
+  renders_page (an_entity n named) = cond-true (is_entity_name n) (Some (named_entity n)) None named
+  renders_page (a_void n named) = void_page n no_vals _ named refl
+  renders_page (a_void_with n ws attributes named a) =
+      void_page n (val (list ws) no_vals) _ named (ap (void_with n) (attributes_here a) ∙ ap (option_map (start_tag n)) (attributes_page a))
+  renders_page (an_element n vs children named no_children) = nonvoid_page n no_vals _ named (element_page n _ _ [] [] named refl refl)
   renders_page (an_element n vs children named (a_child v others first rest h more)) =
-      ap (λ a. element_with n a (page_of v) (children_of others)) (page_none v first (renders_page h))
-      ∙ element_page n _ _ [] (first ++ rest) named refl (join_some _ _ first rest (renders_page h) (children_page more))
+      nonvoid_page n (val v others) _ named
+      (ap (λ a. element_with n a (page_of v) (children_of others)) (page_none v first (renders_page h))
+      ∙ element_page n _ _ [] (first ++ rest) named refl (join_some _ _ first rest (renders_page h) (children_page more)))
   renders_page (with_attributes n ws vs attributes children named a c) =
-      ap (λ b. element_with n b (page_of (list ws)) (children_of vs)) (attributes_here a)
-      ∙ element_page n _ _ attributes children named (attributes_page a) (children_page c)
+      nonvoid_page n (val (list ws) vs) _ named
+      (ap (λ b. element_with n b (page_of (list ws)) (children_of vs)) (attributes_here a)
+      ∙ element_page n _ _ attributes children named (attributes_page a) (children_page c))
 
   pub children_page : {vs : Vals} {bytes : List ℕ} → Children vs bytes → children_of vs ≡ Some bytes
   children_page no_children = refl
@@ -159,10 +180,39 @@ child_found v vs f g bytes h =
     let j = joined (page_of v) (children_of vs) bytes h in
     children_as (val v vs) (j.first ++ j.others) bytes j.parts (a_child v vs j.first j.others (f j.first j.is_first) (g j.others j.is_others))
 
+-- a void element with these attributes
+void_attributed : (n : List ℕ) (ws : Vals) (bytes : List ℕ) → is_void n ≡ true → option_map (start_tag n) (attributes_of ws) ≡ Some bytes
+    → Renders (list (val (symbol n) (val (list ws) no_vals))) bytes
+void_attributed n ws bytes named h =
+    let m = mapped (attributes_of ws) (start_tag n) bytes h in
+    renders_as _ _ bytes m.2 (a_void_with n ws m.0 named (attributes_found ws m.0 m.1))
+
+void_found : (n : List ℕ) (vs : Vals) (bytes : List ℕ) → is_void n ≡ true → void_of n vs ≡ Some bytes → Renders (list (val (symbol n) vs)) bytes
+void_found n no_vals bytes named h = renders_as _ (start_tag n []) bytes (same_Some _ _ h) (a_void n named)
+void_found n (val (list no_vals) no_vals) bytes named h = void_attributed n no_vals bytes named h
+void_found n (val (list (val (list ws) us)) no_vals) bytes named h = void_attributed n (val (list ws) us) bytes named h
+void_found n (val v no_vals) bytes _ h = absurd (cc)
+void_found n (val v (val w vs)) bytes _ h = absurd (cc)
+
+entity_found : (n bytes : List ℕ) → entity_of n ≡ Some bytes → Renders (symbol n) bytes
+entity_found n bytes h =
+    let t = allowed (is_entity_name n) (Some (named_entity n)) bytes h in
+    renders_as (symbol n) (named_entity n) bytes (same_Some _ _ t.1) (an_entity n t.0)
+
+-- a list that a symbol begins is a void element or one with children
+named_found : (n : List ℕ) (vs : Vals) (bytes : List ℕ) → AreFound vs → AreFoundBehind vs → page_of (list (val (symbol n) vs)) ≡ Some bytes
+    → Renders (list (val (symbol n) vs)) bytes
+named_found n vs bytes f g h =
+    elim (is_void n) as (λ b. is_void n ≡ b → cond b (void_of n vs) (element_of n vs) ≡ Some bytes → Renders (list (val (symbol n) vs)) bytes) [
+      | true ↦ λ v k. void_found n vs bytes v k
+      | false ↦ λ v k. element_found n vs bytes f g k
+    ] refl h
+
 mutual
   pub page_renders : (v : Val) (bytes : List ℕ) → page_of v ≡ Some bytes → Renders v bytes
   page_renders (text t) bytes h = renders_as (text t) (escaped_text t) bytes (same_Some _ _ h) (a_text t)
-  page_renders (list (val (symbol n) vs)) bytes h = let f = children_found vs in element_found n vs bytes f.0 f.1 h
+  page_renders (symbol n) bytes h = entity_found n bytes h
+  page_renders (list (val (symbol n) vs)) bytes h = let f = children_found vs in named_found n vs bytes f.0 f.1 h
   page_renders _ bytes h = absurd (cc)
 
   children_found : (vs : Vals) → AreFound vs × AreFoundBehind vs

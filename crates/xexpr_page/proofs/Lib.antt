@@ -1,3 +1,5 @@
 pub mod Pushed
 pub mod Grammar
 pub mod Inside
+pub mod Nested
+pub mod Closed

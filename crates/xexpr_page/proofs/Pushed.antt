@@ -1,16 +1,17 @@
 -- Pieces of a page, one behind the other.
-use Rattle.std.proofs.Common.{◌≡◌, ◌<◌, ◌≤◌, ◌+◌, ◌-◌, take, ℕ, zero, suc, List, [], ◌∷◌, ◌++◌, map, length, drop, get_or, add-one, true, Option, Some, None, option_map, refl, sym, ap, ◌∙◌, append_assoc, arith}
+use Rattle.std.proofs.Common.{◌≡◌, ◌<◌, ◌≤◌, ◌+◌, ◌-◌, take, ℕ, zero, suc, List, [], ◌∷◌, ◌++◌, map, length, drop, get_or, add-one, true, false, subst, Option, Some, None, option_map, refl, sym, ap, ◌∙◌, append_assoc, arith}
 use Rattle.std.proofs.Math.Seq.{drop-cons}
+use Rattle.std.proofs.lemmas.Bool.{cond-true, cond-false}
 use Rattle.std.proofs.lemmas.List.{take_rest}
 use Rattle.std.proofs.lemmas.Option.{same_Some}
-use Rattle.script_value.specs.Val.{val, vals_of, depth, depth_all}
-use Rattle.script_value.specs.Meaning.{meaning}
+use Rattle.script_value.specs.Val.{Vals, symbol, list, val, vals_of, depth, depth_all}
+use Rattle.script_value.specs.Views.{meaning}
 use Rattle.script_value.specs.declared.value.Value.{Value}
-use Rattle.std.specs.Prelude.{Err}
+use Rattle.std.specs.Prelude.{Result, Err}
 use Rattle.xexpr_page.specs.declared.fault.RenderFault.{RenderFault}
 use Rattle.xexpr_page.specs.declared.fault.RenderFault.TheVariants.{Memory, NotPage}
-use Rattle.xexpr_page.specs.Markup.{start_tag, end_tag, is_element}
-use Rattle.xexpr_page.specs.Page.{Pushes, join, appended, element, pair_in, page_of, children_of, attribute_of, attributes_of}
+use Rattle.xexpr_page.specs.Markup.{start_tag, end_tag, is_void, is_element}
+use Rattle.xexpr_page.specs.Page.{Pushes, join, appended, element, pair_in, void_of, element_of, page_of, children_of, attribute_of, attributes_of}
 
 -- one piece more, and what is left
 pub appended_join : (old new : List ℕ) (p q : Option (List ℕ)) → appended old p ≡ Some new → appended old (join p q) ≡ appended new q
@@ -47,6 +48,22 @@ no_pair [] h = refl
 no_pair (x ∷ []) h = refl
 no_pair (x ∷ y ∷ []) h = absurd (h refl)
 no_pair (x ∷ y ∷ z ∷ xs) h = refl
+
+-- a list that the name of a void element begins
+pub void_pushed : (r : Result (Unit {0}) RenderFault) (old new n : List ℕ) (vs : Vals) → is_void n ≡ true → Pushes r old new (void_of n vs)
+    → Pushes r old new (page_of (list (val (symbol n) vs)))
+void_pushed r old new n vs v h = subst (λ p. Pushes r old new p) (sym (cond-true (is_void n) (void_of n vs) (element_of n vs) v)) h
+
+-- and one that another name begins
+pub element_pushed : (r : Result (Unit {0}) RenderFault) (old new n : List ℕ) (vs : Vals) → is_void n ≡ false → Pushes r old new (element_of n vs)
+    → Pushes r old new (page_of (list (val (symbol n) vs)))
+element_pushed r old new n vs v h = subst (λ p. Pushes r old new p) (sym (cond-false (is_void n) (void_of n vs) (element_of n vs) v)) h
+
+-- a void element with two parts or more has a child
+pub void_none : (n : List ℕ) (xs : List Value) → 2 ≤ length xs → void_of n (vals_of (map meaning xs)) ≡ None
+void_none n [] h = absurd (omega (arith, h))
+void_none n (x ∷ []) h = absurd (omega (arith, h))
+void_none n (x ∷ y ∷ xs) h = refl
 
 -- the children from a place on
 pub children_here : (xs : List Value) (i : ℕ) (d : Value) → i < length xs

@@ -1,6 +1,6 @@
 -- The parts of a page: characters, names, attributes and tags.
 use Rattle.std.specs.Prelude.{ℕ, ◌==◌, ◌&&◌, ◌||◌, not, Bool, false, List, [], ◌∷◌, ◌++◌, nat_le, codes, if◌then◌else◌}
-use Rattle.std.specs.List.{list_all, flat_map}
+use Rattle.std.specs.List.{list_all, list_any, flat_map}
 use Rattle.std.specs.Str.{bytes_eq}
 
 -- a byte of a text: `&`, `<` and `>` are written as entities
@@ -30,27 +30,45 @@ is_element_byte b = is_lower b || is_digit b || b == 45
 abbrev pub is_letter : ℕ → Bool
 is_letter b = is_lower b || is_upper b
 
+abbrev pub is_letter_or_digit : ℕ → Bool
+is_letter_or_digit b = is_letter b || is_digit b
+
 -- letters, digits, `-`, `_`, `:` and `.`
 abbrev pub is_attribute_byte : ℕ → Bool
-is_attribute_byte b = is_letter b || is_digit b || b == 45 || b == 95 || b == 58 || b == 46
+is_attribute_byte b = is_letter_or_digit b || b == 45 || b == 95 || b == 58 || b == 46
 
--- elements that have no children, and those whose text is no text of the page
-abbrev pub is_barred : List ℕ → Bool
-is_barred n =
-    bytes_eq n (codes "area") || bytes_eq n (codes "base") || bytes_eq n (codes "br") || bytes_eq n (codes "col")
-    || bytes_eq n (codes "embed") || bytes_eq n (codes "hr") || bytes_eq n (codes "img") || bytes_eq n (codes "input")
-    || bytes_eq n (codes "link") || bytes_eq n (codes "meta") || bytes_eq n (codes "source") || bytes_eq n (codes "track")
-    || bytes_eq n (codes "wbr") || bytes_eq n (codes "script") || bytes_eq n (codes "style")
+-- the void elements, which have no children and no end tag
+abbrev pub void_names : List (List ℕ)
+void_names =
+    codes "area" ∷ codes "base" ∷ codes "br" ∷ codes "col" ∷ codes "embed" ∷ codes "hr" ∷ codes "img" ∷ codes "input" ∷ codes "link" ∷ codes "meta"
+    ∷ codes "source" ∷ codes "track" ∷ codes "wbr" ∷ []
 
--- a lower-case letter, then lower-case letters, digits and `-`; not one of the barred names
+-- is one of them
+abbrev pub is_void : List ℕ → Bool
+is_void n = list_any (bytes_eq n) void_names
+
+-- a raw text element: its text is no text of the page
+abbrev pub is_raw_text : List ℕ → Bool
+is_raw_text n = bytes_eq n (codes "script") || bytes_eq n (codes "style")
+
+-- an element that may have children: a lower-case letter, then lower-case letters, digits and `-`; neither void nor raw text
 abbrev pub is_element : List ℕ → Bool
 is_element [] = false
-is_element (b ∷ bs) = is_lower b && list_all is_element_byte bs && not (is_barred (b ∷ bs))
+is_element (b ∷ bs) = is_lower b && list_all is_element_byte bs && not (is_void (b ∷ bs)) && not (is_raw_text (b ∷ bs))
 
 -- a letter, then letters, digits, `-`, `_`, `:` and `.`
 abbrev pub is_attribute : List ℕ → Bool
 is_attribute [] = false
 is_attribute (b ∷ bs) = is_letter b && list_all is_attribute_byte bs
+
+-- a letter, then letters and digits
+abbrev pub is_entity_name : List ℕ → Bool
+is_entity_name [] = false
+is_entity_name (b ∷ bs) = is_letter b && list_all is_letter_or_digit bs
+
+-- `&NAME;`
+abbrev pub named_entity : List ℕ → List ℕ
+named_entity n = codes "&" ++ n ++ codes ";"
 
 -- the characters of a text
 abbrev pub escaped_text : List ℕ → List ℕ

@@ -1,9 +1,11 @@
 -- A value as the bytes of a page, or none.
-use Rattle.std.specs.Prelude.{◌≡◌, ℕ, List, [], ◌++◌, Option, Some, None, option_map, Result, Ok, Err, ⊤, if◌then◌else◌}
+use Rattle.std.specs.Prelude.{◌≡◌, ℕ, Bool, List, [], ◌++◌, Option, Some, None, option_map, Result, Ok, Err, ⊤, if◌then◌else◌}
 use Rattle.script_value.specs.Val.{Val, Vals, text, symbol, list, no_vals, val}
+use Rattle.script_value.specs.Views.{meaning, meanings}
+use Rattle.script_value.specs.declared.value.Value.{Value}
 use Rattle.xexpr_page.specs.declared.fault.RenderFault.{RenderFault}
 use Rattle.xexpr_page.specs.declared.fault.RenderFault.TheVariants.{Memory, NotPage}
-use Rattle.xexpr_page.specs.Markup.{is_element, is_attribute, escaped_text, one_attribute, start_tag, end_tag}
+use Rattle.xexpr_page.specs.Markup.{is_void, is_element, is_attribute, is_entity_name, named_entity, escaped_text, one_attribute, start_tag, end_tag}
 
 -- one piece and then another, where both are there
 abbrev pub join : Option (List ℕ) → Option (List ℕ) → Option (List ℕ)
@@ -45,11 +47,31 @@ abbrev pub element_with : List ℕ → Option Vals → Option (List ℕ) → Opt
 element_with n None first others = element n (Some []) (join first others)
 element_with n (Some attributes) first others = element n (attributes_of attributes) others
 
+-- the start tag of an element of this name, with these attributes
+abbrev pub start_of : List ℕ → Vals → Option (List ℕ)
+start_of n attributes = option_map (start_tag n) (attributes_of attributes)
+
+-- a void element with these attributes
+abbrev pub void_with : List ℕ → Option Vals → Option (List ℕ)
+void_with n None = None
+void_with n (Some attributes) = start_of n attributes
+
+-- a void element: behind its name stand attributes, if there are any, and no children
+abbrev pub void_of : List ℕ → Vals → Option (List ℕ)
+void_of n no_vals = Some (start_tag n [])
+void_of n (val v no_vals) = void_with n (attributes_in v)
+void_of n _ = None
+
+-- the entity of this name
+abbrev pub entity_of : List ℕ → Option (List ℕ)
+entity_of n = if is_entity_name n then Some (named_entity n) else None
+
 abbrev mutual
-  -- a text, or a list of a symbol, attributes if there are any, and children
+  -- a text, the name of an entity, or a list of a symbol, attributes if there are any, and children
   pub page_of : Val → Option (List ℕ)
   page_of (text t) = Some (escaped_text t)
-  page_of (list (val (symbol n) vs)) = element_of n vs
+  page_of (symbol n) = entity_of n
+  page_of (list (val (symbol n) vs)) = if is_void n then void_of n vs else element_of n vs
   page_of _ = None
 
   pub element_of : List ℕ → Vals → Option (List ℕ)
@@ -75,3 +97,15 @@ abbrev pub Pushes : Result (Unit {0}) RenderFault → List ℕ → List ℕ → 
 Pushes (Ok u) old new page = appended old page ≡ Some new
 Pushes (Err NotPage) old new page = page ≡ None
 Pushes (Err Memory) old new page = ⊤
+
+-- the list of a first value and others
+abbrev pub listed : Value → List Value → Val
+listed v vs = list (val (meaning v) (meanings vs))
+
+-- whether these items, in a list behind an element's name, are attributes
+abbrev pub AreAttributes : Vals → Bool → Type 0
+AreAttributes items b = attributes_in (list items) ≡ (if b then Some items else None)
+
+-- of what stands behind an element's name, the first are its attributes, and the others its children, whatever the name
+abbrev pub AreSplit : Vals → Vals → Vals → Type 0
+AreSplit parts attributes children = (n : List ℕ) → element_of n parts ≡ element n (attributes_of attributes) (children_of children)

@@ -1,4 +1,4 @@
-//! Values as pages: texts and elements with attributes, escaped.
+//! Values as pages: texts, entities and elements with attributes, escaped.
 #![tactic(auto)]
 
 mod escape;
@@ -8,5 +8,5 @@ mod names;
 mod page;
 
 pub use fault::RenderFault;
-pub use laws::{attributes_stay_inside, texts_stay_inside};
+pub use laws::{attributes_stay_inside, markup_closes_its_elements, texts_stay_inside};
 pub use page::render;

@@ -17,7 +17,7 @@ fn are_element_bytes(bytes: &[u8]) -> bool
 fn is_attribute_byte(byte: u8) -> bool
     ensures { result ≡ spec.is_attribute_byte byte }
 {
-    is_letter(byte) || byte.is_ascii_digit() || matches!(byte, b'-' | b'_' | b':' | b'.')
+    is_letter_or_digit(byte) || matches!(byte, b'-' | b'_' | b':' | b'.')
 }
 
 fn is_letter(byte: u8) -> bool
@@ -26,15 +26,29 @@ fn is_letter(byte: u8) -> bool
     byte.is_ascii_lowercase() || byte.is_ascii_uppercase()
 }
 
+fn is_letter_or_digit(byte: u8) -> bool
+    ensures { result ≡ spec.is_letter_or_digit byte }
+{
+    is_letter(byte) || byte.is_ascii_digit()
+}
+
 fn are_attribute_bytes(bytes: &[u8]) -> bool
     ensures { result ≡ list_all spec.is_attribute_byte bytes.now }
 {
     bytes.iter().all(|byte| is_attribute_byte(*byte))
 }
 
-// An element without children, or one whose text is no text of the page.
-fn is_barred(name: &str) -> bool
-    ensures { result ≡ spec.is_barred name.now }
+fn are_letters_and_digits(bytes: &[u8]) -> bool
+    ensures { result ≡ list_all spec.is_letter_or_digit bytes.now }
+{
+    bytes.iter().all(|byte| is_letter_or_digit(*byte))
+}
+
+/// Whether this is the name of a void element, which has no children and no end tag.
+///
+/// Source: HTML Living Standard, 13.1.2 Elements, void elements.
+pub fn is_void(name: &str) -> bool
+    ensures { result ≡ spec.is_void name.now }
 {
     name == "area"
         || name == "base"
@@ -49,17 +63,25 @@ fn is_barred(name: &str) -> bool
         || name == "source"
         || name == "track"
         || name == "wbr"
-        || name == "script"
-        || name == "style"
 }
 
-/// Whether this is the name of an element with children.
+// A raw text element: its text is no text of the page.
+fn is_raw_text(name: &str) -> bool
+    ensures { result ≡ spec.is_raw_text name.now }
+{
+    name == "script" || name == "style"
+}
+
+/// Whether this is the name of an element that may have children.
 pub fn is_element(name: &str) -> bool
     ensures { result ≡ spec.is_element name.now }
 {
     match name.as_bytes() {
         [first, rest @ ..] => {
-            first.is_ascii_lowercase() && are_element_bytes(rest) && !is_barred(name)
+            first.is_ascii_lowercase()
+                && are_element_bytes(rest)
+                && !is_void(name)
+                && !is_raw_text(name)
         }
         [] => false,
     }
@@ -71,6 +93,16 @@ pub fn is_attribute(name: &str) -> bool
 {
     match name.as_bytes() {
         [first, rest @ ..] => is_letter(*first) && are_attribute_bytes(rest),
+        [] => false,
+    }
+}
+
+/// Whether this is the name of an entity.
+pub fn is_entity(name: &str) -> bool
+    ensures { result ≡ spec.is_entity_name name.now }
+{
+    match name.as_bytes() {
+        [first, rest @ ..] => is_letter(*first) && are_letters_and_digits(rest),
         [] => false,
     }
 }

@@ -1,14 +1,15 @@
-ghost use Rattle.std.specs.Prelude.{◌≡◌, ◌≤◌, ◌++◌, List, ℕ, map, option_map, Some, None, OnOk, IfOk, if◌then◌else◌};
-ghost use Rattle.script_value.specs.Val.{list, val, vals_of, depth_all};
-ghost use Rattle.script_value.specs.Meaning.{meaning};
+ghost use Rattle.std.specs.Prelude.{◌≡◌, ◌≤◌, ◌++◌, List, ℕ, option_map, Some, None, OnOk, IfOk, if◌then◌else◌};
+ghost use Rattle.script_value.specs.Val.{list, val, depth_all};
+ghost use Rattle.script_value.specs.Views.{meaning, meanings};
 ghost use Rattle.xexpr_page.specs.Page as spec;
 ghost use Rattle.xexpr_page.specs.Markup.{start_tag, end_tag};
 ghost use Rattle.xexpr_page.specs.Page.{page_of, element_of, children_of, Gives, Pushes};
 ghost use Rattle.xexpr_page.specs.Renders.{Renders};
+ghost use Rattle.xexpr_page.specs.Nesting.{IsMarkup};
 
 use crate::escape::{push_attribute_text, push_text};
 use crate::fault::RenderFault;
-use crate::names::{is_attribute, is_element};
+use crate::names::{is_attribute, is_element, is_entity, is_void};
 use script_value::{Bytes, Str, Value};
 use std::alloc::{AllocError, Global};
 
@@ -22,6 +23,8 @@ pub fn render(alloc: Global, value: &Value) -> Result<Bytes, RenderFault>
     ensures shown { IfOk result (λ bytes. Renders (meaning value.now) bytes) }
     // Where that grammar gives the value bytes, they are shown, unless memory ran out.
     ensures found { (wanted : List ℕ) → Renders (meaning value.now) wanted → Gives result (Some wanted) }
+    // What is shown is well formed: each element that is opened is closed by its own end tag, inside the element around it.
+    ensures well_formed { IfOk result (λ bytes. IsMarkup bytes) }
 {
     let mut page = Vec::new(alloc);
     push_page(&mut page, value)?;
@@ -39,14 +42,15 @@ fn push_page(page: &mut Vec<u8>, value: &Value) -> Result<(), RenderFault>
             Ok(())
         }
         Value::List(items) => push_list(page, items.as_slice()),
-        Value::Int(_) | Value::Truth(_) | Value::Symbol(_) => Err(RenderFault::NotPage),
+        Value::Symbol(name) => push_entity(page, name),
+        Value::Int(_) | Value::Truth(_) => Err(RenderFault::NotPage),
     }
 }
 
 // Puts the element that a list is behind the page.
 #[cycle(page)]
 fn push_list(page: &mut Vec<u8>, items: &[Value]) -> Result<(), RenderFault>
-    ensures { Pushes result page.old.items page.new.items (page_of (list (vals_of (map meaning items.now)))) }
+    ensures { Pushes result page.old.items page.new.items (page_of (list (meanings items.now))) }
 {
     match items {
         [] => Err(RenderFault::NotPage),
@@ -57,10 +61,16 @@ fn push_list(page: &mut Vec<u8>, items: &[Value]) -> Result<(), RenderFault>
 // Puts the element that the first item of a list names behind the page.
 #[cycle(page)]
 fn push_named(page: &mut Vec<u8>, first: &Value, parts: &[Value]) -> Result<(), RenderFault>
-    ensures { Pushes result page.old.items page.new.items (page_of (list (val (meaning first.now) (vals_of (map meaning parts.now))))) }
+    ensures { Pushes result page.old.items page.new.items (page_of (spec.listed first.now parts.now)) }
 {
     match first {
-        Value::Symbol(name) => push_element(page, name, parts),
+        Value::Symbol(name) => {
+            if is_void(name.as_str()) {
+                push_void(page, name, parts)
+            } else {
+                push_element(page, name, parts)
+            }
+        }
         Value::Int(_) | Value::Truth(_) | Value::Text(_) | Value::List(_) => {
             Err(RenderFault::NotPage)
         }
@@ -70,7 +80,7 @@ fn push_named(page: &mut Vec<u8>, first: &Value, parts: &[Value]) -> Result<(), 
 // Puts an element of this name behind the page; its attributes, if there are any, are the first of its parts.
 #[cycle(page)]
 fn push_element(page: &mut Vec<u8>, name: &Str, parts: &[Value]) -> Result<(), RenderFault>
-    ensures { Pushes result page.old.items page.new.items (element_of name.now (vals_of (map meaning parts.now))) }
+    ensures { Pushes result page.old.items page.new.items (element_of name.now (meanings parts.now)) }
 {
     let (attributes, children) = split_attributes(parts);
     if !is_element(name.as_str()) {
@@ -85,7 +95,7 @@ fn push_element(page: &mut Vec<u8>, name: &Str, parts: &[Value]) -> Result<(), R
 // Puts children behind the page, one after another.
 #[cycle(page)]
 fn push_children(page: &mut Vec<u8>, children: &[Value]) -> Result<(), RenderFault>
-    ensures { Pushes result page.old.items page.new.items (children_of (vals_of (map meaning children.now))) }
+    ensures { Pushes result page.old.items page.new.items (children_of (meanings children.now)) }
 {
     for child in children {
         push_page(page, child)?;
@@ -93,9 +103,36 @@ fn push_children(page: &mut Vec<u8>, children: &[Value]) -> Result<(), RenderFau
     Ok(())
 }
 
+// Puts `&NAME;` behind the page.
+fn push_entity(page: &mut Vec<u8>, name: &Str) -> Result<(), RenderFault>
+    ensures { Pushes result page.old.items page.new.items (spec.entity_of name.now) }
+{
+    if !is_entity(name.as_str()) {
+        return Err(RenderFault::NotPage);
+    }
+    page.push(b'&')?;
+    page.extend_from_slice(name.as_str().as_bytes())?;
+    page.push(b';')?;
+    Ok(())
+}
+
+// Puts the void element of this name behind the page: its start tag, since it has no children and no end tag.
+fn push_void(page: &mut Vec<u8>, name: &Str, parts: &[Value]) -> Result<(), RenderFault>
+    ensures { Pushes result page.old.items page.new.items (spec.void_of name.now (meanings parts.now)) }
+{
+    match parts {
+        [] => push_start(page, name, &[]),
+        [first] => match attributes_in(first) {
+            Some(attributes) => push_start(page, name, attributes),
+            None => Err(RenderFault::NotPage),
+        },
+        [_, _, ..] => Err(RenderFault::NotPage),
+    }
+}
+
 // The attributes that a value behind an element's name is.
 fn attributes_in(value: &Value) -> Option<&[Value]>
-    ensures { option_map (λ items. vals_of (map meaning items.now)) result ≡ spec.attributes_in (meaning value.now) }
+    ensures { option_map (λ items. meanings items.now) result ≡ spec.attributes_in (meaning value.now) }
 {
     match value {
         Value::List(items) => {
@@ -112,7 +149,7 @@ fn attributes_in(value: &Value) -> Option<&[Value]>
 
 // Whether these items are attributes: none, or a list first.
 fn are_attributes(items: &[Value]) -> bool
-    ensures { spec.attributes_in (list (vals_of (map meaning items.now))) ≡ (if result then Some (vals_of (map meaning items.now)) else None) }
+    ensures { spec.AreAttributes (meanings items.now) result }
 {
     match items {
         [] => true,
@@ -125,8 +162,8 @@ fn are_attributes(items: &[Value]) -> bool
 
 // The attributes and the children among the parts behind an element's name.
 fn split_attributes(parts: &[Value]) -> (&[Value], &[Value])
-    ensures split { (n : List ℕ) → element_of n (vals_of (map meaning parts.now)) ≡ spec.element n (spec.attributes_of (vals_of (map meaning result.0.now))) (children_of (vals_of (map meaning result.1.now))) }
-    ensures within { depth_all (vals_of (map meaning result.1.now)) ≤ depth_all (vals_of (map meaning parts.now)) }
+    ensures split { spec.AreSplit (meanings parts.now) (meanings result.0.now) (meanings result.1.now) }
+    ensures within { depth_all (meanings result.1.now) ≤ depth_all (meanings parts.now) }
 {
     match parts {
         [] => (&[], &[]),
@@ -139,7 +176,7 @@ fn split_attributes(parts: &[Value]) -> (&[Value], &[Value])
 
 // Puts `<NAME`, the attributes and `>` behind the page.
 fn push_start(page: &mut Vec<u8>, name: &Str, attributes: &[Value]) -> Result<(), RenderFault>
-    ensures { Pushes result page.old.items page.new.items (option_map (start_tag name.now) (spec.attributes_of (vals_of (map meaning attributes.now)))) }
+    ensures { Pushes result page.old.items page.new.items (spec.start_of name.now (meanings attributes.now)) }
 {
     page.push(b'<')?;
     page.extend_from_slice(name.as_str().as_bytes())?;
@@ -159,7 +196,7 @@ fn push_end(page: &mut Vec<u8>, name: &Str) -> Result<(), AllocError>
 }
 
 fn push_attributes(page: &mut Vec<u8>, attributes: &[Value]) -> Result<(), RenderFault>
-    ensures { Pushes result page.old.items page.new.items (spec.attributes_of (vals_of (map meaning attributes.now))) }
+    ensures { Pushes result page.old.items page.new.items (spec.attributes_of (meanings attributes.now)) }
 {
     for attribute in attributes {
         push_attribute(page, attribute)?;
@@ -178,7 +215,7 @@ fn push_attribute(page: &mut Vec<u8>, attribute: &Value) -> Result<(), RenderFau
 }
 
 fn push_pair(page: &mut Vec<u8>, pair: &[Value]) -> Result<(), RenderFault>
-    ensures { Pushes result page.old.items page.new.items (spec.pair_in (vals_of (map meaning pair.now))) }
+    ensures { Pushes result page.old.items page.new.items (spec.pair_in (meanings pair.now)) }
 {
     match pair {
         [] => Err(RenderFault::NotPage),

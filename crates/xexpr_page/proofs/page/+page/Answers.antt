@@ -1,10 +1,10 @@
 use Rattle.std.proofs.Common.{◌≡◌, rules, arith, true, map}
 use Rattle.std.proofs.lemmas.Result.{err_from_is_err_and}
 use Rattle.script_value.specs.Val.{vals_of}
-use Rattle.script_value.specs.Meaning.{meaning}
+use Rattle.script_value.specs.Views.{meaning}
 use Rattle.xexpr_page.specs.Markup.{is_element}
 use Rattle.xexpr_page.specs.Page as spec
-use Rattle.xexpr_page.proofs.Pushed.{child_more, child_none, child_depth, element_written, handed_on, first_item}
+use Rattle.xexpr_page.proofs.Pushed.{child_more, child_none, child_depth, element_written, void_pushed, element_pushed, handed_on, first_item}
 use Rattle.xexpr_page.proofs.page.+page.Goals as goal
 
 pub push_children-push_page-requires : goal.push_children-push_page-requires
@@ -33,8 +33,16 @@ push_element-returns t c =
     (spec.attributes_of (vals_of (map meaning c.split_attributes.result.0.now)))
     (spec.children_of (vals_of (map meaning c.split_attributes.result.1.now))) named c.in_ok-push_start.ensures c.in_ok-push_children.ensures)
 
-pub push_named-returns-in-Symbol : goal.push_named-returns-in-Symbol
-push_named-returns-in-Symbol t c = rw c.in-Symbol.is c.push_element.ensures
+pub push_named-returns-else-is_void : goal.push_named-returns-else-is_void
+push_named-returns-else-is_void t c =
+    rw c.in-Symbol.is
+    (element_pushed c.push_element.result c.args.page.now.items c.push_element.new.page.items c.in-Symbol.name (vals_of (map meaning c.args.parts.now))
+    (search rules) c.push_element.ensures)
+
+pub push_named-returns-then-is_void : goal.push_named-returns-then-is_void
+push_named-returns-then-is_void t c =
+    rw c.in-Symbol.is
+    (void_pushed c.push_void.result c.args.page.now.items c.push_void.new.page.items c.in-Symbol.name (vals_of (map meaning c.args.parts.now)) (search rules) c.push_void.ensures)
 
 pub push_list-returns-in-len1-up : goal.push_list-returns-in-len1-up
 push_list-returns-in-len1-up t c =

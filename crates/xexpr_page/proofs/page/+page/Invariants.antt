@@ -1,6 +1,6 @@
 use Rattle.std.proofs.Common.{◌≡◌, ◌+◌, ◌*◌, map, drop}
 use Rattle.script_value.specs.Val.{vals_of, depth, depth_all}
-use Rattle.script_value.specs.Meaning.{meaning}
+use Rattle.script_value.specs.Views.{meaning}
 use Rattle.xexpr_page.specs.Page.{children_of, appended}
 use Rattle.xexpr_page.proofs.page.+page.Given as goal
 

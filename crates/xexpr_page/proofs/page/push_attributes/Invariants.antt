@@ -1,6 +1,6 @@
 use Rattle.std.proofs.Common.{◌≡◌, map, drop}
 use Rattle.script_value.specs.Val.{vals_of}
-use Rattle.script_value.specs.Meaning.{meaning}
+use Rattle.script_value.specs.Views.{meaning}
 use Rattle.xexpr_page.specs.Page.{attributes_of, appended}
 use Rattle.xexpr_page.proofs.page.push_attributes.Given as goal
 

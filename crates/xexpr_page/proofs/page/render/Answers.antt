@@ -1,8 +1,9 @@
 use Rattle.std.proofs.Common.{◌≡◌, Some, rules}
 use Rattle.std.specs.Prelude.{Ok}
-use Rattle.script_value.specs.Meaning.{meaning}
+use Rattle.script_value.specs.Views.{meaning}
 use Rattle.xexpr_page.specs.Page.{page_of, Gives}
 use Rattle.xexpr_page.proofs.Grammar.{page_renders, answer_found}
+use Rattle.xexpr_page.proofs.Nested.{page_markup}
 use Rattle.xexpr_page.proofs.page.render.Goals as goal
 
 pub returns-in_err-push_page-clause-found : goal.returns-in_err-push_page-clause-found
@@ -19,3 +20,8 @@ pub returns-clause-found : goal.returns-clause-found
 returns-clause-found c =
     let given : page_of (meaning c.args.value.now) ≡ Some c.new.result = search rules in
     answer_found (meaning c.args.value.now) (Ok c.new.result) given
+
+pub returns-clause-well_formed : goal.returns-clause-well_formed
+returns-clause-well_formed c =
+    let given : page_of (meaning c.args.value.now) ≡ Some c.new.result = search rules in
+    page_markup (meaning c.args.value.now) c.new.result given
