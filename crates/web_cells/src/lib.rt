@@ -1,0 +1,23 @@
+//! The bindings of web cells: each page's run has its own, begun with those of the page that it answers.
+#![tactic(auto)]
+
+ghost use Rattle.web_cells.specs.Laws.{AShadowBindsItsCell, TheLastShadowBinds, ShadowsRise};
+
+mod shades;
+
+pub use shades::{Shades, Shadow};
+
+/// A shadow is the binding of its web cell, and leaves those of all others.
+pub fn a_shadow_binds_its_cell()
+    ensures { AShadowBindsItsCell }
+{}
+
+/// Behind any shadows, a web cell is bound to its last one, or else to what it was bound to before.
+pub fn the_last_shadow_binds()
+    ensures { TheLastShadowBinds }
+{}
+
+/// A shadow keeps the web cells rising, so that each has one binding at most.
+pub fn shadows_rise()
+    ensures { ShadowsRise }
+{}
