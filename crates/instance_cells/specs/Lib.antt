@@ -1,0 +1,5 @@
+pub mod Cells
+pub mod Views
+pub mod OneCell
+pub mod Trails
+pub mod Vectors

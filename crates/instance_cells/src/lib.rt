@@ -1,0 +1,10 @@
+//! The cells of an instance, and what a segment did to them.
+#![tactic(auto)]
+
+mod cells;
+mod effect;
+mod trail;
+
+pub use cells::Cells;
+pub use effect::{Effect, clone_effects};
+pub use trail::{AddFault, Trail};
