@@ -1,0 +1,6 @@
+pub mod Images
+pub mod Moments
+pub mod Racks
+pub mod Sure
+pub mod Traces
+pub mod Wrecks

@@ -1,0 +1,9 @@
+pub mod Change
+pub mod Disks
+pub mod Fates
+pub mod Memory
+pub mod Racks
+pub mod Since
+pub mod Vectors
+pub mod View
+pub mod Wrecks
