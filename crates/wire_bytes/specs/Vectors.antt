@@ -1,0 +1,39 @@
+-- Worked rows.
+use Rattle.std.specs.Prelude.{◌≡◌, [], ◌∷◌, ◌-◌, ◌^◌, Some, None, refl}
+use Rattle.wire_bytes.specs.Spelling.{u32_bytes, u64_bytes, byte_string}
+use Rattle.wire_bytes.specs.Reading.{read_u8, read_u32, read_u64, read_bytes}
+
+-- the least byte comes first
+least_first : u32_bytes 1027 ≡ 3 ∷ 4 ∷ 0 ∷ 0 ∷ []
+least_first = refl
+
+greatest : u32_bytes (2 ^ 32 - 1) ≡ 255 ∷ 255 ∷ 255 ∷ 255 ∷ []
+greatest = refl
+
+eight_bytes : u64_bytes 50 ≡ 50 ∷ 0 ∷ 0 ∷ 0 ∷ 0 ∷ 0 ∷ 0 ∷ 0 ∷ []
+eight_bytes = refl
+
+-- "hi", behind its length
+a_string : byte_string (104 ∷ 105 ∷ []) ≡ 2 ∷ 0 ∷ 0 ∷ 0 ∷ 104 ∷ 105 ∷ []
+a_string = refl
+
+no_bytes : byte_string [] ≡ 0 ∷ 0 ∷ 0 ∷ 0 ∷ []
+no_bytes = refl
+
+a_byte_is_read : read_u8 (7 ∷ 8 ∷ []) ≡ Some (7, 8 ∷ [])
+a_byte_is_read = refl
+
+a_number_is_read : read_u32 (3 ∷ 4 ∷ 0 ∷ 0 ∷ 9 ∷ []) ≡ Some (1027, 9 ∷ [])
+a_number_is_read = refl
+
+three_bytes_are_too_few : read_u32 (3 ∷ 4 ∷ 0 ∷ []) ≡ None
+three_bytes_are_too_few = refl
+
+seven_bytes_are_too_few : read_u64 (50 ∷ 0 ∷ 0 ∷ 0 ∷ 0 ∷ 0 ∷ 0 ∷ []) ≡ None
+seven_bytes_are_too_few = refl
+
+a_string_is_read : read_bytes (2 ∷ 0 ∷ 0 ∷ 0 ∷ 104 ∷ 105 ∷ 106 ∷ []) ≡ Some (104 ∷ 105 ∷ [], 106 ∷ [])
+a_string_is_read = refl
+
+a_string_is_cut_short : read_bytes (2 ∷ 0 ∷ 0 ∷ 0 ∷ 104 ∷ []) ≡ None
+a_string_is_cut_short = refl
