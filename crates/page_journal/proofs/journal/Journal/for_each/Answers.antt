@@ -1,0 +1,56 @@
+use Rattle.std.proofs.Common.{◌≡◌, ◌+◌, ℕ, suc, List, length, take, drop, refl, ◌∙◌, ap, subst, arith}
+use Rattle.page_journal.specs.Records.{records_from, Damaged}
+use Rattle.page_journal.specs.Scanned.{IsFound, HasRecord, HasEnd}
+use Rattle.page_journal.proofs.Scans.{quiet_none, quiet_then, no_longer}
+use Rattle.page_journal.proofs.Takings.{takes_none, takes_one, takes_all, fits_buffer, never_wrong, never_past}
+use Rattle.page_journal.proofs.journal.Journal.for_each.Goals as goal
+
+pub gates-init : goal.gates-init
+gates-init g c = record {
+  taking = λ told.
+      let settled = c.requires.settled told in
+      takes_none g.T.Take.takes c.args.taker.now _ settled.file (omega (arith, settled.end, settled.fits));
+  quiet = quiet_none _ (g.met.D.Disk.only_now c.args.self.now.disk);
+  end = refl {A = ℕ};
+  buffer = omega arith;
+}
+
+pub returns-in-Wrong-clause-taken : goal.returns-in-Wrong-clause-taken
+returns-in-Wrong-clause-taken g c = λ told.
+    let same = c.gates.invariant.quiet.seen in
+    let found = subst (λ f. IsFound (g.D.Disk.view c.gates.self.disk).seen c.gates.place f) c.in-Wrong.is (c.in_ok-look.ensures.found told) in
+    absurd (never_wrong g.T.Take.takes c.args.taker.now _ c.gates.place c.gates.taker (c.gates.invariant.taking told)
+    (λ f. subst (λ (l : List ℕ). records_from (suc f) c.gates.place (drop c.gates.place l) ≡ Damaged c.gates.place) same (found f)))
+
+pub returns-in-End-clause-taken : goal.returns-in-End-clause-taken
+returns-in-End-clause-taken g c = λ told.
+    let same = c.gates.invariant.quiet.seen in
+    let found = subst (λ f. IsFound (g.D.Disk.view c.gates.self.disk).seen c.gates.place f) c.in-End.is (c.in_ok-look.ensures.found told) in
+    takes_all g.T.Take.takes c.args.taker.now _ c.gates.place c.in-End.gate c.gates.taker (c.gates.invariant.taking told) (subst (λ (l : List ℕ). HasEnd l c.gates.place c.in-End.gate) same found)
+
+pub gates-preserved : goal.gates-preserved
+gates-preserved g c = record {
+  taking = λ told.
+      let same = c.gates.invariant.quiet.seen in
+      let found = subst (λ f. IsFound (g.D.Disk.view c.gates.self.disk).seen c.gates.place f) c.in-Next.is (c.in_ok-look.ensures.found told) in
+      let bytes = c.deref.ensures.value ∙ c.in_ok-read_body-in-Next.ensures.bytes told ∙ ap (λ (l : List ℕ). take c.in-Next.size (drop (c.gates.place + 5) l)) (c.look.ensures.quiet.seen ∙ same) in
+      takes_one g.T.Take.takes c.args.taker.now _ c.gates.place c.in-Next.size _ c.gates.taker c.body.new.self c.deref.result.now (c.gates.invariant.taking told)
+      (subst (λ (l : List ℕ). HasRecord l c.gates.place c.in-Next.size) same found) bytes c.body.ensures (omega arith);
+  quiet = quiet_then _ _ _ c.gates.invariant.quiet (quiet_then _ _ _ c.look.ensures.quiet c.read_body.ensures.quiet);
+  end = c.gates.invariant.end;
+  buffer = omega (arith, c.gates.invariant.buffer, c.read_body.ensures.capacity);
+}
+
+pub returns-clause-taken : goal.returns-clause-taken
+returns-clause-taken g c = λ told.
+    let settled = c.requires.settled told in
+    absurd (never_past g.T.Take.takes c.args.taker.now _ c.gates.place c.gates.taker (c.gates.invariant.taking told) (omega (arith, c.gates-test.false, settled.end, ap length settled.file)))
+
+pub returns-then-size-capacity-clause-taken : goal.returns-then-size-capacity-clause-taken
+returns-then-size-capacity-clause-taken g c = λ told.
+    let same = c.gates.invariant.quiet.seen in
+    let found = subst (λ f. IsFound (g.D.Disk.view c.gates.self.disk).seen c.gates.place f) c.in-Next.is (c.in_ok-look.ensures.found told) in
+    let settled = c.requires.settled told in
+    let fits = fits_buffer g.T.Take.takes c.args.taker.now _ c.gates.place c.in-Next.size _ c.gates.taker (c.gates.invariant.taking told)
+    (subst (λ (l : List ℕ). HasRecord l c.gates.place c.in-Next.size) same found) (no_longer _ _ _ _ settled.longest c.gates.invariant.buffer refl) in
+    absurd (omega (arith, fits, c.if-size-capacity.true, c.capacity.ensures))

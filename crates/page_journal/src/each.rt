@@ -1,0 +1,131 @@
+ghost use Rattle.std.specs.Prelude.{◌≡◌, ◌<◌, ◌≤◌, ◌+◌, ◌^◌, ◌++◌, ◌∷◌, List, ℕ, length, take, drop, IsTrue, OnOk, OnErr, vec_capacity};
+ghost use Rattle.web_disk.specs.View.{View, NoNewImage, Elapses};
+ghost use Rattle.page_journal.specs.Records.{stored};
+ghost use Rattle.page_journal.specs.Scanned.{IsQuiet};
+ghost use Rattle.page_journal.specs.Settled.{HasFailed, IsSettled, IsReady, IsSound, view_of, bodies_in, length_of};
+ghost use Rattle.page_journal.specs.Taken.{TakesAll};
+ghost use Rattle.std.specs.declared.alloc.Global.{Global};
+
+use crate::Journal;
+use crate::scan::{Found, look};
+use std::alloc::AllocError;
+use thiserror::Error;
+use web_disk::Disk;
+use web_outside::Failed;
+
+/// A call of the disk failed.
+#[derive(Clone, Copy, Debug, PartialEq, Eq, Error)]
+#[error("a call of the disk failed")]
+pub struct DiskFault;
+
+impl From<Failed> for DiskFault {
+    ghost from_gives = { λ _ fault. fault ≡ record {} };
+
+    fn from(_: Failed) -> Self {
+        DiskFault
+    }
+}
+
+/// Takes records, one by one.
+pub trait Take {
+    /// What one record makes of the taker.
+    ghost takes: { Self → ℕ → List ℕ → Self → Type 0 };
+
+    /// Takes the body of the record whose gate is at this place.
+    fn body(&mut self, place: u64, body: &[u8])
+        ensures { takes self.old place body.now self.new };
+}
+
+// Reads this many bytes into the buffer.
+fn read_body<D: Disk>(
+    disk: &mut D,
+    buffer: &mut Vec<u8>,
+    place: u64,
+    size: u64,
+) -> Result<(), Failed>
+    requires inside { IsTrue D.tells → place + size ≤ length (D.view disk.old).seen }
+    requires room { size ≤ vec_capacity buffer.old }
+    ensures bytes { IsTrue D.tells → OnOk result (buffer.new.items ≡ take size (drop place (D.view disk.old).seen)) }
+    ensures capacity { vec_capacity buffer.old ≤ vec_capacity buffer.new }
+    ensures quiet { IsQuiet (D.view disk.old) (D.view disk.new) }
+    ensures cause { OnErr result (HasFailed (D.view disk.old) (D.view disk.new)) }
+{
+    buffer.clear();
+    let Ok(()) = buffer.resize(size as usize, 0) else {
+        unreachable!()
+    };
+    disk.read(place, buffer)
+}
+
+impl<D: Disk> Journal<D> {
+    /// Hands on each record, in order. It takes no memory.
+    pub fn for_each<T: Take>(&mut self, taker: &mut T) -> Result<(), DiskFault>
+        requires sound { IsSound self.old }
+        requires settled { IsTrue D.tells → IsSettled D.view self.old }
+        ensures taken { IsTrue D.tells → OnOk result (TakesAll T.takes taker.old 8 (bodies_in D.view self.old) taker.new) }
+        ensures quiet { IsQuiet (view_of D.view self.old) (view_of D.view self.new) }
+        ensures len { length_of self.new ≡ length_of self.old }
+        ensures sound { IsSound self.new }
+        ensures settled { IsTrue D.tells → IsSettled D.view self.new }
+        ensures cause { OnErr result (HasFailed (view_of D.view self.old) (view_of D.view self.new)) }
+    {
+        let len = self.end + 1;
+        let mut place = 8;
+        'gates: while place < len {
+            match look(&mut self.disk, place, len)? {
+                Found::Wrong => return Ok(()),
+                Found::End { .. } => return Ok(()),
+                Found::Next { size } => {
+                    // No record is longer, as was read when the journal was opened.
+                    if size as usize > self.buffer.capacity() {
+                        return Ok(());
+                    }
+                    read_body(&mut self.disk, &mut self.buffer, place + 5, size)?;
+                    taker.body(place, &self.buffer);
+                    place += 5 + size;
+                }
+            }
+        }
+        Ok(())
+    }
+
+    /// Makes room for a record with a body of this length. No call of the disk is made that could fail.
+    pub fn room(&mut self, len: u32) -> Result<(), AllocError>
+        requires sound { IsSound self.old }
+        requires settled { IsTrue D.tells → IsSettled D.view self.old }
+        ensures sound { IsSound self.new }
+        ensures settled { IsTrue D.tells → IsSettled D.view self.new }
+        ensures ready { OnOk result (IsReady D.view self.new len) }
+        ensures len { length_of self.new ≡ length_of self.old }
+        ensures seen { (view_of D.view self.new).seen ≡ (view_of D.view self.old).seen }
+        ensures images { NoNewImage (view_of D.view self.old) (view_of D.view self.new) }
+        ensures time { Elapses (view_of D.view self.old) (view_of D.view self.new) }
+        ensures faults { (view_of D.view self.new).faults ≡ (view_of D.view self.old).faults }
+    {
+        self.buffer.clear();
+        self.buffer.reserve(len as usize + 5)?;
+        self.disk.room(self.end + 6 + len as u64)
+    }
+
+    /// The length of the journal, in bytes.
+    pub fn len(&self) -> u64
+        requires sound { IsSound self.now }
+        requires settled { IsTrue D.tells → IsSettled D.view self.now }
+        ensures len { result ≡ length_of self.now }
+        ensures seen { IsTrue D.tells → result ≡ length (view_of D.view self.now).seen }
+    {
+        self.end + 1
+    }
+
+    /// Gives back the disk.
+    pub fn close(self) -> D
+        ensures { result ≡ self.disk }
+    {
+        let Journal {
+            disk,
+            end: _,
+            buffer: _,
+        } = self;
+        disk
+    }
+}

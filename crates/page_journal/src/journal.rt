@@ -1,0 +1,100 @@
+ghost use Rattle.std.specs.Prelude.{◌≡◌, ◌⊎◌, ◌*◌, ◌<◌, ◌≤◌, ◌+◌, ◌^◌, ◌++◌, [], ◌∷◌, List, ℕ, length, IsTrue, IfOk, OnOk, OnErr, IsErrOf, vec_capacity};
+ghost use Rattle.web_disk.specs.View.{View, Only, LeavesOnly};
+ghost use Rattle.page_journal.specs.declared.journal.AppendFault.TheVariants.{DiskFault as AppendDiskFault};
+ghost use Rattle.page_journal.specs.Holding.{MayHold};
+ghost use Rattle.page_journal.specs.Records.{stored, framed};
+
+use thiserror::Error;
+use web_disk::Disk;
+use web_outside::Failed;
+use wire_bytes::u32_to_wire;
+
+/// The greatest length of a journal, in bytes.
+pub const MAX_LEN: u64 = 1 << 30;
+
+/// Why a record was not added.
+#[derive(Clone, Copy, Debug, PartialEq, Eq, Error)]
+pub enum AppendFault {
+    /// The journal would reach this length, which is above the greatest.
+    #[error("the journal would reach {len} bytes, too many")]
+    Full { len: u64 },
+    /// A call of the disk failed.
+    #[error("a call of the disk failed")]
+    DiskFault,
+}
+
+impl From<Failed> for AppendFault {
+    ghost from_gives = { λ _ fault. fault ≡ AppendDiskFault };
+
+    fn from(_: Failed) -> Self {
+        AppendFault::DiskFault
+    }
+}
+
+/// Records on a disk: the header, and then each record behind a gate that is open (1), its length and its body. Behind the last one stands a closed gate (0), which is on the disk before anything is written behind it.
+#[derive(Drop)]
+pub struct Journal<D: Disk> {
+    pub(crate) disk: D,
+    // The place of the closed gate.
+    pub(crate) end: u64,
+    // Its room is enough for the longest record.
+    pub(crate) buffer: Vec<u8>,
+}
+
+// Puts a record, without its gate, and a closed gate into the buffer.
+fn frame(buffer: &mut Vec<u8>, body: &[u8])
+    requires size { length body.now < 2 ^ 32 }
+    requires room { length body.now + 5 ≤ vec_capacity buffer.old }
+    ensures bytes { buffer.new.items ≡ framed body.now ++ 0 ∷ [] }
+    ensures capacity { vec_capacity buffer.old ≤ vec_capacity buffer.new }
+{
+    buffer.clear();
+    let size = u32_to_wire(body.len() as u32);
+    let Ok(()) = buffer.extend_from_slice(&size) else {
+        unreachable!()
+    };
+    let Ok(()) = buffer.extend_from_slice(body) else {
+        unreachable!()
+    };
+    let Ok(()) = buffer.extend_from_slice(&[0]) else {
+        unreachable!()
+    };
+}
+
+impl<D: Disk> Journal<D> {
+    ghost use Rattle.page_journal.specs.Settled.{HasFailed, IsSettled, IsReady, IsSound, view_of, bodies_in, length_of, length_with};
+
+    /// Adds a record, for which `room` was made since the last one. From `Ok` on each crash leaves it there; after `DiskFault` a crash leaves it or does not, and the disk is begun again. It takes no memory.
+    pub fn append(&mut self, body: &[u8]) -> Result<(), AppendFault>
+        requires sound { IsSound self.old }
+        requires settled { IsTrue D.tells → IsSettled D.view self.old }
+        requires ready { IsReady D.view self.old (length body.now) }
+
+        ensures sound { IsSound self.new }
+        ensures len { OnOk result (length_of self.new ≡ length_with self.old body.now) }
+        ensures ok { IsTrue D.tells → OnOk result (IsSettled D.view self.new
+            × (bodies_in D.view self.new ≡ bodies_in D.view self.old ++ body.now ∷ [])) }
+
+        // A crash at any moment of the call leaves the records from before it, with the new one or without.
+        ensures any_moment { IsTrue D.tells → LeavesOnly (view_of D.view self.old) (view_of D.view self.new)
+            (MayHold (bodies_in D.view self.old) body.now) }
+
+        ensures full { let len = length_with self.old body.now in
+            2 ^ 30 < len → (result ≡ Err (AppendFault.Full len)) × (self.new ≡ self.old) }
+        ensures only_full { length_with self.old body.now ≤ 2 ^ 30 → OnErr result (result ≡ Err AppendFault.DiskFault) }
+        ensures cause { IsErrOf result AppendFault.DiskFault → HasFailed (view_of D.view self.old) (view_of D.view self.new) }
+    {
+        let gate = self.end;
+        let len = gate + 6 + body.len() as u64;
+        if len > MAX_LEN {
+            return Err(AppendFault::Full { len });
+        }
+        frame(&mut self.buffer, body);
+        self.disk.write_at(gate + 1, &self.buffer)?;
+        self.disk.sync()?;
+        self.disk.write_at(gate, &[1])?;
+        self.disk.sync()?;
+        self.end = len - 1;
+        Ok(())
+    }
+}
