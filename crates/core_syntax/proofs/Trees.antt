@@ -3,8 +3,8 @@ use Rattle.std.proofs.Common.{◌≡◌, ℕ, zero, suc, ◌+◌, ◌<◌, ◌�
 use Rattle.std.specs.List.{AllByRecursion}
 use Rattle.core_syntax.specs.declared.script.Node.{Node}
 use Rattle.core_syntax.specs.declared.script.Node.TheVariants as node
-use Rattle.core_syntax.specs.Core.{Core}
-use Rattle.core_syntax.specs.Arena.{IsScript, IsBehind, parts, shape, shape_at, tree_within, tree_at}
+use Rattle.core_syntax.specs.Core.{Core, OnCells, AllOnCells, cores_of}
+use Rattle.core_syntax.specs.Arena.{Arena, IsScript, IsOnCells, IsBehind, parts, shape, shape_at, tree_within, tree_at}
 
 abbrev Same : (ℕ → Core) → (ℕ → Core) → ℕ → Type 0
 Same f g p = f p ≡ g p
@@ -32,17 +32,35 @@ shape_same f g (node.Let ps b) h =
     let a = map_same f g ps (all_front (Same f g) ps (b ∷ []) h) in
     let c : f b ≡ g b = all_last (Same f g) ps b h in
     cc
+shape_same f g (node.Seq ps) h = let a = map_same f g ps h in cc
+shape_same f g (node.If t a b) h = let x : f t ≡ g t = h.0 in let y : f a ≡ g a = h.1.0 in let z : f b ≡ g b = h.1.1.0 in cc
+shape_same f g (node.And ps) h = let a = map_same f g ps h in cc
+shape_same f g (node.Or ps) h = let a = map_same f g ps h in cc
+shape_same f g (node.For n b) h = let x : f n ≡ g n = h.0 in let y : f b ≡ g b = h.1.0 in cc
 shape_same f g (node.Prim o ps) h = let a = map_same f g ps h in cc
-shape_same f g (node.Send b) h = let a : f b ≡ g b = h.0 in cc
+shape_same f g (node.Send kind b) h = let a : f b ≡ g b = h.0 in cc
+shape_same f g (node.Finish b) h = let a : f b ≡ g b = h.0 in cc
+shape_same f g (node.Back b) h = let a : f b ≡ g b = h.0 in cc
+shape_same f g (node.Isolate b) h = let a : f b ≡ g b = h.0 in cc
+shape_same f g (node.CellRef c) h = refl
+shape_same f g (node.CellShadow c e) h = let a : f e ≡ g e = h.0 in cc
+shape_same f g (node.InstRef c) h = refl
+shape_same f g (node.InstSet c e) h = let a : f e ≡ g e = h.0 in cc
+shape_same f g (node.InstAdd c e) h = let a : f e ≡ g e = h.0 in cc
 
-shape_at_same : (nodes : List Node) → IsScript nodes → (f g : ℕ → Core) (n : ℕ)
+-- at least one node, and each part behind its node
+record Follows (nodes : List Node) : Type 0 where
+  nonempty : 0 < length nodes
+  behind : (n : ℕ) (x : Node) → slice_get nodes n ≡ Some x → AllByRecursion (IsBehind n (length nodes)) (parts x)
+
+shape_at_same : (nodes : List Node) → Follows nodes → (f g : ℕ → Core) (n : ℕ)
     → ((p : ℕ) → IsBehind n (length nodes) p → f p ≡ g p) → (o : Option Node) → slice_get nodes n ≡ o → shape_at f o ≡ shape_at g o
 shape_at_same nodes s f g n h None e = refl
 shape_at_same nodes s f g n h (Some x) e =
     shape_same f g x (all_weaker (IsBehind n (length nodes)) (Same f g) (parts x) h (s.behind n x e))
 
 -- a bound that reaches the end is enough
-enough : (nodes : List Node) → IsScript nodes → (a b n : ℕ) → n < length nodes → length nodes ≤ a + n → length nodes ≤ b + n
+enough : (nodes : List Node) → Follows nodes → (a b n : ℕ) → n < length nodes → length nodes ≤ a + n → length nodes ≤ b + n
     → tree_within a nodes n ≡ tree_within b nodes n
 unfolding tree_within
 enough nodes s zero b n h k l = absurd (omega arith)
@@ -51,7 +69,7 @@ enough nodes s (suc a) (suc b) n h k l =
     shape_at_same nodes s (tree_within a nodes) (tree_within b nodes) n
     (λ p q. enough nodes s a b p q.1 (let r = q.0 in omega arith) (let r = q.0 in omega arith)) (slice_get nodes n) refl
 
-step : (nodes : List Node) → IsScript nodes → (bound n : ℕ) (x : Node) → bound ≡ length nodes → slice_get nodes n ≡ Some x
+step : (nodes : List Node) → Follows nodes → (bound n : ℕ) (x : Node) → bound ≡ length nodes → slice_get nodes n ≡ Some x
     → tree_within bound nodes n ≡ shape (tree_at nodes) x
 unfolding tree_within tree_at
 step nodes s zero n x l e = absurd (let h = s.nonempty in omega arith)
@@ -60,7 +78,48 @@ step nodes s (suc bound) n x l e =
     (all_weaker (IsBehind n (length nodes)) (Same (tree_within bound nodes) (tree_at nodes)) (parts x)
     (λ p q. enough nodes s bound (length nodes) p q.1 (let r = q.0 in omega arith) (omega arith)) (s.behind n x e)))
 
-pub tree_at_node : (nodes : List Node) → IsScript nodes → (n : ℕ) (x : Node) → slice_get nodes n ≡ Some x
-    → tree_at nodes n ≡ shape (tree_at nodes) x
+pub tree_at_node : (a : Arena) → IsScript a → (n : ℕ) (x : Node) → slice_get a.nodes n ≡ Some x
+    → tree_at a.nodes n ≡ shape (tree_at a.nodes) x
 unfolding tree_at
-tree_at_node nodes s n x e = step nodes s (length nodes) n x refl e
+tree_at_node a s n x e = step a.nodes (record { nonempty = s.nonempty; behind = s.behind }) (length a.nodes) n x refl e
+
+-- where each node's cell is there, so is each of its tree
+all_on : (web cells : ℕ) (f : ℕ → Core) → ((p : ℕ) → OnCells web cells (f p)) → (ps : List ℕ) → AllOnCells web cells (cores_of (map f ps))
+all_on web cells f h [] = tt
+all_on web cells f h (p ∷ ps) = (h p, all_on web cells f h ps)
+
+shape_on : (web cells : ℕ) (f : ℕ → Core) → ((p : ℕ) → OnCells web cells (f p)) → (x : Node) → IsOnCells web cells x → OnCells web cells (shape f x)
+shape_on web cells f h (node.Lit v) o = tt
+shape_on web cells f h (node.Var k) o = tt
+shape_on web cells f h (node.Let ps b) o = (all_on web cells f h ps, h b)
+shape_on web cells f h (node.Seq ps) o = all_on web cells f h ps
+shape_on web cells f h (node.If t a b) o = (h t, h a, h b)
+shape_on web cells f h (node.And ps) o = all_on web cells f h ps
+shape_on web cells f h (node.Or ps) o = all_on web cells f h ps
+shape_on web cells f h (node.For n b) o = (h n, h b)
+shape_on web cells f h (node.Prim op ps) o = all_on web cells f h ps
+shape_on web cells f h (node.Send kind b) o = h b
+shape_on web cells f h (node.Finish b) o = h b
+shape_on web cells f h (node.Back b) o = h b
+shape_on web cells f h (node.Isolate b) o = h b
+shape_on web cells f h (node.CellRef c) o = o
+shape_on web cells f h (node.CellShadow c e) o = (o, h e)
+shape_on web cells f h (node.InstRef c) o = o
+shape_on web cells f h (node.InstSet c e) o = (o, h e)
+shape_on web cells f h (node.InstAdd c e) o = (o, h e)
+
+shape_at_on : (web cells : ℕ) (f : ℕ → Core) → ((p : ℕ) → OnCells web cells (f p)) → (x : Option Node)
+    → ((y : Node) → x ≡ Some y → IsOnCells web cells y) → OnCells web cells (shape_at f x)
+shape_at_on web cells f h None o = tt
+shape_at_on web cells f h (Some x) o = shape_on web cells f h x (o x refl)
+
+within_on : (web cells bound : ℕ) (nodes : List Node) → ((n : ℕ) (x : Node) → slice_get nodes n ≡ Some x → IsOnCells web cells x)
+    → (n : ℕ) → OnCells web cells (tree_within bound nodes n)
+unfolding tree_within
+within_on web cells zero nodes o n = tt
+within_on web cells (suc bound) nodes o n =
+    shape_at_on web cells (tree_within bound nodes) (within_on web cells bound nodes o) (slice_get nodes n) (o n)
+
+pub tree_on_cells : (a : Arena) → IsScript a → (n : ℕ) → OnCells (length a.web) (length a.cells) (tree_at a.nodes n)
+unfolding tree_at
+tree_on_cells a s n = within_on (length a.web) (length a.cells) (length a.nodes) a.nodes s.on_cells n

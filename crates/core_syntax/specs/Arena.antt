@@ -1,46 +1,97 @@
 -- A script as a list of nodes, each before its parts, and the tree that it stands for.
-use Rattle.std.specs.Prelude.{◌≡◌, ℕ, zero, suc, ◌<◌, List, [], ◌∷◌, ◌++◌, map, length, Option, Some, None, slice_get, false, IsTrue}
+use Rattle.std.specs.Prelude.{◌≡◌, ℕ, zero, suc, ◌<◌, List, [], ◌∷◌, ◌++◌, map, length, Option, Some, None, slice_get, false, IsTrue, ⊤, refl}
 use Rattle.std.specs.List.{AllByRecursion}
-use Rattle.script_value.specs.Val.{truth}
-use Rattle.script_value.specs.Meaning.{meaning}
+use Rattle.std.specs.Coded.{Coded, coded_list, coded×, code_by}
+use Rattle.script_value.specs.Val.{Val, truth}
+use Rattle.script_value.specs.ValCode.{val_code}
+use Rattle.script_value.specs.Views.{meaning}
 use Rattle.prim_ops.specs.Table.{takes}
 use Rattle.core_syntax.specs.declared.script.Node.{Node}
 use Rattle.core_syntax.specs.declared.script.Node.TheVariants as node
-use Rattle.core_syntax.specs.Core.{Core, lit, var, bind, prim, send, cores_of}
+use Rattle.core_syntax.specs.Core.{Core, lit, var, bind, branch, repeat, prim, seq, and_all, or_any, send, finish, back, isolate, cell_ref, cell_shadow, inst_ref, inst_set, inst_add, cores_of}
+use Rattle.core_syntax.specs.Setup.{Script}
+
+-- the nodes in pre-order, and what the web cells and the instance cells begin with
+pub record Arena : Type 0 where
+  pub nodes : List Node
+  pub web : List Val
+  pub cells : List Val
+
+abbrev parted : Arena → List Node × (List Val × List Val)
+parted a = (a.nodes, (a.web, a.cells))
+
+abbrev joined : List Node × (List Val × List Val) → Arena
+joined p = record { nodes = p.0; web = p.1.0; cells = p.1.1 }
+
+abbrev pub arena_code : Coded Node → Coded Arena
+arena_code c = code_by (List Node × (List Val × List Val)) (coded× (coded_list c) (coded× (coded_list val_code) (coded_list val_code))) parted joined (λ _. refl)
 
 -- the parts of a node
 abbrev pub parts : Node → List ℕ
 parts (node.Lit v) = []
 parts (node.Var k) = []
 parts (node.Let bindings body) = bindings ++ body ∷ []
+parts (node.Seq ps) = ps
+parts (node.If test a b) = test ∷ a ∷ b ∷ []
+parts (node.And ps) = ps
+parts (node.Or ps) = ps
+parts (node.For count body) = count ∷ body ∷ []
 parts (node.Prim o ps) = ps
-parts (node.Send body) = body ∷ []
+parts (node.Send kind body) = body ∷ []
+parts (node.Finish body) = body ∷ []
+parts (node.Back body) = body ∷ []
+parts (node.Isolate body) = body ∷ []
+parts (node.CellRef c) = []
+parts (node.CellShadow c value) = value ∷ []
+parts (node.InstRef c) = []
+parts (node.InstSet c value) = value ∷ []
+parts (node.InstAdd c value) = value ∷ []
 
 -- an operation has as many operands as its row takes
 abbrev pub IsFull : Node → Type 0
-IsFull (node.Lit v) = Unit {0}
-IsFull (node.Var k) = Unit {0}
-IsFull (node.Let bindings body) = Unit {0}
 IsFull (node.Prim o ps) = IsTrue (takes o (length ps))
-IsFull (node.Send body) = Unit {0}
+IsFull _ = ⊤
+
+-- the cell that a node names is one of so many web cells, or of so many instance cells
+abbrev pub IsOnCells : (web cells : ℕ) → Node → Type 0
+IsOnCells web cells (node.CellRef c) = c < web
+IsOnCells web cells (node.CellShadow c value) = c < web
+IsOnCells web cells (node.InstRef c) = c < cells
+IsOnCells web cells (node.InstSet c value) = c < cells
+IsOnCells web cells (node.InstAdd c value) = c < cells
+IsOnCells web cells _ = ⊤
 
 -- a part stands behind its node and in the script
 abbrev pub IsBehind : ℕ → ℕ → ℕ → Type 0
 IsBehind n end p = (n < p) × (p < end)
 
--- at least one node, each part behind its node, and each operation with its operands
-pub record IsScript (nodes : List Node) : Type 0 where
-  pub nonempty : 0 < length nodes
-  pub behind : (n : ℕ) (x : Node) → slice_get nodes n ≡ Some x → AllByRecursion (IsBehind n (length nodes)) (parts x)
-  pub full : (n : ℕ) (x : Node) → slice_get nodes n ≡ Some x → IsFull x
+-- at least one node, each part behind its node, each operation with its operands, and each cell that is named there
+pub record IsScript (a : Arena) : Type 0 where
+  pub nonempty : 0 < length a.nodes
+  pub behind : (n : ℕ) (x : Node) → slice_get a.nodes n ≡ Some x → AllByRecursion (IsBehind n (length a.nodes)) (parts x)
+  pub full : (n : ℕ) (x : Node) → slice_get a.nodes n ≡ Some x → IsFull x
+  pub on_cells : (n : ℕ) (x : Node) → slice_get a.nodes n ≡ Some x → IsOnCells (length a.web) (length a.cells) x
 
 -- the tree of a node, where the trees of its parts are given
 abbrev pub shape : (ℕ → Core) → Node → Core
 shape part (node.Lit v) = lit (meaning v)
 shape part (node.Var k) = var k
 shape part (node.Let bindings body) = bind (cores_of (map part bindings)) (part body)
+shape part (node.Seq ps) = seq (cores_of (map part ps))
+shape part (node.If test a b) = branch (part test) (part a) (part b)
+shape part (node.And ps) = and_all (cores_of (map part ps))
+shape part (node.Or ps) = or_any (cores_of (map part ps))
+shape part (node.For count body) = repeat (part count) (part body)
 shape part (node.Prim o ps) = prim o (cores_of (map part ps))
-shape part (node.Send body) = send (part body)
+shape part (node.Send kind body) = send kind (part body)
+shape part (node.Finish body) = finish (part body)
+shape part (node.Back body) = back (part body)
+shape part (node.Isolate body) = isolate (part body)
+shape part (node.CellRef c) = cell_ref c
+shape part (node.CellShadow c value) = cell_shadow c (part value)
+shape part (node.InstRef c) = inst_ref c
+shape part (node.InstSet c value) = inst_set c (part value)
+shape part (node.InstAdd c value) = inst_add c (part value)
 
 abbrev pub shape_at : (ℕ → Core) → Option Node → Core
 shape_at part None = lit (truth false)
@@ -54,3 +105,7 @@ tree_within (suc bound) nodes n = shape_at (tree_within bound nodes) (slice_get 
 -- the tree at a number; a script is no deeper than it has nodes
 unfoldable pub tree_at : List Node → ℕ → Core
 tree_at nodes n = tree_within (length nodes) nodes n
+
+-- what a script means: its cells, and the tree of its first node
+abbrev pub script_of : Arena → Script
+script_of a = record { web = a.web; cells = a.cells; body = tree_at a.nodes 0 }

@@ -1,14 +1,25 @@
 -- What the expander answers for the table of forms.
-use Rattle.std.specs.Prelude.{◌≡◌, ℕ, List, Result, Ok, Err}
-use Rattle.core_syntax.specs.declared.script.Node.{Node}
+use Rattle.std.specs.Prelude.{◌≡◌, ℕ, length, Result, Ok, Err, ⊤}
 use Rattle.core_syntax.specs.declared.faults.SyntaxKind.{SyntaxKind}
 use Rattle.core_syntax.specs.declared.faults.ExpandFault.{ExpandFault}
 use Rattle.core_syntax.specs.declared.faults.ExpandFault.TheVariants.{Memory, At}
-use Rattle.core_syntax.specs.Core.{Core}
-use Rattle.core_syntax.specs.Arena.{tree_at}
+use Rattle.core_syntax.specs.declared.faults.ReadFault.{ReadFault}
+use Rattle.core_syntax.specs.declared.faults.ReadFault.TheVariants.{Memory as ReadMemory, Syntax}
+use Rattle.core_syntax.specs.Definitions.{Defined}
+use Rattle.core_syntax.specs.Setup.{Script}
+use Rattle.core_syntax.specs.Arena.{Arena, script_of}
 
--- the nodes stand for the table's tree, or the table's fault is answered; want of memory may come at any time
-abbrev pub Expands : Result (List Node) ExpandFault → Result Core (SyntaxKind × ℕ) → Type 0
-Expands (Ok nodes) e = e ≡ Ok (tree_at nodes 0)
-Expands (Err Memory) e = Unit {0}
+-- the script stands for the table's, or the table's fault is answered; want of memory may come at any time
+abbrev pub Expands : Result Arena ExpandFault → Result Script (SyntaxKind × ℕ) → Type 0
+Expands (Ok a) e = e ≡ Ok (script_of a)
+Expands (Err Memory) e = ⊤
 Expands (Err (At x)) e = e ≡ Err (x.kind, x.form)
+
+-- the fault of the form of this number
+abbrev pub ExpandsFault : ExpandFault → ℕ → ReadFault → Type 0
+ExpandsFault e number ReadMemory = e ≡ Memory
+ExpandsFault e number (Syntax k) = e ≡ At (record { kind = k; form = number })
+
+-- each cell has a name and a value
+abbrev pub IsLevel : Defined → Type 0
+IsLevel d = (length d.web ≡ length d.names.web) × (length d.cells ≡ length d.names.instance)

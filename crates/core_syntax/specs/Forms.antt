@@ -1,157 +1,296 @@
--- The table of forms: data as a script of the core language, or the first fault.
-use Rattle.std.specs.Prelude.{ℕ, ◌+◌, ◌||◌, Bool, true, false, List, [], ◌∷◌, ◌++◌, length, Option, Some, None, Result, Ok, Err, nat_lt, codes, is_some, if◌then◌else◌}
-use Rattle.std.specs.Str.{bytes_eq}
+-- The table of forms: an expression as a tree of the core language, or the first fault.
+-- The order in a form: its head, what a page may not do, the shape of its parts, its own names, and its parts from left to right.
+use Rattle.std.specs.Prelude.{ℕ, Bool, true, false, not, List, [], ◌∷◌, ◌++◌, Option, Some, None, Result, Ok, Err, codes, if◌then◌else◌}
 use Rattle.script_value.specs.Val.{Val, Vals, number, truth, text, symbol, list, no_vals, val}
 use Rattle.script_value.specs.declared.outcome.Op.{Op}
 use Rattle.script_value.specs.declared.outcome.Op.TheVariants as op
 use Rattle.prim_ops.specs.Table.{takes}
 use Rattle.core_syntax.specs.declared.faults.SyntaxKind.{SyntaxKind}
-use Rattle.core_syntax.specs.declared.faults.SyntaxKind.TheVariants.{Shape, Unbound, Duplicate, Arity, NestedSend, TooMany}
-use Rattle.core_syntax.specs.Shapes.{on, bound_name}
+use Rattle.core_syntax.specs.declared.faults.SyntaxKind.TheVariants.{Shape, Unbound, Arity, NoElse, NestedSend, Effect}
+use Rattle.core_syntax.specs.declared.heads.CellKind.{CellKind}
+use Rattle.core_syntax.specs.declared.heads.CellKind.TheVariants.{Web, Instance}
+use Rattle.core_syntax.specs.declared.heads.Store.{Store}
+use Rattle.core_syntax.specs.declared.heads.Store.TheVariants.{Shadow, Set, Add}
+use Rattle.core_syntax.specs.declared.heads.LastPage.{LastPage}
+use Rattle.core_syntax.specs.declared.heads.LastPage.TheVariants.{Finish, Back}
 use Rattle.core_syntax.specs.declared.heads.Head.{Head}
-use Rattle.core_syntax.specs.declared.heads.Head.TheVariants.{Quote, Let, Send, Apply}
-use Rattle.core_syntax.specs.Core.{Core, Cores, lit, var, bind, prim, send, no_cores, core, count, height}
+use Rattle.core_syntax.specs.declared.heads.Head.TheVariants as head
+use Rattle.core_syntax.specs.declared.script.SendKind.{SendKind}
+use Rattle.core_syntax.specs.Core.{Core, lit, var, bind, branch, repeat, prim, seq, and_all, or_any, send, finish, back, isolate, cell_ref, cell_shadow, inst_ref, inst_set, inst_add, cores_of}
+use Rattle.core_syntax.specs.Heads.{head_of}
+use Rattle.core_syntax.specs.Names.{◌>>=◌, or_fault, place_of, CellNames, cell_number, free_at_once, free_in_turn}
+use Rattle.core_syntax.specs.Shapes.{count_of, is_empty, is_word, begins, bound_name, names_of, single_name, parameter, names_before, are_clauses, ends_in_else}
+use Rattle.core_syntax.specs.Templates.{is_splice, has_splice, is_template, is_plain}
 
--- the names of forms and operations
-abbrev pub head_of : List ℕ → Option Head
-head_of s =
-    if bytes_eq s (codes "quote") then Some Quote else
-    if bytes_eq s (codes "let") then Some Let else
-    if bytes_eq s (codes "send/suspend") then Some Send else
-    if bytes_eq s (codes "+") then Some (Apply op.Add) else
-    if bytes_eq s (codes "list") then Some (Apply op.List) else
-    if bytes_eq s (codes "number->string") then Some (Apply op.NumberToString) else
-    if bytes_eq s (codes "string->number") then Some (Apply op.StringToNumber) else
-    if bytes_eq s (codes "extract-binding/single") then Some (Apply op.ExtractBindingSingle) else None
+-- parts in order; a body of one is that one
+abbrev pub sequence : List Core → Core
+sequence (c ∷ []) = c
+sequence cs = seq (cores_of cs)
 
--- the place of the innermost variable of this name, the outermost being 0; the scope has the innermost first
-abbrev pub place_of : List ℕ → List (List ℕ) → Option ℕ
-place_of x [] = None
-place_of x (y ∷ ys) = if bytes_eq x y then Some (length ys) else place_of x ys
+abbrev pub conjunction : List Core → Core
+conjunction [] = lit (truth true)
+conjunction (c ∷ []) = c
+conjunction cs = and_all (cores_of cs)
 
-abbrev pub has_name : List ℕ → List (List ℕ) → Bool
-has_name x xs = is_some (place_of x xs)
+abbrev pub disjunction : List Core → Core
+disjunction [] = lit (truth false)
+disjunction (c ∷ []) = c
+disjunction cs = or_any (cores_of cs)
 
-infixl 10 ◌>>=◌
-abbrev pub ◌>>=◌ : {A B : Type 0} → Result A SyntaxKind → (A → Result B SyntaxKind) → Result B SyntaxKind
-Ok x >>= f = f x
-Err k >>= f = Err k
+-- bindings one inside the other
+abbrev pub nest : List Core → Core → Core
+nest [] b = b
+nest (e ∷ es) b = bind (cores_of (e ∷ [])) (nest es b)
 
--- the names of a `let`, the last first, in front of others
-abbrev pub names_of : Vals → List (List ℕ) → Option (List (List ℕ))
-names_of no_vals names = Some names
-names_of (val v vs) names = on (bound_name v) (λ x. names_of vs (x ∷ names))
+-- choices one inside the other, and what is taken where each test is false
+abbrev pub choose : List (Core × Core) → Core → Core
+choose [] o = o
+choose (c ∷ cs) o = branch c.0 c.1 (choose cs o)
 
--- a name is among others, or is that of a form or an operation
-abbrev pub is_bad_name : List ℕ → List (List ℕ) → Bool
-is_bad_name x xs = is_some (head_of x) || has_name x xs
+abbrev pub ref : CellKind → ℕ → Core
+ref Web c = cell_ref c
+ref Instance c = inst_ref c
 
--- a name stands twice among these, or is that of a form or an operation
-abbrev pub are_bad : List (List ℕ) → Bool
-are_bad [] = false
-are_bad (x ∷ xs) = is_bad_name x xs || are_bad xs
+-- the kind of cell that is written, and the node that writes it
+abbrev pub written : Store → CellKind
+written Shadow = Web
+written Set = Instance
+written Add = Instance
 
--- these names may be bound together
-abbrev pub bound : Option (List (List ℕ)) → Result (List (List ℕ)) SyntaxKind
-bound None = Err Shape
-bound (Some names) = if are_bad names then Err Duplicate else Ok names
+abbrev pub store : Store → ℕ → Core → Core
+store Shadow c e = cell_shadow c e
+store Set c e = inst_set c e
+store Add c e = inst_add c e
 
-abbrev pub variable : Option ℕ → Result Core SyntaxKind
-variable None = Err Unbound
-variable (Some k) = Ok (var k)
+abbrev pub last_page : LastPage → Core → Core
+last_page Finish b = finish b
+last_page Back b = back b
+
+-- one tree made of what parts gave
+abbrev pub made : {A : Type 0} → (A → Core) → Result A SyntaxKind → Result Core SyntaxKind
+made f r = r >>= (λ x. Ok (f x))
+
+-- a test and a body
+abbrev pub pair : Result Core SyntaxKind → Result Core SyntaxKind → Result (Core × Core) SyntaxKind
+pair t b = t >>= (λ t. b >>= (λ b. Ok (t, b)))
+
+abbrev pub of_op : Op → List Core → Core
+of_op o cs = prim o (cores_of cs)
+
+-- one item of a joined list
+abbrev pub alone : Core → Core
+alone c = of_op op.List (c ∷ [])
 
 abbrev pub quoted : Vals → Result Core SyntaxKind
 quoted (val v no_vals) = Ok (lit v)
 quoted _ = Err Shape
 
-abbrev pub vals_length : Vals → ℕ
-vals_length no_vals = 0
-vals_length (val v vs) = vals_length vs + 1
+abbrev pub variable : List (List ℕ) → List ℕ → Result Core SyntaxKind
+variable scope x = or_fault Unbound (place_of x scope) >>= (λ k. Ok (var k))
 
--- an expression within these variables; inside a page, nothing is sent
+-- the value of a cell
+abbrev pub ref_form : CellNames → CellKind → Vals → Result Core SyntaxKind
+ref_form cells kind (val (symbol c) no_vals) = cell_number kind cells c >>= (λ k. Ok (ref kind k))
+ref_form cells kind _ = Err Shape
+
+-- an expression within these variables, the innermost first, and with these cells; a page body sends nothing and writes nothing
 abbrev mutual
-  pub core_of : List (List ℕ) → Bool → Val → Result Core SyntaxKind
-  core_of scope inside (number n) = Ok (lit (number n))
-  core_of scope inside (truth b) = Ok (lit (truth b))
-  core_of scope inside (text t) = Ok (lit (text t))
-  core_of scope inside (symbol x) = variable (place_of x scope)
-  core_of scope inside (list (val (symbol s) vs)) = form_of scope inside (head_of s) vs
-  core_of scope inside (list _) = Err Shape
+  pub core_of : CellNames → List (List ℕ) → (in_page : Bool) → Val → Result Core SyntaxKind
+  core_of cells scope in_page (number n) = Ok (lit (number n))
+  core_of cells scope in_page (truth b) = Ok (lit (truth b))
+  core_of cells scope in_page (text t) = Ok (lit (text t))
+  core_of cells scope in_page (symbol x) = variable scope x
+  core_of cells scope in_page (list no_vals) = Err Shape
+  core_of cells scope in_page (list (val (symbol s) vs)) = form_of cells scope in_page (head_of s) (val (symbol s) vs)
+  core_of cells scope in_page (list _) = Err Shape
 
-  pub form_of : List (List ℕ) → Bool → Option Head → Vals → Result Core SyntaxKind
-  form_of scope inside None vs = Err Shape
-  form_of scope inside (Some Quote) vs = quoted vs
-  form_of scope inside (Some Let) (val (list bindings) (val body no_vals)) = do
-    names ← bound (names_of bindings [])
-    es ← bindings_of scope inside bindings
-    b ← core_of (names ++ scope) inside body
-    Ok (bind es b)
-  form_of scope inside (Some Let) _ = Err Shape
-  form_of scope true (Some Send) vs = Err NestedSend
-  form_of scope false (Some Send) (val (list (val (symbol l) (val (list (val (symbol u) no_vals)) (val body no_vals)))) no_vals) =
-      if bytes_eq l (codes "lambda") then (do
-        names ← bound (Some (u ∷ []))
-        b ← core_of (names ++ scope) true body
-        Ok (send b)) else Err Shape
-  form_of scope false (Some Send) _ = Err Shape
-  form_of scope inside (Some (Apply o)) no_vals = if takes o 0 then Ok (prim o no_cores) else Err Arity
-  form_of scope inside (Some (Apply o)) (val v vs) =
-      if takes o (vals_length vs + 1) then (do
-        c ← core_of scope inside v
-        cs ← cores_from scope inside vs
-        Ok (prim o (core c cs))) else Err Arity
+  -- expressions from left to right, behind those that are done
+  pub cores_from : CellNames → List (List ℕ) → Bool → List Core → Vals → Result (List Core) SyntaxKind
+  cores_from cells scope in_page done no_vals = Ok done
+  cores_from cells scope in_page done (val v vs) = do
+    c ← core_of cells scope in_page v
+    cores_from cells scope in_page (done ++ c ∷ []) vs
 
-  pub cores_from : List (List ℕ) → Bool → Vals → Result Cores SyntaxKind
-  cores_from scope inside no_vals = Ok no_cores
-  cores_from scope inside (val v vs) = do
-    c ← core_of scope inside v
-    cs ← cores_from scope inside vs
-    Ok (core c cs)
+  -- a form by its head: one line a row of the table
+  pub form_of : CellNames → List (List ℕ) → Bool → Option Head → Vals → Result Core SyntaxKind
+  form_of cells scope in_page h no_vals = Err Shape
+  form_of cells scope in_page None (val w vs) = Err Shape
+  form_of cells scope in_page (Some head.Define) (val w vs) = Err Shape
+  form_of cells scope in_page (Some head.Quote) (val w vs) = quoted vs
+  form_of cells scope in_page (Some head.Quasiquote) (val w vs) = quasiquote_form cells scope in_page vs
+  form_of cells scope in_page (Some head.Let) (val w vs) = let_form cells scope in_page vs
+  form_of cells scope in_page (Some head.LetInTurn) (val w vs) = let_in_turn_form cells scope in_page vs
+  form_of cells scope in_page (Some head.Begin) (val w vs) =
+      if is_empty vs then Err Shape else made sequence (cores_from cells scope in_page [] vs)
+  form_of cells scope in_page (Some head.If) (val w vs) = if_form cells scope in_page vs
+  form_of cells scope in_page (Some head.Cond) (val w vs) =
+      if not (are_clauses vs) then Err Shape else if not (ends_in_else vs) then Err NoElse else choices cells scope in_page [] vs
+  form_of cells scope in_page (Some head.And) (val w vs) = made conjunction (cores_from cells scope in_page [] vs)
+  form_of cells scope in_page (Some head.Or) (val w vs) = made disjunction (cores_from cells scope in_page [] vs)
+  form_of cells scope in_page (Some head.For) (val w vs) = for_form cells scope in_page vs
+  form_of cells scope in_page (Some (head.Ref kind)) (val w vs) = ref_form cells kind vs
+  form_of cells scope in_page (Some (head.Store kind)) (val w vs) = if in_page then Err Effect else store_form cells scope kind vs
+  form_of cells scope in_page (Some (head.Send kind)) (val w vs) = if in_page then Err NestedSend else send_form cells scope kind vs
+  form_of cells scope in_page (Some (head.Last kind)) (val w vs) =
+      if in_page then Err NestedSend else made (last_page kind) (only cells scope true vs)
+  form_of cells scope in_page (Some head.Isolate) (val w vs) = if in_page then Err NestedSend else made isolate (only cells scope false vs)
+  form_of cells scope in_page (Some (head.Apply o)) (val w vs) =
+      if takes o (count_of vs) then made (of_op o) (cores_from cells scope in_page [] vs) else Err Arity
 
-  -- the expressions of bindings
-  pub bindings_of : List (List ℕ) → Bool → Vals → Result Cores SyntaxKind
-  bindings_of scope inside no_vals = Ok no_cores
-  bindings_of scope inside (val (list (val x (val e no_vals))) vs) = do
-    c ← core_of scope inside e
-    cs ← bindings_of scope inside vs
-    Ok (core c cs)
-  bindings_of scope inside (val v vs) = Err Shape
+  -- `((x e) ..) b ..`, the names bound at once
+  pub let_form : CellNames → List (List ℕ) → Bool → Vals → Result Core SyntaxKind
+  let_form cells scope in_page (val (list bindings) body) = do
+    names ← names_before body (names_of bindings [])
+    _ ← free_at_once cells names
+    es ← bound_values cells scope in_page [] bindings
+    b ← made sequence (cores_from cells (names ++ scope) in_page [] body)
+    Ok (bind (cores_of es) b)
+  let_form cells scope in_page _ = Err Shape
 
--- the expression of a binding
-abbrev pub binding_of : List (List ℕ) → Bool → Val → Result Core SyntaxKind
-binding_of scope inside (list (val x (val e no_vals))) = core_of scope inside e
-binding_of scope inside _ = Err Shape
+  -- the expressions of bindings, behind those that are done
+  pub bound_values : CellNames → List (List ℕ) → Bool → List Core → Vals → Result (List Core) SyntaxKind
+  bound_values cells scope in_page done no_vals = Ok done
+  bound_values cells scope in_page done (val v vs) = do
+    c ← bound_value cells scope in_page v
+    bound_values cells scope in_page (done ++ c ∷ []) vs
 
--- bindings and their body
-abbrev pub let_of : List (List ℕ) → Bool → Vals → Val → Result Core SyntaxKind
-let_of scope inside bindings body = do
-  names ← bound (names_of bindings [])
-  es ← bindings_of scope inside bindings
-  b ← core_of (names ++ scope) inside body
-  Ok (bind es b)
+  -- the expression of a binding `(x e)`
+  pub bound_value : CellNames → List (List ℕ) → Bool → Val → Result Core SyntaxKind
+  bound_value cells scope in_page (list (val x (val e no_vals))) = core_of cells scope in_page e
+  bound_value cells scope in_page _ = Err Shape
 
--- a page of this parameter and body
-abbrev pub page_from : List (List ℕ) → List ℕ → Val → Result Core SyntaxKind
-page_from scope u body = do
-  names ← bound (Some (u ∷ []))
-  b ← core_of (names ++ scope) true body
-  Ok (send b)
+  -- `((x e) ..) b ..`, each expression within the names before it
+  pub let_in_turn_form : CellNames → List (List ℕ) → Bool → Vals → Result Core SyntaxKind
+  let_in_turn_form cells scope in_page (val (list bindings) body) = do
+    names ← names_before body (names_of bindings [])
+    _ ← free_in_turn cells names
+    es ← values_in_turn cells scope in_page [] bindings
+    b ← made sequence (cores_from cells (names ++ scope) in_page [] body)
+    Ok (nest es b)
+  let_in_turn_form cells scope in_page _ = Err Shape
 
--- an operation over its operands
-abbrev pub operation_of : List (List ℕ) → Bool → Op → Vals → Result Core SyntaxKind
-operation_of scope inside o vs =
-    if takes o (vals_length vs) then cores_from scope inside vs >>= (λ cs. Ok (prim o cs)) else Err Arity
+  pub values_in_turn : CellNames → List (List ℕ) → Bool → List Core → Vals → Result (List Core) SyntaxKind
+  values_in_turn cells scope in_page done no_vals = Ok done
+  values_in_turn cells scope in_page done (val v vs) = do
+    c ← bound_value cells scope in_page v
+    x ← or_fault Shape (bound_name v)
+    values_in_turn cells (x ∷ scope) in_page (done ++ c ∷ []) vs
 
--- more than 16,384 nodes, or one nested deeper than 1,024
-abbrev pub is_too_many : Core → Bool
-is_too_many c = nat_lt 16384 (count c) || nat_lt 1024 (height c)
+  pub if_form : CellNames → List (List ℕ) → Bool → Vals → Result Core SyntaxKind
+  if_form cells scope in_page (val t (val a (val b no_vals))) = do
+    t ← core_of cells scope in_page t
+    a ← core_of cells scope in_page a
+    b ← core_of cells scope in_page b
+    Ok (branch t a b)
+  if_form cells scope in_page _ = Err Shape
 
-abbrev pub limited : Result Core SyntaxKind → Result Core (SyntaxKind × ℕ)
-limited (Err k) = Err (k, 0)
-limited (Ok c) = if is_too_many c then Err (TooMany, 0) else Ok c
+  -- the clauses of a `cond`, the last of which is its `else`, behind the choices that are done
+  pub choices : CellNames → List (List ℕ) → Bool → List (Core × Core) → Vals → Result Core SyntaxKind
+  choices cells scope in_page done no_vals = Err NoElse
+  choices cells scope in_page done (val c cs) =
+      if is_empty cs then made (choose done) (choice_body cells scope in_page c) else (do
+        p ← pair (choice_test cells scope in_page c) (choice_body cells scope in_page c)
+        choices cells scope in_page (done ++ p ∷ []) cs)
 
--- a script is one expression; a fault names the form in which it stands
-unfoldable pub script_of : List Val → Result Core (SyntaxKind × ℕ)
-script_of [] = Err (Shape, 0)
-script_of (v ∷ []) = limited (core_of [] false v)
-script_of (v ∷ w ∷ vs) = Err (Shape, 0)
+  pub choice_test : CellNames → List (List ℕ) → Bool → Val → Result Core SyntaxKind
+  choice_test cells scope in_page (list (val t body)) = core_of cells scope in_page t
+  choice_test cells scope in_page _ = Err Shape
+
+  pub choice_body : CellNames → List (List ℕ) → Bool → Val → Result Core SyntaxKind
+  choice_body cells scope in_page (list (val t body)) = made sequence (cores_from cells scope in_page [] body)
+  choice_body cells scope in_page _ = Err Shape
+
+  -- `((x e)) b ..`
+  pub for_form : CellNames → List (List ℕ) → Bool → Vals → Result Core SyntaxKind
+  for_form cells scope in_page (val (list bindings) body) = do
+    names ← names_before body (single_name bindings)
+    _ ← free_at_once cells names
+    n ← single_value cells scope in_page bindings
+    b ← made sequence (cores_from cells (names ++ scope) in_page [] body)
+    Ok (repeat n b)
+  for_form cells scope in_page _ = Err Shape
+
+  -- the expression of the one binding
+  pub single_value : CellNames → List (List ℕ) → Bool → Vals → Result Core SyntaxKind
+  single_value cells scope in_page (val v no_vals) = bound_value cells scope in_page v
+  single_value cells scope in_page _ = Err Shape
+
+  -- `(lambda (u) b ..)`, whose body is that of a page
+  pub send_form : CellNames → List (List ℕ) → SendKind → Vals → Result Core SyntaxKind
+  send_form cells scope kind (val (list (val l (val p body))) no_vals) =
+      if is_word (codes "lambda") l then (do
+        names ← names_before body (parameter p)
+        _ ← free_at_once cells names
+        b ← made sequence (cores_from cells (names ++ scope) true [] body)
+        Ok (send kind b)) else Err Shape
+  send_form cells scope kind _ = Err Shape
+
+  -- the only expression
+  pub only : CellNames → List (List ℕ) → Bool → Vals → Result Core SyntaxKind
+  only cells scope in_page (val e no_vals) = core_of cells scope in_page e
+  only cells scope in_page _ = Err Shape
+
+  -- `c e`
+  pub store_form : CellNames → List (List ℕ) → Store → Vals → Result Core SyntaxKind
+  store_form cells scope kind (val (symbol c) (val e no_vals)) = do
+    k ← cell_number (written kind) cells c
+    e ← core_of cells scope false e
+    Ok (store kind k e)
+  store_form cells scope kind _ = Err Shape
+
+  -- one template
+  pub quasiquote_form : CellNames → List (List ℕ) → Bool → Vals → Result Core SyntaxKind
+  quasiquote_form cells scope in_page (val t no_vals) = if is_template t then filled cells scope in_page t else Err Shape
+  quasiquote_form cells scope in_page _ = Err Shape
+
+  -- a template with its expressions in their places
+  pub filled : CellNames → List (List ℕ) → Bool → Val → Result Core SyntaxKind
+  filled cells scope in_page (list vs) =
+      if is_plain (list vs) then Ok (lit (list vs)) else
+      if begins (codes "unquote") vs then unquoted cells scope in_page vs else
+      if has_splice vs then made (of_op op.Append) (spliced cells scope in_page [] vs) else
+      made (of_op op.List) (all_filled cells scope in_page [] vs)
+  filled cells scope in_page v = Ok (lit v)
+
+  -- the items of a list, behind those that are done
+  pub all_filled : CellNames → List (List ℕ) → Bool → List Core → Vals → Result (List Core) SyntaxKind
+  all_filled cells scope in_page done no_vals = Ok done
+  all_filled cells scope in_page done (val v vs) = do
+    c ← filled cells scope in_page v
+    all_filled cells scope in_page (done ++ c ∷ []) vs
+
+  -- the parts of a list that is joined, behind those that are done: what an unquote-splicing gives, and each other item alone
+  pub spliced : CellNames → List (List ℕ) → Bool → List Core → Vals → Result (List Core) SyntaxKind
+  spliced cells scope in_page done no_vals = Ok done
+  spliced cells scope in_page done (val v vs) = do
+    c ← if is_splice v then expression_in cells scope in_page v else made alone (filled cells scope in_page v)
+    spliced cells scope in_page (done ++ c ∷ []) vs
+
+  -- the expression of `(unquote e)` or `(unquote-splicing e)`
+  pub unquoted : CellNames → List (List ℕ) → Bool → Vals → Result Core SyntaxKind
+  unquoted cells scope in_page (val w (val e no_vals)) = core_of cells scope in_page e
+  unquoted cells scope in_page _ = Err Shape
+
+  pub expression_in : CellNames → List (List ℕ) → Bool → Val → Result Core SyntaxKind
+  expression_in cells scope in_page (list vs) = unquoted cells scope in_page vs
+  expression_in cells scope in_page _ = Err Shape
+
+-- the test and the body of a clause of a `cond`
+abbrev pub choice : CellNames → List (List ℕ) → Bool → Val → Result (Core × Core) SyntaxKind
+choice cells scope in_page c = pair (choice_test cells scope in_page c) (choice_body cells scope in_page c)
+
+-- a body
+abbrev pub body_of : CellNames → List (List ℕ) → Bool → Vals → Result Core SyntaxKind
+body_of cells scope in_page body = made sequence (cores_from cells scope in_page [] body)
+
+-- a part of a list that is joined: what an unquote-splicing gives, or another item alone
+abbrev pub part_of : CellNames → List (List ℕ) → Bool → Val → Result Core SyntaxKind
+part_of cells scope in_page v = if is_splice v then expression_in cells scope in_page v else made alone (filled cells scope in_page v)
+
+-- the form of this name and these parts
+abbrev pub named_form : CellNames → List (List ℕ) → Bool → List ℕ → Vals → Result Core SyntaxKind
+named_form cells scope in_page name parts = form_of cells scope in_page (head_of name) (val (symbol name) parts)
+
+-- the row of this head with these parts, whichever word stands for the head
+abbrev pub row_of : CellNames → List (List ℕ) → Bool → Head → Vals → Result Core SyntaxKind
+row_of cells scope in_page h parts = form_of cells scope in_page (Some h) (val (symbol []) parts)

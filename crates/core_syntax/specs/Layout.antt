@@ -5,7 +5,11 @@ use Rattle.script_value.specs.declared.value.Value.{Value}
 use Rattle.script_value.specs.declared.value.Value.TheVariants as value
 use Rattle.core_syntax.specs.declared.script.Node.{Node}
 use Rattle.core_syntax.specs.declared.script.Node.TheVariants as node
-use Rattle.core_syntax.specs.Core.{Core, Cores, lit, var, bind, prim, send, no_cores, core, count, count_all}
+use Rattle.core_syntax.specs.declared.heads.LastPage.{LastPage}
+use Rattle.core_syntax.specs.declared.heads.LastPage.TheVariants.{Finish, Back}
+use Rattle.core_syntax.specs.declared.heads.Store.{Store}
+use Rattle.core_syntax.specs.declared.heads.Store.TheVariants.{Shadow, Set, Add}
+use Rattle.core_syntax.specs.Core.{Core, Cores, lit, var, bind, branch, repeat, prim, seq, and_all, or_any, send, finish, back, isolate, cell_ref, cell_shadow, inst_ref, inst_set, inst_add, no_cores, core, count, count_all}
 
 -- the value that a tree of values is
 abbrev pub value_from : Val → Value
@@ -27,9 +31,34 @@ abbrev mutual
   layout n (var k) = node.Var k ∷ []
   layout n (bind es b) =
       node.Let (starts (n + 1) es) (n + 1 + count_all es) ∷ (layout_all (n + 1) es ++ layout (n + 1 + count_all es) b)
+  layout n (branch t a b) =
+      node.If (n + 1) (n + 1 + count t) (n + 1 + count t + count a)
+      ∷ (layout (n + 1) t ++ (layout (n + 1 + count t) a ++ layout (n + 1 + count t + count a) b))
+  layout n (repeat e b) = node.For (n + 1) (n + 1 + count e) ∷ (layout (n + 1) e ++ layout (n + 1 + count e) b)
   layout n (prim o es) = node.Prim o (starts (n + 1) es) ∷ layout_all (n + 1) es
-  layout n (send b) = node.Send (n + 1) ∷ layout (n + 1) b
+  layout n (seq es) = node.Seq (starts (n + 1) es) ∷ layout_all (n + 1) es
+  layout n (and_all es) = node.And (starts (n + 1) es) ∷ layout_all (n + 1) es
+  layout n (or_any es) = node.Or (starts (n + 1) es) ∷ layout_all (n + 1) es
+  layout n (send kind b) = node.Send kind (n + 1) ∷ layout (n + 1) b
+  layout n (finish b) = node.Finish (n + 1) ∷ layout (n + 1) b
+  layout n (back b) = node.Back (n + 1) ∷ layout (n + 1) b
+  layout n (isolate b) = node.Isolate (n + 1) ∷ layout (n + 1) b
+  layout n (cell_ref c) = node.CellRef c ∷ []
+  layout n (cell_shadow c e) = node.CellShadow c (n + 1) ∷ layout (n + 1) e
+  layout n (inst_ref c) = node.InstRef c ∷ []
+  layout n (inst_set c e) = node.InstSet c (n + 1) ∷ layout (n + 1) e
+  layout n (inst_add c e) = node.InstAdd c (n + 1) ∷ layout (n + 1) e
 
   pub layout_all : ℕ → Cores → List Node
   layout_all n no_cores = []
   layout_all n (core c cs) = layout n c ++ layout_all (n + count c) cs
+
+-- the nodes that send a last page, and that write a cell
+abbrev pub last_node : LastPage → ℕ → Node
+last_node Finish b = node.Finish b
+last_node Back b = node.Back b
+
+abbrev pub store_node : Store → ℕ → ℕ → Node
+store_node Shadow c e = node.CellShadow c e
+store_node Set c e = node.InstSet c e
+store_node Add c e = node.InstAdd c e

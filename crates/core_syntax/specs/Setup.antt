@@ -1,9 +1,34 @@
 -- A setup: scripts with their names and texts.
-use Rattle.std.specs.Prelude.{ℕ, List}
+use Rattle.std.specs.Prelude.{ℕ, List, Bool, Option, Some, None, option_map, position, slice_get}
+use Rattle.std.specs.Str.{bytes_eq}
+use Rattle.script_value.specs.Val.{Val}
 use Rattle.core_syntax.specs.Core.{Core}
 
--- a script's name, its text, and the tree that the text stands for
+-- what a script means: what its web cells and its instance cells begin with, and its expression
+pub record Script : Type 0 where
+  pub web : List Val
+  pub cells : List Val
+  pub body : Core
+
+-- a script's name, its text, and what the text means
 pub record Named : Type 0 where
   pub name : List ℕ
   pub text : List ℕ
-  pub core : Core
+  pub script : Script
+
+-- has this name
+abbrev pub has_name : List ℕ → Named → Bool
+has_name name s = bytes_eq s.name name
+
+-- the place of the first script of a name
+abbrev pub place_named : List ℕ → List Named → Option ℕ
+place_named name scripts = position (has_name name) scripts
+
+-- the script of a place
+abbrev pub script_at : List Named → Option ℕ → Option Script
+script_at scripts None = None
+script_at scripts (Some k) = option_map (λ s. s.script) (slice_get scripts k)
+
+-- the first script of a name
+abbrev pub script_named : List ℕ → List Named → Option Script
+script_named name scripts = script_at scripts (place_named name scripts)

@@ -1,69 +1,76 @@
 -- Parts of data.
-use Rattle.std.specs.Prelude.{ℕ, Bool, false, List, Option, Some, None, codes, if◌then◌else◌}
+use Rattle.core_syntax.specs.declared.faults.SyntaxKind.{SyntaxKind}
+use Rattle.core_syntax.specs.declared.faults.SyntaxKind.TheVariants.{Shape}
+use Rattle.core_syntax.specs.Names.{or_fault}
+use Rattle.std.specs.Prelude.{ℕ, ◌+◌, ◌&&◌, Bool, true, false, List, [], ◌∷◌, Option, Some, None, Result, Err, codes, if◌then◌else◌}
 use Rattle.std.specs.Str.{bytes_eq}
 use Rattle.script_value.specs.Val.{Val, Vals, symbol, list, no_vals, val}
 
-abbrev pub symbol_of : Val → Option (List ℕ)
-symbol_of (symbol x) = Some x
-symbol_of _ = None
+abbrev pub count_of : Vals → ℕ
+count_of no_vals = 0
+count_of (val v vs) = count_of vs + 1
 
-abbrev pub items_in : Val → Option Vals
-items_in (list vs) = Some vs
-items_in _ = None
+abbrev pub is_empty : Vals → Bool
+is_empty no_vals = true
+is_empty (val v vs) = false
 
--- the only item
-abbrev pub one_of : Vals → Option Val
-one_of (val v no_vals) = Some v
-one_of _ = None
+-- whether this is the symbol of these characters
+abbrev pub is_word : List ℕ → Val → Bool
+is_word word (symbol s) = bytes_eq s word
+is_word word _ = false
 
--- two items
-abbrev pub two_of : Vals → Option (Val × Val)
-two_of (val v (val w no_vals)) = Some (v, w)
-two_of _ = None
+-- whether a list begins with the symbol of these characters
+abbrev pub begins : List ℕ → Vals → Bool
+begins word no_vals = false
+begins word (val v vs) = is_word word v
 
--- three items
-abbrev pub three_of : Vals → Option (Val × Val × Val)
-three_of (val v (val w (val x no_vals))) = Some (v, w, x)
-three_of _ = None
+abbrev pub is_headed : List ℕ → Val → Bool
+is_headed word (list vs) = begins word vs
+is_headed word _ = false
 
 abbrev pub on : {A B : Type 0} → Option A → (A → Option B) → Option B
 on None f = None
 on (Some x) f = f x
 
--- the name of a binding, a list of a symbol and an expression
+abbrev pub symbol_in : Val → Option (List ℕ)
+symbol_in (symbol x) = Some x
+symbol_in _ = None
+
+-- the name of a binding `(name expression)`
 abbrev pub bound_name : Val → Option (List ℕ)
-bound_name v = on (items_in v) (λ vs. on (two_of vs) (λ p. symbol_of p.0))
+bound_name (list (val x (val e no_vals))) = symbol_in x
+bound_name _ = None
 
--- the expression of a binding
-abbrev pub bound_value : Val → Option Val
-bound_value v = on (items_in v) (λ vs. on (two_of vs) (λ p. Some p.1))
+-- the names of bindings, the last first, in front of others
+abbrev pub names_of : Vals → List (List ℕ) → Option (List (List ℕ))
+names_of no_vals names = Some names
+names_of (val v vs) names = on (bound_name v) (λ x. names_of vs (x ∷ names))
 
--- the bindings and the body of a `let`
-abbrev pub let_parts : Vals → Option (Vals × Val)
-let_parts vs = on (two_of vs) (λ p. on (items_in p.0) (λ bindings. Some (bindings, p.1)))
+-- the name of the one binding
+abbrev pub single_name : Vals → Option (List (List ℕ))
+single_name (val v no_vals) = on (bound_name v) (λ x. Some (x ∷ []))
+single_name _ = None
 
--- the only item of a list, where it is a symbol
-abbrev pub parameter : Val → Option (List ℕ)
-parameter v = on (items_in v) (λ vs. on (one_of vs) symbol_of)
+-- the one parameter `(u)` of a function
+abbrev pub parameter : Val → Option (List (List ℕ))
+parameter (list (val u no_vals)) = on (symbol_in u) (λ x. Some (x ∷ []))
+parameter _ = None
 
-abbrev pub is_lambda : Val → Bool
-is_lambda (symbol l) = bytes_eq l (codes "lambda")
-is_lambda _ = false
+-- the names in front of a body, which has one expression or more
+abbrev pub names_before : Vals → Option (List (List ℕ)) → Result (List (List ℕ)) SyntaxKind
+names_before no_vals names = Err Shape
+names_before (val b bs) names = or_fault Shape names
 
--- the parameter and the body of a function
-abbrev pub function_parts : Val × Val × Val → Option (List ℕ × Val)
-function_parts p = on (parameter p.1) (λ u. if is_lambda p.0 then Some (u, p.2) else None)
+-- each clause of a `cond` is a list of a test and a body
+abbrev pub is_clause : Val → Bool
+is_clause (list (val t (val b bs))) = true
+is_clause _ = false
 
--- the parameter and the body of the one function `(lambda (name) body)`
-abbrev pub page_of : Vals → Option (List ℕ × Val)
-page_of vs = on (one_of vs) (λ v. on (items_in v) (λ ws. on (three_of ws) function_parts))
+abbrev pub are_clauses : Vals → Bool
+are_clauses no_vals = true
+are_clauses (val v vs) = is_clause v && are_clauses vs
 
--- the symbol at the head of a list, and the items behind it
-abbrev pub named : Vals → Option (List ℕ × Vals)
-named (val (symbol s) vs) = Some (s, vs)
-named _ = None
-
--- the first item and those behind it
-abbrev pub first_of : Vals → Option (Val × Vals)
-first_of no_vals = None
-first_of (val v vs) = Some (v, vs)
+-- the last clause of a `cond` is headed by `else`
+abbrev pub ends_in_else : Vals → Bool
+ends_in_else no_vals = false
+ends_in_else (val v vs) = if is_empty vs then is_headed (codes "else") v else ends_in_else vs

@@ -1,37 +1,53 @@
 ghost use Rattle.std.specs.Prelude.{◌≡◌};
 
 use std::alloc::{AllocError, AllocFailed};
+use thiserror::Error;
 
 /// Why data are no script.
-#[derive(Clone, Copy, Debug, PartialEq, Eq)]
+#[derive(Clone, Copy, Debug, PartialEq, Eq, Error)]
 pub enum SyntaxKind {
-    /// The parts of a form are not as the table of forms says, or there is not one expression.
+    /// The parts of a form are not as the table of forms says, or there is no expression behind the definitions.
+    #[error("the parts of a form are not as they have to be")]
     Shape,
-    /// A variable has no binding.
+    /// A variable has no binding, or there is no cell of this kind and name.
+    #[error("a variable has no binding, or there is no such cell")]
     Unbound,
-    /// A name is bound twice in one `let`, or is that of a form or an operation.
+    /// A name is bound twice in one `let`, a cell is defined twice, or a bound name is that of a form, an operation or a cell.
+    #[error("a name is bound twice, or is one that cannot be bound")]
     Duplicate,
     /// An operation has too few or too many operands.
+    #[error("an operation has too few or too many operands")]
     Arity,
-    /// A page sends a page.
+    /// A page body sends a page or enters a transaction.
+    #[error("a page body sends a page or enters a transaction")]
     NestedSend,
-    /// There are more than 16,384 nodes, or one nests deeper than 1,024.
+    /// A page body writes a cell.
+    #[error("a page body writes a cell")]
+    Effect,
+    /// There are more than 64 cells or 16,384 nodes, or a node nests deeper than 1,024.
+    #[error("there are too many cells or nodes, or a node nests too deep")]
     TooMany,
+    /// The last clause of a `cond` is not `else`.
+    #[error("the last clause of a cond is not else")]
+    NoElse,
 }
 
 /// The first fault, and the number of the form in which it stands, the first being 0.
-#[derive(Clone, Copy, Debug, PartialEq, Eq)]
+#[derive(Clone, Copy, Debug, PartialEq, Eq, Error)]
+#[error("form {form}: {kind}")]
 pub struct SyntaxError {
     pub kind: SyntaxKind,
     pub form: u32,
 }
 
 /// Why there is no script.
-#[derive(Clone, Copy, Debug, PartialEq, Eq)]
+#[derive(Clone, Copy, Debug, PartialEq, Eq, Error)]
 pub enum ExpandFault {
     /// Memory ran out.
+    #[error("memory ran out")]
     Memory,
     /// The data are no script.
+    #[error("{0}")]
     At(SyntaxError),
 }
 
@@ -52,5 +68,36 @@ impl<T: Drop> From<AllocFailed<T>> for ExpandFault {
 
     fn from(_e: AllocFailed<T>) -> ExpandFault {
         ExpandFault::Memory
+    }
+}
+
+/// Why data gave no tree.
+#[derive(Clone, Copy, Debug, PartialEq, Eq, Error)]
+pub enum ReadFault {
+    /// Memory ran out.
+    #[error("memory ran out")]
+    Memory,
+    /// The data are not as the table of forms says.
+    #[error("{0}")]
+    Syntax(SyntaxKind),
+}
+
+impl From<AllocError> for ReadFault {
+    ghost use Rattle.core_syntax.specs.declared.faults.ReadFault.TheVariants.{Memory};
+
+    ghost from_gives = { λ _ e. e ≡ Memory };
+
+    fn from(_e: AllocError) -> ReadFault {
+        ReadFault::Memory
+    }
+}
+
+impl<T: Drop> From<AllocFailed<T>> for ReadFault {
+    ghost use Rattle.core_syntax.specs.declared.faults.ReadFault.TheVariants.{Memory};
+
+    ghost from_gives = { λ _ e. e ≡ Memory };
+
+    fn from(_e: AllocFailed<T>) -> ReadFault {
+        ReadFault::Memory
     }
 }

@@ -1,56 +1,111 @@
-ghost use Rattle.std.specs.Prelude.{◌≡◌, ℕ, List, [], ◌∷◌, map, IfOk, OnOk, Ok, Err, Some, None, Result, false, option_map, length};
-ghost use Rattle.script_value.specs.Meaning.{meaning};
-ghost use Rattle.core_syntax.specs.declared.faults.SyntaxKind.{SyntaxKind};
-ghost use Rattle.core_syntax.specs.Core.{Core};
-ghost use Rattle.core_syntax.specs.Arena.{tree_at};
+ghost use Rattle.std.specs.Prelude.{◌≡◌, [], IfOk, IsTrue, false, length, map};
+ghost use Rattle.script_value.specs.Views.{meaning};
+ghost use Rattle.core_syntax.specs.Arena.{script_of, tree_at};
+ghost use Rattle.core_syntax.specs.Closed.{IsClosed};
+ghost use Rattle.core_syntax.specs.Definitions.{begins_well, expanded, expression_at};
+ghost use Rattle.core_syntax.specs.DefinitionsSeen.{cells_of};
+ghost use Rattle.core_syntax.specs.Expands.{Expands, ExpandsFault, IsLevel};
 ghost use Rattle.core_syntax.specs.Layout.{layout};
-ghost use Rattle.core_syntax.specs.Forms.{script_of, limited, core_of};
-ghost use Rattle.core_syntax.specs.Expands.{Expands};
 
-use crate::emit::emit;
-use crate::emitter::{EmitFault, Emitter};
-use crate::faults::{ExpandFault, SyntaxError, SyntaxKind};
+use crate::defined::Defined;
+use crate::faults::{ExpandFault, ReadFault, SyntaxError, SyntaxKind};
+use crate::layout::lay;
 use crate::names::Names;
+use crate::nodes::{LayFault, Nodes};
+use crate::read::read;
 use crate::script::Script;
-use crate::shapes::one_of;
+use crate::shapes::is_headed;
 use script_value::Value;
 use std::alloc::Global;
 
 /// How deep a script's nodes may nest.
 const DEPTH_LIMIT: u32 = 1_024;
 
-/// The script that data are: one expression of the core language.
+/// The script that data are: definitions of cells, and then one expression.
 pub fn expand(alloc: Global, forms: &[Value]) -> Result<Script, ExpandFault>
-    ensures table { Expands result (script_of (map meaning forms.now)) }
-    ensures numbered { IfOk result (λ s. s ≡ layout 0 (tree_at s 0)) }
-    // That these are no one expression is told, whatever memory there is.
-    ensures memory { result ≡ Err ExpandFault.Memory → length forms.now ≡ 1 }
+    ensures table { Expands result (expanded (map meaning forms.now)) }
+    ensures numbered { IfOk result (λ s. s.nodes ≡ layout 0 (tree_at s.nodes 0)) }
+    ensures closed { IfOk result (λ s. IsClosed (length s.web) (length s.cells) 0 false (script_of s).body) }
+    // That there is no expression, or that the first of several forms is no definition, is told whatever memory there is.
+    ensures memory { result ≡ Err ExpandFault.Memory → IsTrue (begins_well (map meaning forms.now)) }
 {
-    match one_of(forms) {
-        None => Err(at_first(SyntaxKind::Shape)),
-        Some(form) => expand_one(alloc, form),
+    if !begins_well(forms) {
+        return Err(at(0, SyntaxKind::Shape));
+    }
+    expand_forms(alloc, forms)
+}
+
+/// Whether there is one form, or the first of several is headed by `define`.
+fn begins_well(forms: &[Value]) -> bool
+    ensures { result ≡ begins_well (map meaning forms.now) }
+{
+    match forms {
+        [] => false,
+        [first, others @ ..] => others.is_empty() || is_headed("define", first),
     }
 }
 
-fn expand_one(alloc: Global, form: &Value) -> Result<Script, ExpandFault>
-    ensures table { Expands result (limited (core_of [] false (meaning form.now))) }
-    ensures numbered { IfOk result (λ s. s ≡ layout 0 (tree_at s 0)) }
+fn expand_forms(alloc: Global, forms: &[Value]) -> Result<Script, ExpandFault>
+    ensures table { Expands result (expanded (map meaning forms.now)) }
+    ensures numbered { IfOk result (λ s. s.nodes ≡ layout 0 (tree_at s.nodes 0)) }
+    ensures closed { IfOk result (λ s. IsClosed (length s.web) (length s.cells) 0 false (script_of s).body) }
 {
-    let mut out = Emitter::new(alloc);
+    let mut defined = Defined::new(alloc);
+    for place in 0..forms.len() {
+        let form = &forms[place];
+        let number = defined.names.len() as u32;
+        if !is_headed("define", form) {
+            if place + 1 < forms.len() {
+                return Err(at(number, SyntaxKind::Shape));
+            }
+            return expand_expression(alloc, defined, number, form);
+        }
+        match defined.define(alloc, form) {
+            Ok(()) => {}
+            Err(fault) => return Err(at_number(number, fault)),
+        }
+    }
+    Err(at(defined.names.len() as u32, SyntaxKind::Shape))
+}
+
+/// The script of these cells and this expression, which is the form of this number.
+fn expand_expression<'a>(
+    alloc: Global,
+    defined: Defined<'a>,
+    number: u32,
+    form: &'a Value,
+) -> Result<Script, ExpandFault>
+    requires { IsLevel (cells_of defined) }
+    ensures table { Expands result (expression_at number (cells_of defined.entry) (meaning form.now) []) }
+    ensures numbered { IfOk result (λ s. s.nodes ≡ layout 0 (tree_at s.nodes 0)) }
+    ensures closed { IfOk result (λ s. IsClosed (length s.web) (length s.cells) 0 false (script_of s).body) }
+{
     let mut scope = Names::new(alloc);
-    match emit(alloc, &mut out, &mut scope, false, DEPTH_LIMIT, form) {
-        Err(EmitFault::Memory) => Err(ExpandFault::Memory),
-        Err(EmitFault::Syntax(kind)) => Err(at_first(kind)),
-        Ok(()) => match out.into_nodes() {
-            None => Err(at_first(SyntaxKind::TooMany)),
-            Some(nodes) => Ok(Script::from_nodes(nodes)),
-        },
+    let tree = match read(alloc, &defined.names, &mut scope, false, form) {
+        Ok(tree) => tree,
+        Err(fault) => return Err(at_number(number, fault)),
+    };
+    let mut nodes = Nodes::new(alloc);
+    match lay(alloc, &mut nodes, DEPTH_LIMIT, &tree) {
+        Err(LayFault::Memory) => Err(ExpandFault::Memory),
+        Err(LayFault::TooMany) => Err(at(number, SyntaxKind::TooMany)),
+        Ok(_) => Ok(Script::from_parts(nodes.into_vec(), defined.web, defined.instance)),
     }
 }
 
-/// A fault of the first form.
-fn at_first(kind: SyntaxKind) -> ExpandFault
-    ensures { result ≡ ExpandFault.At record { kind = kind; form = 0 } }
+/// A fault of the form of this number.
+fn at(number: u32, kind: SyntaxKind) -> ExpandFault
+    ensures { result ≡ ExpandFault.At record { kind = kind; form = number } }
 {
-    ExpandFault::At(SyntaxError { kind, form: 0 })
+    ExpandFault::At(SyntaxError { kind, form: number })
+}
+
+/// What a fault is in the form of this number.
+fn at_number(number: u32, fault: ReadFault) -> ExpandFault
+    ensures { ExpandsFault result number fault }
+{
+    match fault {
+        ReadFault::Memory => ExpandFault::Memory,
+        ReadFault::Syntax(kind) => at(number, kind),
+    }
 }

@@ -1,30 +1,127 @@
 ghost use Rattle.std.specs.Prelude.{◌≡◌};
-ghost use Rattle.core_syntax.specs.Forms.{head_of};
+ghost use Rattle.core_syntax.specs.Heads.{head_of};
 
+use crate::script::SendKind;
 use script_value::Op;
+
+/// The kinds of cells.
+#[derive(Clone, Copy, Debug, PartialEq, Eq)]
+pub enum CellKind {
+    /// Cells of the visitor's page, bound by shadows.
+    Web,
+    /// Cells of the instance.
+    Instance,
+}
+
+/// What a form does to the cell that it names.
+#[derive(Clone, Copy, Debug, PartialEq, Eq)]
+pub enum Store {
+    /// `web-cell-shadow`
+    Shadow,
+    /// `instance-cell-set!`
+    Set,
+    /// `instance-cell-add!`
+    Add,
+}
+
+/// How a page is sent that waits for no answer.
+#[derive(Clone, Copy, Debug, PartialEq, Eq)]
+pub enum LastPage {
+    /// `send/finish`
+    Finish,
+    /// `send/back`
+    Back,
+}
 
 /// What a name at the head of a list says.
 #[derive(Clone, Copy, Debug, PartialEq, Eq)]
 pub enum Head {
     Quote,
+    Quasiquote,
     Let,
-    Send,
+    /// `let*`
+    LetInTurn,
+    Begin,
+    If,
+    Cond,
+    And,
+    Or,
+    /// `for/list`
+    For,
+    /// `web-cell-ref` or `instance-cell-ref`
+    Ref(CellKind),
+    Store(Store),
+    /// `send/suspend` or `send/forward`
+    Send(SendKind),
+    Last(LastPage),
+    Isolate,
+    Define,
     Apply(Op),
 }
 
 /// The form or the operation of a name.
+#[tactic(auto, unfolding(crate::specs::Heads::head_of))]
 pub fn head_of(name: &str) -> Option<Head>
     ensures { result ≡ head_of name.now }
 {
     match name {
         "quote" => Some(Head::Quote),
+        "quasiquote" => Some(Head::Quasiquote),
         "let" => Some(Head::Let),
-        "send/suspend" => Some(Head::Send),
+        "let*" => Some(Head::LetInTurn),
+        "begin" => Some(Head::Begin),
+        "if" => Some(Head::If),
+        "cond" => Some(Head::Cond),
+        "and" => Some(Head::And),
+        "or" => Some(Head::Or),
+        "for/list" => Some(Head::For),
+        "web-cell-ref" => Some(Head::Ref(CellKind::Web)),
+        "web-cell-shadow" => Some(Head::Store(Store::Shadow)),
+        "instance-cell-ref" => Some(Head::Ref(CellKind::Instance)),
+        "instance-cell-set!" => Some(Head::Store(Store::Set)),
+        "instance-cell-add!" => Some(Head::Store(Store::Add)),
+        "send/suspend" => Some(Head::Send(SendKind::Suspend)),
+        "send/forward" => Some(Head::Send(SendKind::Forward)),
+        "send/finish" => Some(Head::Last(LastPage::Finish)),
+        "send/back" => Some(Head::Last(LastPage::Back)),
+        "isolate" => Some(Head::Isolate),
+        "define" => Some(Head::Define),
         "+" => Some(Head::Apply(Op::Add)),
+        "*" => Some(Head::Apply(Op::Multiply)),
+        "-" => Some(Head::Apply(Op::Subtract)),
+        "quotient" => Some(Head::Apply(Op::Quotient)),
+        "remainder" => Some(Head::Apply(Op::Remainder)),
+        "=" => Some(Head::Apply(Op::Equal)),
+        "<" => Some(Head::Apply(Op::Less)),
+        ">" => Some(Head::Apply(Op::Greater)),
+        "<=" => Some(Head::Apply(Op::AtMost)),
+        ">=" => Some(Head::Apply(Op::AtLeast)),
+        "not" => Some(Head::Apply(Op::Not)),
+        "equal?" => Some(Head::Apply(Op::IsEqual)),
+        "number?" => Some(Head::Apply(Op::IsNumber)),
+        "string?" => Some(Head::Apply(Op::IsString)),
+        "symbol?" => Some(Head::Apply(Op::IsSymbol)),
+        "boolean?" => Some(Head::Apply(Op::IsBoolean)),
+        "list?" => Some(Head::Apply(Op::IsList)),
+        "null?" => Some(Head::Apply(Op::IsNull)),
         "list" => Some(Head::Apply(Op::List)),
+        "cons" => Some(Head::Apply(Op::Cons)),
+        "car" => Some(Head::Apply(Op::Car)),
+        "cdr" => Some(Head::Apply(Op::Cdr)),
+        "append" => Some(Head::Apply(Op::Append)),
+        "length" => Some(Head::Apply(Op::Length)),
+        "reverse" => Some(Head::Apply(Op::Reverse)),
+        "list-ref" => Some(Head::Apply(Op::ListRef)),
+        "string-append" => Some(Head::Apply(Op::StringAppend)),
+        "string-length" => Some(Head::Apply(Op::StringLength)),
+        "string=?" => Some(Head::Apply(Op::StringEqual)),
         "number->string" => Some(Head::Apply(Op::NumberToString)),
         "string->number" => Some(Head::Apply(Op::StringToNumber)),
+        "symbol->string" => Some(Head::Apply(Op::SymbolToString)),
+        "string->symbol" => Some(Head::Apply(Op::StringToSymbol)),
         "extract-binding/single" => Some(Head::Apply(Op::ExtractBindingSingle)),
+        "extract-bindings" => Some(Head::Apply(Op::ExtractBindings)),
+        "exists-binding?" => Some(Head::Apply(Op::ExistsBinding)),
         _ => None,
     }
 }

@@ -1,24 +1,36 @@
-ghost use Rattle.std.specs.Prelude.{◌≡◌, ◌<◌, ℕ, List, [], ◌∷◌, ◌++◌, length, map, reverse, OnOk, IfOk, drop, take};
-ghost use Rattle.core_syntax.specs.Forms.{place_of, are_bad, is_bad_name};
-ghost use Rattle.core_syntax.specs.Scope.{seen};
+ghost use Rattle.std.specs.Prelude.{◌≡◌, [], ◌∷◌, ◌++◌, length, OnOk, IsSome, drop};
+ghost use Rattle.core_syntax.specs.Names.{place_of, repeats, are_taken};
+ghost use Rattle.core_syntax.specs.Scope.{place_at, PutsPlace};
 
-use crate::heads::head_of;
+use crate::cell_names::CellNames;
 use script_value::Str;
 use std::alloc::{AllocError, Global};
+use std::collections::BTreeMap;
 use std::marker::Model;
 
 /// Names of variables; a clause sees the innermost first.
 #[derive(Drop)]
 pub struct Names<'a> {
-    names: Vec<&'a Str>,
+    names: Vec<Named<'a>>,
+    newest: BTreeMap<&'a str, usize>,
+}
+
+/// A name, and the place of the next outer variable of the same name.
+#[derive(Drop)]
+struct Named<'a> {
+    name: &'a Str,
+    earlier: Option<usize>,
 }
 
 impl<'a> Model for Names<'a> {
-    ghost use Rattle.std.specs.Prelude.{List, ℕ, map, reverse};
+    ghost use Rattle.std.specs.Prelude.{List, ℕ, reverse};
+    ghost use Rattle.core_syntax.specs.Scope.{texts, HasPlaces};
 
     ghost Value = { List (List ℕ) };
 
-    ghost view = { λ s. reverse (map (λ n. n.now) s.names.items) };
+    ghost view = { λ s. texts (reverse s.names.items) };
+
+    ghost invariant = { λ s. HasPlaces s.newest s.names.items };
 }
 
 impl<'a> Names<'a> {
@@ -28,6 +40,7 @@ impl<'a> Names<'a> {
     {
         Names {
             names: Vec::new(alloc),
+            newest: BTreeMap::new(alloc),
         }
     }
 
@@ -42,7 +55,9 @@ impl<'a> Names<'a> {
     pub fn push(&mut self, name: &'a Str) -> Result<(), AllocError>
         ensures { OnOk result (self.new ≡ name.now ∷ self.old) }
     {
-        self.names.push(name)?;
+        self.names.try_reserve(1)?;
+        let earlier = self.newest.insert(name.as_str(), self.names.len())?;
+        self.names.push(Named { name, earlier })?;
         Ok(())
     }
 
@@ -50,8 +65,8 @@ impl<'a> Names<'a> {
     pub fn append(&mut self, more: &Names<'a>) -> Result<(), AllocError>
         ensures { OnOk result (self.new ≡ more.now ++ self.old) }
     {
-        for name in &more.names {
-            self.names.push(*name)?;
+        for named in &more.names {
+            self.push(named.name)?;
         }
         Ok(())
     }
@@ -60,24 +75,45 @@ impl<'a> Names<'a> {
     pub fn leave(&mut self, count: usize)
         ensures { self.new ≡ drop count self.old }
     {
-        let kept = self.names.len().saturating_sub(count);
-        self.names.truncate(kept);
+        for _ in 0..count {
+            self.leave_one();
+        }
+    }
+
+    /// Takes the innermost name away, if there is one.
+    fn leave_one(&mut self)
+        ensures { self.new ≡ drop 1 self.old }
+    {
+        if let Some(named) = self.names.pop() {
+            put_back(&mut self.newest, named.name, named.earlier);
+        }
     }
 
     /// The place of the innermost variable of this name, the outermost being 0.
     pub fn place_of(&self, name: &Str) -> Option<usize>
         ensures { result ≡ place_of name.now self.now }
     {
-        place_in(self.names.as_slice(), name)
+        self.newest.get(name.as_str()).copied()
     }
 
-    /// Whether a name stands twice among these, or is that of a form or an operation.
-    pub fn are_bad(&self) -> bool
-        ensures { result ≡ are_bad self.now }
+    /// Whether a name stands twice among these.
+    pub fn repeat(&self) -> bool
+        ensures { result ≡ repeats self.now }
     {
-        let names = self.names.as_slice();
-        for i in 0..names.len() {
-            if is_bad_at(&names[..i], names[i]) {
+        for named in &self.names {
+            if named.earlier.is_some() {
+                return true;
+            }
+        }
+        false
+    }
+
+    /// Whether one of these is the name of a form, an operation or a cell.
+    pub fn are_taken(&self, cells: &CellNames<'_>) -> bool
+        ensures { result ≡ are_taken cells.now self.now }
+    {
+        for named in &self.names {
+            if cells.is_taken(named.name) {
                 return true;
             }
         }
@@ -85,20 +121,19 @@ impl<'a> Names<'a> {
     }
 }
 
-fn place_in(names: &[&Str], name: &Str) -> Option<usize>
-    ensures { result ≡ place_of name.now (seen names.now) }
+/// Gives a name that has a place the place that it had before; it takes no memory.
+fn put_back<'a>(newest: &mut BTreeMap<&'a str, usize>, name: &Str, earlier: Option<usize>)
+    requires { IsSome (place_at newest.old name.now) }
+    ensures { PutsPlace newest.old newest.new name.now earlier }
 {
-    let mut found = None;
-    for place in 0..names.len() {
-        if name.as_str() == names[place].as_str() {
-            found = Some(place);
+    match earlier {
+        None => {
+            newest.remove(name.as_str());
+        }
+        Some(place) => {
+            if let Some(newest) = newest.get_mut(name.as_str()) {
+                *newest = place;
+            }
         }
     }
-    found
-}
-
-fn is_bad_at(before: &[&Str], name: &Str) -> bool
-    ensures { result ≡ is_bad_name name.now (seen before.now) }
-{
-    head_of(name.as_str()).is_some() || place_in(before, name).is_some()
 }

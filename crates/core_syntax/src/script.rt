@@ -1,8 +1,11 @@
-ghost use Rattle.std.specs.Prelude.{◌≡◌, ◌<◌, ◌+◌, ℕ, List, [], ◌∷◌, ◌++◌, length, OnOk, Some, slice_get, IfSome, option_map, option_copied};
-ghost use Rattle.core_syntax.specs.Arena.{IsScript, IsBehind, IsFull, parts, shape, tree_at};
+ghost use Rattle.std.specs.Prelude.{◌≡◌, ◌<◌, ◌+◌, ℕ, List, [], ◌∷◌, ◌++◌, length, OnOk, IfOk, Some, slice_get, IfSome, option_map, option_copied};
+ghost use Rattle.script_value.specs.Views.{meaning};
+ghost use Rattle.core_syntax.specs.Arena.{IsScript, IsBehind, IsFull, IsOnCells, parts, script_of, shape, tree_at};
+ghost use Rattle.core_syntax.specs.Core.{OnCells};
 ghost use Rattle.std.specs.List.{AllByRecursion};
 
-use script_value::{Op, Value};
+use script_value::{Items, Op, Value};
+use std::alloc::{AllocError, Global};
 use std::marker::Model;
 
 /// The numbers of nodes.
@@ -33,6 +36,24 @@ impl Numbers {
     {
         self.numbers.as_slice()
     }
+
+    /// A copy, equal to its source.
+    pub fn try_clone(&self, alloc: Global) -> Result<Numbers, AllocError>
+        ensures { IfOk result (λ copy. copy ≡ self.now) }
+    {
+        Ok(Numbers {
+            numbers: self.numbers.as_slice().to_vec(alloc)?,
+        })
+    }
+}
+
+/// How a page is sent that waits for an answer.
+#[derive(Clone, Copy, Debug, PartialEq, Eq)]
+pub enum SendKind {
+    /// It joins the pages of its instance.
+    Suspend,
+    /// It revokes all pages of its instance first.
+    Forward,
 }
 
 /// A node of the core language, its parts by their numbers.
@@ -43,57 +64,210 @@ pub enum Node {
     /// A variable, by its place in the environment; the outermost is 0.
     Var(usize),
     /// The bindings, left to right, and then the body.
-    Let { bindings: Numbers, body: u32 },
+    Let {
+        bindings: Numbers,
+        body: u32,
+    },
+    /// The parts, left to right; the value is that of the last.
+    Seq {
+        parts: Numbers,
+    },
+    /// The test, and then one of the others: `otherwise` where the test is false.
+    If {
+        test: u32,
+        then: u32,
+        otherwise: u32,
+    },
+    /// The parts up to the first that is false.
+    And {
+        parts: Numbers,
+    },
+    /// The parts up to the first that is not false.
+    Or {
+        parts: Numbers,
+    },
+    /// As many turns of the body as the count says; the body has the turn, from 0, as its last variable.
+    For {
+        count: u32,
+        body: u32,
+    },
     /// An operation over its operands, left to right.
-    Prim { op: Op, operands: Numbers },
+    Prim {
+        op: Op,
+        operands: Numbers,
+    },
     /// Sends the page that the body gives, and waits for an answer; the body has the page's URL as its last variable.
-    Send { body: u32 },
+    Send {
+        kind: SendKind,
+        body: u32,
+    },
+    /// Sends the page that the body gives, and frees the instance.
+    Finish {
+        body: u32,
+    },
+    /// Sends the page that the body gives, and ends the segment.
+    Back {
+        body: u32,
+    },
+    /// A transaction round its part.
+    Isolate {
+        body: u32,
+    },
+    /// The value of a web cell.
+    CellRef {
+        cell: u8,
+    },
+    /// Binds a web cell from here on.
+    CellShadow {
+        cell: u8,
+        value: u32,
+    },
+    /// The value of an instance cell.
+    InstRef {
+        cell: u8,
+    },
+    /// Writes an instance cell.
+    InstSet {
+        cell: u8,
+        value: u32,
+    },
+    /// Adds a number to that of an instance cell.
+    InstAdd {
+        cell: u8,
+        value: u32,
+    },
 }
 
-/// A script: its nodes in pre-order, the first being the whole.
+impl Node {
+    /// A copy, equal to its source.
+    pub fn try_clone(&self, alloc: Global) -> Result<Node, AllocError>
+        ensures { IfOk result (λ copy. copy ≡ self.now) }
+    {
+        Ok(match self {
+            Node::Lit(value) => Node::Lit(value.try_clone(alloc)?),
+            Node::Var(place) => Node::Var(*place),
+            Node::Let { bindings, body } => Node::Let {
+                bindings: bindings.try_clone(alloc)?,
+                body: *body,
+            },
+            Node::Seq { parts } => Node::Seq {
+                parts: parts.try_clone(alloc)?,
+            },
+            Node::If {
+                test,
+                then,
+                otherwise,
+            } => Node::If {
+                test: *test,
+                then: *then,
+                otherwise: *otherwise,
+            },
+            Node::And { parts } => Node::And {
+                parts: parts.try_clone(alloc)?,
+            },
+            Node::Or { parts } => Node::Or {
+                parts: parts.try_clone(alloc)?,
+            },
+            Node::For { count, body } => Node::For {
+                count: *count,
+                body: *body,
+            },
+            Node::Prim { op, operands } => Node::Prim {
+                op: *op,
+                operands: operands.try_clone(alloc)?,
+            },
+            Node::Send { kind, body } => Node::Send {
+                kind: *kind,
+                body: *body,
+            },
+            Node::Finish { body } => Node::Finish { body: *body },
+            Node::Back { body } => Node::Back { body: *body },
+            Node::Isolate { body } => Node::Isolate { body: *body },
+            Node::CellRef { cell } => Node::CellRef { cell: *cell },
+            Node::CellShadow { cell, value } => Node::CellShadow {
+                cell: *cell,
+                value: *value,
+            },
+            Node::InstRef { cell } => Node::InstRef { cell: *cell },
+            Node::InstSet { cell, value } => Node::InstSet {
+                cell: *cell,
+                value: *value,
+            },
+            Node::InstAdd { cell, value } => Node::InstAdd {
+                cell: *cell,
+                value: *value,
+            },
+        })
+    }
+}
+
+// Copies of nodes, equal to their sources.
+fn clone_nodes(alloc: Global, nodes: &[Node]) -> Result<Vec<Node>, AllocError>
+    ensures { IfOk result (λ copies. copies.items ≡ nodes.now) }
+{
+    let mut copies = Vec::new(alloc);
+    for node in nodes {
+        copies.push(node.try_clone(alloc)?)?;
+    }
+    Ok(copies)
+}
+
+/// A script: its nodes in pre-order, the first being the whole, and what its cells begin with.
 #[derive(Drop)]
 pub struct Script {
     nodes: Vec<Node>,
+    web: Items,
+    cells: Items,
 }
 
 impl Model for Script {
-    ghost use Rattle.std.specs.Prelude.{List};
-    ghost use Rattle.core_syntax.specs.declared.script.Node.{Node};
     ghost use Rattle.core_syntax.specs.contracts.script.Node as node_type;
-    ghost use Rattle.std.specs.Coded.{coded_list};
+    ghost use Rattle.core_syntax.specs.Arena.{Arena, arena_code, IsScript};
 
-    ghost Value = { List Node };
+    ghost Value = { Arena };
 
-    ghost coded = { coded_list node_type.the_row.coded };
+    ghost coded = { arena_code node_type.the_row.coded };
 
-    ghost use Rattle.core_syntax.specs.Arena.{IsScript};
+    ghost view = { λ s. record { nodes = s.nodes.items; web = s.web; cells = s.cells } };
 
-    ghost view = { λ s. s.nodes.items };
-
-    ghost invariant = { λ s. IsScript s.nodes.items };
+    ghost invariant = { λ s. IsScript record { nodes = s.nodes.items; web = s.web; cells = s.cells } };
 }
 
 impl Script {
-    /// The script of these nodes.
-    pub fn from_nodes(nodes: Vec<Node>) -> Script
-        requires { IsScript nodes.items }
-        ensures { result ≡ nodes.items }
+    /// The script of these nodes, and of web cells and instance cells that begin with these values.
+    pub fn from_parts(nodes: Vec<Node>, web: Items, cells: Items) -> Script
+        requires { IsScript record { nodes = nodes.items; web = web; cells = cells } }
+        ensures { result ≡ record { nodes = nodes.items; web = web; cells = cells } }
     {
-        Script { nodes }
+        Script { nodes, web, cells }
+    }
+
+    /// A copy, equal to its source.
+    pub fn try_clone(&self, alloc: Global) -> Result<Script, AllocError>
+        ensures { IfOk result (λ copy. copy ≡ self.now) }
+    {
+        Ok(Script {
+            nodes: clone_nodes(alloc, &self.nodes)?,
+            web: self.web.try_clone(alloc)?,
+            cells: self.cells.try_clone(alloc)?,
+        })
     }
 
     /// How many nodes the script has.
     pub fn count(&self) -> usize
-        ensures count { result ≡ length self.now }
+        ensures count { result ≡ length self.now.nodes }
         ensures script { IsScript self.now }
     {
         self.nodes.len()
     }
 
-    /// The number of the node that a run begins with.
+    /// The number of the node that a run begins with; each cell that its tree names is there.
+    #[tactic(auto, using(crate::proofs::Trees::tree_on_cells))]
     pub fn root(&self) -> u32
         ensures root { result ≡ 0 }
-        ensures within { 0 < length self.now }
+        ensures within { 0 < length self.now.nodes }
+        ensures script { IsScript self.now }
+        ensures cells { OnCells (length self.now.web) (length self.now.cells) (script_of self.now).body }
     {
         let _nodes = &self.nodes;
         0
@@ -102,12 +276,43 @@ impl Script {
     /// The node of a number.
     #[tactic(auto, using(crate::proofs::Trees::tree_at_node))]
     pub fn node(&self, number: u32) -> &Node
-        requires { number < length self.now }
-        ensures node { slice_get self.now number ≡ Some result.now }
-        ensures behind { AllByRecursion (IsBehind number (length self.now)) (parts result.now) }
+        requires { number < length self.now.nodes }
+        ensures node { slice_get self.now.nodes number ≡ Some result.now }
+        ensures behind { AllByRecursion (IsBehind number (length self.now.nodes)) (parts result.now) }
         ensures full { IsFull result.now }
-        ensures tree { tree_at self.now number ≡ shape (tree_at self.now) result.now }
+        ensures cells { IsOnCells (length self.now.web) (length self.now.cells) result.now }
+        ensures tree { tree_at self.now.nodes number ≡ shape (tree_at self.now.nodes) result.now }
     {
         &self.nodes[number as usize]
+    }
+
+    /// What a web cell begins with.
+    pub fn web_default(&self, cell: u8) -> &Value
+        requires { cell < length self.now.web }
+        ensures { slice_get self.now.web cell ≡ Some (meaning result.now) }
+    {
+        &self.web.as_slice()[cell as usize]
+    }
+
+    /// What an instance cell begins with.
+    pub fn instance_default(&self, cell: u8) -> &Value
+        requires { cell < length self.now.cells }
+        ensures { slice_get self.now.cells cell ≡ Some (meaning result.now) }
+    {
+        &self.cells.as_slice()[cell as usize]
+    }
+
+    /// What the web cells begin with, in their order.
+    pub fn web_defaults(&self) -> &Items
+        ensures { result.now ≡ self.now.web }
+    {
+        &self.web
+    }
+
+    /// What the instance cells begin with, in their order.
+    pub fn instance_defaults(&self) -> &Items
+        ensures { result.now ≡ self.now.cells }
+    {
+        &self.cells
     }
 }

@@ -1,11 +1,11 @@
-ghost use Rattle.std.specs.Prelude.{◌≡◌, ◌++◌, ◌∷◌, [], List, length, map, option_map, slice_get, position, OnOk, OnErr};
+ghost use Rattle.std.specs.Prelude.{◌≡◌, ◌++◌, ◌∷◌, [], List, length, map, option_map, slice_get, position, IfOk, OnOk, OnErr};
 ghost use Rattle.std.specs.Str.{bytes_eq};
-ghost use Rattle.page_names.specs.Names.{name_of};
+ghost use Rattle.page_names.specs.Views.{name_of};
 
 use crate::script::Script;
 use page_names::ScriptName;
 use script_value::Bytes;
-use std::alloc::AllocError;
+use std::alloc::{AllocError, Global};
 
 /// A script, with its name and its text.
 #[derive(Drop)]
@@ -13,6 +13,30 @@ pub struct NamedScript {
     pub name: ScriptName,
     pub text: Bytes,
     pub script: Script,
+}
+
+impl NamedScript {
+    /// A copy, equal to its source.
+    pub fn try_clone(&self, alloc: Global) -> Result<NamedScript, AllocError>
+        ensures { IfOk result (λ copy. copy ≡ self.now) }
+    {
+        Ok(NamedScript {
+            name: self.name,
+            text: self.text.try_clone(alloc)?,
+            script: self.script.try_clone(alloc)?,
+        })
+    }
+}
+
+// Copies of scripts, equal to their sources.
+fn clone_scripts(alloc: Global, scripts: &[NamedScript]) -> Result<Vec<NamedScript>, AllocError>
+    ensures { IfOk result (λ copies. copies.items ≡ scripts.now) }
+{
+    let mut copies = Vec::new(alloc);
+    for script in scripts {
+        copies.push(script.try_clone(alloc)?)?;
+    }
+    Ok(copies)
 }
 
 // Whether a script has this name.
@@ -36,14 +60,24 @@ pub struct Setup {
 }
 
 impl Setup {
-    ghost use Rattle.core_syntax.specs.Arena.{tree_at};
-    ghost use Rattle.core_syntax.specs.Scripts.{named_of, scripts_of, place_named, core_at};
+    ghost use Rattle.core_syntax.specs.Arena.{script_of};
+    ghost use Rattle.core_syntax.specs.Setup.{place_named, script_named};
+    ghost use Rattle.core_syntax.specs.Views.{named_of, scripts_of};
 
     /// These scripts, in this order.
     pub fn new(scripts: Vec<NamedScript>) -> Setup
         ensures { scripts_of result ≡ map named_of scripts.items }
     {
         Setup { scripts }
+    }
+
+    /// A copy, equal to its source.
+    pub fn try_clone(&self, alloc: Global) -> Result<Setup, AllocError>
+        ensures { IfOk result (λ copy. scripts_of copy ≡ scripts_of self.now) }
+    {
+        Ok(Setup {
+            scripts: clone_scripts(alloc, &self.scripts)?,
+        })
     }
 
     /// How many scripts there are.
@@ -80,7 +114,7 @@ impl Setup {
 
     /// The first script of a name.
     pub fn find(&self, name: &ScriptName) -> Option<&Script>
-        ensures { option_map (λ s. tree_at s.now 0) result ≡ core_at (scripts_of self.now) (place_named (name_of name.now) (scripts_of self.now)) }
+        ensures { option_map (λ s. script_of s.now) result ≡ script_named (name_of name.now) (scripts_of self.now) }
     {
         let place = self.place(name)?;
         let named = self.get(place)?;

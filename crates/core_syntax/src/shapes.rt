@@ -1,62 +1,45 @@
-ghost use Rattle.std.specs.Prelude.{◌≡◌, ℕ, List, map, option_map};
-ghost use Rattle.script_value.specs.Val.{vals_of};
-ghost use Rattle.script_value.specs.Meaning.{meaning};
-ghost use Rattle.core_syntax.specs.Shapes.{symbol_of, items_in, one_of, two_of, three_of, bound_name, bound_value, let_parts, parameter, is_lambda, function_parts, page_of, named, first_of};
+//! Parts of data.
 
+ghost use Rattle.std.specs.Prelude.{◌≡◌, [], ◌∷◌, Some, option_map};
+ghost use Rattle.script_value.specs.Val.{list};
+ghost use Rattle.script_value.specs.Views.{meaning, meanings};
+ghost use Rattle.core_syntax.specs.declared.faults.SyntaxKind.TheVariants.{Shape};
+ghost use Rattle.core_syntax.specs.Gives.{Reads};
+ghost use Rattle.core_syntax.specs.Names.{or_fault};
+ghost use Rattle.core_syntax.specs.Shapes.{on, symbol_in, is_word, begins, is_headed, bound_name, names_of, single_name, parameter, names_before, is_clause, are_clauses, ends_in_else};
+
+use crate::faults::{ReadFault, SyntaxKind};
+use crate::names::Names;
 use script_value::{Str, Value};
+use std::alloc::Global;
 
-fn symbol_of(value: &Value) -> Option<&Str>
-    ensures { option_map (λ x. x.now) result ≡ symbol_of (meaning value.now) }
+/// Whether this is the symbol of these characters.
+pub fn is_word(word: &str, value: &Value) -> bool
+    ensures { result ≡ is_word word.now (meaning value.now) }
 {
     match value {
-        Value::Symbol(name) => Some(name),
-        _ => None,
+        Value::Symbol(name) => name.as_str() == word,
+        _ => false,
     }
 }
 
-fn items_in(value: &Value) -> Option<&[Value]>
-    ensures { option_map (λ vs. vals_of (map meaning vs.now)) result ≡ items_in (meaning value.now) }
+/// Whether these begin with the symbol of these characters.
+pub fn begins(word: &str, items: &[Value]) -> bool
+    ensures { result ≡ begins word.now (meanings items.now) }
+{
+    match items {
+        [] => false,
+        [first, ..] => is_word(word, first),
+    }
+}
+
+/// Whether this is a list that begins with the symbol of these characters.
+pub fn is_headed(word: &str, value: &Value) -> bool
+    ensures { result ≡ is_headed word.now (meaning value.now) }
 {
     match value {
-        Value::List(items) => Some(items.as_slice()),
-        _ => None,
-    }
-}
-
-/// The only item.
-#[tactic(auto, using(crate::proofs::Parts::one_many))]
-pub fn one_of(items: &[Value]) -> Option<&Value>
-    ensures { option_map (λ v. meaning v.now) result ≡ one_of (vals_of (map meaning items.now)) }
-{
-    match items {
-        [] => None,
-        [value] => Some(value),
-        _ => None,
-    }
-}
-
-#[tactic(auto, using(crate::proofs::Parts::two_many, crate::proofs::Parts::two_few))]
-fn two_of(items: &[Value]) -> Option<(&Value, &Value)>
-    ensures { option_map (λ p. (meaning p.0.now, meaning p.1.now)) result ≡ two_of (vals_of (map meaning items.now)) }
-{
-    match items {
-        [] => None,
-        [_] => None,
-        [first, second] => Some((first, second)),
-        _ => None,
-    }
-}
-
-#[tactic(auto, using(crate::proofs::Parts::three_many, crate::proofs::Parts::three_few))]
-fn three_of(items: &[Value]) -> Option<(&Value, &Value, &Value)>
-    ensures { option_map (λ p. (meaning p.0.now, meaning p.1.now, meaning p.2.now)) result ≡ three_of (vals_of (map meaning items.now)) }
-{
-    match items {
-        [] => None,
-        [_] => None,
-        [_, _] => None,
-        [first, second, third] => Some((first, second, third)),
-        _ => None,
+        Value::List(items) => begins(word, items.as_slice()),
+        _ => false,
     }
 }
 
@@ -64,116 +47,168 @@ fn three_of(items: &[Value]) -> Option<(&Value, &Value, &Value)>
 pub fn bound_name(binding: &Value) -> Option<&Str>
     ensures { option_map (λ x. x.now) result ≡ bound_name (meaning binding.now) }
 {
-    match items_in(binding) {
-        None => None,
-        Some(items) => match two_of(items) {
-            None => None,
-            Some((name, _)) => symbol_of(name),
-        },
+    match binding {
+        Value::List(items) => name_of_two(items.as_slice()),
+        _ => None,
     }
 }
 
-/// The expression of a binding.
-pub fn bound_value(binding: &Value) -> Option<&Value>
-    ensures { option_map (λ v. meaning v.now) result ≡ bound_value (meaning binding.now) }
+fn name_of_two(items: &[Value]) -> Option<&Str>
+    ensures { option_map (λ x. x.now) result ≡ bound_name (list (meanings items.now)) }
 {
-    match items_in(binding) {
-        None => None,
-        Some(items) => match two_of(items) {
-            None => None,
-            Some((_, expression)) => Some(expression),
-        },
+    match items {
+        [name, _expression] => symbol_in(name),
+        [] => None,
+        [_name] => None,
+        [_name, _expression, _other, ..] => None,
     }
 }
 
-/// The bindings and the body of a `let`.
-pub fn let_parts(parts: &[Value]) -> Option<(&[Value], &Value)>
-    ensures { option_map (λ p. (vals_of (map meaning p.0.now), meaning p.1.now)) result ≡ let_parts (vals_of (map meaning parts.now)) }
+/// The names of bindings, the last innermost, in front of a body.
+pub fn names_of<'a>(
+    alloc: Global,
+    bindings: &'a [Value],
+    body: &[Value],
+) -> Result<Names<'a>, ReadFault>
+    ensures { Reads result (names_before (meanings body.now) (names_of (meanings bindings.now) [])) }
 {
-    match two_of(parts) {
-        None => None,
-        Some((bindings, body)) => match items_in(bindings) {
-            None => None,
-            Some(bindings) => Some((bindings, body)),
-        },
+    match body {
+        [] => Err(ReadFault::Syntax(SyntaxKind::Shape)),
+        [_first, ..] => names_in(alloc, bindings),
     }
 }
 
-fn parameter(value: &Value) -> Option<&Str>
-    ensures { option_map (λ x. x.now) result ≡ parameter (meaning value.now) }
+fn names_in<'a>(alloc: Global, bindings: &'a [Value]) -> Result<Names<'a>, ReadFault>
+    ensures { Reads result (or_fault Shape (names_of (meanings bindings.now) [])) }
 {
-    match items_in(value) {
-        None => None,
-        Some(items) => match one_of(items) {
-            None => None,
-            Some(name) => symbol_of(name),
-        },
+    let mut names = Names::new(alloc);
+    for binding in bindings {
+        match bound_name(binding) {
+            Some(name) => names.push(name)?,
+            None => return Err(ReadFault::Syntax(SyntaxKind::Shape)),
+        }
+    }
+    Ok(names)
+}
+
+/// The name of the only binding, in front of a body.
+pub fn single_name<'a>(
+    alloc: Global,
+    bindings: &'a [Value],
+    body: &[Value],
+) -> Result<Names<'a>, ReadFault>
+    ensures { Reads result (names_before (meanings body.now) (single_name (meanings bindings.now))) }
+{
+    match body {
+        [] => Err(ReadFault::Syntax(SyntaxKind::Shape)),
+        [_first, ..] => name_of_one_binding(alloc, bindings),
     }
 }
 
-fn is_lambda(value: &Value) -> bool
-    ensures { result ≡ is_lambda (meaning value.now) }
+fn name_of_one_binding<'a>(alloc: Global, bindings: &'a [Value]) -> Result<Names<'a>, ReadFault>
+    ensures { Reads result (or_fault Shape (single_name (meanings bindings.now))) }
+{
+    match bindings {
+        [binding] => one_name(alloc, bound_name(binding)),
+        [] => Err(ReadFault::Syntax(SyntaxKind::Shape)),
+        [_binding, _other, ..] => Err(ReadFault::Syntax(SyntaxKind::Shape)),
+    }
+}
+
+/// The only parameter of a function, in front of its body.
+pub fn parameter<'a>(
+    alloc: Global,
+    parameters: &'a Value,
+    body: &[Value],
+) -> Result<Names<'a>, ReadFault>
+    ensures { Reads result (names_before (meanings body.now) (parameter (meaning parameters.now))) }
+{
+    match body {
+        [] => Err(ReadFault::Syntax(SyntaxKind::Shape)),
+        [_first, ..] => name_of_parameter(alloc, parameters),
+    }
+}
+
+fn name_of_parameter<'a>(alloc: Global, parameters: &'a Value) -> Result<Names<'a>, ReadFault>
+    ensures { Reads result (or_fault Shape (parameter (meaning parameters.now))) }
+{
+    match parameters {
+        Value::List(items) => name_of_one(alloc, items.as_slice()),
+        _ => Err(ReadFault::Syntax(SyntaxKind::Shape)),
+    }
+}
+
+fn name_of_one<'a>(alloc: Global, items: &'a [Value]) -> Result<Names<'a>, ReadFault>
+    ensures { Reads result (or_fault Shape (parameter (list (meanings items.now)))) }
+{
+    match items {
+        [name] => one_name(alloc, symbol_in(name)),
+        [] => Err(ReadFault::Syntax(SyntaxKind::Shape)),
+        [_name, _other, ..] => Err(ReadFault::Syntax(SyntaxKind::Shape)),
+    }
+}
+
+/// The characters of a symbol.
+pub fn symbol_in(value: &Value) -> Option<&Str>
+    ensures { option_map (λ x. x.now) result ≡ symbol_in (meaning value.now) }
 {
     match value {
-        Value::Symbol(word) => word.as_str() == "lambda",
-        _ => false,
+        Value::Symbol(name) => Some(name),
+        _ => None,
     }
 }
 
-/// The parameter and the body of the one function `(lambda (name) body)`.
-pub fn page_of(parts: &[Value]) -> Option<(&Str, &Value)>
-    ensures { option_map (λ p. (p.0.now, meaning p.1.now)) result ≡ page_of (vals_of (map meaning parts.now)) }
+fn one_name<'a>(alloc: Global, name: Option<&'a Str>) -> Result<Names<'a>, ReadFault>
+    ensures { Reads result (or_fault Shape (on (option_map (λ x. x.now) name.entry) (λ x. Some (x ∷ [])))) }
 {
-    match one_of(parts) {
-        None => None,
-        Some(function) => match items_in(function) {
-            None => None,
-            Some(items) => match three_of(items) {
-                None => None,
-                Some((word, parameters, body)) => function_parts(word, parameters, body),
-            },
-        },
-    }
-}
-
-fn function_parts<'a>(
-    word: &Value,
-    parameters: &'a Value,
-    body: &'a Value,
-) -> Option<(&'a Str, &'a Value)>
-    ensures { option_map (λ p. (p.0.now, meaning p.1.now)) result ≡ function_parts (meaning word.now, meaning parameters.now, meaning body.now) }
-{
-    match parameter(parameters) {
-        None => None,
+    match name {
+        None => Err(ReadFault::Syntax(SyntaxKind::Shape)),
         Some(name) => {
-            if is_lambda(word) {
-                Some((name, body))
-            } else {
-                None
-            }
+            let mut names = Names::new(alloc);
+            names.push(name)?;
+            Ok(names)
         }
     }
 }
 
-fn first_of(items: &[Value]) -> Option<(&Value, &[Value])>
-    ensures { option_map (λ p. (meaning p.0.now, vals_of (map meaning p.1.now))) result ≡ first_of (vals_of (map meaning items.now)) }
+/// Whether each clause of a `cond` is a list of a test and a body.
+pub fn are_clauses(clauses: &[Value]) -> bool
+    ensures { result ≡ are_clauses (meanings clauses.now) }
 {
-    match items {
-        [] => None,
-        [first, rest @ ..] => Some((first, rest)),
+    for clause in clauses {
+        if !is_clause(clause) {
+            return false;
+        }
+    }
+    true
+}
+
+fn is_clause(clause: &Value) -> bool
+    ensures { result ≡ is_clause (meaning clause.now) }
+{
+    match clause {
+        Value::List(items) => are_two(items.as_slice()),
+        _ => false,
     }
 }
 
-/// The symbol at the head of a list, and the items behind it.
-#[tactic(auto, using(crate::proofs::Parts::named_not, crate::proofs::Parts::named_so, crate::proofs::Parts::named_none))]
-pub fn named(items: &[Value]) -> Option<(&Str, &[Value])>
-    ensures { option_map (λ p. (p.0.now, vals_of (map meaning p.1.now))) result ≡ named (vals_of (map meaning items.now)) }
+fn are_two(items: &[Value]) -> bool
+    ensures { result ≡ is_clause (list (meanings items.now)) }
 {
-    match first_of(items) {
-        None => None,
-        Some((first, rest)) => match symbol_of(first) {
-            None => None,
-            Some(name) => Some((name, rest)),
-        },
+    match items {
+        [] => false,
+        [_test] => false,
+        [_test, _first, ..] => true,
+    }
+}
+
+/// Whether the last clause of a `cond` is headed by `else`.
+#[tactic(auto, using(crate::proofs::Parts::else_last))]
+pub fn ends_in_else(clauses: &[Value]) -> bool
+    ensures { result ≡ ends_in_else (meanings clauses.now) }
+{
+    match clauses.last() {
+        None => false,
+        Some(clause) => is_headed("else", clause),
     }
 }

@@ -1,6 +1,7 @@
 use Rattle.std.proofs.Common.{sym, ◌∙◌}
-use Rattle.page_names.specs.Names.{name_of}
-use Rattle.core_syntax.specs.Scripts.{named_of, has_name}
+use Rattle.page_names.specs.Views.{name_of}
+use Rattle.core_syntax.specs.Setup.{has_name}
+use Rattle.core_syntax.specs.Views.{named_of}
 use Rattle.core_syntax.proofs.Places.{position_map}
 use Rattle.core_syntax.proofs.setup.Setup.place.Goals as goal
 

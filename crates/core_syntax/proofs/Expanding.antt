@@ -1,0 +1,79 @@
+-- From one expression to a script.
+use Rattle.std.proofs.Common.{◌≡◌, ℕ, ◌+◌, ◌<◌, ◌≤◌, true, false, List, [], ◌∷◌, length, Result, Ok, Err, refl, sym, subst, ap, ◌∙◌, arith, inl, inr}
+use Rattle.std.proofs.lemmas.Bool.{cases_lt}
+use Rattle.std.proofs.lemmas.Bool.Decides.{nat_tests}
+use Rattle.script_value.specs.Val.{Val}
+use Rattle.core_syntax.specs.declared.script.Node.{Node}
+use Rattle.core_syntax.specs.declared.faults.SyntaxKind.{SyntaxKind}
+use Rattle.core_syntax.specs.declared.faults.SyntaxKind.TheVariants.{Shape, TooMany}
+use Rattle.core_syntax.specs.Core.{Core, count, height}
+use Rattle.core_syntax.specs.Arena.{IsScript, tree_at, script_of}
+use Rattle.core_syntax.specs.Layout.{layout}
+use Rattle.core_syntax.specs.Readings.{tree_at-layout}
+use Rattle.core_syntax.specs.Laid.{Lacks, Stands}
+use Rattle.core_syntax.specs.Closed.{IsClosed}
+use Rattle.core_syntax.specs.Expands.{IsLevel}
+use Rattle.core_syntax.specs.Definitions.{Defined, is_too_many, limited, at_form, begins_well, expanded}
+use Rattle.core_syntax.specs.Forms.{core_of}
+use Rattle.core_syntax.proofs.Closed.{Holds, closed_core}
+use Rattle.core_syntax.proofs.Scripts.{script_laid}
+
+within_limits : (c : Core) → count c ≤ 16384 → height c ≤ 1024 → is_too_many c ≡ false
+within_limits c p q = grind (arith, nat_tests)
+
+many : (c : Core) → 16384 < count c → is_too_many c ≡ true
+many c p = grind (arith, nat_tests)
+
+deep : (c : Core) → 1024 < height c → is_too_many c ≡ true
+deep c p = grind (arith, nat_tests)
+
+pub past_limits : (c : Core) → Lacks 0 1024 (count c) (height c) → is_too_many c ≡ true
+past_limits c h = elim (cases_lt 16384 (count c)) [ inl p ↦ many c p | inr p ↦ deep c (h (let q : 0 + count c ≤ 16384 = omega arith in q)) ]
+
+closed_in : (r : Result Core SyntaxKind) (c : Core) (P : Core → Type 0) → Holds P r → r ≡ Ok c → P c
+closed_in (Ok x) c P h e = let f : x ≡ c = cc in rw (← f) h
+closed_in (Err k) c P h e = absurd (let no : ⊥ = cc in no)
+
+-- the tree of an expression with these cells is closed
+pub expression_closed : (d : Defined) (v : Val) (c : Core) → IsLevel d → core_of d.names [] false v ≡ Ok c → IsClosed (length d.web) (length d.cells) 0 false c
+expression_closed d v c l e =
+    let k : IsClosed (length d.names.web) (length d.names.instance) 0 false c =
+    closed_in (core_of d.names [] false v) c (λ c. IsClosed (length d.names.web) (length d.names.instance) 0 false c) (closed_core d.names [] false v) e in
+    subst (λ (w : ℕ). IsClosed w (length d.cells) 0 false c) (sym l.0) (subst (λ (i : ℕ). IsClosed (length d.names.web) i 0 false c) (sym l.1) k)
+
+-- what an expression's nodes are, where they fitted
+pub record Made (d : Defined) (v : Val) (number : ℕ) (nodes : List Node) : Type 0 where
+  pub script : IsScript (record { nodes = nodes; web = d.web; cells = d.cells })
+  pub table : at_form number (limited d (core_of d.names [] false v)) ≡ Ok (script_of (record { nodes = nodes; web = d.web; cells = d.cells }))
+  pub numbered : nodes ≡ layout 0 (tree_at nodes 0)
+  pub closed : IsClosed (length d.web) (length d.cells) 0 false (tree_at nodes 0)
+
+pub made : (d : Defined) (v : Val) (c : Core) (number left first : ℕ) (old nodes : List Node)
+    → IsLevel d → core_of d.names [] false v ≡ Ok c → old ≡ [] → left ≡ 1024 → Stands old nodes left first (layout (length old) c) (count c) (height c) → Made d v number nodes
+made d v c number left first old nodes l e o f s =
+    let none : length old ≡ 0 = ap length o in
+    let same : nodes ≡ layout 0 c = s.behind ∙ rw o refl in
+    let tree : tree_at nodes 0 ≡ c = ap (λ ns. tree_at ns 0) same ∙ tree_at-layout c in
+    let fits : is_too_many c ≡ false = within_limits c (let r = s.room in omega arith) (let r = s.low in omega arith) in
+    let closed = expression_closed d v c l e in
+    record {
+      script = rw same (script_laid c d.web d.cells closed);
+      table = rw (e, fits, tree) refl;
+      numbered = same ∙ ap (layout 0) (sym tree);
+      closed = rw tree closed;
+    }
+
+pub too_many : (d : Defined) (v : Val) (c : Core) (number left : ℕ) (old : List Node)
+    → core_of d.names [] false v ≡ Ok c → old ≡ [] → left ≡ 1024 → Lacks (length old) left (count c) (height c) → at_form number (limited d (core_of d.names [] false v)) ≡ Err (TooMany, number)
+too_many d v c number left old e o f h =
+    let lacks : Lacks 0 1024 (count c) (height c) = rw (o, f) at h in
+    rw (e, past_limits c lacks) refl
+
+pub expression_stops : (d : Defined) (v : Val) (k : SyntaxKind) (number : ℕ) → core_of d.names [] false v ≡ Err k → at_form number (limited d (core_of d.names [] false v)) ≡ Err (k, number)
+expression_stops d v k number e = rw e refl
+
+pub begins_badly : (vs : List Val) → begins_well vs ≡ false → expanded vs ≡ Err (Shape, 0)
+unfolding expanded
+begins_badly [] e = refl
+begins_badly (v ∷ []) e = absurd (let no : ⊥ = cc in no)
+begins_badly (v ∷ (w ∷ vs)) e = rw e refl

@@ -1,0 +1,42 @@
+-- Nodes that were put behind others.
+use Rattle.std.specs.Prelude.{◌≡◌, ℕ, ◌+◌, ◌<◌, ◌≤◌, List, ◌++◌, length, Result, Ok, Err, ⊤}
+use Rattle.core_syntax.specs.declared.script.Node.{Node}
+use Rattle.core_syntax.specs.declared.nodes.LayFault.{LayFault}
+use Rattle.core_syntax.specs.declared.nodes.LayFault.TheVariants.{Memory, TooMany}
+use Rattle.core_syntax.specs.Limits.{most_nodes}
+use Rattle.core_syntax.specs.Core.{Core, Cores, count, count_all, height, height_all}
+use Rattle.core_syntax.specs.Layout.{layout, layout_all, starts}
+
+-- so many more nodes are too many behind these, or they nest deeper than `left`
+abbrev pub Lacks : (before left more high : ℕ) → Type 0
+Lacks before left more high = before + more ≤ most_nodes → left < high
+
+-- these nodes were put behind the old ones; the first has this number
+pub record Stands (old new : List Node) (left number : ℕ) (nodes : List Node) (more high : ℕ) : Type 0 where
+  pub first : number ≡ length old
+  pub behind : new ≡ old ++ nodes
+  pub grown : length new ≡ length old + more
+  pub room : length old + more ≤ most_nodes
+  pub low : high ≤ left
+
+abbrev pub Puts : Result ℕ LayFault → (old new : List Node) → (left : ℕ) → (nodes : List Node) → (more high : ℕ) → Type 0
+Puts (Ok number) old new left nodes more high = Stands old new left number nodes more high
+Puts (Err Memory) old new left nodes more high = ⊤
+Puts (Err TooMany) old new left nodes more high = Lacks (length old) left more high
+
+-- the nodes of a tree
+abbrev pub Lays : Result ℕ LayFault → (old new : List Node) → (left : ℕ) → Core → Type 0
+Lays result old new left c = Puts result old new left (layout (length old) c) (count c) (height c)
+
+-- the nodes of trees, whose numbers these are
+pub record StandAll (old new : List Node) (left : ℕ) (numbers : List ℕ) (cs : Cores) : Type 0 where
+  pub first : numbers ≡ starts (length old) cs
+  pub behind : new ≡ old ++ layout_all (length old) cs
+  pub grown : length new ≡ length old + count_all cs
+  pub room : 0 < count_all cs → length old + count_all cs ≤ most_nodes
+  pub low : height_all cs ≤ left
+
+abbrev pub LaysAll : Result (List ℕ) LayFault → (old new : List Node) → (left : ℕ) → Cores → Type 0
+LaysAll (Ok numbers) old new left cs = StandAll old new left numbers cs
+LaysAll (Err Memory) old new left cs = ⊤
+LaysAll (Err TooMany) old new left cs = Lacks (length old) left (count_all cs) (height_all cs)

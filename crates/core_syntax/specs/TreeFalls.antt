@@ -1,0 +1,60 @@
+-- Each part of a tree is less high than the tree.
+use Rattle.std.specs.Prelude.{ℕ, ◌+◌, ◌≤◌, suc, List, [], ◌∷◌, max, map}
+use Rattle.std.proofs.Common.{arith}
+use denote.Param.Weighed.{most}
+use Rattle.core_syntax.specs.declared.heads.CellKind.TheVariants.{Web, Instance}
+use Rattle.core_syntax.specs.declared.heads.LastPage.TheVariants.{Finish, Back}
+use Rattle.core_syntax.specs.declared.heads.Store.TheVariants.{Shadow, Set, Add}
+use Rattle.core_syntax.specs.Core.{Core, height, height_all, cores_of}
+use Rattle.core_syntax.specs.declared.tree.Form.{Form}
+use Rattle.core_syntax.specs.declared.tree.Form.TheVariants as form
+use Rattle.core_syntax.specs.declared.tree.Choice.{Choice}
+use Rattle.core_syntax.specs.declared.tree.Tree.TheDeep.{deep-Form, deep-Choice}
+use Rattle.core_syntax.specs.Forms.{nest, choose}
+use Rattle.core_syntax.specs.Trees.{core_in, nested, chosen, pair_of}
+
+-- what a tree counts within another
+abbrev weight : Core → ℕ
+weight c = height c + 1
+
+most_falls : (es : List Core) → most weight es ≤ suc (height_all (cores_of es))
+most_falls [] = omega arith
+most_falls (e ∷ es) = omega (arith, most_falls es)
+
+nest_falls : (es : List Core) (b : Core) → max (most weight es) (height b) ≤ height (nest es b)
+nest_falls [] b = omega arith
+nest_falls (e ∷ es) b = omega (arith, nest_falls es b)
+
+nested_falls : (es : List Core) (b : Core) → max (most weight es) (weight b) ≤ height (nested es b)
+nested_falls [] b = omega arith
+nested_falls (e ∷ es) b = omega (arith, nest_falls es b)
+
+choose_falls : (cs : List Choice) (o : Core) → max (most deep-Choice cs) (height o) ≤ height (choose (map pair_of cs) o)
+choose_falls [] o = omega arith
+choose_falls (c ∷ cs) o = omega (arith, choose_falls cs o)
+
+chosen_falls : (cs : List Choice) (o : Core) → max (most deep-Choice cs) (weight o) ≤ height (chosen (map pair_of cs) o)
+chosen_falls [] o = omega arith
+chosen_falls (c ∷ cs) o = omega (arith, choose_falls cs o)
+
+-- no part is as high as the whole
+pub form_falls : (f : Form) → max (deep-Form f) 0 ≤ height (core_in f)
+form_falls (form.Lit v) = omega arith
+form_falls (form.Var k) = omega arith
+form_falls (form.Ref Web c) = omega arith
+form_falls (form.Ref Instance c) = omega arith
+form_falls (form.Let es b) = omega (arith, most_falls es.items)
+form_falls (form.Nest es b) = omega (arith, nested_falls es.items b.value)
+form_falls (form.Seq es) = omega (arith, most_falls es.items)
+form_falls (form.And es) = omega (arith, most_falls es.items)
+form_falls (form.Or es) = omega (arith, most_falls es.items)
+form_falls (form.Prim o es) = omega (arith, most_falls es.items)
+form_falls (form.Cond cs o) = omega (arith, chosen_falls cs.items o.value)
+form_falls (form.For n b) = omega arith
+form_falls (form.Send kind b) = omega arith
+form_falls (form.Last Finish b) = omega arith
+form_falls (form.Last Back b) = omega arith
+form_falls (form.Isolate b) = omega arith
+form_falls (form.Store Shadow c e) = omega arith
+form_falls (form.Store Set c e) = omega arith
+form_falls (form.Store Add c e) = omega arith

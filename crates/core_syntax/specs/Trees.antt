@@ -1,0 +1,38 @@
+-- The trees that the program makes of data, as trees of the core language.
+use Rattle.std.specs.Prelude.{List, [], ◌∷◌, map}
+use Rattle.script_value.specs.Views.{meaning}
+use Rattle.core_syntax.specs.declared.tree.Form.{Form}
+use Rattle.core_syntax.specs.declared.tree.Form.TheVariants as form
+use Rattle.core_syntax.specs.declared.tree.Choice.{Choice}
+use Rattle.core_syntax.specs.Core.{Core, no_cores, lit, var, bind, repeat, prim, seq, and_all, or_any, send, isolate, cores_of}
+use Rattle.core_syntax.specs.Forms.{ref, nest, choose, store, last_page}
+
+abbrev pub pair_of : Choice → Core × Core
+pair_of c = (c.test, c.body)
+
+-- bindings one inside the other; of none, a node that binds nothing
+abbrev pub nested : List Core → Core → Core
+nested [] b = bind no_cores b
+nested (e ∷ es) b = nest (e ∷ es) b
+
+-- choices one inside the other; of none, the last alone in a node
+abbrev pub chosen : List (Core × Core) → Core → Core
+chosen [] o = seq (cores_of (o ∷ []))
+chosen (c ∷ cs) o = choose (c ∷ cs) o
+
+abbrev pub core_in : Form → Core
+core_in (form.Lit v) = lit (meaning v)
+core_in (form.Var k) = var k
+core_in (form.Ref kind c) = ref kind c
+core_in (form.Let es b) = bind (cores_of es.items) b.value
+core_in (form.Nest es b) = nested es.items b.value
+core_in (form.Seq es) = seq (cores_of es.items)
+core_in (form.And es) = and_all (cores_of es.items)
+core_in (form.Or es) = or_any (cores_of es.items)
+core_in (form.Prim o es) = prim o (cores_of es.items)
+core_in (form.Cond cs o) = chosen (map pair_of cs.items) o.value
+core_in (form.For n b) = repeat n.value b.value
+core_in (form.Send kind b) = send kind b.value
+core_in (form.Last kind b) = last_page kind b.value
+core_in (form.Isolate b) = isolate b.value
+core_in (form.Store kind c e) = store kind c e.value

@@ -1,0 +1,410 @@
+//! Trees as nodes in pre-order.
+
+ghost use Rattle.std.specs.Prelude.{◌≡◌, ◌∷◌, [], map, IfOk};
+ghost use Rattle.script_value.specs.Views.{meaning};
+ghost use Rattle.core_syntax.specs.Core.{lit, bind, seq, cores_of};
+ghost use Rattle.core_syntax.specs.Core as core;
+ghost use Rattle.core_syntax.specs.Forms as spec;
+ghost use Rattle.core_syntax.specs.Trees.{nested, chosen, pair_of};
+ghost use Rattle.core_syntax.specs.Laid.{Puts, Lays, LaysAll};
+ghost use Rattle.core_syntax.specs.Layout.{last_node, store_node};
+ghost use Rattle.core_syntax.specs.declared.script.Node.TheVariants as node;
+
+use crate::heads::{CellKind, LastPage, Store};
+use crate::nodes::{LayFault, Nodes};
+use crate::script::{Node, Numbers, SendKind};
+use crate::tree::{Choice, Form, Tree};
+use script_value::{Op, Value};
+use std::alloc::{AllocError, Global};
+
+/// Puts the nodes of a tree behind the others, where `left` levels may still nest, and gives the number of the first.
+#[cycle(lay)]
+pub fn lay(alloc: Global, nodes: &mut Nodes, left: u32, tree: &Tree) -> Result<u32, LayFault>
+    ensures { Lays result nodes.old nodes.new left tree.now }
+{
+    match tree.form() {
+        Form::Lit(value) => lay_literal(alloc, nodes, left, value),
+        Form::Var(place) => nodes.push(left, Node::Var(*place)),
+        Form::Ref(kind, cell) => lay_ref(nodes, left, *kind, *cell),
+        Form::Let(values, body) => lay_let(alloc, nodes, left, values.as_slice(), body),
+        Form::Nest(values, body) => lay_nested(alloc, nodes, left, values.as_slice(), body),
+        Form::Seq(parts) => lay_seq(alloc, nodes, left, parts.as_slice()),
+        Form::And(parts) => lay_and(alloc, nodes, left, parts.as_slice()),
+        Form::Or(parts) => lay_or(alloc, nodes, left, parts.as_slice()),
+        Form::Prim(op, parts) => lay_prim(alloc, nodes, left, *op, parts.as_slice()),
+        Form::Cond(choices, otherwise) => lay_chosen(
+            alloc,
+            nodes,
+            left,
+            choices.as_slice(),
+            otherwise,
+        ),
+        Form::For(count, body) => lay_for(alloc, nodes, left, count, body),
+        Form::Send(kind, body) => lay_send(alloc, nodes, left, *kind, body),
+        Form::Last(kind, body) => lay_last(alloc, nodes, left, *kind, body),
+        Form::Isolate(body) => lay_isolate(alloc, nodes, left, body),
+        Form::Store(kind, cell, value) => lay_store(alloc, nodes, left, *kind, *cell, value),
+    }
+}
+
+fn lay_literal(alloc: Global, nodes: &mut Nodes, left: u32, value: &Value) -> Result<u32, LayFault>
+    ensures { Lays result nodes.old nodes.new left (lit (meaning value.now)) }
+{
+    nodes.push(left, Node::Lit(value.try_clone(alloc)?))
+}
+
+fn lay_ref(nodes: &mut Nodes, left: u32, kind: CellKind, cell: u8) -> Result<u32, LayFault>
+    ensures { Lays result nodes.old nodes.new left (spec.ref kind cell) }
+{
+    match kind {
+        CellKind::Web => nodes.push(left, Node::CellRef { cell }),
+        CellKind::Instance => nodes.push(left, Node::InstRef { cell }),
+    }
+}
+
+/// Puts the nodes of trees behind the others, and gives the numbers of their first.
+#[cycle(lay)]
+fn lay_all(alloc: Global, nodes: &mut Nodes, left: u32, trees: &[Tree]) -> Result<Numbers, LayFault>
+    ensures { LaysAll result nodes.old nodes.new left (cores_of trees.now) }
+{
+    let mut numbers = Vec::new(alloc);
+    for tree in trees {
+        let number = lay(alloc, nodes, left, tree)?;
+        numbers.push(number)?;
+    }
+    Ok(Numbers::from_vec(numbers))
+}
+
+#[cycle(lay)]
+fn lay_seq(alloc: Global, nodes: &mut Nodes, left: u32, parts: &[Tree]) -> Result<u32, LayFault>
+    ensures { Lays result nodes.old nodes.new left (core.seq (cores_of parts.now)) }
+{
+    let number = open(nodes, left)?;
+    let parts = lay_all(alloc, nodes, left - 1, parts)?;
+    nodes.write(number, Node::Seq { parts });
+    Ok(number)
+}
+
+#[cycle(lay)]
+fn lay_and(alloc: Global, nodes: &mut Nodes, left: u32, parts: &[Tree]) -> Result<u32, LayFault>
+    ensures { Lays result nodes.old nodes.new left (core.and_all (cores_of parts.now)) }
+{
+    let number = open(nodes, left)?;
+    let parts = lay_all(alloc, nodes, left - 1, parts)?;
+    nodes.write(number, Node::And { parts });
+    Ok(number)
+}
+
+#[cycle(lay)]
+fn lay_or(alloc: Global, nodes: &mut Nodes, left: u32, parts: &[Tree]) -> Result<u32, LayFault>
+    ensures { Lays result nodes.old nodes.new left (core.or_any (cores_of parts.now)) }
+{
+    let number = open(nodes, left)?;
+    let parts = lay_all(alloc, nodes, left - 1, parts)?;
+    nodes.write(number, Node::Or { parts });
+    Ok(number)
+}
+
+#[cycle(lay)]
+fn lay_prim(
+    alloc: Global,
+    nodes: &mut Nodes,
+    left: u32,
+    op: Op,
+    parts: &[Tree],
+) -> Result<u32, LayFault>
+    ensures { Lays result nodes.old nodes.new left (core.prim op (cores_of parts.now)) }
+{
+    let number = open(nodes, left)?;
+    let operands = lay_all(alloc, nodes, left - 1, parts)?;
+    nodes.write(number, Node::Prim { op, operands });
+    Ok(number)
+}
+
+#[cycle(lay)]
+fn lay_let(
+    alloc: Global,
+    nodes: &mut Nodes,
+    left: u32,
+    values: &[Tree],
+    body: &Tree,
+) -> Result<u32, LayFault>
+    ensures { Lays result nodes.old nodes.new left (bind (cores_of values.now) body.now) }
+{
+    let number = open(nodes, left)?;
+    let bindings = lay_all(alloc, nodes, left - 1, values)?;
+    let body_number = nodes.next_number();
+    nodes.write(
+        number,
+        Node::Let {
+            bindings,
+            body: body_number,
+        },
+    );
+    lay(alloc, nodes, left - 1, body)?;
+    Ok(number)
+}
+
+#[cycle(lay)]
+fn lay_nested(
+    alloc: Global,
+    nodes: &mut Nodes,
+    left: u32,
+    values: &[Tree],
+    body: &Tree,
+) -> Result<u32, LayFault>
+    ensures { Lays result nodes.old nodes.new left (nested values.now body.now) }
+{
+    match values {
+        [] => lay_let(alloc, nodes, left, values, body),
+        [value, others @ ..] => lay_nest(alloc, nodes, left, value, others, body),
+    }
+}
+
+/// A binding, and within it the others and the body.
+#[cycle(lay)]
+fn lay_nest(
+    alloc: Global,
+    nodes: &mut Nodes,
+    left: u32,
+    value: &Tree,
+    others: &[Tree],
+    body: &Tree,
+) -> Result<u32, LayFault>
+    ensures { Lays result nodes.old nodes.new left (spec.nest (value.now ∷ others.now) body.now) }
+{
+    let number = open(nodes, left)?;
+    let value_number = lay(alloc, nodes, left - 1, value)?;
+    let body_number = nodes.next_number();
+    nodes.write(number, let_of(alloc, value_number, body_number)?);
+    lay_within(alloc, nodes, left - 1, others, body)?;
+    Ok(number)
+}
+
+/// Bindings one inside the other and the body, without a binding the body alone.
+#[cycle(lay)]
+fn lay_within(
+    alloc: Global,
+    nodes: &mut Nodes,
+    left: u32,
+    values: &[Tree],
+    body: &Tree,
+) -> Result<u32, LayFault>
+    ensures { Lays result nodes.old nodes.new left (spec.nest values.now body.now) }
+{
+    match values {
+        [] => lay(alloc, nodes, left, body),
+        [value, others @ ..] => lay_nest(alloc, nodes, left, value, others, body),
+    }
+}
+
+#[cycle(lay)]
+fn lay_chosen(
+    alloc: Global,
+    nodes: &mut Nodes,
+    left: u32,
+    choices: &[Choice],
+    otherwise: &Tree,
+) -> Result<u32, LayFault>
+    ensures { Lays result nodes.old nodes.new left (chosen (map pair_of choices.now) otherwise.now) }
+{
+    match choices {
+        [] => lay_alone(alloc, nodes, left, otherwise),
+        [choice, others @ ..] => lay_choice(alloc, nodes, left, choice, others, otherwise),
+    }
+}
+
+#[cycle(lay)]
+fn lay_alone(alloc: Global, nodes: &mut Nodes, left: u32, part: &Tree) -> Result<u32, LayFault>
+    ensures { Lays result nodes.old nodes.new left (seq (cores_of (part.now ∷ []))) }
+{
+    let number = open(nodes, left)?;
+    let part = lay(alloc, nodes, left - 1, part)?;
+    nodes.write(number, seq_of(alloc, part)?);
+    Ok(number)
+}
+
+/// A choice, and where its test is false the others.
+#[cycle(lay)]
+fn lay_choice(
+    alloc: Global,
+    nodes: &mut Nodes,
+    left: u32,
+    choice: &Choice,
+    others: &[Choice],
+    otherwise: &Tree,
+) -> Result<u32, LayFault>
+    ensures { Lays result nodes.old nodes.new left (chosen (map pair_of (choice.now ∷ others.now)) otherwise.now) }
+{
+    let number = open(nodes, left)?;
+    let test = lay(alloc, nodes, left - 1, &choice.test)?;
+    let body = lay(alloc, nodes, left - 1, &choice.body)?;
+    let next = nodes.next_number();
+    nodes.write(
+        number,
+        Node::If {
+            test,
+            then: body,
+            otherwise: next,
+        },
+    );
+    lay_otherwise(alloc, nodes, left - 1, others, otherwise)?;
+    Ok(number)
+}
+
+/// Choices one inside the other, without a choice what is taken otherwise.
+#[cycle(lay)]
+fn lay_otherwise(
+    alloc: Global,
+    nodes: &mut Nodes,
+    left: u32,
+    choices: &[Choice],
+    otherwise: &Tree,
+) -> Result<u32, LayFault>
+    ensures { Lays result nodes.old nodes.new left (spec.choose (map pair_of choices.now) otherwise.now) }
+{
+    match choices {
+        [] => lay(alloc, nodes, left, otherwise),
+        [choice, others @ ..] => lay_choice(alloc, nodes, left, choice, others, otherwise),
+    }
+}
+
+#[cycle(lay)]
+fn lay_for(
+    alloc: Global,
+    nodes: &mut Nodes,
+    left: u32,
+    count: &Tree,
+    body: &Tree,
+) -> Result<u32, LayFault>
+    ensures { Lays result nodes.old nodes.new left (core.repeat count.now body.now) }
+{
+    let number = open(nodes, left)?;
+    let count_number = lay(alloc, nodes, left - 1, count)?;
+    let body_number = nodes.next_number();
+    nodes.write(
+        number,
+        Node::For {
+            count: count_number,
+            body: body_number,
+        },
+    );
+    lay(alloc, nodes, left - 1, body)?;
+    Ok(number)
+}
+
+#[cycle(lay)]
+fn lay_send(
+    alloc: Global,
+    nodes: &mut Nodes,
+    left: u32,
+    kind: SendKind,
+    body: &Tree,
+) -> Result<u32, LayFault>
+    ensures { Lays result nodes.old nodes.new left (core.send kind body.now) }
+{
+    let part_number = nodes.next_number() + 1;
+    let number = nodes.push(
+        left,
+        Node::Send {
+            kind,
+            body: part_number,
+        },
+    )?;
+    lay(alloc, nodes, left - 1, body)?;
+    Ok(number)
+}
+
+#[cycle(lay)]
+fn lay_isolate(alloc: Global, nodes: &mut Nodes, left: u32, body: &Tree) -> Result<u32, LayFault>
+    ensures { Lays result nodes.old nodes.new left (core.isolate body.now) }
+{
+    let part_number = nodes.next_number() + 1;
+    let number = nodes.push(left, Node::Isolate { body: part_number })?;
+    lay(alloc, nodes, left - 1, body)?;
+    Ok(number)
+}
+
+#[cycle(lay)]
+fn lay_last(
+    alloc: Global,
+    nodes: &mut Nodes,
+    left: u32,
+    kind: LastPage,
+    body: &Tree,
+) -> Result<u32, LayFault>
+    ensures { Lays result nodes.old nodes.new left (spec.last_page kind body.now) }
+{
+    let part_number = nodes.next_number() + 1;
+    let number = nodes.push(left, last_page(kind, part_number))?;
+    lay(alloc, nodes, left - 1, body)?;
+    Ok(number)
+}
+
+#[cycle(lay)]
+fn lay_store(
+    alloc: Global,
+    nodes: &mut Nodes,
+    left: u32,
+    kind: Store,
+    cell: u8,
+    value: &Tree,
+) -> Result<u32, LayFault>
+    ensures { Lays result nodes.old nodes.new left (spec.store kind cell value.now) }
+{
+    let part_number = nodes.next_number() + 1;
+    let number = nodes.push(left, store(kind, cell, part_number))?;
+    lay(alloc, nodes, left - 1, value)?;
+    Ok(number)
+}
+
+/// The node that sends a last page.
+fn last_page(kind: LastPage, body: u32) -> Node
+    ensures { result ≡ last_node kind body }
+{
+    match kind {
+        LastPage::Finish => Node::Finish { body },
+        LastPage::Back => Node::Back { body },
+    }
+}
+
+/// The node that writes a cell.
+fn store(kind: Store, cell: u8, value: u32) -> Node
+    ensures { result ≡ store_node kind cell value }
+{
+    match kind {
+        Store::Shadow => Node::CellShadow { cell, value },
+        Store::Set => Node::InstSet { cell, value },
+        Store::Add => Node::InstAdd { cell, value },
+    }
+}
+
+/// Puts a node that is written once the numbers of its parts are known.
+fn open(nodes: &mut Nodes, left: u32) -> Result<u32, LayFault>
+    ensures { Puts result nodes.old nodes.new left (node.Var 0 ∷ []) 1 1 }
+{
+    nodes.push(left, Node::Var(0))
+}
+
+/// The node of one binding.
+fn let_of(alloc: Global, value: u32, body: u32) -> Result<Node, AllocError>
+    ensures { IfOk result (λ x. x ≡ node.Let (value ∷ []) body) }
+{
+    let mut numbers = Vec::new(alloc);
+    numbers.push(value)?;
+    Ok(Node::Let {
+        bindings: Numbers::from_vec(numbers),
+        body,
+    })
+}
+
+/// The node of one part.
+fn seq_of(alloc: Global, part: u32) -> Result<Node, AllocError>
+    ensures { IfOk result (λ x. x ≡ node.Seq (part ∷ [])) }
+{
+    let mut numbers = Vec::new(alloc);
+    numbers.push(part)?;
+    Ok(Node::Seq {
+        parts: Numbers::from_vec(numbers),
+    })
+}
