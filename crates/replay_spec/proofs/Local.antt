@@ -1,72 +1,99 @@
 -- What a visit comes to depends on the pages behind its own alone.
-use Rattle.std.proofs.Common.{◌≡◌, ℕ, List, [], refl, ap, ◌∙◌, sym}
-use Rattle.core_syntax.specs.Setup.{Named}
-use Rattle.replay_spec.specs.Tape.{Tape, Stop}
+use Rattle.std.proofs.Common.{◌≡◌, ◌+◌, ◌^◌, ℕ, List, length, Option, Some, None, ap, ◌∙◌, sym, refl, arith}
+use Rattle.std.specs.Prelude.{nat_lt}
+use Rattle.script_value.specs.declared.outcome.TxName.{TxName}
+use Rattle.replay_spec.specs.Tape.{present, How, Outcome, paged}
 use Rattle.replay_spec.specs.Tape as tape
-use Rattle.replay_spec.specs.Eval.{run}
-use Rattle.replay_spec.specs.Book.{Page, Instance, Book, extends, opens, ends, chain, spend}
-use Rattle.replay_spec.specs.Admission.{Admission, begins, resumes, admit}
-use Rattle.replay_spec.specs.Step.{Ticket, publish, Fate, plain, no_memory, Reply, step, settle, Decision, answers, records, url_of, newest, chain_tape, page_tape, start_tape, root_page, next_page, start_stops, page_stops, decide}
-use Rattle.replay_spec.specs.Step as reply
-use Rattle.replay_spec.specs.Laws.{AVisitIsLocal}
+use Rattle.replay_spec.specs.Eval.{Segment}
+use Rattle.replay_spec.specs.Book.{Change, Doubt, Book, chain, spend}
+use Rattle.replay_spec.specs.Rules.{Journal, Rules}
+use Rattle.replay_spec.specs.Change.{longer_by}
+use Rattle.replay_spec.specs.Admission.{Place, Admission, resumes, when, or_else, admit}
+use Rattle.replay_spec.specs.Next.{Ticket, Visit, comes_to, start_visit, page_visit, url_for}
+use Rattle.replay_spec.specs.Step.{publish, Fate, Reply, oversize, journal_full, Decision, records, unless, down_by, full, too_long, full_journal, with_room, change_by, reply_by, stopped, settles, decide, fate_of, settle, step}
+use Rattle.replay_spec.specs.Laws.{TakesAlike, AVisitIsLocal, AStartIsLocal}
 
-tape_local : (b c : Book) (t : Ticket) (s : Named) (i j : Instance) (p : Page) → b.shelf ≡ c.shelf → i.number ≡ j.number
-    → chain i.pages p ≡ chain j.pages p → page_tape b t s i p ≡ page_tape c t s j p
-tape_local b c t s i j p shelf number pages =
-    ap (λ (n : ℕ). chain_tape s.name n i.number (chain i.pages p) t) shelf
-    ∙ ap (λ (n : ℕ). chain_tape s.name c.shelf n (chain i.pages p) t) number
-    ∙ ap (λ (ps : List Page). chain_tape s.name c.shelf j.number ps t) pages
+pub visit_local : (b c : Book) (t : Ticket) (x y : Place) → b.shelf ≡ c.shelf → x.script ≡ y.script → x.instance.number ≡ y.instance.number → x.page.number ≡ y.page.number
+    → chain x.instance.pages x.page ≡ chain y.instance.pages y.page → page_visit b t x ≡ page_visit c t y
+visit_local b c t x y shelf script number page pages = cc
 
-stops_local : (b c : Book) (t : Ticket) (s : Named) (i j : Instance) (p : Page) → b.shelf ≡ c.shelf → i.number ≡ j.number
-    → (o : Stop) → page_stops b t s i p o ≡ page_stops c t s j p o
-stops_local b c t s i j p shelf number (tape.shown bytes inside) =
-    ap (λ (n : ℕ). records (reply.shown bytes (url_of s.name n i.number t.number t.nonce)) (extends i.number (next_page t p inside))) shelf
-    ∙ ap (λ (n : ℕ). records (reply.shown bytes (url_of s.name c.shelf n t.number t.nonce)) (extends n (next_page t p inside))) number
-stops_local b c t s i j p shelf number (tape.ended bytes) = ap (λ (n : ℕ). records (reply.ended bytes) (ends n t.number)) number
-stops_local b c t s i j p shelf number (tape.faulted f) = refl
+come_alike : (rules : Rules) (b c : Book) (t : Ticket) (x y : Place) → page_visit b t x ≡ page_visit c t y → x.instance.cells ≡ y.instance.cells
+    → comes_to (page_visit b t x) (present x.instance.cells rules.fuel) ≡ comes_to (page_visit c t y) (present y.instance.cells rules.fuel)
+come_alike rules b c t x y visit cells = cc
 
-start_local : (b c : Book) (t : Ticket) (k : ℕ) (s : Named) → b.shelf ≡ c.shelf → (o : Stop) → start_stops b t k s o ≡ start_stops c t k s o
-start_local b c t k s shelf (tape.shown bytes inside) =
-    ap (λ (n : ℕ). records (reply.shown bytes (url_of s.name n t.number t.number t.nonce)) (opens t.number k (root_page t inside))) shelf
-start_local b c t k s shelf (tape.ended bytes) = refl
-start_local b c t k s shelf (tape.faulted f) = refl
+-- a journal that takes the records of two books alike refuses them alike
+long_alike : (journal : Option Journal) (b c : Book) (change : Change) → TakesAlike journal b c → too_long journal b change ≡ too_long journal c change
+long_alike None b c change h = refl
+long_alike (Some j) b c change h = ap (λ (n : ℕ). when (nat_lt 1048576 n) (oversize n)) (h.1 change)
 
-pub page_decided : (b c : Book) (t : Ticket) (s : Named) (i j : Instance) (p : Page) → b.shelf ≡ c.shelf → i.number ≡ j.number
-    → chain i.pages p ≡ chain j.pages p → decide b t (resumes s i p) ≡ decide c t (resumes s j p)
-page_decided b c t s i j p shelf number pages =
-    ap (λ (x : Tape). page_stops b t s i p (run s.core x)) (tape_local b c t s i j p shelf number pages)
-    ∙ stops_local b c t s i j p shelf number (run s.core (page_tape c t s j p))
+full_alike : (journal : Option Journal) (b c : Book) (change : Change) → TakesAlike journal b c → full_journal journal b change ≡ full_journal journal c change
+full_alike None b c change h = refl
+full_alike (Some j) b c change h =
+    let alike : longer_by (Some j) b change ≡ longer_by (Some j) c change = (let l = h.0 in let n = h.1 change in cc) in
+    ap (λ (n : ℕ). when (nat_lt (2 ^ 30) n) (journal_full n)) alike
 
-start_decided : (b c : Book) (t : Ticket) (k : ℕ) (s : Named) → b.shelf ≡ c.shelf → decide b t (begins k s) ≡ decide c t (begins k s)
-start_decided b c t k s shelf =
-    ap (λ (n : ℕ). start_stops b t k s (run s.core (record { first = newest s.name n t.number t; later = [] }))) shelf
-    ∙ start_local b c t k s shelf (run s.core (start_tape c t s))
+room_alike : (rules : Rules) (b c : Book) (r : Reply) (inside : List TxName) (o : Option Change) → TakesAlike rules.journal b c
+    → with_room rules b r inside o ≡ with_room rules c r inside o
+room_alike rules b c r inside None h = refl
+room_alike rules b c r inside (Some change) h =
+    let long = long_alike rules.journal b c change h in
+    let full = full_alike rules.journal b c change h in
+    ap (λ (x : Option Reply). unless (or_else x (full_journal rules.journal b change)) (records r change inside)) long
+    ∙ ap (λ (x : Option Reply). unless (or_else (too_long rules.journal c change) x) (records r change inside)) full
 
-reply_settled : (b c : Book) (fate : Fate) (d : Decision) → (settle b fate d).0 ≡ (settle c fate d).0
-reply_settled b c no_memory d = refl
-reply_settled b c plain (answers r) = refl
-reply_settled b c plain (records r e) = refl
+stopped_alike : (rules : Rules) (b c : Book) (count : ℕ) (v : Visit) (s : Segment) (o : Outcome) → b.clock ≡ c.clock → TakesAlike rules.journal b c
+    → stopped rules b count v s o ≡ stopped rules c count v s o
+stopped_alike rules b c count v s (paged how bytes) clock h =
+    ap (λ (n : ℕ). unless (full rules how v.origin count) (with_room rules b (reply_by how bytes (url_for v)) s.entered (change_by (n + rules.life) v s v.origin how))) clock
+    ∙ ap (λ (d : Decision). unless (full rules how v.origin count) d)
+    (room_alike rules b c (reply_by how bytes (url_for v)) s.entered (change_by (c.clock + rules.life) v s v.origin how) h)
+stopped_alike rules b c count v s (tape.faulted f) clock h = refl
+stopped_alike rules b c count v s (tape.out_of_fuel cost) clock h = refl
 
--- equal decisions have equal replies
-replies_alike : (b c : Book) (n : ℕ) (fate : Fate) (d e : Decision) → d ≡ e → (settle (spend n b) fate d).0 ≡ (settle (spend n c) fate e).0
-replies_alike b c n fate d e same =
-    reply_settled (spend n b) (spend n c) fate d ∙ ap (λ (x : Decision). (settle (spend n c) fate x).0) same
+settled_alike : (rules : Rules) (b c : Book) (m n : ℕ) (v w : Visit) (x y : Segment) → b.clock ≡ c.clock → TakesAlike rules.journal b c → m ≡ n → v ≡ w → x ≡ y
+    → settles rules b m v x ≡ settles rules c n w y
+settled_alike rules b c m n v w x y clock h many visit same =
+    stopped_alike rules b c m v x x.outcome clock h ∙ (ap (λ (k : ℕ). settles rules c k v x) many ∙ (ap (λ (u : Visit). settles rules c n u x) visit ∙ ap (λ (z : Segment). settles rules c n w z) same))
 
-page_replies : (setup : List Named) (b c : Book) (t : Ticket) (s : Named) (i j : Instance) (p : Page) (fate : Fate) → b.shelf ≡ c.shelf → i.number ≡ j.number
-    → chain i.pages p ≡ chain j.pages p → admit setup b t.target ≡ resumes s i p → admit setup c t.target ≡ resumes s j p
-    → (step setup b (publish t) fate).0 ≡ (step setup c (publish t) fate).0
+-- a reply is the decision's, whatever the book
+reply_settled : (rules : Rules) (b c : Book) (fate : Fate) (d : Decision) → (settle rules b fate d).0 ≡ (settle rules c fate d).0
+reply_settled rules b c fate d = grind arith
+
+replies_alike : (rules : Rules) (b c : Book) (t : Ticket) (x y : Place) (nonce : ℕ) (fate : Fate) → decide rules b t (resumes x) ≡ decide rules c t (resumes y)
+    → admit rules.scripts b t.target ≡ resumes x → admit rules.scripts c t.target ≡ resumes y → b.down ≡ c.down
+    → (step rules b nonce (publish t) fate).0 ≡ (step rules c nonce (publish t) fate).0
 unfolding step
-page_replies setup b c t s i j p fate shelf number pages here there =
-    replies_alike b c t.number fate (decide b t (admit setup b t.target)) (decide c t (admit setup c t.target))
-    (ap (λ (a : Admission). decide b t a) here ∙ page_decided b c t s i j p shelf number pages ∙ sym (ap (λ (a : Admission). decide c t a) there))
+replies_alike rules b c t x y nonce fate alike here there down =
+    let f = fate_of rules.journal fate in
+    ap (λ (a : Admission). (settle rules (spend t.number b) f (unless (down_by b.down) (decide rules b t a))).0) here
+    ∙ ap (λ (o : Option Doubt). (settle rules (spend t.number b) f (unless (down_by o) (decide rules b t (resumes x)))).0) down
+    ∙ ap (λ (d : Decision). (settle rules (spend t.number b) f (unless (down_by c.down) d)).0) alike
+    ∙ reply_settled rules (spend t.number b) (spend t.number c) f (unless (down_by c.down) (decide rules c t (resumes y)))
+    ∙ sym (ap (λ (a : Admission). (settle rules (spend t.number c) f (unless (down_by c.down) (decide rules c t a))).0) there)
 
 pub local : AVisitIsLocal
-local b c t s shelf = (
-  λ (i j : Instance) (p : Page) (number : i.number ≡ j.number) (pages : chain i.pages p ≡ chain j.pages p). (
-    tape_local b c t s i j p shelf number pages,
-    page_decided b c t s i j p shelf number pages,
-    λ (setup : List Named) (fate : Fate) (here : admit setup b t.target ≡ resumes s i p) (there : admit setup c t.target ≡ resumes s j p).
-        page_replies setup b c t s i j p fate shelf number pages here there,
-  ),
-  λ (k : ℕ). start_decided b c t k s shelf,
-)
+local rules b c t x y shelf script number page pages =
+    let visit = visit_local b c t x y shelf script number page pages in (
+      visit,
+      λ (cells : x.instance.cells ≡ y.instance.cells).
+          let come = come_alike rules b c t x y visit cells in (
+            come,
+            λ (clock : b.clock ≡ c.clock) (journal : TakesAlike rules.journal b c) (many : length x.instance.pages ≡ length y.instance.pages).
+                let alike = settled_alike rules b c (length x.instance.pages) (length y.instance.pages) (page_visit b t x) (page_visit c t y)
+                (comes_to (page_visit b t x) (present x.instance.cells rules.fuel)) (comes_to (page_visit c t y) (present y.instance.cells rules.fuel)) clock journal many visit come in (
+                  alike,
+                  λ (here : admit rules.scripts b t.target ≡ resumes x) (there : admit rules.scripts c t.target ≡ resumes y) (down : b.down ≡ c.down) (nonce : ℕ) (fate : Fate).
+                      replies_alike rules b c t x y nonce fate alike here there down,
+                ),
+          ),
+    )
+
+pub start_local : AStartIsLocal
+start_local rules b c t k s shelf =
+    let visit : start_visit b t k s ≡ start_visit c t k s = cc in (
+      visit,
+      λ (clock : b.clock ≡ c.clock) (journal : TakesAlike rules.journal b c) (many : length b.instances ≡ length c.instances).
+          settled_alike rules b c (length b.instances) (length c.instances) (start_visit b t k s) (start_visit c t k s)
+          (comes_to (start_visit b t k s) (present s.script.cells rules.fuel)) (comes_to (start_visit c t k s) (present s.script.cells rules.fuel)) clock journal many visit
+          (ap (λ (v : Visit). comes_to v (present s.script.cells rules.fuel)) visit),
+    )

@@ -1,9 +1,13 @@
--- The book of one shelf, and what one record does to it.
-use Rattle.std.specs.Prelude.{ℕ, zero, suc, ◌+◌, ◌==◌, not, List, [], ◌∷◌, ◌++◌, length, filter, nat_lt, Option, Some, None, if◌then◌else◌}
+-- The book of one shelf.
+use Rattle.std.specs.Prelude.{ℕ, Bool, zero, suc, ◌+◌, ◌==◌, not, List, [], ◌∷◌, ◌++◌, length, filter, Option, Some, None, nat_le, if◌then◌else◌}
+use Rattle.std.specs.List.{list_all}
 use Rattle.script_value.specs.Val.{Val}
 use Rattle.script_value.specs.declared.outcome.TxName.{TxName}
+use Rattle.instance_cells.specs.Cells.{Effect}
+use Rattle.core_syntax.specs.declared.script.SendKind.{SendKind}
 
--- a page that was shown: the page that was answered before it, and with what; what its segment read; the transactions round it
+-- A page that was shown: the page that was answered before it, and with what (a root keeps the empty list); what its segment
+-- read; the transactions round it; and until when it can be answered.
 pub record Page : Type 0 where
   pub number : ℕ
   pub nonce : ℕ
@@ -11,31 +15,83 @@ pub record Page : Type 0 where
   pub answer : Val
   pub reads : List Val
   pub inside : List TxName
+  pub deadline : ℕ
 
--- a run of the script of this place in the setup, with its pages in the order of their numbers
+-- a run of the script of this place in the setup, with its cells, its closed transactions, the numbers of its revoked pages,
+-- and its pages in the order of their numbers
 pub record Instance : Type 0 where
   pub number : ℕ
   pub script : ℕ
+  pub cells : List Val
+  pub closed : List TxName
+  pub revoked : List ℕ
   pub pages : List Page
 
--- `drawn`: the next number; `out`: the numbers that were taken and not published
+-- a start of the script of this place showed a page
+pub record Opening : Type 0 where
+  pub number : ℕ
+  pub nonce : ℕ
+  pub script : ℕ
+  pub effects : List Effect
+  pub left : List TxName
+  pub kind : SendKind
+  pub deadline : ℕ
+
+-- a page of the instance was answered, and showed a page
+pub record Extension : Type 0 where
+  pub number : ℕ
+  pub nonce : ℕ
+  pub instance : ℕ
+  pub page : ℕ
+  pub answer : Val
+  pub effects : List Effect
+  pub left : List TxName
+  pub kind : SendKind
+  pub deadline : ℕ
+
+-- a page of the instance was answered, with a last page
+pub record Ending : Type 0 where
+  pub number : ℕ
+  pub instance : ℕ
+  pub page : ℕ
+  pub answer : Val
+  pub effects : List Effect
+  pub left : List TxName
+
+-- a page of the instance was answered, and the instance was freed
+pub record Finish : Type 0 where
+  pub number : ℕ
+  pub instance : ℕ
+  pub page : ℕ
+  pub answer : Val
+  pub effects : List Effect
+
+-- one change of the book, as a record of the journal has it: a segment was published, or time went on to a tick
+pub data Change : Type 0 where
+  opens : Opening → Change
+  extends : Extension → Change
+  ends : Ending → Change
+  finishes : Finish → Change
+  sweeps : (tick : ℕ) → Change
+
+-- a change that may have happened, since the disk failed in it, with the disk's count of faults and the names that a new page
+-- is inside
+pub record Doubt : Type 0 where
+  pub count : ℕ
+  pub change : Change
+  pub inside : List TxName
+
+-- `drawn`: the next number; `logged`: one more than the greatest number in a record; `length`: that of the journal; `out`: the
+-- numbers that were taken and not published
 pub record Book : Type 0 where
   pub shelf : ℕ
+  pub clock : ℕ
   pub drawn : ℕ
+  pub logged : ℕ
+  pub length : ℕ
   pub out : List ℕ
+  pub down : Option Doubt
   pub instances : List Instance
-
-abbrev pub empty_book : ℕ → Book
-empty_book shelf = record { shelf = shelf; drawn = 0; out = []; instances = [] }
-
--- what a publish does to the book
-pub data Effect : Type 0 where
-  -- a start of the script of this place showed a page
-  opens : (number script : ℕ) → Page → Effect
-  -- a page of the instance was answered, and showed a page
-  extends : (instance : ℕ) → Page → Effect
-  -- a page of the instance was answered, and the script ended there
-  ends : (instance number : ℕ) → Effect
 
 -- the first of a number
 abbrev pub at_number : {A : Type 0} → (A → ℕ) → ℕ → List A → Option A
@@ -47,42 +103,6 @@ instance_at n is = at_number (λ i. i.number) n is
 
 abbrev pub page_at : ℕ → List Page → Option Page
 page_at n ps = at_number (λ p. p.number) n ps
-
--- the first instance of this number, changed
-abbrev pub mend : ℕ → (Instance → Instance) → List Instance → List Instance
-mend n f [] = []
-mend n f (i ∷ is) = if i.number == n then f i ∷ is else i ∷ mend n f is
-
--- one more among others in the order of their numbers, in the place of the one of its number
-abbrev pub put_in_order : {A : Type 0} → (A → ℕ) → A → List A → List A
-put_in_order number x [] = x ∷ []
-put_in_order number x (y ∷ ys) =
-    if nat_lt (number x) (number y) then x ∷ y ∷ ys else (if number x == number y then x ∷ ys else y ∷ put_in_order number x ys)
-
-abbrev pub put_page : Page → List Page → List Page
-put_page p ps = put_in_order (λ q. q.number) p ps
-
-abbrev pub put_instance : Instance → List Instance → List Instance
-put_instance i is = put_in_order (λ j. j.number) i is
-
-abbrev pub with_page : Page → Instance → Instance
-with_page p i = record i { pages = put_page p i.pages }
-
-abbrev pub instances_by : Effect → List Instance → List Instance
-instances_by (opens n s p) is = put_instance (record { number = n; script = s; pages = p ∷ [] }) is
-instances_by (extends i p) is = mend i (with_page p) is
-instances_by (ends i n) is = is
-
--- an effect lands in the book
-abbrev pub land : Effect → Book → Book
-land e b = record b { instances = instances_by e b.instances }
-
--- a number is taken; it is published
-abbrev pub draw : Book → Book
-draw b = record b { drawn = b.drawn + 1; out = b.out ++ b.drawn ∷ [] }
-
-abbrev pub spend : ℕ → Book → Book
-spend n b = record b { out = filter (λ m. not (m == n)) b.out }
 
 abbrev pub parent_of : List Page → Option ℕ → Option Page
 parent_of ps None = None
@@ -97,3 +117,21 @@ chain_within (suc n) ps (Some p) = chain_within n ps (parent_of ps p.parent) ++ 
 
 abbrev pub chain : List Page → Page → List Page
 chain ps p = chain_within (length ps) ps (Some p)
+
+abbrev pub is_expired : ℕ → Page → Bool
+is_expired clock p = nat_le p.deadline clock
+
+-- an instance with a page that can be answered still
+abbrev pub is_live : ℕ → Instance → Bool
+is_live clock i = not (list_all (is_expired clock) i.pages)
+
+-- a number is taken; it is published
+abbrev pub draw : Book → Book
+draw b = record b { drawn = b.drawn + 1; out = b.out ++ b.drawn ∷ [] }
+
+abbrev pub spend : ℕ → Book → Book
+spend n b = record b { out = filter (λ m. not (m == n)) b.out }
+
+-- the shelf is opened again: numbers that no record has are drawn again
+abbrev pub reopened : Book → Book
+reopened b = record b { drawn = b.logged; out = []; down = None }

@@ -1,78 +1,468 @@
 -- What holds of every run.
-use Rattle.std.specs.Prelude.{◌≡◌, ℕ, List, [], ◌∷◌, ◌++◌, Some, None, Contains, reverse, ⊤}
-use Rattle.core_syntax.specs.Setup.{Named}
+use Rattle.std.specs.Prelude.{◌≡◌, ◌⊎◌, ◌≤◌, ◌<◌, ◌-◌, ◌^◌, ℕ, List, [], ◌∷◌, ◌++◌, Option, Some, None, Contains, map, not, filter, ◌==◌, ◌+◌, true, length, reverse, slice_get, ⊤}
 use Rattle.script_value.specs.Val.{Val}
-use Rattle.page_names.specs.Names.{Destination}
-use Rattle.replay_spec.specs.Book.{Page, Instance, Book, empty_book, instance_at, page_at, parent_of, chain, draw, spend}
-use Rattle.replay_spec.specs.Admission.{begins, resumes, admit}
-use Rattle.replay_spec.specs.Step.{Ticket, Event, take, publish, Fate, Reply, taken, shown, step, decide, page_tape}
-use Rattle.replay_spec.specs.Runs.{after, replies}
+use Rattle.script_value.specs.declared.outcome.TxName.{TxName}
+use Rattle.instance_cells.specs.Cells.{Holds, AreOn, reads_of}
+use Rattle.core_syntax.specs.Core.{OnCells}
+use Rattle.core_syntax.specs.declared.script.SendKind.TheVariants.{Forward}
+use Rattle.core_syntax.specs.Setup.{Script, Named}
+use Rattle.replay_spec.specs.Names.{Has, first_closed}
+use Rattle.replay_spec.specs.Tape.{Reads, recorded, present, bound, Now, Answer, Tape, tape_behind, shows, Outcome, paged, out_of_fuel, End, got, stop}
+use Rattle.replay_spec.specs.Eval.{Segment, end_of, run, unread}
+use Rattle.script_value.specs.declared.outcome.Refusal.TheVariants.{Unknown, Revoked, Closed}
+use Rattle.page_names.specs.Names.{Destination, start, page}
+use Rattle.page_names.specs.declared.names.PageName.{PageName}
+use Rattle.replay_spec.specs.Book.{Page, Instance, Extension, Change, opens, extends, ends, finishes, sweeps, Doubt, Book, instance_at, page_at, chain, draw, spend, reopened}
+use Rattle.replay_spec.specs.Rules.{Journal, Rules, first_cells, empty_book}
+use Rattle.replay_spec.specs.Change.{record_length, land}
+use Rattle.replay_spec.specs.Admission.{is_one, Place, place_at, begins, resumes, admit}
+use Rattle.replay_spec.specs.Next.{Ticket, comes_to, start_visit, page_visit}
+use Rattle.replay_spec.specs.Step.{Event, take, publish, sweep, crash, Fate, Reply, taken, shown, finished, ended, swept, disk_failed, refusal, memory, down, worn, Decision, replies, records, settles, decide, publish_comes, sweep_comes, step}
+use Rattle.replay_spec.specs.Runs.{Shelf, shelf_step, after, answers_to, lands, with_change, records_of, book_of}
+use Rattle.replay_spec.specs.Invariant.{AreAncestors, Replays, PageAt, Among, Unused, IsSound}
+
+-- each of these segments is past: its reads were recorded
+abbrev pub IsRecorded : Reads → Type 0
+IsRecorded (recorded vs) = ⊤
+IsRecorded (present cells fuel) = ⊥
+
+abbrev pub ArePast : List Answer → Type 0
+ArePast [] = ⊤
+ArePast (a ∷ later) = IsRecorded a.segment.reads × ArePast later
+
+-- an answer whose segment reads from there
+abbrev pub reading : Reads → Answer → Answer
+reading reads a = record a { segment = record a.segment { reads = reads } }
+
+-- the end of a script behind past segments, the newest of which reads from there, and what it comes to
+abbrev pub end_behind : Script → (past : List Answer) → Answer → Reads → End Val
+end_behind s past a reads = end_of s (tape_behind past (reading reads a))
+
+abbrev pub run_behind : Script → (past : List Answer) → Answer → Reads → Segment
+run_behind s past a reads = run s (tape_behind past (reading reads a))
+
+-- A run whose effects over some cells hold over others comes to the same over those: its stop, names, effects and cost.
+abbrev pub EffectsHoldRunSame : Type 0
+EffectsHoldRunSame =
+    (s : Script) (past : List Answer) (a : Answer) → ArePast past → (fuel : ℕ) (before now : List Val)
+    → Holds (run_behind s past a (present before fuel)).effects now
+    → run_behind s past a (present now fuel) ≡ run_behind s past a (present before fuel)
+
+-- So a publish may take what the first run came to, over whatever cells, where its effects hold over the cells of now.
+abbrev pub AHeldRunIsNext : Type 0
+AHeldRunIsNext =
+    (rules : Rules) (b : Book) (t : Ticket) (at : Place) (before : List Val)
+    → let first = comes_to (page_visit b t at) (present before rules.fuel) in
+    Holds first.effects at.instance.cells
+    → decide rules b t (resumes at) ≡ settles rules b (length at.instance.pages) (page_visit b t at) first
+
+-- The effects of a run are on the cells that its script names.
+abbrev pub EffectsAreOnCells : Type 0
+EffectsAreOnCells = (s : Script) (t : Tape) (web cells : ℕ) → OnCells web cells s.body → AreOn cells (run s t).effects
+
+-- a run stops with a page; with one that waits for an answer; with a page or a fault
+abbrev pub Pages : Outcome → Type 0
+Pages (paged how bytes) = ⊤
+Pages _ = ⊥
+
+abbrev pub Waits : Outcome → Type 0
+Waits (paged (shows kind) bytes) = ⊤
+Waits _ = ⊥
+
+abbrev pub IsInFuel : Outcome → Type 0
+IsInFuel (out_of_fuel cost) = ⊥
+IsInFuel _ = ⊤
+
+-- A run that stops with a page over cells stops with it again over what it read, at the same cost and inside the same
+-- transactions, and notes nothing; where the page waits for an answer, it reads just this of what is recorded.
+abbrev pub RecordedIsPresent : Type 0
+RecordedIsPresent =
+    (s : Script) (past : List Answer) (a : Answer) → ArePast past → (fuel : ℕ) (cells more : List Val)
+    → let first = run_behind s past a (present cells fuel) in
+    let again = recorded (reads_of first.effects ++ more) in
+    (Pages first.outcome → run_behind s past a again ≡ record first { effects = [] })
+    × (Waits first.outcome → unread (end_behind s past a again) ≡ more)
+
+-- A run that does not end for want of fuel comes to the same under more.
+abbrev pub MoreFuelIsTheSame : Type 0
+MoreFuelIsTheSame =
+    (s : Script) (past : List Answer) (a : Answer) → ArePast past → (fuel more : ℕ) (cells : List Val) → fuel ≤ more
+    → IsInFuel (run_behind s past a (present cells fuel)).outcome
+    → run_behind s past a (present cells more) ≡ run_behind s past a (present cells fuel)
+
+-- each of these was entered by the segment of this number
+abbrev pub AreOf : ℕ → List TxName → Type 0
+AreOf n [] = ⊤
+AreOf n (t ∷ ts) = (t.ticket ≡ n) × AreOf n ts
+
+-- all different
+abbrev pub Distinct : List TxName → Type 0
+Distinct [] = ⊤
+Distinct (t ∷ ts) = (Has ts t → ⊥) × Distinct ts
+
+-- a cost that a segment's bound allows
+abbrev pub Affords : Option ℕ → ℕ → Type 0
+Affords None cost = ⊤
+Affords (Some fuel) cost = cost ≤ fuel
+
+-- A segment stopped that went on inside these transactions: it kept the outer ones, and stands inside these and those that it
+-- entered, which differ, since each was paid, as long as the count of entries can't stand still. It left the others, but for
+-- what has its own number. It stopped within its fuel, unless it stopped for want of it.
+pub record IsWithin (names : List TxName) (now : Now) (s : Segment) : Type 0 where
+  pub kept : List TxName
+  pub gone : List TxName
+  pub own : List TxName
+  pub cut : names ≡ kept ++ gone
+  pub is : s.entered ≡ kept ++ own
+  pub of_it : AreOf now.number own
+  pub distinct : s.cost < 2 ^ 32 - 1 → Distinct own
+  pub left : (t : TxName) → Has s.left t → Has gone t
+  pub all_left : (t : TxName) → Has gone t → (t.ticket ≡ now.number → ⊥) → Has s.left t
+  pub paid : IsInFuel s.outcome → Affords (bound now.reads) s.cost
+
+-- a tape with one more answer
+abbrev pub longer : Answer → Tape → Tape
+longer a t = record t { later = t.later ++ a ∷ [] }
+
+-- A script starts inside no transaction, and goes on inside those of the page that was answered.
+abbrev pub NamesFollow : Type 0
+NamesFollow =
+    (s : Script)
+    → ((now : Now) → IsWithin [] now (run s (record { first = now; later = [] })))
+    × ((t : Tape) (a : Answer) → Waits (run s t).outcome → IsWithin (run s t).entered a.segment (run s (longer a t)))
+
+-- a publish spends a number that was taken and not published yet
+abbrev pub IsLawful : Event → Book → Type 0
+IsLawful (publish t) b = Contains b.out t.number
+IsLawful _ b = ⊤
+
+-- what an event meets: the rules that the shelf was opened under, the next nonce, and its fate
+pub record Moment : Type 0 where
+  pub rules : Rules
+  pub nonce : ℕ
+  pub event : Event
+  pub fate : Fate
+
+abbrev pub then_book : Moment → Book → Book
+then_book m b = (step m.rules b m.nonce m.event m.fate).1
+
+abbrev pub book_after : List Moment → Book → Book
+book_after [] b = b
+book_after (m ∷ ms) b = book_after ms (then_book m b)
+
+-- Each of these events is lawful where it comes. The rules may change whenever a shelf is opened; the scripts stay.
+abbrev pub AreLawful : List Named → List Moment → Book → Type 0
+AreLawful scripts [] b = ⊤
+AreLawful scripts (m ∷ ms) b = (m.rules.scripts ≡ scripts) × IsLawful m.event b × AreLawful scripts ms (then_book m b)
+
+-- lawful events lead from a book to another
+pub record Leads (scripts : List Named) (b c : Book) : Type 0 where
+  pub moments : List Moment
+  pub lawful : AreLawful scripts moments b
+  pub there : book_after moments b ≡ c
+
+-- An empty book is sound, and each lawful event keeps a book so.
+abbrev pub SoundBooksStay : Type 0
+SoundBooksStay =
+    (rules : Rules)
+    → ((shelf : ℕ) → IsSound rules.scripts (empty_book rules shelf))
+    × ((b : Book) (nonce : ℕ) (event : Event) (fate : Fate) → IsSound rules.scripts b → IsLawful event b → IsSound rules.scripts (step rules b nonce event fate).1)
+
+-- Each instance has as many cells as its script.
+abbrev pub EachHasItsCells : Type 0
+EachHasItsCells =
+    (scripts : List Named) (b : Book) → IsSound scripts b → (k : ℕ) (i : Instance) → instance_at k b.instances ≡ Some i
+    → length i.cells ≡ length (first_cells scripts i.script)
+
+-- The chain of a page is all of its ancestors from the root on, and then the page, and it replays.
+abbrev pub EachChainReplays : Type 0
+EachChainReplays =
+    (scripts : List Named) (b : Book) → IsSound scripts b
+    → (k n : ℕ) (i : Instance) (p : Page) (s : Named) → instance_at k b.instances ≡ Some i → page_at n i.pages ≡ Some p → slice_get scripts i.script ≡ Some s
+    → (ancestors : List Page) × (AreAncestors i.pages p ancestors × (chain i.pages p ≡ reverse (p ∷ ancestors)) × Replays s b.shelf i.number ancestors p)
+
+-- the same page, behind the same pages, whatever is the answer to it
+pub record IsSame (b c : Book) (x y : Place) : Type 0 where
+  pub page : y.page ≡ x.page
+  pub visit : (t : Ticket) → page_visit b t x ≡ page_visit c t y
+
+-- A page that was shown stands as long as its instance does, behind the pages that it had behind it, whatever was visited
+-- since, also in crashes: what may end it is why it can't be answered, or that its instance is freed.
+abbrev pub PagesStay : Type 0
+PagesStay =
+    (scripts : List Named) (b c : Book) → IsSound scripts b → Leads scripts b c → (name : List ℕ) (n : PageName) (x : Place) → place_at scripts b name n ≡ Some x
+    → (instance_at n.instance c.instances ≡ None) ⊎ ((y : Place) × ((place_at scripts c name n ≡ Some y) × IsSame b c x y))
+
+-- a journal takes the records of two books alike
+abbrev pub TakesAlike : Option Journal → Book → Book → Type 0
+TakesAlike None b c = ⊤
+TakesAlike (Some j) b c = (b.length ≡ c.length) × ((change : Change) → record_length j b change ≡ record_length j c change)
+
+-- A visit depends on the pages behind its own and its instance's cells alone: in two books of one shelf, where its page has the
+-- same pages behind it in instances of one number and script, its script runs over the same tape, and with the same cells it
+-- comes to the same. At the same clock, with as many pages and a journal that takes it alike, it is decided the same, and so
+-- answered the same where it is admitted and neither shelf is down.
+abbrev pub AVisitIsLocal : Type 0
+AVisitIsLocal =
+    (rules : Rules) (b c : Book) (t : Ticket) (x y : Place) → b.shelf ≡ c.shelf → x.script ≡ y.script → x.instance.number ≡ y.instance.number
+    → x.page.number ≡ y.page.number → chain x.instance.pages x.page ≡ chain y.instance.pages y.page
+    → (page_visit b t x ≡ page_visit c t y)
+    × (x.instance.cells ≡ y.instance.cells
+    → (comes_to (page_visit b t x) (present x.instance.cells rules.fuel) ≡ comes_to (page_visit c t y) (present y.instance.cells rules.fuel))
+    × (b.clock ≡ c.clock → TakesAlike rules.journal b c → length x.instance.pages ≡ length y.instance.pages
+    → (decide rules b t (resumes x) ≡ decide rules c t (resumes y))
+    × (admit rules.scripts b t.target ≡ resumes x → admit rules.scripts c t.target ≡ resumes y → b.down ≡ c.down
+    → (nonce : ℕ) (fate : Fate) → (step rules b nonce (publish t) fate).0 ≡ (step rules c nonce (publish t) fate).0)))
+
+-- And what a start comes to depends on the shelf's number alone; how it is decided, on the clock, the journal and how many
+-- instances there are.
+abbrev pub AStartIsLocal : Type 0
+AStartIsLocal =
+    (rules : Rules) (b c : Book) (t : Ticket) (k : ℕ) (s : Named) → b.shelf ≡ c.shelf
+    → (start_visit b t k s ≡ start_visit c t k s)
+    × (b.clock ≡ c.clock → TakesAlike rules.journal b c → length b.instances ≡ length c.instances
+    → decide rules b t (begins k s) ≡ decide rules c t (begins k s))
+
+-- what is answered `taken` draws the next number and the next nonce, and what is not leaves the book
+abbrev pub Takes : Book → (nonce : ℕ) → Reply → Book → Type 0
+Takes b nonce (taken n m) c = (n ≡ b.drawn) × (m ≡ nonce) × (c ≡ draw b)
+Takes b nonce _ c = c ≡ b
+
+-- a decision's change landed
+pub record Lands (rules : Rules) (b : Book) (d : Decision) (r : Reply) (c : Book) : Type 0 where
+  pub change : Change
+  pub inside : List TxName
+  pub decided : d ≡ records r change inside
+  pub landed : c ≡ land rules change inside b
+
+-- or is in doubt, with this count
+pub record Doubts (b : Book) (d : Decision) (count : ℕ) (c : Book) : Type 0 where
+  pub reply : Reply
+  pub change : Change
+  pub inside : List TxName
+  pub decided : d ≡ records reply change inside
+  pub left : c ≡ record b { down = Some (record { count = count; change = change; inside = inside }) }
+
+-- What shows a page lands what was decided, and so does a sweep. What ends or finishes lands it, or leaves the book where nothing
+-- was to be recorded. The disk's fault leaves in doubt just what was decided, with the count that it tells. All else leaves the
+-- book.
+abbrev pub Spares : Rules → Book → Decision → Reply → Book → Type 0
+Spares rules b d (shown bytes url) c = Lands rules b d (shown bytes url) c
+Spares rules b d (swept n) c = Lands rules b d (swept n) c
+Spares rules b d (finished bytes) c = Lands rules b d (finished bytes) c ⊎ ((d ≡ replies (finished bytes)) × (c ≡ b))
+Spares rules b d (ended bytes) c = Lands rules b d (ended bytes) c ⊎ ((d ≡ replies (ended bytes)) × (c ≡ b))
+Spares rules b d (disk_failed count) c = Doubts b d count c
+Spares rules b d _ c = c ≡ b
+
+-- A take that is not answered `taken` changes nothing. A publish that neither shows a page nor ends only spends its number. A
+-- sweep that is refused changes nothing, and one to a tick that is over does nothing.
+abbrev pub RefusedIsUnchanged : Type 0
+RefusedIsUnchanged =
+    (rules : Rules) (b : Book) (nonce : ℕ) (fate : Fate)
+    → ((target : Destination) (answer : Val)
+    → Takes b nonce (step rules b nonce (take target answer) fate).0 (step rules b nonce (take target answer) fate).1)
+    × ((t : Ticket) → Spares rules (spend t.number b) (publish_comes rules b t) (step rules b nonce (publish t) fate).0 (step rules b nonce (publish t) fate).1)
+    × ((tick : ℕ) → b.clock < tick → Spares rules b (sweep_comes rules b tick) (step rules b nonce (sweep tick) fate).0 (step rules b nonce (sweep tick) fate).1)
+    × ((tick : ℕ) → tick ≤ b.clock → step rules b nonce (sweep tick) fate ≡ (swept 0, b))
+
+-- a start changes nothing unless it shows a page
+abbrev pub Opens : Decision → Type 0
+Opens (records (shown bytes url) (opens o) inside) = ⊤
+Opens (records r c inside) = ⊥
+Opens (replies (shown bytes url)) = ⊥
+Opens (replies r) = ⊤
+
+abbrev pub AStartOpensOrLeaves : Type 0
+AStartOpensOrLeaves = (rules : Rules) (b : Book) (t : Ticket) (k : ℕ) (s : Named) → Opens (decide rules b t (begins k s))
 
 -- a run over more events is the run over the first, and then over the others
 abbrev pub RunsGoOn : Type 0
 RunsGoOn =
-    (setup : List Named) (xs ys : List (Event × Fate)) (b : Book)
-    → (after setup (xs ++ ys) b ≡ after setup ys (after setup xs b))
-    × (replies setup (xs ++ ys) b ≡ replies setup xs b ++ replies setup ys (after setup xs b))
+    (rules : Rules) (source : ℕ → ℕ) (xs ys : List (Event × Fate)) (s : Shelf)
+    → (after rules source (xs ++ ys) s ≡ after rules source ys (after rules source xs s))
+    × (answers_to rules source (xs ++ ys) s ≡ answers_to rules source xs s ++ answers_to rules source ys (after rules source xs s))
 
--- what is answered `taken` draws the next number, and what is not leaves the book
-abbrev pub Takes : Book → Reply → Book → Type 0
-Takes b (taken n nonce) c = (n ≡ b.drawn) × (c ≡ draw b)
-Takes b _ c = c ≡ b
+-- the transactions that a page is inside
+abbrev pub names_of : Option Page → List TxName
+names_of None = []
+names_of (Some p) = p.inside
 
--- what shows no page leaves all but the number that it spends
-abbrev pub Spends : ℕ → Book → Reply → Book → Type 0
-Spends n b (shown bytes url) c = ⊤
-Spends n b _ c = c ≡ spend n b
+abbrev pub names_in : ℕ → Option Instance → List TxName
+names_in n None = []
+names_in n (Some i) = names_of (page_at n i.pages)
 
--- a take that is not answered `taken` changes nothing, and a publish that shows no page only spends its number
-abbrev pub RefusedIsUnchanged : Type 0
-RefusedIsUnchanged =
-    (setup : List Named) (b : Book) (fate : Fate)
-    → ((target : Destination) (answer : Val) (nonce : ℕ)
-    → Takes b (step setup b (take target answer nonce) fate).0 (step setup b (take target answer nonce) fate).1)
-    × ((t : Ticket) → Spends t.number b (step setup b (publish t) fate).0 (step setup b (publish t) fate).1)
+-- the transactions that the page of a target is inside
+abbrev pub names_at : Book → Destination → List TxName
+names_at b (start name) = []
+names_at b (page name n) = names_in n.page (instance_at n.instance b.instances)
 
--- A visit depends on the pages behind its own alone: in two books of one shelf, where its page has the same pages
--- behind it in the instances of one number, its script runs over the same tape, and it comes to the same and is
--- answered the same. What a start comes to depends on the shelf alone.
-abbrev pub AVisitIsLocal : Type 0
-AVisitIsLocal =
-    (b c : Book) (t : Ticket) (s : Named) → b.shelf ≡ c.shelf
-    → ((i j : Instance) (p : Page) → i.number ≡ j.number → chain i.pages p ≡ chain j.pages p
-    → (page_tape b t s i p ≡ page_tape c t s j p)
-    × (decide b t (resumes s i p) ≡ decide c t (resumes s j p))
-    × ((setup : List Named) (fate : Fate) → admit setup b t.target ≡ resumes s i p → admit setup c t.target ≡ resumes s j p
-    → (step setup b (publish t) fate).0 ≡ (step setup c (publish t) fate).0))
-    × ((k : ℕ) → decide b t (begins k s) ≡ decide c t (begins k s))
+-- the transactions that a change closes: those that its segment left; and where it frees the instance, all that its page was
+-- inside
+abbrev pub closes : List Instance → Change → List TxName
+closes is (opens o) = o.left
+closes is (extends x) = x.left
+closes is (ends e) = e.left
+closes is (finishes f) = names_in f.page (instance_at f.instance is)
+closes is (sweeps tick) = []
 
--- a publish spends a number that was taken and not published yet
-abbrev pub IsLawful : Event → Book → Type 0
-IsLawful (take target answer nonce) b = ⊤
-IsLawful (publish t) b = Contains b.out t.number
+abbrev pub closed_by : List Instance → Option Change → List TxName
+closed_by is None = []
+closed_by is (Some c) = closes is c
 
--- each of these events is lawful where it comes
-abbrev pub AreLawful : List Named → List (Event × Fate) → Book → Type 0
-AreLawful setup [] b = ⊤
-AreLawful setup (x ∷ xs) b = IsLawful x.0 b × AreLawful setup xs (step setup b x.0 x.1).1
+-- by the event a change takes effect that closes the transaction
+abbrev pub Leaves : TxName → Book → Moment → Type 0
+Leaves name b m = Has (closed_by b.instances (lands m.rules b m.event m.fate)) name
 
--- the ancestors of a page, the nearest first: each is the parent of the one before, and the last has none
-abbrev pub AreAncestors : List Page → Page → List Page → Type 0
-AreAncestors ps p [] = p.parent ≡ None
-AreAncestors ps p (q ∷ qs) = (parent_of ps p.parent ≡ Some q) × AreAncestors ps q qs
+-- the event is on a page inside the transaction
+abbrev pub IsOn : TxName → Book → Event → Type 0
+IsOn name b (take target answer) = Has (names_at b target) name
+IsOn name b (publish t) = Has (names_at b t.target) name
+IsOn name b _ = ⊥
 
--- In each book that lawful events lead to, the chain of a page is all of its ancestors from the root on, and then the page.
-abbrev pub ChainsAreWhole : Type 0
-ChainsAreWhole =
-    (setup : List Named) (shelf : ℕ) (xs : List (Event × Fate)) → AreLawful setup xs (empty_book shelf)
-    → (k n : ℕ) (i : Instance) (p : Page) → instance_at k (after setup xs (empty_book shelf)).instances ≡ Some i → page_at n i.pages ≡ Some p
-    → (ancestors : List Page) × (AreAncestors i.pages p ancestors × (chain i.pages p ≡ reverse (p ∷ ancestors)))
+-- what an event on a page inside a closed transaction is answered
+abbrev pub IsRefusal : Reply → Type 0
+IsRefusal (refusal Unknown) = ⊤
+IsRefusal (refusal Revoked) = ⊤
+IsRefusal (refusal (Closed t)) = ⊤
+IsRefusal memory = ⊤
+IsRefusal (down count) = ⊤
+IsRefusal worn = ⊤
+IsRefusal _ = ⊥
 
--- A page that was shown can be answered at any later time, and an answer comes to what it came to before, whatever was visited since.
-abbrev pub PagesStay : Type 0
-PagesStay =
-    (setup : List Named) (shelf : ℕ) (xs ys : List (Event × Fate)) → AreLawful setup (xs ++ ys) (empty_book shelf)
-    → let b = after setup xs (empty_book shelf) in
-    let c = after setup (xs ++ ys) (empty_book shelf) in
-    (t : Ticket) (s : Named) (i : Instance) (p : Page) → admit setup b t.target ≡ resumes s i p
-    → (j : Instance) × ((admit setup c t.target ≡ resumes s j p) × (decide b t (resumes s i p) ≡ decide c t (resumes s j p)))
+-- the book where an event has no effect: a publish spends its number
+abbrev pub without_effect : Event → Book → Book
+without_effect (publish t) b = spend t.number b
+without_effect _ b = b
+
+-- After an event that left a transaction none leaves it, and each on a page that is inside it, or was in any book before, is
+-- refused without effect.
+abbrev pub ClosedIsClosed : Type 0
+ClosedIsClosed =
+    (scripts : List Named) (b c : Book) (leaving next : Moment) (name : TxName) → IsSound scripts b → leaving.rules.scripts ≡ scripts → IsLawful leaving.event b
+    → Leaves name b leaving → Leads scripts (then_book leaving b) c → next.rules.scripts ≡ scripts
+    → (Leaves name c next → ⊥)
+    × ((a : Book) → IsSound scripts a → Leads scripts a c → IsOn name a next.event
+    → IsRefusal (step next.rules c next.nonce next.event next.fate).0 × (then_book next c ≡ without_effect next.event c))
+
+-- each page's names are all different, and so are those that a page in doubt would be inside
+pub record NamesDiffer (b : Book) : Type 0 where
+  pub pages : (k n : ℕ) (i : Instance) (p : Page) → instance_at k b.instances ≡ Some i → page_at n i.pages ≡ Some p → Distinct p.inside
+  pub doubt : (d : Doubt) → b.down ≡ Some d → Distinct d.inside
+
+-- The names in a book differ, where fuel is too little for the count of a segment's transactions to stand still.
+abbrev pub NamesStayDifferent : Type 0
+NamesStayDifferent =
+    (rules : Rules) → rules.fuel < 2 ^ 32 - 1
+    → ((shelf : ℕ) → NamesDiffer (empty_book rules shelf))
+    × ((b : Book) (nonce : ℕ) (event : Event) (fate : Fate) → IsSound rules.scripts b → NamesDiffer b → IsLawful event b → NamesDiffer (step rules b nonce event fate).1)
+
+-- Then a page is inside no closed transaction when it is shown, those included that its own segment left.
+abbrev pub ShownIsOpen : Type 0
+ShownIsOpen =
+    (rules : Rules) (b : Book) (t : Ticket) (at : Place) → IsSound rules.scripts b → NamesDiffer b → IsLawful (publish t) b → admit rules.scripts b t.target ≡ resumes at
+    → let o = comes_to (page_visit b t at) (present at.instance.cells rules.fuel) in
+    first_closed (at.instance.closed ++ o.left) o.entered ≡ None
+
+-- what the events of a shelf meet, whose source gives these nonces
+abbrev pub moments_of : Rules → (source : ℕ → ℕ) → List (Event × Fate) → Shelf → List Moment
+moments_of rules source [] s = []
+moments_of rules source (x ∷ xs) s =
+    record { rules = rules; nonce = source s.nonces; event = x.0; fate = x.1 } ∷ moments_of rules source xs (shelf_step rules source s x.0 x.1).1
+
+-- each publish of these spends a number that is out
+abbrev pub IsLawfulRun : Rules → (source : ℕ → ℕ) → List (Event × Fate) → Shelf → Type 0
+IsLawfulRun rules source xs s = AreLawful rules.scripts (moments_of rules source xs s) s.book
+
+-- a shelf's run leads from its book to the last
+abbrev pub ARunLeads : Type 0
+ARunLeads =
+    (rules : Rules) (source : ℕ → ℕ) (xs : List (Event × Fate)) (s : Shelf) → IsLawfulRun rules source xs s
+    → Leads rules.scripts s.book (after rules source xs s).book
+
+-- The records that a run leaves suffice: the book that they make of the first is the last, as after a crash. The transactions
+-- that a new page is inside are no part of its record: its script is run again.
+abbrev pub RecordsSuffice : Type 0
+RecordsSuffice =
+    (rules : Rules) (source : ℕ → ℕ) (xs : List (Event × Fate)) (s : Shelf) → IsSound rules.scripts s.book → IsLawfulRun rules source xs s
+    → reopened (after rules source xs s).book ≡ reopened (book_of rules (records_of rules source xs s) s.book)
+
+-- the instance of this number has revoked the page of this number
+pub record RevokedIn (is : List Instance) (k n : ℕ) : Type 0 where
+  pub instance : Instance
+  pub found : instance_at k is ≡ Some instance
+  pub revoked : is_one n instance.revoked ≡ true
+
+-- by the event a page of this instance was answered with one that forwards
+pub record Forwards (rules : Rules) (b : Book) (event : Event) (fate : Fate) (k : ℕ) : Type 0 where
+  pub extension : Extension
+  pub lands : lands rules b event fate ≡ Some (extends extension)
+  pub here : extension.instance ≡ k
+  pub forward : extension.kind ≡ Forward
+
+-- What revokes a page is a forward of its instance, and it revokes every page that is there. A revoked page stays revoked as long
+-- as its instance stands.
+abbrev pub AForwardRevokes : Type 0
+AForwardRevokes =
+    (rules : Rules) (b : Book) (nonce : ℕ) (event : Event) (fate : Fate) → IsSound rules.scripts b → IsLawful event b → (k n : ℕ)
+    → let c = (step rules b nonce event fate).1 in
+    (RevokedIn c.instances k n → RevokedIn b.instances k n ⊎ Forwards rules b event fate k)
+    × ((p : Page) → PageAt b.instances k n p → Forwards rules b event fate k → RevokedIn c.instances k n)
+    × ((p : Page) → PageAt b.instances k n p → RevokedIn b.instances k n → (instance_at k c.instances ≡ None) ⊎ RevokedIn c.instances k n)
+
+-- the changes that these moments land
+abbrev pub changes_of : List Moment → Book → List Change
+changes_of [] b = []
+changes_of (m ∷ ms) b = with_change (lands m.rules b m.event m.fate) (changes_of ms (then_book m b))
+
+-- the numbers of the segments that changed the book
+abbrev pub numbers_of : List Change → List ℕ
+numbers_of [] = []
+numbers_of (opens o ∷ cs) = o.number ∷ numbers_of cs
+numbers_of (extends x ∷ cs) = x.number ∷ numbers_of cs
+numbers_of (ends e ∷ cs) = e.number ∷ numbers_of cs
+numbers_of (finishes f ∷ cs) = f.number ∷ numbers_of cs
+numbers_of (sweeps tick ∷ cs) = numbers_of cs
+
+-- all different
+abbrev pub AreDifferent : List ℕ → Type 0
+AreDifferent [] = ⊤
+AreDifferent (n ∷ ns) = (Among n ns → ⊥) × AreDifferent ns
+
+-- No number is used twice, also over crashes: the segments that change a book have different numbers, and ones that were unused
+-- before.
+abbrev pub NoNumberTwice : Type 0
+NoNumberTwice =
+    (scripts : List Named) (ms : List Moment) (b : Book) → IsSound scripts b → AreLawful scripts ms b
+    → AreDifferent (numbers_of (changes_of ms b)) × ((n : ℕ) → Among n (numbers_of (changes_of ms b)) → Unused b n)
+
+-- The tickets that are out, each with the target, answer and nonce of its take: a take that is answered `taken` gives one, a
+-- publish spends that of its number, and a crash loses all.
+abbrev pub tickets_by : Event → Reply → List Ticket → List Ticket
+tickets_by (take target answer) (taken number nonce) ts = ts ++ record { target = target; answer = answer; number = number; nonce = nonce } ∷ []
+tickets_by (publish t) r ts = filter (λ u. not (u.number == t.number)) ts
+tickets_by crash r ts = []
+tickets_by _ _ ts = ts
+
+abbrev pub tickets_over : List Moment → Book → List Ticket → List Ticket
+tickets_over [] b ts = ts
+tickets_over (m ∷ ms) b ts = tickets_over ms (then_book m b) (tickets_by m.event (step m.rules b m.nonce m.event m.fate).0 ts)
+
+-- The numbers that are out are those of these tickets, and are all different.
+abbrev pub TicketsAreOut : Type 0
+TicketsAreOut =
+    (scripts : List Named) (ms : List Moment) (b : Book) (ts : List Ticket) → IsSound scripts b → AreLawful scripts ms b
+    → map (λ t. t.number) ts ≡ b.out → AreDifferent b.out
+    → (map (λ t. t.number) (tickets_over ms b ts) ≡ (book_after ms b).out) × AreDifferent (book_after ms b).out
+
+-- the web cells rise from this one, each bound once
+abbrev pub Rise : ℕ → List (ℕ × Val) → Type 0
+Rise low [] = ⊤
+Rise low (s ∷ ss) = (low ≤ s.0) × Rise (s.0 + 1) ss
+
+abbrev pub shadows_at : End Val → List (ℕ × Val)
+shadows_at (got v state) = state.shadows
+shadows_at (stop o entered state) = state.shadows
+
+-- The bindings of web cells rise in every run, each cell bound once.
+abbrev pub ShadowsRise : Type 0
+ShadowsRise = (s : Script) (t : Tape) → Rise 0 (shadows_at (end_of s t))

@@ -1,8 +1,16 @@
+pub mod Names
 pub mod Tape
 pub mod Eval
 pub mod Book
+pub mod Rules
+pub mod Change
 pub mod Admission
+pub mod Next
 pub mod Step
 pub mod Runs
-pub mod Laws
+pub mod Samples
 pub mod Vectors
+pub mod VectorsTape
+pub mod VectorsOrder
+pub mod Laws
+pub mod Invariant

@@ -1,130 +1,234 @@
 -- One event of a shelf, its reply and the book after it.
-use Rattle.std.specs.Prelude.{ℕ, List, [], ◌∷◌, Option, Some, None}
-use Rattle.script_value.specs.Val.{Val, list, no_vals}
+use Rattle.std.specs.Prelude.{ℕ, ◌+◌, ◌-◌, ◌^◌, ◌==◌, length, nat_le, nat_lt, if◌then◌else◌, List, [], Option, Some, None}
+use Rattle.script_value.specs.Val.{Val}
 use Rattle.script_value.specs.declared.outcome.TxName.{TxName}
 use Rattle.script_value.specs.declared.outcome.Fault.{Fault}
 use Rattle.script_value.specs.declared.outcome.Refusal.{Refusal}
-use Rattle.page_names.specs.Names.{Destination, spelling}
-use Rattle.page_names.specs.Names as names
-use Rattle.core_syntax.specs.Setup.{Named}
-use Rattle.replay_spec.specs.Tape.{Now, Segment, Answer, Tape, recorded, present, Stop}
+use Rattle.page_names.specs.Names.{Destination}
+use Rattle.core_syntax.specs.declared.script.SendKind.{SendKind}
+use Rattle.replay_spec.specs.Tape.{present, How, shows, Outcome, paged, faulted}
 use Rattle.replay_spec.specs.Tape as tape
-use Rattle.replay_spec.specs.Eval.{run}
-use Rattle.replay_spec.specs.Book.{Page, Instance, Book, Effect, opens, extends, ends, land, draw, spend, chain}
-use Rattle.replay_spec.specs.Admission.{Admission, begins, resumes, refused, refusal_of, admit}
+use Rattle.replay_spec.specs.Eval.{Segment}
+use Rattle.replay_spec.specs.Book.{Change, opens, extends, ends, finishes, sweeps, Doubt, Book, draw, spend, reopened}
+use Rattle.replay_spec.specs.Rules.{Journal, Rules}
+use Rattle.replay_spec.specs.Change.{instances_by, record_length, longer_by, land}
+use Rattle.replay_spec.specs.Admission.{when, or_else, Admission, begins, resumes, refused, refusal_of, admit}
+use Rattle.replay_spec.specs.Next.{Ticket, Origin, starts, answers, Visit, url_for, comes_to, start_visit, page_visit}
 
--- what a take gives: the right to publish one segment under this number and nonce
-pub record Ticket : Type 0 where
-  pub target : Destination
-  pub answer : Val
-  pub number : ℕ
-  pub nonce : ℕ
-
+-- a visit begins; its segment is published; time goes on to a tick; the program dies, and the shelf is opened again
 pub data Event : Type 0 where
-  -- with the nonce that the source gives next
-  take : Destination → Val → ℕ → Event
+  take : Destination → Val → Event
   publish : Ticket → Event
+  sweep : (tick : ℕ) → Event
+  crash : Event
 
--- what the model leaves open at an event: whether memory was there
+-- what the model leaves open at an event: whether memory was there, whether the disk failed, and at a crash whether what was in
+-- doubt is kept
 pub data Fate : Type 0 where
   plain no_memory : Fate
+  disk_fault : (count : ℕ) → Fate
+  lost kept : Fate
 
 pub data Reply : Type 0 where
   taken : (number nonce : ℕ) → Reply
   shown : (page url : List ℕ) → Reply
-  ended : (page : List ℕ) → Reply
+  finished ended : (page : List ℕ) → Reply
   refusal : Refusal → Reply
   fault : Fault → Reply
-  memory : Reply
+  out_of_fuel : (cost : ℕ) → Reply
+  shelf_full instance_full disk_failed down : (count : ℕ) → Reply
+  oversize journal_full : (length : ℕ) → Reply
+  worn memory : Reply
+  swept live : (instances : ℕ) → Reply
 
--- an event of a caller, and what it was answered
-pub record Entry : Type 0 where
-  pub caller : ℕ
-  pub event : Event
-  pub reply : Reply
-
--- the URL of a page
-abbrev pub url_of : List ℕ → ℕ → ℕ → ℕ → ℕ → List ℕ
-url_of name shelf instance number nonce =
-    spelling (names.page name (record { shelf = shelf; instance = instance; page = number; nonce = nonce }))
-
--- the segment that showed a page: its reads are what was recorded
-abbrev pub past : List ℕ → ℕ → ℕ → Page → Segment
-past name shelf instance p =
-    record { now = record { number = p.number; url = url_of name shelf instance p.number p.nonce }; source = recorded p.reads }
-
--- the answers to pages that follow one another, each before the segment that it led to, and then the newest
-abbrev pub answers_to : List ℕ → ℕ → ℕ → List Page → Answer → List Answer
-answers_to name shelf instance [] newest = newest ∷ []
-answers_to name shelf instance (p ∷ ps) newest =
-    record { value = p.answer; segment = past name shelf instance p } ∷ answers_to name shelf instance ps newest
-
--- the segment that a ticket is for
-abbrev pub newest : List ℕ → ℕ → ℕ → Ticket → Segment
-newest name shelf instance t =
-    record { now = record { number = t.number; url = url_of name shelf instance t.number t.nonce }; source = present }
-
--- a start has one segment
-abbrev pub start_tape : Book → Ticket → Named → Tape
-start_tape b t s = record { first = newest s.name b.shelf t.number t; later = [] }
-
--- the tape of the pages from the root to the one that was answered, and then the newest segment
-abbrev pub chain_tape : List ℕ → ℕ → ℕ → List Page → Ticket → Tape
-chain_tape name shelf instance [] t = record { first = newest name shelf instance t; later = [] }
-chain_tape name shelf instance (p ∷ ps) t = record {
-  first = past name shelf instance p;
-  later = answers_to name shelf instance ps (record { value = t.answer; segment = newest name shelf instance t });
-}
-
-abbrev pub page_tape : Book → Ticket → Named → Instance → Page → Tape
-page_tape b t s i p = chain_tape s.name b.shelf i.number (chain i.pages p) t
-
--- the page that the ticket's segment shows; a root keeps the empty list as its answer
-abbrev pub root_page : Ticket → List TxName → Page
-root_page t inside = record { number = t.number; nonce = t.nonce; parent = None; answer = list no_vals; reads = []; inside = inside }
-
-abbrev pub next_page : Ticket → Page → List TxName → Page
-next_page t p inside = record { number = t.number; nonce = t.nonce; parent = Some p.number; answer = t.answer; reads = []; inside = inside }
-
--- what a publish comes to where memory is there: a reply alone, or an effect with its reply
+-- what a publish or a sweep comes to where memory is there: a reply alone, or a change with its reply and with the names that a
+-- new page is inside
 pub data Decision : Type 0 where
-  answers : Reply → Decision
-  records : Reply → Effect → Decision
+  replies : Reply → Decision
+  records : Reply → Change → (inside : List TxName) → Decision
 
--- a start that shows nothing makes no instance
-abbrev pub start_stops : Book → Ticket → ℕ → Named → Stop → Decision
-start_stops b t k s (tape.shown bytes inside) =
-    records (shown bytes (url_of s.name b.shelf t.number t.number t.nonce)) (opens t.number k (root_page t inside))
-start_stops b t k s (tape.ended bytes) = answers (ended bytes)
-start_stops b t k s (tape.faulted f) = answers (fault f)
+-- a refusal comes first
+abbrev pub unless : Option Reply → Decision → Decision
+unless None d = d
+unless (Some r) d = replies r
 
-abbrev pub page_stops : Book → Ticket → Named → Instance → Page → Stop → Decision
-page_stops b t s i p (tape.shown bytes inside) =
-    records (shown bytes (url_of s.name b.shelf i.number t.number t.nonce)) (extends i.number (next_page t p inside))
-page_stops b t s i p (tape.ended bytes) = records (ended bytes) (ends i.number t.number)
-page_stops b t s i p (tape.faulted f) = answers (fault f)
+-- what is down answers so
+abbrev pub down_by : Option Doubt → Option Reply
+down_by None = None
+down_by (Some doubt) = Some (down doubt.count)
 
--- the script of the target is run from its start over the answers of its page's ancestors, and then its own
-abbrev pub decide : Book → Ticket → Admission → Decision
-decide b t (begins k s) = start_stops b t k s (run s.core (start_tape b t s))
-decide b t (resumes s i p) = page_stops b t s i p (run s.core (page_tape b t s i p))
-decide b t (refused r) = answers (refusal r)
+abbrev pub refused_by : Option Refusal → Option Reply
+refused_by None = None
+refused_by (Some r) = Some (refusal r)
+
+-- why there is no take: the shelf is down, its numbers are worn, or the target is not admitted
+abbrev pub no_take : Rules → Book → Destination → Option Reply
+no_take rules b target =
+    or_else (down_by b.down) (or_else (when (b.drawn == 2 ^ 62) worn) (refused_by (refusal_of (admit rules.scripts b target))))
+
+abbrev pub take_unless : Option Reply → Book → (nonce : ℕ) → Reply × Book
+take_unless (Some r) b nonce = (r, b)
+take_unless None b nonce = (taken b.drawn nonce, draw b)
+
+-- what a visit changes that stopped with a page; a start changes nothing unless it shows one
+abbrev pub opening : (deadline : ℕ) → Visit → Segment → (script : ℕ) → SendKind → Change
+opening deadline v s script kind = opens (record {
+  number = v.ticket.number;
+  nonce = v.ticket.nonce;
+  script = script;
+  effects = s.effects;
+  left = s.left;
+  kind = kind;
+  deadline = deadline;
+})
+
+abbrev pub extension : (deadline : ℕ) → Visit → Segment → (instance page : ℕ) → SendKind → Change
+extension deadline v s instance page kind = extends (record {
+  number = v.ticket.number;
+  nonce = v.ticket.nonce;
+  instance = instance;
+  page = page;
+  answer = v.ticket.answer;
+  effects = s.effects;
+  left = s.left;
+  kind = kind;
+  deadline = deadline;
+})
+
+abbrev pub ending : Visit → Segment → (instance page : ℕ) → Change
+ending v s instance page = ends (record {
+  number = v.ticket.number;
+  instance = instance;
+  page = page;
+  answer = v.ticket.answer;
+  effects = s.effects;
+  left = s.left;
+})
+
+abbrev pub finish : Visit → Segment → (instance page : ℕ) → Change
+finish v s instance page = finishes (record {
+  number = v.ticket.number;
+  instance = instance;
+  page = page;
+  answer = v.ticket.answer;
+  effects = s.effects;
+})
+
+abbrev pub change_by : (deadline : ℕ) → Visit → Segment → Origin → How → Option Change
+change_by deadline v s (starts k) (shows kind) = Some (opening deadline v s k kind)
+change_by deadline v s (starts k) _ = None
+change_by deadline v s (answers i p) (shows kind) = Some (extension deadline v s i p kind)
+change_by deadline v s (answers i p) tape.ends = Some (ending v s i p)
+change_by deadline v s (answers i p) tape.finishes = Some (finish v s i p)
+
+-- what it is answered, with this page
+abbrev pub reply_by : How → (page url : List ℕ) → Reply
+reply_by (shows kind) page url = shown page url
+reply_by tape.finishes page url = finished page
+reply_by tape.ends page url = ended page
+
+-- no room for one more instance of the shelf, or for one more page of the instance
+abbrev pub no_room : Rules → Origin → (count : ℕ) → Option Reply
+no_room rules (starts k) count = when (nat_le rules.instances count) (shelf_full count)
+no_room rules (answers i p) count = when (nat_le rules.pages count) (instance_full count)
+
+abbrev pub full : Rules → How → Origin → (count : ℕ) → Option Reply
+full rules (shows kind) origin count = no_room rules origin count
+full rules _ origin count = None
+
+-- the body of a record is too long; the journal would be
+abbrev pub most_of_record : ℕ
+most_of_record = 1048576
+
+abbrev pub most_of_journal : ℕ
+most_of_journal = 2 ^ 30
+
+abbrev pub too_long : Option Journal → Book → Change → Option Reply
+too_long None b c = None
+too_long (Some j) b c = when (nat_lt most_of_record (record_length j b c)) (oversize (record_length j b c))
+
+abbrev pub full_journal : Option Journal → Book → Change → Option Reply
+full_journal None b c = None
+full_journal (Some j) b c = when (nat_lt most_of_journal (longer_by (Some j) b c)) (journal_full (longer_by (Some j) b c))
+
+-- a change with its reply, where there is room for its record
+abbrev pub with_room : Rules → Book → Reply → (inside : List TxName) → Option Change → Decision
+with_room rules b r inside None = replies r
+with_room rules b r inside (Some c) = unless (or_else (too_long rules.journal b c) (full_journal rules.journal b c)) (records r c inside)
+
+-- a visit has stopped so, beside so many instances or pages
+abbrev pub stopped : Rules → Book → (count : ℕ) → Visit → Segment → Outcome → Decision
+stopped rules b count v s (paged how bytes) =
+    unless (full rules how v.origin count)
+    (with_room rules b (reply_by how bytes (url_for v)) s.entered (change_by (b.clock + rules.life) v s v.origin how))
+stopped rules b count v s (faulted f) = replies (fault f)
+stopped rules b count v s (tape.out_of_fuel cost) = replies (out_of_fuel cost)
+
+abbrev pub settles : Rules → Book → (count : ℕ) → Visit → Segment → Decision
+settles rules b count v s = stopped rules b count v s s.outcome
+
+-- a visit is decided by what it comes to over the cells of now
+abbrev pub decide : Rules → Book → Ticket → Admission → Decision
+decide rules b t (begins k s) =
+    let v = start_visit b t k s in settles rules b (length b.instances) v (comes_to v (present s.script.cells rules.fuel))
+decide rules b t (resumes at) =
+    let v = page_visit b t at in
+    settles rules b (length at.instance.pages) v (comes_to v (present at.instance.cells rules.fuel))
+decide rules b t (refused r) = replies (refusal r)
+
+-- how many instances a tick frees
+abbrev pub freed : Rules → (tick : ℕ) → Book → ℕ
+freed rules tick b = length b.instances - length (instances_by rules.scripts (sweeps tick) [] b.instances)
+
+abbrev pub decide_sweep : Rules → (tick : ℕ) → Book → Decision
+decide_sweep rules tick b =
+    unless (full_journal rules.journal b (sweeps tick)) (records (swept (freed rules tick b)) (sweeps tick) [])
+
+-- what a publish and a sweep come to on the book of now
+abbrev pub publish_comes : Rules → Book → Ticket → Decision
+publish_comes rules b t = unless (down_by b.down) (decide rules b t (admit rules.scripts b t.target))
+
+abbrev pub sweep_comes : Rules → Book → (tick : ℕ) → Decision
+sweep_comes rules b tick = unless (down_by b.down) (decide_sweep rules tick b)
+
+-- a shelf without a journal has no disk that could fail
+abbrev pub fate_of : Option Journal → Fate → Fate
+fate_of None (disk_fault count) = plain
+fate_of journal fate = fate
+
+-- a change lands, or is in doubt
+abbrev pub carried_out : Rules → Book → Decision → Reply × Book
+carried_out rules b (replies r) = (r, b)
+carried_out rules b (records r c inside) = (r, land rules c inside b)
+
+abbrev pub in_doubt : (count : ℕ) → Book → Decision → Reply × Book
+in_doubt count b (replies r) = (r, b)
+in_doubt count b (records r c inside) =
+    (disk_failed count, record b { down = Some (record { count = count; change = c; inside = inside }) })
 
 -- what a decision does, by its fate
-abbrev pub settle : Book → Fate → Decision → Reply × Book
-settle b no_memory d = (memory, b)
-settle b plain (answers r) = (r, b)
-settle b plain (records r e) = (r, land e b)
+abbrev pub settle : Rules → Book → Fate → Decision → Reply × Book
+settle rules b no_memory d = (memory, b)
+settle rules b (disk_fault count) d = in_doubt count b d
+settle rules b _ d = carried_out rules b d
 
-abbrev pub take_admitted : Book → ℕ → Option Refusal → Reply × Book
-take_admitted b nonce (Some r) = (refusal r, b)
-take_admitted b nonce None = (taken b.drawn nonce, draw b)
+-- what is in doubt is kept or lost
+abbrev pub recovered : Rules → Fate → Option Doubt → Book → Book
+recovered rules kept (Some doubt) b = land rules doubt.change doubt.inside b
+recovered rules _ _ b = b
 
-abbrev pub take_by : List Named → Book → Destination → ℕ → Fate → Reply × Book
-take_by setup b target nonce no_memory = (memory, b)
-take_by setup b target nonce plain = take_admitted b nonce (refusal_of (admit setup b target))
+abbrev pub opened : Book → Reply × Book
+opened b = (live (length b.instances), reopened b)
 
--- a publish spends its number, whatever its reply
-unfoldable pub step : List Named → Book → Event → Fate → Reply × Book
-step setup b (take target answer nonce) fate = take_by setup b target nonce fate
-step setup b (publish t) fate = settle (spend t.number b) fate (decide b t (admit setup b t.target))
+abbrev pub take_by : Rules → Book → Destination → (nonce : ℕ) → Fate → Reply × Book
+take_by rules b target nonce no_memory = (memory, b)
+take_by rules b target nonce _ = take_unless (no_take rules b target) b nonce
+
+-- A take draws this nonce, which the shelf's source gives next. A publish spends its number, whatever its reply. A tick at or
+-- below the clock does nothing.
+unfoldable pub step : Rules → Book → (nonce : ℕ) → Event → Fate → Reply × Book
+step rules b nonce (take target answer) fate = take_by rules b target nonce fate
+step rules b nonce (publish t) fate = settle rules (spend t.number b) (fate_of rules.journal fate) (publish_comes rules b t)
+step rules b nonce (sweep tick) fate =
+    if nat_le tick b.clock then (swept 0, b) else settle rules b (fate_of rules.journal fate) (sweep_comes rules b tick)
+step rules b nonce crash fate = opened (recovered rules fate b.down b)

@@ -1,159 +1,186 @@
--- A script of two pages and what a shelf answers with it, computed.
-use Rattle.std.specs.Prelude.{◌≡◌, ℕ, List, [], ◌∷◌, ◌++◌, pos, Option, Some, None, codes, refl}
-use Rattle.script_value.specs.Val.{Val, number, text, symbol, list, no_vals}
-use Rattle.script_value.specs.declared.outcome.Op.TheVariants as op
-use Rattle.script_value.specs.declared.outcome.Fault.TheVariants.{WrongType, NotPage}
-use Rattle.script_value.specs.declared.outcome.Refusal.TheVariants.{Unknown}
-use Rattle.page_names.specs.Names.{Destination}
-use Rattle.page_names.specs.Names as names
-use Rattle.page_names.specs.Pieces.{hex16}
+-- Runs of a shelf that compute: what small scripts are answered step by step.
+use Rattle.std.specs.Prelude.{◌≡◌, ◌-◌, ◌^◌, false, List, [], ◌∷◌, ◌++◌, Some, None, codes, refl}
 use Rattle.std.specs.Fmt.{digits}
-use Rattle.core_syntax.specs.Core.{Core, lit, var, bind, prim, send, cores_of}
-use Rattle.core_syntax.specs.Setup.{Named}
-use Rattle.replay_spec.specs.Tape.{Segment, Answer, Tape, present, recorded, shown, ended, faulted}
-use Rattle.replay_spec.specs.Eval.{run}
-use Rattle.replay_spec.specs.Book.{Page, Book, empty_book}
-use Rattle.replay_spec.specs.Step.{Ticket, Event, take, publish, Fate, plain, no_memory, Reply, taken, refusal, memory, url_of, step}
-use Rattle.replay_spec.specs.Step as reply
-use Rattle.replay_spec.specs.Runs.{after, replies}
+use Rattle.script_value.specs.Val.{truth, text}
+use Rattle.script_value.specs.declared.outcome.Refusal.TheVariants.{Unknown, Revoked, Closed, Expired}
+use Rattle.page_names.specs.Names.{start}
+use Rattle.core_syntax.specs.Core.{isolate}
+use Rattle.replay_spec.specs.Runs.{after, empty_shelf}
+use Rattle.replay_spec.specs.Rules.{empty_book}
+use Rattle.replay_spec.specs.Step.{Event, take, sweep, crash, Fate, plain, no_memory, disk_fault, lost, kept, Reply, taken, shown, finished, ended, refusal, out_of_fuel, shelf_full, instance_full, disk_failed, down, oversize, journal_full, worn, memory, swept, live, step}
+use Rattle.replay_spec.specs.Samples.{name, script, journal, rules, counted, Answers, at, url, link_to, takes, publishing, publishes, get, nothing, says, link, hotel, fwd, fin, shop, pay, transaction, note}
 
--- `(list 'p e ..)`
-abbrev paragraph : List Core → Core
-paragraph es = prim op.List (cores_of (lit (symbol (codes "p")) ∷ es))
-
--- `(let ((a (send/suspend (lambda (u) "a")))) (let ((b (send/suspend (lambda (u) (list 'p a))))) (list 'p a b)))`
-abbrev two_pages : Core
-two_pages =
-    bind (cores_of (send (lit (text (codes "a"))) ∷ []))
-    (bind (cores_of (send (paragraph (var 0 ∷ [])) ∷ [])) (paragraph (var 0 ∷ var 1 ∷ [])))
-
--- the segment of a number
-abbrev segment : ℕ → Segment
-segment n = record { now = record { number = n; url = codes "u" }; source = present }
-
-abbrev reply_with : List ℕ → Answer
-reply_with bytes = record { value = text bytes; segment = record { now = record { number = 1; url = codes "v" }; source = present } }
-
-abbrev tape : List Answer → Tape
-tape answers = record { first = record { now = record { number = 0; url = codes "u" }; source = recorded [] }; later = answers }
-
-pub no_answer : run two_pages (tape []) ≡ shown (codes "a") []
-no_answer = refl
-
-pub one_answer : run two_pages (tape (reply_with (codes "x") ∷ [])) ≡ shown (codes "<p>x</p>") []
-one_answer = refl
-
-pub two_answers : run two_pages (tape (reply_with (codes "x") ∷ reply_with (codes "y") ∷ [])) ≡ ended (codes "<p>xy</p>")
-two_answers = refl
-
--- a page has the URL of the segment that shows it: `(list 'p (send/suspend (lambda (u) (list 'p u))) ..)`
-abbrev own_url : Core
-own_url = paragraph (send (paragraph (var 0 ∷ [])) ∷ send (paragraph (var 0 ∷ [])) ∷ [])
-
-pub first_url : run own_url (tape []) ≡ shown (codes "<p>u</p>") []
-first_url = refl
-
-pub second_url : run own_url (tape (reply_with (codes "x") ∷ [])) ≡ shown (codes "<p>v</p>") []
-second_url = refl
-
--- `(+ "a" 1)`
-pub a_fault : run (prim op.Add (cores_of (lit (text (codes "a")) ∷ lit (number (pos 1)) ∷ []))) (tape []) ≡ faulted WrongType
-a_fault = refl
-
--- a number is no page: where it is sent, and where it is the end
-pub no_page : run (send (lit (number (pos 1)))) (tape []) ≡ faulted NotPage
-no_page = refl
-
-pub no_final_page : run (lit (number (pos 1))) (tape []) ≡ faulted NotPage
-no_final_page = refl
-
-abbrev setup : List Named
-setup =
-    record { name = codes "t"; text = []; core = lit (number (pos 1)) }
-    ∷ record { name = codes "s"; text = []; core = two_pages } ∷ []
-
--- the URL of a page of instance 0 on shelf 7
-abbrev url : ℕ → ℕ → List ℕ
-url n nonce = url_of (codes "s") 7 0 n nonce
-
-pub url_spelt : url 1 255 ≡ codes "/servlets/s;7*0*1*00000000000000ff"
-unfolding hex16 digits
-url_spelt = refl
-
--- an answer to a page of instance 0
-abbrev answered : List ℕ → ℕ → ℕ → Destination
-answered name n nonce = names.page name (record { shelf = 7; instance = 0; page = n; nonce = nonce })
-
--- a take, and the publish of the ticket that it gives under this number
-abbrev visit : Destination → Val → ℕ → ℕ → List (Event × Fate)
-visit target answer n nonce =
-    (take target answer nonce, plain)
-    ∷ (publish (record { target = target; answer = answer; number = n; nonce = nonce }), plain) ∷ []
-
--- a start; an answer to page 0, and to page 1; page 0 again
-abbrev visits : List (Event × Fate)
-visits =
-    visit (names.start (codes "s")) (list no_vals) 0 10
-    ++ visit (answered (codes "s") 0 10) (text (codes "x")) 1 11
-    ++ visit (answered (codes "s") 1 11) (text (codes "y")) 2 12
-    ++ visit (answered (codes "s") 0 10) (text (codes "z")) 3 13
-
-pub visits_replies :
-    replies setup visits (empty_book 7)
-    ≡ taken 0 10 ∷ reply.shown (codes "a") (url 0 10) ∷ taken 1 11 ∷ reply.shown (codes "<p>x</p>") (url 1 11)
-    ∷ taken 2 12 ∷ reply.ended (codes "<p>xy</p>") ∷ taken 3 13 ∷ reply.shown (codes "<p>z</p>") (url 3 13) ∷ []
+-- two clones do not see each other's web cell
+pub two_guests :
+    Answers (rules hotel)
+    (get (start name) nothing 0 ++ get (at 0 0 0) (text (codes "A")) 1 ++ get (at 0 0 0) (text (codes "B")) 2 ++ get (at 0 1 1) nothing 3 ++ get (at 0 2 2) nothing 4)
+    (taken 0 0 ∷ link_to (codes "list") 0 0 ∷ taken 1 1 ∷ link_to (codes "confirm") 0 1 ∷ taken 2 2 ∷ link_to (codes "confirm") 0 2
+    ∷ taken 3 3 ∷ ended (codes "A") ∷ taken 4 4 ∷ ended (codes "B") ∷ [])
 unfolding step
-visits_replies = refl
+two_guests = refl
 
-abbrev page_with : ℕ → ℕ → Option ℕ → Val → Page
-page_with n nonce parent answer =
-    record { number = n; nonce = nonce; parent = parent; answer = answer; reads = []; inside = [] }
-
--- both answers to page 0 have it as their parent
-abbrev visited : Book
-visited = record {
-  shelf = 7;
-  drawn = 4;
-  out = [];
-  instances = record {
-    number = 0;
-    script = 1;
-    pages =
-        page_with 0 10 None (list no_vals) ∷ page_with 1 11 (Some 0) (text (codes "x"))
-        ∷ page_with 3 13 (Some 0) (text (codes "z")) ∷ [];
-  } ∷ [];
-}
-
-pub visits_book : after setup visits (empty_book 7) ≡ visited
+-- a page that forwards revokes the older, also for a visit in flight
+pub forwarded :
+    Answers (rules fwd)
+    (get (start name) nothing 0 ++ takes (at 0 0 0) nothing ∷ get (at 0 0 0) nothing 2 ++ publishes (at 0 0 0) nothing 1 ∷ takes (at 0 0 0) nothing ∷ get (at 0 2 2) nothing 3)
+    (taken 0 0 ∷ link_to (codes "1") 0 0 ∷ taken 1 1 ∷ taken 2 2 ∷ link_to (codes "2") 0 2 ∷ refusal Revoked ∷ refusal Revoked ∷ taken 3 3 ∷ ended (codes "done") ∷ [])
 unfolding step
-visits_book = refl
+forwarded = refl
 
--- the page that came last, answered: its parent's page and no other stands before it
-pub through_the_last :
-    replies setup (visit (answered (codes "s") 3 13) (text (codes "y")) 4 14) visited ≡ taken 4 14 ∷ reply.ended (codes "<p>zy</p>") ∷ []
+-- an instance that is finished is gone
+pub finished_once :
+    Answers (rules fin) (get (start name) nothing 0 ++ get (at 0 0 0) nothing 1 ++ takes (at 0 0 0) nothing ∷ get (start name) nothing 2)
+    (taken 0 0 ∷ link_to (codes "1") 0 0 ∷ taken 1 1 ∷ finished (codes "bye") ∷ refusal Unknown ∷ taken 2 2 ∷ link_to (codes "1") 2 2 ∷ [])
 unfolding step
-through_the_last = refl
+finished_once = refl
 
--- no such nonce; the name of another script; no such page
-pub unknown_nonce : step setup visited (take (answered (codes "s") 0 11) (list no_vals) 14) plain ≡ (refusal Unknown, visited)
+-- the last item is sold once: the second click is run again at its publish
+pub sold_once :
+    Answers (rules shop) (get (start name) nothing 0 ++ takes (at 0 0 0) nothing ∷ takes (at 0 0 0) nothing ∷ publishes (at 0 0 0) nothing 1 ∷ publishes (at 0 0 0) nothing 2 ∷ [])
+    (taken 0 0 ∷ link_to (codes "buy") 0 0 ∷ taken 1 1 ∷ taken 2 2 ∷ ended (codes "bought") ∷ ended (codes "sold out") ∷ [])
 unfolding step
-unknown_nonce = refl
+sold_once = refl
 
-pub unknown_script : step setup visited (take (answered (codes "t") 0 10) (list no_vals) 14) plain ≡ (refusal Unknown, visited)
-unfolding step
-unknown_script = refl
+-- paid once, and not again by the card's page or another page of the payment; at the cart another transaction is entered
+pub paid_once :
+    Answers (rules pay)
+    (get (start name) nothing 0 ++ get (at 0 0 0) nothing 1 ++ get (at 0 1 1) nothing 2 ++ get (at 0 1 1) nothing 3 ++ get (at 0 2 2) nothing 4
+    ++ takes (at 0 1 1) nothing ∷ takes (at 0 3 3) nothing ∷ get (at 0 0 0) nothing 5)
+    (taken 0 0 ∷ link_to (codes "cart") 0 0 ∷ taken 1 1 ∷ link_to (codes "card") 0 1 ∷ taken 2 2 ∷ link_to (codes "pay") 0 2 ∷ taken 3 3 ∷ link_to (codes "pay") 0 3
+    ∷ taken 4 4 ∷ link_to (codes "1") 0 4 ∷ refusal (Closed (transaction 1)) ∷ refusal (Closed (transaction 1)) ∷ taken 5 5 ∷ link_to (codes "card") 0 5 ∷ [])
+unfolding step digits
+paid_once = refl
 
-pub unknown_page : step setup visited (take (answered (codes "s") 2 12) (list no_vals) 14) plain ≡ (refusal Unknown, visited)
-unfolding step
-unknown_page = refl
+abbrev to_pay : List (Event × Fate)
+to_pay = get (start name) nothing 0 ++ get (at 0 0 0) nothing 1 ++ get (at 0 1 1) nothing 2
 
--- with no memory a take draws nothing, and a publish spends its number
-pub take_memory : step setup (empty_book 7) (take (names.start (codes "s")) (list no_vals) 10) no_memory ≡ (memory, empty_book 7)
-unfolding step
-take_memory = refl
+abbrev paying : List Reply
+paying = taken 0 0 ∷ link_to (codes "cart") 0 0 ∷ taken 1 1 ∷ link_to (codes "card") 0 1 ∷ taken 2 2 ∷ link_to (codes "pay") 0 2 ∷ []
 
-pub publish_memory :
-    after setup ((take (names.start (codes "s")) (list no_vals) 10, plain) ∷ (publish (record { target = names.start (codes "s"); answer = list no_vals; number = 0; nonce = 10 }), no_memory) ∷ []) (empty_book 7)
-    ≡ record { shelf = 7; drawn = 1; out = []; instances = [] }
+-- of two visits in flight the first pays
+pub paid_by_one :
+    Answers (rules pay) (to_pay ++ takes (at 0 2 2) nothing ∷ takes (at 0 2 2) nothing ∷ publishes (at 0 2 2) nothing 3 ∷ publishes (at 0 2 2) nothing 4 ∷ [])
+    (paying ++ taken 3 3 ∷ taken 4 4 ∷ link_to (codes "1") 0 3 ∷ refusal (Closed (transaction 1)) ∷ [])
+unfolding step digits
+paid_by_one = refl
+
+-- a transaction is closed also where the segment that leaves it ends
+pub closed_at_the_end :
+    Answers (rules (script [] [] (isolate (link (codes "1")) ∷ says (codes "done") ∷ [])))
+    (get (start name) nothing 0 ++ get (at 0 0 0) nothing 1 ++ takes (at 0 0 0) nothing ∷ [])
+    (taken 0 0 ∷ link_to (codes "1") 0 0 ∷ taken 1 1 ∷ ended (codes "done") ∷ refusal (Closed (transaction 0)) ∷ [])
 unfolding step
-publish_memory = refl
+closed_at_the_end = refl
+
+-- a payment in doubt is kept or lost at the crash; a lost one's number is drawn again, and the nonces go on
+abbrev doubted : Fate → List (Event × Fate)
+doubted fate = to_pay ++ takes (at 0 2 2) nothing ∷ (publishing (at 0 2 2) nothing 3 3, disk_fault 1) ∷ takes (at 0 1 1) nothing ∷ (crash, fate) ∷ takes (at 0 1 1) nothing ∷ []
+
+pub payment_kept : Answers (rules pay) (doubted kept) (paying ++ taken 3 3 ∷ disk_failed 1 ∷ down 1 ∷ live 1 ∷ refusal (Closed (transaction 1)) ∷ [])
+unfolding step digits
+payment_kept = refl
+
+pub payment_lost : Answers (rules pay) (doubted lost) (paying ++ taken 3 3 ∷ disk_failed 1 ∷ down 1 ∷ live 1 ∷ taken 3 4 ∷ [])
+unfolding step digits
+payment_lost = refl
+
+-- a shelf in memory has no disk that fails
+pub paid_in_memory :
+    Answers (record (rules pay) { journal = None }) (doubted lost)
+    (paying ++ taken 3 3 ∷ link_to (codes "1") 0 3 ∷ refusal (Closed (transaction 1)) ∷ live 1 ∷ refusal (Closed (transaction 1)) ∷ [])
+unfolding step digits
+paid_in_memory = refl
+
+-- a ticket is lost in a crash with nothing in doubt, and pages are not
+pub crashed :
+    Answers (rules hotel)
+    (get (start name) nothing 0 ++ get (at 0 0 0) (text (codes "A")) 1 ++ takes (at 0 1 1) nothing ∷ (crash, kept) ∷ takes (at 0 0 0) (text (codes "B"))
+    ∷ (publishing (at 0 0 0) (text (codes "B")) 2 3, plain) ∷ takes (at 0 1 1) nothing ∷ (publishing (at 0 1 1) nothing 3 4, plain) ∷ [])
+    (taken 0 0 ∷ link_to (codes "list") 0 0 ∷ taken 1 1 ∷ link_to (codes "confirm") 0 1 ∷ taken 2 2 ∷ live 1 ∷ taken 2 3 ∷ shown (codes "confirm") (url 0 2 3)
+    ∷ taken 3 4 ∷ ended (codes "A") ∷ [])
+unfolding step
+crashed = refl
+
+pub nothing_is_out : (after (rules hotel) counted (takes (start name) nothing ∷ (crash, lost) ∷ []) (empty_shelf (rules hotel) 0)).book ≡ empty_book (rules hotel) 0
+unfolding step
+nothing_is_out = refl
+
+-- what is said is an instance cell: all pages see it
+pub said_to_all :
+    Answers (rules note) (get (start name) nothing 0 ++ get (at 0 0 0) (text (codes "hi")) 1 ++ get (at 0 0 0) (truth false) 2)
+    (taken 0 0 ∷ link_to (codes "say") 0 0 ∷ taken 1 1 ∷ ended (codes "ok") ∷ taken 2 2 ∷ ended (codes "hi") ∷ [])
+unfolding step
+said_to_all = refl
+
+-- a page is answered until its deadline; an instance is freed by the sweep at which all of its pages are over; both hold behind a crash
+pub expired :
+    Answers (record (rules hotel) { life = 100 })
+    (get (start name) nothing 0 ++ (sweep 50, plain) ∷ get (at 0 0 0) nothing 1 ++ (sweep 100, plain) ∷ takes (at 0 0 0) nothing ∷ (crash, lost) ∷ takes (at 0 0 0) nothing
+    ∷ takes (at 0 1 1) nothing ∷ (sweep 99, plain) ∷ (sweep 150, plain) ∷ takes (at 0 0 0) nothing ∷ [])
+    (taken 0 0 ∷ link_to (codes "list") 0 0 ∷ swept 0 ∷ taken 1 1 ∷ link_to (codes "confirm") 0 1 ∷ swept 0 ∷ refusal (Expired 100) ∷ live 1 ∷ refusal (Expired 100)
+    ∷ taken 2 2 ∷ swept 0 ∷ swept 1 ∷ refusal Unknown ∷ [])
+unfolding step
+expired = refl
+
+-- a sweep in doubt is kept or lost
+abbrev swept_or_not : Fate → List (Event × Fate)
+swept_or_not fate = get (start name) nothing 0 ++ (sweep 100, disk_fault 2) ∷ (sweep 200, plain) ∷ (crash, fate) ∷ takes (at 0 0 0) nothing ∷ []
+
+pub sweep_kept : Answers (record (rules hotel) { life = 100 }) (swept_or_not kept) (taken 0 0 ∷ link_to (codes "list") 0 0 ∷ disk_failed 2 ∷ down 2 ∷ live 0 ∷ refusal Unknown ∷ [])
+unfolding step
+sweep_kept = refl
+
+pub sweep_lost : Answers (record (rules hotel) { life = 100 }) (swept_or_not lost) (taken 0 0 ∷ link_to (codes "list") 0 0 ∷ disk_failed 2 ∷ down 2 ∷ live 1 ∷ taken 1 1 ∷ [])
+unfolding step
+sweep_lost = refl
+
+-- limits
+pub too_many_instances :
+    Answers (record (rules hotel) { instances = 1 }) (get (start name) nothing 0 ++ get (start name) nothing 1) (taken 0 0 ∷ link_to (codes "list") 0 0 ∷ taken 1 1 ∷ shelf_full 1 ∷ [])
+unfolding step
+too_many_instances = refl
+
+pub too_many_pages :
+    Answers (record (rules hotel) { pages = 1 }) (get (start name) nothing 0 ++ get (at 0 0 0) nothing 1) (taken 0 0 ∷ link_to (codes "list") 0 0 ∷ taken 1 1 ∷ instance_full 1 ∷ [])
+unfolding step
+too_many_pages = refl
+
+-- what shows no page needs no room for one
+pub ends_in_the_full :
+    Answers (record (rules (script [] [] (link (codes "1") ∷ says (codes "2") ∷ []))) { pages = 1 }) (get (start name) nothing 0 ++ get (at 0 0 0) nothing 1)
+    (taken 0 0 ∷ link_to (codes "1") 0 0 ∷ taken 1 1 ∷ ended (codes "2") ∷ [])
+unfolding step
+ends_in_the_full = refl
+
+-- want of memory draws nothing at a take, no nonce either, and spends the number at a publish
+pub no_memory_there :
+    Answers (rules hotel)
+    ((take (start name) nothing, no_memory) ∷ takes (start name) nothing ∷ (publishing (start name) nothing 0 0, no_memory) ∷ get (start name) nothing 1)
+    (memory ∷ taken 0 0 ∷ memory ∷ taken 1 1 ∷ link_to (codes "list") 1 1 ∷ [])
+unfolding step
+no_memory_there = refl
+
+-- a record that is too long, and a journal that would be; a shelf whose numbers are worn
+pub too_long_a_record :
+    Answers (record (rules hotel) { journal = Some (journal 100 1048577) }) (get (start name) nothing 0) (taken 0 0 ∷ oversize 1048577 ∷ [])
+unfolding step
+too_long_a_record = refl
+
+pub too_long_a_journal :
+    Answers (record (rules hotel) { journal = Some (journal (2 ^ 30 - 60) 50) }) (get (start name) nothing 0 ++ get (start name) nothing 1 ++ (sweep 5, plain) ∷ [])
+    (taken 0 0 ∷ link_to (codes "list") 0 0 ∷ taken 1 1 ∷ journal_full 1073741874 ∷ journal_full 1073741874 ∷ [])
+unfolding step
+too_long_a_journal = refl
+
+pub worn_out : (step (rules hotel) (record (empty_book (rules hotel) 0) { drawn = 2 ^ 62 }) 0 (take (start name) nothing) plain).0 ≡ worn
+unfolding step
+worn_out = refl
+
+-- the fuel: a charge of ten beside the one of the whole, and one more
+pub in_fuel : Answers (record (rules (script [] [] (says (codes "12345678") ∷ []))) { fuel = 11 }) (get (start name) nothing 0) (taken 0 0 ∷ ended (codes "12345678") ∷ [])
+unfolding step
+in_fuel = refl
+
+pub out_of_it : Answers (record (rules (script [] [] (says (codes "123456789") ∷ []))) { fuel = 11 }) (get (start name) nothing 0) (taken 0 0 ∷ out_of_fuel 12 ∷ [])
+unfolding step
+out_of_it = refl

@@ -1,0 +1,111 @@
+-- What a change makes of the book.
+use Rattle.std.specs.Prelude.{ℕ, max, ◌+◌, ◌==◌, not, List, map, [], ◌∷◌, ◌++◌, filter, Option, Some, None, nat_lt, if◌then◌else◌}
+use Rattle.script_value.specs.Val.{list, no_vals}
+use Rattle.script_value.specs.declared.outcome.TxName.{TxName}
+use Rattle.instance_cells.specs.Cells.{Effect, commit, reads_of}
+use Rattle.core_syntax.specs.Setup.{Named}
+use Rattle.core_syntax.specs.declared.script.SendKind.{SendKind}
+use Rattle.core_syntax.specs.declared.script.SendKind.TheVariants.{Suspend, Forward}
+use Rattle.replay_spec.specs.Book.{Page, Instance, Opening, Extension, Change, opens, extends, ends, finishes, sweeps, Book, is_live, reopened}
+use Rattle.replay_spec.specs.Rules.{Journal, Rules, first_cells}
+
+-- the first instance of this number, changed
+abbrev pub mend : ℕ → (Instance → Instance) → List Instance → List Instance
+mend n f [] = []
+mend n f (i ∷ is) = if i.number == n then f i ∷ is else i ∷ mend n f is
+
+-- one more among others in the order of their numbers, in the place of the one of its number
+abbrev pub put_in_order : {A : Type 0} → (A → ℕ) → A → List A → List A
+put_in_order number x [] = x ∷ []
+put_in_order number x (y ∷ ys) =
+    if nat_lt (number x) (number y) then x ∷ y ∷ ys else (if number x == number y then x ∷ ys else y ∷ put_in_order number x ys)
+
+abbrev pub put_page : Page → List Page → List Page
+put_page p ps = put_in_order (λ q. q.number) p ps
+
+abbrev pub put_instance : Instance → List Instance → List Instance
+put_instance i is = put_in_order (λ j. j.number) i is
+
+-- the page that a start showed inside these transactions, and the one that an answer showed
+abbrev pub root_by : Opening → List TxName → Page
+root_by o inside = record {
+  number = o.number;
+  nonce = o.nonce;
+  parent = None;
+  answer = list no_vals;
+  reads = reads_of o.effects;
+  inside = inside;
+  deadline = o.deadline;
+}
+
+abbrev pub page_by : Extension → List TxName → Page
+page_by x inside = record {
+  number = x.number;
+  nonce = x.nonce;
+  parent = Some x.page;
+  answer = x.answer;
+  reads = reads_of x.effects;
+  inside = inside;
+  deadline = x.deadline;
+}
+
+-- a page that forwards revokes all that are there
+abbrev pub revoked_by : SendKind → List Page → List ℕ → List ℕ
+revoked_by Suspend ps revoked = revoked
+revoked_by Forward ps revoked = map (λ p. p.number) ps
+
+-- an instance after a segment that did this to its cells and left these transactions; and after one that showed a page
+abbrev pub done : List Effect → List TxName → Instance → Instance
+done effects left i = record i { cells = commit effects i.cells; closed = i.closed ++ left }
+
+abbrev pub shown_by : List Effect → List TxName → SendKind → Page → Instance → Instance
+shown_by effects left kind p i =
+    record (done effects left i) { revoked = revoked_by kind i.pages i.revoked; pages = put_page p i.pages }
+
+-- an instance of the script of this place before its first segment
+abbrev pub fresh : List Named → ℕ → ℕ → Instance
+fresh scripts n k =
+    record { number = n; script = k; cells = first_cells scripts k; closed = []; revoked = []; pages = [] }
+
+-- all instances but the one of this number
+abbrev pub without : ℕ → List Instance → List Instance
+without n is = filter (λ i. not (i.number == n)) is
+
+-- the instances after a change, whose new page is inside these transactions; a tick frees those whose pages are all expired
+abbrev pub instances_by : List Named → Change → List TxName → List Instance → List Instance
+instances_by scripts (opens o) inside is =
+    put_instance (shown_by o.effects o.left o.kind (root_by o inside) (fresh scripts o.number o.script)) is
+instances_by scripts (extends x) inside is = mend x.instance (shown_by x.effects x.left x.kind (page_by x inside)) is
+instances_by scripts (ends e) inside is = mend e.instance (done e.effects e.left) is
+instances_by scripts (finishes f) inside is = without f.instance is
+instances_by scripts (sweeps tick) inside is = filter (is_live tick) is
+
+-- one more than the number of the segment that did it
+abbrev pub logged_by : Change → ℕ
+logged_by (opens o) = o.number + 1
+logged_by (extends x) = x.number + 1
+logged_by (ends e) = e.number + 1
+logged_by (finishes f) = f.number + 1
+logged_by (sweeps tick) = 0
+
+abbrev pub clock_by : Change → ℕ → ℕ
+clock_by (sweeps tick) clock = tick
+clock_by _ clock = clock
+
+-- how long the body of a change's record is: it depends on no more of a book than its records tell
+abbrev pub record_length : Journal → Book → Change → ℕ
+record_length j b c = j.length_of (reopened b) c
+
+-- how long a journal is with one more record: behind its gate stand the length, the body and the next gate
+abbrev pub longer_by : Option Journal → Book → Change → ℕ
+longer_by None b c = b.length
+longer_by (Some j) b c = b.length + (record_length j b c + 5)
+
+-- a change lands in the book, whose new page is inside these transactions
+abbrev pub land : Rules → Change → List TxName → Book → Book
+land rules c inside b = record b {
+  clock = clock_by c b.clock;
+  logged = max b.logged (logged_by c);
+  length = longer_by rules.journal b c;
+  instances = instances_by rules.scripts c inside b.instances;
+}

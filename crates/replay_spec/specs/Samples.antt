@@ -1,0 +1,105 @@
+-- What the computed rows share: small scripts, rules, and events of one shelf.
+use Rattle.std.specs.Prelude.{◌≡◌, ℕ, pos, negsuc, List, [], ◌∷◌, Some, codes}
+use Rattle.script_value.specs.Val.{Val, number, text, list, no_vals}
+use Rattle.script_value.specs.declared.outcome.Op.TheVariants as op
+use Rattle.script_value.specs.declared.outcome.TxName.{TxName}
+use Rattle.page_names.specs.Names.{Destination, page}
+use Rattle.core_syntax.specs.declared.script.SendKind.TheVariants.{Suspend, Forward}
+use Rattle.core_syntax.specs.Core.{Core, lit, var, bind, seq, branch, prim, send, finish, isolate, cell_ref, cell_shadow, inst_ref, inst_set, inst_add, cores_of}
+use Rattle.core_syntax.specs.Setup.{Named}
+use Rattle.replay_spec.specs.Rules.{Rules, Journal}
+use Rattle.replay_spec.specs.Next.{url_of}
+use Rattle.replay_spec.specs.Step.{Event, take, publish, Fate, plain, Reply, shown}
+use Rattle.replay_spec.specs.Runs.{answers_to, empty_shelf}
+
+abbrev pub name : List ℕ
+name = codes "s"
+
+-- a script of these web cells, instance cells and parts
+abbrev pub script : List Val → List Val → List Core → Named
+script web cells parts = record { name = name; text = []; script = record { web = web; cells = cells; body = seq (cores_of parts) } }
+
+-- a journal whose records are of one length
+abbrev pub journal : (begun length : ℕ) → Journal
+journal begun length = record { begun = begun; length_of = λ b c. length }
+
+abbrev pub rules : Named → Rules
+rules s = record { scripts = s ∷ []; fuel = 100000; life = 3600; instances = 256; pages = 64; journal = Some (journal 100 50) }
+
+-- nonces as a counter gives them
+abbrev pub counted : ℕ → ℕ
+counted k = k
+
+-- what the events of a run on one shelf are answered
+abbrev pub Answers : Rules → List (Event × Fate) → List Reply → Type 0
+Answers r events expected = answers_to r counted events (empty_shelf r 0) ≡ expected
+
+abbrev pub at : (instance n nonce : ℕ) → Destination
+at instance n nonce = page name (record { shelf = 0; instance = instance; page = n; nonce = nonce })
+
+abbrev pub url : (instance n nonce : ℕ) → List ℕ
+url instance n nonce = url_of (record { name = name; shelf = 0; instance = instance }) n nonce
+
+-- a page of these words under the URL of an instance's page, whose nonce is its number
+abbrev pub link_to : (words : List ℕ) → (instance n : ℕ) → Reply
+link_to words instance n = shown words (url instance n n)
+
+abbrev pub takes : Destination → Val → Event × Fate
+takes d v = (take d v, plain)
+
+abbrev pub publishing : Destination → Val → (n nonce : ℕ) → Event
+publishing d v n nonce = publish (record { target = d; answer = v; number = n; nonce = nonce })
+
+abbrev pub publishes : Destination → Val → (n : ℕ) → Event × Fate
+publishes d v n = (publishing d v n n, plain)
+
+-- a whole visit, with the number and nonce that it draws
+abbrev pub get : Destination → Val → (n : ℕ) → List (Event × Fate)
+get d v n = takes d v ∷ publishes d v n ∷ []
+
+abbrev pub nothing : Val
+nothing = list no_vals
+
+abbrev pub says : List ℕ → Core
+says words = lit (text words)
+
+-- a page that waits for an answer
+abbrev pub link : List ℕ → Core
+link words = send Suspend (says words)
+
+-- what a guest picked is a web cell
+abbrev pub hotel : Named
+hotel = script (text (codes "none") ∷ []) []
+    (bind (cores_of (link (codes "list") ∷ [])) (seq (cores_of (cell_shadow 0 (var 0) ∷ link (codes "confirm") ∷ cell_ref 0 ∷ []))) ∷ [])
+
+-- a page that forwards revokes the older
+abbrev pub fwd : Named
+fwd = script [] [] (link (codes "1") ∷ send Forward (says (codes "2")) ∷ says (codes "done") ∷ [])
+
+-- an instance that is finished is gone
+abbrev pub fin : Named
+fin = script [] [] (link (codes "1") ∷ finish (says (codes "bye")) ∷ [])
+
+-- one item is there to be sold
+abbrev pub shop : Named
+shop = script [] (number (pos 1) ∷ []) (
+    link (codes "buy")
+    ∷ branch (prim op.Less (cores_of (inst_ref 0 ∷ lit (number (pos 1)) ∷ []))) (says (codes "sold out"))
+    (seq (cores_of (inst_add 0 (lit (number (negsuc 0))) ∷ says (codes "bought") ∷ [])))
+    ∷ [])
+
+-- a cart; in a transaction the card and the payment; and the receipt, with the number of payments
+abbrev pub pay : Named
+pay = script [] (number (pos 0) ∷ []) (
+    link (codes "cart")
+    ∷ isolate (seq (cores_of (link (codes "card") ∷ link (codes "pay") ∷ inst_add 0 (lit (number (pos 1))) ∷ [])))
+    ∷ send Suspend (prim op.NumberToString (cores_of (inst_ref 0 ∷ []))) ∷ says (codes "end") ∷ [])
+
+-- the transaction that the segment of this number entered first
+abbrev pub transaction : ℕ → TxName
+transaction n = record { ticket = n; entry = 0 }
+
+-- what is said is an instance cell
+abbrev pub note : Named
+note = script [] (text (codes "none") ∷ [])
+    (bind (cores_of (link (codes "say") ∷ [])) (branch (var 0) (seq (cores_of (inst_set 0 (var 0) ∷ says (codes "ok") ∷ []))) (inst_ref 0)) ∷ [])
