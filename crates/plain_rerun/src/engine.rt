@@ -1,103 +1,52 @@
-ghost use Rattle.std.specs.Prelude.{◌≡◌, ℕ, ◌+◌, ◌<◌, List, [], ◌∷◌, ◌++◌, length, map, OnOk, IfOk, IsTrue};
-ghost use Rattle.std.specs.List.{AllByRecursion};
-ghost use Rattle.script_value.specs.Meaning.{meaning};
-ghost use Rattle.prim_ops.specs.Table.{takes, value_of};
-ghost use Rattle.xexpr_page.specs.Page.{page_of};
-ghost use Rattle.core_syntax.specs.Core.{cores_of, bind, prim, send};
-ghost use Rattle.core_syntax.specs.Arena.{tree_at, IsBehind};
-ghost use Rattle.replay_spec.specs.Tape as tape;
-ghost use Rattle.replay_spec.specs.Tape.{State, send_page, shown_page, final_page};
-ghost use Rattle.replay_spec.specs.Eval.{eval, eval_into, value_at, run};
-ghost use Rattle.plain_rerun.specs.Code.{Gives, HaltsAs, state_of, stop_of, tape_of};
-ghost use Rattle.plain_rerun.specs.declared.engine.Halt.TheVariants.{Memory};
+ghost use Rattle.std.specs.Prelude.{◌≡◌, ◌<◌, ◌^◌, [], ◌∷◌, ◌++◌, length, IfOk, OnOk, IsTrue};
+ghost use Rattle.script_value.specs.Views.{meaning};
+ghost use Rattle.prim_ops.specs.Table.{takes, value_of, is_false};
+ghost use Rattle.core_syntax.specs.Core.{seq, and_all, or_any, prim, send, finish, back, isolate, cell_ref, cell_shadow, inst_ref, inst_set, inst_add};
+ghost use Rattle.core_syntax.specs.Arena.{script_of};
+ghost use Rattle.replay_spec.specs.Tape.{answer, as_number};
+ghost use Rattle.replay_spec.specs.Eval.{eval, eval_into, value_at, copied, run};
+ghost use Rattle.plain_rerun.specs.Parts.{tree, trees, let_at, if_at, for_at, prim_at, shadow_at, turns_at, first_turns, AreBehind};
+ghost use Rattle.plain_rerun.specs.Views.{segment_of, tape_of};
+ghost use Rattle.plain_rerun.specs.States.{state_of, inside_of, Gives, Acts, Counts};
+ghost use Rattle.plain_rerun.specs.declared.progress.Progress.{Progress as Steps};
 
-use crate::tape::{Answer, Now, PlainEnd, Tape};
-use core_syntax::{Node, Numbers, Script};
+use crate::ends::{PlainEnd, Rerun};
+use crate::progress::{Halt, Progress, halt_ended, halt_finished};
+use crate::tape::Tape;
+use core_syntax::{Node, Numbers, Script, SendKind};
 use prim_ops::{ApplyFault, apply};
 use script_value::{Fault, Items, Op, Value};
-use std::alloc::{AllocError, AllocFailed, Global};
-use xexpr_page::{RenderFault, render};
+use std::alloc::{AllocError, Global};
 
-/// Why a run gave no value.
-#[derive(Drop)]
-pub enum Halt {
-    Memory,
-    Stopped(PlainEnd),
-}
-
-impl From<AllocError> for Halt {
-    ghost from_gives = { λ _ e. e ≡ Memory };
-
-    fn from(_e: AllocError) -> Halt {
-        Halt::Memory
-    }
-}
-
-impl<T: Drop> From<AllocFailed<T>> for Halt {
-    ghost from_gives = { λ _ e. e ≡ Memory };
-
-    fn from(_e: AllocFailed<T>) -> Halt {
-        Halt::Memory
-    }
-}
-
-/// How far a tape was used.
-#[derive(Drop)]
-pub struct Progress<'t> {
-    segment: &'t Now,
-    later: &'t [Answer],
-}
-
-// Why a run stops at a page that waits for an answer.
-fn halt_shown(alloc: Global, page: &Value) -> Halt
-    ensures { HaltsAs result (shown_page [] (page_of (meaning page.now))) }
+// Whether a value is #f, the only one that is false.
+fn is_false(value: &Value) -> bool
+    ensures { result ≡ is_false (meaning value.now) }
 {
-    match render(alloc, page) {
-        Ok(bytes) => Halt::Stopped(PlainEnd::Shown(bytes)),
-        Err(RenderFault::NotPage) => Halt::Stopped(PlainEnd::Faulted(Fault::NotPage)),
-        Err(RenderFault::Memory) => Halt::Memory,
+    match value {
+        Value::Truth(truth) => !*truth,
+        _ => false,
     }
 }
 
-// Why a run stops at its final value.
-fn halt_ended(alloc: Global, page: &Value) -> Halt
-    ensures { HaltsAs result (final_page (page_of (meaning page.now))) }
+// How many turns a value says, where it is a number that is not negative.
+fn turn_count(count: &Value) -> Option<u64>
+    ensures { Counts result (as_number (meaning count.now)) }
 {
-    match render(alloc, page) {
-        Ok(bytes) => Halt::Stopped(PlainEnd::Ended(bytes)),
-        Err(RenderFault::NotPage) => Halt::Stopped(PlainEnd::Faulted(Fault::NotPage)),
-        Err(RenderFault::Memory) => Halt::Memory,
-    }
-}
-
-impl<'t> Progress<'t> {
-    // The URL of the current segment.
-    fn url(&self, alloc: Global) -> Result<Value, AllocError>
-        ensures { IfOk result (λ v. meaning v ≡ tape.url_text (state_of self.now)) }
-    {
-        Ok(Value::Text(self.segment.url.try_clone(alloc)?))
-    }
-
-    // A page: the next answer, or the stop there.
-    fn send(&mut self, alloc: Global, page: &Value) -> Result<Value, Halt>
-        ensures { Gives meaning result (state_of self.new) (send_page [] (meaning page.now) (state_of self.old)) }
-    {
-        match self.later {
-            [] => Err(halt_shown(alloc, page)),
-            [answer, rest @ ..] => {
-                let value = answer.value.try_clone(alloc)?;
-                self.segment = &answer.segment;
-                self.later = rest;
-                Ok(value)
+    match count {
+        Value::Int(count) => {
+            if *count < 0 {
+                return None;
             }
+            Some(*count as u64)
         }
+        _ => None,
     }
 }
 
 // The value of an operation, or the stop at its fault.
 fn applied(alloc: Global, op: Op, operands: Items) -> Result<Value, Halt>
     requires { IsTrue (takes op (length operands)) }
-    ensures { (state : State) → Gives meaning result state (tape.answer (value_of op operands) state) }
+    ensures { (p : Steps) → Gives meaning result p (answer (inside_of p) (value_of op operands) (state_of p)) }
 {
     match apply(alloc, op, operands) {
         Ok(value) => Ok(value),
@@ -107,13 +56,37 @@ fn applied(alloc: Global, op: Op, operands: Items) -> Result<Value, Halt>
 }
 
 // A variable's value.
-fn variable(alloc: Global, place: usize, env: &Items) -> Result<Value, AllocError>
-    ensures { IfOk result (λ v. meaning v ≡ value_at env.now place) }
+fn variable(
+    alloc: Global,
+    place: usize,
+    env: &Items,
+    progress: &mut Progress,
+) -> Result<Value, Halt>
+    ensures gives { Acts meaning result progress.old progress.new (λ inside. copied inside (value_at env.now place)) }
+    ensures inside { inside_of progress.new ≡ inside_of progress.old }
 {
     match env.get(place) {
-        Some(value) => value.try_clone(alloc),
-        None => Ok(Value::Truth(false)),
+        Some(value) => progress.copy_of(alloc, value),
+        None => progress.copied(Value::Truth(false)),
     }
+}
+
+// The value of a web cell.
+fn web_cell(alloc: Global, cell: u8, progress: &mut Progress) -> Result<Value, Halt>
+    ensures gives { Acts meaning result progress.old progress.new (eval (cell_ref cell) []) }
+    ensures inside { inside_of progress.new ≡ inside_of progress.old }
+{
+    let value = progress.web_value(alloc, cell)?;
+    progress.copied(value)
+}
+
+// The value of an instance cell: the read is recorded before it is charged.
+fn instance_cell(alloc: Global, cell: u8, progress: &mut Progress) -> Result<Value, Halt>
+    ensures gives { Acts meaning result progress.old progress.new (eval (inst_ref cell) []) }
+    ensures inside { inside_of progress.new ≡ inside_of progress.old }
+{
+    let value = progress.read_cell(alloc, cell)?;
+    progress.copied(value)
 }
 
 // The value of a node over what is left of the tape.
@@ -125,23 +98,56 @@ fn visit(
     env: &mut Items,
     progress: &mut Progress,
 ) -> Result<Value, Halt>
-    requires { number < length script.now }
-    ensures gives { Gives meaning result (state_of progress.new) (eval (tree_at script.now number) env.old [] (state_of progress.old)) }
+    requires { number < length script.now.nodes }
+    ensures gives { Acts meaning result progress.old progress.new (eval (tree script.now number) env.old) }
+    ensures inside { OnOk result (inside_of progress.new ≡ inside_of progress.old) }
     ensures env { OnOk result (env.new ≡ env.old) }
 {
     match script.node(number) {
-        Node::Lit(value) => Ok(value.try_clone(alloc)?),
-        Node::Var(place) => Ok(variable(alloc, *place, env)?),
+        Node::Lit(value) => progress.copy_of(alloc, value),
+        Node::Var(place) => variable(alloc, *place, env, progress),
         Node::Let { bindings, body } => {
             visit_let(script, alloc, number, bindings, *body, env, progress)
+        }
+        Node::Seq { parts } => visit_seq(script, alloc, number, parts, env, progress),
+        Node::If {
+            test,
+            then,
+            otherwise,
+        } => {
+            visit_if(
+                script, alloc, number, *test, *then, *otherwise, env, progress,
+            )
+        }
+        Node::And { parts } => visit_and(script, alloc, number, parts, env, progress),
+        Node::Or { parts } => visit_or(script, alloc, number, parts, env, progress),
+        Node::For { count, body } => {
+            visit_for(script, alloc, number, *count, *body, env, progress)
         }
         Node::Prim { op, operands } => {
             visit_prim(script, alloc, number, *op, operands, env, progress)
         }
-        Node::Send { body } => visit_send(script, alloc, number, *body, env, progress),
+        Node::Send { kind, body } => {
+            visit_send(script, alloc, number, *kind, *body, env, progress)
+        }
+        Node::Finish { body } => visit_finish(script, alloc, number, *body, env, progress),
+        Node::Back { body } => visit_back(script, alloc, number, *body, env, progress),
+        Node::Isolate { body } => visit_isolate(script, alloc, number, *body, env, progress),
+        Node::CellRef { cell } => web_cell(alloc, *cell, progress),
+        Node::CellShadow { cell, value } => {
+            visit_shadow(script, alloc, number, *cell, *value, env, progress)
+        }
+        Node::InstRef { cell } => instance_cell(alloc, *cell, progress),
+        Node::InstSet { cell, value } => {
+            visit_set(script, alloc, number, *cell, *value, env, progress)
+        }
+        Node::InstAdd { cell, value } => {
+            visit_add(script, alloc, number, *cell, *value, env, progress)
+        }
     }
 }
 
+// The bindings, left to right, and then the body with their values.
 #[cycle(visit)]
 fn visit_let(
     script: &Script,
@@ -152,10 +158,12 @@ fn visit_let(
     env: &mut Items,
     progress: &mut Progress,
 ) -> Result<Value, Halt>
-    requires { AllByRecursion (IsBehind number (length script.now)) (bindings.now ++ body ∷ []) }
-    ensures gives { Gives meaning result (state_of progress.new) (eval (bind (cores_of (map (tree_at script.now) bindings.now)) (tree_at script.now body)) env.old [] (state_of progress.old)) }
+    requires { AreBehind script.now number (bindings.now ++ body ∷ []) }
+    ensures gives { Acts meaning result progress.old progress.new (eval (let_at script.now bindings.now body) env.old) }
+    ensures inside { OnOk result (inside_of progress.new ≡ inside_of progress.old) }
     ensures env { OnOk result (env.new ≡ env.old) }
 {
+    progress.charge(1)?;
     let depth = env.len();
     let values = visit_all(script, alloc, number, bindings.as_slice(), env, progress)?;
     env.append(values)?;
@@ -164,6 +172,183 @@ fn visit_let(
     Ok(value)
 }
 
+// All parts, left to right: the last value.
+#[cycle(visit)]
+fn visit_seq(
+    script: &Script,
+    alloc: Global,
+    number: u32,
+    parts: &Numbers,
+    env: &mut Items,
+    progress: &mut Progress,
+) -> Result<Value, Halt>
+    requires { AreBehind script.now number parts.now }
+    ensures gives { Acts meaning result progress.old progress.new (eval (seq (trees script.now parts.now)) env.old) }
+    ensures inside { OnOk result (inside_of progress.new ≡ inside_of progress.old) }
+    ensures env { OnOk result (env.new ≡ env.old) }
+{
+    progress.charge(1)?;
+    let mut last = Value::Truth(false);
+    for part in parts.as_slice() {
+        last = visit(script, alloc, *part, env, progress)?;
+    }
+    Ok(last)
+}
+
+// The test, and then one of the two others.
+#[cycle(visit)]
+fn visit_if(
+    script: &Script,
+    alloc: Global,
+    number: u32,
+    test: u32,
+    then: u32,
+    otherwise: u32,
+    env: &mut Items,
+    progress: &mut Progress,
+) -> Result<Value, Halt>
+    requires { AreBehind script.now number (test ∷ then ∷ otherwise ∷ []) }
+    ensures gives { Acts meaning result progress.old progress.new (eval (if_at script.now test then otherwise) env.old) }
+    ensures inside { OnOk result (inside_of progress.new ≡ inside_of progress.old) }
+    ensures env { OnOk result (env.new ≡ env.old) }
+{
+    progress.charge(1)?;
+    let value = visit(script, alloc, test, env, progress)?;
+    if is_false(&value) {
+        visit(script, alloc, otherwise, env, progress)
+    } else {
+        visit(script, alloc, then, env, progress)
+    }
+}
+
+// The parts up to the first that is #f: the last value, #t where there is no part.
+#[cycle(visit)]
+fn visit_and(
+    script: &Script,
+    alloc: Global,
+    number: u32,
+    parts: &Numbers,
+    env: &mut Items,
+    progress: &mut Progress,
+) -> Result<Value, Halt>
+    requires { AreBehind script.now number parts.now }
+    ensures gives { Acts meaning result progress.old progress.new (eval (and_all (trees script.now parts.now)) env.old) }
+    ensures inside { OnOk result (inside_of progress.new ≡ inside_of progress.old) }
+    ensures env { OnOk result (env.new ≡ env.old) }
+{
+    progress.charge(1)?;
+    let mut last = Value::Truth(true);
+    for part in parts.as_slice() {
+        let value = visit(script, alloc, *part, env, progress)?;
+        if is_false(&value) {
+            return Ok(value);
+        }
+        last = value;
+    }
+    Ok(last)
+}
+
+// The parts up to the first that is not #f: its value, #f where there is none.
+#[cycle(visit)]
+#[tactic(auto, using(crate::proofs::Turns::false_alone))]
+fn visit_or(
+    script: &Script,
+    alloc: Global,
+    number: u32,
+    parts: &Numbers,
+    env: &mut Items,
+    progress: &mut Progress,
+) -> Result<Value, Halt>
+    requires { AreBehind script.now number parts.now }
+    ensures gives { Acts meaning result progress.old progress.new (eval (or_any (trees script.now parts.now)) env.old) }
+    ensures inside { OnOk result (inside_of progress.new ≡ inside_of progress.old) }
+    ensures env { OnOk result (env.new ≡ env.old) }
+{
+    progress.charge(1)?;
+    for part in parts.as_slice() {
+        let value = visit(script, alloc, *part, env, progress)?;
+        if !is_false(&value) {
+            return Ok(value);
+        }
+    }
+    Ok(Value::Truth(false))
+}
+
+// The list of the values of the body, in as many turns as the count says.
+#[cycle(visit)]
+fn visit_for(
+    script: &Script,
+    alloc: Global,
+    number: u32,
+    count: u32,
+    body: u32,
+    env: &mut Items,
+    progress: &mut Progress,
+) -> Result<Value, Halt>
+    requires { AreBehind script.now number (count ∷ body ∷ []) }
+    ensures gives { Acts meaning result progress.old progress.new (eval (for_at script.now count body) env.old) }
+    ensures inside { OnOk result (inside_of progress.new ≡ inside_of progress.old) }
+    ensures env { OnOk result (env.new ≡ env.old) }
+{
+    progress.charge(1)?;
+    let count = visit(script, alloc, count, env, progress)?;
+    visit_body(script, alloc, count, body, env, progress)
+}
+
+// The turns of a body, as many as this value says.
+#[cycle(visit)]
+#[tactic(auto, using(crate::proofs::Turns::no_turns, crate::proofs::Turns::turns_listed))]
+fn visit_body(
+    script: &Script,
+    alloc: Global,
+    count: Value,
+    body: u32,
+    env: &mut Items,
+    progress: &mut Progress,
+) -> Result<Value, Halt>
+    requires { body < length script.now.nodes }
+    ensures gives { Acts meaning result progress.old progress.new (turns_at script.now (meaning count) body env.old) }
+    ensures inside { OnOk result (inside_of progress.new ≡ inside_of progress.old) }
+    ensures env { OnOk result (env.new ≡ env.old) }
+{
+    match turn_count(&count) {
+        Some(count) => {
+            let values = visit_turns(script, alloc, count, body, env, progress)?;
+            applied(alloc, Op::List, values)
+        }
+        None => Err(Halt::Stopped(PlainEnd::Faulted(Fault::WrongType))),
+    }
+}
+
+// The values of so many turns of a body, whose last variable is the turn.
+#[cycle(visit)]
+#[tactic(auto, using(crate::proofs::Turns::turns_stop))]
+fn visit_turns(
+    script: &Script,
+    alloc: Global,
+    count: u64,
+    body: u32,
+    env: &mut Items,
+    progress: &mut Progress,
+) -> Result<Items, Halt>
+    requires body { body < length script.now.nodes }
+    requires count { count < 2 ^ 63 }
+    ensures gives { Acts (λ vs. vs) result progress.old progress.new (first_turns count (tree script.now body) env.old) }
+    ensures inside { OnOk result (inside_of progress.new ≡ inside_of progress.old) }
+    ensures env { OnOk result (env.new ≡ env.old) }
+{
+    let depth = env.len();
+    let mut values = Items::new(alloc);
+    for turn in 0..count {
+        env.push(Value::Int(turn as i64))?;
+        let value = visit(script, alloc, body, env, progress)?;
+        env.truncate(depth);
+        values.push(value)?;
+    }
+    Ok(values)
+}
+
+// An operation over the values of its operands.
 #[cycle(visit)]
 fn visit_prim(
     script: &Script,
@@ -174,17 +359,44 @@ fn visit_prim(
     env: &mut Items,
     progress: &mut Progress,
 ) -> Result<Value, Halt>
-    requires behind { AllByRecursion (IsBehind number (length script.now)) operands.now }
+    requires behind { AreBehind script.now number operands.now }
     requires full { IsTrue (takes op (length operands.now)) }
-    ensures gives { Gives meaning result (state_of progress.new) (eval (prim op (cores_of (map (tree_at script.now) operands.now))) env.old [] (state_of progress.old)) }
+    ensures gives { Acts meaning result progress.old progress.new (eval (prim_at script.now op operands.now) env.old) }
+    ensures inside { OnOk result (inside_of progress.new ≡ inside_of progress.old) }
     ensures env { OnOk result (env.new ≡ env.old) }
 {
+    progress.charge(1)?;
     let values = visit_all(script, alloc, number, operands.as_slice(), env, progress)?;
     applied(alloc, op, values)
 }
 
+// The page that the body gives for the URL is sent: the answer to it.
 #[cycle(visit)]
 fn visit_send(
+    script: &Script,
+    alloc: Global,
+    number: u32,
+    kind: SendKind,
+    body: u32,
+    env: &mut Items,
+    progress: &mut Progress,
+) -> Result<Value, Halt>
+    requires { AreBehind script.now number (body ∷ []) }
+    ensures gives { Acts meaning result progress.old progress.new (eval (send kind (tree script.now body)) env.old) }
+    ensures inside { OnOk result (inside_of progress.new ≡ inside_of progress.old) }
+    ensures env { OnOk result (env.new ≡ env.old) }
+{
+    progress.charge(1)?;
+    let depth = env.len();
+    env.push(progress.url(alloc)?)?;
+    let page = visit(script, alloc, body, env, progress)?;
+    env.truncate(depth);
+    progress.send(alloc, kind, &page)
+}
+
+// The page that the body gives is sent, and the instance is freed.
+#[cycle(visit)]
+fn visit_finish(
     script: &Script,
     alloc: Global,
     number: u32,
@@ -192,15 +404,118 @@ fn visit_send(
     env: &mut Items,
     progress: &mut Progress,
 ) -> Result<Value, Halt>
-    requires { AllByRecursion (IsBehind number (length script.now)) (body ∷ []) }
-    ensures gives { Gives meaning result (state_of progress.new) (eval (send (tree_at script.now body)) env.old [] (state_of progress.old)) }
+    requires { AreBehind script.now number (body ∷ []) }
+    ensures gives { Acts meaning result progress.old progress.new (eval (finish (tree script.now body)) env.old) }
+    ensures inside { OnOk result (inside_of progress.new ≡ inside_of progress.old) }
     ensures env { OnOk result (env.new ≡ env.old) }
 {
-    let depth = env.len();
-    env.push(progress.url(alloc)?)?;
+    progress.charge(1)?;
     let page = visit(script, alloc, body, env, progress)?;
-    env.truncate(depth);
-    progress.send(alloc, &page)
+    Err(halt_finished(alloc, &page))
+}
+
+// The page that the body gives is the last of its segment.
+#[cycle(visit)]
+fn visit_back(
+    script: &Script,
+    alloc: Global,
+    number: u32,
+    body: u32,
+    env: &mut Items,
+    progress: &mut Progress,
+) -> Result<Value, Halt>
+    requires { AreBehind script.now number (body ∷ []) }
+    ensures gives { Acts meaning result progress.old progress.new (eval (back (tree script.now body)) env.old) }
+    ensures inside { OnOk result (inside_of progress.new ≡ inside_of progress.old) }
+    ensures env { OnOk result (env.new ≡ env.old) }
+{
+    progress.charge(1)?;
+    let page = visit(script, alloc, body, env, progress)?;
+    Err(halt_ended(alloc, &page))
+}
+
+// A transaction round its part.
+#[cycle(visit)]
+fn visit_isolate(
+    script: &Script,
+    alloc: Global,
+    number: u32,
+    body: u32,
+    env: &mut Items,
+    progress: &mut Progress,
+) -> Result<Value, Halt>
+    requires { AreBehind script.now number (body ∷ []) }
+    ensures gives { Acts meaning result progress.old progress.new (eval (isolate (tree script.now body)) env.old) }
+    ensures inside { OnOk result (inside_of progress.new ≡ inside_of progress.old) }
+    ensures env { OnOk result (env.new ≡ env.old) }
+{
+    let outside = progress.depth();
+    let name = progress.enter()?;
+    let value = visit(script, alloc, body, env, progress)?;
+    progress.leave(outside, name, value)
+}
+
+// A web cell is bound to the value of the part.
+#[cycle(visit)]
+fn visit_shadow(
+    script: &Script,
+    alloc: Global,
+    number: u32,
+    cell: u8,
+    value: u32,
+    env: &mut Items,
+    progress: &mut Progress,
+) -> Result<Value, Halt>
+    requires { AreBehind script.now number (value ∷ []) }
+    ensures gives { Acts meaning result progress.old progress.new (eval (shadow_at script.now cell value) env.old) }
+    ensures inside { OnOk result (inside_of progress.new ≡ inside_of progress.old) }
+    ensures env { OnOk result (env.new ≡ env.old) }
+{
+    progress.charge(1)?;
+    let value = visit(script, alloc, value, env, progress)?;
+    progress.shadow(cell, value)
+}
+
+// An instance cell is set to the value of the part.
+#[cycle(visit)]
+fn visit_set(
+    script: &Script,
+    alloc: Global,
+    number: u32,
+    cell: u8,
+    value: u32,
+    env: &mut Items,
+    progress: &mut Progress,
+) -> Result<Value, Halt>
+    requires { AreBehind script.now number (value ∷ []) }
+    ensures gives { Acts meaning result progress.old progress.new (eval (inst_set cell (tree script.now value)) env.old) }
+    ensures inside { OnOk result (inside_of progress.new ≡ inside_of progress.old) }
+    ensures env { OnOk result (env.new ≡ env.old) }
+{
+    progress.charge(1)?;
+    let value = visit(script, alloc, value, env, progress)?;
+    progress.set_cell(alloc, cell, value)
+}
+
+// The value of the part is added to an instance cell.
+#[cycle(visit)]
+fn visit_add(
+    script: &Script,
+    alloc: Global,
+    number: u32,
+    cell: u8,
+    value: u32,
+    env: &mut Items,
+    progress: &mut Progress,
+) -> Result<Value, Halt>
+    requires { AreBehind script.now number (value ∷ []) }
+    ensures gives { Acts meaning result progress.old progress.new (eval (inst_add cell (tree script.now value)) env.old) }
+    ensures inside { OnOk result (inside_of progress.new ≡ inside_of progress.old) }
+    ensures env { OnOk result (env.new ≡ env.old) }
+{
+    progress.charge(1)?;
+    let operand = visit(script, alloc, value, env, progress)?;
+    progress.add_cell(alloc, cell, &operand)
 }
 
 // The values of parts, left to right.
@@ -213,8 +528,9 @@ fn visit_all(
     env: &mut Items,
     progress: &mut Progress,
 ) -> Result<Items, Halt>
-    requires { AllByRecursion (IsBehind number (length script.now)) parts.now }
-    ensures gives { Gives (λ vs. vs) result (state_of progress.new) (eval_into [] (cores_of (map (tree_at script.now) parts.now)) env.old [] (state_of progress.old)) }
+    requires { AreBehind script.now number parts.now }
+    ensures gives { Acts (λ vs. vs) result progress.old progress.new (eval_into [] (trees script.now parts.now) env.old) }
+    ensures inside { OnOk result (inside_of progress.new ≡ inside_of progress.old) }
     ensures env { OnOk result (env.new ≡ env.old) }
     ensures each { IfOk result (λ vs. length vs ≡ length parts.now) }
 {
@@ -226,23 +542,20 @@ fn visit_all(
     Ok(values)
 }
 
-/// Runs a script from its start over a tape, and says how it stops.
+/// Runs a script from its start over a tape, and says what it comes to.
 ///
-/// Where memory runs out, there is no answer.
-pub fn rerun(alloc: Global, script: &Script, tape: &Tape) -> Result<PlainEnd, AllocError>
-    ensures { IfOk result (λ end. stop_of end ≡ run (tree_at script.now 0) (tape_of tape.now)) }
+/// Where memory runs out, there is no answer. The time that it takes grows with the costs of the tape's segments.
+pub fn rerun(alloc: Global, script: &Script, tape: &Tape) -> Result<Rerun, AllocError>
+    ensures { IfOk result (λ r. segment_of r ≡ run (script_of script.now) (tape_of tape.now)) }
 {
     let mut env = Items::new(alloc);
-    let mut progress = Progress {
-        segment: &tape.first,
-        later: tape.later.as_slice(),
-    };
+    let mut progress = Progress::begin(alloc, script.web_defaults(), tape)?;
     let halt = match visit(script, alloc, script.root(), &mut env, &mut progress) {
         Ok(page) => halt_ended(alloc, &page),
         Err(halt) => halt,
     };
     match halt {
-        Halt::Stopped(end) => Ok(end),
+        Halt::Stopped(end) => Ok(progress.into_rerun(alloc, end)),
         Halt::Memory => Err(AllocError),
     }
 }
