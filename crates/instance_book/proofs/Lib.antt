@@ -1,3 +1,6 @@
-pub mod Entries
+pub mod Orders
+pub mod Viewed
+pub mod InPlace
 pub mod Links
-pub mod Settles
+pub mod Lands
+pub mod Admitted

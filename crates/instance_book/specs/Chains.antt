@@ -1,9 +1,24 @@
--- A page of a chain, with its number.
-use Rattle.std.specs.Prelude.{ℕ}
+-- Pages of a chain, and what their URLs share.
+use Rattle.std.specs.Prelude.{List, map}
 use Rattle.std.specs.Borrow.{Bor}
+use Rattle.page_names.specs.Views.{name_of}
+use Rattle.replay_spec.specs.Tape.{Answer}
 use Rattle.replay_spec.specs.Book as spec
-use Rattle.instance_book.specs.declared.book.KeptPage.{KeptPage}
-use Rattle.instance_book.specs.Code.{page_of}
+use Rattle.replay_spec.specs.Next as next
+use Rattle.instance_book.specs.declared.page.KeptPage.{KeptPage}
+use Rattle.instance_book.specs.declared.page.Pages.{Pages}
+use Rattle.instance_book.specs.declared.chain.Home.{Home}
+use Rattle.instance_book.specs.Views.{page_of, pages_of}
 
-abbrev pub link_of : ℕ × Bor KeptPage → spec.Page
-link_of e = page_of (e.0, e.1.now)
+abbrev pub link_of : Bor KeptPage → spec.Page
+link_of p = page_of p.now
+
+abbrev pub home_of : Home → next.Home
+home_of h = record { name = name_of h.name; shelf = h.shelf; instance = h.instance }
+
+-- the pages from the root to this one, and each with the answer behind which it was shown
+abbrev pub chain_in : Pages → KeptPage → List spec.Page
+chain_in ps p = spec.chain (pages_of ps) (page_of p)
+
+abbrev pub past_of : Home → Pages → KeptPage → List Answer
+past_of h ps p = map (next.answered (home_of h)) (chain_in ps p)

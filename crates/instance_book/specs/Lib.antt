@@ -1,4 +1,11 @@
-pub mod Code
-pub mod Effects
+pub mod Orders
+pub mod Views
+pub mod Changes
+pub mod Fits
 pub mod Admissions
 pub mod Chains
+pub mod Swept
+pub mod Prepares
+pub mod Segments
+pub mod Copies
+pub mod Stands

@@ -1,56 +1,98 @@
-ghost use Rattle.std.specs.Prelude.{◌≡◌, Some, None, map, option_map};
-ghost use Rattle.core_syntax.specs.Scripts.{named_of, scripts_of, place_named};
-ghost use Rattle.page_names.specs.Names.{target_of, name_of};
-ghost use Rattle.page_names.specs.Names as destination;
-ghost use Rattle.instance_book.specs.Code.{book_of, instance_of, page_of};
-ghost use Rattle.instance_book.specs.Admissions.{admission_of};
+ghost use Rattle.std.specs.Prelude.{◌≡◌, Some, None, option_map, IfSome};
+ghost use Rattle.core_syntax.specs.Setup.{place_named};
+ghost use Rattle.core_syntax.specs.Views.{named_of, scripts_of};
+ghost use Rattle.page_names.specs.Views.{name_of};
 ghost use Rattle.replay_spec.specs.Admission as spec;
-ghost use Rattle.replay_spec.specs.Book.{page_at, instance_at};
+ghost use Rattle.replay_spec.specs.Names.{first_closed};
+ghost use Rattle.instance_book.specs.Views.{instance_of, page_of};
+ghost use Rattle.instance_book.specs.Admissions.{admission_of, admission_for, place_of, place_for};
 
-use crate::book::{Book, KeptInstance, KeptPage};
+use crate::book::Book;
+use crate::instance::KeptInstance;
+use crate::page::KeptPage;
 use core_syntax::{NamedScript, Setup};
+use expiry::expired;
 use page_names::{PageName, ScriptName, Target};
-use script_value::Refusal;
-use std::collections::BTreeMap;
+use script_value::{Refusal, TxName};
+use transactions::Closed;
+
+/// A page that stands in an instance of a script.
+#[derive(Clone, Copy)]
+pub struct Place<'a> {
+    pub script: &'a NamedScript,
+    pub instance: &'a KeptInstance,
+    pub page: &'a KeptPage,
+}
 
 /// What a target is admitted as.
-#[derive(Drop)]
+#[derive(Clone, Copy)]
 pub enum Admission<'a> {
     /// A start of the script of this place.
     Begins {
         place: usize,
         script: &'a NamedScript,
     },
-    /// An answer to a page of an instance.
-    Resumes {
-        script: &'a NamedScript,
-        instance: u64,
-        kept: &'a KeptInstance,
-        number: u64,
-        page: &'a KeptPage,
-    },
+    /// An answer to this page.
+    Resumes(Place<'a>),
     Refused(Refusal),
 }
 
-// The page of a number.
-#[tactic(auto, using(crate::proofs::Entries::page_found))]
-pub fn page_in(pages: &BTreeMap<u64, KeptPage>, number: u64) -> Option<&KeptPage>
-    ensures { option_map (λ p. page_of (number, p.now)) result ≡ page_at number (map page_of pages.now.entries) }
+// The outermost of these transactions that is closed.
+fn first_closed(closed: &Closed, names: &[TxName]) -> Option<TxName>
+    ensures { result ≡ first_closed closed.now names.now }
 {
-    pages.get(&number)
+    for name in names {
+        if closed.has(name) {
+            return Some(*name);
+        }
+    }
+    None
 }
 
-// The instance of a number.
-#[tactic(auto, using(crate::proofs::Entries::instance_found))]
-fn instance_in(instances: &BTreeMap<u64, KeptInstance>, number: u64) -> Option<&KeptInstance>
-    ensures { option_map (λ k. instance_of (number, k.now)) result ≡ instance_at number (map instance_of instances.now.entries) }
+// Why a page can't be answered at this clock.
+fn why_not(clock: u64, instance: &KeptInstance, page: &KeptPage) -> Option<Refusal>
+    ensures { result ≡ spec.why_not clock (instance_of instance.now) (page_of page.now) }
 {
-    instances.get(&number)
+    if instance.revoked.has(page.number) {
+        return Some(Refusal::Revoked);
+    }
+    if let Some(name) = first_closed(&instance.closed, &page.inside) {
+        return Some(Refusal::Closed(name));
+    }
+    if expired(clock, page.deadline) {
+        return Some(Refusal::Expired(page.deadline));
+    }
+    None
 }
 
-// The admission of a start.
-fn start_admission<'a>(setup: &'a Setup, name: &ScriptName) -> Admission<'a>
-    ensures { admission_of result ≡ spec.started (scripts_of setup.now) (place_named (name_of name.now) (scripts_of setup.now)) }
+// The page of this script's name, this shelf, instance and number, and this nonce.
+fn place_at<'a>(
+    book: &'a Book,
+    setup: &'a Setup,
+    name: &ScriptName,
+    page: &PageName,
+) -> Option<Place<'a>>
+    ensures { option_map place_of result ≡ place_for setup.now book.now name.now page.now }
+{
+    let instance = book.instances.get(page.instance)?;
+    let script = setup.get(instance.script)?;
+    let shown = instance.pages.get(page.page)?;
+    if page.shelf == book.shelf
+        && script.name.as_bytes() == name.as_bytes()
+        && shown.nonce == page.nonce
+    {
+        return Some(Place {
+            script,
+            instance,
+            page: shown,
+        });
+    }
+    None
+}
+
+// What a start is admitted as.
+fn admission_of_start<'a>(setup: &'a Setup, name: &ScriptName) -> Admission<'a>
+    ensures { admission_of result ≡ spec.started (spec.script_named (name_of name.now) (scripts_of setup.now)) }
 {
     let Some(place) = setup.place(name) else {
         return Admission::Refused(Refusal::Unknown);
@@ -61,67 +103,30 @@ fn start_admission<'a>(setup: &'a Setup, name: &ScriptName) -> Admission<'a>
     }
 }
 
-// The admission of an answer to a page.
-fn page_admission<'a>(
+// What an answer to a page is admitted as.
+fn admission_of_page<'a>(
     book: &'a Book,
     setup: &'a Setup,
     name: &ScriptName,
     page: &PageName,
 ) -> Admission<'a>
-    ensures { admission_of result ≡ spec.admit (scripts_of setup.now) (book_of book.now) (destination.page (name_of name.now) page.now) }
+    ensures { admission_of result ≡ admission_for setup.now book.now (Target.Page name.now page.now) }
 {
-    if page.shelf != book.shelf {
+    let Some(place) = place_at(book, setup, name, page) else {
         return Admission::Refused(Refusal::Unknown);
-    }
-    match instance_in(&book.instances, page.instance) {
-        Some(kept) => instance_admission(setup, name, page, kept),
-        None => Admission::Refused(Refusal::Unknown),
-    }
-}
-
-// The admission of an answer to a page of this instance.
-fn instance_admission<'a>(
-    setup: &'a Setup,
-    name: &ScriptName,
-    page: &PageName,
-    kept: &'a KeptInstance,
-) -> Admission<'a>
-    ensures { admission_of result ≡ spec.instance_found (scripts_of setup.now) (name_of name.now) page.now (Some (instance_of (page.now.instance, kept.now))) }
-{
-    match setup.get(kept.script) {
-        Some(script) if script.name.as_bytes() == name.as_bytes() => {
-            script_admission(script, page, kept)
-        }
-        Some(_) | None => Admission::Refused(Refusal::Unknown),
+    };
+    match why_not(book.clock, place.instance, place.page) {
+        Some(refusal) => Admission::Refused(refusal),
+        None => Admission::Resumes(place),
     }
 }
 
-// The admission of an answer to a page of this instance of the script.
-fn script_admission<'a>(
-    script: &'a NamedScript,
-    page: &PageName,
-    kept: &'a KeptInstance,
-) -> Admission<'a>
-    ensures { admission_of result ≡ spec.nonce_fits page.now.nonce (named_of script.now) (instance_of (page.now.instance, kept.now)) (page_at page.now.page (instance_of (page.now.instance, kept.now)).pages) }
-{
-    match page_in(&kept.pages, page.page) {
-        Some(shown) if shown.nonce == page.nonce => Admission::Resumes {
-            script,
-            instance: page.instance,
-            kept,
-            number: page.page,
-            page: shown,
-        },
-        Some(_) | None => Admission::Refused(Refusal::Unknown),
-    }
-}
-
-/// What a target is admitted as: unknown where it names no script, or no page under this script's name and nonce.
+/// What a target is admitted as.
 pub fn admission_to<'a>(book: &'a Book, setup: &'a Setup, target: &Target) -> Admission<'a>
-    ensures { admission_of result ≡ spec.admit (scripts_of setup.now) (book_of book.now) (target_of target.now) }
+    ensures { admission_of result ≡ admission_for setup.now book.now target.now }
 {
     match target {
-        Target::Start(name) => start_admission(setup, name),
-        Target::Page(name, page) => page_admission(book, setup, name, page),
+        Target::Start(name) => admission_of_start(setup, name),
+        Target::Page(name, page) => admission_of_page(book, setup, name, page),
     }
 }

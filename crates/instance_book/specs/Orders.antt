@@ -1,0 +1,22 @@
+-- Numbers that rise, and where one of them stands.
+use Rattle.std.specs.Prelude.{◌≡◌, ℕ, ◌<◌, ◌≤◌, List, length, slice_index, Result, IfOk, IfErr}
+
+-- each number is below those behind it
+abbrev pub Rises : List ℕ → Type 0
+Rises ns = (j k : ℕ) → j < k → k < length ns → slice_index ns j < slice_index ns k
+
+-- the number stands at this place
+pub record IsAt (ns : List ℕ) (n place : ℕ) : Type 0 where
+  pub within : place < length ns
+  pub here : slice_index ns place ≡ n
+
+-- the number would stand at this place: lower ones are before it, and greater ones from it on
+pub record IsGap (ns : List ℕ) (n place : ℕ) : Type 0 where
+  pub within : place ≤ length ns
+  pub lower : (k : ℕ) → k < place → slice_index ns k < n
+  pub greater : (k : ℕ) → place ≤ k → k < length ns → n < slice_index ns k
+
+-- where a search for the number ended
+pub record Finds (ns : List ℕ) (n : ℕ) (result : Result ℕ ℕ) : Type 0 where
+  pub found : IfOk result (IsAt ns n)
+  pub absent : IfErr result (IsGap ns n)

@@ -1,0 +1,220 @@
+ghost use Rattle.std.specs.Prelude.{◌≡◌, ◌<◌, ◌^◌, None, IfOk, IfErr, OnOk, OnErr, Contains, length, option_map, ◌-◌};
+ghost use Rattle.core_syntax.specs.Views.{named_of};
+ghost use Rattle.replay_spec.specs.Book as spec;
+ghost use Rattle.replay_spec.specs.Next.{cells_by};
+ghost use Rattle.instance_book.specs.Views.{book_of, ticket_of, ticket_for};
+ghost use Rattle.instance_book.specs.Fits.{IsMadeToStart, IsMadeToAnswer};
+ghost use Rattle.instance_book.specs.Admissions.{place_of, admission_for, refusal_for, FitsIn};
+ghost use Rattle.instance_book.specs.Swept.{empty_book, swept, cells_in};
+
+use crate::admission::{Admission, Place, admission_to};
+use crate::book::Book;
+use crate::chain::Home;
+use crate::instance::Instances;
+use crate::ticket::Ticket;
+use core_syntax::{NamedScript, Setup};
+use instance_cells::Cells;
+use page_names::Target;
+use script_value::{Refusal, Value};
+use std::alloc::{AllocError, Global};
+
+impl Book {
+    /// The book of a shelf with nothing in it; it takes no memory.
+    pub fn empty(alloc: Global, shelf: u32) -> Book
+        ensures { book_of result ≡ empty_book shelf }
+    {
+        Book {
+            shelf,
+            clock: 0,
+            drawn: 0,
+            logged: 0,
+            out: Vec::new(alloc),
+            instances: Instances::new(alloc),
+        }
+    }
+
+    /// The number of the shelf.
+    pub fn shelf(&self) -> u32
+        ensures { result ≡ (book_of self.now).shelf }
+    {
+        self.shelf
+    }
+
+    /// The clock, in seconds.
+    pub fn clock(&self) -> u64
+        ensures clock { result ≡ (book_of self.now).clock }
+        ensures low { result < 2 ^ 62 }
+    {
+        self.clock
+    }
+
+    /// The number that is drawn next.
+    pub fn drawn(&self) -> u64
+        ensures { result ≡ (book_of self.now).drawn }
+    {
+        self.drawn
+    }
+
+    /// How many live instances there are.
+    pub fn live(&self) -> u32
+        ensures { result ≡ length (book_of self.now).instances }
+    {
+        self.instances.len() as u32
+    }
+
+    /// The present cells of an instance, where there is a live one of this number. It takes no memory.
+    pub fn cells(&self, instance: u64) -> Option<&Cells>
+        ensures { option_map (λ cells. cells.now) result ≡ cells_in instance (book_of self.now) }
+    {
+        let instance = self.instances.get(instance)?;
+        Some(&instance.cells)
+    }
+
+    /// Whether a target is admitted, and else why not. It takes no memory.
+    pub fn admit(&self, setup: &Setup, target: &Target) -> Result<(), Refusal>
+        ensures admitted { OnOk result (refusal_for setup.now self.now target.now ≡ None) }
+        ensures refused { IfErr result (λ r. refusal_for setup.now self.now target.now ≡ Some r) }
+    {
+        match admission_to(self, setup, target) {
+            Admission::Refused(refusal) => Err(refusal),
+            Admission::Begins { .. } | Admission::Resumes(_) => Ok(()),
+        }
+    }
+
+    // The ticket of a start of this script.
+    fn start_ticket(
+        &self,
+        alloc: Global,
+        place: usize,
+        script: &NamedScript,
+        target: &Target,
+        answer: Value,
+        number: u64,
+        nonce: u64,
+    ) -> Result<Ticket, AllocError>
+        ensures ticket { IfOk result (λ t. ticket_of t ≡ ticket_for target.now answer number nonce) }
+        ensures run { IfOk result (IsMadeToStart (book_of self.now) place (named_of script.now)) }
+        ensures cells { IfOk result (λ t. t.cells ≡ (named_of script.now).script.cells) }
+    {
+        let home = Home {
+            name: script.name,
+            shelf: self.shelf,
+            instance: number,
+        };
+        Ok(Ticket {
+            number,
+            nonce,
+            script: place,
+            target: *target,
+            url: home.url(alloc, number, nonce)?,
+            from: Vec::new(alloc),
+            answer,
+            cells: Cells::of(alloc, script.script.instance_defaults().as_slice())?,
+        })
+    }
+
+    // The ticket of an answer to this page.
+    fn page_ticket(
+        &self,
+        alloc: Global,
+        place: Place,
+        target: &Target,
+        answer: Value,
+        number: u64,
+        nonce: u64,
+    ) -> Result<Ticket, AllocError>
+        ensures ticket { IfOk result (λ t. ticket_of t ≡ ticket_for target.now answer number nonce) }
+        ensures run { IfOk result (IsMadeToAnswer (book_of self.now) (place_of place.entry)) }
+        ensures cells { IfOk result (λ t. t.cells ≡ (place_of place.entry).instance.cells) }
+    {
+        let home = Home {
+            name: place.script.name,
+            shelf: self.shelf,
+            instance: place.instance.number,
+        };
+        let from = home.past(alloc, &place.instance.pages, place.page)?;
+        Ok(Ticket {
+            number,
+            nonce,
+            script: place.instance.script,
+            target: *target,
+            url: home.url(alloc, number, nonce)?,
+            from,
+            answer,
+            cells: place.instance.cells.try_clone(alloc)?,
+        })
+    }
+
+    // The ticket of a target that is admitted.
+    fn made(
+        &self,
+        alloc: Global,
+        setup: &Setup,
+        target: &Target,
+        answer: Value,
+        number: u64,
+        nonce: u64,
+    ) -> Result<Ticket, AllocError>
+        ensures ticket { IfOk result (λ t. ticket_of t ≡ ticket_for target.now answer number nonce) }
+        ensures fits { IfOk result (FitsIn setup.now self.now target.now) }
+        ensures cells { IfOk result (λ t. t.cells ≡ cells_by (admission_for setup.now self.now target.now)) }
+    {
+        match admission_to(self, setup, target) {
+            Admission::Begins { place, script } => {
+                self.start_ticket(alloc, place, script, target, answer, number, nonce)
+            }
+            Admission::Resumes(place) => {
+                self.page_ticket(alloc, place, target, answer, number, nonce)
+            }
+            Admission::Refused(_) => Err(AllocError),
+        }
+    }
+
+    /// Takes the next number, for a visit of a target that is admitted.
+    ///
+    /// Where memory runs out, nothing changes.
+    pub fn ticket(
+        &mut self,
+        alloc: Global,
+        setup: &Setup,
+        target: &Target,
+        answer: Value,
+        nonce: u64,
+    ) -> Result<Ticket, AllocError>
+        requires admitted { refusal_for setup.now self.old target.now ≡ None }
+        requires numbers { (book_of self.old).drawn < 2 ^ 62 }
+        ensures drawn { OnOk result (book_of self.new ≡ spec.draw (book_of self.old)) }
+        ensures ticket { IfOk result (λ t. ticket_of t ≡ ticket_for target.now answer self.old.drawn nonce) }
+        ensures fits { IfOk result (FitsIn setup.now self.old target.now) }
+        ensures cells { IfOk result (λ t. t.cells ≡ cells_by (admission_for setup.now self.old target.now)) }
+        ensures err { OnErr result (book_of self.new ≡ book_of self.old) }
+    {
+        let number = self.drawn;
+        let ticket = self.made(alloc, setup, target, answer, number, nonce)?;
+        self.out.try_reserve(1)?;
+        self.drawn += 1;
+        self.out.push(number)?;
+        Ok(ticket)
+    }
+
+    /// The number is published, or given up. It takes no memory.
+    pub fn spend(&mut self, number: u64)
+        ensures book { book_of self.new ≡ spec.spend number (book_of self.old) }
+        ensures room { self.new.instances ≡ self.old.instances }
+    {
+        self.out.retain(|other| *other != number);
+    }
+
+    /// Goes on to a tick, frees each instance whose pages are all expired then, and tells how many. It takes no memory.
+    pub fn free_expired(&mut self, tick: u64) -> u32
+        requires later { (book_of self.old).clock < tick }
+        requires low { tick < 2 ^ 62 }
+        ensures book { book_of self.new ≡ swept tick (book_of self.old) }
+        ensures count { result ≡ length (book_of self.old).instances - length (book_of self.new).instances }
+    {
+        let before = self.instances.len();
+        self.clock = tick;
+        self.instances.keep_live(tick);
+        (before - self.instances.len()) as u32
+    }
+}
