@@ -1,0 +1,64 @@
+-- A ticket that fits goes on to fit.
+use Rattle.std.proofs.Common.{◌≡◌, ap, sym, subst, refl, ℕ, List, Option, Some, None, inl, inr}
+use Rattle.script_value.specs.declared.outcome.Refusal.{Refusal}
+use Rattle.core_syntax.specs.Setup.{Named}
+use Rattle.page_names.specs.Names.{Destination, start, page}
+use Rattle.page_names.specs.Views.{target_of}
+use Rattle.page_names.specs.declared.names.PageName.{PageName}
+use Rattle.replay_spec.specs.Book.{Book, instance_at}
+use Rattle.replay_spec.specs.Admission.{◌>>=◌, Place, place_at, unless_why, why_not, found, started, script_named, refusal_of, admit}
+use Rattle.replay_spec.specs.Next.{start_visit, page_visit}
+use Rattle.replay_spec.specs.Invariant.{IsSound}
+use Rattle.replay_spec.specs.Laws.{Leads, PagesStay}
+use Rattle.instance_book.specs.declared.ticket.Ticket.{Ticket}
+use Rattle.instance_book.specs.Views.{ticket_of}
+use Rattle.instance_book.specs.Fits.{IsFor, FitsAs}
+use Rattle.shelf.specs.Going.{TicketsGoOnToFit}
+
+-- a start is for the same visit on each book of the shelf
+start_goes : (scripts : List Named) (b c : Book) (t : Ticket) (o : Option (ℕ × Named)) → c.shelf ≡ b.shelf → FitsAs scripts b t (started o) → FitsAs scripts c t (started o)
+start_goes scripts b c t None e h = tt
+start_goes scripts b c t (Some x) e h =
+    let same : start_visit b (ticket_of t) x.0 x.1 ≡ start_visit c (ticket_of t) x.0 x.1 = ap (λ (n : ℕ). record (start_visit b (ticket_of t) x.0 x.1) { shelf = n }) (sym e) in
+    record { run = subst (IsFor scripts t) same h.run; place = h.place; cells = h.cells }
+
+-- where nothing stands, nothing is asked; where the page stands, it is answered the same
+page_goes : (scripts : List Named) (c : Book) (t : Ticket) (o : Option Place) → ((y : Place) → o ≡ Some y → IsFor scripts t (page_visit c (ticket_of t) y)) → FitsAs scripts c t (found c.clock o)
+page_goes scripts c t None h = tt
+page_goes scripts c t (Some y) h = unless (why_not c.clock y.instance y.page)
+  where
+    unless : (w : Option Refusal) → FitsAs scripts c t (unless_why y w)
+    unless None = h y refl
+    unless (Some r) = tt
+
+-- what an admitted page is
+stood : (scripts : List Named) (b : Book) (t : Ticket) (o : Option Place) → refusal_of (found b.clock o) ≡ None → FitsAs scripts b t (found b.clock o)
+    → (x : Place) × ((o ≡ Some x) × IsFor scripts t (page_visit b (ticket_of t) x))
+stood scripts b t None h fits = absurd (cc)
+stood scripts b t (Some x) h fits = unless (why_not b.clock x.instance x.page) h fits
+  where
+    unless : (w : Option Refusal) → refusal_of (unless_why x w) ≡ None → FitsAs scripts b t (unless_why x w) → (y : Place) × ((Some x ≡ Some y) × IsFor scripts t (page_visit b (ticket_of t) y))
+    unless None k fit = (x, (refl, fit))
+    unless (Some r) k fit = absurd (cc)
+
+-- in an instance that is gone nothing stands
+unbound : {A B : Type 0} (o : Option A) (f : A → Option B) (y : B) → o ≡ None → (o >>= f) ≡ Some y → ⊥
+unbound None f y e h = cc
+unbound (Some x) f y e h = cc
+
+nothing_stands : (scripts : List Named) (c : Book) (name : List ℕ) (n : PageName) (y : Place) → instance_at n.instance c.instances ≡ None → place_at scripts c name n ≡ Some y → ⊥
+nothing_stands scripts c name n y gone h = unbound (instance_at n.instance c.instances) _ y gone h
+
+goes : PagesStay → (scripts : List Named) (b c : Book) → IsSound scripts b → Leads scripts b c → c.shelf ≡ b.shelf → (t : Ticket) (d : Destination)
+    → refusal_of (admit scripts b d) ≡ None → FitsAs scripts b t (admit scripts b d) → FitsAs scripts c t (admit scripts c d)
+goes stay scripts b c sound leads shelf t (start name) admitted fits = start_goes scripts b c t (script_named name scripts) shelf fits
+goes stay scripts b c sound leads shelf t (page name n) admitted fits =
+    let x = stood scripts b t (place_at scripts b name n) admitted fits in
+    page_goes scripts c t (place_at scripts c name n) (λ y here. elim (stay scripts b c sound leads name n x.0 x.1.0) [
+      | inl gone ↦ absurd (nothing_stands scripts c name n y gone here)
+      | inr same ↦ let there : same.0 ≡ y = cc (same.1.0, here) in
+          subst (λ (z : Place). IsFor scripts t (page_visit c (ticket_of t) z)) there (subst (IsFor scripts t) (same.1.1.visit (ticket_of t)) x.1.1)
+    ])
+
+pub tickets_go_on_to_fit : PagesStay → TicketsGoOnToFit
+tickets_go_on_to_fit stay scripts b c sound leads shelf t admitted fits = goes stay scripts b c sound leads shelf t (target_of t.target) admitted fits

@@ -1,0 +1,21 @@
+ghost use Rattle.std.specs.Prelude.{◌≡◌, ℕ, IfOk};
+ghost use Rattle.instance_book.specs.Views.{book_of};
+
+use crate::shelf::Shelf;
+use std::alloc::{AllocError, Global};
+use web_outside::Nonces;
+
+impl<N: Nonces + Drop> Shelf<N> {
+    /// A copy, equal to its source: the same book, the same nonces to come, the same limits.
+    pub fn try_clone(&self, alloc: Global) -> Result<Shelf<N>, AllocError>
+        ensures book { IfOk result (λ copy. book_of copy.book ≡ book_of self.now.book) }
+        ensures nonces { IfOk result (λ copy. (k : ℕ) → N.nonce copy.nonces k ≡ N.nonce self.now.nonces k) }
+        ensures rules { IfOk result (λ copy. copy.rules ≡ self.now.rules) }
+    {
+        Ok(Shelf {
+            book: self.book.try_clone(alloc)?,
+            nonces: self.nonces.again(),
+            rules: self.rules,
+        })
+    }
+}

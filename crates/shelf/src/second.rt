@@ -1,0 +1,53 @@
+ghost use Rattle.std.specs.Prelude.{◌≡◌, IfOk, Ok, None, map};
+ghost use Rattle.core_syntax.specs.Views.{scripts_of};
+ghost use Rattle.instance_cells.specs.Views.{effect_of};
+ghost use Rattle.instance_book.specs.Views.{book_of};
+ghost use Rattle.instance_book.specs.Admissions.{refusal_for};
+ghost use Rattle.instance_book.specs.Prepares.{AreOnCells};
+ghost use Rattle.shelf.specs.Views.{HaveTheirCells, IsRunOf, IsSegmentNow, FitsNow, HoldNow};
+
+use core_syntax::Setup;
+use instance_book::{Book, Ticket, admitted_stand};
+use page_names::Target;
+use plain_rerun::{Rerun, rerun};
+use replay_spec::{effects_are_on_cells, effects_hold_run_same};
+use std::alloc::{AllocError, Global};
+
+/// What the segment of a ticket comes to over the cells of now: the first run's result where its effects hold over them, and
+/// else that of a second run. A start's cells are its own, so it is never run again.
+pub fn segment_now(
+    alloc: Global,
+    book: &Book,
+    setup: &Setup,
+    ticket: &Ticket,
+    first: Rerun,
+    fuel: u64,
+) -> Result<Rerun, AllocError>
+    requires fits { FitsNow setup.now book.now ticket.now }
+    requires admitted { refusal_for setup.now book.now ticket.now.target ≡ None }
+    requires segment { IsRunOf (scripts_of setup.now) fuel ticket.now first }
+    requires cells { HaveTheirCells (scripts_of setup.now) (book_of book.now) }
+    ensures segment { IfOk result (λ r. IsSegmentNow setup.now fuel book.now ticket.now r) }
+    ensures first { HoldNow book.now ticket.now first → result ≡ Ok first }
+    ensures on { IfOk result (λ r. AreOnCells (book_of book.now) ticket.now (map effect_of r.effects.items)) }
+{
+    let Some(named) = setup.get(ticket.script) else {
+        return Err(AllocError);
+    };
+    // A script's root tells that the cells that its nodes name are there.
+    let _root = named.script.root();
+    effects_are_on_cells();
+    admitted_stand();
+    let Target::Page(_, page) = &ticket.target else {
+        return Ok(first);
+    };
+    let Some(cells) = book.cells(page.instance) else {
+        return Ok(first);
+    };
+    if cells.holds(&first.effects) {
+        effects_hold_run_same();
+        return Ok(first);
+    }
+    let tape = ticket.tape(alloc, cells.try_clone(alloc)?, fuel)?;
+    rerun(alloc, &named.script, &tape)
+}
