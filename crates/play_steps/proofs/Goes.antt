@@ -1,18 +1,54 @@
 -- Runs of steps go on where they stopped.
-use Rattle.std.proofs.Common.{◌≡◌, ◌+◌, suc, [], ◌∷◌, map, length, Some, append_assoc, ap, sym, refl, arith}
-use Rattle.play_steps.specs.Visit.{visit, reply_text}
-use Rattle.play_steps.specs.Transcript.{transcript, first_fates, later_fates}
-use Rattle.play_steps.specs.Laws.{RepliesGoOn, left_by}
+use Rattle.std.proofs.Common.{◌≡◌, ℕ, ◌+◌, suc, [], ◌∷◌, List, ◌++◌, length, Some, None, Bool, true, false, refl, ap, ◌∙◌, arith, if◌then◌else◌}
+use Rattle.play_steps.specs.Rules.{StageRules}
+use Rattle.play_steps.specs.Transcript.{transcript, Run, End, done, bad_line, goes_on, behind, stopped, performed, fits}
+use Rattle.play_steps.specs.Laws.{RepliesGoOn}
+use Rattle.play_steps.proofs.Runs.{joined}
 
-pub goes_on : RepliesGoOn
+-- a text, and behind it a run and another
+pushed : (r : StageRules) (text : List ℕ) (end : End) (first second : Run r)
+    → behind r text (goes_on r end first second) ≡ goes_on r end (behind r text first) second
+pushed r text done first second = joined r text first.text second
+pushed r text (bad_line number) first second = refl
+
+-- a run, another behind it, and one behind both
+chained : (r : StageRules) (end : End) (first second all : Run r) (third : r.State → List r.Fate → Run r) → first.end ≡ end
+    → all ≡ goes_on r second.end second (third second.state second.fates)
+    → goes_on r end first all
+    ≡ (let both = goes_on r end first second in goes_on r both.end both (third both.state both.fates))
+chained r done first second all third same is =
+    ap (behind r first.text) is ∙ pushed r first.text second.end second (third second.state second.fates)
+chained r (bad_line number) first second all third same is = rw same refl
+
+pub replies_go_on : (r : StageRules) → RepliesGoOn r
 unfolding transcript
-goes_on setup t number [] more fates = let same : number + 0 ≡ number = omega arith in rw same refl
-goes_on setup t number (r ∷ rs) more fates =
-    let visited = visit setup t r.target (first_fates fates) in
-    let text = reply_text r.worker visited.0 in
-    let later = goes_on setup visited.1 (number + 1) rs more (later_fates fates) in
-    let first = transcript setup visited.1 (number + 1) (map Some rs) (later_fates fates) in
-    let left = left_by setup visited.1 rs (later_fates fates) in
-    let count : number + suc (length rs) ≡ number + 1 + length rs = omega arith in
-    rw (count, later) (ap (λ w. (w, (transcript setup left.0 (number + 1 + length rs) more left.1).1))
-    (sym (append_assoc text first.0 (transcript setup left.0 (number + 1 + length rs) more left.1).0)))
+replies_go_on r s number [] more fates = let same : number + 0 ≡ number = omega arith in rw same refl
+replies_go_on r s number (None ∷ steps) more fates = refl
+replies_go_on r s number (Some step ∷ steps) more fates =
+    by_fit (fits r step s)
+    (replies_go_on r (performed r step s fates).state (number + 1) steps more (performed r step s fates).fates)
+  where
+    first : Run r
+    first = performed r step s fates
+
+    second : Run r
+    second = transcript r first.state (number + 1) steps first.fates
+
+    all : Run r
+    all = transcript r first.state (number + 1) (steps ++ more) first.fates
+
+    third : ℕ → r.State → List r.Fate → Run r
+    third n t later = transcript r t n more later
+
+    count : number + 1 + length steps ≡ number + suc (length steps)
+    count = omega arith
+
+    by_fit : (b : Bool)
+        → all ≡ goes_on r second.end second (third (number + 1 + length steps) second.state second.fates)
+        → (if b then goes_on r first.end first all else stopped r number s fates)
+        ≡ (let both = if b then goes_on r first.end first second else stopped r number s fates in
+        goes_on r both.end both (third (number + suc (length steps)) both.state both.fates))
+    by_fit true is =
+        chained r first.end first second all (third (number + suc (length steps))) refl
+        (is ∙ ap (λ n. goes_on r second.end second (third n second.state second.fates)) count)
+    by_fit false is = refl

@@ -1,6 +1,6 @@
 pub mod Lines
+pub mod Performed
 pub mod Runs
-pub mod Visits
+pub mod Sweeping
 pub mod Goes
-pub mod Lawful
 pub mod Spelled

@@ -1,152 +1,177 @@
 -- A run, step after step.
-use Rattle.std.proofs.Common.{◌≡◌, ◌+◌, ◌++◌, ℕ, List, [], ◌∷◌, Option, Some, None, append_assoc, append-nil, sym, ap, ◌∙◌, refl, subst}
+use Rattle.std.proofs.Common.{◌≡◌, ◌+◌, ◌++◌, ℕ, List, [], ◌∷◌, Option, Some, None, true, false, IfSome, if◌then◌else◌, append_assoc, append-nil, sym, ap, ◌∙◌, refl, subst}
 use Rattle.std.specs.Io.KnownBytes.{Appends}
 use Rattle.web_outside.specs.Pieces.{AppendsPart}
-use Rattle.web_outside.proofs.Writes.{appends_none, appends_then, then_part, longer_part, whole_part}
-use Rattle.core_syntax.specs.Setup.{Named}
-use Rattle.replay_spec.specs.Step.{Reply}
-use Rattle.play_steps.specs.Step.{Request, request_of, requests}
-use Rattle.play_steps.specs.Visit.{Table, first_table, Fates, reply_text}
-use Rattle.play_steps.specs.Played.{IsVisit}
-use Rattle.play_steps.specs.Transcript.{End, done, bad_line, transcript, Plays, PlaysPart, Pauses}
-use Rattle.play_steps.specs.Play.{Visits, visit_text}
+use Rattle.web_outside.proofs.Writes.{appends_none, appends_then, longer_part, whole_part}
+use Rattle.play_steps.specs.Rules.{StageRules}
+use Rattle.play_steps.specs.Step.{Step, step_of}
+use Rattle.play_steps.specs.Transcript.{Run, went, stopped, behind, goes_on, done, bad_line, transcript, fits, performed}
+use Rattle.play_steps.specs.Played.{Scene, Came, Goes, Plays, Halts}
 
--- a text, and then what a run gives
-abbrev pub after : List ℕ → List ℕ × End → List ℕ × End
-after text run = (text ++ run.0, run.1)
+-- a text, and then a run behind another
+pub joined : (r : StageRules) (text line : List ℕ) (run : Run r) → behind r text (behind r line run) ≡ behind r (text ++ line) run
+joined r text line run =
+    ap (λ w. record { text = w; end = run.end; state = run.state; fates = run.fates }) (sym (append_assoc text line run.text))
 
--- The sink grew by this text, and the run goes on from there.
-pub record Reached
-    (old now : Option (List ℕ)) (setup : List Named) (all : List (Option Request)) (t : Table) (number : ℕ)
-    (left : List (Option Request)) : Type 0 where
-  pub front : List (Option Request)
+-- the sink grew by this text, and the run goes on from there
+pub record Reached (r : StageRules) (all : List (Option Step)) (start here : Scene r) (number : ℕ) (left : List (Option Step)) : Type 0 where
+  pub front : List (Option Step)
   pub cut : all ≡ front ++ left
-  pub fates : List Fates
+  pub fates : List r.Fate
   pub text : List ℕ
-  pub written : Appends old now text
-  pub goes_on : (rest : List (Option Request)) (later : List Fates)
-      → transcript setup first_table 1 (front ++ rest) (fates ++ later) ≡ after text (transcript setup t number rest later)
+  pub written : Appends start.written here.written text
+  pub is : (rest : List (Option Step)) (later : List r.Fate)
+      → transcript r start.state 1 (front ++ rest) (fates ++ later) ≡ behind r text (transcript r here.state number rest later)
 
--- the whole run goes on from there
-all_goes_on : (old now : Option (List ℕ)) (setup : List Named) (all : List (Option Request)) (t : Table) (number : ℕ) (left : List (Option Request))
-    (reached : Reached old now setup all t number left) (later : List Fates)
-    → transcript setup first_table 1 all (reached.fates ++ later) ≡ after reached.text (transcript setup t number left later)
-all_goes_on old now setup all t number left reached later =
-    ap (λ steps. transcript setup first_table 1 steps (reached.fates ++ later)) reached.cut ∙ reached.goes_on left later
+pub begin : (r : StageRules) (all : List (Option Step)) (start : Scene r) → Reached r all start start 1 all
+begin r all start =
+    record { front = []; cut = refl; fates = []; text = []; written = appends_none start.written; is = λ rest later. refl }
 
-pub start : (old : Option (List ℕ)) (setup : List Named) (all : List (Option Request)) → Reached old old setup all first_table 1 all
-start old setup all = record { front = []; cut = refl; fates = []; text = []; written = appends_none old; goes_on = λ rest later. refl }
-
--- one visit of a run
-visited : (setup : List Named) (t next : Table) (number : ℕ) (request : Request) (left : List (Option Request)) (reply : Reply)
-    (v : IsVisit setup t request.target reply next) (later : List Fates)
-    → transcript setup t number (Some request ∷ left) (v.fates ∷ later)
-    ≡ after (reply_text request.worker reply) (transcript setup next (number + 1) left later)
+-- one step of a run
+one : (r : StageRules) (s t : r.State) (number : ℕ) (step : Step) (rest : List (Option Step)) (text : List ℕ)
+    (c : Came r s step text t) (later : List r.Fate) → fits r step s ≡ true
+    → transcript r s number (Some step ∷ rest) (c.fates ++ later) ≡ behind r text (transcript r t (number + 1) rest later)
 unfolding transcript
-visited setup t next number request left reply v later = rw v.visit_is
+one r s t number step rest text c later fitting =
+    let next : Run r → Run r = λ x. goes_on r x.end x (transcript r x.state (number + 1) rest x.fates) in
+    ap (λ b. if b then next (performed r step s (c.fates ++ later)) else stopped r number s (c.fates ++ later)) fitting
+    ∙ ap next (c.is later)
 
--- a visit of the next line
-visited_next : (setup : List Named) (t next : Table) (number : ℕ) (line : List ℕ) (left : List (Option Request)) (v : Visits setup t next line)
-    (later : List Fates)
-    → transcript setup t number (request_of line ∷ left) (v.visited.fates ∷ later)
-    ≡ after (visit_text v) (transcript setup next (number + 1) left later)
-visited_next setup t next number line left v later =
-    ap (λ r. transcript setup t number (r ∷ left) (v.visited.fates ∷ later)) v.spelled
-    ∙ visited setup t next number v.request left v.reply v.visited later
+-- the step of the next line
+next_line : (r : StageRules) (s t : r.State) (number : ℕ) (line : List ℕ) (rest : List (Option Step)) (text : List ℕ)
+    (g : Goes r line text s t) (later : List r.Fate)
+    → transcript r s number (step_of line ∷ rest) (g.came.fates ++ later) ≡ behind r text (transcript r t (number + 1) rest later)
+next_line r s t number line rest text g later =
+    ap (λ o. transcript r s number (o ∷ rest) (g.came.fates ++ later)) g.spelled
+    ∙ one r s t number g.step rest text g.came later g.fitting
 
-pub one_more : (old now new : Option (List ℕ)) (setup : List Named) (all : List (Option Request)) (t next : Table) (number : ℕ)
-    (line : List ℕ) (left : List (Option Request)) (v : Visits setup t next line)
-    → Reached old now setup all t number (request_of line ∷ left)
-    → Appends now new (visit_text v)
-    → Reached old new setup all next (number + 1) left
-one_more old now new setup all t next number line left v reached written = record {
-  front = reached.front ++ request_of line ∷ [];
-  cut = reached.cut ∙ sym (append_assoc reached.front (request_of line ∷ []) left);
-  fates = reached.fates ++ v.visited.fates ∷ [];
-  text = reached.text ++ visit_text v;
-  written = appends_then old now new _ _ reached.written written;
-  goes_on = λ rest later.
-      ap (λ steps. transcript setup first_table 1 steps ((reached.fates ++ v.visited.fates ∷ []) ++ later)) (append_assoc reached.front (request_of line ∷ []) rest)
-      ∙ (ap (transcript setup first_table 1 (reached.front ++ request_of line ∷ rest)) (append_assoc reached.fates (v.visited.fates ∷ []) later)
-      ∙ (reached.goes_on (request_of line ∷ rest) (v.visited.fates ∷ later)
-      ∙ (ap (after reached.text) (visited_next setup t next number line rest v later)
-      ∙ ap (λ w. (w, (transcript setup next (number + 1) rest later).1)) (sym (append_assoc reached.text (visit_text v) (transcript setup next (number + 1) rest later).0)))));
+-- the steps so far and one more
+more : (r : StageRules) (all : List (Option Step)) (start here : Scene r) (t : r.State) (number : ℕ) (line : List ℕ)
+    (left : List (Option Step)) (text : List ℕ) (g : Goes r line text here.state t)
+    (reached : Reached r all start here number (step_of line ∷ left)) (rest : List (Option Step)) (later : List r.Fate)
+    → transcript r start.state 1 ((reached.front ++ step_of line ∷ []) ++ rest) ((reached.fates ++ g.came.fates) ++ later)
+    ≡ behind r (reached.text ++ text) (transcript r t (number + 1) rest later)
+more r all start here t number line left text g reached rest later =
+    ap (λ steps. transcript r start.state 1 steps ((reached.fates ++ g.came.fates) ++ later)) (append_assoc reached.front (step_of line ∷ []) rest)
+    ∙ ap (transcript r start.state 1 (reached.front ++ step_of line ∷ rest)) (append_assoc reached.fates g.came.fates later)
+    ∙ reached.is (step_of line ∷ rest) (g.came.fates ++ later)
+    ∙ ap (behind r reached.text) (next_line r here.state t number line rest text g later)
+    ∙ joined r reached.text text (transcript r t (number + 1) rest later)
+
+pub one_more : (r : StageRules) (all : List (Option Step)) (start here there : Scene r) (number : ℕ) (line : List ℕ)
+    (left : List (Option Step)) (text : List ℕ) (g : Goes r line text here.state there.state)
+    → Reached r all start here number (step_of line ∷ left) → Appends here.written there.written text
+    → Reached r all start there (number + 1) left
+one_more r all start here there number line left text g reached written = record {
+  front = reached.front ++ step_of line ∷ [];
+  cut = reached.cut ∙ sym (append_assoc reached.front (step_of line ∷ []) left);
+  fates = reached.fates ++ g.came.fates;
+  text = reached.text ++ text;
+  written = appends_then start.written here.written there.written _ _ reached.written written;
+  is = more r all start here there.state number line left text g reached;
 }
 
-ends : (setup : List Named) (all : List (Option Request)) (fates : List Fates) (text : List ℕ) (end : End)
-    → transcript setup first_table 1 all (fates ++ []) ≡ after text ([], end) → transcript setup first_table 1 all fates ≡ (text, end)
-ends setup all fates text end e =
-    ap (transcript setup first_table 1 all) (sym (append-nil fates)) ∙ e ∙ ap (λ w. (w, end)) (append-nil text)
-
-over : (setup : List Named) (t : Table) (number : ℕ) → transcript setup t number [] [] ≡ ([], done)
+over : (r : StageRules) (s : r.State) (number : ℕ) (fates : List r.Fate) → transcript r s number [] fates ≡ went r [] s fates
 unfolding transcript
-over setup t number = refl
+over r s number fates = refl
 
-stuck : (setup : List Named) (t : Table) (number : ℕ) (left : List (Option Request))
-    → transcript setup t number (None ∷ left) [] ≡ ([], bad_line number)
+stuck : (r : StageRules) (s : r.State) (number : ℕ) (o : Option Step) (left : List (Option Step)) (fates : List r.Fate)
+    → IfSome o (λ step. fits r step s ≡ false) → transcript r s number (o ∷ left) fates ≡ stopped r number s fates
 unfolding transcript
-stuck setup t number left = refl
+stuck r s number None left fates h = refl
+stuck r s number (Some step) left fates h = rw h refl
 
--- the run ended, where the rest gives no more text
-ended : (old now : Option (List ℕ)) (setup : List Named) (steps : List ℕ) (t : Table) (number : ℕ) (left : List (Option Request)) (end : End)
-    → Reached old now setup (requests steps) t number left
-    → transcript setup t number left [] ≡ ([], end)
-    → Plays old now setup steps end
-ended old now setup steps t number left end reached e =
-    let whole = ends setup (requests steps) reached.fates reached.text end (all_goes_on _ _ _ _ _ _ _ reached [] ∙ ap (after reached.text) e) in
-    record {
-      fates = reached.fates;
-      end_is = ap (λ r. r.1) whole;
-      written = subst (Appends old now) (sym (ap (λ r. r.0) whole)) reached.written;
-    }
+-- fates to which none are added
+none_more : (r : StageRules) (s : r.State) (steps : List (Option Step)) (fates : List r.Fate)
+    → transcript r s 1 steps fates ≡ transcript r s 1 steps (fates ++ [])
+none_more r s steps fates = ap (transcript r s 1 steps) (sym (append-nil fates))
 
-pub at_end : (old now : Option (List ℕ)) (setup : List Named) (steps : List ℕ) (t : Table) (number : ℕ)
-    → Reached old now setup (requests steps) t number [] → Plays old now setup steps done
-at_end old now setup steps t number reached = ended old now setup steps t number [] done reached (over setup t number)
+-- the whole run, where what is left gives this
+rest_is : (r : StageRules) (all : List (Option Step)) (start here : Scene r) (number : ℕ) (left : List (Option Step))
+    (reached : Reached r all start here number left) (run : Run r) → transcript r here.state number left [] ≡ run
+    → transcript r start.state 1 all reached.fates ≡ behind r reached.text run
+rest_is r all start here number left reached run e =
+    none_more r start.state all reached.fates
+    ∙ ap (λ steps. transcript r start.state 1 steps (reached.fates ++ [])) reached.cut
+    ∙ reached.is left [] ∙ ap (behind r reached.text) e
 
-pub at_line : (old now : Option (List ℕ)) (setup : List Named) (steps : List ℕ) (t : Table) (number : ℕ) (left : List (Option Request))
-    → Reached old now setup (requests steps) t number (None ∷ left) → Plays old now setup steps (bad_line number)
-at_line old now setup steps t number left reached =
-    ended old now setup steps t number (None ∷ left) (bad_line number) reached (stuck setup t number left)
+-- a text, and then none
+alone : (r : StageRules) (text : List ℕ) (run : Run r) → run.text ≡ []
+    → behind r text run ≡ record { text = text; end = run.end; state = run.state; fates = run.fates }
+alone r text run e =
+    ap (λ w. record { text = w; end = run.end; state = run.state; fates = run.fates }) (ap (λ w. text ++ w) e ∙ append-nil text)
 
--- the run broke off between two replies
-pub between : (old now : Option (List ℕ)) (setup : List Named) (steps : List ℕ) (t : Table) (number : ℕ) (left : List (Option Request))
-    → Reached old now setup (requests steps) t number left → PlaysPart old now setup steps
-between old now setup steps t number left reached =
-    let e = all_goes_on _ _ _ _ _ _ _ reached [] in
-    record {
-      fates = reached.fates ++ [];
-      part = subst (AppendsPart old now) (sym (ap (λ r. r.0) e))
-          (longer_part old now reached.text (transcript setup t number left []).0 (whole_part old now reached.text reached.written));
-    }
-
--- the run broke off before the reply to a request
-pub paused : (old now : Option (List ℕ)) (setup : List Named) (steps : List ℕ) (t : Table) (number : ℕ) (request : Request) (left : List (Option Request))
-    → Reached old now setup (requests steps) t number (Some request ∷ left) → Pauses old now setup steps
-paused old now setup steps t number request left reached = record {
-  front = reached.front;
-  request = request;
-  rest = left;
-  cut = reached.cut;
+pub at_end : (r : StageRules) (all : List (Option Step)) (start here : Scene r) (number : ℕ)
+    → Reached r all start here number [] → Plays r all done start here
+at_end r all start here number reached = record {
   fates = reached.fates;
   text = reached.text;
-  replies = ends setup reached.front reached.fates reached.text done
-      (ap (λ s. transcript setup first_table 1 s (reached.fates ++ [])) (sym (append-nil reached.front))
-      ∙ (reached.goes_on [] [] ∙ ap (after reached.text) (over setup t number)));
+  is = rest_is r all start here number [] reached (went r [] here.state []) (over r here.state number [])
+      ∙ alone r reached.text (went r [] here.state []) refl;
   written = reached.written;
 }
 
--- the run broke off in a reply
-pub inside : (old now new : Option (List ℕ)) (setup : List Named) (steps : List ℕ) (t next : Table) (number : ℕ)
-    (line : List ℕ) (left : List (Option Request)) (v : Visits setup t next line)
-    → Reached old now setup (requests steps) t number (request_of line ∷ left)
-    → AppendsPart now new (visit_text v)
-    → PlaysPart old new setup steps
-inside old now new setup steps t next number line left v reached part =
-    let e = all_goes_on _ _ _ _ _ _ _ reached (v.visited.fates ∷ []) ∙ ap (after reached.text) (visited_next setup t next number line left v []) in
+pub at_line : (r : StageRules) (all : List (Option Step)) (start here : Scene r) (number : ℕ) (o : Option Step)
+    (left : List (Option Step)) → IfSome o (λ step. fits r step here.state ≡ false)
+    → Reached r all start here number (o ∷ left) → Plays r all (bad_line number) start here
+at_line r all start here number o left h reached = record {
+  fates = reached.fates;
+  text = reached.text;
+  is = rest_is r all start here number (o ∷ left) reached (stopped r number here.state []) (stuck r here.state number o left [] h)
+      ∙ alone r reached.text (stopped r number here.state []) refl;
+  written = reached.written;
+}
+
+-- the steps so far, alone
+pub so_far : (r : StageRules) (all : List (Option Step)) (start here : Scene r) (number : ℕ) (left : List (Option Step))
+    (reached : Reached r all start here number left)
+    → transcript r start.state 1 reached.front reached.fates ≡ went r reached.text here.state []
+so_far r all start here number left reached =
+    none_more r start.state reached.front reached.fates
+    ∙ ap (λ steps. transcript r start.state 1 steps (reached.fates ++ [])) (sym (append-nil reached.front))
+    ∙ reached.is [] [] ∙ ap (behind r reached.text) (over r here.state number [])
+    ∙ alone r reached.text (went r [] here.state []) refl
+
+-- the transcript of all begins with the text of the steps so far and of the next
+pub begins : (r : StageRules) (all : List (Option Step)) (start here : Scene r) (t : r.State) (number : ℕ) (line : List ℕ)
+    (left : List (Option Step)) (text : List ℕ) (g : Goes r line text here.state t)
+    (reached : Reached r all start here number (step_of line ∷ left))
+    → (reached.text ++ text) ++ (transcript r t (number + 1) left []).text
+    ≡ (transcript r start.state 1 all (reached.fates ++ g.came.fates)).text
+begins r all start here t number line left text g reached =
+    let cut = reached.cut ∙ sym (append_assoc reached.front (step_of line ∷ []) left) in
+    sym (ap (λ (x : Run r). x.text)
+    (none_more r start.state all (reached.fates ++ g.came.fates)
+    ∙ ap (λ steps. transcript r start.state 1 steps ((reached.fates ++ g.came.fates) ++ [])) cut
+    ∙ more r all start here t number line left text g reached left []))
+
+-- the run halted behind this front of the text of the next step
+unfoldable pub halted : (r : StageRules) (all : List (Option Step)) (start here there : Scene r) (number : ℕ) (line : List ℕ)
+    (left : List (Option Step)) (text : List ℕ) (g : Goes r line text here.state there.state)
+    → Reached r all start here number (step_of line ∷ left)
+    → (shown hidden : List ℕ) → text ≡ shown ++ hidden → Appends here.written there.written shown
+    → Halts r all shown start there
+halted r all start here there number line left text g reached shown hidden cut written =
+    let whole = appends_then start.written here.written there.written reached.text shown reached.written written in
+    let split = ap (λ w. reached.text ++ w) cut ∙ sym (append_assoc reached.text shown hidden) in
+    let later = (transcript r there.state (number + 1) left []).text in
+    let all_text = sym (ap (λ w. w ++ later) split) ∙ begins r all start here there.state number line left text g reached in
     record {
-      fates = reached.fates ++ v.visited.fates ∷ [];
-      part = subst (AppendsPart old new) (sym (ap (λ r. r.0) e))
-          (then_part old now new reached.text _ reached.written
-          (longer_part now new (visit_text v) (transcript setup next (number + 1) left []).0 part));
+      front = reached.front;
+      step = g.step;
+      rest = left;
+      cut = reached.cut ∙ ap (λ o. reached.front ++ o ∷ left) g.spelled;
+      fates = reached.fates;
+      text = reached.text;
+      middle = here.state;
+      is = so_far r all start here number (step_of line ∷ left) reached;
+      fitting = g.fitting;
+      hidden = hidden;
+      came = record { fates = g.came.fates; is = λ more_fates. g.came.is more_fates ∙ ap (λ w. went r w there.state more_fates) cut };
+      written = whole;
+      part = subst (AppendsPart start.written there.written) all_text
+          (longer_part start.written there.written ((reached.text ++ shown) ++ hidden) later
+          (longer_part start.written there.written (reached.text ++ shown) hidden (whole_part start.written there.written (reached.text ++ shown) whole)));
+      later = later;
+      all = sym all_text ∙ append_assoc (reached.text ++ shown) hidden later;
     }

@@ -1,158 +1,164 @@
--- Lines are requests exactly where requests spell them.
-use Rattle.std.proofs.Common.{◌≡◌, ◌+◌, ◌-◌, ◌≤◌, ◌<◌, ◌==◌, ◌&&◌, not, ℕ, zero, suc, List, [], ◌∷◌, ◌++◌, map, length, true, Option, Some, None, append_assoc, ap, sym, ◌∙◌, refl, subst, arith, codes, nat_le}
-use Rattle.std.specs.Fmt.{decimal, digits}
+-- Lines are steps exactly where steps spell them.
+use Rattle.std.proofs.Common.{◌≡◌, ◌^◌, ◌<◌, ◌==◌, ◌⊎◌, inl, inr, ⊎_elim, not, ℕ, List, [], ◌∷◌, ◌++◌, map, length, true, Option, Some, None, ap, sym, ◌∙◌, refl, subst, arith, codes}
+use Rattle.std.specs.Fmt.{decimal}
 use Rattle.std.specs.List.{list_all}
 use Rattle.std.specs.Char.{is_ascii_digit}
 use Rattle.std.proofs.lemmas.Bool.{and_parts}
-use Rattle.std.proofs.lemmas.Fmt.{decimal_digit}
 use Rattle.std.proofs.lemmas.List.Folds.{list_all-append}
-use Rattle.std.proofs.lemmas.Bool.Decides.{nat_tests}
-use Rattle.page_names.specs.Pieces.{cut_at, behind}
 use Rattle.std.proofs.lemmas.Option.{cond_some}
+use Rattle.script_value.specs.Pieces.{cut_at, behind, number_below}
 use Rattle.script_value.specs.Texts.{lacks}
 use Rattle.script_value.proofs.Options.{bound}
-use Rattle.page_names.proofs.Cuts.{behind_spelled, cut_spelled, cut_found, lacking}
-use Rattle.page_names.proofs.Numerals.{decimal_digits}
-use Rattle.play_steps.specs.Step.{Request, worker_of, is_target, is_target_byte, request_of, requests}
-use Rattle.play_steps.specs.Laws.{line_of, lines_of, AreRequests, LinesAreRequests}
-use Rattle.play_steps.proofs.Lines.{requests_cut, requests_uncut, requests_nil}
+use Rattle.script_value.proofs.Cuts.{behind_spelled, cut_spelled, cut_found, lacking}
+use Rattle.script_value.proofs.Numerals.{number_spelled, number_found, decimal_digits}
+use Rattle.play_steps.specs.Step.{Step, take, publish, get, tick, worker_of, is_target, is_target_byte, aim_of, take_of, publish_of, get_of, tick_of, first_of, step_of, steps_of, line_of, lines_of, IsStep, AreSteps}
+use Rattle.play_steps.specs.Laws.{LinesAreSteps}
+use Rattle.play_steps.proofs.Lines.{steps_cut, steps_uncut, steps_nil}
 
--- workers
+-- what is read is spelled so
 
-worker_found : (n : ℕ) → n ≤ 15 → worker_of (decimal n) ≡ Some n
-unfolding digits
-worker_found zero h = refl
-worker_found (suc zero) h = refl
-worker_found (suc (suc zero)) h = refl
-worker_found (suc (suc (suc zero))) h = refl
-worker_found (suc (suc (suc (suc zero)))) h = refl
-worker_found (suc (suc (suc (suc (suc zero))))) h = refl
-worker_found (suc (suc (suc (suc (suc (suc zero)))))) h = refl
-worker_found (suc (suc (suc (suc (suc (suc (suc zero))))))) h = refl
-worker_found (suc (suc (suc (suc (suc (suc (suc (suc zero)))))))) h = refl
-worker_found (suc (suc (suc (suc (suc (suc (suc (suc (suc zero))))))))) h = refl
-worker_found (suc (suc (suc (suc (suc (suc (suc (suc (suc (suc zero)))))))))) h = refl
-worker_found (suc (suc (suc (suc (suc (suc (suc (suc (suc (suc (suc zero))))))))))) h = refl
-worker_found (suc (suc (suc (suc (suc (suc (suc (suc (suc (suc (suc (suc zero)))))))))))) h = refl
-worker_found (suc (suc (suc (suc (suc (suc (suc (suc (suc (suc (suc (suc (suc zero))))))))))))) h = refl
-worker_found (suc (suc (suc (suc (suc (suc (suc (suc (suc (suc (suc (suc (suc (suc zero)))))))))))))) h = refl
-worker_found (suc (suc (suc (suc (suc (suc (suc (suc (suc (suc (suc (suc (suc (suc (suc zero))))))))))))))) h = refl
-worker_found (suc (suc (suc (suc (suc (suc (suc (suc (suc (suc (suc (suc (suc (suc (suc (suc n)))))))))))))))) h = absurd (omega arith)
+aim_spelled : (bytes : List ℕ) (aim : ℕ × List ℕ) → aim_of bytes ≡ Some aim
+    → (bytes ≡ decimal aim.0 ++ 32 ∷ aim.1) × ((aim.0 < 16) × (is_target aim.1 ≡ true))
+unfolding aim_of
+aim_spelled bytes aim e =
+    let parts = bound (cut_at 32 bytes) _ aim e in
+    let worker = bound (worker_of parts.0.0) _ aim parts.2 in
+    let is = cond_some (is_target parts.0.1) _ aim worker.2 in
+    let number = number_spelled 16 parts.0.0 worker.0 (omega arith) worker.1 in
+    let P : ℕ × List ℕ → Type 0 = λ x. (bytes ≡ decimal x.0 ++ 32 ∷ x.1) × ((x.0 < 16) × (is_target x.1 ≡ true)) in
+    subst P is.1 (cut_spelled 32 bytes parts.0.0 parts.0.1 parts.1 ∙ ap (λ ds. ds ++ 32 ∷ parts.0.1) number.0, (number.1, is.0))
 
-ten_and : (k : ℕ) → k ≤ 5 → 49 ∷ (48 + k) ∷ [] ≡ decimal (10 + k)
-unfolding digits
-ten_and zero h = refl
-ten_and (suc zero) h = refl
-ten_and (suc (suc zero)) h = refl
-ten_and (suc (suc (suc zero))) h = refl
-ten_and (suc (suc (suc (suc zero)))) h = refl
-ten_and (suc (suc (suc (suc (suc zero))))) h = refl
-ten_and (suc (suc (suc (suc (suc (suc k)))))) h = absurd (omega arith)
+take_spelled : (line : List ℕ) (s : Step) → take_of line ≡ Some s → (line ≡ line_of s) × IsStep s
+unfolding take_of
+take_spelled line s e =
+    let rest = bound (behind (codes "take ") line) _ s e in
+    let aim = bound (aim_of rest.0) _ s rest.2 in
+    let is = aim_spelled rest.0 aim.0 aim.1 in
+    let same : take aim.0.0 aim.0.1 ≡ s = cc in
+    subst (λ (x : Step). (line ≡ line_of x) × IsStep x) same
+    (behind_spelled (codes "take ") line rest.0 rest.1 ∙ ap (λ bytes. codes "take " ++ bytes) is.0, is.1)
 
-worker_spelled : (ds : List ℕ) (n : ℕ) → worker_of ds ≡ Some n → (ds ≡ decimal n) × (n ≤ 15)
-worker_spelled [] n e = absurd (let no : ⊥ = cc in no)
-worker_spelled (d ∷ []) n e =
-    let c = cond_some (is_ascii_digit d) (d - 48) n e in
-    let digit : (48 ≤ d) × (d ≤ 57) = (grind (arith, nat_tests), grind (arith, nat_tests)) in
-    let same : 48 + n ≡ d = omega (arith, c.1, digit.0) in
-    (ap (λ x. x ∷ []) (sym same) ∙ sym (decimal_digit n (omega (arith, same, digit.1))), omega (arith, same, digit.1))
-worker_spelled (t ∷ d ∷ []) n e =
-    let c = cond_some (t == 49 && nat_le 48 d && nat_le d 53) (10 + (d - 48)) n e in
-    let facts : (t ≡ 49) × ((48 ≤ d) × (d ≤ 53)) = (grind (arith, nat_tests), (grind (arith, nat_tests), grind (arith, nat_tests))) in
-    let last : 48 + (d - 48) ≡ d = omega (arith, facts.1.0) in
-    let ten = ten_and (d - 48) (omega (arith, facts.1.1)) in
-    (rw (facts.0) (ap (λ x. 49 ∷ x ∷ []) (sym last) ∙ ten ∙ ap decimal c.1), omega (arith, c.1, facts.1.1))
-worker_spelled (t ∷ d ∷ e ∷ ds) n h = absurd (let no : ⊥ = cc in no)
+get_spelled : (line : List ℕ) (s : Step) → get_of line ≡ Some s → (line ≡ line_of s) × IsStep s
+unfolding get_of
+get_spelled line s e =
+    let rest = bound (behind (codes "get ") line) _ s e in
+    let aim = bound (aim_of rest.0) _ s rest.2 in
+    let is = aim_spelled rest.0 aim.0 aim.1 in
+    let same : get aim.0.0 aim.0.1 ≡ s = cc in
+    subst (λ (x : Step). (line ≡ line_of x) × IsStep x) same
+    (behind_spelled (codes "get ") line rest.0 rest.1 ∙ ap (λ bytes. codes "get " ++ bytes) is.0, is.1)
 
--- one line
+publish_spelled : (line : List ℕ) (s : Step) → publish_of line ≡ Some s → (line ≡ line_of s) × IsStep s
+unfolding publish_of
+publish_spelled line s e =
+    let rest = bound (behind (codes "publish ") line) _ s e in
+    let worker = bound (worker_of rest.0) _ s rest.2 in
+    let number = number_spelled 16 rest.0 worker.0 (omega arith) worker.1 in
+    let same : publish worker.0 ≡ s = cc in
+    subst (λ (x : Step). (line ≡ line_of x) × IsStep x) same
+    (behind_spelled (codes "publish ") line rest.0 rest.1 ∙ ap (λ ds. codes "publish " ++ ds) number.0, number.1)
 
-request_spelled : (line : List ℕ) (r : Request) → request_of line ≡ Some r
-    → (line ≡ codes "get " ++ (decimal r.worker ++ 32 ∷ r.target)) × ((r.worker ≤ 15) × (is_target r.target ≡ true))
-unfolding request_of
-request_spelled line r e =
-    let rest = bound (behind (codes "get ") line) _ r e in
-    let parts = bound (cut_at 32 rest.0) _ r rest.2 in
-    let worker = bound (worker_of parts.0.0) _ r parts.2 in
-    let is = cond_some (is_target parts.0.1) _ r worker.2 in
-    let number = worker_spelled parts.0.0 worker.0 worker.1 in
-    let P : Request → Type 0 = λ x. (line ≡ codes "get " ++ (decimal x.worker ++ 32 ∷ x.target)) × ((x.worker ≤ 15) × (is_target x.target ≡ true)) in
-    subst P is.1 (
-      behind_spelled (codes "get ") line rest.0 rest.1
-          ∙ ap (λ xs. codes "get " ++ xs) (cut_spelled 32 rest.0 parts.0.0 parts.0.1 parts.1 ∙ ap (λ xs. xs ++ 32 ∷ parts.0.1) number.0),
-      (number.1, is.0),
-    )
+tick_spelled : (line : List ℕ) (s : Step) → tick_of line ≡ Some s → (line ≡ line_of s) × IsStep s
+unfolding tick_of
+tick_spelled line s e =
+    let rest = bound (behind (codes "tick ") line) _ s e in
+    let time = bound (number_below (2 ^ 62) rest.0) _ s rest.2 in
+    let number = number_spelled (2 ^ 62) rest.0 time.0 (omega arith) time.1 in
+    let same : tick time.0 ≡ s = cc in
+    subst (λ (x : Step). (line ≡ line_of x) × IsStep x) same
+    (behind_spelled (codes "tick ") line rest.0 rest.1 ∙ ap (λ ds. codes "tick " ++ ds) number.0, number.1)
 
-request_found : (r : Request) → r.worker ≤ 15 → is_target r.target ≡ true
-    → request_of (codes "get " ++ (decimal r.worker ++ 32 ∷ r.target)) ≡ Some r
-unfolding request_of
-request_found r small is =
-    let parts = cut_found 32 (decimal r.worker) r.target (lacking is_ascii_digit 32 refl (decimal r.worker) (decimal_digits r.worker (omega arith))) in
-    let worker = worker_found r.worker small in
-    rw (parts, worker, is) refl
+either : (a b : Option Step) (s : Step) → first_of a b ≡ Some s → (a ≡ Some s) ⊎ (b ≡ Some s)
+either None b s e = inr e
+either (Some t) b s e = inl e
+
+step_spelled : (line : List ℕ) (s : Step) → step_of line ≡ Some s → (line ≡ line_of s) × IsStep s
+unfolding step_of
+step_spelled line s e =
+    ⊎_elim (take_spelled line s)
+    (λ no_take. ⊎_elim (publish_spelled line s)
+    (λ no_publish. ⊎_elim (get_spelled line s) (tick_spelled line s) (either (get_of line) (tick_of line) s no_publish))
+    (either (publish_of line) (first_of (get_of line) (tick_of line)) s no_take))
+    (either (take_of line) (first_of (publish_of line) (first_of (get_of line) (tick_of line))) s e)
+
+-- what is spelled so is read
+
+aim_found : (worker : ℕ) (target : List ℕ) → worker < 16 → is_target target ≡ true
+    → aim_of (decimal worker ++ 32 ∷ target) ≡ Some (worker, target)
+unfolding aim_of
+aim_found worker target small is =
+    let parts = cut_found 32 (decimal worker) target (lacking is_ascii_digit 32 refl (decimal worker) (decimal_digits worker (omega arith))) in
+    let number = number_found 16 worker (omega arith) small in
+    rw (parts, number, is) refl
+
+step_found : (s : Step) → IsStep s → step_of (line_of s) ≡ Some s
+unfolding step_of take_of publish_of get_of tick_of
+step_found (take worker target) is = let aim = aim_found worker target is.0 is.1 in rw aim refl
+step_found (publish worker) is = let number = number_found 16 worker (omega arith) is in rw number refl
+step_found (get worker target) is = let aim = aim_found worker target is.0 is.1 in rw aim refl
+step_found (tick time) is = let number = number_found (2 ^ 62) time (omega arith) is in rw number refl
 
 -- no newline stands in a line
-lineless : (r : Request) → r.worker ≤ 15 → is_target r.target ≡ true → lacks 10 (codes "get " ++ (decimal r.worker ++ 32 ∷ r.target)) ≡ true
-lineless r small is =
-    let digits_have = lacking is_ascii_digit 10 refl (decimal r.worker) (decimal_digits r.worker (omega arith)) in
-    let target_has = lacking is_target_byte 10 refl r.target (and_parts _ (list_all is_target_byte r.target) is).1 in
-    rw (list_all-append (λ b. not (b == 10)) (decimal r.worker) (32 ∷ r.target), digits_have, target_has) refl
+
+digits_lack : (n : ℕ) → n < 2 ^ 64 → lacks 10 (decimal n) ≡ true
+digits_lack n small = lacking is_ascii_digit 10 refl (decimal n) (decimal_digits n small)
+
+aim_lacks : (worker : ℕ) (target : List ℕ) → worker < 16 → is_target target ≡ true → lacks 10 (decimal worker ++ 32 ∷ target) ≡ true
+aim_lacks worker target small is =
+    let digits_have = digits_lack worker (omega arith) in
+    let target_has = lacking is_target_byte 10 refl target (and_parts _ (list_all is_target_byte target) is).1 in
+    rw (list_all-append (λ b. not (b == 10)) (decimal worker) (32 ∷ target), digits_have, target_has) refl
+
+lineless : (s : Step) → IsStep s → lacks 10 (line_of s) ≡ true
+lineless (take worker target) is = aim_lacks worker target is.0 is.1
+lineless (publish worker) is = digits_lack worker (omega arith)
+lineless (get worker target) is = aim_lacks worker target is.0 is.1
+lineless (tick time) is = digits_lack time (omega arith)
 
 -- all lines
 
-line_ends : (r : Request) (rest : List ℕ) → line_of r ++ rest ≡ (codes "get " ++ (decimal r.worker ++ 32 ∷ r.target)) ++ 10 ∷ rest
-line_ends r rest =
-    rw (
-      append_assoc (decimal r.worker) (32 ∷ (r.target ++ 10 ∷ [])) rest,
-      append_assoc r.target (10 ∷ []) rest,
-      append_assoc (decimal r.worker) (32 ∷ r.target) (10 ∷ rest),
-    ) refl
+lines_read : (steps : List Step) → AreSteps steps → steps_of (lines_of steps) ≡ map Some steps
+lines_read [] are = steps_nil
+lines_read (s ∷ steps) are =
+    let cut = cut_found 10 (line_of s) (lines_of steps) (lineless s are.0) in
+    steps_cut (line_of s ++ 10 ∷ lines_of steps) (line_of s) (lines_of steps) cut
+    ∙ ap (λ o. o ∷ steps_of (lines_of steps)) (step_found s are.0) ∙ ap (λ os. Some s ∷ os) (lines_read steps are.1)
 
-pub lines_read : (rs : List Request) → AreRequests rs → requests (lines_of rs) ≡ map Some rs
-lines_read [] are = requests_nil
-lines_read (r ∷ rs) are =
-    let line = codes "get " ++ (decimal r.worker ++ 32 ∷ r.target) in
-    let cut = cut_found 10 line (lines_of rs) (lineless r are.0 are.1.0) in
-    ap requests (line_ends r (lines_of rs)) ∙ requests_cut (line ++ 10 ∷ lines_of rs) line (lines_of rs) cut
-    ∙ ap (λ x. x ∷ requests (lines_of rs)) (request_found r are.0 are.1.0) ∙ ap (λ xs. Some r ∷ xs) (lines_read rs are.1.1)
-
--- the requests of bytes that are not empty, by whether a newline stands in them
+-- the steps of bytes that are not empty, by whether a newline stands in them
 data Front : List ℕ → Type 0 where
-  uncut : (bytes : List ℕ) → requests bytes ≡ None ∷ [] → Front bytes
-  cut : (bytes line after : List ℕ) → bytes ≡ line ++ 10 ∷ after → requests bytes ≡ request_of line ∷ requests after → Front bytes
+  uncut : (bytes : List ℕ) → steps_of bytes ≡ None ∷ [] → Front bytes
+  cut : (bytes line after : List ℕ) → bytes ≡ line ++ 10 ∷ after → steps_of bytes ≡ step_of line ∷ steps_of after → Front bytes
 
 front_of : (bytes : List ℕ) → 0 < length bytes → Front bytes
 front_of bytes some = by_cut (cut_at 10 bytes) refl
   where
     by_cut : (o : Option (List ℕ × List ℕ)) → cut_at 10 bytes ≡ o → Front bytes
-    by_cut None e = uncut bytes (requests_uncut bytes e some)
+    by_cut None e = uncut bytes (steps_uncut bytes e some)
     by_cut (Some parts) e =
-        cut bytes parts.0 parts.1 (cut_spelled 10 bytes parts.0 parts.1 e) (requests_cut bytes parts.0 parts.1 e)
+        cut bytes parts.0 parts.1 (cut_spelled 10 bytes parts.0 parts.1 e) (steps_cut bytes parts.0 parts.1 e)
 
 heads : {A : Type 0} {x y : A} {xs ys : List A} → x ∷ xs ≡ y ∷ ys → (x ≡ y) × (xs ≡ ys)
 heads e = (cc, cc)
 
-lines_spelled : (rs : List Request) (bytes : List ℕ) → requests bytes ≡ map Some rs → (bytes ≡ lines_of rs) × AreRequests rs
+lines_spelled : (steps : List Step) (bytes : List ℕ) → steps_of bytes ≡ map Some steps → (bytes ≡ lines_of steps) × AreSteps steps
 lines_spelled [] [] e = (refl, tt)
 lines_spelled [] (b ∷ bs) e = by_front (front_of (b ∷ bs) (omega arith)) e
   where
-    by_front : {bytes : List ℕ} → Front bytes → requests bytes ≡ [] → (b ∷ bs ≡ []) × Unit {0}
+    by_front : {bytes : List ℕ} → Front bytes → steps_of bytes ≡ [] → (b ∷ bs ≡ []) × Unit {0}
     by_front (uncut bytes n) k = absurd (let h = sym n ∙ k in let no : ⊥ = cc in no)
     by_front (cut bytes line after w n) k = absurd (let h = sym n ∙ k in let no : ⊥ = cc in no)
-lines_spelled (r ∷ rs) [] e = absurd (let h = sym requests_nil ∙ e in let no : ⊥ = cc in no)
-lines_spelled (r ∷ rs) (b ∷ bs) e = by_front (front_of (b ∷ bs) (omega arith)) (lines_spelled rs) e
+lines_spelled (s ∷ steps) [] e = absurd (let h = sym steps_nil ∙ e in let no : ⊥ = cc in no)
+lines_spelled (s ∷ steps) (b ∷ bs) e = by_front (front_of (b ∷ bs) (omega arith)) (lines_spelled steps) e
   where
     by_front : {bytes : List ℕ} → Front bytes
-        → ((more : List ℕ) → requests more ≡ map Some rs → (more ≡ lines_of rs) × AreRequests rs)
-        → requests bytes ≡ Some r ∷ map Some rs → (bytes ≡ line_of r ++ lines_of rs) × ((r.worker ≤ 15) × ((is_target r.target ≡ true) × AreRequests rs))
+        → ((more : List ℕ) → steps_of more ≡ map Some steps → (more ≡ lines_of steps) × AreSteps steps)
+        → steps_of bytes ≡ Some s ∷ map Some steps → (bytes ≡ line_of s ++ 10 ∷ lines_of steps) × (IsStep s × AreSteps steps)
     by_front (uncut bytes n) go k = absurd (let h = heads (sym n ∙ k) in let f = h.0 in let no : ⊥ = cc in no)
     by_front (cut bytes line after w n) go k =
         let h = heads (sym n ∙ k) in
-        let one = request_spelled line r h.0 in
-        let later = go after h.1 in (
-          w ∙ ap (λ xs. xs ++ 10 ∷ after) one.0 ∙ ap (λ xs. (codes "get " ++ (decimal r.worker ++ 32 ∷ r.target)) ++ 10 ∷ xs) later.0
-              ∙ sym (line_ends r (lines_of rs)),
-          (one.1.0, (one.1.1, later.1)),
-        )
+        let one = step_spelled line s h.0 in
+        let later = go after h.1 in
+        (w ∙ ap (λ xs. xs ++ 10 ∷ after) one.0 ∙ ap (λ xs. line_of s ++ 10 ∷ xs) later.0, (one.1, later.1))
 
-pub lines_are_requests : LinesAreRequests
-lines_are_requests rs = (lines_read rs, lines_spelled rs)
+pub lines_are_steps : LinesAreSteps
+lines_are_steps steps = (lines_read steps, lines_spelled steps)

@@ -1,8 +1,8 @@
+pub mod Rules
 pub mod Step
-pub mod Got
-pub mod Visit
+pub mod Texts
 pub mod Transcript
+pub mod Views
 pub mod Played
-pub mod Play
 pub mod Laws
 pub mod Vectors

@@ -1,15 +1,86 @@
--- What the program's player stands for.
-use Rattle.std.specs.Prelude.{◌≡◌, ℕ, List}
-use Rattle.core_syntax.specs.Setup.{Named}
-use Rattle.replay_spec.specs.Step.{Reply}
-use Rattle.instance_book.specs.Code.{book_of}
-use Rattle.play_steps.specs.declared.player.Player.{Player}
-use Rattle.play_steps.specs.Visit.{Table, Fates, visit}
+-- What a run of steps leaves behind.
+use Rattle.std.specs.Prelude.{[], ◌≡◌, ◌<◌, ℕ, length, List, ◌∷◌, ◌++◌, Option, Some, true, false, IfSome, IfOk, IsOkAnd, Result, Vec}
+use Rattle.std.specs.declared.alloc.Global.{Global}
+use Rattle.std.specs.Io.KnownBytes.{Appends}
+use Rattle.web_outside.specs.Pieces.{AppendsPart, IsCutShort}
+use Rattle.play_steps.specs.Rules.{StageRules}
+use Rattle.play_steps.specs.Step.{Step, step_of}
+use Rattle.play_steps.specs.Transcript.{End, done, bad_line, went, fits, performed, transcript}
+use Rattle.play_steps.specs.declared.run.PlayEnd.{PlayEnd}
+use Rattle.play_steps.specs.declared.run.PlayEnd.TheVariants.{Done, Line, Write, Memory}
+use Rattle.play_steps.specs.declared.run.Turn.{Turn}
+use Rattle.play_steps.specs.declared.run.Turn.TheVariants.{Went, NoStep, Write as TurnWrite, Memory as TurnMemory}
 
-abbrev pub table_of : Player → Table
-table_of p = record { book = book_of p.book; nonce = p.nonce }
+-- what a sink was given, where it tells it, and a stage's state
+pub record Scene (r : StageRules) : Type 0 where
+  pub written : Option (List ℕ)
+  pub state : r.State
 
--- the reply and the table after it are those of a visit of this target, for some fates
-pub record IsVisit (setup : List Named) (t : Table) (target : List ℕ) (reply : Reply) (next : Table) : Type 0 where
-  pub fates : Fates
-  pub visit_is : visit setup t target fates ≡ (reply, next)
+abbrev pub scene : (r : StageRules) → Option (List ℕ) → r.State → Scene r
+scene r written s = record { written = written; state = s }
+
+-- a step gives this text and this state, for some fates of its events: for these and no more, whatever fates stand behind them
+pub record Came (r : StageRules) (s : r.State) (step : Step) (text : List ℕ) (t : r.State) : Type 0 where
+  pub fates : List r.Fate
+  pub is : (later : List r.Fate) → performed r step s (fates ++ later) ≡ went r text t later
+
+-- a text has grown by these bytes, where there was memory for it before and still is
+abbrev pub Lengthens : {E : Type 0} → Result (Vec ℕ Global) E → List ℕ → Result (Vec ℕ Global) E → Type 0
+Lengthens text more longer = IfOk longer (λ whole. IsOkAnd text (λ front. whole.items ≡ front.items ++ more))
+
+-- a step was performed so, and this is its text, or there was no memory for it
+pub record Performs {E : Type 0} (r : StageRules) (step : Step) (told : Result (Vec ℕ Global) E) (s t : r.State) : Type 0 where
+  pub text : List ℕ
+  pub came : Came r s step text t
+  pub is : IfOk told (λ items. items.items ≡ text)
+
+-- for some fates, all of which are used, the sink grew by the transcript of the steps, which ends so and leaves this state
+pub record Plays (r : StageRules) (steps : List (Option Step)) (end : End) (before after : Scene r) : Type 0 where
+  pub fates : List r.Fate
+  pub text : List ℕ
+  pub is : transcript r before.state 1 steps fates ≡ record { text = text; end = end; state = after.state; fates = [] }
+  pub written : Appends before.written after.written text
+
+-- For some fates the run came to a step that fits, performed it and halted there. The sink grew by the whole transcript of the
+-- steps before it and by this front of its own text, and so by a front of the transcript of all.
+pub record Halts (r : StageRules) (steps : List (Option Step)) (shown : List ℕ) (before after : Scene r) : Type 0 where
+  pub front : List (Option Step)
+  pub step : Step
+  pub rest : List (Option Step)
+  pub cut : steps ≡ front ++ Some step ∷ rest
+  pub fates : List r.Fate
+  pub text : List ℕ
+  pub middle : r.State
+  pub is : transcript r before.state 1 front fates ≡ went r text middle []
+  pub fitting : fits r step middle ≡ true
+  pub hidden : List ℕ
+  pub came : Came r middle step (shown ++ hidden) after.state
+  pub written : Appends before.written after.written (text ++ shown)
+  pub part : AppendsPart before.written after.written (transcript r before.state 1 steps (fates ++ came.fates)).text
+  pub later : List ℕ
+  pub all : (transcript r before.state 1 steps (fates ++ came.fates)).text ≡ (text ++ shown) ++ (hidden ++ later)
+
+-- what a run of steps leaves, by its end; where a text could not be written, some of it is missing
+abbrev pub Leaves : (r : StageRules) → List (Option Step) → PlayEnd → Scene r → Scene r → Type 0
+Leaves r steps Done before after = Plays r steps done before after
+Leaves r steps (Line number) before after = Plays r steps (bad_line number) before after
+Leaves r steps Write before after = (shown : List ℕ) × (h : Halts r steps shown before after) × (0 < length h.hidden)
+Leaves r steps Memory before after = Halts r steps [] before after
+
+-- the line is a step that fits, and is performed so
+pub record Goes (r : StageRules) (line text : List ℕ) (s t : r.State) : Type 0 where
+  pub step : Step
+  pub spelled : step_of line ≡ Some step
+  pub fitting : fits r step s ≡ true
+  pub came : Came r s step text t
+
+-- what one line leaves, by what it came to
+abbrev pub Turns : (r : StageRules) → List ℕ → Turn → Scene r → Scene r → Type 0
+Turns r line Went before after =
+    (text : List ℕ) × Goes r line text before.state after.state × Appends before.written after.written text
+Turns r line NoStep before after =
+    IfSome (step_of line) (λ step. fits r step before.state ≡ false) × (after ≡ before)
+Turns r line TurnWrite before after =
+    (text : List ℕ) × Goes r line text before.state after.state × IsCutShort before.written after.written text
+Turns r line TurnMemory before after =
+    (text : List ℕ) × Goes r line text before.state after.state × (after.written ≡ before.written)

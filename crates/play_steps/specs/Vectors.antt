@@ -1,219 +1,234 @@
--- Steps over a script that asks for two numbers and shows their sum, and what is written for them, computed.
-use Rattle.std.specs.Prelude.{◌≡◌, ℕ, pos, ◌++◌, List, [], ◌∷◌, Some, None, codes, refl}
+-- Lines and the steps that they are, the texts of replies, and runs over a small stage, computed.
+use Rattle.std.specs.Prelude.{◌≡◌, ℕ, ◌+◌, ◌==◌, Bool, true, false, List, [], ◌∷◌, ◌++◌, map, Some, None, Result, Ok, Err, codes, refl, if◌then◌else◌}
 use Rattle.std.specs.Fmt.{digits}
-use Rattle.std.specs.Str.{is_utf8, chars}
-use Rattle.std.specs.Str.Lossy.{utf8_lossy, utf8_valid_len, utf8_error_len}
-use Rattle.std.proofs.Math.Utf8.{encode}
-use Rattle.form_urlencoded.specs.Form.{raw_pairs, split}
-use Rattle.percent_encoding.specs.Percent.{percent_decode}
-use Rattle.script_value.specs.Val.{Val, number, symbol, text, list, vals_of}
-use Rattle.page_names.specs.Names.{destination_of, named_by}
-use Rattle.page_names.specs.Pieces.{hex16}
-use Rattle.core_syntax.specs.Core.{Core, lit}
-use Rattle.core_syntax.specs.Vectors.{sum_core}
-use Rattle.core_syntax.specs.Setup.{Named}
-use Rattle.replay_spec.specs.Step.{plain, no_memory, step}
-use Rattle.play_steps.specs.Step.{request_of, requests}
-use Rattle.play_steps.specs.Visit.{answer_to}
-use Rattle.play_steps.specs.Transcript.{transcript, play_of, done, bad_line}
-
--- `'(p "12345")`
-abbrev ten : Core
-ten = lit (list (vals_of (symbol (codes "p") ∷ text (codes "12345") ∷ [])))
-
-abbrev setup : List Named
-setup =
-    record { name = codes "sum"; text = []; core = sum_core }
-    ∷ record { name = codes "ten"; text = []; core = ten }
-    ∷ record { name = codes "five"; text = []; core = lit (number (pos 5)) } ∷ []
+use Rattle.script_value.specs.declared.outcome.Fault.TheVariants as faults
+use Rattle.script_value.specs.declared.outcome.Refusal.TheVariants as refusals
+use Rattle.script_value.specs.declared.outcome.Reply.{Reply}
+use Rattle.script_value.specs.declared.outcome.Reply.TheVariants as replies
+use Rattle.play_steps.specs.Rules.{StageRules}
+use Rattle.play_steps.specs.Step.{take, publish, get, tick, aim_of, take_of, publish_of, get_of, tick_of, step_of, steps_of, lines_of}
+use Rattle.play_steps.specs.Texts.{reply_text, take_text, sweep_text}
+use Rattle.play_steps.specs.Transcript.{Run, done, bad_line, transcript}
 
 -- lines, each ended by a newline
 abbrev pub lines : List (List ℕ) → List ℕ
 lines [] = []
 lines (l ∷ ls) = l ++ 10 ∷ lines ls
 
--- a start of the script that asks for two numbers shows the page of its first question
-abbrev start_steps : List ℕ
-start_steps = lines (codes "get 0 /servlets/sum" ∷ [])
+-- one line of each kind
+pub each_kind :
+    map step_of (codes "take 0 /a" ∷ codes "publish 15" ∷ codes "get 9 !~" ∷ codes "tick 60" ∷ [])
+    ≡ Some (take 0 (codes "/a")) ∷ Some (publish 15) ∷ Some (get 9 (codes "!~")) ∷ Some (tick 60) ∷ []
+unfolding step_of take_of publish_of get_of tick_of aim_of
+each_kind = refl
 
-abbrev start_replies : List ℕ
-start_replies = lines (codes "0 200 52" ∷ codes "<a href=\"/servlets/sum;0*0*0*0000000000000000\">1</a>" ∷ [])
+-- there is no worker 16, and a number has no leading zero and no sign
+pub no_workers :
+    map step_of (codes "take 16 /" ∷ codes "take 05 /" ∷ codes "publish 16" ∷ codes "publish 00" ∷ codes "get 016 /" ∷ codes "get +1 /"
+    ∷ codes "publish -1" ∷ codes "publish" ∷ codes "publish " ∷ codes "take  /" ∷ [])
+    ≡ None ∷ None ∷ None ∷ None ∷ None ∷ None ∷ None ∷ None ∷ None ∷ None ∷ []
+unfolding step_of take_of publish_of get_of tick_of aim_of
+no_workers = refl
 
-pub a_start : play_of setup start_steps [] ≡ (start_replies, done)
-unfolding transcript requests request_of destination_of named_by percent_decode raw_pairs split step digits hex16
-a_start = refl
+-- a target has a byte or more, each from `!` to `~`; spaces are single, and none ends a line
+pub no_targets :
+    map step_of (codes "take 0" ∷ codes "take 0 " ∷ codes "get 0 " ∷ codes "take 0  /" ∷ codes "take  0 /" ∷ codes "get 0 /a /b" ∷ codes "get 0 /a "
+    ∷ codes " get 0 /a" ∷ (codes "get 0 /" ++ 127 ∷ []) ∷ (codes "get 0 /" ++ 9 ∷ []) ∷ (codes "take 0 /" ++ 13 ∷ []) ∷ [])
+    ≡ None ∷ None ∷ None ∷ None ∷ None ∷ None ∷ None ∷ None ∷ None ∷ None ∷ None ∷ []
+unfolding step_of take_of publish_of get_of tick_of aim_of
+no_targets = refl
 
--- an answer, and another to the page that came for it: the sum is the last page
-abbrev sum_steps : List ℕ
-sum_steps =
-    start_steps
-    ++ lines (codes "get 0 /servlets/sum;0*0*0*0000000000000000?n=3" ∷ codes "get 0 /servlets/sum;0*0*1*0000000000000001?n=4" ∷ [])
+-- the first time and the last
+pub times :
+    map step_of (codes "tick 0" ∷ codes "tick 4611686018427387903" ∷ [])
+    ≡ Some (tick 0) ∷ Some (tick 4611686018427387903) ∷ []
+unfolding step_of take_of publish_of get_of tick_of aim_of
+times = refl
 
-abbrev sum_replies : List ℕ
-sum_replies =
-    start_replies
-    ++ lines (codes "0 200 52" ∷ codes "<a href=\"/servlets/sum;0*0*1*0000000000000001\">2</a>" ∷ codes "0 200 8" ∷ codes "<p>7</p>" ∷ [])
+-- 2^62 is no time, nor what is beyond 2^64, and a time has no leading zero
+pub no_times :
+    map step_of (codes "tick 4611686018427387904" ∷ codes "tick 18446744073709551616" ∷ codes "tick 00" ∷ codes "tick 07" ∷ codes "tick"
+    ∷ codes "tick " ∷ codes "tick 1 " ∷ codes "tick 0x1" ∷ codes "tick 1 2" ∷ [])
+    ≡ None ∷ None ∷ None ∷ None ∷ None ∷ None ∷ None ∷ None ∷ None ∷ []
+unfolding step_of take_of publish_of get_of tick_of aim_of
+no_times = refl
 
-pub a_sum : play_of setup sum_steps [] ≡ (sum_replies, done)
-unfolding transcript requests request_of destination_of named_by percent_decode raw_pairs split utf8_lossy utf8_valid_len is_utf8 chars encode step digits hex16
-a_sum = refl
-
--- the back button: the first page is answered anew, and the page that comes for it has the new answer behind it
-abbrev back_steps : List ℕ
-back_steps =
-    sum_steps
-    ++ lines (codes "get 0 /servlets/sum;0*0*0*0000000000000000?n=10" ∷ codes "get 0 /servlets/sum;0*0*3*0000000000000003?n=4" ∷ [])
-
-abbrev back_replies : List ℕ
-back_replies =
-    sum_replies
-    ++ lines (codes "0 200 52" ∷ codes "<a href=\"/servlets/sum;0*0*3*0000000000000003\">2</a>" ∷ codes "0 200 9" ∷ codes "<p>14</p>" ∷ [])
-
-pub the_back_button : play_of setup back_steps [] ≡ (back_replies, done)
-unfolding transcript requests request_of destination_of named_by percent_decode raw_pairs split utf8_lossy utf8_valid_len is_utf8 chars encode step digits hex16
-the_back_button = refl
-
--- the older page, answered then, still has the older answer behind it
-abbrev older_steps : List ℕ
-older_steps = back_steps ++ lines (codes "get 0 /servlets/sum;0*0*1*0000000000000001?n=1" ∷ [])
-
-abbrev older_replies : List ℕ
-older_replies = back_replies ++ lines (codes "0 200 8" ∷ codes "<p>4</p>" ∷ [])
-
-pub the_older_page : play_of setup older_steps [] ≡ (older_replies, done)
-unfolding transcript requests request_of destination_of named_by percent_decode raw_pairs split utf8_lossy utf8_valid_len is_utf8 chars encode step digits hex16
-the_older_page = refl
-
--- one answer twice gives two pages
-pub a_repeated_answer :
-    play_of setup
-    (older_steps ++ lines (codes "get 0 /servlets/sum;0*0*0*0000000000000000?n=3" ∷ codes "get 0 /servlets/sum;0*0*0*0000000000000000?n=3" ∷ []))
-    []
-    ≡ (
-      older_replies
-          ++ lines (codes "0 200 52" ∷ codes "<a href=\"/servlets/sum;0*0*6*0000000000000006\">2</a>"
-          ∷ codes "0 200 52" ∷ codes "<a href=\"/servlets/sum;0*0*7*0000000000000007\">2</a>" ∷ []),
-      done,
-    )
-unfolding transcript requests request_of destination_of named_by percent_decode raw_pairs split utf8_lossy utf8_valid_len is_utf8 chars encode step digits hex16
-a_repeated_answer = refl
-
--- a page's number with a leading zero, another nonce, another shelf, instance or page, another script's name,
--- a name that no script has, and a path that names nothing; none of them draws a number
-pub unknown_targets :
-    play_of setup
-    (start_steps
-    ++ lines (codes "get 0 /servlets/sum;0*0*00*0000000000000000?n=3" ∷ codes "get 1 /servlets/sum;0*0*0*0000000000000001?n=3"
-    ∷ codes "get 2 /servlets/sum;1*0*0*0000000000000000?n=3" ∷ codes "get 3 /servlets/sum;0*1*0*0000000000000000?n=3"
-    ∷ codes "get 4 /servlets/sum;0*0*1*0000000000000000?n=3" ∷ codes "get 5 /servlets/ten;0*0*0*0000000000000000?n=3"
-    ∷ codes "get 6 /servlets/none" ∷ codes "get 7 ?" ∷ codes "get 15 /servlets/sum" ∷ []))
-    []
-    ≡ (
-      start_replies
-          ++ lines (codes "0 404 unknown" ∷ codes "1 404 unknown" ∷ codes "2 404 unknown" ∷ codes "3 404 unknown" ∷ codes "4 404 unknown"
-          ∷ codes "5 404 unknown" ∷ codes "6 404 unknown" ∷ codes "7 404 unknown"
-          ∷ codes "15 200 52" ∷ codes "<a href=\"/servlets/sum;0*1*1*0000000000000001\">1</a>" ∷ []),
-      done,
-    )
-unfolding transcript requests request_of destination_of named_by percent_decode raw_pairs split utf8_lossy utf8_valid_len is_utf8 chars encode step digits hex16
-unknown_targets = refl
-
--- `%2A` is `*`
-pub an_escaped_target :
-    play_of setup (start_steps ++ lines (codes "get 0 /servlets/sum;0%2A0%2A0%2A0000000000000000?n=3" ∷ [])) []
-    ≡ (start_replies ++ lines (codes "0 200 52" ∷ codes "<a href=\"/servlets/sum;0*0*1*0000000000000001\">2</a>" ∷ []), done)
-unfolding transcript requests request_of destination_of named_by percent_decode raw_pairs split utf8_lossy utf8_valid_len is_utf8 chars encode step digits hex16
-an_escaped_target = refl
-
--- a start that shows its last page at once makes no instance, and one whose last value is no page is told so
-pub no_question :
-    play_of setup (lines (codes "get 0 /servlets/ten" ∷ codes "get 0 /servlets/five" ∷ codes "get 0 /servlets/ten;0*0*0*0000000000000000" ∷ [])) []
-    ≡ (lines (codes "0 200 12" ∷ codes "<p>12345</p>" ∷ codes "0 500 page" ∷ codes "0 404 unknown" ∷ []), done)
-unfolding transcript requests request_of destination_of named_by percent_decode raw_pairs split step digits hex16
-no_question = refl
-
--- no answer of this key; no number; a sum out of range: each is told, and each page can be answered still
-pub faults :
-    play_of setup
-    (start_steps
-    ++ lines (codes "get 0 /servlets/sum;0*0*0*0000000000000000?m=3"
-    ∷ codes "get 0 /servlets/sum;0*0*0*0000000000000000?n=9223372036854775807"
-    ∷ codes "get 0 /servlets/sum;0*0*2*0000000000000002?n=x" ∷ codes "get 0 /servlets/sum;0*0*2*0000000000000002?n=1"
-    ∷ codes "get 0 /servlets/sum;0*0*2*0000000000000002?n=-7" ∷ []))
-    []
-    ≡ (
-      start_replies
-          ++ lines (codes "0 500 binding" ∷ codes "0 200 52" ∷ codes "<a href=\"/servlets/sum;0*0*2*0000000000000002\">2</a>"
-          ∷ codes "0 500 type" ∷ codes "0 500 overflow" ∷ codes "0 200 26" ∷ codes "<p>9223372036854775800</p>" ∷ []),
-      done,
-    )
-unfolding transcript requests request_of destination_of named_by percent_decode raw_pairs split utf8_lossy utf8_valid_len is_utf8 chars encode step digits hex16
-faults = refl
-
--- with no memory at its take a visit draws nothing: the next has number 0 and nonce 0
-pub no_memory_at_the_take :
-    play_of setup (start_steps ++ start_steps) (record { take = no_memory; publish = plain } ∷ [])
-    ≡ (lines (codes "0 503 memory" ∷ []) ++ start_replies, done)
-unfolding transcript requests request_of destination_of named_by percent_decode raw_pairs split step digits hex16
-no_memory_at_the_take = refl
-
--- with none at its publish the number and the nonce are spent
-pub no_memory_at_the_publish :
-    play_of setup (start_steps ++ start_steps) (record { take = plain; publish = no_memory } ∷ [])
-    ≡ (lines (codes "0 503 memory" ∷ codes "0 200 52" ∷ codes "<a href=\"/servlets/sum;0*1*1*0000000000000001\">1</a>" ∷ []), done)
-unfolding transcript requests request_of destination_of named_by percent_decode raw_pairs split step digits hex16
-no_memory_at_the_publish = refl
-
--- a line that is no step ends the run: the replies before it stand, and nothing after it is played
-pub a_bad_line : play_of setup (start_steps ++ lines (codes "get 16 /servlets/sum" ∷ codes "get 0 /servlets/sum" ∷ [])) [] ≡ (start_replies, bad_line 2)
-unfolding transcript requests request_of destination_of named_by percent_decode raw_pairs split step digits hex16
-a_bad_line = refl
-
--- nor is a last line a step that no newline ends
-pub an_open_line : play_of setup (start_steps ++ codes "get 0 /servlets/sum") [] ≡ (start_replies, bad_line 2)
-unfolding transcript requests request_of destination_of named_by percent_decode raw_pairs split step digits hex16
-an_open_line = refl
-
-pub no_steps : play_of setup [] [] ≡ ([], done)
-unfolding transcript requests
+-- other words
+pub no_steps :
+    map step_of ([] ∷ codes "GET 0 /" ∷ codes "put 0 /" ∷ codes "crash 0" ∷ codes "gets 0 /" ∷ codes "publish0" ∷ [])
+    ≡ None ∷ None ∷ None ∷ None ∷ None ∷ None ∷ []
+unfolding step_of take_of publish_of get_of tick_of aim_of
 no_steps = refl
 
-pub last_worker : request_of (codes "get 15 /") ≡ Some (record { worker = 15; target = codes "/" })
-unfolding request_of
-last_worker = refl
+-- the lines of steps
+pub spelled :
+    lines_of (take 3 (codes "/a") ∷ publish 3 ∷ get 10 (codes "/b?c") ∷ tick 4611686018427387903 ∷ [])
+    ≡ lines (codes "take 3 /a" ∷ codes "publish 3" ∷ codes "get 10 /b?c" ∷ codes "tick 4611686018427387903" ∷ [])
+unfolding digits
+spelled = refl
 
-pub leading_zero : request_of (codes "get 00 /") ≡ None
-unfolding request_of
-leading_zero = refl
+-- a last line that no newline ends is no step, nor is an empty line
+pub an_open_line :
+    steps_of (codes "publish 1\n\npublish 2\npublish 3") ≡ Some (publish 1) ∷ None ∷ Some (publish 2) ∷ None ∷ []
+unfolding steps_of step_of take_of publish_of get_of tick_of aim_of
+an_open_line = refl
 
-pub no_target : request_of (codes "get 0 ") ≡ None
-unfolding request_of
-no_target = refl
+pub no_lines : steps_of [] ≡ []
+unfolding steps_of
+no_lines = refl
 
--- a space is no byte of a target
-pub two_targets : request_of (codes "get 0 /a /b") ≡ None
-unfolding request_of
-two_targets = refl
+-- replies with a page: its length counts its bytes, whichever they are
+pub pages :
+    map (reply_text 15) (replies.Page (codes "<p>\n</p>") (codes "/u") ∷ replies.Finished (codes "<p>1</p>") ∷ replies.Ended [] ∷ [])
+    ≡ codes "15 200 8\n<p>\n</p>\n" ∷ codes "15 200 8\n<p>1</p>\n" ∷ codes "15 200 0\n\n" ∷ []
+unfolding reply_text digits
+pages = refl
 
-pub other_verb : request_of (codes "GET 0 /") ≡ None
-unfolding request_of
-other_verb = refl
+-- a target that is not admitted
+pub refused :
+    map (λ r. reply_text 0 (replies.Refused r))
+    (refusals.Unknown ∷ refusals.Revoked ∷ refusals.Closed (record { ticket = 7; entry = 1 }) ∷ refusals.Expired 60 ∷ [])
+    ≡ codes "0 404 unknown\n" ∷ codes "0 410 revoked\n" ∷ codes "0 410 closed\n" ∷ codes "0 410 expired\n" ∷ []
+unfolding reply_text digits
+refused = refl
 
-pub empty_line : request_of [] ≡ None
-unfolding request_of
-empty_line = refl
+-- a script that stopped by itself
+pub faulted :
+    map (λ f. reply_text 1 (replies.Fault f))
+    (faults.WrongType ∷ faults.Overflow ∷ faults.Zero ∷ faults.Bounds ∷ faults.Deep ∷ faults.Binding ∷ faults.NotPage ∷ [])
+    ≡ codes "1 500 type\n" ∷ codes "1 500 overflow\n" ∷ codes "1 500 zero\n" ∷ codes "1 500 bounds\n" ∷ codes "1 500 deep\n"
+    ∷ codes "1 500 binding\n" ∷ codes "1 500 page\n" ∷ []
+unfolding reply_text digits
+faulted = refl
 
--- a binding: a symbol and a text
-abbrev binding : List ℕ → List ℕ → Val
-binding key words = list (vals_of (symbol key ∷ text words ∷ []))
+-- what the shelf has no room or no strength for
+pub not_served :
+    map (reply_text 2)
+    (replies.Fuel 9 ∷ replies.ShelfFull 1 ∷ replies.InstanceFull 1 ∷ replies.Oversize 1048577 ∷ replies.JournalFull 9 ∷ replies.DiskFault 1
+    ∷ replies.Down 1 ∷ replies.Worn ∷ replies.Memory ∷ [])
+    ≡ codes "2 503 fuel\n" ∷ codes "2 503 shelf-full\n" ∷ codes "2 503 instance-full\n" ∷ codes "2 500 oversize\n" ∷ codes "2 503 journal-full\n"
+    ∷ codes "2 503 disk\n" ∷ codes "2 503 down\n" ∷ codes "2 503 worn\n" ∷ codes "2 503 memory\n" ∷ []
+unfolding reply_text digits
+not_served = refl
 
--- an answer has its query's pairs in their order, decoded; an empty piece is none
-pub the_pairs : answer_to (codes "n=a+b&&m=%26&n=&k")
-    ≡ list (vals_of (binding (codes "n") (codes "a b") ∷ binding (codes "m") (codes "&") ∷ binding (codes "n") [] ∷ binding (codes "k") [] ∷ []))
-unfolding percent_decode raw_pairs split utf8_lossy utf8_valid_len is_utf8 chars encode
-the_pairs = refl
+-- a number that was taken, a shelf that was swept, and the replies in their places
+pub other_texts :
+    (take_text 4 (Ok 120) ∷ take_text 4 (Err replies.Worn) ∷ sweep_text 10 (Ok 0) ∷ sweep_text 10 (Err (replies.Down 3)) ∷ [])
+    ≡ codes "4 taken 120\n" ∷ codes "4 503 worn\n" ∷ codes "shelf 10 swept 0\n" ∷ codes "shelf 10 503 down\n" ∷ []
+unfolding take_text sweep_text reply_text digits
+other_texts = refl
 
--- what is no UTF-8 is read as U+FFFD
-pub no_utf8 : answer_to (codes "n=%FFx") ≡ list (vals_of (binding (codes "n") (239 ∷ 191 ∷ 189 ∷ 120 ∷ []) ∷ []))
-unfolding percent_decode raw_pairs split utf8_lossy utf8_valid_len utf8_error_len is_utf8 chars encode
-no_utf8 = refl
+-- A small stage of two shelves: the number that is drawn next, and the workers that hold a ticket.
+pub record Desk : Type 0 where
+  pub next : ℕ
+  pub holders : List ℕ
+
+abbrev is_among : ℕ → List ℕ → Bool
+is_among w [] = false
+is_among w (x ∷ xs) = if x == w then true else is_among w xs
+
+abbrev without : ℕ → List ℕ → List ℕ
+without w [] = []
+without w (x ∷ xs) = if x == w then xs else x ∷ without w xs
+
+-- what the outside decides of its events
+pub data Luck : Type 0 where
+  good : Luck
+  bad : Luck
+
+abbrev desk_take : Desk → ℕ → List ℕ → Luck → Result ℕ Reply × Desk
+desk_take d w target good = (Ok d.next, record { next = d.next + 1; holders = w ∷ d.holders })
+desk_take d w target bad = (Err replies.Worn, d)
+
+abbrev desk_publish : Desk → ℕ → Luck → Reply × Desk
+desk_publish d w good = (replies.Ended (codes "hi"), record { next = d.next; holders = without w d.holders })
+desk_publish d w bad = (replies.Memory, record { next = d.next; holders = without w d.holders })
+
+-- a sweep counts as a number that was drawn
+abbrev desk_sweep : Desk → ℕ → ℕ → Luck → Result ℕ Reply × Desk
+desk_sweep d shelf time good = (Ok time, record { next = d.next + 1; holders = d.holders })
+desk_sweep d shelf time bad = (Err (replies.Down 1), d)
+
+abbrev desk : StageRules
+desk = record {
+  State = Desk;
+  Fate = Luck;
+  plain = good;
+  shelves = λ d. 2;
+  holds = λ d w. is_among w d.holders;
+  take = desk_take;
+  publish = desk_publish;
+  sweep = desk_sweep;
+}
+
+abbrev at : ℕ → List ℕ → Desk
+at next holders = record { next = next; holders = holders }
+
+abbrev of_lines : List (List ℕ) → List Luck → Run desk
+of_lines ls fates = transcript desk (at 0 []) 1 (steps_of (lines ls)) fates
+
+-- two workers take and publish in another order, and one of them never does
+pub two_workers :
+    of_lines (codes "take 0 /a" ∷ codes "take 1 /a" ∷ codes "take 2 /b" ∷ codes "publish 1" ∷ codes "publish 0" ∷ []) []
+    ≡ record {
+      text = lines (codes "0 taken 0" ∷ codes "1 taken 1" ∷ codes "2 taken 2" ∷ codes "1 200 2" ∷ codes "hi" ∷ codes "0 200 2" ∷ codes "hi" ∷ []);
+      end = done;
+      state = at 3 (2 ∷ []);
+      fates = [];
+    }
+unfolding transcript steps_of step_of take_of publish_of get_of tick_of aim_of take_text reply_text digits
+two_workers = refl
+
+-- Fates are one an event: of a get whose take is refused one is used, and of another two. What is left is left.
+pub fates_of_gets :
+    of_lines (codes "get 0 /a" ∷ codes "get 0 /a" ∷ codes "get 0 /a" ∷ []) (bad ∷ good ∷ bad ∷ good ∷ good ∷ bad ∷ [])
+    ≡ record {
+      text = lines (codes "0 503 worn" ∷ codes "0 503 memory" ∷ codes "0 200 2" ∷ codes "hi" ∷ []);
+      end = done;
+      state = at 2 [];
+      fates = bad ∷ [];
+    }
+unfolding transcript steps_of step_of take_of publish_of get_of tick_of aim_of take_text reply_text digits
+fates_of_gets = refl
+
+-- a tick sweeps the shelves in their order, also behind one that is not swept; a fate that is not listed is plain
+pub a_tick :
+    of_lines (codes "tick 7" ∷ codes "tick 8" ∷ []) (bad ∷ good ∷ good ∷ [])
+    ≡ record {
+      text = lines (codes "shelf 0 503 down" ∷ codes "shelf 1 swept 7" ∷ codes "shelf 0 swept 8" ∷ codes "shelf 1 swept 8" ∷ []);
+      end = done;
+      state = at 3 [];
+      fates = [];
+    }
+unfolding transcript steps_of step_of take_of publish_of get_of tick_of aim_of sweep_text reply_text digits
+a_tick = refl
+
+-- a publish needs a ticket, and a take or a get needs that the worker holds none; a refused take gives none
+pub not_fitting :
+    map (λ ls. of_lines ls (bad ∷ []))
+    ((codes "publish 0" ∷ []) ∷ (codes "take 0 /a" ∷ codes "publish 0" ∷ []) ∷ (codes "get 0 /a" ∷ codes "take 1 /" ∷ codes "publish 0" ∷ [])
+    ∷ (codes "take 1 /" ∷ codes "take 1 /" ∷ codes "tick 0" ∷ codes "take 1 /" ∷ []) ∷ (codes "tick 0" ∷ codes "take 1 /" ∷ codes "get 1 /" ∷ []) ∷ [])
+    ≡ record { text = []; end = bad_line 1; state = at 0 []; fates = bad ∷ [] }
+    ∷ record { text = codes "0 503 worn\n"; end = bad_line 2; state = at 0 []; fates = [] }
+    ∷ record { text = lines (codes "0 503 worn" ∷ codes "1 taken 0" ∷ []); end = bad_line 3; state = at 1 (1 ∷ []); fates = [] }
+    ∷ record {
+      text = lines (codes "1 503 worn" ∷ codes "1 taken 0" ∷ codes "shelf 0 swept 0" ∷ codes "shelf 1 swept 0" ∷ []);
+      end = bad_line 4;
+      state = at 3 (1 ∷ []);
+      fates = [];
+    }
+    ∷ record {
+      text = lines (codes "shelf 0 503 down" ∷ codes "shelf 1 swept 0" ∷ codes "1 taken 1" ∷ []);
+      end = bad_line 3;
+      state = at 2 (1 ∷ []);
+      fates = [];
+    } ∷ []
+unfolding transcript steps_of step_of take_of publish_of get_of tick_of aim_of take_text sweep_text reply_text digits
+not_fitting = refl
+
+-- a line that is no step ends the run: the replies before it stand, and nothing behind it is played
+pub a_bad_line :
+    of_lines (codes "get 0 /a" ∷ codes "get 16 /a" ∷ codes "get 0 /a" ∷ []) (good ∷ good ∷ bad ∷ [])
+    ≡ record { text = lines (codes "0 200 2" ∷ codes "hi" ∷ []); end = bad_line 2; state = at 1 []; fates = bad ∷ [] }
+unfolding transcript steps_of step_of take_of publish_of get_of tick_of aim_of take_text reply_text digits
+a_bad_line = refl

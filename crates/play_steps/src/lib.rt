@@ -1,27 +1,24 @@
-//! The steps of a run, one a line: each is a visit, and each visit is answered by a line or a page.
+//! The steps of a run, one a line, over whatever stage performs them.
 #![tactic(auto)]
 
-ghost use Rattle.play_steps.specs.Laws.{RepliesGoOn, VisitsAreLawful, LinesAreRequests};
+ghost use Rattle.play_steps.specs.Laws.{RepliesGoOn, LinesAreSteps};
 
-mod answer;
-mod player;
+mod perform;
 mod reply;
 mod run;
+mod stage;
 mod step;
 
 pub use run::{PlayEnd, play};
+pub use stage::Stage;
 
-/// The replies to steps and then to others are those to the first, and then those to the others over what the first leave.
-pub fn replies_go_on()
-    ensures { RepliesGoOn }
+/// Over any stage, a run of steps and then of others is the run of the first, and then that of the
+/// others over what the first leave. Where the first end at a line, it is theirs alone.
+pub fn replies_go_on<T: Stage>()
+    ensures { RepliesGoOn T.rules }
 {}
 
-/// The book that visits leave is what lawful events make of an empty one: each publish spends a number that its take drew.
-pub fn visits_are_lawful()
-    ensures { VisitsAreLawful }
-{}
-
-/// Lines are requests exactly where they are spelled `get W TARGET`, each ended by a newline.
-pub fn lines_are_requests()
-    ensures { LinesAreRequests }
+/// Lines are steps exactly where they are spelled as these steps are, each ended by a newline.
+pub fn lines_are_steps()
+    ensures { LinesAreSteps }
 {}

@@ -1,15 +1,12 @@
-ghost use Rattle.std.specs.Prelude.{◌≡◌, ◌≤◌, ◌<◌, ◌^◌, ◌+◌, length};
-ghost use Rattle.core_syntax.specs.Scripts.{scripts_of};
+ghost use Rattle.std.specs.Prelude.{◌≡◌, ◌≤◌};
 ghost use Rattle.web_outside.specs.Causes.{Rose};
-ghost use Rattle.play_steps.specs.Played.{table_of};
-ghost use Rattle.play_steps.specs.Play.{Ends, Turns};
-ghost use Rattle.play_steps.specs.Transcript.{Pauses};
+ghost use Rattle.play_steps.specs.Step.{steps_of};
+ghost use Rattle.play_steps.specs.Played.{scene, Leaves, Turns};
 
-use crate::player::Player;
-use crate::reply::reply_text;
-use crate::step::Get;
-use core_syntax::Setup;
-use page_names::pieces::cut_at;
+use crate::perform::{fits, perform};
+use crate::stage::Stage;
+use crate::step::parse;
+use script_value::pieces::cut_at;
 use std::alloc::Global;
 use web_outside::{Sink, write_all};
 
@@ -18,7 +15,7 @@ use web_outside::{Sink, write_all};
 pub enum PlayEnd {
     /// Each step was answered.
     Done,
-    /// The line of this number is no step, the first being 1.
+    /// The line of this number is no step, or does not fit; the first is 1.
     Line(u64),
     /// A reply could not be written whole.
     Write,
@@ -35,27 +32,21 @@ enum Turn {
 }
 
 // Plays one line.
-fn play_line<O: Sink>(
-    alloc: Global,
-    setup: &Setup,
-    player: &mut Player,
-    line: &[u8],
-    output: &mut O,
-) -> Turn
-    requires drawn { (table_of player.old).book.drawn < 2 ^ 63 }
-    requires nonce { (table_of player.old).nonce < 2 ^ 63 }
-    ensures turned { Turns result (O.written output.old) (O.written output.new) (scripts_of setup.now) (table_of player.old) (table_of player.new) line.now }
-    ensures drawn { (table_of player.new).book.drawn ≤ (table_of player.old).book.drawn + 1 }
-    ensures nonce { (table_of player.new).nonce ≤ (table_of player.old).nonce + 1 }
-    ensures write { result ≡ Turn.Write → Rose (O.fault_count output.old) (O.fault_count output.new) }
-    ensures later { O.fault_count output.old ≤ O.fault_count output.new }
+fn play_line<T: Stage, O: Sink>(alloc: Global, stage: &mut T, line: &[u8], sink: &mut O) -> Turn
+    ensures turned { Turns T.rules line.now result
+        (scene T.rules (O.written sink.old) (T.state stage.old))
+        (scene T.rules (O.written sink.new) (T.state stage.new)) }
+    ensures write { result ≡ Turn.Write → Rose (O.fault_count sink.old) (O.fault_count sink.new) }
+    ensures later { O.fault_count sink.old ≤ O.fault_count sink.new }
 {
-    let Some(get) = Get::parse(line) else {
+    let Some(step) = parse(line) else {
         return Turn::NoStep;
     };
-    let reply = player.visit(alloc, setup, get.target);
-    match reply_text(alloc, get.worker, &reply) {
-        Ok(text) => match write_all(output, &text) {
+    if !fits(stage, &step) {
+        return Turn::NoStep;
+    }
+    match perform(alloc, stage, &step) {
+        Ok(text) => match write_all(sink, &text) {
             Ok(()) => Turn::Went,
             Err(_) => Turn::Write,
         },
@@ -63,21 +54,27 @@ fn play_line<O: Sink>(
     }
 }
 
-/// Plays the steps, one a line, over a shelf with nothing in it, and writes a reply to each.
-pub fn play<O: Sink>(alloc: Global, setup: &Setup, steps: &[u8], output: &mut O) -> PlayEnd
-    ensures ended { Ends result (O.written output.old) (O.written output.new) (scripts_of setup.now) steps.now }
-    ensures write { result ≡ PlayEnd.Write → Rose (O.fault_count output.old) (O.fault_count output.new) }
-    ensures memory { result ≡ PlayEnd.Memory → Pauses (O.written output.old) (O.written output.new) (scripts_of setup.now) steps.now }
-    ensures later { O.fault_count output.old ≤ O.fault_count output.new }
+/// Plays the steps, one a line, and writes what each prints.
+///
+/// For some fates of their events, the sink grows by the transcript of the steps over the stage's
+/// rules, and the stage is left in its last state. A line that is no step, or does not fit, ends the
+/// run. A failed write and want of memory for a text end it at a step that was performed, behind the
+/// whole text of all before it.
+pub fn play<T: Stage, O: Sink>(alloc: Global, stage: &mut T, text: &[u8], sink: &mut O) -> PlayEnd
+    ensures ended { Leaves T.rules (steps_of text.now) result
+        (scene T.rules (O.written sink.old) (T.state stage.old))
+        (scene T.rules (O.written sink.new) (T.state stage.new)) }
+    ensures write { result ≡ PlayEnd.Write
+        → Rose (O.fault_count sink.old) (O.fault_count sink.new) }
+    ensures later { O.fault_count sink.old ≤ O.fault_count sink.new }
 {
-    let mut player = Player::new(alloc);
     let mut number = 1u64;
-    let mut rest = steps;
+    let mut rest = text;
     while !rest.is_empty() {
         let Some((line, after)) = cut_at(b'\n', rest) else {
             return PlayEnd::Line(number);
         };
-        match play_line(alloc, setup, &mut player, line, output) {
+        match play_line(alloc, stage, line, sink) {
             Turn::Went => {}
             Turn::NoStep => return PlayEnd::Line(number),
             Turn::Write => return PlayEnd::Write,

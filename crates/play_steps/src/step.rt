@@ -1,37 +1,40 @@
-ghost use Rattle.std.specs.Prelude.{◌≡◌, ◌<◌, Some, None, option_map, IfSome};
+ghost use Rattle.std.specs.Prelude.{◌≡◌, ◌<◌, ◌^◌, Some, None, true, option_map, IfSome};
 ghost use Rattle.std.specs.List.{list_all};
+ghost use Rattle.script_value.specs.Pieces.{number_below};
 ghost use Rattle.play_steps.specs.Step as spec;
+ghost use Rattle.play_steps.specs.Views.{meaning};
 
-use page_names::pieces::{behind, cut_at};
+use script_value::pieces::{behind, cut_at, number, small_number};
 
-/// A visit of a worker.
+/// A step.
 #[derive(Clone, Copy)]
-pub struct Get<'a> {
-    pub worker: u32,
-    pub target: &'a [u8],
+pub enum Step<'a> {
+    /// The worker takes a ticket for a visit of the target.
+    Take { worker: u32, target: &'a [u8] },
+    /// The worker's ticket is spent.
+    Publish { worker: u32 },
+    /// A take, and where it gives a ticket its publish.
+    Get { worker: u32, target: &'a [u8] },
+    /// Each shelf is swept at this time, in seconds.
+    Tick { time: u64 },
 }
 
 // The number of a worker.
 fn worker_of(digits: &[u8]) -> Option<u32>
-    ensures { result ≡ spec.worker_of digits.now }
+    ensures spelled { result ≡ spec.worker_of digits.now }
+    ensures range { IfSome result (λ worker. worker < 16) }
 {
-    match digits {
-        [d] => {
-            if d.is_ascii_digit() {
-                Some((*d - b'0') as u32)
-            } else {
-                None
-            }
-        }
-        [t, d] => {
-            if *t == b'1' && 48 <= *d && *d <= 53 {
-                Some(10 + (*d - b'0') as u32)
-            } else {
-                None
-            }
-        }
-        _ => None,
-    }
+    let worker = small_number(digits)?;
+    if worker < 16 { Some(worker) } else { None }
+}
+
+// A time below 2^62.
+fn time_of(digits: &[u8]) -> Option<u64>
+    ensures spelled { result ≡ number_below (2 ^ 62) digits.now }
+    ensures range { IfSome result (λ time. time < 2 ^ 62) }
+{
+    let time = number(digits)?;
+    if time < 1 << 62 { Some(time) } else { None }
 }
 
 // Whether the byte may stand in a target.
@@ -41,6 +44,12 @@ fn is_target_byte(byte: u8) -> bool
     33 <= byte && byte <= 126
 }
 
+fn are_target_bytes(target: &[u8]) -> bool
+    ensures { result ≡ list_all spec.is_target_byte target.now }
+{
+    target.iter().all(|b| is_target_byte(*b))
+}
+
 // Whether these bytes spell a target.
 fn is_target(target: &[u8]) -> bool
     ensures { result ≡ spec.is_target target.now }
@@ -48,26 +57,72 @@ fn is_target(target: &[u8]) -> bool
     !target.is_empty() && are_target_bytes(target)
 }
 
-fn are_target_bytes(target: &[u8]) -> bool
-    ensures { result ≡ list_all spec.is_target_byte target.now }
+// A worker and a target.
+#[tactic(auto, unfolding(crate::specs::Step::aim_of))]
+fn aim_of(bytes: &[u8]) -> Option<(u32, &[u8])>
+    ensures spelled { option_map (λ aim. (aim.0, aim.1.now)) result ≡ spec.aim_of bytes.now }
+    ensures worker { IfSome result (λ aim. aim.0 < 16) }
+    ensures target { IfSome result (λ aim. spec.is_target aim.1.now ≡ true) }
 {
-    target.iter().all(|b| is_target_byte(*b))
+    let (digits, target) = cut_at(b' ', bytes)?;
+    let worker = worker_of(digits)?;
+    if !is_target(target) {
+        return None;
+    }
+    Some((worker, target))
 }
 
-impl<'a> Get<'a> {
-    ghost use Rattle.play_steps.specs.Got.{request};
+#[tactic(auto, unfolding(crate::specs::Step::take_of))]
+fn take_of(line: &[u8]) -> Option<Step>
+    ensures spelled { option_map meaning result ≡ spec.take_of line.now }
+    ensures range { IfSome result (λ step. spec.IsStep (meaning step)) }
+{
+    let (worker, target) = aim_of(behind(b"take ", line)?)?;
+    Some(Step::Take { worker, target })
+}
 
-    /// The step that a line is: `get`, a worker from 0 to 15 and a target.
-    #[tactic(auto, unfolding(crate::specs::Step::request_of))]
-    pub fn parse(line: &'a [u8]) -> Option<Get<'a>>
-        ensures { option_map request result ≡ spec.request_of line.now }
-    {
-        let rest = behind(b"get ", line)?;
-        let (digits, target) = cut_at(b' ', rest)?;
-        let worker = worker_of(digits)?;
-        if !is_target(target) {
-            return None;
-        }
-        Some(Get { worker, target })
+#[tactic(auto, unfolding(crate::specs::Step::publish_of))]
+fn publish_of(line: &[u8]) -> Option<Step>
+    ensures spelled { option_map meaning result ≡ spec.publish_of line.now }
+    ensures range { IfSome result (λ step. spec.IsStep (meaning step)) }
+{
+    let worker = worker_of(behind(b"publish ", line)?)?;
+    Some(Step::Publish { worker })
+}
+
+#[tactic(auto, unfolding(crate::specs::Step::get_of))]
+fn get_of(line: &[u8]) -> Option<Step>
+    ensures spelled { option_map meaning result ≡ spec.get_of line.now }
+    ensures range { IfSome result (λ step. spec.IsStep (meaning step)) }
+{
+    let (worker, target) = aim_of(behind(b"get ", line)?)?;
+    Some(Step::Get { worker, target })
+}
+
+#[tactic(auto, unfolding(crate::specs::Step::tick_of))]
+fn tick_of(line: &[u8]) -> Option<Step>
+    ensures spelled { option_map meaning result ≡ spec.tick_of line.now }
+    ensures range { IfSome result (λ step. spec.IsStep (meaning step)) }
+{
+    let time = time_of(behind(b"tick ", line)?)?;
+    Some(Step::Tick { time })
+}
+
+/// The step that a line is: `take W TARGET`, `publish W` or `get W TARGET` of a worker from 0 to 15,
+/// or `tick T` of a time below 2^62, in seconds.
+#[tactic(auto, unfolding(crate::specs::Step::step_of))]
+pub fn parse(line: &[u8]) -> Option<Step>
+    ensures spelled { option_map meaning result ≡ spec.step_of line.now }
+    ensures range { IfSome result (λ step. spec.IsStep (meaning step)) }
+{
+    if let Some(step) = take_of(line) {
+        return Some(step);
     }
+    if let Some(step) = publish_of(line) {
+        return Some(step);
+    }
+    if let Some(step) = get_of(line) {
+        return Some(step);
+    }
+    tick_of(line)
 }

@@ -1,82 +1,76 @@
-use Rattle.std.proofs.Common.{◌≡◌, ◌≤◌, ℕ, suc, List, [], ◌∷◌, length, Option, Some, None, subst, sym, ap, ◌∙◌, rules, arith}
+use Rattle.std.proofs.Common.{◌≡◌, ◌<◌, ℕ, List, [], length, Option, Some, None, subst, sym, ap, ◌∙◌, refl, rules, arith}
 use Rattle.std.proofs.lemmas.List.{nil_from_length}
-use Rattle.page_names.specs.Pieces.{cut_at}
-use Rattle.core_syntax.specs.Setup.{Named}
-use Rattle.core_syntax.specs.Scripts.{scripts_of}
-use Rattle.play_steps.specs.Step.{Request, requests}
-use Rattle.play_steps.specs.Visit.{Table}
-use Rattle.play_steps.specs.Played.{table_of}
-use Rattle.play_steps.specs.Transcript.{Plays, PlaysPart, Pauses, bad_line}
-use Rattle.play_steps.proofs.Lines.{requests_cut, requests_uncut, requests_nil, shorter}
-use Rattle.play_steps.proofs.Runs.{Reached, start, one_more, inside, between, paused, at_end, at_line}
+use Rattle.std.specs.Io.KnownBytes.{Appends}
+use Rattle.web_outside.proofs.Writes.{appends_none}
+use Rattle.script_value.specs.Pieces.{cut_at}
+use Rattle.play_steps.specs.Rules.{StageRules}
+use Rattle.play_steps.specs.Step.{Step, step_of, steps_of}
+use Rattle.play_steps.specs.Transcript.{bad_line}
+use Rattle.play_steps.specs.Played.{Scene, scene, Plays}
+use Rattle.play_steps.proofs.Lines.{steps_cut, steps_uncut, steps_nil, shorter}
+use Rattle.play_steps.proofs.Runs.{Reached, begin, one_more, halted, at_end, at_line}
 use Rattle.play_steps.proofs.run.play.Goals as goal
 
 -- what is left, seen by its first line
-at_first : (old now : Option (List ℕ)) (setup : List Named) (all : List (Option Request)) (t : Table) (number : ℕ) (a b : List (Option Request))
-    → a ≡ b → Reached old now setup all t number a → Reached old now setup all t number b
-at_first old now setup all t number a b e reached = subst (Reached old now setup all t number) e reached
+at_first : (r : StageRules) (all : List (Option Step)) (start here : Scene r) (number : ℕ) (a b : List (Option Step))
+    → a ≡ b → Reached r all start here number a → Reached r all start here number b
+at_first r all start here number a b e reached = subst (Reached r all start here number) e reached
 
 pub loop-rest-init : goal.loop-rest-init
-loop-rest-init g c =
-    let drawn : (table_of c.new-player.result).book.drawn ≡ 0 = ap (λ (t : Table). t.book.drawn) c.new-player.ensures in
-    let nonce : (table_of c.new-player.result).nonce ≡ 0 = ap (λ (t : Table). t.nonce) c.new-player.ensures in
-    record {
-      reached = subst (λ (t : Table). Reached (g.O.Sink.written c.args.output.now) (g.O.Sink.written c.args.output.now) (scripts_of c.args.setup.now) (requests c.args.steps.now) t 1 (requests c.args.steps.now))
-          (sym c.new-player.ensures) (start (g.O.Sink.written c.args.output.now) (scripts_of c.args.setup.now) _);
-      drawn = omega (arith, drawn);
-      nonce = omega (arith, nonce);
-      numbered = omega arith;
-      later = omega arith;
-    }
+loop-rest-init g c = record {
+  reached = begin g.T.Stage.rules (steps_of c.args.text.now) (scene g.T.Stage.rules (g.O.Sink.written c.args.sink.now) (g.T.Stage.state c.args.stage.now));
+  numbered = omega arith;
+  later = omega arith;
+}
 
 pub returns-in_default-clause-ended : goal.returns-in_default-clause-ended
 returns-in_default-clause-ended g c =
     let uncut : cut_at 10 c.loop-rest.rest.now ≡ None = search rules in
-    let some : suc 0 ≤ length c.loop-rest.rest.now = grind arith in
-    at_line _ _ _ _ _ _ []
-    (at_first _ _ _ _ _ _ _ _ (requests_uncut c.loop-rest.rest.now uncut some) c.loop-rest.invariant.reached)
+    let some : 0 < length c.loop-rest.rest.now = grind arith in
+    at_line _ _ _ _ _ None [] tt
+    (at_first _ _ _ _ _ _ _ (steps_uncut c.loop-rest.rest.now uncut some) c.loop-rest.invariant.reached)
 
 pub returns-in-NoStep-clause-ended : goal.returns-in-NoStep-clause-ended
 returns-in-NoStep-clause-ended g c =
+    let rules_of = g.T.Stage.rules in
     let cut : cut_at 10 c.loop-rest.rest.now ≡ Some (c.in-Some.line.now, c.in-Some.after.now) = search rules in
-    let first = requests_cut c.loop-rest.rest.now c.in-Some.line.now c.in-Some.after.now cut
-    ∙ ap (λ r. r ∷ requests c.in-Some.after.now) c.in-NoStep.ensures.turned.0 in
-    let here = at_line _ _ _ _ _ _ (requests c.in-Some.after.now)
-    (at_first _ _ _ _ _ _ _ _ first c.loop-rest.invariant.reached) in
-    subst (λ w. Plays (g.O.Sink.written c.args.output.now) w (scripts_of c.args.setup.now) c.args.steps.now (bad_line c.loop-rest.number))
-    (sym c.in-NoStep.ensures.turned.1) here
+    let first = steps_cut c.loop-rest.rest.now c.in-Some.line.now c.in-Some.after.now cut in
+    let turned = c.in-NoStep.ensures.turned in
+    let here = at_line _ _ _ _ _ (step_of c.in-Some.line.now) (steps_of c.in-Some.after.now) turned.0
+    (at_first _ _ _ _ _ _ _ first c.loop-rest.invariant.reached) in
+    subst (Plays rules_of (steps_of c.args.text.now) (bad_line c.loop-rest.number) (scene rules_of (g.O.Sink.written c.args.sink.now) (g.T.Stage.state c.args.stage.now)))
+    (sym turned.1) here
 
 pub returns-in-Write-clause-ended : goal.returns-in-Write-clause-ended
+unfolding halted
 returns-in-Write-clause-ended g c =
     let cut : cut_at 10 c.loop-rest.rest.now ≡ Some (c.in-Some.line.now, c.in-Some.after.now) = search rules in
-    let first = requests_cut c.loop-rest.rest.now c.in-Some.line.now c.in-Some.after.now cut in
-    inside _ _ _ _ _ _ _ _ c.in-Some.line.now (requests c.in-Some.after.now) c.in-Write.ensures.turned.0
-    (at_first _ _ _ _ _ _ _ _ first c.loop-rest.invariant.reached) c.in-Write.ensures.turned.1
+    let first = steps_cut c.loop-rest.rest.now c.in-Some.line.now c.in-Some.after.now cut in
+    let turned = c.in-Write.ensures.turned in (
+      turned.2.front,
+      halted _ _ _ _ _ _ c.in-Some.line.now (steps_of c.in-Some.after.now) turned.0 turned.1
+          (at_first _ _ _ _ _ _ _ first c.loop-rest.invariant.reached) turned.2.front turned.2.rest turned.2.is turned.2.written,
+      turned.2.some,
+    )
 
 pub returns-in-Memory-clause-ended : goal.returns-in-Memory-clause-ended
 returns-in-Memory-clause-ended g c =
-    let here = between _ _ _ _ _ _ _ c.loop-rest.invariant.reached in
-    subst (λ w. PlaysPart (g.O.Sink.written c.args.output.now) w (scripts_of c.args.setup.now) c.args.steps.now) (sym c.in-Memory.ensures.turned.1) here
-
-pub returns-in-Memory-clause-memory : goal.returns-in-Memory-clause-memory
-returns-in-Memory-clause-memory g c = λ _.
     let cut : cut_at 10 c.loop-rest.rest.now ≡ Some (c.in-Some.line.now, c.in-Some.after.now) = search rules in
-    let first = requests_cut c.loop-rest.rest.now c.in-Some.line.now c.in-Some.after.now cut
-    ∙ ap (λ r. r ∷ requests c.in-Some.after.now) c.in-Memory.ensures.turned.0.spelled in
-    let here = paused _ _ _ _ _ _ c.in-Memory.ensures.turned.0.request (requests c.in-Some.after.now)
-    (at_first _ _ _ _ _ _ _ _ first c.loop-rest.invariant.reached) in
-    subst (λ w. Pauses (g.O.Sink.written c.args.output.now) w (scripts_of c.args.setup.now) c.args.steps.now) (sym c.in-Memory.ensures.turned.1) here
+    let first = steps_cut c.loop-rest.rest.now c.in-Some.line.now c.in-Some.after.now cut in
+    let turned = c.in-Memory.ensures.turned in
+    let nothing = subst (λ w. Appends (g.O.Sink.written c.loop-rest.sink) w []) (sym turned.2) (appends_none (g.O.Sink.written c.loop-rest.sink)) in
+    halted _ _ _ _ _ _ c.in-Some.line.now (steps_of c.in-Some.after.now) turned.0 turned.1
+    (at_first _ _ _ _ _ _ _ first c.loop-rest.invariant.reached) [] turned.0 refl nothing
 
 pub loop-rest-preserved : goal.loop-rest-preserved
 loop-rest-preserved g c =
     let cut : cut_at 10 c.loop-rest.rest.now ≡ Some (c.in-Some.line.now, c.in-Some.after.now) = search rules in
-    let first = requests_cut c.loop-rest.rest.now c.in-Some.line.now c.in-Some.after.now cut in
+    let first = steps_cut c.loop-rest.rest.now c.in-Some.line.now c.in-Some.after.now cut in
     let less = shorter c.loop-rest.rest.now c.in-Some.line.now c.in-Some.after.now cut in
+    let turned = c.in-Went.ensures.turned in
     record {
-      reached = one_more _ _ _ _ _ _ _ _ c.in-Some.line.now (requests c.in-Some.after.now) c.in-Went.ensures.turned.0
-          (at_first _ _ _ _ _ _ _ _ first c.loop-rest.invariant.reached) c.in-Went.ensures.turned.1;
-      drawn = omega (arith, less, c.in-Went.ensures.drawn, c.loop-rest.invariant.drawn);
-      nonce = omega (arith, less, c.in-Went.ensures.nonce, c.loop-rest.invariant.nonce);
+      reached = one_more _ _ _ _ _ _ c.in-Some.line.now (steps_of c.in-Some.after.now) turned.0 turned.1
+          (at_first _ _ _ _ _ _ _ first c.loop-rest.invariant.reached) turned.2;
       numbered = omega (arith, less);
       later = omega (arith, c.in-Went.ensures.later);
     }
@@ -85,5 +79,4 @@ pub returns-clause-ended : goal.returns-clause-ended
 returns-clause-ended g c =
     let short : length c.loop-rest.rest.now ≡ 0 = grind arith in
     let none = nil_from_length c.loop-rest.rest.now short in
-    at_end _ _ _ _ _ _
-    (at_first _ _ _ _ _ _ _ _ (ap requests none ∙ requests_nil) c.loop-rest.invariant.reached)
+    at_end _ _ _ _ _ (at_first _ _ _ _ _ _ _ (ap steps_of none ∙ steps_nil) c.loop-rest.invariant.reached)

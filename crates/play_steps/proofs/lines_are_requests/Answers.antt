@@ -1,5 +1,0 @@
-use Rattle.play_steps.proofs.Spelled as laws
-use Rattle.play_steps.proofs.lines_are_requests.Goals as goal
-
-pub returns : goal.returns
-returns c = laws.lines_are_requests

@@ -1,0 +1,34 @@
+use Rattle.std.proofs.Common.{◌≡◌, subst, rules}
+use Rattle.play_steps.specs.Step.{Step, take, publish, get}
+use Rattle.play_steps.specs.Views.{meaning}
+use Rattle.play_steps.specs.Played.{Performs}
+use Rattle.play_steps.proofs.Performed.{took, published, got_number, got_refusal}
+use Rattle.play_steps.proofs.perform.perform.Goals as goal
+
+pub returns-in-Take : goal.returns-in-Take
+returns-in-Take g c =
+    let r = g.T.Stage.rules in
+    let step : take c.in-Take.worker c.in-Take.target.now ≡ meaning c.args.step.now = search rules in
+    subst (λ (s : Step). Performs r s c.take_text.result (g.T.Stage.state c.args.stage.now) (g.T.Stage.state c.take-taken.new.self)) step
+    (record { text = _; came = took r _ _ _ _ _ c.take-taken.ensures.step; is = c.take_text.ensures })
+
+pub returns-in-Publish : goal.returns-in-Publish
+returns-in-Publish g c =
+    let r = g.T.Stage.rules in
+    let step : publish c.in-Publish.worker ≡ meaning c.args.step.now = search rules in
+    subst (λ (s : Step). Performs r s c.reply_text.result (g.T.Stage.state c.args.stage.now) (g.T.Stage.state c.publish-reply.new.self)) step
+    (record { text = _; came = published r _ _ _ _ c.publish-reply.ensures; is = c.reply_text.ensures })
+
+pub returns-in-Ok : goal.returns-in-Ok
+returns-in-Ok g c =
+    let r = g.T.Stage.rules in
+    let step : get c.in-Get.worker c.in-Get.target.now ≡ meaning c.args.step.now = search rules in
+    subst (λ (s : Step). Performs r s c.reply_text-in-Ok.result (g.T.Stage.state c.args.stage.now) (g.T.Stage.state c.publish-shown.new.self)) step
+    (record { text = _; came = got_number r _ _ _ _ _ _ _ c.in-Ok.ensures.step c.publish-shown.ensures; is = c.reply_text-in-Ok.ensures })
+
+pub returns-in-Err : goal.returns-in-Err
+returns-in-Err g c =
+    let r = g.T.Stage.rules in
+    let step : get c.in-Get.worker c.in-Get.target.now ≡ meaning c.args.step.now = search rules in
+    subst (λ (s : Step). Performs r s c.reply_text-in-Err.result (g.T.Stage.state c.args.stage.now) (g.T.Stage.state c.take.new.self)) step
+    (record { text = _; came = got_refusal r _ _ _ _ _ c.in-Err.ensures.step; is = c.reply_text-in-Err.ensures })

@@ -1,0 +1,10 @@
+-- What the program's values stand for.
+use Rattle.play_steps.specs.declared.step.Step as code
+use Rattle.play_steps.specs.declared.step.Step.TheVariants as steps
+use Rattle.play_steps.specs.Step.{Step, take, publish, get, tick}
+
+abbrev pub meaning : code.Step → Step
+meaning (steps.Take worker target) = take worker target.now
+meaning (steps.Publish worker) = publish worker
+meaning (steps.Get worker target) = get worker target.now
+meaning (steps.Tick time) = tick time
