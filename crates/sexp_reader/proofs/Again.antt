@@ -16,7 +16,8 @@ use Rattle.sexp_reader.specs.declared.classes.Delimiter.TheVariants.{Parenthesis
 use Rattle.sexp_reader.specs.declared.classes.Mark.{Mark}
 use Rattle.sexp_reader.specs.declared.classes.Mark.TheVariants.{Quote, Quasiquote, Unquote, UnquoteSplicing}
 use Rattle.sexp_reader.specs.Letters.{class_of, is_plain, is_blank, ends_token, same_delimiter, whole_mark, name_of, is_symbol}
-use Rattle.sexp_reader.specs.Read.{Fault, ◌>>=◌, past_gap, after_gap, token_len, word_at, text_from, escape_from, Level, opened, marked, State, marked_list, put, open_list, open_mark, close_list, take_mark, take_text, take_token, with_rest, piece, pieces, scan, read, most_levels}
+use Rattle.sexp_reader.specs.Limits.{most_levels}
+use Rattle.sexp_reader.specs.Read.{Fault, ◌>>=◌, past_gap, after_gap, token_len, word_at, text_from, escape_from, Level, opened, marked, State, marked_list, put, open_list, open_mark, close_list, take_mark, take_text, take_token, with_rest, piece, pieces, scan, read}
 use Rattle.sexp_reader.specs.Spells.{NoNewline, AtLineEnd, AllPlain, IsToken, AtTokenEnd, Gap, no_gap, blank, comment, Letters, end_of_text, letter, escape, Truth, short_true, long_true, short_false, long_false, Encloses, parentheses, brackets, Marks, quote, quasiquote, unquote, unquote_splicing, Datum, a_number, a_truth, a_symbol, a_text, a_list, a_mark, Data, no_data, a_datum, Spells}
 use Rattle.sexp_reader.specs.Views.{innermost_mark}
 use Rattle.sexp_reader.proofs.ByteClasses.{plain_is}
@@ -70,12 +71,12 @@ mutual
       ]
 
 -- whether a gap may begin with a byte of this class
-abbrev begins_gap : Class → Bool
+abbrev pub begins_gap : Class → Bool
 begins_gap Blank = true
 begins_gap Comment = true
 begins_gap _ = false
 
-no_gap_here : (b : ℕ) (bs : List ℕ) → begins_gap (class_of b) ≡ false → after_gap (b ∷ bs) ≡ b ∷ bs
+pub no_gap_here : (b : ℕ) (bs : List ℕ) → begins_gap (class_of b) ≡ false → after_gap (b ∷ bs) ≡ b ∷ bs
 no_gap_here b bs h =
     let past : Class → List ℕ = λ v. elim v [ Blank ↦ past_gap false bs | Comment ↦ past_gap true bs | _ ↦ b ∷ bs ] in
     elim (class_of b) as (λ v. begins_gap v ≡ false → past v ≡ b ∷ bs) [ Blank ↦ λ e. absurd (cc) | Comment ↦ λ e. absurd (cc) | _ ↦ λ e. refl ] h
@@ -94,7 +95,7 @@ class_plain b h = plain_class (class_of b) (plain_is b ∙ ap not h)
 
 -- tokens
 
-token_count : (token rest : List ℕ) → AllPlain token → AtTokenEnd rest → token_len (token ++ rest) ≡ length token
+pub token_count : (token rest : List ℕ) → AllPlain token → AtTokenEnd rest → token_len (token ++ rest) ≡ length token
 token_count [] [] h e = refl
 token_count [] (b ∷ bs) h e =
     let count : Bool → ℕ = λ v. elim v [ true ↦ suc (token_len bs) | false ↦ 0 ] in
@@ -103,10 +104,10 @@ token_count (b ∷ bs) rest h e =
     let count : Bool → ℕ = λ v. elim v [ true ↦ suc (token_len (bs ++ rest)) | false ↦ 0 ] in
     ap count (plain_is b ∙ ap not h.0) ∙ ap suc (token_count bs rest h.1 e)
 
-token_front : (token rest : List ℕ) → AllPlain token → AtTokenEnd rest → take (token_len (token ++ rest)) (token ++ rest) ≡ token
+pub token_front : (token rest : List ℕ) → AllPlain token → AtTokenEnd rest → take (token_len (token ++ rest)) (token ++ rest) ≡ token
 token_front token rest h e = rw (token_count token rest h e) (take-append_seam token rest)
 
-token_back : (token rest : List ℕ) → AllPlain token → AtTokenEnd rest → drop (token_len (token ++ rest)) (token ++ rest) ≡ rest
+pub token_back : (token rest : List ℕ) → AllPlain token → AtTokenEnd rest → drop (token_len (token ++ rest)) (token ++ rest) ≡ rest
 token_back token rest h e = rw (token_count token rest h e) (drop-append_seam token rest)
 
 number_word : (place : ℕ) (token : List ℕ) → is_number token ≡ true → is_in_range (number_of token) ≡ true → word_at place token ≡ Ok (number (number_of token))
@@ -120,7 +121,7 @@ truth_word : (place : ℕ) (token : List ℕ) (b : Bool) → Truth token b → w
 truth_word place token b t =
     cond-false _ _ _ (truth_no_number t) ∙ ap (other_word place token) (truth_read t)
 
-token_again : (place : ℕ) (token rest : List ℕ) (v : Val) (state : State) → AllPlain token → AtTokenEnd rest → word_at place token ≡ Ok v
+pub token_again : (place : ℕ) (token rest : List ℕ) (v : Val) (state : State) → AllPlain token → AtTokenEnd rest → word_at place token ≡ Ok v
     → take_token place (token ++ rest) state ≡ Ok (put v state.items state.levels, rest)
 token_again place token rest v state h e w =
     let f : List ℕ → Result (State × List ℕ) Fault = λ back. word_at place (take (token_len (token ++ rest)) (token ++ rest)) >>= λ v. Ok (put v state.items state.levels, back) in
@@ -130,7 +131,7 @@ token_again place token rest v state h e w =
 
 -- texts
 
-text_again : (place : ℕ) (done : List ℕ) {bytes chars rest : List ℕ} → Letters bytes chars rest → text_from place done bytes ≡ Ok (done ++ chars, rest)
+pub text_again : (place : ℕ) (done : List ℕ) {bytes chars rest : List ℕ} → Letters bytes chars rest → text_from place done bytes ≡ Ok (done ++ chars, rest)
 text_again place done (end_of_text rest) =
     let f : List ℕ → Result (List ℕ × List ℕ) Fault = λ x. Ok (x, rest) in
     ap f (sym (append-nil done))
@@ -178,7 +179,7 @@ may_open : (n : ℕ) (state : State) → suc n + length state.levels ≡ 128 →
 may_open n state h = grind (arith, nat_tests)
 
 -- the piece that a byte of each class begins
-piece_of : (place b : ℕ) (bs : List ℕ) (state : State) (c : Class) → class_of b ≡ c → piece place b bs state ≡ (elim c [
+pub piece_of : (place b : ℕ) (bs : List ℕ) (state : State) (c : Class) → class_of b ≡ c → piece place b bs state ≡ (elim c [
   | Opening d ↦ with_rest bs (open_list d place state)
   | Closing d ↦ with_rest bs (close_list d place state.items state.levels)
   | Marking m ↦ take_mark m place bs state
@@ -268,7 +269,7 @@ mark_shorter bytes m e =
     subst P (sym e) (mark_longer bytes m)
 
 -- whether an @ stands first
-abbrev begins_with_at : List ℕ → Bool
+abbrev pub begins_with_at : List ℕ → Bool
 begins_with_at [] = false
 begins_with_at (b ∷ bs) = b == 64
 
@@ -347,7 +348,7 @@ record Mark_read (spelling name bytes : List ℕ) : Type 0 where
   whole : whole_mark begun more ≡ (mark, bytes)
   named : name_of mark ≡ name
 
-alone : (bytes : List ℕ) → begins_with_at bytes ≡ false → whole_mark Unquote bytes ≡ (Unquote, bytes)
+pub alone : (bytes : List ℕ) → begins_with_at bytes ≡ false → whole_mark Unquote bytes ≡ (Unquote, bytes)
 alone [] h = refl
 alone (b ∷ bs) h = cond-false _ _ _ h
 
@@ -424,7 +425,7 @@ mutual
       let W : List Val → Type 0 = λ x. Reaches k total here (after_gap bytes) (record { items = x; levels = levels }) (after_gap rest) in
       subst W (append_assoc items (v ∷ []) vs) (reaches_more s t)
 
-scan_again : (bytes : List ℕ) (vs : List Val) → Data 128 bytes vs [] → scan bytes ≡ Ok vs
+pub scan_again : (bytes : List ℕ) (vs : List Val) → Data 128 bytes vs [] → scan bytes ≡ Ok vs
 scan_again bytes vs d =
     let r = data_again (suc (length bytes)) (length bytes) [] [] d refl (omega arith) (omega (arith, past_shorter bytes)) in
     r.same ∙ no_piece r.left (length bytes) (record { items = vs; levels = [] }) [] r.enough refl

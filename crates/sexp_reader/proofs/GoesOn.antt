@@ -14,9 +14,12 @@ use Rattle.sexp_reader.specs.declared.classes.Class.TheVariants.{Blank, Comment,
 use Rattle.sexp_reader.specs.declared.classes.Delimiter.{Delimiter}
 use Rattle.sexp_reader.specs.declared.classes.Delimiter.TheVariants.{Parenthesis, Bracket}
 use Rattle.sexp_reader.specs.Letters.{class_of, ends_token, same_delimiter, whole_mark, escaped, truth_of, is_symbol}
-use Rattle.sexp_reader.specs.Read.{Fault, ◌>>=◌, past_gap, after_gap, token_len, word_at, text_from, escape_from, Level, opened, marked, State, marked_list, put, open_list, open_mark, close_list, take_mark, take_text, take_token, with_rest, piece, pieces, start, scan, most_levels, most_bytes}
+use Rattle.sexp_reader.specs.Limits.{most_bytes, most_levels}
+use Rattle.sexp_reader.specs.Read.{Fault, ◌>>=◌, past_gap, after_gap, token_len, word_at, text_from, escape_from, Level, opened, marked, State, marked_list, put, open_list, open_mark, close_list, take_mark, take_text, take_token, with_rest, piece, pieces, start, scan}
 use Rattle.sexp_reader.specs.Spells.{AtTokenEnd, Gap, no_gap, Letters, end_of_text, letter, escape, Datum, a_symbol, a_text, no_data}
 use Rattle.sexp_reader.specs.Laws.{UnclosedGoesOn}
+use Rattle.std.proofs.lemmas.Str.{IsUtf8-append, IsUtf8-from_is_utf8}
+use Rattle.sexp_reader.proofs.Ascii.{AllAscii, ascii_utf8}
 use Rattle.sexp_reader.proofs.ByteClasses.{class_text, closing_byte}
 use Rattle.sexp_reader.proofs.Utf8.{err_ok, other_word}
 use Rattle.sexp_reader.proofs.Taken.{gap_of, Takes, Completes, gap_completes, datum_completes, piece_goes}
@@ -43,6 +46,12 @@ closer_ends : (d : Delimiter) → ends_token (closing_byte d) ≡ true
 closer_ends Parenthesis = refl
 closer_ends Bracket = refl
 
+closers_ascii : (levels : List Level) → AllAscii (closers levels)
+closers_ascii [] = tt
+closers_ascii (opened Parenthesis at before ∷ levels) = (omega arith, closers_ascii levels)
+closers_ascii (opened Bracket at before ∷ levels) = (omega arith, closers_ascii levels)
+closers_ascii (marked m at ∷ levels) = closers_ascii levels
+
 closers_end : (levels : List Level) → AtTokenEnd (closers levels)
 closers_end [] = tt
 closers_end (opened d at before ∷ levels) = closer_ends d
@@ -64,22 +73,28 @@ takes_end n v items (marked m at ∷ levels) =
 
 -- the same where nothing is given to the innermost level: a mark gets a symbol
 
-abbrev ending : List Level → List ℕ
+abbrev pub ending : List Level → List ℕ
 ending [] = []
 ending (opened d at before ∷ levels) = closing_byte d ∷ closers levels
 ending (marked m at ∷ levels) = 97 ∷ closers levels
 
-ending_starts : (levels : List Level) → after_gap (ending levels) ≡ ending levels
+pub ending_ascii : (levels : List Level) → AllAscii (ending levels)
+ending_ascii [] = tt
+ending_ascii (opened Parenthesis at before ∷ levels) = (omega arith, closers_ascii levels)
+ending_ascii (opened Bracket at before ∷ levels) = (omega arith, closers_ascii levels)
+ending_ascii (marked m at ∷ levels) = (omega arith, closers_ascii levels)
+
+pub ending_starts : (levels : List Level) → after_gap (ending levels) ≡ ending levels
 ending_starts [] = refl
 ending_starts (opened Parenthesis at before ∷ levels) = refl
 ending_starts (opened Bracket at before ∷ levels) = refl
 ending_starts (marked m at ∷ levels) = refl
 
-record Ended (n : ℕ) (items : List Val) (levels : List Level) : Type 0 where
-  all : List Val
-  whole : Completes n items levels (ending levels) all
+pub record Ended (n : ℕ) (items : List Val) (levels : List Level) : Type 0 where
+  pub all : List Val
+  pub whole : Completes n items levels (ending levels) all
 
-ending_completes : (n : ℕ) (items : List Val) (levels : List Level) → Ended n items levels
+pub ending_completes : (n : ℕ) (items : List Val) (levels : List Level) → Ended n items levels
 ending_completes n items [] = record { all = items; whole = ([], no_data n [] [] (no_gap []), sym (append-nil items)) }
 ending_completes n items (opened d at before ∷ levels) =
     let t = takes_end (suc n) (list (vals_of (items ++ []))) before levels in
@@ -97,6 +112,7 @@ ending_completes n items (marked m at ∷ levels) =
 record Goes_on (n : ℕ) (state : State) (bytes : List ℕ) : Type 0 where
   more : List ℕ
   ended : AtTokenEnd more
+  ascii : AllAscii more
   all : List Val
   whole : Completes n state.items state.levels (bytes ++ more) all
 
@@ -118,7 +134,7 @@ goes_on_at_end n state bytes e =
     let more : List ℕ = 10 ∷ ending state.levels in
     let P : List ℕ → Type 0 = λ t. Gap (bytes ++ more) t in
     let g = subst P (line_end_gap false bytes (ending state.levels) e ∙ ending_starts state.levels) (gap_of (bytes ++ more)) in
-    record { more = more; ended = refl; all = c.all; whole = gap_completes n state.items state.levels (bytes ++ more) (ending state.levels) c.all g c.whole }
+    record { more = more; ended = refl; ascii = (omega arith, ending_ascii state.levels); all = c.all; whole = gap_completes n state.items state.levels (bytes ++ more) (ending state.levels) c.all g c.whole }
 
 goes_on_behind_gap : (n : ℕ) (state : State) (bytes : List ℕ) (b : ℕ) (bs : List ℕ) → after_gap bytes ≡ b ∷ bs → Goes_on n state (b ∷ bs) → Goes_on n state bytes
 goes_on_behind_gap n state bytes b bs e g =
@@ -127,6 +143,7 @@ goes_on_behind_gap n state bytes b bs e g =
     record {
       more = g.more;
       ended = g.ended;
+      ascii = g.ascii;
       all = g.all;
       whole = gap_completes n state.items state.levels (bytes ++ g.more) ((b ∷ bs) ++ g.more) g.all gap g.whole;
     }
@@ -136,40 +153,41 @@ goes_on_behind_gap n state bytes b bs e g =
 record Text_end (bytes rest : List ℕ) : Type 0 where
   more : List ℕ
   ended : AtTokenEnd more
+  ascii : AllAscii more
   chars : List ℕ
   letters : Letters (bytes ++ more) chars rest
 
 mutual
-  text_end : (place : ℕ) (done bytes rest : List ℕ) (at : ℕ) → text_from place done bytes ≡ Err (at, Unclosed) → Text_end bytes rest
-  text_end place done [] rest at h = record { more = 34 ∷ rest; ended = refl; chars = []; letters = end_of_text rest }
-  text_end place done (b ∷ bs) rest at h =
+  text_end : (place : ℕ) (done bytes rest : List ℕ) (at : ℕ) → AllAscii rest → text_from place done bytes ≡ Err (at, Unclosed) → Text_end bytes rest
+  text_end place done [] rest at u h = record { more = 34 ∷ rest; ended = refl; ascii = (omega arith, u); chars = []; letters = end_of_text rest }
+  text_end place done (b ∷ bs) rest at u h =
       let here : List ℕ × List ℕ = (done, bs) in
       let other : Bool → Result (List ℕ × List ℕ) Fault = λ v. elim v [ true ↦ escape_from place done bs | false ↦ text_from place (done ++ b ∷ []) bs ] in
       let at_byte : Bool → Result (List ℕ × List ℕ) Fault = λ v. elim v [ true ↦ Ok here | false ↦ other (b == 92) ] in
       elim (b == 34) as (λ v. (b == 34) ≡ v → at_byte v ≡ Err (at, Unclosed) → Text_end (b ∷ bs) rest) [
         | true ↦ λ e k. absurd (err_ok (at, Unclosed) here (Ok here) k refl)
         | false ↦ λ e. elim (b == 92) as (λ v. (b == 92) ≡ v → other v ≡ Err (at, Unclosed) → Text_end (b ∷ bs) rest) [
-          | true ↦ λ d k. escape_end place done b bs rest at (eqb-true b 92 d) k
-          | false ↦ λ d k. let t = text_end place (done ++ b ∷ []) bs rest at k in
-              record { more = t.more; ended = t.ended; chars = b ∷ t.chars; letters = letter b (bs ++ t.more) t.chars rest (eqb-false b 34 e) (eqb-false b 92 d) t.letters }
+          | true ↦ λ d k. escape_end place done b bs rest at u (eqb-true b 92 d) k
+          | false ↦ λ d k. let t = text_end place (done ++ b ∷ []) bs rest at u k in
+              record { more = t.more; ended = t.ended; ascii = t.ascii; chars = b ∷ t.chars; letters = letter b (bs ++ t.more) t.chars rest (eqb-false b 34 e) (eqb-false b 92 d) t.letters }
         ] refl
       ] refl h
 
-  escape_end : (place : ℕ) (done : List ℕ) (a : ℕ) (bytes rest : List ℕ) (at : ℕ) → a ≡ 92 → escape_from place done bytes ≡ Err (at, Unclosed) → Text_end (a ∷ bytes) rest
-  escape_end place done a [] rest at s h =
-      record { more = 34 ∷ 34 ∷ rest; ended = refl; chars = 34 ∷ []; letters = rw s (escape 34 34 (34 ∷ rest) [] rest refl (end_of_text rest)) }
-  escape_end place done a (c ∷ bs) rest at s h =
+  escape_end : (place : ℕ) (done : List ℕ) (a : ℕ) (bytes rest : List ℕ) (at : ℕ) → AllAscii rest → a ≡ 92 → escape_from place done bytes ≡ Err (at, Unclosed) → Text_end (a ∷ bytes) rest
+  escape_end place done a [] rest at u s h =
+      record { more = 34 ∷ 34 ∷ rest; ended = refl; ascii = (omega arith, (omega arith, u)); chars = 34 ∷ []; letters = rw s (escape 34 34 (34 ∷ rest) [] rest refl (end_of_text rest)) }
+  escape_end place done a (c ∷ bs) rest at u s h =
       let bad : Result (List ℕ × List ℕ) Fault = Err (place, Token) in
       let at_byte : Option ℕ → Result (List ℕ × List ℕ) Fault = λ v. elim v [ None ↦ bad | Some d ↦ text_from place (done ++ d ∷ []) bs ] in
       elim (escaped c) as (λ v. escaped c ≡ v → at_byte v ≡ Err (at, Unclosed) → Text_end (a ∷ c ∷ bs) rest) [
         | None ↦ λ e k. absurd (other_kind place Token at bad refl refl k)
-        | Some d ↦ λ e k. let t = text_end place (done ++ d ∷ []) bs rest at k in
-            record { more = t.more; ended = t.ended; chars = d ∷ t.chars; letters = rw s (escape c d (bs ++ t.more) t.chars rest e t.letters) }
+        | Some d ↦ λ e k. let t = text_end place (done ++ d ∷ []) bs rest at u k in
+            record { more = t.more; ended = t.ended; ascii = t.ascii; chars = d ∷ t.chars; letters = rw s (escape c d (bs ++ t.more) t.chars rest e t.letters) }
       ] refl h
 
 -- only a text is a piece that is open
 
-rest_err : (rest : List ℕ) (r : Result State Fault) (e : Fault) → with_rest rest r ≡ Err e → r ≡ Err e
+pub rest_err : (rest : List ℕ) (r : Result State Fault) (e : Fault) → with_rest rest r ≡ Err e → r ≡ Err e
 rest_err rest (Ok state) e h = absurd (cc)
 rest_err rest (Err x) e h = let s : x ≡ e = cc in ap (λ y. Err y) s
 
@@ -183,7 +201,7 @@ not_closed d place items (opened x from before ∷ levels) at h =
     not_chosen (same_delimiter d x) (put (list (vals_of items)) before levels) place Mismatch at refl h
 not_closed d place items (marked m from ∷ levels) at h = other_kind from Token at (close_list d place items (marked m from ∷ levels)) refl refl h
 
-bind_err : {A B : Type 0} (r : Result A Fault) (f : A → Result B Fault) (e : Fault) → ((x : A) → f x ≡ Err e → ⊥) → (r >>= f) ≡ Err e → r ≡ Err e
+pub bind_err : {A B : Type 0} (r : Result A Fault) (f : A → Result B Fault) (e : Fault) → ((x : A) → f x ≡ Err e → ⊥) → (r >>= f) ≡ Err e → r ≡ Err e
 bind_err (Ok x) f e n h = absurd (n x h)
 bind_err (Err x) f e n h = let s : x ≡ e = cc in ap (λ y. Err y) s
 
@@ -211,12 +229,13 @@ text_goes_on : (n place b : ℕ) (bs : List ℕ) (state : State) (at : ℕ) → 
     → Goes_on n state (b ∷ bs)
 text_goes_on n place b bs state at e h =
     let given : List ℕ × List ℕ → Result (State × List ℕ) Fault = λ found. Ok (put (text found.0) state.items state.levels, found.1) in
-    let t = text_end place [] bs (closers state.levels) at (bind_err (text_from place [] bs) given (at, Unclosed) (λ x k. cc) h) in
+    let t = text_end place [] bs (closers state.levels) at (closers_ascii state.levels) (bind_err (text_from place [] bs) given (at, Unclosed) (λ x k. cc) h) in
     let m = takes_end n (text t.chars) state.items state.levels in
     let Q : ℕ → Type 0 = λ x. Datum n (x ∷ (bs ++ t.more)) (text t.chars) (closers state.levels) in
     record {
       more = t.more;
       ended = t.ended;
+      ascii = t.ascii;
       all = m.all;
       whole = datum_completes n (text t.chars) state.items state.levels (b ∷ (bs ++ t.more)) (closers state.levels) m.all
           (subst Q (sym (class_text b e)) (a_text n (bs ++ t.more) t.chars (closers state.levels) t.letters)) m.takes;
@@ -265,7 +284,7 @@ piece_goes_on k total n b bs state at c f (Ok p) e h =
     let g = piece_goes n here b (bs ++ t.more) state after t.all c q in
     let same : first.left ≡ g.left = omega (arith, first.count, g.count) in
     let P : ℕ → Type 0 = λ x. Completes x p.0.items p.0.levels (p.1 ++ t.more) t.all in
-    record { more = t.more; ended = t.ended; all = t.all; whole = g.back (subst P same t.whole) }
+    record { more = t.more; ended = t.ended; ascii = t.ascii; all = t.all; whole = g.back (subst P same t.whole) }
 
 goes_on : (k total n : ℕ) (state : State) (bytes : List ℕ) (at : ℕ) → n + length state.levels ≡ 128
     → pieces k total state (after_gap bytes) ≡ Err (at, Unclosed) → Goes_on n state bytes
@@ -278,13 +297,13 @@ goes_on (suc k) total n state bytes at c h =
     ] refl h
 
 scanned : (b c : Bool) (long short at : ℕ) (r : Result (List Val) Fault) → cond b (Err (long, Long)) (cond c r (Err (short, Utf8))) ≡ Err (at, Unclosed)
-    → r ≡ Err (at, Unclosed)
+    → (c ≡ true) × (r ≡ Err (at, Unclosed))
 scanned true c long short at r h = absurd (other_kind {A = List Val} long Long at (Err (long, Long)) refl refl h)
-scanned false true long short at r h = h
+scanned false true long short at r h = (refl, h)
 scanned false false long short at r h = absurd (other_kind {A = List Val} short Utf8 at (Err (short, Utf8)) refl refl h)
 
 pub unclosed_goes_on : UnclosedGoesOn
 unclosed_goes_on bytes place h =
-    let t = goes_on (suc (length bytes)) (length bytes) 128 start bytes place (omega arith)
-    (scanned (nat_lt most_bytes (length bytes)) (is_utf8 bytes) most_bytes (utf8_valid_len bytes) place (scan bytes) h) in
-    (t.more, t.whole.0, t.ended, t.whole.1)
+    let s = scanned (nat_lt most_bytes (length bytes)) (is_utf8 bytes) most_bytes (utf8_valid_len bytes) place (scan bytes) h in
+    let t = goes_on (suc (length bytes)) (length bytes) 128 start bytes place (omega arith) s.1 in
+    (t.more, t.whole.0, IsUtf8-append bytes t.more (IsUtf8-from_is_utf8 bytes s.0) (ascii_utf8 t.more t.ascii), t.whole.1)

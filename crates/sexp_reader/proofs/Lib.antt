@@ -7,4 +7,6 @@ pub mod Taken
 pub mod Again
 pub mod Stays
 pub mod GoesOn
+pub mod Locals
+pub mod First
 pub mod Exact

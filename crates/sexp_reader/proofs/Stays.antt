@@ -1,24 +1,20 @@
 -- A fault stays whatever is written behind a text.
-use Rattle.std.proofs.Common.{◌≡◌, ℕ, zero, suc, ◌+◌, ◌-◌, ◌≤◌, Bool, true, false, cond, ⊎_elim, List, [], ◌∷◌, ◌++◌, length, take, drop, refl, sym, ap, ◌∙◌, arith}
+use Rattle.std.proofs.Common.{◌≡◌, ℕ, zero, suc, ◌≤◌, Bool, true, false, cond, List, [], ◌∷◌, ◌++◌, length, take, drop, refl, sym, ap, ◌∙◌, arith}
 use Rattle.std.specs.Prelude.{not, ◌==◌, Option, None, Some, Result, Ok, Err}
-use Rattle.std.specs.Str.{IsUtf8, is_utf8}
-use Rattle.std.specs.Str.Lossy.{utf8_valid_len}
-use Rattle.std.proofs.lemmas.Bool.{cases_Bool, cond-false}
-use Rattle.std.proofs.lemmas.List.{length-append, take-append-le, drop-append-le}
-use Rattle.std.proofs.lemmas.Str.{IsUtf8-append, IsUtf8-from_is_utf8}
+use Rattle.std.proofs.lemmas.Bool.{cond-false}
+use Rattle.std.proofs.lemmas.List.{take-append-le, drop-append-le}
 use Rattle.script_value.specs.Val.{Val, text}
 use Rattle.sexp_reader.specs.declared.fault.ReadKind.{ReadKind}
-use Rattle.sexp_reader.specs.declared.fault.ReadKind.TheVariants.{Long, Utf8, Token, Unclosed}
+use Rattle.sexp_reader.specs.declared.fault.ReadKind.TheVariants.{Long, Token, Unclosed}
 use Rattle.sexp_reader.specs.declared.classes.Class.{Class}
 use Rattle.sexp_reader.specs.declared.classes.Class.TheVariants.{Blank, Comment, Opening, Closing, Marking, DoubleQuote, Plain}
 use Rattle.sexp_reader.specs.declared.classes.Mark.{Mark}
 use Rattle.sexp_reader.specs.declared.classes.Mark.TheVariants.{Quote, Quasiquote, Unquote, UnquoteSplicing}
 use Rattle.sexp_reader.specs.Letters.{class_of, is_plain, ends_token, whole_mark, escaped}
-use Rattle.sexp_reader.specs.Read.{Fault, ◌>>=◌, past_gap, after_gap, token_len, word_at, text_from, escape_from, Level, opened, marked, State, put, open_list, open_mark, close_list, finish, take_mark, take_text, take_token, with_rest, piece, pieces, start, scan, read}
+use Rattle.sexp_reader.specs.Read.{Fault, ◌>>=◌, past_gap, token_len, word_at, text_from, escape_from, Level, opened, marked, State, put, open_list, open_mark, close_list, finish, take_mark, take_text, take_token, with_rest, piece, pieces}
 use Rattle.sexp_reader.specs.Spells.{AtTokenEnd}
-use Rattle.sexp_reader.specs.Laws.{is_met_inside, FaultsStay}
+use Rattle.sexp_reader.specs.Laws.{is_met_inside}
 use Rattle.sexp_reader.proofs.ByteClasses.{plain_is}
-use Rattle.sexp_reader.proofs.Turns.{read_utf8, short_test}
 use Rattle.sexp_reader.proofs.Again.{test_false}
 
 -- what is left, with more behind it
@@ -30,7 +26,7 @@ pub kinds_met : (e : Fault) (place : ℕ) (kind : ReadKind) {A : Type 0} (r : Re
 kinds_met e place kind r h k = let s : e ≡ (place, kind) = cc in ap (λ x. x.1) s
 
 -- a kind of fault that is not met inside
-outside : {A : Type 0} (p : ℕ) (k : ReadKind) (place : ℕ) (kind : ReadKind) (r : Result A Fault) → r ≡ Err (p, k) → is_met_inside k ≡ false
+pub outside : {A : Type 0} (p : ℕ) (k : ReadKind) (place : ℕ) (kind : ReadKind) (r : Result A Fault) → r ≡ Err (p, k) → is_met_inside k ≡ false
     → r ≡ Err (place, kind) → is_met_inside kind ≡ true → ⊥
 outside p k place kind r h o e i =
     let s : k ≡ kind = kinds_met (p, k) place kind r h e in
@@ -166,65 +162,7 @@ finish_kind items [] place kind h i = cc
 finish_kind items (opened d at before ∷ levels) place kind h i = outside at Unclosed place kind (finish items (opened d at before ∷ levels)) refl refl h i
 finish_kind items (marked m at ∷ levels) place kind h i = outside at Unclosed place kind (finish items (marked m at ∷ levels)) refl refl h i
 
-not_at_end : (k total : ℕ) (state : State) (place : ℕ) (kind : ReadKind) → pieces k total state [] ≡ Err (place, kind)
+pub not_at_end : (k total : ℕ) (state : State) (place : ℕ) (kind : ReadKind) → pieces k total state [] ≡ Err (place, kind)
     → is_met_inside kind ≡ true → ⊥
 not_at_end zero total state place kind h i = outside total Long place kind (pieces zero total state []) refl refl h i
 not_at_end (suc k) total state place kind h i = finish_kind state.items state.levels place kind h i
-
--- the same behind a gap
-gap_pieces : (k j total : ℕ) (state : State) (bytes more : List ℕ) (place : ℕ) (kind : ReadKind) → is_met_inside kind ≡ true
-    → ((rest : List ℕ) → pieces k total state rest ≡ Err (place, kind) → pieces j (total + length more) state (rest ++ more) ≡ Err (place, kind))
-    → pieces k total state (after_gap bytes) ≡ Err (place, kind) → pieces j (total + length more) state (after_gap (bytes ++ more)) ≡ Err (place, kind)
-gap_pieces k j total state bytes more place kind i f h =
-    elim (after_gap bytes) as (λ v. after_gap bytes ≡ v → pieces k total state v ≡ Err (place, kind)
-    → pieces j (total + length more) state (after_gap (bytes ++ more)) ≡ Err (place, kind)) [
-      | [] ↦ λ e l. absurd (not_at_end k total state place kind l i)
-      | b ∷ bs ↦ λ e l. ap (λ t. pieces j (total + length more) state t) (gap_more false bytes more b bs e) ∙ f (b ∷ bs) l
-    ] refl h
-
--- a piece that is no fault, or is this one
-piece_step : (k j total : ℕ) (more : List ℕ) (place : ℕ) (kind : ReadKind) (r q : Result (State × List ℕ) Fault) → q ≡ extend more r
-    → ((next : State) (rest : List ℕ) → pieces k total next (after_gap rest) ≡ Err (place, kind)
-    → pieces j (total + length more) next (after_gap (rest ++ more)) ≡ Err (place, kind))
-    → (r >>= λ found. pieces k total found.0 (after_gap found.1)) ≡ Err (place, kind)
-    → (q >>= λ found. pieces j (total + length more) found.0 (after_gap found.1)) ≡ Err (place, kind)
-piece_step k j total more place kind (Ok p) q e f h =
-    ap (λ x. x >>= λ found. pieces j (total + length more) found.0 (after_gap found.1)) e ∙ f p.0 p.1 h
-piece_step k j total more place kind (Err x) q e f h =
-    ap (λ x. x >>= λ found. pieces j (total + length more) found.0 (after_gap found.1)) e ∙ h
-
-pieces_more : (k j total : ℕ) (state : State) (bytes more : List ℕ) (place : ℕ) (kind : ReadKind) → AtTokenEnd more → is_met_inside kind ≡ true → k ≤ j
-    → pieces k total state bytes ≡ Err (place, kind) → pieces j (total + length more) state (bytes ++ more) ≡ Err (place, kind)
-pieces_more zero j total state bytes more place kind e i l h = absurd (outside total Long place kind (pieces zero total state bytes) refl refl h i)
-pieces_more (suc k) zero total state bytes more place kind e i l h = absurd (omega arith)
-pieces_more (suc k) (suc j) total state [] more place kind e i l h = absurd (finish_kind state.items state.levels place kind h i)
-pieces_more (suc k) (suc j) total state (b ∷ bs) more place kind e i l h =
-    let here : ℕ = total - length (b ∷ bs) in
-    let same : (total + length more) - length (b ∷ (bs ++ more)) ≡ here = omega (arith, length-append bs more) in
-    let inside : piece here b bs state ≡ Err (here, Unclosed) → ⊥ = λ q.
-    outside here Unclosed place kind (pieces (suc k) total state (b ∷ bs)) (ap (λ r. r >>= λ found. pieces k total found.0 (after_gap found.1)) q) refl h i in
-    piece_step k j total more place kind (piece here b bs state) (piece ((total + length more) - length (b ∷ (bs ++ more))) b (bs ++ more) state)
-    (ap (λ n. piece n b (bs ++ more) state) same ∙ piece_more here b bs more state e inside)
-    (λ next rest. gap_pieces k j total next rest more place kind i (λ t. pieces_more k j total next t more place kind e i (omega arith)))
-    h
-
-scan_more : (bytes more : List ℕ) (place : ℕ) (kind : ReadKind) → AtTokenEnd more → is_met_inside kind ≡ true → scan bytes ≡ Err (place, kind)
-    → scan (bytes ++ more) ≡ Err (place, kind)
-scan_more bytes more place kind e i h =
-    let whole : ℕ → Result (List Val) Fault = λ n. pieces (suc (length (bytes ++ more))) n start (after_gap (bytes ++ more)) in
-    ap whole (length-append bytes more)
-    ∙ gap_pieces (suc (length bytes)) (suc (length (bytes ++ more))) (length bytes) start bytes more place kind i
-    (λ t. pieces_more (suc (length bytes)) (suc (length (bytes ++ more))) (length bytes) start t more place kind e i (omega (arith, length-append bytes more))) h
-
--- a text with a fault inside is UTF-8
-inside_utf8 : (bytes : List ℕ) (place : ℕ) (kind : ReadKind) → length bytes ≤ 65536 → is_met_inside kind ≡ true → read bytes ≡ Err (place, kind) → IsUtf8 bytes
-inside_utf8 bytes place kind l i h =
-    ⊎_elim (λ e. IsUtf8-from_is_utf8 bytes e)
-    (λ e. absurd (outside (utf8_valid_len bytes) Utf8 place kind (read bytes) (cond-false _ _ _ (short_test (length bytes) l) ∙ cond-false _ _ _ e) refl h i))
-    (cases_Bool (is_utf8 bytes))
-
-pub faults_stay : FaultsStay
-faults_stay bytes more place kind h i e u l =
-    let short : length bytes ≤ 65536 = omega (arith, length-append bytes more) in
-    let v = inside_utf8 bytes place kind short i h in
-    read_utf8 (bytes ++ more) l (IsUtf8-append bytes more v u) ∙ scan_more bytes more place kind e i (sym (read_utf8 bytes short v) ∙ h)

@@ -17,7 +17,8 @@ use Rattle.sexp_reader.specs.declared.classes.Delimiter.TheVariants.{Parenthesis
 use Rattle.sexp_reader.specs.declared.classes.Mark.{Mark}
 use Rattle.sexp_reader.specs.declared.classes.Mark.TheVariants.{Quote, Quasiquote, Unquote, UnquoteSplicing}
 use Rattle.sexp_reader.specs.Letters.{class_of, is_plain, is_blank, ends_token, same_delimiter, whole_mark, name_of, escaped, truth_of, is_symbol}
-use Rattle.sexp_reader.specs.Read.{Fault, past_gap, after_gap, token_len, word_at, text_from, escape_from, Level, opened, marked, State, start, marked_list, put, open_list, open_mark, close_list, finish, take_mark, take_text, take_token, with_rest, piece, pieces, scan, read, most_levels}
+use Rattle.sexp_reader.specs.Limits.{most_levels}
+use Rattle.sexp_reader.specs.Read.{Fault, past_gap, after_gap, token_len, word_at, text_from, escape_from, Level, opened, marked, State, start, marked_list, put, open_list, open_mark, close_list, finish, take_mark, take_text, take_token, with_rest, piece, pieces, scan, read}
 use Rattle.sexp_reader.specs.Spells.{NoNewline, AtLineEnd, AllPlain, IsToken, AtTokenEnd, Gap, no_gap, blank, comment, Letters, end_of_text, letter, escape, Encloses, parentheses, brackets, Marks, quote, quasiquote, unquote, unquote_splicing, Datum, a_number, a_truth, a_symbol, a_text, a_list, a_mark, Data, no_data, a_datum, Spells}
 use Rattle.sexp_reader.proofs.Utf8.{same_rest, err_ok, bind_ok, choose_ok, other_word}
 use Rattle.sexp_reader.proofs.ByteClasses.{class_blank, class_comment, class_opening, class_closing, class_mark, class_text, opening_byte, closing_byte, plain_is}
@@ -78,9 +79,9 @@ mutual
 -- texts
 
 pub record Read_text (done bytes : List ℕ) (p : List ℕ × List ℕ) : Type 0 where
-  chars : List ℕ
-  found : p.0 ≡ done ++ chars
-  spelled : Letters bytes chars p.1
+  pub chars : List ℕ
+  pub found : p.0 ≡ done ++ chars
+  pub spelled : Letters bytes chars p.1
 
 more_letters : (b : ℕ) (done bytes : List ℕ) (p : List ℕ × List ℕ) → b ≢ 34 → b ≢ 92 → Read_text (done ++ b ∷ []) bytes p → Read_text done (b ∷ bytes) p
 more_letters b done bytes p q r t =
@@ -247,7 +248,7 @@ opens : (n : ℕ) (state : State) → n + length state.levels ≡ 128 → nat_lt
 opens zero state h l = absurd (grind (arith, nat_tests))
 opens (suc m) state h l = (m, refl)
 
-encloses : (d : Delimiter) → Encloses (opening_byte d) (closing_byte d)
+pub encloses : (d : Delimiter) → Encloses (opening_byte d) (closing_byte d)
 encloses Parenthesis = parentheses
 encloses Bracket = brackets
 

@@ -1,4 +1,5 @@
 pub mod Letters
+pub mod Limits
 pub mod Read
 pub mod Spells
 pub mod Views

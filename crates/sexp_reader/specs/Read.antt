@@ -9,6 +9,7 @@ use Rattle.sexp_reader.specs.declared.fault.ReadKind.TheVariants.{Long, Utf8, To
 use Rattle.sexp_reader.specs.declared.classes.Class.TheVariants.{Blank, Comment, Opening, Closing, Marking, DoubleQuote, Plain}
 use Rattle.sexp_reader.specs.declared.classes.Delimiter.{Delimiter}
 use Rattle.sexp_reader.specs.declared.classes.Mark.{Mark}
+use Rattle.sexp_reader.specs.Limits.{most_bytes, most_levels}
 use Rattle.sexp_reader.specs.Letters.{class_of, is_plain, same_delimiter, whole_mark, name_of, escaped, truth_of, is_symbol}
 
 -- a place and what is wrong there
@@ -80,10 +81,6 @@ put v items [] = record { items = items ++ v ∷ []; levels = [] }
 put v items (opened delimiter at before ∷ levels) = record { items = items ++ v ∷ []; levels = opened delimiter at before ∷ levels }
 put v items (marked mark at ∷ levels) = put (marked_list mark v) items levels
 
--- how many lists and marks may be open
-abbrev pub most_levels : ℕ
-most_levels = 128
-
 -- a parenthesis or bracket at this place opens a list
 abbrev pub open_list : Delimiter → ℕ → State → Result State Fault
 open_list delimiter place state =
@@ -150,10 +147,6 @@ pieces (suc n) total state (b ∷ bs) =
 -- the data of a text that is UTF-8 and not too long, or its first fault
 abbrev pub scan : List ℕ → Result (List Val) Fault
 scan bytes = pieces (suc (length bytes)) (length bytes) start (after_gap bytes)
-
--- how many bytes a text may have
-abbrev pub most_bytes : ℕ
-most_bytes = 65536
 
 -- a text's data or its first fault: first its length is tested, then whether it is UTF-8, and then it is scanned
 abbrev pub read : List ℕ → Result (List Val) Fault

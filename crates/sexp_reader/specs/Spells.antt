@@ -3,6 +3,7 @@ use Rattle.std.specs.Prelude.{◌≡◌, ◌≢◌, ℕ, suc, ◌≤◌, Bool, t
 use Rattle.std.specs.Str.{IsUtf8}
 use Rattle.script_value.specs.Val.{Val, number, truth, text, symbol, list, vals_of}
 use Rattle.script_value.specs.Numbers.{is_number, number_of, is_in_range}
+use Rattle.sexp_reader.specs.Limits.{most_bytes, most_levels}
 use Rattle.sexp_reader.specs.Letters.{is_blank, ends_token, escaped, is_symbol}
 
 -- a comment holds no newline
@@ -85,6 +86,6 @@ mutual
 
 -- A text spells data: it is UTF-8 of at most 65,536 bytes, and the whole of it is a spelling of the data with at most 128 levels.
 pub record Spells (bytes : List ℕ) (vs : List Val) : Type 0 where
-  pub short : length bytes ≤ 65536
+  pub short : length bytes ≤ most_bytes
   pub utf8 : IsUtf8 bytes
-  pub grammar : Data 128 bytes vs []
+  pub grammar : Data most_levels bytes vs []

@@ -3,10 +3,13 @@ use Rattle.std.specs.Prelude.{◌≡◌, pos, negsuc, true, false, Ok, Err, [], 
 use Rattle.std.specs.Str.{is_utf8, chars}
 use Rattle.std.specs.Str.Lossy.{utf8_valid_len}
 use Rattle.std.proofs.Math.Utf8.{encode}
+use Rattle.std.proofs.lemmas.Bool.{eqb-false}
 use Rattle.script_value.specs.Val.{number, truth, text, symbol, list, vals_of}
 use Rattle.sexp_reader.specs.declared.fault.ReadKind.TheVariants.{Token, Unclosed, Unopened, Mismatch, Range, Deep, Long, Utf8}
 use Rattle.sexp_reader.specs.declared.classes.Mark.TheVariants.{Quote, Quasiquote, Unquote, UnquoteSplicing}
 use Rattle.sexp_reader.specs.Read.{read, scan, marked_list}
+use Rattle.sexp_reader.specs.Spells.{no_gap, blank, comment, brackets, unquote_splicing}
+use Rattle.sexp_reader.specs.Laws.{no_escape, past_letter, past_escape, Faulty, no_word, no_text, no_datum, deep_mark}
 
 -- the text that is open is the innermost
 pub inner_text : scan (codes "(p \"") ≡ Err (3, Unclosed)
@@ -136,3 +139,17 @@ other_characters = refl
 pub other_token : read (97 ∷ 32 ∷ 195 ∷ 169 ∷ []) ≡ Err (2, Token)
 unfolding is_utf8 chars encode utf8_valid_len
 other_token = refl
+
+-- pieces at fault: up to the end of a token, to the byte that makes no escape, and to what closes
+pub faulty_token : Faulty Token (codes "a{c")
+faulty_token = no_word (codes "a{c") (refl, (refl, (refl, tt))) refl refl
+
+pub faulty_text : Faulty Token (codes "\"a\\\"\\q")
+faulty_text = no_text _ (past_letter 97 _ (eqb-false 97 34 refl) (eqb-false 97 92 refl) (past_escape 34 34 _ refl (no_escape 113 refl)))
+
+pub faulty_mark : Faulty Token (codes ",@ ;x\n]")
+faulty_mark = no_datum (codes ",@") (codes "unquote-splicing") (codes " ;x\n") 91 93 unquote_splicing
+    (blank 32 _ _ refl (comment (codes "x") (codes "\n]") _ (eqb-false 120 10 refl, tt) refl (blank 10 _ _ refl (no_gap (codes "]"))))) brackets
+
+pub faulty_comma : Faulty Deep (codes ",")
+faulty_comma = deep_mark 44 (codes "@") (codes "unquote-splicing") unquote_splicing

@@ -9,5 +9,5 @@ mod scan;
 mod words;
 
 pub use fault::{ReadError, ReadFault, ReadKind};
-pub use laws::{faults_stay, unclosed_goes_on};
+pub use laws::{first_fault, unclosed_goes_on};
 pub use reader::read_all;

@@ -1,9 +1,10 @@
 ghost use Rattle.std.specs.Prelude.{◌≡◌, ◌+◌, ◌<◌, ◌≤◌, List, [], length, map, IfOk, OnOk, IsUtf8, Ok, Err};
-ghost use Rattle.script_value.specs.Meaning.{meaning};
+ghost use Rattle.script_value.specs.Views.{meaning};
 ghost use Rattle.script_value.specs.Val.{Val};
+ghost use Rattle.sexp_reader.specs.Limits.{most_bytes};
 ghost use Rattle.sexp_reader.specs.Read as spec;
 ghost use Rattle.sexp_reader.specs.Spells.{Spells};
-ghost use Rattle.sexp_reader.specs.Views.{Gives, state_of, level_of, stack_of, piece_at, innermost_mark, past_mark};
+ghost use Rattle.sexp_reader.specs.Views.{Reads, Becomes, Advances, state_of, level_of, stack_of, with_datum, closed_at, data_at_end, piece_at, innermost_mark, past_mark};
 
 use crate::classes::{Class, Delimiter, Mark, class_of, name_of, whole_mark};
 use crate::fault::{ReadFault, ReadKind, fault};
@@ -73,7 +74,7 @@ impl Reader {
 
     // One more datum, which ends each mark right before it.
     fn put(&mut self, alloc: Global, value: Value) -> Result<(), ReadFault>
-        ensures { Gives (λ _. state_of self.new) result (Ok (spec.put (meaning value) (map meaning self.old.items.items) (stack_of self.old.levels.items))) }
+        ensures { Becomes self.new result (Ok (with_datum (meaning value) (state_of self.old))) }
     {
         let mut value = value;
         while let Some(mark) = self.end_mark()? {
@@ -90,7 +91,7 @@ impl Reader {
         delimiter: Delimiter,
         place: u64,
     ) -> Result<(), ReadFault>
-        ensures { Gives (λ _. state_of self.new) result (spec.open_list delimiter place (state_of self.old)) }
+        ensures { Becomes self.new result (spec.open_list delimiter place (state_of self.old)) }
     {
         if self.levels.len() >= MOST_LEVELS {
             return Err(fault(place, ReadKind::Deep));
@@ -102,7 +103,7 @@ impl Reader {
 
     // A mark at this place.
     fn open_mark(&mut self, mark: Mark, place: u64) -> Result<(), ReadFault>
-        ensures { Gives (λ _. state_of self.new) result (spec.open_mark mark place (state_of self.old)) }
+        ensures { Becomes self.new result (spec.open_mark mark place (state_of self.old)) }
     {
         if self.levels.len() >= MOST_LEVELS {
             return Err(fault(place, ReadKind::Deep));
@@ -118,7 +119,7 @@ impl Reader {
         delimiter: Delimiter,
         place: u64,
     ) -> Result<(), ReadFault>
-        ensures { Gives (λ _. state_of self.new) result (spec.close_list delimiter place (map meaning self.old.items.items) (stack_of self.old.levels.items)) }
+        ensures { Becomes self.new result (closed_at delimiter place (state_of self.old)) }
     {
         match self.levels.pop() {
             None => Err(fault(place, ReadKind::Unopened)),
@@ -140,7 +141,7 @@ impl Reader {
         place: u64,
         bytes: &'a [u8],
     ) -> Result<&'a [u8], ReadFault>
-        ensures found { Gives (λ rest. (state_of self.new, rest.now)) result (spec.take_mark mark place bytes.now (state_of self.old)) }
+        ensures found { Advances self.new result (spec.take_mark mark place bytes.now (state_of self.old)) }
         ensures shorter { IfOk result (λ rest. length rest.now ≤ length bytes.now) }
     {
         let (mark, rest) = whole_mark(mark, bytes);
@@ -156,7 +157,7 @@ impl Reader {
         bytes: &'a [u8],
     ) -> Result<&'a [u8], ReadFault>
         requires { IsUtf8 bytes.now }
-        ensures found { Gives (λ rest. (state_of self.new, rest.now)) result (spec.take_text place bytes.now (state_of self.old)) }
+        ensures found { Advances self.new result (spec.take_text place bytes.now (state_of self.old)) }
         ensures shorter { IfOk result (λ rest. length rest.now ≤ length bytes.now) }
     {
         let (text, rest) = text_at(alloc, place, bytes)?;
@@ -171,7 +172,7 @@ impl Reader {
         place: u64,
         bytes: &'a [u8],
     ) -> Result<&'a [u8], ReadFault>
-        ensures found { Gives (λ rest. (state_of self.new, rest.now)) result (spec.take_token place bytes.now (state_of self.old)) }
+        ensures found { Advances self.new result (spec.take_token place bytes.now (state_of self.old)) }
         ensures shorter { IfOk result (λ rest. length rest.now + spec.token_len bytes.now ≡ length bytes.now) }
     {
         let (token, rest) = bytes.split_at(token_len(bytes));
@@ -188,7 +189,7 @@ impl Reader {
         bytes: &'a [u8],
     ) -> Result<&'a [u8], ReadFault>
         requires { IsUtf8 bytes.now }
-        ensures found { Gives (λ rest. (state_of self.new, rest.now)) result (piece_at place bytes.now (state_of self.old)) }
+        ensures found { Advances self.new result (piece_at place bytes.now (state_of self.old)) }
         ensures shorter { IfOk result (λ rest. length rest.now < length bytes.now) }
     {
         let [byte, tail @ ..] = bytes else {
@@ -212,7 +213,7 @@ impl Reader {
 
     // The data of the text at its end.
     fn finish(mut self) -> Result<Vec<Value>, ReadFault>
-        ensures { Gives (λ vs. map meaning vs.items) result (spec.finish (map meaning self.items.items) (stack_of self.levels.items)) }
+        ensures { Reads result (data_at_end (state_of self)) }
     {
         match self.levels.pop() {
             None => Ok(self.items),
@@ -227,7 +228,7 @@ impl Reader {
 // The data of a text that is UTF-8.
 fn scan(alloc: Global, text: &[u8]) -> Result<Vec<Value>, ReadFault>
     requires { IsUtf8 text.now }
-    ensures { Gives (λ vs. map meaning vs.items) result (spec.scan text.now) }
+    ensures { Reads result (spec.scan text.now) }
 {
     let mut reader = Reader::new(alloc);
     let mut rest = after_gap(text);
@@ -243,8 +244,8 @@ const MOST_BYTES: usize = 65_536;
 
 // The data of a text, or its first fault.
 fn read_text(alloc: Global, text: &[u8]) -> Result<Vec<Value>, ReadFault>
-    ensures value { Gives (λ vs. map meaning vs.items) result (spec.read text.now) }
-    ensures memory { result ≡ Err ReadFault.Memory → (length text.now ≤ 65536) × IsUtf8 text.now }
+    ensures value { Reads result (spec.read text.now) }
+    ensures memory { result ≡ Err ReadFault.Memory → (length text.now ≤ most_bytes) × IsUtf8 text.now }
 {
     if text.len() > MOST_BYTES {
         return Err(fault(MOST_BYTES as u64, ReadKind::Long));
@@ -258,13 +259,13 @@ fn read_text(alloc: Global, text: &[u8]) -> Result<Vec<Value>, ReadFault>
 /// The data that a text spells, or its first fault.
 pub fn read_all(alloc: Global, text: &[u8]) -> Result<Vec<Value>, ReadFault>
     // The answer is that of reading, unless memory ran out.
-    ensures value { Gives (λ vs. map meaning vs.items) result (spec.read text.now) }
+    ensures value { Reads result (spec.read text.now) }
     // What is read is spelled so.
     ensures spelled { IfOk result (λ vs. Spells text.now (map meaning vs.items)) }
     // What is spelled so is read, unless memory ran out.
-    ensures found { (wanted : List Val) → Spells text.now wanted → Gives (λ vs. map meaning vs.items) result (Ok wanted) }
+    ensures found { (wanted : List Val) → Spells text.now wanted → Reads result (Ok wanted) }
     // A text that is too long, or is no UTF-8, is told so, whatever memory there is.
-    ensures memory { result ≡ Err ReadFault.Memory → (length text.now ≤ 65536) × IsUtf8 text.now }
+    ensures memory { result ≡ Err ReadFault.Memory → (length text.now ≤ most_bytes) × IsUtf8 text.now }
 {
     read_text(alloc, text)
 }

@@ -1,7 +1,7 @@
 ghost use Rattle.std.specs.Prelude.{◌≡◌};
 ghost use Rattle.std.specs.List.{list_all};
 ghost use Rattle.std.specs.Str.Parse.{without_leading_sign};
-ghost use Rattle.script_value.specs.Meaning.{meaning};
+ghost use Rattle.script_value.specs.Views.{meaning};
 ghost use Rattle.script_value.specs.Numbers as numbers;
 ghost use Rattle.sexp_reader.specs.Letters as letters;
 ghost use Rattle.sexp_reader.specs.Read as spec;

@@ -1,5 +1,5 @@
 use Rattle.std.proofs.Common.{map}
-use Rattle.script_value.specs.Meaning.{meaning}
+use Rattle.script_value.specs.Views.{meaning}
 use Rattle.sexp_reader.proofs.Exact.{answer_spells, answer_found}
 use Rattle.sexp_reader.proofs.reader.read_all.Goals as goal
 

@@ -1,5 +1,5 @@
 use Rattle.std.proofs.Common.{◌≡◌, length, map}
-use Rattle.script_value.specs.Meaning.{meaning}
+use Rattle.script_value.specs.Views.{meaning}
 use Rattle.sexp_reader.specs.Read.{put}
 use Rattle.sexp_reader.specs.Views.{stack_of}
 use Rattle.sexp_reader.proofs.reader.Reader.put.Given as goal
