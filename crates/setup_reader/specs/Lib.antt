@@ -1,0 +1,7 @@
+pub mod Limits
+pub mod Setup
+pub mod Sections
+pub mod Standing
+pub mod Faults
+pub mod Views
+pub mod Vectors

@@ -1,0 +1,50 @@
+-- What the program's setup stands for.
+use Rattle.std.specs.Prelude.{◌≡◌, Result, Ok, Err, ⊤, ℕ, List}
+use Rattle.page_names.specs.Views.{name_of}
+use Rattle.core_syntax.specs.Views.{scripts_of, named_of}
+use Rattle.std.specs.Borrow.{Bor}
+use Rattle.core_syntax.specs.declared.setup.NamedScript.{NamedScript}
+use Rattle.core_syntax.specs.Setup.{Named}
+use Rattle.setup_reader.specs.declared.fault.SetupError.{SetupError}
+use Rattle.setup_reader.specs.declared.fault.SetupError.TheVariants as error
+use Rattle.setup_reader.specs.declared.fault.SetupFault.{SetupFault}
+use Rattle.setup_reader.specs.declared.fault.SetupFault.TheVariants.{Memory, At}
+use Rattle.setup_reader.specs.declared.setup.Section.{Section}
+use Rattle.setup_reader.specs.declared.setup.Parsed.{Parsed}
+use Rattle.setup_reader.specs.Setup as spec
+use Rattle.setup_reader.specs.Faults.{fault_line}
+
+abbrev pub piece_of : Section → spec.Piece
+piece_of s = record { name = name_of s.name; text = s.text.now; rest = s.rest.now }
+
+abbrev pub parsed_of : Parsed → spec.Parsed
+parsed_of p = record { scripts = scripts_of p.setup; steps = p.steps.now }
+
+abbrev pub fault_of : SetupError → spec.Fault
+fault_of (error.Setup place kind) = spec.at_section place kind
+fault_of (error.Read name e) = spec.at_text (name_of name) e.place e.kind
+fault_of (error.Syntax name e) = spec.at_form (name_of name) e.form e.kind
+
+-- the line that tells a fault
+abbrev pub line_of : SetupError → List ℕ
+line_of e = fault_line (fault_of e)
+
+-- an answer with a fault is that fault; want of memory is free
+abbrev pub Fails : {Y : Type 0} → SetupFault → Result Y spec.Fault → Type 0
+Fails Memory wanted = ⊤
+Fails (At e) wanted = wanted ≡ Err (fault_of e)
+
+-- an answer, seen by view, is what is wanted
+abbrev pub Gives : {X Y : Type 0} → (X → Y) → Result X SetupFault → Result Y spec.Fault → Type 0
+Gives view (Ok x) wanted = wanted ≡ Ok (view x)
+Gives view (Err e) wanted = Fails e wanted
+
+-- the script that is answered is the one that is wanted, and what follows its section
+abbrev pub Finds : Result (NamedScript × Bor (List ℕ)) SetupFault → Result (Named × List ℕ) spec.Fault → Type 0
+Finds result wanted = Gives (λ found. (named_of found.0, found.1.now)) result wanted
+
+-- a fault that is told has this property; want of memory is free
+abbrev pub Tells : {X : Type 0} → (spec.Fault → Type 0) → Result X SetupFault → Type 0
+Tells P (Ok x) = ⊤
+Tells P (Err Memory) = ⊤
+Tells P (Err (At e)) = P (fault_of e)
