@@ -1,0 +1,222 @@
+-- Words that clap takes hold each value that their command needs, in its range.
+use Rattle.std.proofs.Common.{◌≡◌, ◌∙◌, ◌≤◌, ℕ, Bool, cond, true, false, sym, ap, subst, List, [], ◌∷◌, drop, Option, Some, None, is_some, option_map, refl, codes}
+use Rattle.std.specs.Prelude.{option_and_then, slice_get}
+use Rattle.std.specs.List.{AllByRecursion as Each, find, fold}
+use Rattle.std.specs.Option.{option_map_or}
+use Rattle.std.specs.Str.{bytes_eq}
+use Rattle.std.proofs.lemmas.Slice.Eq.{bytes_eq-Decides}
+use Rattle.clap.specs.Facts.{parser_of_value}
+use Rattle.clap.specs.Faults.{check_fault, entered_fault, fault_of, level_fault, settle_fault, defaults_fault, values_fault, walk_fault}
+use Rattle.clap.specs.Kinds.{value_kinds}
+use Rattle.clap.specs.Takes.{is_given}
+use Rattle.clap.specs.Simple.{Shape, built, entered, label_of, names_of, rows_at, subcommand_of}
+use Rattle.clap.specs.Values.{Accepts, read_as, refused_kind}
+use Rattle.clap.specs.ValueTests.{accepts}
+use Rattle.clap.specs.Walk.{Row, Rule, Text, answers_to, arg_by_id, finished, first_of, nothing_held, one_of, reading_by, row_text, rows_after, settled, walk, walk_from, with_default}
+use Rattle.clap.specs.declared.builder.value_parser.Reading.{Reading}
+use Rattle.clap.specs.declared.builder.value_parser.Reading.TheVariants.{AsWritten}
+use Rattle.clap.specs.declared.builder.value_parser.ValueParser.{ValueParser}
+use Rattle.clap.specs.declared.builder.value_parser.ValueParser.TheVariants as vp
+use Rattle.clap.specs.declared.error.kind.ErrorKind.TheVariants.{MissingRequiredArgument}
+use Rattle.clap.proofs.OnLiterals.{clap_on_literals}
+use Rattle.clap.proofs.ValueTestLemmas.{accepts-Accepts}
+use Rattle.command_words.specs.App.{app, check_shape, play_shape, serve_shape}
+use Rattle.command_words.specs.Options.{Item, connections, fuel, instances, life, pages, port}
+use Rattle.command_words.specs.Plain.{AreInRange, Asked, CanServe, IsInRange, check, play, serve}
+use Rattle.command_words.specs.Reads.{HoldsAsked, HoldsChoices, HoldsFor, HoldsNumber, HoldsServing, asked_as, asked_from, choices_at, for_check, for_play, for_serve, number_at, serving_at}
+use Rattle.command_words.proofs.Found.{HasDefault}
+use Rattle.command_words.proofs.PlainWords.{Serves, play_serves, serve_default_connections, serve_serves}
+use Rattle.command_words.proofs.Rows.{filled_in, find_row, has_of, kept}
+use Rattle.command_words.proofs.Sound.{AllKnown, Level, Sound, find_all, good_row, level_sound, neither, sets_value, shows_help}
+use Rattle.command_words.proofs.Tables.{built_sub}
+use Rattle.command_words.proofs.Uses.{built_rule, value_fault}
+
+-- ---- one value
+
+same_some : {X : Type 0} (o : Option X) (a b : X) → o ≡ Some a → o ≡ Some b → a ≡ b
+same_some o a b e f = cc
+
+-- the value that the rows hold for the rule a
+record Value (a : Rule) (rows : List Row) (id : Text) : Type 0 where
+  text : Text
+  one : one_of id rows ≡ Some text
+  first : first_of id rows ≡ Some text
+  passes : value_fault a text ≡ []
+
+value_of : (c : List Rule) (a : Rule) (rows : List Row) (id : Text) (r : Row) → Sound c rows → find_row id rows ≡ Some r → arg_by_id c id ≡ Some a → reading_by a ≡ AsWritten → Value a rows id
+value_of c a rows id r sound e by_id reading =
+    let found = good_row c rows id r sound e in
+    let good = found.0 in
+    let id_is : r.id ≡ id = (bytes_eq-Decides r.id id).0 found.1 in
+    let rule_is : good.rule ≡ a = same_some (arg_by_id c id) good.rule a (ap (arg_by_id c) (sym id_is) ∙ good.is) by_id in
+    let how : r.reading ≡ AsWritten = good.reading ∙ ap reading_by rule_is ∙ reading in
+    let values : r.values ≡ good.some.0 ∷ good.some.1 = good.some.2 in
+    let first : slice_get r.values 0 ≡ Some good.some.0 = ap (λ (l : List Text). slice_get l 0) values in
+    let passes : values_fault a (good.some.0 ∷ good.some.1) ≡ [] =
+    subst (λ (x : Rule). values_fault x (good.some.0 ∷ good.some.1) ≡ []) rule_is (subst (λ (l : List Text). values_fault good.rule l ≡ []) values good.passes) in
+    record {
+      text = good.some.0;
+      one = ap (option_and_then row_text) e ∙ ap (λ (h : Reading). option_map (read_as h) (slice_get r.values 0)) how ∙ ap (option_map (read_as AsWritten)) first;
+      first = ap (option_and_then (λ (x : Row). slice_get x.values 0)) e ∙ first;
+      passes = (neither (value_fault a good.some.0) _ passes).0;
+    }
+
+accepted : (b : Bool) (p : ValueParser) (text : Text) → value_kinds b p text ≡ [] → accepts b p text ≡ true
+accepted b p text e = go (accepts b p text) e
+  where
+    go : (x : Bool) → cond x [] (refused_kind p ∷ []) ≡ [] → x ≡ true
+    go true e = refl
+    go false e = cc
+
+accepted_by : (a : Rule) (p : ValueParser) (text : Text) → parser_of_value a.parser ≡ p → value_fault a text ≡ [] → Accepts a.ignore_case p text
+accepted_by a p text is fine = accepts-Accepts a.ignore_case p text (accepted a.ignore_case p text (ap (λ (q : ValueParser). value_kinds a.ignore_case q text) (sym is) ∙ fine))
+
+number_in : (a : Rule) (rows : List Row) (id : Text) (low high : ℕ) → parser_of_value a.parser ≡ vp.Unsigned low high → Value a rows id → HoldsNumber low high rows id
+number_in a rows id low high is v = (v.text, v.one, accepted_by a (vp.Unsigned low high) v.text is v.passes)
+
+-- ---- an option with a default has a row
+
+default_row : (c : List Rule) (before : List Row) (i : Item) (text : Text) → HasDefault c i text → (r : Row) × (find_row i.name (fold with_default before c) ≡ Some r)
+default_row c before i text d = go (find_row i.name before) refl
+  where
+    go : (o : Option Row) → find_row i.name before ≡ o → (r : Row) × (find_row i.name (fold with_default before c) ≡ Some r)
+    go None e = (_, filled_in c i.name before (built_rule i) text [] e (ap (λ n. bytes_eq n i.name) d.named.id ∙ d.own) (has_of (built_rule i).id before ∙ ap (λ n. is_some (find_row n before)) d.named.id ∙ ap is_some e) d.by_id d.defaults)
+    go (Some r) e = (r, kept c i.name before r e)
+
+by_default : (s : Shape) (words : List Text) (i : Item) (text : Text) → Level s words → HasDefault s.rules i text → Value (built_rule i) (rows_after s.rules [] words) i.name
+by_default s words i text l d =
+    let row = default_row s.rules l.before i text d in
+    value_of s.rules (built_rule i) (rows_after s.rules [] words) i.name row.0 l.sound (ap (find_row i.name) l.filled ∙ row.1) d.by_id d.named.reading
+
+choices_in : (s : Shape) (words : List Text) → Level s words → Serves s.rules → HoldsChoices (rows_after s.rules [] words)
+choices_in s words l d = record {
+  fuel = number_in (built_rule fuel) _ _ 1 10000000 refl (by_default s words fuel _ l d.fuel);
+  life = number_in (built_rule life) _ _ 1 2147483648 refl (by_default s words life _ l d.life);
+  instances = number_in (built_rule instances) _ _ 1 4096 refl (by_default s words instances _ l d.instances);
+  pages = number_in (built_rule pages) _ _ 1 1024 refl (by_default s words pages _ l d.pages);
+}
+
+play_known : AllKnown (built_sub play_shape).rules
+unfolding clap_on_literals
+play_known = (record { does = sets_value refl refl; by_id = refl }, (record { does = sets_value refl refl; by_id = refl }, (record { does = sets_value refl refl; by_id = refl }, (record { does = sets_value refl refl; by_id = refl }, (record { does = shows_help refl; by_id = refl }, tt)))))
+
+play_holds : (words : List Text) → level_fault (built_sub play_shape) [] nothing_held words false [] ≡ [] → HoldsFor (codes "play") (rows_after (built_sub play_shape).rules [] words)
+play_holds words fine = for_play refl (choices_in (built_sub play_shape) words (level_sound (built_sub play_shape) words refl play_known fine) play_serves)
+
+-- ---- `serve`
+
+serve_known : AllKnown (built_sub serve_shape).rules
+unfolding clap_on_literals
+serve_known = (record { does = sets_value refl refl; by_id = refl }, (record { does = sets_value refl refl; by_id = refl }, (record { does = sets_value refl refl; by_id = refl }, (record { does = sets_value refl refl; by_id = refl }, (record { does = sets_value refl refl; by_id = refl }, (record { does = sets_value refl refl; by_id = refl }, (record { does = shows_help refl; by_id = refl }, tt)))))))
+
+no_port : (rows : List Row) → is_given (codes "port") rows ≡ false → check_fault (built_sub serve_shape) rows false ≡ MissingRequiredArgument ∷ []
+unfolding clap_on_literals
+no_port rows e = simp e
+
+-- no fault is left only where the port is given
+port_given : (rows : List Row) → check_fault (built_sub serve_shape) rows false ≡ [] → is_given (codes "port") rows ≡ true
+port_given rows e = go (is_given (codes "port") rows) refl
+  where
+    go : (b : Bool) → is_given (codes "port") rows ≡ b → b ≡ true
+    go true given = refl
+    go false given = let missing = no_port rows given in cc
+
+given_row : {X : Type 0} (p : X → Bool) (o : Option X) → option_map_or p o false ≡ true → (x : X) × (o ≡ Some x)
+given_row p None e = cc
+given_row p (Some x) e = (x, refl)
+
+port_in : (words : List Text) → Level (built_sub serve_shape) words → HoldsNumber 0 65535 (rows_after (built_sub serve_shape).rules [] words) (codes "port")
+unfolding clap_on_literals
+port_in words l =
+    let rows = rows_after (built_sub serve_shape).rules [] words in
+    let row = given_row _ (find_row (codes "port") rows) (port_given rows l.checked) in
+    number_in (built_rule port) rows (codes "port") 0 65535 refl (value_of (built_sub serve_shape).rules (built_rule port) rows (codes "port") row.0 l.sound row.1 refl refl)
+
+connections_in : (s : Shape) (words : List Text) → Level s words → HasDefault s.rules connections (codes "10000") → HoldsNumber 1 1000000 (rows_after s.rules [] words) (codes "connections")
+connections_in s words l d = number_in (built_rule connections) _ _ 1 1000000 refl (by_default s words connections _ l d)
+
+serve_level : (words : List Text) → Level (built_sub serve_shape) words → HoldsServing (rows_after (built_sub serve_shape).rules [] words)
+serve_level words l = record {
+  choices = choices_in (built_sub serve_shape) words l serve_serves;
+  port = port_in words l;
+  connections = connections_in (built_sub serve_shape) words l serve_default_connections;
+}
+
+serve_holds : (words : List Text) → level_fault (built_sub serve_shape) [] nothing_held words false [] ≡ [] → HoldsFor (codes "serve") (rows_after (built_sub serve_shape).rules [] words)
+serve_holds words fine = for_serve refl (serve_level words (level_sound (built_sub serve_shape) words refl serve_known fine))
+
+-- ---- the command
+
+data IsSub (s : Shape) : Type 0 where
+  sub_check : s ≡ built_sub check_shape → IsSub s
+  sub_play : s ≡ built_sub play_shape → IsSub s
+  sub_serve : s ≡ built_sub serve_shape → IsSub s
+
+all_subs : Each IsSub (built app).subs
+all_subs = (sub_check refl, (sub_play refl, (sub_serve refl, tt)))
+
+sub_holds : (s : Shape) (words : List Text) → IsSub s → level_fault s [] nothing_held words false [] ≡ [] → HoldsFor s.name (rows_after s.rules [] words)
+sub_holds s words (sub_check e) fine = for_check (ap (λ (x : Shape). x.name) e)
+sub_holds s words (sub_play e) fine =
+    subst (λ (x : Shape). HoldsFor x.name (rows_after x.rules [] words)) (sym e) (play_holds words (subst (λ (x : Shape). level_fault x [] nothing_held words false [] ≡ []) e fine))
+sub_holds s words (sub_serve e) fine =
+    subst (λ (x : Shape). HoldsFor x.name (rows_after x.rules [] words)) (sym e) (serve_holds words (subst (λ (x : Shape). level_fault x [] nothing_held words false [] ≡ []) e fine))
+
+no_command : (rows : List Row) → check_fault (built app).top rows false ≡ [] → ⊥
+unfolding clap_on_literals
+no_command rows e = cc
+
+found_holds : (found : Option Shape) (rows : List Row) (words : List Text) → ((s : Shape) → found ≡ Some s → IsSub s) → option_map_or (λ s. level_fault s [] nothing_held words false []) found [] ≡ []
+    → check_fault (built app).top rows (is_some (option_map (λ s. rows_at s words) found)) ≡ [] → HoldsAsked (option_map (λ s. rows_at s words) found)
+found_holds None rows words is fine checked = no_command rows checked
+found_holds (Some s) rows words is fine checked = sub_holds s words (is s refl) fine
+
+entered_holds : (stop : Option (Text × List Text)) (rows : List Row) → entered_fault (built app) stop ≡ [] → check_fault (built app).top rows (is_some (entered (built app) stop)) ≡ [] → HoldsAsked (entered (built app) stop)
+entered_holds None rows fine checked = no_command rows checked
+entered_holds (Some p) rows fine checked =
+    found_holds (find (λ s. answers_to p.0 (label_of s)) (built app).subs) rows p.1 (λ s e. (find_all IsSub (λ (x : Shape). answers_to p.0 (label_of x)) (built app).subs s all_subs e).0) fine checked
+
+pub holds : (words : List Text) → fault_of app words ≡ [] → HoldsAsked (subcommand_of app words)
+holds words fine =
+    let top = (built app).top in
+    let w = walk top.rules (names_of (built app)) nothing_held (drop 1 words) in
+    let one = neither (walk_fault top (names_of (built app)) (walk_from nothing_held) (drop 1 words)) _ fine in
+    let two = neither (entered_fault (built app) w.stopped) _ one.1 in
+    let three = neither (settle_fault top.rules top.args_override_self w.held) _ two.1 in
+    let four = neither (defaults_fault (settled top.rules w.held).rows top.rules) _ three.1 in
+    entered_holds w.stopped (finished top.rules w.held) two.0 four.1
+
+-- ---- the ranges
+
+number_range : (low high : ℕ) (rows : List Row) (id : Text) → HoldsNumber low high rows id → (low ≤ number_at rows id) × (number_at rows id ≤ high)
+number_range low high rows id h = rw h.1 (h.2.2, h.2.3)
+
+choices_range : (rows : List Row) → HoldsChoices rows → AreInRange (choices_at rows)
+choices_range rows h = record {
+  fuel = number_range 1 10000000 rows (codes "fuel") h.fuel;
+  life = number_range 1 2147483648 rows (codes "life") h.life;
+  instances = number_range 1 4096 rows (codes "instances") h.instances;
+  pages = number_range 1 1024 rows (codes "pages") h.pages;
+}
+
+serving_range : (rows : List Row) → HoldsServing rows → CanServe (serving_at rows)
+serving_range rows h = record {
+  choices = choices_range rows h.choices;
+  port = (number_range 0 65535 rows (codes "port") h.port).1;
+  connections = number_range 1 1000000 rows (codes "connections") h.connections;
+}
+
+for_range : (name : Text) (rows : List Row) (asked : Asked) → HoldsFor name rows → asked_as name rows ≡ Some asked → IsInRange asked
+for_range name rows asked (for_check is) e = subst IsInRange (same_some (asked_as name rows) check asked (ap (λ n. asked_as n rows) is) e) tt
+for_range name rows asked (for_play is h) e = subst IsInRange (same_some (asked_as name rows) (play (choices_at rows)) asked (ap (λ n. asked_as n rows) is) e) (choices_range rows h)
+for_range name rows asked (for_serve is h) e = subst IsInRange (same_some (asked_as name rows) (serve (serving_at rows)) asked (ap (λ n. asked_as n rows) is) e) (serving_range rows h)
+
+in_range : (o : Option (Text × List Row)) (asked : Asked) → HoldsAsked o → asked_from o ≡ Some asked → IsInRange asked
+in_range None asked held e = absurd held
+in_range (Some p) asked held e = for_range p.0 p.1 asked held e
+
+pub ranges : (words : List Text) (asked : Asked) → HoldsAsked (subcommand_of app words) → asked_from (subcommand_of app words) ≡ Some asked → IsInRange asked
+ranges words asked held e = in_range (subcommand_of app words) asked held e
+
+pub same_asked : (o : Option Asked) (a b : Asked) → o ≡ Some a → o ≡ Some b → a ≡ b
+same_asked o a b e f = cc

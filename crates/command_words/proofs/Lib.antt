@@ -1,0 +1,10 @@
+pub mod Building
+pub mod Rows
+pub mod Uses
+pub mod Found
+pub mod Tables
+pub mod Levels
+pub mod Reading
+pub mod PlainWords
+pub mod Sound
+pub mod Holds

@@ -1,0 +1,63 @@
+-- The program's command line, as clap's words tell it.
+use Rattle.std.specs.Prelude.{◌∷◌, ℕ, true, false, List, [], codes, map, Option, Some, None, fold}
+use Rattle.std.specs.Borrow.{Bor}
+use Rattle.clap.specs.Simple.{App, Shape, new_shape, new_rule, with_rule}
+use Rattle.clap.specs.Walk.{Rule}
+use Rattle.clap.specs.declared.builder.action.ArgAction.TheVariants.{Set, SetTrue}
+use Rattle.clap.specs.declared.builder.value_parser.ValueParser.{ValueParser}
+use Rattle.clap.specs.declared.builder.value_parser.ValueParser.TheVariants as vp
+use Rattle.command_words.specs.Options.{Item, Kind, Text, number, directory, flag, play_items, serve_items}
+
+abbrev pub texts : List (Bor (List ℕ)) → List (List ℕ)
+texts words = map (λ w. w.now) words
+
+abbrev pub value_rule : Text → ValueParser → Rule
+value_rule name parser = record (new_rule name) {
+  long = Some name;
+  action = Some Set;
+  parser = Some parser;
+}
+
+abbrev pub flag_rule : Text → Rule
+flag_rule name = record (new_rule name) { long = Some name; action = Some SetTrue }
+
+-- the value has a default, or else the option is required
+abbrev pub or_default : Option Text → Rule → Rule
+or_default None r = record r { required = true }
+or_default (Some text) r = record r { defaults = text ∷ [] }
+
+abbrev pub rule_by : Kind → Text → Option Text → Rule
+rule_by (number low high) name default = or_default default (value_rule name (vp.Unsigned low high))
+rule_by directory name default = or_default default (value_rule name vp.NonEmptyString)
+rule_by flag name default = flag_rule name
+
+abbrev pub rule_for : Item → Rule
+rule_for i = rule_by i.kind i.name i.default
+
+-- a command with more arguments
+abbrev pub with_rules : App → List Rule → App
+with_rules a rules = fold with_rule a rules
+
+abbrev pub shape_for : Text → List Rule → Shape
+shape_for name rules = record (new_shape name) { rules = rules }
+
+abbrev pub check_shape : Shape
+check_shape = new_shape (codes "check")
+
+abbrev pub play_shape : Shape
+play_shape = shape_for (codes "play") (map rule_for play_items)
+
+abbrev pub serve_shape : Shape
+serve_shape = shape_for (codes "serve") (map rule_for serve_items)
+
+abbrev pub bare_top : Shape
+bare_top = record (new_shape (codes "script_server")) {
+  subcommand_required = true;
+  disable_help_subcommand = true;
+}
+
+abbrev pub app : App
+app = record {
+  top = record bare_top { is_leaf = false };
+  subs = check_shape ∷ play_shape ∷ serve_shape ∷ [];
+}

@@ -1,0 +1,105 @@
+-- The options of the commands, as a table, and options as they are written, in any order.
+use Rattle.std.specs.Prelude.{⊤, ◌≡◌, ◌≤◌, ◌==◌, ◌++◌, ◌∷◌, ◌⊎◌, ℕ, Bool, true, false, List, [], Option, Some, None, is_some, unwrap_or, codes, if◌then◌else◌}
+use Rattle.std.specs.List.{AllByRecursion as Each}
+use Rattle.std.specs.Fmt.{decimal}
+use Rattle.std.specs.Str.{bytes_eq}
+use Rattle.std.specs.Str.Parse.{digits_value}
+
+abbrev pub Text : Type 0
+Text = List ℕ
+
+-- what stands behind an option: a number from the first to the second, a directory, or nothing
+pub data Kind : Type 0 where
+  number : ℕ → ℕ → Kind
+  directory : Kind
+  flag : Kind
+
+pub record Item : Type 0 where
+  pub name : Text
+  pub kind : Kind
+  -- what holds where the option is not written; an option with none has to be
+  pub default : Option Text
+
+abbrev pub fuel : Item
+fuel = record { name = codes "fuel"; kind = number 1 10000000; default = Some (codes "100000") }
+
+abbrev pub life : Item
+life = record { name = codes "life"; kind = number 1 2147483648; default = Some (codes "3600") }
+
+abbrev pub instances : Item
+instances = record { name = codes "instances"; kind = number 1 4096; default = Some (codes "256") }
+
+abbrev pub pages : Item
+pages = record { name = codes "pages"; kind = number 1 1024; default = Some (codes "64") }
+
+abbrev pub port : Item
+port = record { name = codes "port"; kind = number 0 65535; default = None }
+
+abbrev pub connections : Item
+connections = record { name = codes "connections"; kind = number 1 1000000; default = Some (codes "10000") }
+
+-- the options of `play`
+abbrev pub play_items : List Item
+play_items = fuel ∷ life ∷ instances ∷ pages ∷ []
+
+-- the options of `serve`: those of `play`, and two of its own
+abbrev pub serve_items : List Item
+serve_items = fuel ∷ life ∷ instances ∷ pages ∷ port ∷ connections ∷ []
+
+-- ---- options as they are written
+
+-- an option, with the text behind it
+pub record Setting : Type 0 where
+  pub item : Item
+  pub text : Text
+
+-- the number is written in decimal, without leading zeros
+abbrev pub IsPlainNumber : ℕ → ℕ → Text → Type 0
+IsPlainNumber low high text = (n : ℕ) × (text ≡ decimal n) × (low ≤ n) × (n ≤ high)
+
+abbrev pub begins_with_hyphen : Text → Bool
+begins_with_hyphen [] = false
+begins_with_hyphen (x ∷ xs) = x == 45
+
+abbrev pub IsPlainText : Kind → Text → Type 0
+IsPlainText (number low high) text = IsPlainNumber low high text
+IsPlainText directory [] = ⊥
+IsPlainText directory (x ∷ xs) = (x == 45) ≡ false
+IsPlainText flag text = text ≡ codes "true"
+
+-- `--name TEXT`, and a flag as `--name`
+abbrev pub words_for : Kind → Text → Text → List Text
+words_for flag name text = (45 ∷ 45 ∷ name) ∷ []
+words_for kind name text = (45 ∷ 45 ∷ name) ∷ text ∷ []
+
+abbrev pub spelled : List Setting → List Text
+spelled [] = []
+spelled (s ∷ rest) = words_for s.item.kind s.item.name s.text ++ spelled rest
+
+-- the text that the settings give the option of this name
+abbrev pub given : Text → List Setting → Option Text
+given name [] = None
+given name (s ∷ rest) = if bytes_eq s.item.name name then Some s.text else given name rest
+
+abbrev pub text_of : Item → List Setting → Text
+text_of i settings = unwrap_or (given i.name settings) (unwrap_or i.default [])
+
+abbrev pub number_of : Item → List Setting → ℕ
+number_of i settings = digits_value 10 (text_of i settings)
+
+-- each option at most once
+abbrev pub IsDistinct : List Setting → Type 0
+IsDistinct [] = ⊤
+IsDistinct (s ∷ rest) =
+    Each (λ t. bytes_eq s.item.name t.item.name ≡ false) rest × IsDistinct rest
+
+abbrev pub IsOneOf : Item → List Item → Type 0
+IsOneOf i [] = ⊥
+IsOneOf i (x ∷ xs) = (i ≡ x) ⊎ IsOneOf i xs
+
+-- options of the table in any order, each at most once, those without a default all there
+pub record ArePlain (table : List Item) (settings : List Setting) : Type 0 where
+  pub known : Each (λ s. IsOneOf s.item table) settings
+  pub fit : Each (λ s. IsPlainText s.item.kind s.text) settings
+  pub once : IsDistinct settings
+  pub there : Each (λ i. i.default ≡ None → is_some (given i.name settings) ≡ true) table

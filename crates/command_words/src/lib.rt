@@ -1,0 +1,277 @@
+//! The words of the program's command line, read by `clap`: a command, and its options in any order.
+#![tactic(auto)]
+
+ghost use Rattle.std.specs.Prelude.{◌≡◌, ◌≢◌, ◌++◌, ◌∷◌, ◌<◌, ◌≤◌, ◌^◌, ℕ, List, [], Some, Err, true, false, codes, map, IfOk, IfErr, is_err};
+ghost use Rattle.std.specs.String.{string_bytes};
+ghost use Rattle.clap.specs.Simple.{app_of, subcommand_of, subcommand_rows_of};
+ghost use Rattle.clap.specs.Faults.{fault_of};
+ghost use Rattle.clap.specs.Walk.{rule_of};
+ghost use Rattle.clap.specs.declared.builder.command.Command.TheViews.{out-Command as fields_of};
+ghost use Rattle.command_words.specs.App.{app, bare_top, play_shape, rule_for, serve_shape, texts, value_rule, with_rules};
+ghost use Rattle.command_words.specs.Options.{connections, fuel, instances, life, pages, play_items, port};
+ghost use Rattle.command_words.specs.Plain.{Asked, IsInRange, IsPlain, asked_by, choices_in, serving_in};
+ghost use Rattle.command_words.specs.Reads.{AsksFor, HoldsAsked, HoldsChoices, HoldsNoNumber, HoldsServing, asked_from, choices_at, number_at, rows_in, serving_at};
+
+use clap::builder::ValueParser;
+use clap::error::ErrorKind;
+use clap::{Arg, ArgAction, ArgMatches, value_parser};
+use std::alloc::{AllocError, Global};
+use thiserror::Error;
+
+/// What the options that `play` and `serve` share say, each in its range.
+#[derive(Clone, Copy, Debug, PartialEq, Eq)]
+pub struct Options {
+    /// The most that a segment may cost, 1 to 10,000,000.
+    pub fuel: u64,
+    /// How long a page can be answered, 1 to 2,147,483,648 seconds.
+    pub life: u64,
+    /// The most live instances of a shelf, 1 to 4,096.
+    pub instances: u32,
+    /// The most pages of an instance, 1 to 1,024.
+    pub pages: u32,
+}
+
+/// What the options of `serve` say, each in its range.
+#[derive(Clone, Copy, Debug, PartialEq, Eq)]
+pub struct Service {
+    /// Those that it shares with `play`.
+    pub options: Options,
+    /// The port to listen at, 0 to 65,535. At 0 the machine chooses one.
+    pub port: u16,
+    /// The most links that are served, 1 to 1,000,000.
+    pub connections: u64,
+}
+
+/// What the words ask for.
+#[derive(Clone, Copy, Debug, PartialEq, Eq)]
+pub enum Command {
+    /// Reads a setup and tells how many scripts it has.
+    Check,
+    /// Reads a setup and steps, and plays them.
+    Play(Options),
+    /// Reads a setup, and serves it over HTTP.
+    Serve(Service),
+}
+
+/// Why words were refused.
+#[derive(Clone, Copy, Debug, PartialEq, Eq, Error)]
+pub enum WordsFault {
+    /// They are no command, or an option is unknown, stands twice or is out of its range; a request for help too.
+    #[error("the words are no command")]
+    Usage,
+    /// Memory ran out.
+    #[error("memory ran out")]
+    Memory,
+}
+
+impl From<AllocError> for WordsFault {
+    ghost use Rattle.command_words.specs.declared.WordsFault.TheVariants.{Memory};
+
+    ghost from_gives = { λ _ e. e ≡ Memory };
+
+    fn from(_: AllocError) -> WordsFault {
+        WordsFault::Memory
+    }
+}
+
+/// `--name VALUE`
+fn value_arg<'a>(alloc: Global, name: &'a str, parser: ValueParser<'a>) -> Arg<'a>
+    ensures rule { rule_of result ≡ value_rule name.entry.now parser.entry }
+    ensures local { result.global ≡ false }
+{
+    Arg::new(alloc, name)
+        .long(name)
+        .action(ArgAction::Set)
+        .value_parser(parser)
+}
+
+/// `--fuel N`
+fn fuel_arg<'a>(alloc: Global) -> Arg<'a>
+    ensures rule { rule_of result ≡ rule_for fuel }
+    ensures local { result.global ≡ false }
+{
+    value_arg(alloc, "fuel", value_parser!(u64).range(1..=10_000_000)).default_value("100000")
+}
+
+/// `--life SECONDS`
+fn life_arg<'a>(alloc: Global) -> Arg<'a>
+    ensures rule { rule_of result ≡ rule_for life }
+    ensures local { result.global ≡ false }
+{
+    value_arg(alloc, "life", value_parser!(u64).range(1..=2_147_483_648)).default_value("3600")
+}
+
+/// `--instances N`
+fn instances_arg<'a>(alloc: Global) -> Arg<'a>
+    ensures rule { rule_of result ≡ rule_for instances }
+    ensures local { result.global ≡ false }
+{
+    value_arg(alloc, "instances", value_parser!(u64).range(1..=4096)).default_value("256")
+}
+
+/// `--pages N`
+fn pages_arg<'a>(alloc: Global) -> Arg<'a>
+    ensures rule { rule_of result ≡ rule_for pages }
+    ensures local { result.global ≡ false }
+{
+    value_arg(alloc, "pages", value_parser!(u64).range(1..=1024)).default_value("64")
+}
+
+/// `--port N`
+fn port_arg<'a>(alloc: Global) -> Arg<'a>
+    ensures rule { rule_of result ≡ rule_for port }
+    ensures local { result.global ≡ false }
+{
+    value_arg(alloc, "port", value_parser!(u64).range(0..=65_535)).required(true)
+}
+
+/// `--connections N`
+fn connections_arg<'a>(alloc: Global) -> Arg<'a>
+    ensures rule { rule_of result ≡ rule_for connections }
+    ensures local { result.global ≡ false }
+{
+    value_arg(
+        alloc,
+        "connections",
+        value_parser!(u64).range(1..=1_000_000),
+    )
+    .default_value("10000")
+}
+
+/// The command with the options that `play` and `serve` share.
+fn with_options<'a>(
+    alloc: Global,
+    command: clap::Command<'a>,
+) -> Result<clap::Command<'a>, AllocError>
+    ensures app { IfOk result (λ c. app_of c ≡ with_rules (app_of command.entry) (map rule_for play_items)) }
+    ensures local { (fields_of command.entry).has_globals ≡ false → IfOk result (λ c. (fields_of c).has_globals ≡ false) }
+{
+    command
+        .arg(fuel_arg(alloc))?
+        .arg(life_arg(alloc))?
+        .arg(instances_arg(alloc))?
+        .arg(pages_arg(alloc))
+}
+
+fn play_command<'a>(alloc: Global) -> Result<clap::Command<'a>, AllocError>
+    ensures app { IfOk result (λ c. (app_of c).top ≡ play_shape) }
+    ensures local { IfOk result (λ c. (fields_of c).has_globals ≡ false) }
+{
+    with_options(alloc, clap::Command::new(alloc, "play"))
+}
+
+fn serve_command<'a>(alloc: Global) -> Result<clap::Command<'a>, AllocError>
+    ensures app { IfOk result (λ c. (app_of c).top ≡ serve_shape) }
+    ensures local { IfOk result (λ c. (fields_of c).has_globals ≡ false) }
+{
+    with_options(alloc, clap::Command::new(alloc, "serve"))?
+        .arg(port_arg(alloc))?
+        .arg(connections_arg(alloc))
+}
+
+fn new_command_line<'a>(alloc: Global) -> clap::Command<'a>
+    ensures app { app_of result ≡ record { top = bare_top; subs = [] } }
+{
+    clap::Command::new(alloc, "script_server")
+        .subcommand_required(true)
+        .disable_help_subcommand(true)
+}
+
+fn command_line<'a>(alloc: Global) -> Result<clap::Command<'a>, AllocError>
+    ensures { IfOk result (λ c. app_of c ≡ app) }
+{
+    new_command_line(alloc)
+        .subcommand(clap::Command::new(alloc, "check"))?
+        .subcommand(play_command(alloc)?)?
+        .subcommand(serve_command(alloc)?)
+}
+
+/// What `clap` finds in the words.
+fn matches_of<'a>(alloc: Global, words: &'a [&'a str]) -> Result<ArgMatches<'a>, WordsFault>
+    ensures fine { IfOk result (λ m. fault_of app (texts words.entry.now) ≡ []) }
+    ensures found { IfOk result (λ m. subcommand_rows_of m ≡ subcommand_of app (texts words.entry.now)) }
+    ensures usage { result ≡ Err WordsFault.Usage → fault_of app (texts words.entry.now) ≢ [] }
+{
+    let Ok(command) = command_line(alloc) else {
+        return Err(WordsFault::Memory);
+    };
+    match command.try_get_matches_from(words) {
+        Ok(matches) => Ok(matches),
+        Err(e) => match e.kind() {
+            ErrorKind::OutOfMemory => Err(WordsFault::Memory),
+            _ => Err(WordsFault::Usage),
+        },
+    }
+}
+
+fn port_number(matches: &ArgMatches<'_>, id: &str) -> Result<u16, WordsFault>
+    ensures value { IfOk result (λ n. n ≡ number_at (rows_in matches.now) id.now) }
+    ensures refused { IfErr result (λ e. HoldsNoNumber (2 ^ 16) (rows_in matches.now) id.now) }
+{
+    matches.get_one::<u16>(id).ok_or(WordsFault::Usage)
+}
+
+fn short_number(matches: &ArgMatches<'_>, id: &str) -> Result<u32, WordsFault>
+    ensures value { IfOk result (λ n. n ≡ number_at (rows_in matches.now) id.now) }
+    ensures refused { IfErr result (λ e. HoldsNoNumber (2 ^ 32) (rows_in matches.now) id.now) }
+{
+    matches.get_one::<u32>(id).ok_or(WordsFault::Usage)
+}
+
+fn number(matches: &ArgMatches<'_>, id: &str) -> Result<u64, WordsFault>
+    ensures value { IfOk result (λ n. n ≡ number_at (rows_in matches.now) id.now) }
+    ensures refused { IfErr result (λ e. HoldsNoNumber (2 ^ 64) (rows_in matches.now) id.now) }
+{
+    matches.get_one::<u64>(id).ok_or(WordsFault::Usage)
+}
+
+fn options_of(alloc: Global, matches: &ArgMatches<'_>) -> Result<Options, WordsFault>
+    ensures value { IfOk result (λ o. choices_in o ≡ choices_at (rows_in matches.now)) }
+    ensures refused { result ≡ Err WordsFault.Usage → HoldsChoices (rows_in matches.now) → ⊥ }
+{
+    Ok(Options {
+        fuel: number(matches, "fuel")?,
+        life: number(matches, "life")?,
+        instances: short_number(matches, "instances")?,
+        pages: short_number(matches, "pages")?,
+    })
+}
+
+fn service_of(alloc: Global, matches: &ArgMatches<'_>) -> Result<Service, WordsFault>
+    ensures value { IfOk result (λ s. serving_in s ≡ serving_at (rows_in matches.now)) }
+    ensures refused { result ≡ Err WordsFault.Usage → HoldsServing (rows_in matches.now) → ⊥ }
+{
+    Ok(Service {
+        options: options_of(alloc, matches)?,
+        port: port_number(matches, "port")?,
+        connections: number(matches, "connections")?,
+    })
+}
+
+fn command_of(alloc: Global, matches: &ArgMatches<'_>) -> Result<Command, WordsFault>
+    ensures value { IfOk result (λ k. AsksFor (subcommand_rows_of matches.now) (asked_by k)) }
+    ensures refused { result ≡ Err WordsFault.Usage → HoldsAsked (subcommand_rows_of matches.now) → ⊥ }
+{
+    let Some((name, inner)) = matches.subcommand() else {
+        return Err(WordsFault::Usage);
+    };
+    match name {
+        "check" => Ok(Command::Check),
+        "play" => Ok(Command::Play(options_of(alloc, inner)?)),
+        "serve" => Ok(Command::Serve(service_of(alloc, inner)?)),
+        _ => Err(WordsFault::Usage),
+    }
+}
+
+/// The command that the words ask for, of which the first is the program's name.
+pub fn read_words<'a>(alloc: Global, words: &'a [&'a str]) -> Result<Command, WordsFault>
+    ensures usage { result ≡ Err WordsFault.Usage → fault_of app (texts words.entry.now) ≢ [] }
+    ensures fine { IfOk result (λ k. fault_of app (texts words.entry.now) ≡ []) }
+    ensures found { IfOk result (λ k. asked_from (subcommand_of app (texts words.entry.now)) ≡ Some (asked_by k)) }
+    ensures in_range { IfOk result (λ k. IsInRange (asked_by k)) }
+    ensures complete { (asked : Asked) → IsPlain (texts words.entry.now) asked → result ≢ Err WordsFault.Usage }
+    ensures plain { (asked : Asked) → IsPlain (texts words.entry.now) asked → IfOk result (λ k. asked_by k ≡ asked) }
+{
+    let matches = matches_of(alloc, words)?;
+    command_of(alloc, &matches)
+}
