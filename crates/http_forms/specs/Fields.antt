@@ -1,0 +1,45 @@
+-- What the fields of a head say.
+use Rattle.std.specs.Prelude.{ℕ, ◌&&◌, Bool, true, false, List, [], ◌∷◌, length, nat_lt, Option, Some, None, Result, Ok, Err, codes, if◌then◌else◌}
+use Rattle.std.specs.List.{list_all}
+use Rattle.std.specs.Char.{is_ascii_digit}
+use Rattle.std.specs.Str.{str_eq_ignore_ascii_case}
+use Rattle.std.specs.Str.Parse.{digits_value}
+use Rattle.form_urlencoded.specs.Form.{split_once}
+use Rattle.httparse.specs.Grammar.{trim_ows}
+use Rattle.http_forms.specs.declared.refused.Refused.{Refused}
+use Rattle.http_forms.specs.declared.refused.Refused.TheVariants.{BadRequest}
+
+-- the values of the fields of this name, in order; names are compared in any case
+abbrev pub values_of : List ℕ → List (List ℕ × List ℕ) → List (List ℕ)
+values_of name [] = []
+values_of name (field ∷ fields) =
+    if str_eq_ignore_ascii_case field.0 name then field.1 ∷ values_of name fields else values_of name fields
+
+abbrev pub is_one : List (List ℕ) → Bool
+is_one (value ∷ []) = true
+is_one _ = false
+
+abbrev pub is_none : List (List ℕ) → Bool
+is_none [] = true
+is_none (value ∷ values) = false
+
+-- the number of one digit or more, of whatever size
+abbrev pub length_in : List ℕ → Result (Option ℕ) Refused
+length_in digits =
+    if nat_lt 0 (length digits) && list_all is_ascii_digit digits then Ok (Some (digits_value 10 digits))
+    else Err BadRequest
+
+-- the length that the fields Content-Length give the body: there may be none of them, or one that is digits
+abbrev pub announced : List (List ℕ) → Result (Option ℕ) Refused
+announced [] = Ok None
+announced (value ∷ []) = length_in value
+announced (value ∷ more ∷ values) = Err BadRequest
+
+-- the media type of a value of Content-Type: its part before `;`, without the spaces and tabs around it
+abbrev pub media_type : List ℕ → List ℕ
+media_type value = trim_ows (split_once 59 value).0
+
+-- there is one field Content-Type, and its media type is that of a form, in any case
+abbrev pub is_form : List (List ℕ) → Bool
+is_form (value ∷ []) = str_eq_ignore_ascii_case (media_type value) (codes "application/x-www-form-urlencoded")
+is_form _ = false

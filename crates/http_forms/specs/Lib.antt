@@ -1,0 +1,15 @@
+pub mod Head
+pub mod Scan
+pub mod Fields
+pub mod Answers
+pub mod Rows
+pub mod Request
+pub mod Reply
+pub mod Writes
+pub mod Found
+pub mod Judged
+pub mod Outcomes
+pub mod Laws
+pub mod Progress
+pub mod Passes
+pub mod Vectors

@@ -1,0 +1,25 @@
+-- What the code's answer to bytes stands for.
+use Rattle.std.specs.Prelude.{◌≡◌, Option, Some, None, Result, Ok, Err, option_map, ⊤}
+use Rattle.script_value.specs.Views.{meaning}
+use Rattle.page_names.specs.Views.{target_of}
+use Rattle.http_forms.specs.Request.{Outcome, unfinished, refused, visits}
+use Rattle.http_forms.specs.declared.refused.RequestFault.{RequestFault}
+use Rattle.http_forms.specs.declared.refused.RequestFault.TheVariants.{Memory, Refused}
+use Rattle.http_forms.specs.declared.request.Request.{Request}
+
+abbrev pub visit_in : Request → Outcome
+visit_in r = visits (option_map target_of r.target) (meaning r.answer)
+
+-- the answer is an outcome of this kind, unless memory ran out
+abbrev pub Tells : Result (Option Request) RequestFault → (Outcome → Type 0) → Type 0
+Tells (Ok None) P = P unfinished
+Tells (Ok (Some r)) P = P (visit_in r)
+Tells (Err (Refused r)) P = P (refused r)
+Tells (Err Memory) P = ⊤
+
+-- the answer is this outcome, and memory did not run out
+abbrev pub Is : Result (Option Request) RequestFault → Outcome → Type 0
+Is (Ok None) outcome = outcome ≡ unfinished
+Is (Ok (Some r)) outcome = outcome ≡ visit_in r
+Is (Err (Refused r)) outcome = outcome ≡ refused r
+Is (Err Memory) outcome = ⊥

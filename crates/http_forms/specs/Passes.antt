@@ -1,0 +1,23 @@
+-- What a visit and a tick do to a pass.
+use Rattle.std.specs.Prelude.{ℕ, List, Vec, Result, Ok, Err}
+use Rattle.std.specs.declared.alloc.Global.{Global}
+use Rattle.std.specs.declared.alloc.AllocError.{AllocError}
+use Rattle.script_value.specs.Val.{Val}
+use Rattle.script_value.specs.declared.outcome.Reply.{Reply}
+use Rattle.page_names.specs.Names.{Destination}
+
+-- what each shelf answers to a tick, in their order, or that there was no memory for their list
+abbrev pub Swept : Type 0
+Swept = Result (List (Result ℕ Reply)) AllocError
+
+-- Which passes are its own. Of a visit: the pass before it, the destination and the answer, the reply, and the pass behind it.
+-- Of a tick: the pass before it, the tick, what the shelves answer, and the pass behind it.
+pub record PassRules (Pass : Type 0) : Type 1 where
+  pub IsOwn : Pass → Type 0
+  pub Visits : Pass → Destination → Val → Reply → Pass → Type 0
+  pub Ticks : Pass → ℕ → Swept → Pass → Type 0
+
+-- the answers as a list
+abbrev pub swept : Result (Vec (Result ℕ Reply) Global) AllocError → Swept
+swept (Ok answers) = Ok answers.items
+swept (Err e) = Err e

@@ -1,0 +1,67 @@
+-- The rows of the table of refusals that a whole head decides, in their order.
+use Rattle.std.specs.Prelude.{◌≡◌, ℕ, ◌==◌, ◌&&◌, ◌||◌, not, Bool, true, false, List, [], map, nat_lt, Option, Some, None, Result, Ok, Err, unwrap_or, is_some, codes, bytes_eq, if◌then◌else◌}
+use Rattle.httparse.specs.Grammar.{RequestHead, ReadsRequest}
+use Rattle.httparse.specs.Spans.{name_and_value}
+use Rattle.http_forms.specs.Head.{without_blank, field_lines}
+use Rattle.http_forms.specs.Fields.{values_of, is_one, is_none, announced, is_form}
+use Rattle.http_forms.specs.declared.refused.Refused.{Refused}
+use Rattle.http_forms.specs.declared.refused.Refused.TheVariants.{BadRequest, Head, Chunked, Method, Length, TooLarge, MediaType}
+
+-- what a head asks for that is not refused: its target, whether its method is POST, and the length of its body
+pub record Asked : Type 0 where
+  pub target : List ℕ
+  pub posts : Bool
+  pub length : ℕ
+
+abbrev pub is_get : List ℕ → Bool
+is_get method = bytes_eq method (codes "GET")
+
+abbrev pub is_post : List ℕ → Bool
+is_post method = bytes_eq method (codes "POST")
+
+-- the rows on the method, the length and the media type
+abbrev pub body_verdict : (method target : List ℕ) → (types : List (List ℕ)) → Option ℕ → Result Asked Refused
+body_verdict method target types announced =
+    if not (is_get method || is_post method) then Err Method
+    else (if is_post method && not (is_some announced) then Err Length
+    else (if nat_lt 65536 (unwrap_or announced 0) then Err TooLarge
+    else (if is_post method && nat_lt 0 (unwrap_or announced 0) && not (is_form types) then Err MediaType
+    else Ok (record { target = target; posts = is_post method; length = unwrap_or announced 0 }))))
+
+-- the same where a length was announced well, or not at all
+abbrev pub length_verdict : (method target : List ℕ) → (types : List (List ℕ)) → Result (Option ℕ) Refused → Result Asked Refused
+length_verdict method target types (Ok announced) = body_verdict method target types announced
+length_verdict method target types (Err refused) = Err refused
+
+-- the rows on the fields: a Host at version 1.1, no Transfer-Encoding, and one length at most
+abbrev pub fields_verdict : (minor : ℕ) → (method target : List ℕ) → (fields : List (List ℕ × List ℕ)) → Result Asked Refused
+fields_verdict minor method target fields =
+    if minor == 1 && not (is_one (values_of (codes "Host") fields)) then Err BadRequest
+    else (if not (is_none (values_of (codes "Transfer-Encoding") fields)) then Err Chunked
+    else length_verdict method target (values_of (codes "Content-Type") fields) (announced (values_of (codes "Content-Length") fields)))
+
+-- the same of a head in the grammar of `httparse`; what is none is a bad request
+abbrev pub head_verdict : Option RequestHead → Result Asked Refused
+head_verdict None = Err BadRequest
+head_verdict (Some h) = fields_verdict h.minor h.method h.target (map name_and_value h.fields)
+
+-- the head of `httparse`'s grammar that the bytes are, the whole of them, if they are one
+abbrev pub IsParsed : List ℕ → Option RequestHead → Type 0
+IsParsed bytes (Some h) = ReadsRequest bytes h []
+IsParsed bytes None = (h : RequestHead) → ReadsRequest bytes h [] → ⊥
+
+-- what bytes come to that are given to `httparse`
+pub record Reads (bytes : List ℕ) (verdict : Result Asked Refused) : Type 0 where
+  pub parsed : Option RequestHead
+  pub grammar : IsParsed bytes parsed
+  pub is : verdict ≡ head_verdict parsed
+
+-- what the lines of a head come to, by whether they are too many
+abbrev pub JudgesLines : (too_many : Bool) → (lines : List ℕ) → Result Asked Refused → Type 0
+JudgesLines true lines verdict = verdict ≡ Err Head
+JudgesLines false lines verdict = Reads lines verdict
+
+-- what a whole head comes to: the first row that refuses it, or what it asks for; empty lines before it are not looked at
+abbrev pub Judges : (head : List ℕ) → Result Asked Refused → Type 0
+Judges head verdict =
+    let lines = without_blank head in JudgesLines (nat_lt 64 (field_lines lines)) lines verdict

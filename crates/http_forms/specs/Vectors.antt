@@ -1,0 +1,182 @@
+-- Heads, requests and replies, computed.
+use Rattle.std.specs.Prelude.{◌≡◌, ℕ, List, [], ◌∷◌, true, false, Some, None, Ok, Err, codes, map, refl}
+use Rattle.std.specs.Fmt.{digits}
+use Rattle.httparse.specs.Grammar.{crlf, Field, RequestHead, print_request}
+use Rattle.httparse.proofs.OnLiterals.{httparse_on_literals}
+use Rattle.form_urlencoded.proofs.OnLiterals.{form_urlencoded_on_literals}
+use Rattle.script_value.specs.Val.{list, vals_of}
+use Rattle.script_value.specs.declared.outcome.Reply.TheVariants.{Ended, Fault, Refused as NotAdmitted}
+use Rattle.script_value.specs.declared.outcome.Fault.TheVariants.{Binding}
+use Rattle.script_value.specs.declared.outcome.Refusal.TheVariants.{Expired}
+use Rattle.page_names.specs.Names.{page, named_by, destination_of}
+use Rattle.http_forms.specs.Head.{head_end, field_lines, without_blank}
+use Rattle.http_forms.specs.Answers.{answer_of, binding_of}
+use Rattle.http_forms.specs.Rows.{Asked, head_verdict}
+use Rattle.http_forms.specs.Request.{unfinished, refused, visits, within_limit, without_head, with_head}
+use Rattle.http_forms.specs.Reply.{reply_text}
+use Rattle.http_forms.specs.declared.refused.Refused.TheVariants.{BadRequest, Head, Chunked, Method, Length, TooLarge, MediaType}
+use Rattle.http_forms.specs.declared.reply.Answer.TheVariants.{Reply, Refused}
+
+pub short_head : head_end (codes "GET / HTTP/1.0\r\n\r\nmore") ≡ Some 18
+short_head = refl
+
+-- a line may end in LF alone
+pub bare_feeds : head_end (codes "GET / HTTP/1.0\nA: b\n\n\n") ≡ Some 21
+bare_feeds = refl
+
+-- empty lines before the first line belong to the head, and do not end it
+pub blanks_before : head_end (codes "\r\n\n\r\nGET / HTTP/1.0\n\r\n") ≡ Some 22
+blanks_before = refl
+
+pub only_blanks : head_end (codes "\r\n\n\r\n\n") ≡ None
+only_blanks = refl
+
+pub one_byte_short : head_end (codes "GET / HTTP/1.0\r\n\r") ≡ None
+one_byte_short = refl
+
+-- a carriage return twice ends no line
+pub two_returns : head_end (codes "GET / HTTP/1.0\n\r\r\n") ≡ None
+two_returns = refl
+
+pub two_fields : field_lines (without_blank (codes "\r\nGET / HTTP/1.1\r\nHost: h\r\nA: b\n\r\n")) ≡ 2
+two_fields = refl
+
+-- a head with these fields, each line ended by CR LF
+abbrev field : (name value : List ℕ) → Field
+field name value = record { name = name; raw = 32 ∷ value; end = crlf }
+
+abbrev head : (method target : List ℕ) → (minor : ℕ) → List Field → RequestHead
+head method target minor fields = record {
+  blank = [];
+  method = method;
+  target = target;
+  minor = minor;
+  line_end = crlf;
+  fields = fields;
+  last = crlf;
+}
+
+abbrev host : Field
+host = field (codes "Host") (codes "h")
+
+abbrev form : Field
+form = field (codes "content-TYPE") (codes "application/x-www-FORM-urlencoded ; charset=utf-8")
+
+abbrev sized : List ℕ → Field
+sized digits = field (codes "Content-Length") digits
+
+abbrev answered : RequestHead
+answered = head (codes "POST") (codes "/servlets/all;0*0*0*0000000000000000?n=1") 1 (host ∷ form ∷ sized (codes "3") ∷ [])
+
+pub answered_bytes : print_request answered ≡ codes "POST /servlets/all;0*0*0*0000000000000000?n=1 HTTP/1.1\r\nHost: h\r\ncontent-TYPE: application/x-www-FORM-urlencoded ; charset=utf-8\r\nContent-Length: 3\r\n\r\n"
+unfolding httparse_on_literals
+answered_bytes = refl
+
+abbrev asked : Asked
+asked = record { target = codes "/servlets/all;0*0*0*0000000000000000?n=1"; posts = true; length = 3 }
+
+pub answered_verdict : head_verdict (Some answered) ≡ Ok asked
+unfolding httparse_on_literals
+answered_verdict = refl
+
+-- what stands behind the body is not read
+pub answered_request : with_head (Ok asked) (codes "n=2&n=3") false
+    ≡ visits (Some (page (codes "all") (record { shelf = 0; instance = 0; page = 0; nonce = 0 }))) (answer_of (codes "n=1") (codes "n=2"))
+unfolding form_urlencoded_on_literals destination_of named_by
+answered_request = refl
+
+-- the query's pairs stand before the body's; an empty piece is no pair
+pub pairs_in_order : answer_of (codes "a=b&&a=c") (codes "d&a=e=f")
+    ≡ list (vals_of (map binding_of ((codes "a", codes "b") ∷ (codes "a", codes "c") ∷ (codes "d", []) ∷ (codes "a", codes "e=f") ∷ [])))
+unfolding form_urlencoded_on_literals
+pairs_in_order = refl
+
+pub body_short : with_head (Ok asked) (codes "n=") false ≡ unfinished
+body_short = refl
+
+pub body_cut : with_head (Ok asked) (codes "n=") true ≡ refused BadRequest
+body_cut = refl
+
+pub nothing_at_all : without_head 0 true ≡ unfinished
+nothing_at_all = refl
+
+pub head_cut : without_head 16383 true ≡ refused BadRequest
+head_cut = refl
+
+pub head_open : without_head 16383 false ≡ unfinished
+head_open = refl
+
+pub head_long : without_head 16384 true ≡ refused Head
+head_long = refl
+
+pub longest_head : within_limit (Some 16384) ≡ Some 16384
+longest_head = refl
+
+-- of two causes the earlier row is answered
+pub no_grammar : head_verdict None ≡ Err BadRequest
+no_grammar = refl
+
+pub no_host : head_verdict (Some (head (codes "PUT") (codes "/") 1 (field (codes "Transfer-Encoding") (codes "chunked") ∷ []))) ≡ Err BadRequest
+unfolding httparse_on_literals
+no_host = refl
+
+pub chunked : head_verdict (Some (head (codes "PUT") (codes "/") 1 (host ∷ sized (codes "x") ∷ field (codes "transfer-encoding") [] ∷ []))) ≡ Err Chunked
+unfolding httparse_on_literals
+chunked = refl
+
+pub no_number : head_verdict (Some (head (codes "PUT") (codes "/") 1 (host ∷ sized (codes "+3") ∷ []))) ≡ Err BadRequest
+unfolding httparse_on_literals
+no_number = refl
+
+pub two_lengths : head_verdict (Some (head (codes "PUT") (codes "/") 1 (host ∷ sized (codes "3") ∷ sized (codes "3") ∷ []))) ≡ Err BadRequest
+unfolding httparse_on_literals
+two_lengths = refl
+
+pub other_method : head_verdict (Some (head (codes "get") (codes "/") 1 (host ∷ sized (codes "99999") ∷ []))) ≡ Err Method
+unfolding httparse_on_literals
+other_method = refl
+
+pub no_length : head_verdict (Some (head (codes "POST") (codes "/") 1 (host ∷ []))) ≡ Err Length
+unfolding httparse_on_literals
+no_length = refl
+
+pub too_large : head_verdict (Some (head (codes "POST") (codes "/") 1 (host ∷ sized (codes "65537") ∷ []))) ≡ Err TooLarge
+unfolding httparse_on_literals
+too_large = refl
+
+pub thirty_digits : head_verdict (Some (head (codes "GET") (codes "/") 0 (sized (codes "999999999999999999999999999999") ∷ []))) ≡ Err TooLarge
+unfolding httparse_on_literals
+thirty_digits = refl
+
+pub two_types : head_verdict (Some (head (codes "POST") (codes "/") 1 (host ∷ sized (codes "3") ∷ form ∷ field (codes "Content-Type") (codes "text/plain") ∷ []))) ≡ Err MediaType
+unfolding httparse_on_literals
+two_types = refl
+
+-- a body of no bytes needs no media type, and one of a GET never does
+pub empty_body : head_verdict (Some (head (codes "POST") (codes "/") 1 (host ∷ sized (codes "000") ∷ []))) ≡ Ok (record { target = codes "/"; posts = true; length = 0 })
+unfolding httparse_on_literals
+empty_body = refl
+
+pub get_with_body : head_verdict (Some (head (codes "GET") (codes "/") 0 (sized (codes "65536") ∷ []))) ≡ Ok (record { target = codes "/"; posts = false; length = 65536 })
+unfolding httparse_on_literals
+get_with_body = refl
+
+pub a_page : reply_text (Reply (Ended (codes "<p>12</p>")))
+    ≡ codes "HTTP/1.1 200 OK\r\nContent-Type: text/html; charset=utf-8\r\nContent-Length: 9\r\nConnection: close\r\n\r\n<p>12</p>"
+unfolding reply_text digits
+a_page = refl
+
+pub a_fault : reply_text (Reply (Fault Binding))
+    ≡ codes "HTTP/1.1 500 Internal Server Error\r\nContent-Type: text/plain; charset=utf-8\r\nContent-Length: 8\r\nConnection: close\r\n\r\nbinding\n"
+unfolding reply_text digits
+a_fault = refl
+
+pub an_old_page : reply_text (Reply (NotAdmitted (Expired 7)))
+    ≡ codes "HTTP/1.1 410 Gone\r\nContent-Type: text/plain; charset=utf-8\r\nContent-Length: 8\r\nConnection: close\r\n\r\nexpired\n"
+unfolding reply_text digits
+an_old_page = refl
+
+pub a_method : reply_text (Refused Method)
+    ≡ codes "HTTP/1.1 405 Method Not Allowed\r\nContent-Type: text/plain; charset=utf-8\r\nAllow: GET, POST\r\nContent-Length: 7\r\nConnection: close\r\n\r\nmethod\n"
+unfolding reply_text digits
+a_method = refl

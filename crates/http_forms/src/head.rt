@@ -1,0 +1,103 @@
+ghost use Rattle.std.specs.Prelude.{◌≡◌, ◌≤◌, ◌++◌, ◌∷◌, ℕ, List, length, IfNone, IfSome};
+ghost use Rattle.http_forms.specs.Head as spec;
+ghost use Rattle.http_forms.specs.Scan.{end_from, end_behind, StandsIn};
+
+/// The most bytes of a head.
+pub(crate) const MOST_HEAD: usize = 16_384;
+
+/// What stands before the next byte of a head.
+#[derive(Clone, Copy, Debug, PartialEq, Eq)]
+enum Phase {
+    /// Nothing but empty lines.
+    Blank,
+    /// Empty lines and a carriage return.
+    BlankReturn,
+    /// A part of a line.
+    Line,
+    /// The end of a line.
+    LineFeed,
+    /// The end of a line and a carriage return.
+    LineReturn,
+}
+
+// The phase behind one more byte, if the head does not end with it.
+fn step(phase: Phase, byte: u8) -> Option<Phase>
+    ensures { (more : List ℕ) → end_from phase (byte ∷ more) ≡ end_behind result more }
+{
+    match (phase, byte) {
+        (Phase::LineFeed | Phase::LineReturn, b'\n') => None,
+        (Phase::Blank | Phase::BlankReturn, b'\n') => Some(Phase::Blank),
+        (Phase::Line, b'\n') => Some(Phase::LineFeed),
+        (Phase::Blank, b'\r') => Some(Phase::BlankReturn),
+        (Phase::LineFeed, b'\r') => Some(Phase::LineReturn),
+        _ => Some(Phase::Line),
+    }
+}
+
+/// Searches bytes that come in pieces for the end of a head, each byte once.
+#[derive(Clone, Copy, Debug, PartialEq, Eq)]
+pub struct HeadScanner {
+    phase: Phase,
+    place: usize,
+}
+
+impl HeadScanner {
+    /// A scanner that has passed over nothing.
+    pub fn new() -> HeadScanner
+        ensures { (bytes : List ℕ) → StandsIn result bytes }
+    {
+        HeadScanner {
+            phase: Phase::Blank,
+            place: 0,
+        }
+    }
+
+    /// The length of the head that the bytes begin with, once they hold its end. Only bytes behind those that were passed
+    /// over before are looked at. Without an end all of the bytes are passed over, and the search goes on behind them.
+    pub fn find(&mut self, bytes: &[u8]) -> Option<usize>
+        requires { StandsIn self.old bytes.now }
+        ensures end { result ≡ spec.head_end bytes.now }
+        ensures goes_on { IfNone result ((more : List ℕ) → StandsIn self.new (bytes.now ++ more)) }
+        ensures place { IfNone result (self.new.place ≡ length bytes.now) }
+    {
+        for byte in &bytes[self.place..] {
+            self.place += 1;
+            match step(self.phase, *byte) {
+                Some(phase) => self.phase = phase,
+                None => return Some(self.place),
+            }
+        }
+        None
+    }
+}
+
+/// The length of the head that the bytes begin with, up to and with the first empty line behind its first line; empty
+/// lines before that line belong to it. `None` where the bytes do not hold the head's end.
+pub fn head_end(bytes: &[u8]) -> Option<usize>
+    ensures end { result ≡ spec.head_end bytes.now }
+    ensures inside { IfSome result (λ n. n ≤ length bytes.now) }
+{
+    HeadScanner::new().find(bytes)
+}
+
+/// The bytes behind the empty lines that stand before the first line.
+pub(crate) fn without_blank(bytes: &[u8]) -> &[u8]
+    ensures { result.now ≡ spec.without_blank bytes.now }
+{
+    let mut rest = bytes;
+    loop {
+        match rest {
+            [b'\n', behind @ ..] => rest = behind,
+            [b'\r', b'\n', behind @ ..] => rest = behind,
+            _ => return rest,
+        }
+    }
+}
+
+/// How many of a head's lines stand between the first and the empty line that ends it.
+pub(crate) fn field_lines(lines: &[u8]) -> usize
+    ensures { result ≡ spec.field_lines lines.now }
+{
+    let line_feeds = lines.iter().filter(|b| **b == b'\n').count();
+    line_feeds.saturating_sub(2)
+}

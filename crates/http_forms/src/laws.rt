@@ -1,0 +1,17 @@
+ghost use Rattle.http_forms.specs.Laws.{OutcomesAreOne, RequestsStandAlone, EndedLinksAreDecided};
+
+/// Whatever bytes a link gives, they come to one thing.
+pub fn outcomes_are_one()
+    ensures { OutcomesAreOne }
+{}
+
+/// What bytes come to that are not unfinished, they come to whatever follows them and wherever the link ends. So no
+/// request is the front of another one, and no byte behind a request changes it.
+pub fn requests_stand_alone()
+    ensures { RequestsStandAlone }
+{}
+
+/// Bytes behind which a link ended are a request or refused.
+pub fn ended_links_are_decided()
+    ensures { EndedLinksAreDecided }
+{}
