@@ -1,0 +1,217 @@
+-- Bytes that are read towards a request.
+use Rattle.std.proofs.Common.{◌≡◌, ◌≤◌, ◌<◌, ◌+◌, ◌-◌, ◌++◌, ℕ, List, [], Bool, true, false, length, take, drop, nat_lt, nat_le, Option, Some, None, Result, Ok, Err, arith, refl, sym, ap, ◌∙◌, subst, length-append, length-drop, append-nil, rules}
+use Rattle.std.proofs.lemmas.Bool.Decides.{nat_tests}
+use Rattle.std.proofs.Math.Seq.{take-append_seam}
+use Rattle.std.proofs.lemmas.List.{take-append-drop, take-append-le, nil_from_length}
+use Rattle.std.specs.Io.KnownBytes.{Consumes, Keeps}
+use Rattle.web_outside.proofs.Consumed.{consumes_then}
+use Rattle.http_forms.specs.Head.{head_end}
+use Rattle.http_forms.specs.Rows.{Asked, JudgesLines, Judges, head_verdict, body_verdict, length_verdict, fields_verdict}
+use Rattle.http_forms.specs.Request.{unfinished, refused, within_limit, without_head, visit_of, with_head, DecidesAt, Decides}
+use Rattle.http_forms.specs.declared.refused.Refused.{Refused}
+use Rattle.http_forms.specs.declared.refused.Refused.TheVariants.{Head}
+use Rattle.http_forms.specs.Progress.{IsDecided, Follows}
+use Rattle.http_forms.specs.declared.progress.RequestScanner.{RequestScanner}
+use Rattle.http_forms.proofs.Decisions.{outcomes_are_one, ended_links_are_decided}
+use Rattle.request_workers.specs.Bytes.{NeedsAll, Takes, IsEnough, ReadsPiece, ReadsAll}
+use Rattle.request_workers.specs.declared.read.ReadStop.{ReadStop}
+use Rattle.request_workers.specs.declared.read.ReadStop.TheVariants.{Failed, Memory}
+
+-- ---- an unfinished request is not longer than a head and a body
+
+body_bound : (method target : List ℕ) (types : List (List ℕ)) (announced : Option ℕ) (asked : Asked)
+    → Ok asked ≡ body_verdict method target types announced → asked.length ≤ 65536
+body_bound method target types announced asked is = grind (arith, nat_tests)
+
+length_bound : (method target : List ℕ) (types : List (List ℕ)) (announced : Result (Option ℕ) Refused) (asked : Asked)
+    → Ok asked ≡ length_verdict method target types announced → asked.length ≤ 65536
+length_bound method target types (Ok announced) asked is = body_bound method target types announced asked is
+length_bound method target types (Err reason) asked is = grind arith
+
+fields_bound : (minor : ℕ) (method target : List ℕ) (fields : List (List ℕ × List ℕ)) (asked : Asked)
+    → Ok asked ≡ fields_verdict minor method target fields → asked.length ≤ 65536
+fields_bound minor method target fields asked is =
+    let bound = length_bound method target in grind (arith, bound)
+
+head_bound : (parsed : Option _) (asked : Asked) → Ok asked ≡ head_verdict parsed → asked.length ≤ 65536
+head_bound None asked is = grind arith
+head_bound (Some h) asked is = search (rules, fields_bound)
+
+lines_bound : (many : Bool) (lines : List ℕ) (asked : Asked) → JudgesLines many lines (Ok asked) → asked.length ≤ 65536
+lines_bound true lines asked is = grind arith
+lines_bound false lines asked reads = head_bound reads.parsed asked reads.is
+
+without_bound : (count : ℕ) → unfinished ≡ without_head count false → count < 16384
+without_bound count is = by_size (nat_le 16384 count) refl
+  where
+    by_size : (b : Bool) → nat_le 16384 count ≡ b → count < 16384
+    by_size true e = (let f : unfinished ≡ refused Head = is ∙ rw e refl in cc)
+    by_size false e = grind (arith, nat_tests, e)
+
+behind_bound : (judged : Result Asked Refused) (behind : List ℕ) → ((asked : Asked) → judged ≡ Ok asked → asked.length ≤ 65536)
+    → unfinished ≡ with_head judged behind false → length behind < 65536
+behind_bound (Err r) behind bound is = cc
+behind_bound (Ok asked) behind bound is = by_size (nat_le asked.length (length behind)) refl
+  where
+    by_size : (b : Bool) → nat_le asked.length (length behind) ≡ b → length behind < 65536
+    by_size true e = (let f : unfinished ≡ visit_of asked (take asked.length behind) = is ∙ rw e refl in cc)
+    by_size false e = let most = bound asked refl in grind (arith, nat_tests, e, most)
+
+end_bound : (end : Option ℕ) (n : ℕ) → within_limit end ≡ Some n → n ≤ 16384
+end_bound None n is = cc
+end_bound (Some m) n is = by_size (nat_le m 16384) refl
+  where
+    by_size : (b : Bool) → nat_le m 16384 ≡ b → n ≤ 16384
+    by_size true e = (let f : Some m ≡ Some n = sym (rw e refl) ∙ is in grind (arith, nat_tests, e, f))
+    by_size false e = (let f : None ≡ Some n = sym (rw e refl) ∙ is in cc)
+
+at_bound : (end : Option ℕ) (bytes : List ℕ) → ((n : ℕ) → end ≡ Some n → n ≤ 16384) → DecidesAt end bytes false unfinished → length bytes < 81920
+at_bound None bytes within is = let l = without_bound (length bytes) is in omega arith
+at_bound (Some n) bytes within (judged, judges, is) =
+    let small = within n refl in
+    let behind = behind_bound judged (drop n bytes) (λ asked e. lines_bound _ _ asked (subst (Judges (take n bytes)) e judges)) is in
+    omega (arith, length-drop n bytes, small, behind)
+
+-- bytes that ask for more are fewer than a head and a body may have
+pub unfinished_bound : (bytes : List ℕ) → Decides bytes false unfinished → length bytes < 81920
+unfinished_bound bytes decides = at_bound (within_limit (head_end bytes)) bytes (λ n is. end_bound (head_end bytes) n is) decides
+
+-- ---- pieces behind one another
+
+-- bytes none of which is too many, and a piece no longer than is wanted
+pub needs_more : (bytes piece : List ℕ) (wanted : ℕ) → NeedsAll bytes
+    → ((more : List ℕ) → length more < wanted → Decides (bytes ++ more) false unfinished)
+    → length piece ≤ wanted → NeedsAll (bytes ++ piece)
+needs_more bytes piece wanted needed short within front rest is some = by_size (nat_lt (length front) (length bytes)) refl
+  where
+    by_size : (b : Bool) → nat_lt (length front) (length bytes) ≡ b → Decides front false unfinished
+    by_size true e =
+        let less : length front < length bytes = grind (arith, nat_tests, e) in
+        let front_is : take (length front) bytes ≡ front =
+        sym (take-append-le (length front) bytes piece (omega arith)) ∙ (ap (take (length front)) is ∙ take-append_seam front rest) in
+        needed front (drop (length front) bytes)
+        (sym (take-append-drop (length front) bytes) ∙ ap (λ w. w ++ drop (length front) bytes) front_is)
+        (omega (arith, length-drop (length front) bytes))
+    by_size false e =
+        let less : length bytes ≤ length front = grind (arith, nat_tests, e) in
+        let bytes_are : take (length bytes) front ≡ bytes =
+        sym (take-append-le (length bytes) front rest less) ∙ (ap (take (length bytes)) (sym is) ∙ take-append_seam bytes piece) in
+        let front_is : bytes ++ drop (length bytes) front ≡ front =
+        ap (λ w. w ++ drop (length bytes) front) (sym bytes_are) ∙ take-append-drop (length bytes) front in
+        let lengths : length bytes + length piece ≡ length front + length rest =
+        sym (length-append bytes piece) ∙ (ap length is ∙ length-append front rest) in
+        subst (λ w. Decides w false unfinished) front_is
+        (short (drop (length bytes) front) (omega (arith, length-drop (length bytes) front, lengths, within, some)))
+
+-- how far the reading has come: bytes were read and none too many, the scanner has followed them, and so many more are wanted
+pub record Came (old new : Option (List ℕ)) (bytes : List ℕ) (scanner : RequestScanner) (wanted before now : ℕ) : Type 0 where
+  pub taken : Takes old new bytes
+  pub follows : (more : List ℕ) → Follows scanner (bytes ++ more)
+  pub decided : wanted ≡ 0 → IsDecided bytes
+  pub short : (more : List ℕ) → length more < wanted → Decides (bytes ++ more) false unfinished
+  pub later : before ≤ now
+
+consumes_none : (known : Option (List ℕ)) → Consumes known known []
+consumes_none None = tt
+consumes_none (Some xs) = refl
+
+-- nothing was read yet
+begins : (known : Option (List ℕ)) (bytes : List ℕ) → bytes ≡ [] → Takes known known bytes
+begins known bytes e = subst (Takes known known) (sym e) (record {
+  consumed = consumes_none known;
+  needed = λ front rest is some. let l : 0 ≡ length front + length rest = ap length is ∙ length-append front rest in absurd (omega (arith, l, some));
+})
+
+-- a piece more was read
+pub takes_more : (old mid new : Option (List ℕ)) (bytes piece : List ℕ) (scanner : RequestScanner) (wanted before now : ℕ)
+    → Came old mid bytes scanner wanted before now → Consumes mid new piece → length piece ≤ wanted → Takes old new (bytes ++ piece)
+takes_more old mid new bytes piece scanner wanted before now came more within = record {
+  consumed = consumes_then old mid new bytes piece came.taken.consumed more;
+  needed = needs_more bytes piece wanted came.taken.needed came.short within;
+}
+
+-- nothing more was read
+pub takes_same : (old mid new : Option (List ℕ)) (bytes : List ℕ) → Takes old mid bytes → Keeps mid new → Takes old new bytes
+takes_same old mid new bytes taken kept = record { consumed = consumes_kept old mid new bytes taken.consumed kept; needed = taken.needed }
+  where
+    consumes_kept : (old mid new : Option (List ℕ)) (bytes : List ℕ) → Consumes old mid bytes → Keeps mid new → Consumes old new bytes
+    consumes_kept None mid new bytes p q = tt
+    consumes_kept (Some xs) None new bytes p q = absurd p
+    consumes_kept (Some xs) (Some ys) None bytes p q = absurd q
+    consumes_kept (Some xs) (Some ys) (Some zs) bytes p q = p ∙ ap (λ w. bytes ++ w) (sym q)
+
+-- more is wanted only where the bytes are unfinished
+pub still_open : (bytes : List ℕ) (wanted : ℕ) → ((more : List ℕ) → length more < wanted → Decides (bytes ++ more) false unfinished)
+    → 0 < wanted → Decides bytes false unfinished
+still_open bytes wanted short some = subst (λ w. Decides w false unfinished) (append-nil bytes) (short [] some)
+
+-- decided bytes ask for no more
+pub enough : (bytes : List ℕ) → IsDecided bytes → IsEnough bytes false
+enough bytes decided more = absurd (decided.finished (outcomes_are_one bytes false decided.outcome unfinished decided.decides more))
+
+-- nor do those behind which the link ended, if there are any
+pub enough_ended : (bytes : List ℕ) → IsEnough bytes true
+enough_ended bytes more = by_size (nat_lt 0 (length bytes)) refl
+  where
+    by_size : (b : Bool) → nat_lt 0 (length bytes) ≡ b → (bytes ≡ []) × (true ≡ true)
+    by_size true e = absurd (ended_links_are_decided bytes (grind (arith, nat_tests, e)) more)
+    by_size false e = (nil_from_length bytes (grind (arith, nat_tests, e)), refl)
+
+-- what the scanner says of the bytes that it was shown
+pub record Says (scanner : RequestScanner) (wanted : ℕ) (shown : List ℕ) : Type 0 where
+  pub goes_on : (more : List ℕ) → Follows scanner (shown ++ more)
+  pub decided : wanted ≡ 0 → IsDecided shown
+  pub short : (more : List ℕ) → length more < wanted → Decides (shown ++ more) false unfinished
+
+-- bytes were taken, and shown to the scanner
+pub came : (old new : Option (List ℕ)) (bytes shown : List ℕ) (scanner : RequestScanner) (wanted before now : ℕ)
+    → Takes old new bytes → shown ≡ bytes → Says scanner wanted shown → before ≤ now → Came old new bytes scanner wanted before now
+came old new bytes shown scanner wanted before now taken is says later =
+    let here : Says scanner wanted bytes = subst (Says scanner wanted) is says in
+    record { taken = taken; follows = here.goes_on; decided = here.decided; short = here.short; later = later }
+
+pub came_first : (known : Option (List ℕ)) (bytes shown : List ℕ) (scanner : RequestScanner) (wanted count : ℕ)
+    → bytes ≡ [] → shown ≡ bytes → Says scanner wanted shown → Came known known bytes scanner wanted count count
+came_first known bytes shown scanner wanted count none is says =
+    came known known bytes shown scanner wanted count count (begins known bytes none) is says (omega arith)
+
+-- what was read, where the reading stopped in a piece
+pub stopped : (old mid new : Option (List ℕ)) (bytes after : List ℕ) (scanner : RequestScanner) (wanted before now : ℕ) (stop : ReadStop)
+    → Came old mid bytes scanner wanted before now → 0 < wanted → ReadsPiece mid new bytes after wanted (Err stop)
+    → ReadsAll old new after (Err stop)
+stopped old mid new bytes after scanner wanted before now Failed came some (kept, same) = (
+  subst (Takes old new) (sym same) (takes_same old mid new bytes came.taken kept),
+  subst (λ w. Decides w false unfinished) (sym same) (still_open bytes wanted came.short some),
+)
+stopped old mid new bytes after scanner wanted before now Memory came some (piece, more, within) =
+    (bytes ++ piece, takes_more old mid new bytes piece scanner wanted before now came more within)
+
+-- what was read, where the link ended
+pub ended : (old mid new : Option (List ℕ)) (bytes after : List ℕ) (scanner : RequestScanner) (wanted before now count : ℕ)
+    → Came old mid bytes scanner wanted before now → ReadsPiece mid new bytes after wanted (Ok count) → count ≡ 0
+    → ReadsAll old new after (Ok true)
+ended old mid new bytes after scanner wanted before now count came (piece, more, is, size, within, end) none = (
+  subst (Takes old new) (sym is) (takes_more old mid new bytes piece scanner wanted before now came more (omega (arith, size, within))),
+  (λ e. end none),
+  enough_ended after,
+)
+
+-- a piece more was read, and shown to the scanner
+pub came_more : (old mid new : Option (List ℕ)) (bytes after shown : List ℕ) (scanner scanner' : RequestScanner)
+    (wanted wanted' before now now' count : ℕ)
+    → Came old mid bytes scanner wanted before now → ReadsPiece mid new bytes after wanted (Ok count)
+    → shown ≡ after → Says scanner' wanted' shown → now ≤ now' → Came old new after scanner' wanted' before now'
+came_more old mid new bytes after shown scanner scanner' wanted wanted' before now now' count here (piece, more, is, size, within, end) seen says later =
+    let l = here.later in
+    came old new after shown scanner' wanted' before now'
+    (subst (Takes old new) (sym is) (takes_more old mid new bytes piece scanner wanted before now here more (omega (arith, size, within))))
+    seen says (omega (arith, l, later))
+
+-- a piece that is not empty brings the bytes nearer to the most that may be unfinished
+pub nearer : (mid new : Option (List ℕ)) (bytes after : List ℕ) (wanted count : ℕ) → ReadsPiece mid new bytes after wanted (Ok count)
+    → (count ≡ 0 → ⊥) → Decides bytes false unfinished → 81920 - length after < 81920 - length bytes
+nearer mid new bytes after wanted count (piece, more, is, size, within, end) some still =
+    let b = unfinished_bound bytes still in
+    let l : length after ≡ length bytes + length piece = ap length is ∙ length-append bytes piece in
+    let s : 0 < count = grind (arith, some) in
+    omega (arith, b, l, s, size)

@@ -1,0 +1,10 @@
+use Rattle.std.proofs.Common.{◌-◌, length}
+use Rattle.request_workers.proofs.Reading.{Came}
+use Rattle.request_workers.proofs.read.read_bytes.Given as goal
+
+abbrev pub invariant-loop-wanted : goal.invariant-loop-wanted
+invariant-loop-wanted g l = Came (g.S.Source.left l.fn.source) (g.S.Source.left l.source) l.bytes.items l.scanner l.wanted
+    (g.S.Source.fault_count l.fn.source) (g.S.Source.fault_count l.source)
+
+abbrev pub decreases-loop-wanted : goal.decreases-loop-wanted
+decreases-loop-wanted g l = 81920 - length l.bytes.items

@@ -1,0 +1,33 @@
+-- The bytes of a request, as they are read.
+use Rattle.std.specs.Prelude.{◌≡◌, ◌≤◌, ◌<◌, ◌++◌, ℕ, Bool, true, false, List, [], length, Option, Result, Ok, Err}
+use Rattle.std.specs.Io.KnownBytes.{Consumes, Keeps, IsAtEnd}
+use Rattle.http_forms.specs.Request.{unfinished, Decides}
+use Rattle.request_workers.specs.declared.read.ReadStop.{ReadStop}
+use Rattle.request_workers.specs.declared.read.ReadStop.TheVariants.{Failed, Memory}
+
+-- no byte of these is too many: each shorter front asks for more
+abbrev pub NeedsAll : List ℕ → Type 0
+NeedsAll bytes = (front rest : List ℕ) → bytes ≡ front ++ rest → 0 < length rest → Decides front false unfinished
+
+-- bytes were read, and none too many
+pub record Takes (old new : Option (List ℕ)) (bytes : List ℕ) : Type 0 where
+  pub consumed : Consumes old new bytes
+  pub needed : NeedsAll bytes
+
+-- a piece of at most so many bytes was read behind others, by how the reading ended
+abbrev pub ReadsPiece : (old new : Option (List ℕ)) (before after : List ℕ) (wanted : ℕ) → Result ℕ ReadStop → Type 0
+ReadsPiece old new before after wanted (Ok count) =
+    (piece : List ℕ) × Consumes old new piece × (after ≡ before ++ piece) × (length piece ≡ count) × (count ≤ wanted)
+    × (count ≡ 0 → IsAtEnd new)
+ReadsPiece old new before after wanted (Err Failed) = Keeps old new × (after ≡ before)
+ReadsPiece old new before after wanted (Err Memory) = (piece : List ℕ) × Consumes old new piece × (length piece ≤ wanted)
+
+-- only no bytes at all, where the link ended, ask for more
+abbrev pub IsEnough : List ℕ → (ended : Bool) → Type 0
+IsEnough bytes ended = Decides bytes ended unfinished → (bytes ≡ []) × (ended ≡ true)
+
+-- the bytes of a request were read, or a part of them, by how the reading ended
+abbrev pub ReadsAll : (old new : Option (List ℕ)) (bytes : List ℕ) → Result Bool ReadStop → Type 0
+ReadsAll old new bytes (Ok ended) = Takes old new bytes × (ended ≡ true → IsAtEnd new) × IsEnough bytes ended
+ReadsAll old new bytes (Err Failed) = Takes old new bytes × Decides bytes false unfinished
+ReadsAll old new bytes (Err Memory) = (read : List ℕ) × Takes old new read

@@ -1,0 +1,7 @@
+pub mod Scenes
+pub mod Bytes
+pub mod Requests
+pub mod Serving
+pub mod Counting
+pub mod Tallies
+pub mod Working

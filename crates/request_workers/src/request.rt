@@ -1,0 +1,43 @@
+ghost use Rattle.std.specs.Prelude.{◌≡◌, ◌≤◌, IsErrOf};
+ghost use Rattle.web_outside.specs.Causes.{Rose};
+ghost use Rattle.http_forms.specs.Request.{Decides};
+ghost use Rattle.request_workers.specs.Requests.{Comes, Gives};
+
+use crate::read::{ReadStop, read_bytes};
+use http_forms::{Refused, Request, RequestFault, request_of};
+use std::alloc::Global;
+use web_outside::Source;
+
+/// What came over a link.
+#[derive(Drop)]
+pub(crate) enum Incoming {
+    /// A request.
+    Visit(Request),
+    /// Bytes that are refused.
+    Refused(Refused),
+    /// Nothing: the link had ended.
+    Nothing,
+}
+
+// What the bytes of a link are.
+fn judge(alloc: Global, bytes: &[u8], ended: bool) -> Result<Incoming, ReadStop>
+    ensures { Gives result (Decides bytes.now ended) }
+{
+    match request_of(alloc, bytes, ended) {
+        Ok(Some(request)) => Ok(Incoming::Visit(request)),
+        Ok(None) => Ok(Incoming::Nothing),
+        Err(RequestFault::Refused(reason)) => Ok(Incoming::Refused(reason)),
+        Err(RequestFault::Memory) => Err(ReadStop::Memory),
+    }
+}
+
+/// Reads the bytes of one request, and not one too many.
+pub(crate) fn read_request<S: Source>(alloc: Global, source: &mut S) -> Result<Incoming, ReadStop>
+    ensures came { Comes (S.left source.old) (S.left source.new) result }
+    ensures failed { IsErrOf result ReadStop.Failed → Rose (S.fault_count source.old) (S.fault_count source.new) }
+    ensures later { S.fault_count source.old ≤ S.fault_count source.new }
+{
+    let mut bytes = Vec::new(alloc);
+    let ended = read_bytes(source, &mut bytes)?;
+    judge(alloc, &bytes, ended)
+}
