@@ -1,172 +1,214 @@
-use crate::texts::{SUM, datum, setup, text_of};
-use core_syntax::Setup;
-use instance_book::Book;
-use page_names::{Target, parse_target};
-use script_value::{Refusal, Reply};
+ghost use Rattle.std.specs.Prelude.{◌≡◌, [], IfOk, Contains};
+ghost use Rattle.instance_book.specs.Views.{book_of};
+ghost use Rattle.instance_book.specs.Changes.{HasRoomFor};
+
+use crate::texts::{datum, is_datum, setup, target, text_of};
+use core_syntax::{SendKind, Setup};
+use instance_book::{Book, Prepared, Ticket};
+use plain_rerun::{PlainEnd, Rerun, rerun};
+use script_value::{Bytes, Refusal, Reply};
 use std::alloc::Global;
 use std::test::Fail;
 
-fn target(path: &str) -> Result<Target, Fail> {
-    Ok(parse_target(path.as_bytes()).ok_or("no target")?)
+const LETTERS: &str =
+    "(define c (make-instance-cell 5)) (list 'p (send/suspend (lambda (u) \"a\")) (send/suspend (lambda (u) \"b\")))";
+
+const SCRIPTS: &[(&str, &str)] = &[("ten", "'(p \"12345\")"), ("s", LETTERS)];
+
+#[test]
+fn an_empty_book_has_nothing(rt: HostRuntime) {
+    let book = Book::empty(rt.alloc(), 7);
+    assert_eq!(rt; book.shelf(), 7);
+    assert_eq!(rt; book.clock(), 0);
+    assert_eq!(rt; book.drawn(), 0);
+    assert_eq!(rt; book.live(), 0);
+    assert!(rt; book.cells(0).is_none());
 }
 
-// The reply as a text.
-fn told(alloc: Global, reply: &Reply) -> Result<String, Fail> {
-    Ok(match reply {
-        Reply::Page { bytes, url } => {
-            format!(in alloc; "{} at {}", text_of(bytes)?, text_of(url)?)?
-        }
-        Reply::Ended(bytes) => format!(in alloc; "{}", text_of(bytes)?)?,
-        Reply::Refused(refusal) => format!(in alloc; "{refusal:?}")?,
-        Reply::Fault(fault) => format!(in alloc; "{fault:?}")?,
-        Reply::Memory => return Err(Fail::from("memory")),
-    })
+const TARGETS: &[(&str, Option<Refusal>)] = &[
+    ("/servlets/s", None),
+    ("/servlets/ten", None),
+    ("/servlets/none", Some(Refusal::Unknown)),
+    ("/servlets/s;7*0*0*000000000000000a", Some(Refusal::Unknown)),
+    ("/servlets/s;0*0*0*000000000000000a", Some(Refusal::Unknown)),
+];
+
+#[test]
+fn an_empty_book_admits_starts_alone(rt: HostRuntime) -> Result<(), Fail> {
+    let setup = setup(rt.alloc(), SCRIPTS)?;
+    let book = Book::empty(rt.alloc(), 7);
+    for (path, refusal) in TARGETS {
+        assert_eq!(rt;
+            book.admit(&setup, &target(path)?).err(),
+            *refusal,
+            "{path}"
+        );
+    }
+    Ok(())
 }
 
-// What a take with this nonce and its publish answer. A take asks for a bound on the numbers that were drawn.
-fn visited(
+// A ticket for a start, whose answer is the number 3. A ticket asks for a bound on the numbers that were drawn.
+fn started(
     alloc: Global,
     book: &mut Book,
     setup: &Setup,
-    nonce: u64,
     path: &str,
-    answer: &str,
-) -> Result<String, Fail> {
+    nonce: u64,
+) -> Result<Ticket, Fail>
+    ensures { IfOk result (λ t. Contains (book_of book.new).out t.number) }
+{
     if book.drawn() >= 1_000 {
-        return Err(Fail::from("too many visits"));
+        return Err(Fail::from("too many tickets"));
     }
-    match book.take(setup, target(path)?, datum(alloc, answer)?, nonce) {
-        Ok(ticket) => told(alloc, &book.publish(alloc, setup, &ticket)),
-        Err(reply) => told(alloc, &reply),
+    let target = target(path)?;
+    if let Err(_refusal) = book.admit(setup, &target) {
+        return Err(Fail::from("not admitted"));
     }
+    Ok(book.ticket(alloc, setup, &target, datum(alloc, "3")?, nonce)?)
 }
 
-const START: &str = "/servlets/sum";
-
-const PAGE_0: &str = "/servlets/sum;0*0*0*0000000000000000";
-
-const PAGE_1: &str = "/servlets/sum;0*0*1*0000000000000001";
-
-const PAGE_3: &str = "/servlets/sum;0*0*3*0000000000000003";
-
-const SHOWS_0: &str =
-    r#"<a href="/servlets/sum;0*0*0*0000000000000000">1</a> at /servlets/sum;0*0*0*0000000000000000"#;
-
-const SHOWS_1: &str =
-    r#"<a href="/servlets/sum;0*0*1*0000000000000001">2</a> at /servlets/sum;0*0*1*0000000000000001"#;
-
-const SHOWS_3: &str =
-    r#"<a href="/servlets/sum;0*0*3*0000000000000003">2</a> at /servlets/sum;0*0*3*0000000000000003"#;
-
-const SHOWS_6: &str =
-    r#"<a href="/servlets/sum;0*0*6*0000000000000006">2</a> at /servlets/sum;0*0*6*0000000000000006"#;
-
-const SHOWS_7: &str =
-    r#"<a href="/servlets/sum;0*0*7*0000000000000007">2</a> at /servlets/sum;0*0*7*0000000000000007"#;
-
-const SHOWS_12: &str =
-    r#"<a href="/servlets/sum;0*12*12*000000000000000c">1</a> at /servlets/sum;0*12*12*000000000000000c"#;
-
-const SUM_VISITS: &[(u64, &str, &str, &str)] = &[
-    (0, START, "()", SHOWS_0),
-    (1, PAGE_0, "((n \"3\"))", SHOWS_1),
-    (2, PAGE_1, "((n \"4\"))", "<p>7</p>"),
-    (3, PAGE_0, "((n \"10\"))", SHOWS_3),
-    (4, PAGE_3, "((n \"4\"))", "<p>14</p>"),
-    (5, PAGE_1, "((n \"1\"))", "<p>4</p>"),
-    (6, PAGE_0, "((n \"3\"))", SHOWS_6),
-    (7, PAGE_0, "((n \"3\"))", SHOWS_7),
-    (8, PAGE_1, "((n \"x\"))", "WrongType"),
-    (9, PAGE_1, "()", "Binding"),
-    (10, PAGE_1, "((n \"1\") (n \"2\"))", "Binding"),
-    (11, PAGE_1, "((n \"9223372036854775807\"))", "Overflow"),
-    (12, START, "()", SHOWS_12),
-];
-
 #[test]
-fn a_sum_goes_on_and_back_and_again(rt: HostRuntime) -> Result<(), Fail> {
+fn a_ticket_has_what_its_run_needs(rt: HostRuntime) -> Result<(), Fail> {
     let alloc = rt.alloc();
-    let setup = setup(alloc, &[("sum", SUM)])?;
-    let mut book = Book::empty(alloc, 0);
-    for (nonce, path, answer, wanted) in SUM_VISITS {
-        let reply = visited(alloc, &mut book, &setup, *nonce, path, answer)?;
-        assert_eq!(rt; reply.as_str(), *wanted, "{path} {answer}");
-    }
-    assert_eq!(rt; book.drawn(), 13);
-    Ok(())
-}
-
-const LETTERS: &str =
-    "(list 'p (send/suspend (lambda (u) \"a\")) (send/suspend (lambda (u) \"b\")))";
-
-const FIRST: &str = "/servlets/s;7*0*0*000000000000000a";
-
-const SECOND: &str = "/servlets/s;7*0*1*000000000000000b";
-
-const AGAIN: &str = "/servlets/s;7*0*3*000000000000000d";
-
-const NO_NONCE: &str = "/servlets/s;7*0*0*000000000000000b";
-
-const LETTER_VISITS: &[(u64, &str, &str, &str)] = &[
-    (
-        10,
-        "/servlets/s",
-        "()",
-        "a at /servlets/s;7*0*0*000000000000000a",
-    ),
-    (11, NO_NONCE, "\"x\"", "Unknown"),
-    (
-        11,
-        "/servlets/ten;7*0*0*000000000000000a",
-        "\"x\"",
-        "Unknown",
-    ),
-    (11, "/servlets/s;0*0*0*000000000000000a", "\"x\"", "Unknown"),
-    (11, "/servlets/s;7*1*0*000000000000000a", "\"x\"", "Unknown"),
-    (11, SECOND, "\"x\"", "Unknown"),
-    (11, "/servlets/none", "\"x\"", "Unknown"),
-    (
-        11,
-        FIRST,
-        "\"x\"",
-        "b at /servlets/s;7*0*1*000000000000000b",
-    ),
-    (12, SECOND, "\"y\"", "<p>xy</p>"),
-    (
-        13,
-        FIRST,
-        "\"z\"",
-        "b at /servlets/s;7*0*3*000000000000000d",
-    ),
-    (14, AGAIN, "\"w\"", "<p>zw</p>"),
-    (15, SECOND, "\"v\"", "<p>xv</p>"),
-    (16, "/servlets/ten", "()", "<p>12345</p>"),
-];
-
-#[test]
-fn letters_go_on_and_back_and_the_unknown_is_refused(rt: HostRuntime) -> Result<(), Fail> {
-    let alloc = rt.alloc();
-    let setup = setup(alloc, &[("s", LETTERS), ("ten", "'(p \"12345\")")])?;
+    let setup = setup(alloc, SCRIPTS)?;
     let mut book = Book::empty(alloc, 7);
-    for (nonce, path, answer, wanted) in LETTER_VISITS {
-        let reply = visited(alloc, &mut book, &setup, *nonce, path, answer)?;
-        assert_eq!(rt; reply.as_str(), *wanted, "{path} {answer}");
-    }
-    assert_eq!(rt; book.drawn(), 7);
+    let first = started(alloc, &mut book, &setup, "/servlets/s", 10)?;
+    assert_eq!(rt; first.number, 0);
+    assert_eq!(rt; first.nonce, 10);
+    assert_eq!(rt; first.script, 1);
+    assert_eq!(rt; first.url.as_str(), "/servlets/s;7*0*0*000000000000000a");
+    assert!(rt; first.from.is_empty());
+    assert!(rt; is_datum(alloc, &first.answer, "3")?);
+    let cell = first.cells.find(0).ok_or("no cell")?;
+    assert!(rt; is_datum(alloc, cell, "5")?);
+    let second = started(alloc, &mut book, &setup, "/servlets/ten", 4)?;
+    assert_eq!(rt; second.number, 1);
+    assert_eq!(rt; second.url.as_str(), "/servlets/ten;7*1*1*0000000000000004");
+    assert_eq!(rt; second.cells.len(), 0);
+    assert_eq!(rt; book.drawn(), 2);
+    book.spend(0);
+    assert_eq!(rt; book.drawn(), 2);
+    assert_eq!(rt; book.live(), 0);
     Ok(())
 }
 
 #[test]
-fn a_page_is_admitted_by_its_nonce(rt: HostRuntime) -> Result<(), Fail> {
+fn a_book_of_nothing_frees_nothing(rt: HostRuntime) -> Result<(), Fail> {
+    let mut book = Book::empty(rt.alloc(), 7);
+    if book.clock() >= 50 {
+        return Err(Fail::from("late"));
+    }
+    assert_eq!(rt; book.free_expired(50), 0);
+    assert_eq!(rt; book.clock(), 50);
+    Ok(())
+}
+
+const READS: &str =
+    "(define c (make-instance-cell 5)) (let ((n (instance-cell-ref c))) (send/suspend (lambda (u) (list 'p u (number->string n)))))";
+
+// Whether the run of a ticket shows this page.
+fn shows(alloc: Global, setup: &Setup, ticket: &Ticket, wanted: &str) -> Result<bool, Fail> {
+    let named = setup.get(ticket.script).ok_or("no script")?;
+    let tape = ticket.tape(alloc, ticket.cells.try_clone(alloc)?, 1_000)?;
+    match &rerun(alloc, &named.script, &tape)?.end {
+        PlainEnd::Shown { page, .. } => Ok(text_of(page)? == wanted),
+        _ => Ok(false),
+    }
+}
+
+#[test]
+fn a_copy_of_a_ticket_runs_alike(rt: HostRuntime) -> Result<(), Fail> {
     let alloc = rt.alloc();
-    let setup = setup(alloc, &[("s", LETTERS)])?;
+    let setup = setup(alloc, &[("s", READS)])?;
     let mut book = Book::empty(alloc, 7);
-    visited(alloc, &mut book, &setup, 10, "/servlets/s", "()")?;
-    assert_eq!(rt; book.shelf(), 7);
-    assert!(rt; book.admit(&setup, &target(FIRST)?).is_ok());
-    assert_eq!(rt;
-        book.admit(&setup, &target(NO_NONCE)?).err(),
-        Some(Refusal::Unknown)
-    );
+    let ticket = started(alloc, &mut book, &setup, "/servlets/s", 10)?;
+    let copy = ticket.try_clone(alloc)?;
+    for ticket in [&ticket, &copy] {
+        assert_eq!(rt; ticket.number, 0);
+        assert_eq!(rt; ticket.nonce, 10);
+        assert!(rt; is_datum(alloc, &ticket.answer, "3")?);
+        assert!(rt;
+            shows(
+                alloc,
+                &setup,
+                ticket,
+                "<p>/servlets/s;7*0*0*000000000000000a5</p>"
+            )?
+        );
+    }
+    Ok(())
+}
+
+// A segment that showed a page, and did nothing else.
+fn shown(alloc: Global) -> Result<Rerun, Fail>
+    ensures { IfOk result (λ r. r.effects.items ≡ []) }
+{
+    Ok(Rerun {
+        end: PlainEnd::Shown {
+            page: Bytes::new("a".as_bytes().to_vec(alloc)?),
+            kind: SendKind::Suspend,
+        },
+        effects: Vec::new(alloc),
+        entered: Vec::new(alloc),
+        left: Vec::new(alloc),
+        cost: 2,
+    })
+}
+
+// What is prepared for a start that showed a page.
+fn opening(alloc: Global, book: &mut Book, setup: &Setup) -> Result<Prepared, Fail>
+    ensures { IfOk result (λ p. HasRoomFor p.change book.new) }
+{
+    let ticket = started(alloc, book, setup, "/servlets/s", 10)?;
+    let segment = shown(alloc)?;
+    match book.prepare(alloc, &ticket, segment, 256, 64, 3_600) {
+        Ok(prepared) => Ok(prepared),
+        Err(_) => Err(Fail::from("not prepared")),
+    }
+}
+
+const SHOWN: &str = "/servlets/s;7*0*0*000000000000000a";
+
+// Whether the reply and the book have that page, and no more.
+fn has_page(setup: &Setup, book: &Book, reply: &Reply) -> Result<bool, Fail> {
+    let is_told = match reply {
+        Reply::Page { bytes, url } => text_of(bytes)? == "a" && text_of(url)? == SHOWN,
+        _ => false,
+    };
+    Ok(is_told && book.live() == 1 && book.admit(setup, &target(SHOWN)?).is_ok())
+}
+
+#[test]
+fn a_copy_of_what_is_prepared_is_installed_alike(rt: HostRuntime) -> Result<(), Fail> {
+    let alloc = rt.alloc();
+    let setup = setup(alloc, SCRIPTS)?;
+    let mut book = Book::empty(alloc, 7);
+    let source = opening(alloc, &mut book, &setup)?;
+    let reply = book.install(source);
+    assert!(rt; has_page(&setup, &book, &reply)?);
+    let mut other = Book::empty(alloc, 7);
+    let copy = opening(alloc, &mut other, &setup)?.try_clone(alloc)?;
+    let reply = other.install(copy);
+    assert!(rt; has_page(&setup, &other, &reply)?);
+    Ok(())
+}
+
+#[test]
+fn a_copy_of_a_book_answers_alike_and_goes_its_own_way(rt: HostRuntime) -> Result<(), Fail> {
+    let alloc = rt.alloc();
+    let setup = setup(alloc, SCRIPTS)?;
+    let mut book = Book::empty(alloc, 7);
+    let prepared = opening(alloc, &mut book, &setup)?;
+    let reply = book.install(prepared);
+    let mut copy = book.try_clone(alloc)?;
+    assert!(rt; has_page(&setup, &copy, &reply)?);
+    if copy.clock() >= 3_600 || book.clock() >= 3_600 {
+        return Err(Fail::from("late"));
+    }
+    assert_eq!(rt; copy.free_expired(3_600), 1);
+    assert_eq!(rt; copy.live(), 0);
+    assert!(rt; has_page(&setup, &book, &reply)?);
+    assert_eq!(rt; book.free_expired(3_600), 1);
+    assert_eq!(rt; book.live(), 0);
     Ok(())
 }

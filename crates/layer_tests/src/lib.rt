@@ -4,7 +4,15 @@
 #[cfg(test)]
 mod book;
 #[cfg(test)]
+mod cells;
+#[cfg(test)]
+mod closings;
+#[cfg(test)]
+mod deadlines;
+#[cfg(test)]
 mod engine;
+#[cfg(test)]
+mod examples;
 #[cfg(test)]
 mod names;
 #[cfg(test)]
@@ -15,6 +23,8 @@ mod outside;
 mod pages;
 #[cfg(test)]
 mod reader;
+#[cfg(test)]
+mod shelves;
 #[cfg(test)]
 mod syntax;
 #[cfg(test)]

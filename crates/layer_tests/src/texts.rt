@@ -1,5 +1,5 @@
 use core_syntax::{NamedScript, Script, Setup, expand};
-use page_names::ScriptName;
+use page_names::{ScriptName, Target, parse_target};
 use script_value::{Bytes, Str, Value, equal};
 use sexp_reader::read_all;
 use std::alloc::Global;
@@ -53,4 +53,9 @@ pub fn setup(alloc: Global, scripts: &[(&str, &str)]) -> Result<Setup, Fail> {
 /// The text of some bytes.
 pub fn text_of(bytes: &Bytes) -> Result<&str, Fail> {
     Ok(str::from_utf8(bytes.as_slice())?)
+}
+
+/// What a path names.
+pub fn target(path: &str) -> Result<Target, Fail> {
+    Ok(parse_target(path.as_bytes()).ok_or("no target")?)
 }

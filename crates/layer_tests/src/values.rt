@@ -20,6 +20,9 @@ fn values_have_their_depth_and_size(rt: HostRuntime) -> Result<(), Fail> {
     for (text, levels, cost) in MEASURES {
         let value = datum(alloc, text)?;
         assert_eq!(rt; depth(&value), *levels, "{text}");
+        if let Value::List(items) = &value {
+            assert_eq!(rt; items.depth(), *levels, "{text}");
+        }
         assert_eq!(rt; size(&value), *cost, "{text}");
     }
     Ok(())

@@ -1,0 +1,6 @@
+-- The rules of tests: whatever is answered is well.
+use Rattle.std.specs.Prelude.{⊤}
+use Rattle.http_forms.specs.Passes.{PassRules}
+
+abbrev pub any_rules : {P : Type 0} → PassRules P
+any_rules = record { IsOwn = λ _. ⊤; Visits = λ _ _ _ _ _. ⊤; Ticks = λ _ _ _ _. ⊤ }

@@ -1,0 +1,9 @@
+//! Tests of workers over links in memory.
+#![tactic(auto)]
+
+#[cfg(test)]
+mod counter;
+#[cfg(test)]
+mod links;
+#[cfg(test)]
+mod porches;

@@ -1,0 +1,94 @@
+use crate::counter::{Asked, Counter};
+use request_workers::{Tally, WorkEnd, work};
+use std::alloc::Global;
+use std::test::Fail;
+use web_outside::{
+    Door, DoorFault, ListDoor, ListPorch, ListSeeds, Nonces, OpenGate, Porch, SeedFault, Seeds,
+    SetClock, Sink, TextLink, TextSink, TextSource,
+};
+
+const START: &[u8] = b"GET /servlets/ten HTTP/1.0\r\n\r\n";
+
+// What each link sends, which of its reads fails, and how many bytes it takes.
+const LINKS: &[(&[u8], &[u64], usize)] = &[
+    (START, &[], 1_000),
+    (b"", &[], 1_000),
+    (b"?", &[], 1_000),
+    (START, &[0], 1_000),
+    (START, &[], 10),
+    (b"GET / HTTP/1.0\r\n\r\n", &[], 1_000),
+    (START, &[], 1_000),
+];
+
+fn links(alloc: Global) -> Result<Vec<TextLink>, Fail> {
+    let mut links = Vec::new(alloc);
+    for (sent, reads, room) in LINKS {
+        links.push(TextLink {
+            input: TextSource::new(sent.to_vec(alloc)?, reads.to_vec(alloc)?, 5),
+            output: TextSink::new(alloc, *room, Vec::new(alloc))?,
+        })?;
+    }
+    Ok(links)
+}
+
+fn tally(pages: u64, refused: u64, failed: u64, dropped: u64, end: WorkEnd) -> Tally {
+    Tally {
+        pages,
+        refused,
+        failed,
+        dropped,
+        end,
+    }
+}
+
+#[test]
+fn a_worker_serves_its_links_and_counts(rt: HostRuntime) -> Result<(), Fail> {
+    let alloc = rt.alloc();
+    let cases: &[(u64, &[u64], usize, Tally)] = &[
+        (10, &[], 10, tally(3, 1, 2, 0, WorkEnd::Done)),
+        (3, &[], 10, tally(1, 0, 0, 0, WorkEnd::Done)),
+        (10, &[5], 10, tally(2, 0, 2, 0, WorkEnd::Failed)),
+        (10, &[], 4, tally(1, 0, 1, 3, WorkEnd::Done)),
+    ];
+    for (connections, failing, room, wanted) in cases {
+        let porch = ListPorch::new(alloc, links(alloc)?, failing.to_vec(alloc)?)?;
+        let mut porches = Vec::new(alloc);
+        porches.push(porch)?;
+        let mut door = ListDoor::new(alloc, porches, Vec::new(alloc));
+        let Ok(mut porches) = door.listen(alloc, 0, 1, (*connections).min(10)) else {
+            return Err(Fail::from("no door"));
+        };
+        let mut asked = Asked::nothing(alloc, *room);
+        for porch in porches.iter_mut() {
+            let clock = SetClock::new(7);
+            let counted = work(alloc, &Counter, &mut asked, porch, &clock, &OpenGate);
+            assert_eq!(rt; counted, *wanted);
+            assert_eq!(rt; asked.ticks.len(), porch.served().len());
+        }
+        door.close(porches);
+        let faults = if wanted.end == WorkEnd::Failed { 1 } else { 0 };
+        assert_eq!(rt; door.faults(), faults);
+    }
+    Ok(())
+}
+
+#[test]
+fn a_door_and_seeds_fail_where_they_are_told_to(rt: HostRuntime) -> Result<(), Fail> {
+    let alloc = rt.alloc();
+    let mut door = ListDoor::new(alloc, Vec::new(alloc), [0].as_slice().to_vec(alloc)?);
+    assert!(rt; matches!(door.listen(alloc, 0, 0, 1), Err(DoorFault::Failed)));
+    assert!(rt; matches!(door.listen(alloc, 0, 1, 1), Err(DoorFault::Failed)));
+    assert!(rt; door.listen(alloc, 0, 0, 1).is_ok());
+    assert_eq!(rt; door.faults(), 2);
+    let mut seeds = ListSeeds::new([0].as_slice().to_vec(alloc)?);
+    assert!(rt; matches!(seeds.draw(alloc, 2), Err(SeedFault::Failed)));
+    let Ok(mut sources) = seeds.draw(alloc, 2) else {
+        return Err(Fail::from("no sources"));
+    };
+    for source in sources.iter_mut() {
+        assert_eq!(rt; source.next(), 0);
+        assert_eq!(rt; source.next(), 1);
+    }
+    assert_eq!(rt; seeds.faults(), 1);
+    Ok(())
+}
