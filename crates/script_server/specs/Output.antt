@@ -1,90 +1,127 @@
--- What a run of the program writes for its input, and how it may end.
-use Rattle.std.specs.Prelude.{◌≡◌, ◌⊎◌, ℕ, List, [], ◌++◌, Option, Result, Ok, Err, codes}
+-- What the program writes for its input, and how it may end.
+use Rattle.std.specs.Prelude.{◌≡◌, ◌⊎◌, ℕ, List, [], ◌∷◌, ◌++◌, length, Option, Some, None, Result, Ok, Err, codes}
 use Rattle.std.specs.Fmt.{decimal}
 use Rattle.std.specs.Io.KnownBytes.{Appends}
 use Rattle.web_outside.specs.Causes.{Rose}
+use Rattle.web_outside.specs.Pieces.{IsCutShort, AppendsUnlessFault}
 use Rattle.core_syntax.specs.Setup.{Named}
-use Rattle.web_outside.specs.Pieces.{AppendsPart}
-use Rattle.play_steps.specs.Step.{Request, requests}
-use Rattle.play_steps.specs.Visit.{Fates, first_table}
-use Rattle.play_steps.specs.Transcript.{End, done, bad_line, transcript, play_of}
-use Rattle.script_server.specs.Setup.{Parsed, Fault, setup_of}
-use Rattle.script_server.specs.Faults.{fault_line}
+use Rattle.replay_spec.specs.Rules.{Rules}
+use Rattle.replay_spec.specs.Step.{Fate}
+use Rattle.play_steps.specs.Step.{Step, steps_of}
+use Rattle.play_steps.specs.Transcript.{End, done, bad_line, Run, transcript}
+use Rattle.setup_reader.specs.declared.setup.Ending.{Ending}
+use Rattle.setup_reader.specs.declared.setup.Ending.TheVariants.{Steps, Input}
+use Rattle.setup_reader.specs.Setup.{Parsed, Fault, setup_of}
+use Rattle.setup_reader.specs.Faults.{fault_line}
+use Rattle.command_words.specs.Plain.{Asked, Choices, check, play, serve}
+use Rattle.script_server.specs.Desk.{first_desk, desk_rules}
 
--- what is written for a whole input: the replies, the error's line and the status
+-- what is written for a whole input: the text, the error's line behind it, and the status
 pub record Output : Type 0 where
-  pub replies : List ℕ
+  pub text : List ℕ
   pub error : List ℕ
   pub status : ℕ
 
-abbrev pub finished : List ℕ → End → Output
-finished replies done = record { replies = replies; error = []; status = 0 }
-finished replies (bad_line n) = record { replies = replies; error = codes "error 4 " ++ decimal n ++ codes "\n"; status = 4 }
+-- a setup that has a fault
+abbrev pub faulty : Fault → Output
+faulty e = record { text = []; error = fault_line e; status = 3 }
 
-abbrev pub played : Result Parsed Fault → List Fates → Output
-played (Err e) fates = record { replies = []; error = fault_line e; status = 3 }
-played (Ok setup) fates =
-    finished (play_of setup.scripts setup.steps fates).0 (play_of setup.scripts setup.steps fates).1
+-- how many scripts there are
+abbrev pub counted : Result Parsed Fault → Output
+counted (Err e) = faulty e
+counted (Ok setup) = record { text = codes "ok " ++ (decimal (length setup.scripts) ++ 10 ∷ []); error = []; status = 0 }
 
-abbrev pub output_of : List ℕ → List Fates → Output
-output_of input fates = played (setup_of input) fates
+-- what the shelf of a run is under; it is in memory
+abbrev pub rules_for : Choices → List Named → Rules
+rules_for c scripts =
+    record { scripts = scripts; fuel = c.fuel; life = c.life; instances = c.instances; pages = c.pages; journal = None }
 
--- The sink grew by the replies and the error's line of some fates, the line cut short only where the sink's
--- count rose, and this is the status.
-pub record Answers (input : List ℕ) (old new : Option (List ℕ)) (before after : ℕ) (status : ℕ) : Type 0 where
-  pub fates : List Fates
-  pub status_is : (output_of input fates).status ≡ status
+-- the run of these steps over these scripts
+abbrev pub run_of : Choices → List Named → List (Option Step) → List Fate → Run desk_rules
+run_of c scripts steps fates = transcript desk_rules (first_desk (rules_for c scripts)) 1 steps fates
+
+abbrev pub ended : List ℕ → End → Output
+ended text done = record { text = text; error = []; status = 0 }
+ended text (bad_line n) = record { text = text; error = codes "error 4 " ++ (decimal n ++ 10 ∷ []); status = 4 }
+
+abbrev pub finished : Run desk_rules → Output
+finished run = ended run.text run.end
+
+abbrev pub played : Choices → Result Parsed Fault → List Fate → Output
+played c (Err e) fates = faulty e
+played c (Ok setup) fates = finished (run_of c setup.scripts (steps_of setup.steps) fates)
+
+-- what is due to a setup that is served, but for the line of its counts, which its links decide
+abbrev pub served : Result Parsed Fault → Output
+served (Err e) = faulty e
+served (Ok setup) = record { text = []; error = []; status = 0 }
+
+-- a setup ends with the input where it is checked or served, and with the line `steps` where it is played
+abbrev pub ending_of : Asked → Ending
+ending_of check = Input
+ending_of (play c) = Steps
+ending_of (serve s) = Input
+
+abbrev pub written : Asked → Result Parsed Fault → List Fate → Output
+written check setup fates = counted setup
+written (play c) setup fates = played c setup fates
+written (serve s) setup fates = served setup
+
+-- what a command writes for an input
+abbrev pub output_of : Asked → List ℕ → List Fate → Output
+output_of asked input fates = written asked (setup_of (ending_of asked) input) fates
+
+-- what a sink held before and holds after, where it tells, and its counts of faults
+pub record Sinks : Type 0 where
+  pub held : Option (List ℕ)
+  pub holds : Option (List ℕ)
+  pub before : ℕ
+  pub after : ℕ
+
+abbrev pub sinks : (held holds : Option (List ℕ)) (before after : ℕ) → Sinks
+sinks held holds before after = record { held = held; holds = holds; before = before; after = after }
+
+-- the same of a sink, by what it tells of itself before and after a call
+abbrev pub sinks_of : {S : Type 0} → (written : S → Option (List ℕ)) → (faults : S → ℕ) → (old new : S) → Sinks
+sinks_of written faults old new = sinks (written old) (written new) (faults old) (faults new)
+
+-- the sink grew by this line, or by a part of it where the output failed
+abbrev pub PrintsTo : Sinks → List ℕ → Type 0
+PrintsTo out line = AppendsUnlessFault out.held out.holds line out.before out.after
+
+-- the sink grew by a text and then by a line, which is cut short only where the sink's count rose
+pub record Tells (text line : List ℕ) (out : Sinks) : Type 0 where
   pub shown : List ℕ
   pub cut : List ℕ
-  pub error : (output_of input fates).error ≡ shown ++ cut
-  pub written : Appends old new ((output_of input fates).replies ++ shown)
-  pub whole : (cut ≡ []) ⊎ Rose before after
+  pub is : line ≡ shown ++ cut
+  pub grown : Appends out.held out.holds (text ++ shown)
+  pub whole : (cut ≡ []) ⊎ Rose out.before out.after
 
--- the sink grew by a front of the replies of some fates
-pub record BreaksOff (input : List ℕ) (old new : Option (List ℕ)) : Type 0 where
-  pub fates : List Fates
-  pub part : AppendsPart old new (output_of input fates).replies
+-- the sink grew by the text and the error's line of an output, and this is its status
+abbrev pub Answers : Output → (status : ℕ) → Sinks → Type 0
+Answers output status out = (output.status ≡ status) × Tells output.text output.error out
 
--- whole replies of some fates to the first of the steps, as many as there are
-pub record RepliesTo (setup : List Named) (steps text : List ℕ) : Type 0 where
-  pub front : List (Option Request)
-  pub rest : List (Option Request)
-  pub cut : requests steps ≡ front ++ rest
-  pub fates : List Fates
-  pub replies : transcript setup first_table 1 front fates ≡ (text, done)
+-- the sink grew by less than the text; or by all of it, where no error follows, and could not hand it on
+abbrev pub BreaksOff : Output → Sinks → Type 0
+BreaksOff output out = IsCutShort out.held out.holds output.text ⊎ ((output.status ≡ 0) × Appends out.held out.holds output.text)
 
--- whole replies to the first of an input's steps, or nothing
-pub data Replied : List ℕ → List ℕ → Type 0 where
-  nothing : (input : List ℕ) → Replied input []
-  to_steps : (input text : List ℕ) (setup : Parsed) → setup_of input ≡ Ok setup → RepliesTo setup.scripts setup.steps text → Replied input text
+-- whole replies to the first of the steps, and behind them a step that is performed and not told
+pub record Replied (c : Choices) (setup : Parsed) (fates : List Fate) (text : List ℕ) : Type 0 where
+  pub front : List (Option Step)
+  pub step : Step
+  pub rest : List (Option Step)
+  pub cut : steps_of setup.steps ≡ front ++ Some step ∷ rest
+  pub text_is : (run_of c setup.scripts front fates).text ≡ text
+  pub goes_on : (run_of c setup.scripts front fates).end ≡ done
 
--- The sink grew by whole replies to the first of the steps, and then by the line, cut short only where the sink's count rose.
-pub record Pauses (input error : List ℕ) (old new : Option (List ℕ)) (before after : ℕ) : Type 0 where
-  pub text : List ℕ
-  pub replied : Replied input text
-  pub shown : List ℕ
-  pub cut : List ℕ
-  pub error_is : error ≡ shown ++ cut
-  pub written : Appends old new (text ++ shown)
-  pub whole : (cut ≡ []) ⊎ Rose before after
+-- What stands before want of memory is told: nothing; whole replies to the first of the steps; or all replies up to a line that
+-- is no step or does not fit.
+pub data Before (asked : Asked) (input : List ℕ) (fates : List Fate) : List ℕ → Type 0 where
+  nothing : Before asked input fates []
+  at_line : (output_of asked input fates).status ≡ 4 → Before asked input fates (output_of asked input fates).text
+  replies : (c : Choices) (setup : Parsed) (text : List ℕ) → asked ≡ play c → setup_of Steps input ≡ Ok setup
+      → Replied c setup fates text → Before asked input fates text
 
--- the replies of some fates, up to a line that is no step, and then its error, whole or cut by a fault
-pub record EndsAtLine (old new : Option (List ℕ)) (before after : ℕ) (setup : List Named) (steps : List ℕ) : Type 0 where
-  pub fates : List Fates
-  pub number : ℕ
-  pub end_is : (play_of setup steps fates).1 ≡ bad_line number
-  pub shown : List ℕ
-  pub cut : List ℕ
-  pub error : codes "error 4 " ++ decimal number ++ codes "\n" ≡ shown ++ cut
-  pub written : Appends old new ((play_of setup steps fates).0 ++ shown)
-  pub whole : (cut ≡ []) ⊎ Rose before after
-
--- whole replies to the first of the steps, and then an error, whole or cut by a fault
-pub record StopsWith (old new : Option (List ℕ)) (before after : ℕ) (error : List ℕ) (setup : List Named) (steps : List ℕ) : Type 0 where
-  pub text : List ℕ
-  pub replied : RepliesTo setup steps text
-  pub shown : List ℕ
-  pub cut : List ℕ
-  pub error_is : error ≡ shown ++ cut
-  pub written : Appends old new (text ++ shown)
-  pub whole : (cut ≡ []) ⊎ Rose before after
+-- the sink grew by that, and then by the line
+abbrev pub Pauses : Asked → (input : List ℕ) → List Fate → (line : List ℕ) → Sinks → Type 0
+Pauses asked input fates line out = (text : List ℕ) × Before asked input fates text × Tells text line out

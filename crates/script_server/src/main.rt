@@ -2,21 +2,37 @@
 #![tactic(auto)]
 
 ghost use Rattle.std.specs.Prelude.{◌≡◌, codes};
-ghost use Rattle.web_outside.specs.Pieces.{AppendsUnlessFault, HandsOnUnlessFault};
+ghost use Rattle.web_outside.specs.Pieces.{HandsAllOn};
+ghost use Rattle.script_server.specs.Output.{sinks_of, PrintsTo};
 
 mod adapters;
+mod answer;
+mod buffers;
 mod command;
-mod fault;
-mod setup;
+mod desk;
+mod door;
+mod link;
+mod machine;
+mod porch;
+mod serial;
+mod serving;
+mod staff;
+#[cfg(test)]
+mod tests;
 
 use adapters::{Reading, Writing};
 use command::command;
+use door::SocketDoor;
+use machine::{MachineClock, MachineSeeds};
 use std::alloc::AllocError;
+use std::fs::Files;
 use std::io::ErrorKind;
+use std::net::{Net, TcpListener, TcpStream};
 use std::process::ExitCode;
 use std::rt::Env;
+use std::time::Clock;
 use std::{env, io};
-use web_outside::{Sink, write_or_drop};
+use web_outside::{OpenGate, Sink, write_or_drop};
 
 const OUT_OF_MEMORY: u8 = 10;
 
@@ -36,7 +52,17 @@ fn words_of<R: Env + AllocGlobal>(rt: &R) -> Result<Vec<String>, AllocError> {
 }
 
 // Runs the command over the real streams.
-fn run<R: Env + Input + Print + AllocGlobal>(rt: &R) -> u8 {
+fn run<R>(rt: &R) -> u8
+where
+    R: Env
+        + Input
+        + Print
+        + Eprint
+        + AllocGlobal
+        + Files
+        + Clock
+        + Net<Listener = TcpListener, Stream = TcpStream>,
+{
     let alloc = rt.alloc();
     let mut input = Reading {
         inner: rt.reader(),
@@ -55,14 +81,27 @@ fn run<R: Env + Input + Print + AllocGlobal>(rt: &R) -> u8 {
             return out_of_memory(&mut output);
         }
     }
-    command(rt, alloc, &texts, &mut input, &mut output)
+    let mut door = SocketDoor { rt, faults: 0 };
+    let clock = MachineClock { rt };
+    let mut seeds = MachineSeeds { rt, faults: 0 };
+    command(
+        rt,
+        alloc,
+        &texts,
+        &mut input,
+        &mut output,
+        &mut door,
+        &clock,
+        &mut seeds,
+        &OpenGate,
+    )
 }
 
 // Says that memory ran out before the command began, and answers the status of that.
 fn out_of_memory<O: Sink>(output: &mut O) -> u8
     ensures status { result ≡ 10 }
-    ensures line { AppendsUnlessFault (O.written output.old) (O.written output.new) (codes "error 10 memory\n") (O.fault_count output.old) (O.fault_count output.new) }
-    ensures handed { HandsOnUnlessFault (O.written output.new) (O.handed output.new) (O.fault_count output.old) (O.fault_count output.new) }
+    ensures line { PrintsTo (sinks_of O.written O.fault_count output.old output.new) (codes "error 10 memory\n") }
+    ensures handed { HandsAllOn O.written O.handed O.fault_count output.old output.new }
 {
     write_or_drop(output, b"error 10 memory\n");
     OUT_OF_MEMORY
@@ -71,6 +110,3 @@ fn out_of_memory<O: Sink>(output: &mut O) -> u8
 fn main(rt: HostRuntime) -> ExitCode {
     ExitCode::from(run(&rt))
 }
-
-#[cfg(test)]
-mod tests;

@@ -1,22 +1,24 @@
-use Rattle.std.proofs.Common.{subst, refl, ◌∙◌}
-use Rattle.web_outside.specs.Pieces.{AppendsUnlessFault}
-use Rattle.script_server.proofs.Endings.{ends_at_line, since, stops_with, stops_at_line}
+use Rattle.std.proofs.Common.{refl}
+use Rattle.script_server.proofs.Playing.{done_outputs, line_outputs, write_outputs, memory_outputs}
+use Rattle.command_words.specs.Plain.{choices_in}
 use Rattle.script_server.proofs.command.play_all.Goals as goal
 
-pub returns-in-Ok-line_error-clause-ended : goal.returns-in-Ok-line_error-clause-ended
-returns-in-Ok-line_error-clause-ended g c =
-    let text = c.as_bytes.ensures.value ∙ c.in-Ok-line_error.ensures in
-    ends_at_line _ _ _ _ _ _ _ _ c.in-Line.ensures.ended
-    (since _ _ _ _ _ _ c.in-Line.ensures.later (subst
-    (λ w. AppendsUnlessFault (g.O.Sink.written c.play.new.output) (g.O.Sink.written c.write_or_drop.new.sink) w
-    (g.O.Sink.fault_count c.play.new.output) (g.O.Sink.fault_count c.write_or_drop.new.sink))
-    text c.write_or_drop.ensures.written))
+pub new_desk-desk-requires : goal.new_desk-desk-requires
+new_desk-desk-requires g c = c.requires
 
-pub returns-in-Err-line_error-clause-ended : goal.returns-in-Err-line_error-clause-ended
-returns-in-Err-line_error-clause-ended g c =
-    stops_at_line _ _ _ _ _ _ _ _ _ c.in-Line.ensures.ended
-    (since _ _ _ _ _ _ c.in-Line.ensures.later c.write_or_drop-in-Err-line_error.ensures.written)
+pub returns-in-Done-clause-outputs : goal.returns-in-Done-clause-outputs
+returns-in-Done-clause-outputs g c = λ bytes h.
+    done_outputs (choices_in c.args.options.now) bytes _ _ _ _ _ _ _ _ _ _ h c.new_desk-desk.ensures c.in-Done.ensures.ended c.hand_on.ensures.same c.in-Done.ensures.later c.hand_on.ensures.status
 
-pub returns-in-Memory-clause-ended : goal.returns-in-Memory-clause-ended
-returns-in-Memory-clause-ended g c =
-    stops_with _ _ _ _ _ _ _ _ (c.in-Memory.ensures.memory refl) (since _ _ _ _ _ _ c.in-Memory.ensures.later c.write_or_drop-in-Memory.ensures.written)
+pub returns-in-Line-clause-outputs : goal.returns-in-Line-clause-outputs
+returns-in-Line-clause-outputs g c = λ bytes h.
+    line_outputs (choices_in c.args.options.now) bytes _ _ _ _ _ _ _ _ _ _ _ h c.new_desk-desk.ensures c.in-Line.ensures.ended c.in-Line.ensures.later c.tell_line.ensures.tells
+
+pub returns-in-Write-clause-outputs : goal.returns-in-Write-clause-outputs
+returns-in-Write-clause-outputs g c = λ bytes h.
+    let ended = c.in-Write.ensures.ended in
+    write_outputs (choices_in c.args.options.now) bytes _ _ _ _ _ _ _ h c.new_desk-desk.ensures ended.0 ended.1 ended.2 (c.in-Write.ensures.write refl)
+
+pub returns-clause-outputs : goal.returns-clause-outputs
+returns-clause-outputs g c = λ bytes h.
+    memory_outputs (choices_in c.args.options.now) bytes _ _ _ _ _ _ _ _ _ _ h c.new_desk-desk.ensures c.in-Memory.ensures.ended c.in-Memory.ensures.later c.no_memory.ensures.status c.no_memory.ensures.line
