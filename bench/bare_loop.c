@@ -1,0 +1,53 @@
+/* Accepts links on a free port of 127.0.0.1, reads a request's head from each, sends one fixed reply and closes it: what a
+ * server costs that does nothing. bench/serve.sh compiles it with `cc -O2` and compares `serve` with it. Its one word says
+ * how many links it serves. */
+#include <arpa/inet.h>
+#include <netinet/in.h>
+#include <netinet/tcp.h>
+#include <stdio.h>
+#include <stdlib.h>
+#include <string.h>
+#include <sys/socket.h>
+#include <unistd.h>
+
+static const char reply[] = "HTTP/1.1 404 Not Found\r\nContent-Type: text/plain; charset=utf-8\r\nContent-Length: 8\r\n"
+                            "Connection: close\r\n\r\nunknown\n";
+
+/* Reads until a head ends, or the link does. */
+static void read_head(int link) {
+    char head[16384];
+    size_t length = 0;
+    while (length + 1 < sizeof head) {
+        ssize_t more = read(link, head + length, sizeof head - 1 - length);
+        if (more <= 0) return;
+        length += (size_t)more;
+        head[length] = 0;
+        if (strstr(head, "\r\n\r\n")) return;
+    }
+}
+
+int main(int count, char **words) {
+    long links = count > 1 ? atol(words[1]) : 1000;
+    int listener = socket(AF_INET, SOCK_STREAM, 0), on = 1;
+    struct sockaddr_in here = {.sin_family = AF_INET, .sin_addr.s_addr = htonl(INADDR_LOOPBACK)};
+    socklen_t size = sizeof here;
+    if (listener < 0 || bind(listener, (struct sockaddr *)&here, size) || listen(listener, 128) ||
+        getsockname(listener, (struct sockaddr *)&here, &size)) {
+        perror("bare_loop");
+        return 1;
+    }
+    fprintf(stderr, "listening on 127.0.0.1:%d\n", ntohs(here.sin_port));
+    for (long served = 0; served < links; served++) {
+        int link = accept(listener, 0, 0);
+        if (link < 0) {
+            perror("bare_loop");
+            return 1;
+        }
+        setsockopt(link, IPPROTO_TCP, TCP_NODELAY, &on, sizeof on);
+        read_head(link);
+        if (write(link, reply, sizeof reply - 1) < 0) perror("bare_loop");
+        shutdown(link, SHUT_WR);
+        close(link);
+    }
+    return 0;
+}

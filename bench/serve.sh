@@ -1,0 +1,83 @@
+#!/bin/sh
+# Starts `serve` on a free port, tries a start, an answer, the way back and a second window with curl, and prints how many
+# requests a second it serves, beside a bare loop that accepts, reads, replies and closes (bare_loop.c, by `cc -O2`). No part
+# of the gate. Needs curl, cc, and a date that knows %N.
+
+here=$(CDPATH='' cd -- "$(dirname -- "$0")/.." && pwd) || exit 1
+work=$(mktemp -d "${TMPDIR:-/tmp}/hovgyelit-serve.XXXXXX") || exit 1
+server=
+trap '[ -z "$server" ] || kill "$server" 2>/dev/null; rm -rf "$work"' EXIT
+trap 'exit 1' HUP INT TERM
+
+fail() {
+    echo "$1" >&2
+    exit 1
+}
+
+# Where a server listens, once it says so in this file.
+address_in() {
+    tries=0
+    until grep -q listening "$1" 2>/dev/null; do
+        tries=$((tries + 1))
+        [ "$tries" -le 100 ] || fail "it does not listen: $(cat "$1")"
+        sleep 0.1
+    done
+    sed -n 's/.*listening on //p' "$1"
+}
+
+# Sends as many requests as there are, one after the other by one curl, and prints how many a second were answered.
+rate_of() {
+    yes "url = \"http://$1/servlets/other\"" | head -n "$requests" >"$work/urls"
+    before=$(date +%s%N)
+    curl -s --max-time 300 -K "$work/urls" >/dev/null
+    took=$((($(date +%s%N) - before) / 1000000))
+    echo $((requests * 1000 / (took + 1)))
+}
+
+# The program is built, if need be, before it is started by itself.
+"$here/hovgyelit" check <"$here/examples/sum.setup" >/dev/null || exit 1
+
+requests=${1:-1000}
+visits=7
+"$here/crates/script_server/out/script_server" serve --port 0 --connections "$((requests + visits))" \
+    <"$here/examples/sum.setup" >"$work/counts" 2>"$work/where" &
+server=$!
+host=$(address_in "$work/where") || exit 1
+
+# The page of a target, or with a second word that of a form sent to it.
+page() {
+    if [ $# -eq 2 ]; then curl -s --max-time 10 -d "$2" "http://$host$1"; else curl -s --max-time 10 "http://$host$1"; fi
+}
+
+# Where the form of a page sends its answer.
+action_in() {
+    sed -n 's/.*<form action="\([^"]*\)".*/\1/p' "$1"
+}
+
+page /servlets/sum >"$work/first"
+first=$(action_in "$work/first")
+[ -n "$first" ] || fail "the start shows no form: $(cat "$work/first")"
+page "$first" number=3 >"$work/second"
+second=$(action_in "$work/second")
+page "$second" number=4 | grep -q '3 and 4 are 7' || fail "3 and 4 are not 7"
+# Back to the first page, and on with another number, as a second window would.
+page "$first" number=10 >"$work/other"
+other=$(action_in "$work/other")
+page "$other" number=4 | grep -q '10 and 4 are 14' || fail "10 and 4 are not 14"
+page "$second" number=1 | grep -q '3 and 1 are 4' || fail "3 and 1 are not 4"
+[ "$(curl -s --max-time 10 -o /dev/null -w '%{http_code}' "http://$host/servlets/other")" = 404 ] || fail "an unknown script is not 404"
+echo "a start, answers, back and a second window: as they should be"
+
+rate=$(rate_of "$host")
+wait "$server" || fail "serve ended with status $?"
+server=
+cat "$work/counts"
+
+cc -O2 -o "$work/bare_loop" "$here/bench/bare_loop.c" || exit 1
+"$work/bare_loop" "$requests" 2>"$work/there" &
+server=$!
+there=$(address_in "$work/there") || exit 1
+bare=$(rate_of "$there")
+wait "$server" || fail "the bare loop ended with status $?"
+server=
+echo "$requests requests one after the other by one curl: serve $rate a second, a bare loop $bare a second"
