@@ -1,12 +1,14 @@
 -- Why a command ends so.
-use Rattle.std.proofs.Common.{◌≡◌, ◌≢◌, ◌≤◌, ◌<◌, ◌∷◌, ◌⊎◌, ℕ, List, [], length, Option, Some, None, Result, Ok, IfOk, IfSome, refl, sym, ap, ◌∙◌, subst, inl, inr, arith, length-append, codes}
+use Rattle.std.proofs.Common.{◌≡◌, ◌≢◌, ◌≤◌, ◌<◌, ◌∷◌, ◌⊎◌, ℕ, List, [], length, Option, Some, None, Result, Ok, Err, IfOk, IsErrOf, IfSome, refl, sym, ap, ◌∙◌, subst, inl, inr, arith, length-append, codes}
 use Rattle.std.proofs.lemmas.Bool.{le-leb, lt-leb}
 use Rattle.std.specs.Io.KnownBytes.{Consumes, IsAtEnd}
 use Rattle.clap.specs.Faults.{fault_of as faults_in}
 use Rattle.clap.specs.Simple.{subcommand_of}
 use Rattle.clap.specs.declared.error.kind.ErrorKind.{ErrorKind}
 use Rattle.web_outside.specs.Causes.{Rose}
-use Rattle.web_outside.specs.Pieces.{AppendsUnlessFault, ConsumesSome, ReadsPast}
+use Rattle.web_outside.specs.Pieces.{AppendsUnlessFault, ConsumesSome, ReadsPast, ReadsUpTo}
+use Rattle.web_outside.specs.declared.source.InputFault.{InputFault}
+use Rattle.web_outside.specs.declared.source.InputFault.TheVariants as faults
 use Rattle.web_outside.proofs.Writes.{appends_none}
 use Rattle.command_words.specs.App.{app}
 use Rattle.command_words.specs.Plain.{Asked, Serving, asked_by, check, play, serve, IsPlain}
@@ -21,7 +23,7 @@ use Rattle.script_server.specs.declared.command.Status.{Status}
 use Rattle.script_server.specs.declared.command.Status.TheVariants as status
 use Rattle.script_server.specs.Laws.{TranscriptsAreRuns}
 use Rattle.script_server.specs.Output.{output_of, ending_of, ended, served, written, run_of, Answers, nothing}
-use Rattle.script_server.specs.Command.{Met, ReadToEnd, Whole, Paused, Leaves, Outputs, Comes, ComesServing, ComesTo, Came, Refuses, Explains, Explained, EndsAs, Ends, EndsWell, IsLawful, ServesWell, asked_unless, asked_in, code_of, due, due_to}
+use Rattle.script_server.specs.Command.{Met, ReadToEnd, Whole, Paused, Leaves, Outputs, Comes, ComesServing, ComesTo, Came, Refuses, Explains, Explained, EndsAs, Ends, EndsWell, IsLawful, ServesWell, asked_unless, asked_in, code_of, due, due_to, unread_line, unread_status}
 use Rattle.script_server.specs.Serving.{CanCount, HaveRisen, LeavesInput}
 use Rattle.setup_reader.specs.declared.setup.Ending.TheVariants.{Input}
 use Rattle.setup_reader.specs.Setup.{setup_of}
@@ -57,6 +59,31 @@ memory_came asked s met e p some =
     let paused : Paused asked [] (codes "error 10 memory\n") met =
     always met.input _ (λ bytes. ([], nothing, tells met.output.held met.output.held met.output.holds [] _ met.output.before met.output.after (appends_none met.output.held) p)) in
     subst (λ x. Came asked x met) (sym e) ([], (paused, some))
+
+-- what holds where the input was not read for this fault
+pub unread : {A : Type 0} (r : Result A InputFault) (fault : InputFault) (P : Type 0) → r ≡ Err fault → (IsErrOf r fault → P) → P
+unread r fault P is h = h (subst (λ x. IsErrOf x fault) (sym is) refl)
+
+pub unread_came : {A : Type 0} (asked : Asked) (s : Status) (met : Met) (r : Result A InputFault) (fault : InputFault) → r ≡ Err fault → s ≡ unread_status fault
+    → AppendsUnlessFault met.output.held met.output.holds (unread_line fault) met.output.before met.output.after
+    → (IsErrOf r faults.Long → ReadsPast met.input met.unread 16777216) → (IsErrOf r faults.Failed → Rose met.input_before met.input_after)
+    → (IsErrOf r faults.Failed → ReadsUpTo met.input met.unread 16777216) → ConsumesSome met.input met.unread → Came asked s met
+unread_came asked s met r faults.Failed is e line long failed short some =
+    subst (λ x. Came asked x met) (sym e) ([], (unread r faults.Failed _ is failed, line, unread r faults.Failed _ is short))
+unread_came asked s met r faults.Memory is e line long failed short some = memory_came asked s met e line some
+unread_came asked s met r faults.Long is e line long failed short some =
+    subst (λ x. Came asked x met) (sym e) ([], (unread r faults.Long _ is long, line))
+
+-- each fault is one of the three
+pub one_fault : (f : InputFault) → (f ≡ faults.Failed) ⊎ ((f ≡ faults.Memory) ⊎ (f ≡ faults.Long))
+one_fault faults.Failed = inl refl
+one_fault faults.Memory = inr (inl refl)
+one_fault faults.Long = inr (inr refl)
+
+-- its line was told
+pub line_told : (held holds : Option (List ℕ)) (before after : ℕ) (f k : InputFault) → f ≡ k → AppendsUnlessFault held holds (unread_line f) before after
+    → AppendsUnlessFault held holds (unread_line k) before after
+line_told held holds before after f k is told = subst (λ x. AppendsUnlessFault held holds (unread_line x) before after) is told
 
 -- ---- words
 

@@ -6,6 +6,8 @@ use Rattle.std.specs.Io.KnownBytes.{IsAtEnd}
 use Rattle.clap.specs.Faults.{fault_of}
 use Rattle.clap.specs.Simple.{subcommand_of}
 use Rattle.clap.specs.declared.error.kind.ErrorKind.{ErrorKind}
+use Rattle.web_outside.specs.declared.source.InputFault.{InputFault}
+use Rattle.web_outside.specs.declared.source.InputFault.TheVariants as fault
 use Rattle.web_outside.specs.Causes.{Rose}
 use Rattle.web_outside.specs.Pieces.{ReadsPast, ReadsUpTo, ConsumesSome}
 use Rattle.core_syntax.specs.Setup.{Named}
@@ -92,6 +94,18 @@ met_of words left faults old new output door seeds = record {
 -- the output grew by this line, or by a part of it where the output failed
 abbrev pub Prints : Met → List ℕ → Type 0
 Prints met line = PrintsTo met.output line
+
+-- the status of an input that was not read whole
+abbrev pub unread_status : InputFault → Status
+unread_status fault.Failed = status.Read
+unread_status fault.Memory = status.Memory
+unread_status fault.Long = status.Long
+
+-- its line
+abbrev pub unread_line : InputFault → List ℕ
+unread_line fault.Failed = codes "error 5 read\n"
+unread_line fault.Memory = codes "error 10 memory\n"
+unread_line fault.Long = codes "error 11 long\n"
 
 -- nothing was read, and no read failed
 abbrev pub Untouched : Met → Type 0

@@ -9,7 +9,7 @@ ghost use Rattle.command_words.specs.Plain.{Asked, AreInRange, CanServe, IsInRan
 ghost use Rattle.script_server.specs.declared.command.Status.{Status};
 ghost use Rattle.script_server.specs.Command as spec;
 ghost use Rattle.std.specs.Io.KnownBytes.{Keeps};
-ghost use Rattle.script_server.specs.Command.{Came, ComesServing, Counts, Ends, Explained, IsComplete, IsDoneUnlessFault, Outputs, OutputsFor, PlaysSteps, TellsFault, TellsFaultLine, TellsLine, texts, asked_in, asked_of, met_of};
+ghost use Rattle.script_server.specs.Command.{Came, ComesServing, Counts, Ends, Explained, IsComplete, IsDoneUnlessFault, Outputs, OutputsFor, PlaysSteps, TellsFault, TellsFaultLine, TellsLine, texts, asked_in, asked_of, met_of, unread_line, unread_status};
 ghost use Rattle.script_server.specs.Output.{PrintsTo, ending_of, sinks_of};
 ghost use Rattle.script_server.specs.Serving.{Faults, LeavesInput, LeavesServing, TellsCount, can_count, count_line, faults_of, told, views_of};
 ghost use Rattle.request_workers.specs.Counting.{Count};
@@ -101,6 +101,26 @@ fn no_memory<O: Sink>(output: &mut O) -> Status
 {
     write_or_drop(output, b"error 10 memory\n");
     Status::Memory
+}
+
+// Says why the input was not read whole.
+fn tell_unread<O: Sink>(fault: InputFault, output: &mut O) -> Status
+    ensures status { result ≡ unread_status fault }
+    ensures line { PrintsTo (sinks_of O.written O.fault_count output.old output.new) (unread_line fault) }
+    ensures handed { HandsAllOn O.written O.handed O.fault_count output.old output.new }
+    ensures other { result ≢ Status.Done }
+{
+    match fault {
+        InputFault::Failed => {
+            write_or_drop(output, b"error 5 read\n");
+            Status::Read
+        }
+        InputFault::Memory => no_memory(output),
+        InputFault::Long => {
+            write_or_drop(output, b"error 11 long\n");
+            Status::Long
+        }
+    }
 }
 
 // Hands on all that was written, behind which nothing is told.
@@ -236,15 +256,7 @@ fn run_job<I: Source, O: Sink>(alloc: Global, job: &Job, input: &mut I, output: 
 {
     match read_all(alloc, input) {
         Ok(bytes) => run_input(alloc, job, &bytes, output),
-        Err(InputFault::Failed) => {
-            write_or_drop(output, b"error 5 read\n");
-            Status::Read
-        }
-        Err(InputFault::Memory) => no_memory(output),
-        Err(InputFault::Long) => {
-            write_or_drop(output, b"error 11 long\n");
-            Status::Long
-        }
+        Err(fault) => tell_unread(fault, output),
     }
 }
 
@@ -378,15 +390,7 @@ fn run_service<I: Source, O: Sink, A: Door, C: Clock, N: Nonces + Drop, S: Seeds
 {
     match read_all(alloc, input) {
         Ok(bytes) => serve_input(alloc, service, &bytes, output, door, clock, seeds, gate),
-        Err(InputFault::Failed) => {
-            write_or_drop(output, b"error 5 read\n");
-            Status::Read
-        }
-        Err(InputFault::Memory) => no_memory(output),
-        Err(InputFault::Long) => {
-            write_or_drop(output, b"error 11 long\n");
-            Status::Long
-        }
+        Err(fault) => tell_unread(fault, output),
     }
 }
 
