@@ -6,7 +6,7 @@ use Rattle.script_value.specs.declared.value.Value.{Value}
 use Rattle.core_syntax.specs.declared.faults.SyntaxKind.{SyntaxKind}
 use Rattle.core_syntax.specs.declared.faults.ReadFault.{ReadFault}
 use Rattle.core_syntax.specs.declared.faults.ReadFault.TheVariants.{Memory, Syntax}
-use Rattle.core_syntax.specs.Core.{Core}
+use Rattle.script_nodes.specs.Core.{Core}
 use Rattle.core_syntax.specs.Names.{◌>>=◌, CellNames}
 use Rattle.core_syntax.specs.Forms.{choices, choice}
 use Rattle.core_syntax.specs.Trees.{pair_of}

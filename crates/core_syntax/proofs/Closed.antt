@@ -17,8 +17,8 @@ use Rattle.core_syntax.specs.declared.heads.LastPage.{LastPage}
 use Rattle.core_syntax.specs.declared.heads.LastPage.TheVariants.{Finish, Back}
 use Rattle.core_syntax.specs.declared.heads.Head.{Head}
 use Rattle.core_syntax.specs.declared.heads.Head.TheVariants as head
-use Rattle.core_syntax.specs.declared.script.SendKind.{SendKind}
-use Rattle.core_syntax.specs.Core.{Core, lit, var, bind, branch, repeat, send, isolate, cores_of}
+use Rattle.script_nodes.specs.declared.script.SendKind.{SendKind}
+use Rattle.script_nodes.specs.Core.{Core, lit, var, bind, branch, repeat, send, isolate, cores_of}
 use Rattle.core_syntax.specs.Heads.{head_of}
 use Rattle.core_syntax.specs.Names.{◌>>=◌, or_fault, place_of, place_in, CellNames, of_kind, cell_number, free_at_once, free_in_turn}
 use Rattle.core_syntax.specs.Shapes.{count_of, is_empty, is_word, begins, on, symbol_in, bound_name, names_of, single_name, parameter, names_before, are_clauses, ends_in_else}

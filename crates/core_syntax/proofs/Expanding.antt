@@ -3,11 +3,11 @@ use Rattle.std.proofs.Common.{◌≡◌, ℕ, ◌+◌, ◌<◌, ◌≤◌, true,
 use Rattle.std.proofs.lemmas.Bool.{cases_lt}
 use Rattle.std.proofs.lemmas.Bool.Decides.{nat_tests}
 use Rattle.script_value.specs.Val.{Val}
-use Rattle.core_syntax.specs.declared.script.Node.{Node}
+use Rattle.script_nodes.specs.declared.script.Node.{Node}
 use Rattle.core_syntax.specs.declared.faults.SyntaxKind.{SyntaxKind}
 use Rattle.core_syntax.specs.declared.faults.SyntaxKind.TheVariants.{Shape, TooMany}
-use Rattle.core_syntax.specs.Core.{Core, count, height}
-use Rattle.core_syntax.specs.Arena.{IsScript, tree_at, script_of}
+use Rattle.script_nodes.specs.Core.{Core, count, height}
+use Rattle.script_nodes.specs.Arena.{IsScript, tree_at, script_of}
 use Rattle.core_syntax.specs.Layout.{layout}
 use Rattle.core_syntax.specs.Readings.{tree_at-layout}
 use Rattle.core_syntax.specs.Laid.{Lacks, Stands}

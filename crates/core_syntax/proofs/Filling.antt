@@ -10,7 +10,7 @@ use Rattle.script_value.specs.declared.outcome.Op.TheVariants as op
 use Rattle.core_syntax.specs.declared.faults.SyntaxKind.{SyntaxKind}
 use Rattle.core_syntax.specs.declared.faults.ReadFault.{ReadFault}
 use Rattle.core_syntax.specs.declared.faults.ReadFault.TheVariants.{Memory, Syntax}
-use Rattle.core_syntax.specs.Core.{Core, lit}
+use Rattle.script_nodes.specs.Core.{Core, lit}
 use Rattle.core_syntax.specs.Names.{◌>>=◌, CellNames}
 use Rattle.core_syntax.specs.Shapes.{begins}
 use Rattle.core_syntax.specs.Templates.{is_plain, are_plain, is_splice, has_splice}

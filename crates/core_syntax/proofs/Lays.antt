@@ -7,9 +7,9 @@ use Rattle.script_value.specs.declared.value.Value.TheVariants as value
 use Rattle.script_value.proofs.Folds.{items_of-vals_of}
 use Rattle.core_syntax.specs.declared.nodes.LayFault.{LayFault}
 use Rattle.core_syntax.specs.declared.nodes.LayFault.TheVariants.{Memory, TooMany}
-use Rattle.core_syntax.specs.declared.script.Node.{Node}
-use Rattle.core_syntax.specs.declared.script.Node.TheVariants as node
-use Rattle.core_syntax.specs.Core.{Core, Cores, bind, branch, seq, no_cores, cores_of, count, count_all, height, height_all}
+use Rattle.script_nodes.specs.declared.script.Node.{Node}
+use Rattle.script_nodes.specs.declared.script.Node.TheVariants as node
+use Rattle.script_nodes.specs.Core.{Core, Cores, bind, branch, seq, no_cores, cores_of, count, count_all, height, height_all}
 use Rattle.core_syntax.specs.Layout.{layout, layout_all, starts, value_from}
 use Rattle.core_syntax.specs.Laid.{Lacks, Stands, StandAll, Lays, LaysAll}
 

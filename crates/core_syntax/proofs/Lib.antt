@@ -1,5 +1,3 @@
-pub mod Trees
-pub mod Places
 pub mod Scope
 pub mod Parts
 pub mod Words

@@ -3,11 +3,11 @@ use Rattle.std.proofs.Common.{◌≡◌, ℕ, zero, suc, ◌+◌, ◌<◌, ◌�
 use Rattle.std.specs.Bool.{⊤}
 use Rattle.std.specs.List.{AllByRecursion}
 use Rattle.script_value.specs.Val.{Val}
-use Rattle.core_syntax.specs.declared.script.Node.{Node}
-use Rattle.core_syntax.specs.Core.{Core, Cores, lit, var, bind, branch, repeat, prim, seq, and_all, or_any, send, finish, back, isolate, cell_ref, cell_shadow, inst_ref, inst_set, inst_add, no_cores, core, count, count_all}
+use Rattle.script_nodes.specs.declared.script.Node.{Node}
+use Rattle.script_nodes.specs.Core.{Core, Cores, lit, var, bind, branch, repeat, prim, seq, and_all, or_any, send, finish, back, isolate, cell_ref, cell_shadow, inst_ref, inst_set, inst_add, no_cores, core, count, count_all}
 use Rattle.core_syntax.specs.Layout.{layout, layout_all, starts}
 use Rattle.core_syntax.specs.Layouts.{length-layout, length-layout_all, count_pos}
-use Rattle.core_syntax.specs.Arena.{IsScript, IsBehind, IsFull, IsOnCells, parts}
+use Rattle.script_nodes.specs.Arena.{IsScript, IsBehind, IsFull, IsOnCells, parts}
 use Rattle.core_syntax.specs.Closed.{IsClosed, AreClosed, cores_length}
 
 -- what holds of a node of a script that ends there

@@ -1,7 +1,7 @@
 -- Trees that are closed: each variable has a place, each operation its operands, each cell is there, and a page body sends nothing and writes nothing.
 use Rattle.std.specs.Prelude.{◌≡◌, ℕ, suc, ◌+◌, ◌<◌, Bool, true, false, IsTrue, ⊤}
 use Rattle.prim_ops.specs.Table.{takes}
-use Rattle.core_syntax.specs.Core.{Core, Cores, lit, var, bind, branch, repeat, prim, seq, and_all, or_any, send, finish, back, isolate, cell_ref, cell_shadow, inst_ref, inst_set, inst_add, no_cores, core}
+use Rattle.script_nodes.specs.Core.{Core, Cores, lit, var, bind, branch, repeat, prim, seq, and_all, or_any, send, finish, back, isolate, cell_ref, cell_shadow, inst_ref, inst_set, inst_add, no_cores, core}
 
 abbrev pub cores_length : Cores → ℕ
 cores_length no_cores = 0

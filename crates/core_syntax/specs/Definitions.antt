@@ -6,8 +6,8 @@ use Rattle.core_syntax.specs.declared.faults.SyntaxKind.TheVariants.{Shape, Dupl
 use Rattle.core_syntax.specs.declared.heads.CellKind.{CellKind}
 use Rattle.core_syntax.specs.declared.heads.CellKind.TheVariants.{Web, Instance}
 use Rattle.core_syntax.specs.Limits.{most_cells, most_levels, most_nodes}
-use Rattle.core_syntax.specs.Core.{Core, count, height}
-use Rattle.core_syntax.specs.Setup.{Script}
+use Rattle.script_nodes.specs.Core.{Core, count, height}
+use Rattle.script_nodes.specs.Setup.{Script}
 use Rattle.core_syntax.specs.Names.{CellNames, with_name, is_taken}
 use Rattle.core_syntax.specs.Shapes.{is_word, is_headed, symbol_in, on}
 use Rattle.core_syntax.specs.Forms.{core_of}

@@ -6,8 +6,8 @@ use Rattle.core_syntax.specs.declared.faults.ExpandFault.TheVariants.{Memory, At
 use Rattle.core_syntax.specs.declared.faults.ReadFault.{ReadFault}
 use Rattle.core_syntax.specs.declared.faults.ReadFault.TheVariants.{Memory as ReadMemory, Syntax}
 use Rattle.core_syntax.specs.Definitions.{Defined}
-use Rattle.core_syntax.specs.Setup.{Script}
-use Rattle.core_syntax.specs.Arena.{Arena, script_of}
+use Rattle.script_nodes.specs.Setup.{Script}
+use Rattle.script_nodes.specs.Arena.{Arena, script_of}
 
 -- the script stands for the table's, or the table's fault is answered; want of memory may come at any time
 abbrev pub Expands : Result Arena ExpandFault → Result Script (SyntaxKind × ℕ) → Type 0

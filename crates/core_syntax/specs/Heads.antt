@@ -2,7 +2,7 @@
 use Rattle.std.specs.Prelude.{ℕ, List, Option, Some, None, codes, if◌then◌else◌}
 use Rattle.std.specs.Str.{bytes_eq}
 use Rattle.script_value.specs.declared.outcome.Op.TheVariants as op
-use Rattle.core_syntax.specs.declared.script.SendKind.TheVariants.{Suspend, Forward}
+use Rattle.script_nodes.specs.declared.script.SendKind.TheVariants.{Suspend, Forward}
 use Rattle.core_syntax.specs.declared.heads.Head.{Head}
 use Rattle.core_syntax.specs.declared.heads.Head.TheVariants as head
 use Rattle.core_syntax.specs.declared.heads.CellKind.TheVariants.{Web, Instance}

@@ -1,10 +1,10 @@
 -- Nodes that were put behind others.
 use Rattle.std.specs.Prelude.{◌≡◌, ℕ, ◌+◌, ◌<◌, ◌≤◌, List, ◌++◌, length, Result, Ok, Err, ⊤}
-use Rattle.core_syntax.specs.declared.script.Node.{Node}
+use Rattle.script_nodes.specs.declared.script.Node.{Node}
 use Rattle.core_syntax.specs.declared.nodes.LayFault.{LayFault}
 use Rattle.core_syntax.specs.declared.nodes.LayFault.TheVariants.{Memory, TooMany}
 use Rattle.core_syntax.specs.Limits.{most_nodes}
-use Rattle.core_syntax.specs.Core.{Core, Cores, count, count_all, height, height_all}
+use Rattle.script_nodes.specs.Core.{Core, Cores, count, count_all, height, height_all}
 use Rattle.core_syntax.specs.Layout.{layout, layout_all, starts}
 
 -- so many more nodes are too many behind these, or they nest deeper than `left`

@@ -3,13 +3,13 @@ use Rattle.std.specs.Prelude.{ℕ, ◌+◌, List, [], ◌∷◌, ◌++◌}
 use Rattle.script_value.specs.Val.{Val, number, truth, text, symbol, list, items_of}
 use Rattle.script_value.specs.declared.value.Value.{Value}
 use Rattle.script_value.specs.declared.value.Value.TheVariants as value
-use Rattle.core_syntax.specs.declared.script.Node.{Node}
-use Rattle.core_syntax.specs.declared.script.Node.TheVariants as node
+use Rattle.script_nodes.specs.declared.script.Node.{Node}
+use Rattle.script_nodes.specs.declared.script.Node.TheVariants as node
 use Rattle.core_syntax.specs.declared.heads.LastPage.{LastPage}
 use Rattle.core_syntax.specs.declared.heads.LastPage.TheVariants.{Finish, Back}
 use Rattle.core_syntax.specs.declared.heads.Store.{Store}
 use Rattle.core_syntax.specs.declared.heads.Store.TheVariants.{Shadow, Set, Add}
-use Rattle.core_syntax.specs.Core.{Core, Cores, lit, var, bind, branch, repeat, prim, seq, and_all, or_any, send, finish, back, isolate, cell_ref, cell_shadow, inst_ref, inst_set, inst_add, no_cores, core, count, count_all}
+use Rattle.script_nodes.specs.Core.{Core, Cores, lit, var, bind, branch, repeat, prim, seq, and_all, or_any, send, finish, back, isolate, cell_ref, cell_shadow, inst_ref, inst_set, inst_add, no_cores, core, count, count_all}
 
 -- the value that a tree of values is
 abbrev pub value_from : Val → Value

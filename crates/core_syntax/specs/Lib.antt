@@ -1,6 +1,3 @@
-pub mod Core
-pub mod Setup
-pub mod Arena
 pub mod Heads
 pub mod Limits
 pub mod Names

@@ -3,9 +3,9 @@ use Rattle.std.proofs.Common.{◌≡◌, ℕ, zero, suc, ◌+◌, ◌≤◌, Lis
 use Rattle.std.specs.Bool.{⊤}
 use Rattle.script_value.specs.Val.{Val, Vals, number, truth, text, symbol, list, no_vals, val, vals_of, items_of}
 use Rattle.script_value.specs.Views.{meaning}
-use Rattle.core_syntax.specs.declared.script.Node.{Node}
-use Rattle.core_syntax.specs.Core.{Core, Cores, lit, var, bind, branch, repeat, prim, seq, and_all, or_any, send, finish, back, isolate, cell_ref, cell_shadow, inst_ref, inst_set, inst_add, no_cores, core, cores_of, count, count_all}
-use Rattle.core_syntax.specs.Arena.{tree_within, tree_at}
+use Rattle.script_nodes.specs.declared.script.Node.{Node}
+use Rattle.script_nodes.specs.Core.{Core, Cores, lit, var, bind, branch, repeat, prim, seq, and_all, or_any, send, finish, back, isolate, cell_ref, cell_shadow, inst_ref, inst_set, inst_add, no_cores, core, cores_of, count, count_all}
+use Rattle.script_nodes.specs.Arena.{tree_within, tree_at}
 use Rattle.core_syntax.specs.Layout.{layout, layout_all, starts, value_from}
 use Rattle.core_syntax.specs.Layouts.{length-layout, length-layout_all, count_pos}
 

@@ -5,7 +5,7 @@ use denote.Param.Weighed.{most}
 use Rattle.core_syntax.specs.declared.heads.CellKind.TheVariants.{Web, Instance}
 use Rattle.core_syntax.specs.declared.heads.LastPage.TheVariants.{Finish, Back}
 use Rattle.core_syntax.specs.declared.heads.Store.TheVariants.{Shadow, Set, Add}
-use Rattle.core_syntax.specs.Core.{Core, height, height_all, cores_of}
+use Rattle.script_nodes.specs.Core.{Core, height, height_all, cores_of}
 use Rattle.core_syntax.specs.declared.tree.Form.{Form}
 use Rattle.core_syntax.specs.declared.tree.Form.TheVariants as form
 use Rattle.core_syntax.specs.declared.tree.Choice.{Choice}

@@ -4,7 +4,7 @@ use Rattle.script_value.specs.Views.{meaning}
 use Rattle.core_syntax.specs.declared.tree.Form.{Form}
 use Rattle.core_syntax.specs.declared.tree.Form.TheVariants as form
 use Rattle.core_syntax.specs.declared.tree.Choice.{Choice}
-use Rattle.core_syntax.specs.Core.{Core, no_cores, lit, var, bind, repeat, prim, seq, and_all, or_any, send, isolate, cores_of}
+use Rattle.script_nodes.specs.Core.{Core, no_cores, lit, var, bind, repeat, prim, seq, and_all, or_any, send, isolate, cores_of}
 use Rattle.core_syntax.specs.Forms.{ref, nest, choose, store, last_page}
 
 abbrev pub pair_of : Choice → Core × Core

@@ -4,8 +4,8 @@ use Rattle.script_value.specs.Val.{Val, number, truth, text, symbol, list, vals_
 use Rattle.script_value.specs.declared.outcome.Op.TheVariants as op
 use Rattle.core_syntax.specs.declared.faults.SyntaxKind.{SyntaxKind}
 use Rattle.core_syntax.specs.declared.faults.SyntaxKind.TheVariants.{Shape, Unbound, Duplicate, Arity, NoElse, NestedSend, Effect}
-use Rattle.core_syntax.specs.declared.script.SendKind.TheVariants.{Suspend, Forward}
-use Rattle.core_syntax.specs.Core.{Core, lit, var, bind, branch, repeat, prim, seq, and_all, or_any, send, finish, back, isolate, cell_ref, cell_shadow, inst_ref, inst_set, inst_add, cores_of}
+use Rattle.script_nodes.specs.declared.script.SendKind.TheVariants.{Suspend, Forward}
+use Rattle.script_nodes.specs.Core.{Core, lit, var, bind, branch, repeat, prim, seq, and_all, or_any, send, finish, back, isolate, cell_ref, cell_shadow, inst_ref, inst_set, inst_add, cores_of}
 use Rattle.core_syntax.specs.Heads.{head_of}
 use Rattle.core_syntax.specs.Names.{CellNames}
 use Rattle.core_syntax.specs.Forms.{core_of}

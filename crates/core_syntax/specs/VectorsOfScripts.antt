@@ -4,9 +4,9 @@ use Rattle.script_value.specs.Val.{Val, number, truth, text, symbol}
 use Rattle.script_value.specs.declared.outcome.Op.TheVariants as op
 use Rattle.core_syntax.specs.declared.faults.SyntaxKind.{SyntaxKind}
 use Rattle.core_syntax.specs.declared.faults.SyntaxKind.TheVariants.{Shape, Unbound, Duplicate, TooMany}
-use Rattle.core_syntax.specs.declared.script.SendKind.TheVariants.{Suspend}
-use Rattle.core_syntax.specs.Core.{Core, lit, var, bind, branch, repeat, prim, seq, send, cell_ref, cell_shadow, inst_ref, inst_add, cores_of}
-use Rattle.core_syntax.specs.Setup.{Script}
+use Rattle.script_nodes.specs.declared.script.SendKind.TheVariants.{Suspend}
+use Rattle.script_nodes.specs.Core.{Core, lit, var, bind, branch, repeat, prim, seq, send, cell_ref, cell_shadow, inst_ref, inst_add, cores_of}
+use Rattle.script_nodes.specs.Setup.{Script}
 use Rattle.core_syntax.specs.Heads.{head_of}
 use Rattle.core_syntax.specs.Definitions.{expanded, is_too_many}
 use Rattle.core_syntax.specs.Vectors.{form}

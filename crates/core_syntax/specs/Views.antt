@@ -1,21 +1,8 @@
--- What the program's values stand for: setups, and the data of forms.
-use Rattle.std.specs.Prelude.{List, map}
+-- What the program's values stand for: the data of forms.
+use Rattle.std.specs.Prelude.{List}
 use Rattle.script_value.specs.Val.{Val, Vals, list, no_vals, val}
 use Rattle.script_value.specs.Views.{meaning, meanings}
 use Rattle.script_value.specs.declared.value.Value.{Value}
-use Rattle.page_names.specs.Views.{name_of}
-use Rattle.core_syntax.specs.declared.setup.NamedScript.{NamedScript}
-use Rattle.core_syntax.specs.declared.setup.Setup.{Setup}
-use Rattle.core_syntax.specs.Arena.{script_of}
-use Rattle.core_syntax.specs.Setup.{Named}
-
--- a script with its name and its text
-abbrev pub named_of : NamedScript → Named
-named_of s = record { name = name_of s.name; text = s.text; script = script_of s.script }
-
--- the scripts in their order
-abbrev pub scripts_of : Setup → List Named
-scripts_of s = map named_of s.scripts.items
 
 -- the parts of a form that binds names: its bindings, and its body
 abbrev pub bound_parts : (bindings body : List Value) → Vals

@@ -1,6 +1,6 @@
 ghost use Rattle.std.specs.Prelude.{◌≡◌, [], IfOk, IsTrue, false, length, map};
 ghost use Rattle.script_value.specs.Views.{meaning};
-ghost use Rattle.core_syntax.specs.Arena.{script_of, tree_at};
+ghost use Rattle.script_nodes.specs.Arena.{script_of, tree_at};
 ghost use Rattle.core_syntax.specs.Closed.{IsClosed};
 ghost use Rattle.core_syntax.specs.Definitions.{begins_well, expanded, expression_at};
 ghost use Rattle.core_syntax.specs.DefinitionsSeen.{cells_of};
@@ -13,8 +13,8 @@ use crate::layout::lay;
 use crate::names::Names;
 use crate::nodes::{LayFault, Nodes};
 use crate::read::read;
-use crate::script::Script;
 use crate::shapes::is_headed;
+use script_nodes::Script;
 use script_value::Value;
 use std::alloc::Global;
 

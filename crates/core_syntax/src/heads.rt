@@ -1,7 +1,7 @@
 ghost use Rattle.std.specs.Prelude.{◌≡◌};
 ghost use Rattle.core_syntax.specs.Heads.{head_of};
 
-use crate::script::SendKind;
+use script_nodes::SendKind;
 use script_value::Op;
 
 /// The kinds of cells.

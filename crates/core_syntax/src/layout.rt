@@ -2,18 +2,18 @@
 
 ghost use Rattle.std.specs.Prelude.{◌≡◌, ◌∷◌, [], map, IfOk};
 ghost use Rattle.script_value.specs.Views.{meaning};
-ghost use Rattle.core_syntax.specs.Core.{lit, bind, seq, cores_of};
-ghost use Rattle.core_syntax.specs.Core as core;
+ghost use Rattle.script_nodes.specs.Core.{lit, bind, seq, cores_of};
+ghost use Rattle.script_nodes.specs.Core as core;
 ghost use Rattle.core_syntax.specs.Forms as spec;
 ghost use Rattle.core_syntax.specs.Trees.{nested, chosen, pair_of};
 ghost use Rattle.core_syntax.specs.Laid.{Puts, Lays, LaysAll};
 ghost use Rattle.core_syntax.specs.Layout.{last_node, store_node};
-ghost use Rattle.core_syntax.specs.declared.script.Node.TheVariants as node;
+ghost use Rattle.script_nodes.specs.declared.script.Node.TheVariants as node;
 
 use crate::heads::{CellKind, LastPage, Store};
 use crate::nodes::{LayFault, Nodes};
-use crate::script::{Node, Numbers, SendKind};
 use crate::tree::{Choice, Form, Tree};
+use script_nodes::{Node, Numbers, SendKind};
 use script_value::{Op, Value};
 use std::alloc::{AllocError, Global};
 

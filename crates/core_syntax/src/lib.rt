@@ -12,13 +12,9 @@ mod layout;
 mod names;
 mod nodes;
 mod read;
-mod script;
-mod setup;
 mod shapes;
 mod templates;
 mod tree;
 
 pub use faults::{ExpandFault, SyntaxError, SyntaxKind};
 pub use forms::expand;
-pub use script::{Node, Numbers, Script, SendKind};
-pub use setup::{NamedScript, Setup};

@@ -4,7 +4,7 @@ ghost use Rattle.std.specs.Prelude.{◌≡◌, ◌≤◌, ◌∷◌, [], length,
 ghost use Rattle.core_syntax.specs.Laid.{Puts};
 ghost use Rattle.core_syntax.specs.Limits.{most_nodes};
 
-use crate::script::Node;
+use script_nodes::Node;
 use std::alloc::{AllocError, AllocFailed, Global};
 use std::marker::Model;
 use std::mem;
@@ -54,8 +54,8 @@ impl Model for Nodes {
     ghost use Rattle.std.specs.Prelude.{List, length, ◌≤◌};
     ghost use Rattle.std.specs.Coded.{coded_list};
     ghost use Rattle.core_syntax.specs.Limits.{most_nodes};
-    ghost use Rattle.core_syntax.specs.contracts.script.Node as node_type;
-    ghost use Rattle.core_syntax.specs.declared.script.Node.{Node as NodeOf};
+    ghost use Rattle.script_nodes.specs.contracts.script.Node as node_type;
+    ghost use Rattle.script_nodes.specs.declared.script.Node.{Node as NodeOf};
 
     ghost Value = { List NodeOf };
 

@@ -4,7 +4,7 @@ ghost use Rattle.std.specs.Prelude.{◌≡◌, ◌++◌, [], Ok, map, OnOk};
 ghost use Rattle.script_value.specs.Val.{vals_of, list};
 ghost use Rattle.script_value.specs.Views.{meaning, meanings};
 ghost use Rattle.prim_ops.specs.Table.{takes as spec_takes};
-ghost use Rattle.core_syntax.specs.Core.{lit};
+ghost use Rattle.script_nodes.specs.Core.{lit};
 ghost use Rattle.core_syntax.specs.Shapes.{count_of};
 ghost use Rattle.core_syntax.specs.Forms as spec;
 ghost use Rattle.core_syntax.specs.Gives.{Reads, ReadsAll};

@@ -1,10 +1,10 @@
 ghost use Rattle.std.specs.Prelude.{◌≡◌, ◌∷◌, [], length, map, IfOk};
-ghost use Rattle.core_syntax.specs.Core as core;
+ghost use Rattle.script_nodes.specs.Core as core;
 ghost use Rattle.core_syntax.specs.Forms as spec;
 ghost use Rattle.core_syntax.specs.Trees.{core_in, pair_of};
 
 use crate::heads::{CellKind, LastPage, Store};
-use crate::script::SendKind;
+use script_nodes::SendKind;
 use script_value::{Op, Value};
 use std::alloc::{AllocError, Global};
 use std::marker::Model;
@@ -51,8 +51,8 @@ pub struct Choice {
 }
 
 impl Model for Tree {
-    ghost use Rattle.core_syntax.specs.contracts.script.Node as node_type;
-    ghost use Rattle.core_syntax.specs.Core.{Core, height};
+    ghost use Rattle.script_nodes.specs.contracts.script.Node as node_type;
+    ghost use Rattle.script_nodes.specs.Core.{Core, height};
     ghost use Rattle.core_syntax.specs.CoreCode.{core_code};
 
     ghost Value = { Core };

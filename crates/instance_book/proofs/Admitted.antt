@@ -3,7 +3,7 @@ use Rattle.std.proofs.Common.{◌≡◌, ◌∙◌, ap, sym, refl, ℕ, Bool, tr
 use Rattle.std.proofs.lemmas.Bool.Decides.{nat_tests}
 use Rattle.std.specs.Str.{bytes_eq}
 use Rattle.script_value.specs.declared.outcome.Refusal.{Refusal}
-use Rattle.core_syntax.specs.Setup.{Named, place_named}
+use Rattle.script_nodes.specs.Setup.{Named, place_named}
 use Rattle.page_names.specs.Names.{start, page}
 use Rattle.page_names.specs.declared.names.PageName.{PageName}
 use Rattle.replay_spec.specs.Book.{Page, Book, at_number, instance_at, page_at}

@@ -4,9 +4,9 @@ use Rattle.std.proofs.lemmas.Bool.Decides.{nat_tests}
 use Rattle.script_value.specs.declared.outcome.Reply.{Reply}
 use Rattle.script_value.specs.declared.outcome.Reply.TheVariants as reply
 use Rattle.script_value.specs.declared.outcome.TxName.{TxName}
-use Rattle.core_syntax.specs.Setup.{Named}
-use Rattle.core_syntax.specs.declared.script.SendKind.{SendKind}
-use Rattle.core_syntax.specs.declared.script.SendKind.TheVariants.{Suspend, Forward}
+use Rattle.script_nodes.specs.Setup.{Named}
+use Rattle.script_nodes.specs.declared.script.SendKind.{SendKind}
+use Rattle.script_nodes.specs.declared.script.SendKind.TheVariants.{Suspend, Forward}
 use Rattle.instance_cells.specs.Cells.{Effect}
 use Rattle.replay_spec.specs.Tape.{shows, finishes, ends, paged}
 use Rattle.replay_spec.specs.Eval.{Segment}

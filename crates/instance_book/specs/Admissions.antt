@@ -1,8 +1,8 @@
 -- What the program's admissions stand for in the definitions.
 use Rattle.std.specs.Prelude.{Option}
 use Rattle.script_value.specs.declared.outcome.Refusal.{Refusal}
-use Rattle.core_syntax.specs.Views.{named_of, scripts_of}
-use Rattle.core_syntax.specs.declared.setup.Setup.{Setup}
+use Rattle.script_nodes.specs.Views.{named_of, scripts_of}
+use Rattle.script_nodes.specs.declared.setup.Setup.{Setup}
 use Rattle.page_names.specs.Views.{name_of, target_of}
 use Rattle.page_names.specs.declared.names.PageName.{PageName}
 use Rattle.page_names.specs.declared.names.ScriptName.{ScriptName}

@@ -1,7 +1,7 @@
 -- The run that a ticket is for.
 use Rattle.std.specs.Prelude.{◌≡◌, ℕ, List, map, Some, slice_get, ⊤}
 use Rattle.script_value.specs.Views.{meaning}
-use Rattle.core_syntax.specs.Setup.{Named}
+use Rattle.script_nodes.specs.Setup.{Named}
 use Rattle.plain_rerun.specs.Views.{answer_of}
 use Rattle.replay_spec.specs.Tape.{Reads, Answer, Tape, tape_behind}
 use Rattle.replay_spec.specs.Book as spec

@@ -1,7 +1,7 @@
 -- What the program makes of a segment: of its effects, of the transactions inside which its page is, and of those that it left.
 use Rattle.std.specs.Prelude.{◌≡◌, ◌+◌, ℕ, List, map, Option}
 use Rattle.script_value.specs.declared.outcome.TxName.{TxName}
-use Rattle.core_syntax.specs.declared.script.SendKind.{SendKind}
+use Rattle.script_nodes.specs.declared.script.SendKind.{SendKind}
 use Rattle.instance_cells.specs.declared.effect.Effect.{Effect}
 use Rattle.instance_cells.specs.Views.{effect_of}
 use Rattle.replay_spec.specs.Book as spec

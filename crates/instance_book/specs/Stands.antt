@@ -1,6 +1,6 @@
 -- What stands where a target is admitted.
 use Rattle.std.specs.Prelude.{◌≡◌, ℕ, List, Some, slice_get}
-use Rattle.core_syntax.specs.Setup.{Named}
+use Rattle.script_nodes.specs.Setup.{Named}
 use Rattle.page_names.specs.Names.{start, page}
 use Rattle.page_names.specs.declared.names.PageName.{PageName}
 use Rattle.replay_spec.specs.Book.{Book, instance_at, page_at}

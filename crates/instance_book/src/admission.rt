@@ -1,6 +1,6 @@
 ghost use Rattle.std.specs.Prelude.{◌≡◌, Some, None, option_map, IfSome};
-ghost use Rattle.core_syntax.specs.Setup.{place_named};
-ghost use Rattle.core_syntax.specs.Views.{named_of, scripts_of};
+ghost use Rattle.script_nodes.specs.Setup.{place_named};
+ghost use Rattle.script_nodes.specs.Views.{named_of, scripts_of};
 ghost use Rattle.page_names.specs.Views.{name_of};
 ghost use Rattle.replay_spec.specs.Admission as spec;
 ghost use Rattle.replay_spec.specs.Names.{first_closed};
@@ -10,9 +10,9 @@ ghost use Rattle.instance_book.specs.Admissions.{admission_of, admission_for, pl
 use crate::book::Book;
 use crate::instance::KeptInstance;
 use crate::page::KeptPage;
-use core_syntax::{NamedScript, Setup};
 use expiry::expired;
 use page_names::{PageName, ScriptName, Target};
+use script_nodes::{NamedScript, Setup};
 use script_value::{Refusal, TxName};
 use transactions::Closed;
 

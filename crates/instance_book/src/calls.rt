@@ -1,5 +1,5 @@
 ghost use Rattle.std.specs.Prelude.{◌≡◌, ◌<◌, ◌^◌, None, IfOk, IfErr, OnOk, OnErr, Contains, length, option_map, ◌-◌};
-ghost use Rattle.core_syntax.specs.Views.{named_of};
+ghost use Rattle.script_nodes.specs.Views.{named_of};
 ghost use Rattle.replay_spec.specs.Book as spec;
 ghost use Rattle.replay_spec.specs.Next.{cells_by};
 ghost use Rattle.instance_book.specs.Views.{book_of, ticket_of, ticket_for};
@@ -12,9 +12,9 @@ use crate::book::Book;
 use crate::chain::Home;
 use crate::instance::Instances;
 use crate::ticket::Ticket;
-use core_syntax::{NamedScript, Setup};
 use instance_cells::Cells;
 use page_names::Target;
+use script_nodes::{NamedScript, Setup};
 use script_value::{Refusal, Value};
 use std::alloc::{AllocError, Global};
 

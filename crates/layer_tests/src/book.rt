@@ -3,9 +3,9 @@ ghost use Rattle.instance_book.specs.Views.{book_of};
 ghost use Rattle.instance_book.specs.Changes.{HasRoomFor};
 
 use crate::texts::{datum, is_datum, setup, target, text_of};
-use core_syntax::{SendKind, Setup};
 use instance_book::{Book, Prepared, Ticket};
 use plain_rerun::{PlainEnd, Rerun, rerun};
+use script_nodes::{SendKind, Setup};
 use script_value::{Bytes, Refusal, Reply};
 use std::alloc::Global;
 use std::test::Fail;

@@ -1,7 +1,7 @@
 use crate::texts::{data, script, text_of};
-use core_syntax::{Script, SendKind};
 use instance_cells::{Cells, Effect};
 use plain_rerun::{Answer, Now, PlainEnd, Reads, Rerun, Tape, rerun};
+use script_nodes::{Script, SendKind};
 use script_value::{Items, Str, TxName, Value};
 use std::alloc::Global;
 use std::test::Fail;

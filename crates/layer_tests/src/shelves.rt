@@ -1,5 +1,5 @@
 use crate::texts::{datum, is_datum, setup, target};
-use core_syntax::Setup;
+use script_nodes::Setup;
 use script_value::{Refusal, Reply};
 use shelf::{Rules, Shelf};
 use std::alloc::Global;

@@ -1,6 +1,7 @@
 use crate::texts::{data, script, setup};
-use core_syntax::{ExpandFault, Node, Numbers, Script, SendKind, Setup, expand};
+use core_syntax::{ExpandFault, expand};
 use page_names::ScriptName;
+use script_nodes::{Node, Numbers, Script, SendKind, Setup};
 use script_value::Value;
 use std::alloc::Global;
 use std::test::Fail;

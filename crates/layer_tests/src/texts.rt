@@ -1,5 +1,6 @@
-use core_syntax::{NamedScript, Script, Setup, expand};
+use core_syntax::expand;
 use page_names::{ScriptName, Target, parse_target};
+use script_nodes::{NamedScript, Script, Setup};
 use script_value::{Bytes, Str, Value, equal};
 use sexp_reader::read_all;
 use std::alloc::Global;

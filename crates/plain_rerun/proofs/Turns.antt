@@ -6,7 +6,7 @@ use Rattle.script_value.specs.declared.outcome.Fault.{Fault}
 use Rattle.script_value.specs.declared.outcome.Fault.TheVariants.{WrongType}
 use Rattle.prim_ops.specs.Lists.{list_of}
 use Rattle.prim_ops.specs.Table.{is_false}
-use Rattle.core_syntax.specs.Core.{Core, repeat}
+use Rattle.script_nodes.specs.Core.{Core, repeat}
 use Rattle.replay_spec.specs.Tape.{Run, State, Outcome, faulted, got, stop, answer, charge, as_number}
 use Rattle.replay_spec.specs.Eval.{eval, turns, for_each}
 use Rattle.plain_rerun.specs.States.{IsNoCount}

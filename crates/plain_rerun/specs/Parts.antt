@@ -4,8 +4,8 @@ use Rattle.std.specs.List.{AllByRecursion}
 use Rattle.script_value.specs.Val.{Val}
 use Rattle.script_value.specs.declared.outcome.Op.{Op}
 use Rattle.script_value.specs.declared.outcome.TxName.{TxName}
-use Rattle.core_syntax.specs.Core.{Core, Cores, cores_of, prim, bind, branch, repeat, cell_shadow}
-use Rattle.core_syntax.specs.Arena.{Arena, tree_at, IsBehind}
+use Rattle.script_nodes.specs.Core.{Core, Cores, cores_of, prim, bind, branch, repeat, cell_shadow}
+use Rattle.script_nodes.specs.Arena.{Arena, tree_at, IsBehind}
 use Rattle.replay_spec.specs.Tape.{Run, as_number}
 use Rattle.replay_spec.specs.Eval.{eval, turns, for_each}
 

@@ -1,8 +1,8 @@
 ghost use Rattle.std.specs.Prelude.{◌≡◌, IfOk};
 ghost use Rattle.plain_rerun.specs.Views.{segment_of};
 
-use core_syntax::SendKind;
 use instance_cells::{Effect, clone_effects};
+use script_nodes::SendKind;
 use script_value::{Bytes, Fault, TxName};
 use std::alloc::{AllocError, Global};
 

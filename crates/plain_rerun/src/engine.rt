@@ -1,8 +1,8 @@
 ghost use Rattle.std.specs.Prelude.{◌≡◌, ◌<◌, ◌^◌, [], ◌∷◌, ◌++◌, length, IfOk, OnOk, IsTrue};
 ghost use Rattle.script_value.specs.Views.{meaning};
 ghost use Rattle.prim_ops.specs.Table.{takes, value_of, is_false};
-ghost use Rattle.core_syntax.specs.Core.{seq, and_all, or_any, prim, send, finish, back, isolate, cell_ref, cell_shadow, inst_ref, inst_set, inst_add};
-ghost use Rattle.core_syntax.specs.Arena.{script_of};
+ghost use Rattle.script_nodes.specs.Core.{seq, and_all, or_any, prim, send, finish, back, isolate, cell_ref, cell_shadow, inst_ref, inst_set, inst_add};
+ghost use Rattle.script_nodes.specs.Arena.{script_of};
 ghost use Rattle.replay_spec.specs.Tape.{answer, as_number};
 ghost use Rattle.replay_spec.specs.Eval.{eval, eval_into, value_at, copied, run};
 ghost use Rattle.plain_rerun.specs.Parts.{tree, trees, let_at, if_at, for_at, prim_at, shadow_at, turns_at, first_turns, AreBehind};
@@ -13,8 +13,8 @@ ghost use Rattle.plain_rerun.specs.declared.progress.Progress.{Progress as Steps
 use crate::ends::{PlainEnd, Rerun};
 use crate::progress::{Halt, Progress, halt_ended, halt_finished};
 use crate::tape::Tape;
-use core_syntax::{Node, Numbers, Script, SendKind};
 use prim_ops::{ApplyFault, apply};
+use script_nodes::{Node, Numbers, Script, SendKind};
 use script_value::{Fault, Items, Op, Value};
 use std::alloc::{AllocError, Global};
 

@@ -11,8 +11,8 @@ ghost use Rattle.plain_rerun.specs.declared.progress.Halt.TheVariants.{Memory};
 
 use crate::ends::{PlainEnd, Rerun};
 use crate::tape::{Answer, Now, Reads, Tape};
-use core_syntax::SendKind;
 use instance_cells::{AddFault, Effect, Trail};
+use script_nodes::SendKind;
 use script_value::{Bytes, Fault, Items, TxName, Value, size};
 use std::alloc::{AllocError, AllocFailed, Global};
 use std::mem;

@@ -5,7 +5,7 @@ use Rattle.script_value.specs.declared.outcome.TxName.{TxName}
 use Rattle.script_value.specs.declared.outcome.Refusal.{Refusal}
 use Rattle.script_value.specs.declared.outcome.Refusal.TheVariants.{Revoked, Expired}
 use Rattle.page_names.specs.Names.{Destination, start, page}
-use Rattle.core_syntax.specs.Setup.{Named}
+use Rattle.script_nodes.specs.Setup.{Named}
 use Rattle.replay_spec.specs.Names.{Has, first_closed}
 use Rattle.replay_spec.specs.Book.{Page, Instance, Change, opens, extends, ends, finishes, sweeps, Doubt, Book, instance_at, page_at, is_expired, spend, reopened}
 use Rattle.replay_spec.specs.Rules.{Rules}

@@ -6,8 +6,8 @@ use Rattle.std.proofs.lemmas.Option.{same_Some}
 use Rattle.script_value.specs.Val.{Val}
 use Rattle.script_value.specs.declared.outcome.TxName.{TxName}
 use Rattle.instance_cells.specs.Cells.{reads_of}
-use Rattle.core_syntax.specs.Setup.{Named}
-use Rattle.core_syntax.specs.declared.script.SendKind.{SendKind}
+use Rattle.script_nodes.specs.Setup.{Named}
+use Rattle.script_nodes.specs.declared.script.SendKind.{SendKind}
 use Rattle.replay_spec.specs.Names.{Has}
 use Rattle.replay_spec.specs.Tape.{Reads, present, recorded, Answer, Tape, How, shows, finishes, ends, Outcome, paged}
 use Rattle.replay_spec.specs.Tape as tape

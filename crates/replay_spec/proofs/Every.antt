@@ -6,8 +6,8 @@ use Rattle.script_value.specs.declared.outcome.Fault.TheVariants.{WrongType}
 use Rattle.script_value.specs.declared.outcome.TxName.{TxName}
 use Rattle.prim_ops.specs.Table.{value_of, is_false}
 use Rattle.prim_ops.specs.Lists.{list_of}
-use Rattle.core_syntax.specs.declared.script.SendKind.{SendKind}
-use Rattle.core_syntax.specs.Core.{Core, Cores, lit, var, bind, branch, repeat, prim, seq, and_all, or_any, send, finish, back, isolate, cell_ref, cell_shadow, inst_ref, inst_set, inst_add, no_cores, core, OnCells, AllOnCells}
+use Rattle.script_nodes.specs.declared.script.SendKind.{SendKind}
+use Rattle.script_nodes.specs.Core.{Core, Cores, lit, var, bind, branch, repeat, prim, seq, and_all, or_any, send, finish, back, isolate, cell_ref, cell_shadow, inst_ref, inst_set, inst_add, no_cores, core, OnCells, AllOnCells}
 use Rattle.replay_spec.specs.Tape.{finishes, ends, Run, ◌>>=◌, give, fail, answer, choose, charge, url, halt, send_page, enter, leave, lookup, shadow, read_cell, set_cell, add_cell, as_number}
 use Rattle.replay_spec.specs.Eval.{eval, eval_into, eval_while, turns, for_each, copied, value_at, is_not_false, is_any}
 

@@ -8,8 +8,8 @@ use Rattle.script_value.specs.declared.outcome.Fault.{Fault}
 use Rattle.script_value.specs.declared.outcome.TxName.{TxName}
 use Rattle.xexpr_page.specs.Page.{page_of}
 use Rattle.instance_cells.specs.Cells.{Effect, cell_at, sum, commit}
-use Rattle.core_syntax.specs.Core.{Core}
-use Rattle.core_syntax.specs.declared.script.SendKind.{SendKind}
+use Rattle.script_nodes.specs.Core.{Core}
+use Rattle.script_nodes.specs.declared.script.SendKind.{SendKind}
 use Rattle.replay_spec.specs.Names.{Has}
 use Rattle.replay_spec.specs.Tape.{Reads, recorded, present, bound, Now, Answer, Tape, State, begins, begin, How, shows, finishes, ends, Outcome, paged, faulted, End, got, stop, Run, after, is_over, charge, page_stop, halt, sent, leave, read_from, set_in, as_number, added, add_to, add_in}
 use Rattle.replay_spec.specs.Eval.{eval, Segment, segment_at, segment_at_end, run}

@@ -4,8 +4,8 @@ use Rattle.script_value.specs.Val.{Val}
 use Rattle.script_value.specs.declared.outcome.TxName.{TxName}
 use Rattle.xexpr_page.specs.Page.{page_of}
 use Rattle.instance_cells.specs.Cells.{Effect}
-use Rattle.core_syntax.specs.Setup.{Script}
-use Rattle.core_syntax.specs.declared.script.SendKind.{SendKind}
+use Rattle.script_nodes.specs.Setup.{Script}
+use Rattle.script_nodes.specs.declared.script.SendKind.{SendKind}
 use Rattle.replay_spec.specs.Tape.{Reads, recorded, present, Now, Answer, State, begins, begin, tape_behind, How, finishes, ends, Outcome, End, got, stop, Run, after, ◌>>=◌, named, enter, leave, charge, page_stop, halt, sent, read_cell, set_cell, add_cell}
 use Rattle.replay_spec.specs.Eval.{eval, segment_at_end}
 use Rattle.replay_spec.specs.Laws.{Waits, IsRecorded, ArePast, reading, end_behind, run_behind}

@@ -3,7 +3,7 @@ use Rattle.std.proofs.Common.{◌≡◌, ℕ, List, [], ◌∷◌, reverse, Opti
 use Rattle.std.specs.Prelude.{nat_le, if◌then◌else◌}
 use Rattle.script_value.specs.declared.outcome.TxName.{TxName}
 use Rattle.page_names.specs.Names.{Destination}
-use Rattle.core_syntax.specs.Setup.{Named}
+use Rattle.script_nodes.specs.Setup.{Named}
 use Rattle.replay_spec.specs.Eval.{run}
 use Rattle.replay_spec.specs.Book.{Page, Instance, Opening, Extension, Change, opens, extends, ends, finishes, sweeps, Doubt, Book, page_at, spend, reopened}
 use Rattle.replay_spec.specs.Rules.{Journal, Rules}

@@ -4,7 +4,7 @@ use Rattle.std.specs.Prelude.{◌&&◌}
 use Rattle.std.specs.Str.{bytes_eq}
 use Rattle.std.proofs.lemmas.Option.{same_Some}
 use Rattle.page_names.specs.declared.names.PageName.{PageName}
-use Rattle.core_syntax.specs.Setup.{Named}
+use Rattle.script_nodes.specs.Setup.{Named}
 use Rattle.replay_spec.specs.Book.{Instance, Book, instance_at}
 use Rattle.replay_spec.specs.Admission.{Place, place_at}
 use Rattle.replay_spec.specs.Laws.{IsSame, PagesStay}

@@ -4,7 +4,7 @@ use Rattle.std.specs.Prelude.{if◌then◌else◌, nat_le}
 use Rattle.std.proofs.lemmas.Option.{same_Some}
 use Rattle.script_value.specs.declared.outcome.TxName.{TxName}
 use Rattle.page_names.specs.Names.{Destination}
-use Rattle.core_syntax.specs.Setup.{Named}
+use Rattle.script_nodes.specs.Setup.{Named}
 use Rattle.replay_spec.specs.Book.{Change, opens, extends, ends, finishes, sweeps, Doubt, Book, draw, spend, reopened}
 use Rattle.replay_spec.specs.Rules.{Rules}
 use Rattle.replay_spec.specs.Change.{instances_by, logged_by, land}

@@ -4,7 +4,7 @@ use Rattle.std.specs.List.{list_all}
 use Rattle.script_value.specs.Val.{Val}
 use Rattle.script_value.specs.declared.outcome.TxName.{TxName}
 use Rattle.instance_cells.specs.Cells.{Effect}
-use Rattle.core_syntax.specs.declared.script.SendKind.{SendKind}
+use Rattle.script_nodes.specs.declared.script.SendKind.{SendKind}
 
 -- A page that was shown: the page that was answered before it, and with what (a root keeps the empty list); what its segment
 -- read; the transactions round it; and until when it can be answered.

@@ -3,9 +3,9 @@ use Rattle.std.specs.Prelude.{ℕ, max, ◌+◌, ◌==◌, not, List, map, [], �
 use Rattle.script_value.specs.Val.{list, no_vals}
 use Rattle.script_value.specs.declared.outcome.TxName.{TxName}
 use Rattle.instance_cells.specs.Cells.{Effect, commit, reads_of}
-use Rattle.core_syntax.specs.Setup.{Named}
-use Rattle.core_syntax.specs.declared.script.SendKind.{SendKind}
-use Rattle.core_syntax.specs.declared.script.SendKind.TheVariants.{Suspend, Forward}
+use Rattle.script_nodes.specs.Setup.{Named}
+use Rattle.script_nodes.specs.declared.script.SendKind.{SendKind}
+use Rattle.script_nodes.specs.declared.script.SendKind.TheVariants.{Suspend, Forward}
 use Rattle.replay_spec.specs.Book.{Page, Instance, Opening, Extension, Change, opens, extends, ends, finishes, sweeps, Book, is_live, reopened}
 use Rattle.replay_spec.specs.Rules.{Journal, Rules, first_cells}
 

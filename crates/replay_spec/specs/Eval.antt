@@ -8,8 +8,8 @@ use Rattle.prim_ops.specs.Table.{value_of, is_false}
 use Rattle.prim_ops.specs.Lists.{list_of}
 use Rattle.xexpr_page.specs.Page.{page_of}
 use Rattle.instance_cells.specs.Cells.{Effect}
-use Rattle.core_syntax.specs.Core.{Core, Cores, lit, var, bind, seq, branch, and_all, or_any, repeat, prim, send, finish, back, isolate, cell_ref, cell_shadow, inst_ref, inst_set, inst_add, no_cores, core}
-use Rattle.core_syntax.specs.Setup.{Script}
+use Rattle.script_nodes.specs.Core.{Core, Cores, lit, var, bind, seq, branch, and_all, or_any, repeat, prim, send, finish, back, isolate, cell_ref, cell_shadow, inst_ref, inst_set, inst_add, no_cores, core}
+use Rattle.script_nodes.specs.Setup.{Script}
 use Rattle.replay_spec.specs.Tape.{Reads, recorded, present, Tape, State, finishes, ends, Outcome, End, got, stop, Run, ◌>>=◌, ◌>>◌, give, fail, answer, choose, charge, url, page_stop, halt, send_page, enter, leave, lookup, shadow, read_cell, set_cell, add_cell, as_number, begin}
 
 -- a variable's value: the outermost is 0

@@ -2,8 +2,8 @@
 use Rattle.std.specs.Prelude.{◌≡◌, ◌≤◌, ◌<◌, ◌⊎◌, ℕ, suc, List, [], ◌∷◌, ◌++◌, length, reverse, Option, Some, None, slice_get, ⊤}
 use Rattle.script_value.specs.Val.{Val}
 use Rattle.script_value.specs.declared.outcome.TxName.{TxName}
-use Rattle.core_syntax.specs.Setup.{Named}
-use Rattle.core_syntax.specs.declared.script.SendKind.{SendKind}
+use Rattle.script_nodes.specs.Setup.{Named}
+use Rattle.script_nodes.specs.declared.script.SendKind.{SendKind}
 use Rattle.replay_spec.specs.Names.{Has}
 use Rattle.replay_spec.specs.Tape.{shows, paged}
 use Rattle.replay_spec.specs.Eval.{end_of, run, unread}

@@ -3,9 +3,9 @@ use Rattle.std.specs.Prelude.{◌≡◌, ◌⊎◌, ◌≤◌, ◌<◌, ◌-◌,
 use Rattle.script_value.specs.Val.{Val}
 use Rattle.script_value.specs.declared.outcome.TxName.{TxName}
 use Rattle.instance_cells.specs.Cells.{Holds, AreOn, reads_of}
-use Rattle.core_syntax.specs.Core.{OnCells}
-use Rattle.core_syntax.specs.declared.script.SendKind.TheVariants.{Forward}
-use Rattle.core_syntax.specs.Setup.{Script, Named}
+use Rattle.script_nodes.specs.Core.{OnCells}
+use Rattle.script_nodes.specs.declared.script.SendKind.TheVariants.{Forward}
+use Rattle.script_nodes.specs.Setup.{Script, Named}
 use Rattle.replay_spec.specs.Names.{Has, first_closed}
 use Rattle.replay_spec.specs.Tape.{Reads, recorded, present, bound, Now, Answer, Tape, tape_behind, shows, Outcome, paged, out_of_fuel, End, got, stop}
 use Rattle.replay_spec.specs.Eval.{Segment, end_of, run, unread}

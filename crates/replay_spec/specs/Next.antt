@@ -2,7 +2,7 @@
 use Rattle.std.specs.Prelude.{ℕ, List, [], map, Option, Some, None}
 use Rattle.script_value.specs.Val.{Val}
 use Rattle.page_names.specs.Names.{Destination, page, spelling}
-use Rattle.core_syntax.specs.Setup.{Named}
+use Rattle.script_nodes.specs.Setup.{Named}
 use Rattle.replay_spec.specs.Tape.{Reads, recorded, Now, Answer, Tape, tape_behind, End}
 use Rattle.replay_spec.specs.Eval.{Segment, segment_at_end, end_of}
 use Rattle.replay_spec.specs.Book.{Page, Book, chain}

@@ -1,7 +1,7 @@
 -- What the shelves of one program run under.
 use Rattle.std.specs.Prelude.{ℕ, List, [], Option, Some, None, slice_get}
 use Rattle.script_value.specs.Val.{Val}
-use Rattle.core_syntax.specs.Setup.{Named}
+use Rattle.script_nodes.specs.Setup.{Named}
 use Rattle.replay_spec.specs.Book.{Change, Book}
 
 -- how long a journal is that has the setup alone, and the body of a change's record

@@ -4,9 +4,9 @@ use Rattle.script_value.specs.Val.{Val, number, text, list, no_vals}
 use Rattle.script_value.specs.declared.outcome.Op.TheVariants as op
 use Rattle.script_value.specs.declared.outcome.TxName.{TxName}
 use Rattle.page_names.specs.Names.{Destination, page}
-use Rattle.core_syntax.specs.declared.script.SendKind.TheVariants.{Suspend, Forward}
-use Rattle.core_syntax.specs.Core.{Core, lit, var, bind, seq, branch, prim, send, finish, isolate, cell_ref, cell_shadow, inst_ref, inst_set, inst_add, cores_of}
-use Rattle.core_syntax.specs.Setup.{Named}
+use Rattle.script_nodes.specs.declared.script.SendKind.TheVariants.{Suspend, Forward}
+use Rattle.script_nodes.specs.Core.{Core, lit, var, bind, seq, branch, prim, send, finish, isolate, cell_ref, cell_shadow, inst_ref, inst_set, inst_add, cores_of}
+use Rattle.script_nodes.specs.Setup.{Named}
 use Rattle.replay_spec.specs.Rules.{Rules, Journal}
 use Rattle.replay_spec.specs.Next.{url_of}
 use Rattle.replay_spec.specs.Step.{Event, take, publish, Fate, plain, Reply, shown}

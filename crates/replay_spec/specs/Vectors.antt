@@ -4,7 +4,7 @@ use Rattle.std.specs.Fmt.{digits}
 use Rattle.script_value.specs.Val.{truth, text}
 use Rattle.script_value.specs.declared.outcome.Refusal.TheVariants.{Unknown, Revoked, Closed, Expired}
 use Rattle.page_names.specs.Names.{start}
-use Rattle.core_syntax.specs.Core.{isolate}
+use Rattle.script_nodes.specs.Core.{isolate}
 use Rattle.replay_spec.specs.Runs.{after, empty_shelf}
 use Rattle.replay_spec.specs.Rules.{empty_book}
 use Rattle.replay_spec.specs.Step.{Event, take, sweep, crash, Fate, plain, no_memory, disk_fault, lost, kept, Reply, taken, shown, finished, ended, refusal, out_of_fuel, shelf_full, instance_full, disk_failed, down, oversize, journal_full, worn, memory, swept, live, step}

@@ -8,9 +8,9 @@ use Rattle.script_value.specs.declared.outcome.Refusal.TheVariants.{Unknown, Rev
 use Rattle.script_value.specs.declared.outcome.TxName.{TxName}
 use Rattle.page_names.specs.Names.{Destination, start, page}
 use Rattle.page_names.specs.Hex.{hex16}
-use Rattle.core_syntax.specs.declared.script.SendKind.TheVariants.{Suspend}
-use Rattle.core_syntax.specs.Core.{lit, var, bind, prim, send, cores_of}
-use Rattle.core_syntax.specs.Setup.{Named}
+use Rattle.script_nodes.specs.declared.script.SendKind.TheVariants.{Suspend}
+use Rattle.script_nodes.specs.Core.{lit, var, bind, prim, send, cores_of}
+use Rattle.script_nodes.specs.Setup.{Named}
 use Rattle.replay_spec.specs.Book.{Page, Instance, sweeps, Doubt, Book}
 use Rattle.replay_spec.specs.Rules.{Rules, empty_book}
 use Rattle.replay_spec.specs.Next.{url_of}

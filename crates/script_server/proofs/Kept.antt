@@ -8,7 +8,7 @@ use Rattle.script_value.specs.declared.outcome.Refusal.{Refusal}
 use Rattle.page_names.specs.Names.{Destination, start, page}
 use Rattle.page_names.specs.Views.{target_of}
 use Rattle.page_names.specs.declared.names.PageName.{PageName}
-use Rattle.core_syntax.specs.Setup.{Named}
+use Rattle.script_nodes.specs.Setup.{Named}
 use Rattle.replay_spec.specs.Book.{Book, spend}
 use Rattle.replay_spec.specs.Rules.{Rules}
 use Rattle.replay_spec.specs.Admission.{Place, Admission, begins, resumes, refused, refusal_of, admit, place_at, found, unless_why, why_not, started, script_named}

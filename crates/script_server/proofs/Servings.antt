@@ -5,7 +5,7 @@ use Rattle.std.proofs.lemmas.List.Elements.{All-head}
 use Rattle.web_outside.specs.Doors.{GiveLists, HaveNone}
 use Rattle.web_outside.specs.Pieces.{AppendsUnlessFault}
 use Rattle.web_outside.proofs.Writes.{appends_none}
-use Rattle.core_syntax.specs.Setup.{Named}
+use Rattle.script_nodes.specs.Setup.{Named}
 use Rattle.command_words.specs.Plain.{Serving}
 use Rattle.replay_spec.specs.Rules.{Rules}
 use Rattle.request_workers.specs.Counting.{Count}

@@ -12,7 +12,7 @@ use Rattle.replay_spec.specs.Book.{Book, Doubt, draw}
 use Rattle.replay_spec.specs.Laws as laws
 use Rattle.replay_spec.specs.Laws.{RefusedIsUnchanged}
 use Rattle.replay_spec.specs.Admission.{or_else, when, admit, refusal_of}
-use Rattle.core_syntax.specs.Setup.{Named}
+use Rattle.script_nodes.specs.Setup.{Named}
 use Rattle.script_value.specs.declared.outcome.Refusal.{Refusal}
 use Rattle.std.specs.Prelude.{is_some, IfSome, Bool, true, false, ◌==◌, ◌^◌, length}
 use Rattle.script_server.specs.Desk as desk
@@ -22,7 +22,7 @@ use Rattle.replay_spec.specs.Step.{take, publish, sweep, Fate, plain, step}
 use Rattle.replay_spec.specs.Step as spec
 use Rattle.replay_spec.specs.Runs.{Shelf, shelf_step, drawn_by}
 use Rattle.instance_book.specs.Views.{book_of, ticket_of, reply_of}
-use Rattle.core_syntax.specs.declared.setup.Setup.{Setup}
+use Rattle.script_nodes.specs.declared.setup.Setup.{Setup}
 use Rattle.shelf.specs.declared.shelf.Shelf as shelf
 use Rattle.shelf.specs.Views.{IsStep, fate_by, swept_of, rules_of}
 use Rattle.web_outside.specs.declared.nonces.Counting.{Counting}

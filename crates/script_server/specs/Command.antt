@@ -10,7 +10,7 @@ use Rattle.web_outside.specs.declared.source.InputFault.{InputFault}
 use Rattle.web_outside.specs.declared.source.InputFault.TheVariants as fault
 use Rattle.web_outside.specs.Causes.{Rose}
 use Rattle.web_outside.specs.Pieces.{ReadsPast, ReadsUpTo, ConsumesSome}
-use Rattle.core_syntax.specs.Setup.{Named}
+use Rattle.script_nodes.specs.Setup.{Named}
 use Rattle.command_words.specs.App.{app}
 use Rattle.command_words.specs.Plain.{Asked, Choices, IsPlain, Serving, check, play, serve}
 use Rattle.command_words.specs.Reads.{asked_from}

@@ -4,7 +4,7 @@ use Rattle.std.specs.Fmt.{decimal}
 use Rattle.std.specs.Io.KnownBytes.{Appends}
 use Rattle.web_outside.specs.Causes.{Rose}
 use Rattle.web_outside.specs.Pieces.{IsCutShort, AppendsUnlessFault}
-use Rattle.core_syntax.specs.Setup.{Named}
+use Rattle.script_nodes.specs.Setup.{Named}
 use Rattle.replay_spec.specs.Rules.{Rules}
 use Rattle.replay_spec.specs.Step.{Fate}
 use Rattle.play_steps.specs.Step.{Step, steps_of}

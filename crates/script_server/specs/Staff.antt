@@ -5,8 +5,8 @@ use Rattle.web_outside.specs.declared.nonces.Counting.{Counting}
 use Rattle.page_names.specs.Names.{Destination}
 use Rattle.page_names.specs.Views.{target_of}
 use Rattle.page_names.specs.declared.names.Target.{Target}
-use Rattle.core_syntax.specs.Setup.{Named}
-use Rattle.core_syntax.specs.declared.setup.Setup.{Setup}
+use Rattle.script_nodes.specs.Setup.{Named}
+use Rattle.script_nodes.specs.declared.setup.Setup.{Setup}
 use Rattle.replay_spec.specs.Book.{Book}
 use Rattle.replay_spec.specs.Admission.{admit, refusal_of}
 use Rattle.replay_spec.specs.Invariant.{IsSound}

@@ -2,8 +2,8 @@ ghost use Rattle.std.specs.Prelude.{◌≡◌, ◌≢◌, ◌⊎◌, Some, None,
 ghost use Rattle.std.specs.Fmt.{decimal};
 ghost use Rattle.web_outside.specs.Causes.{Rose};
 ghost use Rattle.web_outside.specs.Pieces.{HandsAllOn, HandsOn};
-ghost use Rattle.core_syntax.specs.Setup.{Named};
-ghost use Rattle.core_syntax.specs.Views.{scripts_of};
+ghost use Rattle.script_nodes.specs.Setup.{Named};
+ghost use Rattle.script_nodes.specs.Views.{scripts_of};
 ghost use Rattle.setup_reader.specs.Views.{fault_of, parsed_of};
 ghost use Rattle.command_words.specs.Plain.{Asked, AreInRange, CanServe, IsInRange, IsPlain, Serving, choices_in, serving_in};
 ghost use Rattle.script_server.specs.declared.command.Status.{Status};
@@ -19,9 +19,9 @@ ghost use Rattle.request_workers.specs.Tallies.{count_of};
 use crate::desk::{new_desk, transcripts_are_runs};
 use crate::serving::{ServeFault, serve};
 use command_words::{Command, Options, Service, WordsFault, read_words};
-use core_syntax::Setup;
 use play_steps::{PlayEnd, play};
 use request_workers::Tally;
+use script_nodes::Setup;
 use setup_reader::{Ending, Parsed, SetupError, SetupFault, fault_line};
 use std::alloc::{AllocError, Global};
 use web_outside::{

@@ -1,8 +1,8 @@
 ghost use Rattle.std.specs.Prelude.{◌≡◌, List};
-ghost use Rattle.core_syntax.specs.Setup.{Named};
+ghost use Rattle.script_nodes.specs.Setup.{Named};
 ghost use Rattle.shelf.specs.Ranges as ranges;
 ghost use Rattle.shelf.specs.Views.{rules_over};
-ghost use Rattle.core_syntax.specs.Views.{scripts_of};
+ghost use Rattle.script_nodes.specs.Views.{scripts_of};
 ghost use Rattle.command_words.specs.Plain.{choices_in, AreInRange};
 ghost use Rattle.script_server.specs.Desk.{first_desk};
 ghost use Rattle.script_server.specs.Laws.{TranscriptsAreRuns};
@@ -11,8 +11,8 @@ ghost use Rattle.script_server.specs.Staff.{desk_of};
 
 use crate::staff::{Staff, holds, new_staff, publish, sweep, take};
 use command_words::Options;
-use core_syntax::Setup;
 use play_steps::Stage;
+use script_nodes::Setup;
 use script_value::Reply;
 use shelf::Rules;
 use std::alloc::Global;
@@ -27,9 +27,9 @@ pub struct Desk<'s> {
 }
 
 impl<'s> Model for Desk<'s> {
-    ghost use Rattle.core_syntax.specs.Views.{scripts_of};
-    ghost use Rattle.core_syntax.specs.contracts.setup.Setup as setup_type;
-    ghost use Rattle.core_syntax.specs.declared.setup.Setup.{Setup};
+    ghost use Rattle.script_nodes.specs.Views.{scripts_of};
+    ghost use Rattle.script_nodes.specs.contracts.setup.Setup as setup_type;
+    ghost use Rattle.script_nodes.specs.declared.setup.Setup.{Setup};
     ghost use Rattle.script_server.specs.Staff.{IsFit};
     ghost use Rattle.script_server.specs.contracts.staff.Staff as staff_type;
     ghost use Rattle.script_server.specs.declared.staff.Staff.{Staff};

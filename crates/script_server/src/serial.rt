@@ -1,15 +1,15 @@
 ghost use Rattle.std.specs.Prelude.{◌≡◌, ◌<◌, ◌^◌, IfOk, true};
-ghost use Rattle.core_syntax.specs.Views.{scripts_of};
+ghost use Rattle.script_nodes.specs.Views.{scripts_of};
 ghost use Rattle.page_names.specs.Views.{target_of};
 ghost use Rattle.shelf.specs.Views.{rules_of};
 ghost use Rattle.script_server.specs.Serial.{pass_rules};
 ghost use Rattle.script_server.specs.Staff.{IsHere};
 
 use crate::staff::segment_of;
-use core_syntax::Setup;
 use http_forms::Answering;
 use page_names::Target;
 use replay_spec::{each_has_its_cells, refused_is_unchanged, sound_books_stay};
+use script_nodes::Setup;
 use script_value::{Refusal, Reply, Value};
 use shelf::{Rules, Shelf};
 use std::alloc::{AllocError, Global};

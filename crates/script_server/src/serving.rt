@@ -1,6 +1,6 @@
 ghost use Rattle.std.specs.Prelude.{◌≡◌, ◌≤◌, ◌∷◌, [], ℕ, List, IfOk, IfSome, IsErrOf, vec_len};
 ghost use Rattle.web_outside.specs.Causes.{Rose};
-ghost use Rattle.core_syntax.specs.Views.{scripts_of};
+ghost use Rattle.script_nodes.specs.Views.{scripts_of};
 ghost use Rattle.command_words.specs.Plain.{CanServe, serving_in};
 ghost use Rattle.request_workers.specs.Scenes.{seen};
 ghost use Rattle.request_workers.specs.Tallies.{count_of};
@@ -12,9 +12,9 @@ ghost use Rattle.script_server.specs.Serving.{Served, WorksAt, WorksFirst, told,
 use crate::desk::rules_of;
 use crate::serial::Serial;
 use command_words::Service;
-use core_syntax::Setup;
 use replay_spec::sound_books_stay;
 use request_workers::{Tally, WorkEnd, work};
+use script_nodes::Setup;
 use shelf::Shelf;
 use std::alloc::Global;
 use web_outside::{Clock, Door, DoorFault, Gate, Nonces, Porch, SeedFault, Seeds};

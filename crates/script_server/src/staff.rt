@@ -1,5 +1,5 @@
 ghost use Rattle.std.specs.Prelude.{◌≡◌, ◌<◌, ◌^◌, ◌∷◌, [], true, IfOk, is_some, map, option_map, replicate, slice_get, slice_set, Some, None};
-ghost use Rattle.core_syntax.specs.Views.{scripts_of};
+ghost use Rattle.script_nodes.specs.Views.{scripts_of};
 ghost use Rattle.page_names.specs.Names.{destination_of};
 ghost use Rattle.play_steps.specs.Rules.{Publishes, Sweeps};
 ghost use Rattle.replay_spec.specs.Runs.{empty_shelf};
@@ -10,12 +10,12 @@ ghost use Rattle.script_server.specs.Desk.{desk_rules, first_desk};
 ghost use Rattle.script_server.specs.Staff.{NamesHere, IsFit, TakesTicket, desk_of};
 
 use crate::answer::answer_to;
-use core_syntax::Setup;
 use http_forms::path_and_query;
 use instance_book::{Ticket, admitted_stand};
 use page_names::{Target, parse_target};
 use plain_rerun::{Rerun, rerun};
 use replay_spec::{each_has_its_cells, pages_stay, refused_is_unchanged, sound_books_stay};
+use script_nodes::Setup;
 use script_value::{Refusal, Reply};
 use shelf::{Rules, Shelf};
 use std::alloc::Global;

@@ -11,7 +11,7 @@ use Rattle.sexp_reader.proofs.Taken.{read_spells}
 use Rattle.sexp_reader.proofs.Again.{spells_read}
 use Rattle.core_syntax.specs.declared.faults.SyntaxKind.{SyntaxKind}
 use Rattle.core_syntax.specs.Definitions.{expanded}
-use Rattle.core_syntax.specs.Setup.{Script, Named, place_named}
+use Rattle.script_nodes.specs.Setup.{Script, Named, place_named}
 use Rattle.setup_reader.specs.Setup.{Piece, Parsed, Fault, at_section, at_text, at_form, section_in, by_forms, by_data, script_in, named_next, with_rest, script_at, ended, after, unless_ended, ending_at, setup_from, setup_of}
 use Rattle.setup_reader.specs.declared.setup.Ending.{Ending}
 use Rattle.setup_reader.specs.declared.fault.SetupKind.{SetupKind}

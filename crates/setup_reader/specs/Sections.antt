@@ -5,7 +5,7 @@ use Rattle.script_value.specs.Val.{Val}
 use Rattle.page_names.specs.Names.{is_name}
 use Rattle.sexp_reader.specs.Spells.{Spells}
 use Rattle.core_syntax.specs.Definitions.{expanded}
-use Rattle.core_syntax.specs.Setup.{Named, place_named}
+use Rattle.script_nodes.specs.Setup.{Named, place_named}
 use Rattle.setup_reader.specs.declared.setup.Ending.{Ending}
 use Rattle.setup_reader.specs.declared.setup.Ending.TheVariants.{Steps, Input}
 use Rattle.setup_reader.specs.Limits.{most_scripts}

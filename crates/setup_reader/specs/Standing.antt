@@ -6,7 +6,7 @@ use Rattle.sexp_reader.specs.Limits.{most_bytes}
 use Rattle.sexp_reader.specs.Read.{read}
 use Rattle.sexp_reader.specs.Spells.{Spells}
 use Rattle.core_syntax.specs.Definitions.{expanded}
-use Rattle.core_syntax.specs.Setup.{Named, place_named}
+use Rattle.script_nodes.specs.Setup.{Named, place_named}
 use Rattle.setup_reader.specs.declared.setup.Ending.{Ending}
 use Rattle.setup_reader.specs.declared.fault.SetupKind.{SetupKind}
 use Rattle.setup_reader.specs.declared.fault.SetupKind.TheVariants.{Section, Repeat, Many, Empty, End}

@@ -1,10 +1,10 @@
 -- What the program's setup stands for.
 use Rattle.std.specs.Prelude.{◌≡◌, Result, Ok, Err, ⊤, ℕ, List}
 use Rattle.page_names.specs.Views.{name_of}
-use Rattle.core_syntax.specs.Views.{scripts_of, named_of}
+use Rattle.script_nodes.specs.Views.{scripts_of, named_of}
 use Rattle.std.specs.Borrow.{Bor}
-use Rattle.core_syntax.specs.declared.setup.NamedScript.{NamedScript}
-use Rattle.core_syntax.specs.Setup.{Named}
+use Rattle.script_nodes.specs.declared.setup.NamedScript.{NamedScript}
+use Rattle.script_nodes.specs.Setup.{Named}
 use Rattle.setup_reader.specs.declared.fault.SetupError.{SetupError}
 use Rattle.setup_reader.specs.declared.fault.SetupError.TheVariants as error
 use Rattle.setup_reader.specs.declared.fault.SetupFault.{SetupFault}

@@ -1,7 +1,7 @@
 ghost use Rattle.std.specs.Prelude.{◌≡◌, ◌≢◌, IsUtf8, ◌≤◌, ◌<◌, ◌^◌, length, option_map, IfOk, Ok, Err, [], ◌+◌};
 ghost use Rattle.page_names.specs.Views.{name_of};
 ghost use Rattle.script_value.specs.Pieces.{number_below};
-ghost use Rattle.core_syntax.specs.Views.{scripts_of, named_of};
+ghost use Rattle.script_nodes.specs.Views.{scripts_of, named_of};
 ghost use Rattle.sexp_reader.specs.Limits.{most_bytes};
 ghost use Rattle.setup_reader.specs.Limits.{most_script_bytes, most_scripts};
 ghost use Rattle.setup_reader.specs.Setup as spec;
@@ -10,8 +10,9 @@ ghost use Rattle.setup_reader.specs.Sections.{IsSetup};
 ghost use Rattle.setup_reader.specs.Standing.{HasFault, HasText};
 
 use crate::fault::{SetupError, SetupFault, SetupKind};
-use core_syntax::{ExpandFault, NamedScript, Setup, expand};
+use core_syntax::{ExpandFault, expand};
 use page_names::ScriptName;
+use script_nodes::{NamedScript, Setup};
 use script_value::Bytes;
 use script_value::pieces::{behind, cut_at, number};
 use sexp_reader::{ReadFault, read_all};

@@ -1,7 +1,7 @@
 -- The segment of a ticket over the cells of now.
 use Rattle.std.proofs.Common.{◌≡◌, ◌∙◌, ap, sym, subst, ℕ, List, [], ◌∷◌, length, map, Option, Some, None, Result, Ok, Err, IfOk, option_map, slice_get, refl}
 use Rattle.script_value.specs.Val.{Val}
-use Rattle.core_syntax.specs.Setup.{Named, Script}
+use Rattle.script_nodes.specs.Setup.{Named, Script}
 use Rattle.page_names.specs.Names.{start, page}
 use Rattle.page_names.specs.declared.names.PageName.{PageName}
 use Rattle.instance_cells.specs.Cells.{Effect, Holds, AreOn}
@@ -13,7 +13,7 @@ use Rattle.replay_spec.specs.Rules.{cells_of}
 use Rattle.replay_spec.specs.Admission.{Admission, begins, resumes, refused, refusal_of, admit}
 use Rattle.replay_spec.specs.Next.{Home, Visit, home_of, answered, tape_for, url_for, start_visit, page_visit}
 use Rattle.replay_spec.specs.Laws.{ArePast, EffectsHoldRunSame, EffectsAreOnCells}
-use Rattle.core_syntax.specs.Core.{OnCells}
+use Rattle.script_nodes.specs.Core.{OnCells}
 use Rattle.instance_book.specs.Stands.{AdmittedStand}
 use Rattle.instance_book.specs.declared.ticket.Ticket.{Ticket}
 use Rattle.instance_book.specs.Views.{ticket_of}

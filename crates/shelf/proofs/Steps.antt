@@ -5,7 +5,7 @@ use Rattle.script_value.specs.declared.outcome.Refusal.{Refusal}
 use Rattle.script_value.specs.declared.outcome.TxName.{TxName}
 use Rattle.script_value.specs.declared.outcome.Reply.{Reply}
 use Rattle.script_value.specs.declared.outcome.Reply.TheVariants as reply
-use Rattle.core_syntax.specs.Setup.{Named}
+use Rattle.script_nodes.specs.Setup.{Named}
 use Rattle.page_names.specs.Names.{Destination}
 use Rattle.replay_spec.specs.Tape as tape
 use Rattle.replay_spec.specs.Tape.{How, shows, finishes, ends, Outcome, paged, faulted, out_of_fuel}

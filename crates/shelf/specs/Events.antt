@@ -4,8 +4,8 @@ use Rattle.script_value.specs.Views.{meaning}
 use Rattle.script_value.specs.declared.value.Value.{Value}
 use Rattle.script_value.specs.declared.outcome.Reply.{Reply}
 use Rattle.script_value.specs.declared.outcome.Reply.TheVariants as reply
-use Rattle.core_syntax.specs.Setup.{Named}
-use Rattle.core_syntax.specs.declared.setup.Setup.{Setup}
+use Rattle.script_nodes.specs.Setup.{Named}
+use Rattle.script_nodes.specs.declared.setup.Setup.{Setup}
 use Rattle.page_names.specs.Views.{target_of}
 use Rattle.page_names.specs.declared.names.Target.{Target}
 use Rattle.plain_rerun.specs.declared.ends.Rerun.{Rerun}

@@ -1,6 +1,6 @@
 -- A ticket that fits goes on to fit.
 use Rattle.std.specs.Prelude.{◌≡◌, List, None}
-use Rattle.core_syntax.specs.Setup.{Named}
+use Rattle.script_nodes.specs.Setup.{Named}
 use Rattle.page_names.specs.Views.{target_of}
 use Rattle.replay_spec.specs.Book.{Book}
 use Rattle.replay_spec.specs.Admission.{admit, refusal_of}

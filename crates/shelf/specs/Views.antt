@@ -1,9 +1,9 @@
 -- What the program's shelf stands for in the definitions, and the events of its calls.
 use Rattle.std.specs.Prelude.{◌≡◌, ℕ, ◌+◌, List, map, length, Option, Some, None, slice_get, Result, Ok, Err, ⊤}
 use Rattle.script_value.specs.declared.outcome.Reply.{Reply}
-use Rattle.core_syntax.specs.Setup.{Named}
-use Rattle.core_syntax.specs.Views.{scripts_of}
-use Rattle.core_syntax.specs.declared.setup.Setup.{Setup}
+use Rattle.script_nodes.specs.Setup.{Named}
+use Rattle.script_nodes.specs.Views.{scripts_of}
+use Rattle.script_nodes.specs.declared.setup.Setup.{Setup}
 use Rattle.page_names.specs.Names.{Destination, start, page}
 use Rattle.page_names.specs.Views.{target_of}
 use Rattle.instance_cells.specs.Cells.{Effect, Holds}

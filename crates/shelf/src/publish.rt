@@ -1,6 +1,6 @@
 ghost use Rattle.std.specs.Prelude.{◌≡◌, ◌<◌, ◌^◌, List, IfOk, IfSome, Err, Contains};
-ghost use Rattle.core_syntax.specs.Setup.{Named};
-ghost use Rattle.core_syntax.specs.Views.{scripts_of};
+ghost use Rattle.script_nodes.specs.Setup.{Named};
+ghost use Rattle.script_nodes.specs.Views.{scripts_of};
 ghost use Rattle.replay_spec.specs.Book.{spend};
 ghost use Rattle.replay_spec.specs.Next.{cells_by};
 ghost use Rattle.replay_spec.specs.Rules.{empty_book};
@@ -14,10 +14,10 @@ ghost use Rattle.shelf.specs.Events.{IsTake, IsTicketOf, TellsWhyNot, IsDecided,
 use crate::rules::Rules;
 use crate::second::segment_now;
 use crate::shelf::Shelf;
-use core_syntax::Setup;
 use instance_book::{Book, Prepared, Ticket};
 use page_names::Target;
 use plain_rerun::Rerun;
+use script_nodes::Setup;
 use script_value::{Reply, Value};
 use std::alloc::Global;
 use web_outside::Nonces;

@@ -1,16 +1,16 @@
 ghost use Rattle.std.specs.Prelude.{◌≡◌, IfOk, Ok, None, map};
-ghost use Rattle.core_syntax.specs.Views.{scripts_of};
+ghost use Rattle.script_nodes.specs.Views.{scripts_of};
 ghost use Rattle.instance_cells.specs.Views.{effect_of};
 ghost use Rattle.instance_book.specs.Views.{book_of};
 ghost use Rattle.instance_book.specs.Admissions.{refusal_for};
 ghost use Rattle.instance_book.specs.Prepares.{AreOnCells};
 ghost use Rattle.shelf.specs.Views.{HaveTheirCells, IsRunOf, IsSegmentNow, FitsNow, HoldNow};
 
-use core_syntax::Setup;
 use instance_book::{Book, Ticket, admitted_stand};
 use page_names::Target;
 use plain_rerun::{Rerun, rerun};
 use replay_spec::{effects_are_on_cells, effects_hold_run_same};
+use script_nodes::Setup;
 use std::alloc::{AllocError, Global};
 
 /// What the segment of a ticket comes to over the cells of now: the first run's result where its effects hold over them, and

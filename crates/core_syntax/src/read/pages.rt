@@ -13,9 +13,9 @@ use crate::cell_names::CellNames;
 use crate::faults::{ReadFault, SyntaxKind};
 use crate::heads::{Head, LastPage};
 use crate::names::Names;
-use crate::script::SendKind;
 use crate::shapes::{is_word, parameter};
 use crate::tree::{Form, Tree};
+use script_nodes::SendKind;
 use script_value::Value;
 use std::alloc::Global;
 

@@ -1,6 +1,6 @@
 use Rattle.std.proofs.Common.{sym, ◌∙◌}
 use Rattle.std.specs.Str.{bytes_eq}
-use Rattle.core_syntax.proofs.Places.{position_map}
+use Rattle.script_nodes.proofs.Places.{position_map}
 use Rattle.core_syntax.proofs.cell_names.place_among.Goals as goal
 
 pub returns : goal.returns

@@ -4,7 +4,7 @@ use Rattle.std.proofs.lemmas.List.{take_more}
 use Rattle.std.proofs.lemmas.Result.{err_from_is_err_and}
 use Rattle.core_syntax.specs.Forms.{nest, choose}
 use Rattle.core_syntax.specs.Trees.{pair_of}
-use Rattle.core_syntax.specs.declared.script.Node.TheVariants as node
+use Rattle.script_nodes.specs.declared.script.Node.TheVariants as node
 use Rattle.core_syntax.proofs.Lays.{group_of, let_of, two_parts, nest_of, alone_of, choice_of, all_none, all_more, all_stops}
 use Rattle.core_syntax.proofs.layout.+lay.Goals as goal
 

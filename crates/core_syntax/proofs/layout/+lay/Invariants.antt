@@ -1,5 +1,5 @@
 use Rattle.std.proofs.Common.{◌*◌, ◌+◌, take}
-use Rattle.core_syntax.specs.Core.{cores_of}
+use Rattle.script_nodes.specs.Core.{cores_of}
 use Rattle.core_syntax.specs.Laid.{StandAll}
 use Rattle.core_syntax.proofs.layout.+lay.Given as goal
 

@@ -1,7 +1,7 @@
 use Rattle.std.proofs.Common.{ap, arith, sym, ◌∙◌, map, refl, take, drop, length, ◌-◌}
 use Rattle.std.proofs.lemmas.Result.{err_from_is_err_and}
 use Rattle.core_syntax.specs.Trees.{pair_of}
-use Rattle.core_syntax.proofs.Places.{map_behind}
+use Rattle.script_nodes.proofs.Places.{map_behind}
 use Rattle.core_syntax.proofs.Choices.{choices_next, clause_stops, gives_same}
 use Rattle.script_value.specs.Val.{weight, list, val, no_vals, vals_of}
 use Rattle.core_syntax.specs.Forms.{core_of, send_form, store_form}

@@ -1,5 +1,5 @@
 use Rattle.std.proofs.Common.{◌∙◌, ap}
-use Rattle.core_syntax.specs.Views.{scripts_of}
+use Rattle.script_nodes.specs.Views.{scripts_of}
 use Rattle.script_server.specs.Desk.{first_desk}
 use Rattle.script_server.proofs.desk.new_desk.Goals as goal
 

@@ -1,4 +1,4 @@
-use Rattle.core_syntax.specs.Views.{scripts_of}
+use Rattle.script_nodes.specs.Views.{scripts_of}
 use Rattle.command_words.specs.Plain.{serving_in}
 use Rattle.script_server.proofs.Servings.{served_by}
 use Rattle.script_server.proofs.serving.serve.Goals as goal

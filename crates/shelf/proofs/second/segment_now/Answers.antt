@@ -1,5 +1,5 @@
 use Rattle.std.proofs.Common.{◌≡◌, ◌∙◌, ap, sym, subst, refl, map, length, List, Some, slice_get}
-use Rattle.core_syntax.specs.Views.{scripts_of, named_of}
+use Rattle.script_nodes.specs.Views.{scripts_of, named_of}
 use Rattle.page_names.specs.Views.{target_of, name_of}
 use Rattle.page_names.specs.declared.names.Target.{Target}
 use Rattle.instance_cells.specs.Cells.{AreOn, Holds}

@@ -1,5 +1,5 @@
 use Rattle.std.proofs.Common.{rules, ◌≡◌, [], ◌∷◌}
-use Rattle.core_syntax.specs.Views.{scripts_of}
+use Rattle.script_nodes.specs.Views.{scripts_of}
 use Rattle.shelf.specs.Views.{rules_of}
 use Rattle.script_server.proofs.Serials.{sweeps_happen}
 use Rattle.script_server.proofs.serial.SerialAnswering.tick.Goals as goal

@@ -1,7 +1,7 @@
 use Rattle.std.proofs.Common.{rules, ◌≡◌, ◌∙◌, true, ap, subst}
 use Rattle.script_value.specs.Val.{Val}
 use Rattle.script_value.specs.Views.{meaning}
-use Rattle.core_syntax.specs.Views.{scripts_of}
+use Rattle.script_nodes.specs.Views.{scripts_of}
 use Rattle.page_names.specs.Views.{target_of}
 use Rattle.replay_spec.specs.Next as next
 use Rattle.replay_spec.specs.Runs.{shelf_step}

@@ -1,5 +1,5 @@
 use Rattle.std.proofs.Common.{rules, inl, inr, refl, ◌≡◌, ◌<◌, length, None, Ok, Err, ◌-◌, [], ◌∷◌, ◌++◌, arith, ap, ◌∙◌, length-append}
-use Rattle.core_syntax.specs.Views.{scripts_of, named_of}
+use Rattle.script_nodes.specs.Views.{scripts_of, named_of}
 use Rattle.setup_reader.specs.Setup as spec
 use Rattle.setup_reader.specs.declared.fault.SetupFault.TheVariants.{Memory}
 use Rattle.setup_reader.specs.Views.{Fails}

@@ -1,5 +1,5 @@
 use Rattle.std.proofs.Common.{◌≡◌, ◌≤◌, length, ◌-◌}
-use Rattle.core_syntax.specs.Views.{scripts_of}
+use Rattle.script_nodes.specs.Views.{scripts_of}
 use Rattle.setup_reader.specs.Setup as spec
 use Rattle.setup_reader.proofs.Standing.{Started}
 use Rattle.setup_reader.proofs.setup.Parsed.read.Given as goal

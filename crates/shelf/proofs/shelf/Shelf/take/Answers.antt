@@ -2,7 +2,7 @@ use Rattle.std.proofs.Common.{◌≡◌, ◌∙◌, ap, sym, subst, refl, ◌==�
 use Rattle.std.proofs.lemmas.Bool.Decides.{nat_tests}
 use Rattle.std.proofs.lemmas.List.Elements.{Contains-push}
 use Rattle.script_value.specs.Views.{meaning}
-use Rattle.core_syntax.specs.Views.{scripts_of}
+use Rattle.script_nodes.specs.Views.{scripts_of}
 use Rattle.page_names.specs.Views.{target_of}
 use Rattle.replay_spec.specs.Book.{Book, draw}
 use Rattle.replay_spec.specs.Next as next

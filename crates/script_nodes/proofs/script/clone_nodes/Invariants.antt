@@ -1,5 +1,5 @@
 use Rattle.std.proofs.Common.{◌≡◌, take}
-use Rattle.core_syntax.proofs.script.clone_nodes.Given as goal
+use Rattle.script_nodes.proofs.script.clone_nodes.Given as goal
 
 abbrev pub invariant-loop-node : goal.invariant-loop-node
 invariant-loop-node l = l.copies.items ≡ take l.node-index l.nodes

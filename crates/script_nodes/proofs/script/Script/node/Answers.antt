@@ -1,7 +1,7 @@
 use Rattle.std.proofs.Common.{refl}
 use Rattle.std.proofs.lemmas.Option.{slice_get_read}
-use Rattle.core_syntax.proofs.Trees.{tree_at_node}
-use Rattle.core_syntax.proofs.script.Script.node.Goals as goal
+use Rattle.script_nodes.proofs.Trees.{tree_at_node}
+use Rattle.script_nodes.proofs.script.Script.node.Goals as goal
 
 pub returns-clause-tree : goal.returns-clause-tree
 returns-clause-tree c =

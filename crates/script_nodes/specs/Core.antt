@@ -2,7 +2,7 @@
 use Rattle.std.specs.Prelude.{ℕ, suc, ◌+◌, ◌<◌, max, List, [], ◌∷◌, ⊤}
 use Rattle.script_value.specs.Val.{Val}
 use Rattle.script_value.specs.declared.outcome.Op.{Op}
-use Rattle.core_syntax.specs.declared.script.SendKind.{SendKind}
+use Rattle.script_nodes.specs.declared.script.SendKind.{SendKind}
 
 mutual
   pub data Core : Type 0 where

@@ -6,10 +6,10 @@ use Rattle.script_value.specs.Val.{Val, truth}
 use Rattle.script_value.specs.ValCode.{val_code}
 use Rattle.script_value.specs.Views.{meaning}
 use Rattle.prim_ops.specs.Table.{takes}
-use Rattle.core_syntax.specs.declared.script.Node.{Node}
-use Rattle.core_syntax.specs.declared.script.Node.TheVariants as node
-use Rattle.core_syntax.specs.Core.{Core, lit, var, bind, branch, repeat, prim, seq, and_all, or_any, send, finish, back, isolate, cell_ref, cell_shadow, inst_ref, inst_set, inst_add, cores_of}
-use Rattle.core_syntax.specs.Setup.{Script}
+use Rattle.script_nodes.specs.declared.script.Node.{Node}
+use Rattle.script_nodes.specs.declared.script.Node.TheVariants as node
+use Rattle.script_nodes.specs.Core.{Core, lit, var, bind, branch, repeat, prim, seq, and_all, or_any, send, finish, back, isolate, cell_ref, cell_shadow, inst_ref, inst_set, inst_add, cores_of}
+use Rattle.script_nodes.specs.Setup.{Script}
 
 -- the nodes in pre-order, and what the web cells and the instance cells begin with
 pub record Arena : Type 0 where

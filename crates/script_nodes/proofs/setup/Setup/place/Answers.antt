@@ -1,9 +1,9 @@
 use Rattle.std.proofs.Common.{sym, ◌∙◌}
 use Rattle.page_names.specs.Views.{name_of}
-use Rattle.core_syntax.specs.Setup.{has_name}
-use Rattle.core_syntax.specs.Views.{named_of}
-use Rattle.core_syntax.proofs.Places.{position_map}
-use Rattle.core_syntax.proofs.setup.Setup.place.Goals as goal
+use Rattle.script_nodes.specs.Setup.{has_name}
+use Rattle.script_nodes.specs.Views.{named_of}
+use Rattle.script_nodes.proofs.Places.{position_map}
+use Rattle.script_nodes.proofs.setup.Setup.place.Goals as goal
 
 pub returns : goal.returns
 returns c =

@@ -1,5 +1,5 @@
 use Rattle.std.proofs.Common.{◌≡◌, take}
-use Rattle.core_syntax.proofs.setup.clone_scripts.Given as goal
+use Rattle.script_nodes.proofs.setup.clone_scripts.Given as goal
 
 abbrev pub invariant-loop-script : goal.invariant-loop-script
 invariant-loop-script l = l.copies.items ≡ take l.script-index l.scripts

@@ -1,10 +1,10 @@
 -- The tree at a number is the shape of the node there, over the trees of its parts.
 use Rattle.std.proofs.Common.{◌≡◌, ℕ, zero, suc, ◌+◌, ◌<◌, ◌≤◌, List, [], ◌∷◌, ◌++◌, map, length, Option, Some, None, slice_get, refl, arith}
 use Rattle.std.specs.List.{AllByRecursion}
-use Rattle.core_syntax.specs.declared.script.Node.{Node}
-use Rattle.core_syntax.specs.declared.script.Node.TheVariants as node
-use Rattle.core_syntax.specs.Core.{Core, OnCells, AllOnCells, cores_of}
-use Rattle.core_syntax.specs.Arena.{Arena, IsScript, IsOnCells, IsBehind, parts, shape, shape_at, tree_within, tree_at}
+use Rattle.script_nodes.specs.declared.script.Node.{Node}
+use Rattle.script_nodes.specs.declared.script.Node.TheVariants as node
+use Rattle.script_nodes.specs.Core.{Core, OnCells, AllOnCells, cores_of}
+use Rattle.script_nodes.specs.Arena.{Arena, IsScript, IsOnCells, IsBehind, parts, shape, shape_at, tree_within, tree_at}
 
 abbrev Same : (ℕ → Core) → (ℕ → Core) → ℕ → Type 0
 Same f g p = f p ≡ g p

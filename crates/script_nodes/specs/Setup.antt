@@ -2,7 +2,7 @@
 use Rattle.std.specs.Prelude.{ℕ, List, Bool, Option, Some, None, option_map, position, slice_get}
 use Rattle.std.specs.Str.{bytes_eq}
 use Rattle.script_value.specs.Val.{Val}
-use Rattle.core_syntax.specs.Core.{Core}
+use Rattle.script_nodes.specs.Core.{Core}
 
 -- what a script means: what its web cells and its instance cells begin with, and its expression
 pub record Script : Type 0 where

@@ -60,9 +60,9 @@ pub struct Setup {
 }
 
 impl Setup {
-    ghost use Rattle.core_syntax.specs.Arena.{script_of};
-    ghost use Rattle.core_syntax.specs.Setup.{place_named, script_named};
-    ghost use Rattle.core_syntax.specs.Views.{named_of, scripts_of};
+    ghost use Rattle.script_nodes.specs.Arena.{script_of};
+    ghost use Rattle.script_nodes.specs.Setup.{place_named, script_named};
+    ghost use Rattle.script_nodes.specs.Views.{named_of, scripts_of};
 
     /// These scripts, in this order.
     pub fn new(scripts: Vec<NamedScript>) -> Setup

@@ -1,7 +1,7 @@
 ghost use Rattle.std.specs.Prelude.{◌≡◌, ◌<◌, ◌+◌, ℕ, List, [], ◌∷◌, ◌++◌, length, OnOk, IfOk, Some, slice_get, IfSome, option_map, option_copied};
 ghost use Rattle.script_value.specs.Views.{meaning};
-ghost use Rattle.core_syntax.specs.Arena.{IsScript, IsBehind, IsFull, IsOnCells, parts, script_of, shape, tree_at};
-ghost use Rattle.core_syntax.specs.Core.{OnCells};
+ghost use Rattle.script_nodes.specs.Arena.{IsScript, IsBehind, IsFull, IsOnCells, parts, script_of, shape, tree_at};
+ghost use Rattle.script_nodes.specs.Core.{OnCells};
 ghost use Rattle.std.specs.List.{AllByRecursion};
 
 use script_value::{Items, Op, Value};
@@ -221,8 +221,8 @@ pub struct Script {
 }
 
 impl Model for Script {
-    ghost use Rattle.core_syntax.specs.contracts.script.Node as node_type;
-    ghost use Rattle.core_syntax.specs.Arena.{Arena, arena_code, IsScript};
+    ghost use Rattle.script_nodes.specs.contracts.script.Node as node_type;
+    ghost use Rattle.script_nodes.specs.Arena.{Arena, arena_code, IsScript};
 
     ghost Value = { Arena };
 

@@ -1,0 +1,4 @@
+pub mod Core
+pub mod Arena
+pub mod Setup
+pub mod Views
