@@ -36,10 +36,10 @@ enum Turn {
 fn play_step<T: Stage, O: Sink>(alloc: Global, stage: &mut T, step: &Step, sink: &mut O) -> Turn
     requires { IsStep (meaning step.now) }
     ensures turned { Turns T.rules (meaning step.now) result
-        (scene T.rules (O.written sink.old) (T.state stage.old))
-        (scene T.rules (O.written sink.new) (T.state stage.new)) }
-    ensures write { result ≡ Turn.Write → Rose (O.fault_count sink.old) (O.fault_count sink.new) }
-    ensures later { O.fault_count sink.old ≤ O.fault_count sink.new }
+        (scene T.rules (O.view sink.old).written (T.state stage.old))
+        (scene T.rules (O.view sink.new).written (T.state stage.new)) }
+    ensures write { result ≡ Turn.Write → Rose (O.view sink.old).faults (O.view sink.new).faults }
+    ensures later { (O.view sink.old).faults ≤ (O.view sink.new).faults }
 {
     if !fits(stage, step) {
         return Turn::NoFit;
@@ -64,11 +64,11 @@ fn play_step<T: Stage, O: Sink>(alloc: Global, stage: &mut T, step: &Step, sink:
 /// whole text of all before it.
 pub fn play<T: Stage, O: Sink>(alloc: Global, stage: &mut T, text: &[u8], sink: &mut O) -> PlayEnd
     ensures ended { Leaves T.rules (steps_of text.now) result
-        (scene T.rules (O.written sink.old) (T.state stage.old))
-        (scene T.rules (O.written sink.new) (T.state stage.new)) }
+        (scene T.rules (O.view sink.old).written (T.state stage.old))
+        (scene T.rules (O.view sink.new).written (T.state stage.new)) }
     ensures write { result ≡ PlayEnd.Write
-        → Rose (O.fault_count sink.old) (O.fault_count sink.new) }
-    ensures later { O.fault_count sink.old ≤ O.fault_count sink.new }
+        → Rose (O.view sink.old).faults (O.view sink.new).faults }
+    ensures later { (O.view sink.old).faults ≤ (O.view sink.new).faults }
 {
     let mut number = 1u64;
     let mut rest = text;

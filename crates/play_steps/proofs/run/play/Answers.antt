@@ -24,7 +24,7 @@ at_number r all start here number n m left e reached = subst (λ k. Reached r al
 
 pub loop-rest-init : goal.loop-rest-init
 loop-rest-init g c = record {
-  reached = begin g.T.Stage.rules (steps_of c.args.text.now) (scene g.T.Stage.rules (g.O.Sink.written c.args.sink.now) (g.T.Stage.state c.args.stage.now));
+  reached = begin g.T.Stage.rules (steps_of c.args.text.now) (scene g.T.Stage.rules (g.O.Sink.view c.args.sink.now).written (g.T.Stage.state c.args.stage.now));
   numbered = omega arith;
   later = omega arith;
 }
@@ -43,7 +43,7 @@ returns-in-NoFit-clause-ended g c =
     let turned = c.in-NoFit.ensures.turned in
     let here = at_step _ _ _ _ _ step (steps_of c.in-Some.after.now) turned.0
     (at_first _ _ _ _ _ _ _ (steps_first c.loop-rest.rest.now step c.in-Some.after.now first) c.loop-rest.invariant.reached) in
-    subst (Plays rules_of (steps_of c.args.text.now) (bad_line c.loop-rest.number) (scene rules_of (g.O.Sink.written c.args.sink.now) (g.T.Stage.state c.args.stage.now)))
+    subst (Plays rules_of (steps_of c.args.text.now) (bad_line c.loop-rest.number) (scene rules_of (g.O.Sink.view c.args.sink.now).written (g.T.Stage.state c.args.stage.now)))
     (sym turned.1) here
 
 pub returns-in-Write-clause-ended : goal.returns-in-Write-clause-ended
@@ -64,7 +64,7 @@ returns-in-Memory-clause-ended g c =
     let step = meaning c.in-Some.step in
     let first : first_step c.loop-rest.rest.now ≡ Some (step, c.in-Some.after.now) = search rules in
     let turned = c.in-Memory.ensures.turned in
-    let nothing = subst (λ w. Appends (g.O.Sink.written c.loop-rest.sink) w []) (sym turned.2) (appends_none (g.O.Sink.written c.loop-rest.sink)) in
+    let nothing = subst (λ w. Appends (g.O.Sink.view c.loop-rest.sink).written w []) (sym turned.2) (appends_none (g.O.Sink.view c.loop-rest.sink).written) in
     halted _ _ _ _ _ _ step (steps_of c.in-Some.after.now) turned.0 turned.1
     (at_first _ _ _ _ _ _ _ (steps_first c.loop-rest.rest.now step c.in-Some.after.now first) c.loop-rest.invariant.reached)
     [] (print turned.0) refl nothing
