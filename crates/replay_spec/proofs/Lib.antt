@@ -9,3 +9,11 @@ pub mod Follows
 pub mod Rise
 pub mod Held
 pub mod Last
+pub mod Numbered
+pub mod Found
+pub mod Ancestors
+pub mod Stand
+pub mod Landed
+pub mod Admitted
+pub mod Going
+pub mod Orderly

@@ -51,6 +51,16 @@ pub fn shadows_rise()
 
 // Of the books that events lead to.
 
+/// An empty book is orderly, and each lawful event keeps a book so, whatever its fate, with fewer unused numbers.
+pub fn orderly_books_stay()
+    ensures { OrderlyBooksStay }
+{}
+
+/// In an orderly book each instance has as many cells as its script.
+pub fn each_has_its_cells()
+    ensures { EachHasItsCells }
+{}
+
 // Of what a visit does and what it is answered.
 
 // Of the records that events leave.
