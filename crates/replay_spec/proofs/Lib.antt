@@ -17,3 +17,6 @@ pub mod Landed
 pub mod Admitted
 pub mod Going
 pub mod Orderly
+pub mod Sound
+pub mod Decided
+pub mod Steps

@@ -56,9 +56,27 @@ pub fn orderly_books_stay()
     ensures { OrderlyBooksStay }
 {}
 
+/// An empty book is sound, and each lawful event keeps a book so, whatever its fate.
+pub fn sound_books_stay()
+    ensures { SoundBooksStay }
+{}
+
+/// Each book that lawful events lead to from an empty one is sound and of the same shelf. What is said of sound books
+/// holds of these, at each moment of each run, over crashes and under rules and setups that change.
+pub fn reached_books_are_sound()
+    ensures { ReachedBooksAreSound }
+{}
+
 /// In an orderly book each instance has as many cells as its script.
 pub fn each_has_its_cells()
     ensures { EachHasItsCells }
+{}
+
+/// In a sound book the chain of a page is all of its ancestors from the root on, and then the page, and it replays: the
+/// script, run from its start over it, shows a page inside the transactions that the page keeps, and reads just what was
+/// recorded.
+pub fn each_chain_replays()
+    ensures { EachChainReplays }
 {}
 
 // Of what a visit does and what it is answered.
