@@ -20,3 +20,6 @@ pub mod Orderly
 pub mod Sound
 pub mod Decided
 pub mod Steps
+pub mod Local
+pub mod Stays
+pub mod Refused

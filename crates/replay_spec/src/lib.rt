@@ -79,7 +79,28 @@ pub fn each_chain_replays()
     ensures { EachChainReplays }
 {}
 
+/// A page that was shown stands as long as its instance does, behind the pages that it had behind it.
+pub fn pages_stay()
+    ensures { PagesStay }
+{}
+
+/// The clock never falls, and what is expired stays so.
+pub fn the_clock_never_falls()
+    ensures { TheClockNeverFalls }
+{}
+
 // Of what a visit does and what it is answered.
+
+/// A take that is not answered with a ticket changes nothing, a publish that neither shows a page nor ends only spends
+/// its number, and a sweep that is refused changes nothing; a disk's fault leaves in doubt just what was decided.
+pub fn refused_is_unchanged()
+    ensures { RefusedIsUnchanged }
+{}
+
+/// A start changes the book only by a page that it shows.
+pub fn a_start_opens_or_leaves()
+    ensures { AStartOpensOrLeaves }
+{}
 
 // Of the records that events leave.
 
