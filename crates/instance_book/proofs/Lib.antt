@@ -1,6 +1,3 @@
 pub mod Orders
-pub mod Viewed
-pub mod InPlace
-pub mod Links
-pub mod Lands
-pub mod Admitted
+pub mod Lists
+pub mod Seen
