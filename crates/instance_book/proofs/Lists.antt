@@ -1,5 +1,6 @@
 -- Things in the order of their numbers.
-use Rattle.std.proofs.Common.{◌≡◌, ◌∙◌, ap, sym, subst, ℕ, zero, suc, ◌<◌, ◌≤◌, ◌==◌, not, take, List, [], ◌∷◌, length, get_or, set, map, filter, Some, None, Result, Ok, Err, IsOk, is_ok, slice_get, refl, arith, Bool, true, if◌then◌else◌}
+use Rattle.std.proofs.Common.{◌≡◌, ◌∙◌, ap, sym, subst, ℕ, zero, suc, ◌<◌, ◌≤◌, ◌==◌, not, take, List, [], ◌∷◌, length, get_or, set, map, filter, Some, None, Result, Ok, Err, IsOk, is_ok, slice_get, refl, arith, Bool, true, if◌then◌else◌, IfNone}
+use Rattle.std.specs.Result.{result_ok}
 use Rattle.std.specs.List.{AllByRecursion, insert, remove}
 use Rattle.std.proofs.lemmas.Bool.Decides.{nat_tests}
 use Rattle.replay_spec.specs.Book.{at_number}
@@ -52,6 +53,10 @@ module _ {T : Type 0} where
   pub told : (xs : List (Numbered T)) (n : ℕ) (r : Result ℕ ℕ) → Finds (numbers_of xs) n r → is_ok r ≡ is_one n (numbers_of xs)
   told xs n (Ok at) f = sym (one_found (numbers_of xs) n at f.found)
   told xs n (Err at) f = sym (none_found (numbers_of xs) n (gap_has_none (numbers_of xs) n at f.absent))
+
+  pub told_none : (xs : List (Numbered T)) (n : ℕ) (r : Result ℕ ℕ) → Finds (numbers_of xs) n r → IfNone (result_ok r) (at_number (λ thing. thing.number) n xs ≡ None)
+  told_none xs n (Ok at) f = tt
+  told_none xs n (Err at) f = none_at xs n at f.absent
 
   -- one more in its place
   pub put_at : (xs : List (Numbered T)) (x : Numbered T) (place : ℕ) → Rises (numbers_of xs) → IsAt (numbers_of xs) x.number place → set xs place x ≡ put_in_order (λ thing. thing.number) x xs

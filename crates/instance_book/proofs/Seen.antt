@@ -1,17 +1,20 @@
 -- Things in the order of their numbers, as the definitions see them.
-use Rattle.std.proofs.Common.{◌≡◌, ◌∙◌, ap, sym, subst, ℕ, zero, suc, ◌<◌, ◌≤◌, ◌+◌, ◌==◌, not, List, [], ◌∷◌, length, get_or, set, map, filter, Option, Some, None, option_map, refl, arith, Bool}
+use Rattle.std.proofs.Common.{◌≡◌, ◌∙◌, ap, sym, subst, ℕ, zero, suc, ◌<◌, ◌≤◌, ◌+◌, ◌==◌, not, List, [], ◌∷◌, ◌++◌, length, get_or, set, take, map, filter, Option, Some, None, option_map, refl, arith, Bool, IfSome}
 use Rattle.std.specs.Borrow.{Bor}
 use Rattle.std.specs.Option.{option_copied}
 use Rattle.std.specs.List.{AllByRecursion}
 use Rattle.std.proofs.lemmas.Bool.Decides.{nat_tests}
+use Rattle.std.proofs.lemmas.List.{map-append}
 use Rattle.script_nodes.specs.Setup.{Named}
-use Rattle.replay_spec.specs.Book.{Page, Instance, at_number, instance_at, page_at}
+use Rattle.replay_spec.specs.Book.{Page, Instance, Doubt, at_number, instance_at, page_at}
 use Rattle.replay_spec.specs.Change.{put_in_order, put_page, put_instance, mend, without}
 use Rattle.instance_book.specs.declared.numbered.Numbered.{Numbered}
 use Rattle.instance_book.specs.declared.page.KeptPage.{KeptPage}
 use Rattle.instance_book.specs.declared.instance.KeptInstance.{KeptInstance}
 use Rattle.instance_book.specs.Orders.{Rises, IsAt, numbers_of}
-use Rattle.instance_book.specs.Views.{page_of, instance_of, instance_with, HasRoomAt}
+use Rattle.instance_book.specs.declared.book.Book.{Book}
+use Rattle.instance_book.specs.Views.{page_of, instance_of, book_of}
+use Rattle.instance_book.specs.Swept.{cells_in, cells_at}
 use Rattle.instance_book.specs.Places.{IsPlaced}
 use Rattle.instance_book.proofs.Orders.{Ascends, rises, ascends}
 use Rattle.instance_book.proofs.Lists.{got, within, first_at}
@@ -43,7 +46,7 @@ module _ {T B : Type 0} (number_of : B → ℕ) (view : Numbered T → B) (same 
   -- the numbers, and copies that rise as their sources do
   numbers_seen : (xs : List (Numbered T)) → numbers_of xs ≡ map number_of (map view xs)
   numbers_seen [] = refl
-  numbers_seen (x ∷ xs) = grind (same x, numbers_seen xs)
+  numbers_seen (x ∷ xs) = cc (same x, numbers_seen xs)
 
   pub same_numbers : (xs ys : List (Numbered T)) → map view xs ≡ map view ys → numbers_of xs ≡ numbers_of ys
   same_numbers xs ys e = numbers_seen xs ∙ (ap (map number_of) e ∙ sym (numbers_seen ys))
@@ -70,6 +73,12 @@ module _ (scripts : List Named) where
   pub instance_seen : (n : ℕ) (xs : List (Numbered KeptInstance)) (r : Option (Bor (Numbered KeptInstance))) → option_copied r ≡ at_number (λ thing. thing.number) n xs
       → option_map (λ i. instance_of scripts i.now) r ≡ instance_at n (map (instance_of scripts) xs)
   instance_seen n xs r h = found (λ (i : Instance). i.number) view (λ x. refl) n xs r h
+
+  pub instance_some : (n : ℕ) (xs : List (Numbered KeptInstance)) (x : Numbered KeptInstance) → at_number (λ thing. thing.number) n xs ≡ Some x → instance_at n (map (instance_of scripts) xs) ≡ Some (instance_of scripts x)
+  instance_some n xs x h = seen_some (λ (i : Instance). i.number) view (λ y. refl) n xs x h
+
+  pub instance_none : (n : ℕ) (xs : List (Numbered KeptInstance)) → at_number (λ thing. thing.number) n xs ≡ None → instance_at n (map (instance_of scripts) xs) ≡ None
+  instance_none n xs h = seen_none (λ (i : Instance). i.number) view (λ y. refl) n xs h
 
   pub instance_put : (x : Numbered KeptInstance) (xs : List (Numbered KeptInstance)) → map (instance_of scripts) (put_in_order (λ thing. thing.number) x xs) ≡ put_instance (instance_of scripts x) (map (instance_of scripts) xs)
   instance_put x xs = seen_put (λ (i : Instance). i.number) view (λ y. refl) x xs
@@ -113,7 +122,7 @@ module _ (scripts : List Named) where
 
   pub placed_kept : (p : Numbered KeptInstance → Bool) (xs : List (Numbered KeptInstance)) → AllByRecursion (IsPlaced scripts) xs → AllByRecursion (IsPlaced scripts) (filter p xs)
   placed_kept p [] all = tt
-  placed_kept p (x ∷ xs) all = grind (all.0, all.1, placed_kept p xs all.1)
+  placed_kept p (x ∷ xs) all = grind (arith, all.0, all.1, placed_kept p xs all.1)
 
   pub placed_set : (xs : List (Numbered KeptInstance)) (place : ℕ) (x y : Numbered KeptInstance) → x ≡ get_or xs place x → place < length xs → y.item.script ≡ x.item.script
       → AllByRecursion (IsPlaced scripts) xs → AllByRecursion (IsPlaced scripts) (set xs place y)
@@ -124,6 +133,39 @@ module _ (scripts : List Named) where
   pub placed_at : (xs : List (Numbered KeptInstance)) (n : ℕ) (x : Numbered KeptInstance) → AllByRecursion (IsPlaced scripts) xs → at_number (λ thing. thing.number) n xs ≡ Some x → IsPlaced scripts x
   placed_at [] n x all h = absurd (cc)
   placed_at (y ∷ ys) n x all h = grind (arith, nat_tests, h, all.0, placed_at ys n x all.1)
+
+pub placed_found : (scripts : List Named) (n : ℕ) (xs : List (Numbered KeptInstance)) (r : Option (Bor (Numbered KeptInstance))) → option_copied r ≡ at_number (λ thing. thing.number) n xs
+    → AllByRecursion (IsPlaced scripts) xs → IfSome r (λ i. IsPlaced scripts i.now)
+placed_found scripts n xs None h all = tt
+placed_found scripts n xs (Some x) h all = placed_at scripts xs n x.now all (sym h)
+
+-- the cells that are kept are those of the book
+pub cells_seen : (scripts : List Named) (journal : ℕ) (down : Option Doubt) (n : ℕ) (b : Book) → cells_at n b ≡ cells_in n (book_of scripts journal down b)
+cells_seen scripts journal down n b = kept b.instances.things.items
+  where
+    kept : (xs : List (Numbered KeptInstance)) → option_map (λ i. i.item.cells) (at_number (λ i. i.number) n xs) ≡ option_map (λ i. i.cells) (instance_at n (map (instance_of scripts) xs))
+    kept [] = refl
+    kept (x ∷ xs) = grind (arith, nat_tests, kept xs)
+
+-- one copy more
+taken_more : {A : Type 0} (xs : List A) (i : ℕ) (x : A) → i < length xs → x ≡ get_or xs i x → take (i + 1) xs ≡ take i xs ++ x ∷ []
+taken_more [] i x h is = absurd (omega arith)
+taken_more (y ∷ ys) zero x h is = ap (λ z. z ∷ []) (sym is)
+taken_more (y ∷ ys) (suc i) x h is =
+    let next : suc i + 1 ≡ suc (i + 1) = omega arith in rw next (ap (λ zs. y ∷ zs) (taken_more ys i x (omega arith) is))
+
+pub copied_more : {A B : Type 0} (f : A → B) (xs ys : List A) (i : ℕ) (x y : A) → map f ys ≡ map f (take i xs) → i < length xs → x ≡ get_or xs i x → f y ≡ f x
+    → map f (ys ++ y ∷ []) ≡ map f (take (i + 1) xs)
+copied_more f xs ys i x y same h is e =
+    map-append f ys (y ∷ []) ∙ (ap (λ zs. zs ++ f y ∷ []) same ∙ (ap (λ z. map f (take i xs) ++ z ∷ []) e ∙ (sym (map-append f (take i xs) (x ∷ [])) ∙ ap (map f) (sym (taken_more xs i x h is)))))
+
+pub placed_by_scripts : (scripts : List Named) (xs ys : List (Numbered KeptInstance)) → map (λ i. i.item.script) xs ≡ map (λ i. i.item.script) ys → AllByRecursion (IsPlaced scripts) ys → AllByRecursion (IsPlaced scripts) xs
+placed_by_scripts scripts [] ys e all = tt
+placed_by_scripts scripts (x ∷ xs) [] e all = absurd (cc)
+placed_by_scripts scripts (x ∷ xs) (y ∷ ys) e all =
+    let first : x.item.script ≡ y.item.script = cc in
+    let rest : map (λ i. i.item.script) xs ≡ map (λ i. i.item.script) ys = cc in
+    (subst (λ k. k < length scripts) (sym first) all.0, placed_by_scripts scripts xs ys rest all.1)
 
 pub rises_with_instances : (xs ys : List (Numbered KeptInstance)) → map (instance_of []) xs ≡ map (instance_of []) ys → Rises (numbers_of ys) → Rises (numbers_of xs)
 rises_with_instances xs ys e rise = subst Rises (sym (same_numbers (λ (i : Instance). i.number) (instance_of []) (λ y. refl) xs ys e)) rise
@@ -153,6 +195,9 @@ first_set xs n place x y rise at is e = written xs place (ascends (numbers_of xs
 pub length_seen : {T B : Type 0} (view : Numbered T → B) (xs : List (Numbered T)) → length (map view xs) ≡ length xs
 length_seen view [] = refl
 length_seen view (x ∷ xs) = ap suc (length_seen view xs)
+
+pub same_length : (xs ys : List (Numbered KeptInstance)) → map (instance_of []) xs ≡ map (instance_of []) ys → length xs ≡ length ys
+same_length xs ys e = sym (length_seen (instance_of []) xs) ∙ (ap (λ (is : List Instance). length is) e ∙ length_seen (instance_of []) ys)
 
 pub length_mend : (n : ℕ) (f : Instance → Instance) (is : List Instance) → length (mend n f is) ≡ length is
 length_mend n f [] = refl

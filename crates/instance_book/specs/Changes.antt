@@ -124,18 +124,26 @@ instances_with scripts (Extends x) is = mend x.instance (shown_with x.show) is
 instances_with scripts (Ends e) is = mend e.instance (ended_with e.after) is
 instances_with scripts (Finishes f) is = without f.instance is
 
+abbrev pub instances_after : List Named → Option Change → List spec.Instance → List spec.Instance
+instances_after scripts None is = is
+instances_after scripts (Some c) is = instances_with scripts c is
+
 -- the book behind a change, and behind all that is prepared
 abbrev pub changed_by : List Named → Option Change → spec.Book → spec.Book
-changed_by scripts None b = b
-changed_by scripts (Some c) b = record b { instances = instances_with scripts c b.instances }
+changed_by scripts c b = record b { instances = instances_after scripts c b.instances }
 
 abbrev pub put_into : List Named → Prepared → spec.Book → spec.Book
-put_into scripts p b = record (changed_by scripts p.change b) { logged = max b.logged p.logged }
+put_into scripts p b =
+    record (changed_by scripts p.change b) { logged = max b.logged p.logged }
 
 -- the room that it takes is there
+pub record HasRoomToOpen (o : Opening) (b : Book) : Type 0 where
+  pub page : HasRoom o.instance.pages
+  pub instance : HasRoom b.instances
+  pub few : length b.instances.things.items + 1 < 2 ^ 32
+
 abbrev pub HasRoomWith : Change → Book → Type 0
-HasRoomWith (Opens o) b =
-    HasRoom o.instance.pages × HasRoom b.instances × (length b.instances.things.items + 1 < 2 ^ 32)
+HasRoomWith (Opens o) b = HasRoomToOpen o b
 HasRoomWith (Extends x) b = HasRoomAt x.instance b.instances
 HasRoomWith (Ends e) b = ⊤
 HasRoomWith (Finishes f) b = ⊤

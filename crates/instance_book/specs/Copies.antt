@@ -10,7 +10,7 @@ use Rattle.instance_book.specs.declared.prepared.Change.{Change}
 use Rattle.instance_book.specs.declared.book.Book.{Book}
 use Rattle.instance_book.specs.Orders.{numbers_of}
 use Rattle.instance_book.specs.Views.{page_of, pages_of, instance_with}
-use Rattle.instance_book.specs.Changes.{shown_with, change_of, inside_of, decision_of, changed_by, HasRoomWith, HasRoomFor, OpensPlaced, IsPlacedBy, instances_with}
+use Rattle.instance_book.specs.Changes.{shown_with, change_of, inside_of, decision_of, instances_after, HasRoomWith, HasRoomFor, OpensPlaced, IsPlacedBy, instances_with}
 
 -- the same instance under each number and setup
 abbrev pub IsSameInstance : (i copy : KeptInstance) → Type 0
@@ -34,6 +34,6 @@ pub record IsSame (p copy : Prepared) : Type 0 where
   pub reply : copy.reply ≡ p.reply
   pub logged : copy.logged ≡ p.logged
   pub decision : decision_of copy ≡ decision_of p
-  pub instances : (scripts : List Named) (b : spec.Book) → changed_by scripts copy.change b ≡ changed_by scripts p.change b
+  pub instances : (scripts : List Named) (is : List spec.Instance) → instances_after scripts copy.change is ≡ instances_after scripts p.change is
   pub room : (b : Book) → HasRoomFor p.change b → HasRoomFor copy.change b
   pub placed : (scripts : List Named) → IsPlacedBy scripts p.change → IsPlacedBy scripts copy.change

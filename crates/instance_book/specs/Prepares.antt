@@ -132,11 +132,11 @@ OpensWith (Some (Opens o)) f = (scripts : List Named) → begun_with scripts o �
 OpensWith _ f = ⊥
 
 abbrev pub ExtendsBy : Option Change → spec.Instance → (spec.Instance → spec.Instance) → Type 0
-ExtendsBy (Some (Extends x)) i f = shown_with x.show i ≡ f i
+ExtendsBy (Some (Extends x)) i f = (x.instance ≡ i.number) × (shown_with x.show i ≡ f i)
 ExtendsBy _ i f = ⊥
 
 abbrev pub EndsBy : Option Change → spec.Instance → (spec.Instance → spec.Instance) → Type 0
-EndsBy (Some (Ends e)) i f = ended_with e.after i ≡ f i
+EndsBy (Some (Ends e)) i f = (e.instance ≡ i.number) × (ended_with e.after i ≡ f i)
 EndsBy _ i f = ⊥
 
 -- a segment's number is logged, and this was decided

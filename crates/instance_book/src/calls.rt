@@ -68,8 +68,7 @@ impl Book {
 
     /// The present cells of an instance, where there is a live one of this number. It takes no memory.
     pub fn cells(&self, instance: u64) -> Option<&Cells>
-        ensures cells { option_map (λ cells. cells.now) result ≡ cells_at instance self.now }
-        ensures seen { (scripts : List Named) (journal : ℕ) (down : Option spec.Doubt) → option_map (λ cells. cells.now) result ≡ cells_in instance (book_of scripts journal down self.now) }
+        ensures { option_map (λ cells. cells.now) result ≡ cells_at instance self.now }
     {
         let instance = self.instances.get(instance)?;
         Some(&instance.item.cells)

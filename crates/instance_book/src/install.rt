@@ -40,11 +40,14 @@ impl Opening {
 
 impl Book {
     // The change, for which there is room.
-    fn change(&mut self, change: Change)
-        requires { HasRoomFor (Some change) self.old }
-        ensures book { (scripts : List Named) (journal : ℕ) (down : Option Doubt) → book_of scripts journal down self.new ≡ changed_by scripts (Some change) (book_of scripts journal down self.old) }
-        ensures placed { (scripts : List Named) → IsPlacedBy scripts (Some change) → HasPlaces scripts self.old → HasPlaces scripts self.new }
+    fn change(&mut self, change: Option<Change>)
+        requires { HasRoomFor change self.old }
+        ensures book { (scripts : List Named) (journal : ℕ) (down : Option Doubt) → book_of scripts journal down self.new ≡ changed_by scripts change (book_of scripts journal down self.old) }
+        ensures placed { (scripts : List Named) → IsPlacedBy scripts change → HasPlaces scripts self.old → HasPlaces scripts self.new }
     {
+        let Some(change) = change else {
+            return;
+        };
         match change {
             Change::Opens(opening) => self.instances.put_instance(opening.begin()),
             Change::Extends(extension) => self.instances.show(extension.instance, extension.show),
@@ -67,9 +70,7 @@ impl Book {
             logged,
             change,
         } = prepared;
-        if let Some(change) = change {
-            self.change(change);
-        }
+        self.change(change);
         self.logged = self.logged.max(logged);
         reply
     }

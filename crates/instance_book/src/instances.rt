@@ -1,4 +1,4 @@
-ghost use Rattle.std.specs.Prelude.{◌≡◌, List, filter, option_map, OnOk};
+ghost use Rattle.std.specs.Prelude.{◌≡◌, List, filter, option_map, IfSome, OnOk};
 ghost use Rattle.script_nodes.specs.Setup.{Named};
 ghost use Rattle.replay_spec.specs.Book.{instance_at, is_live};
 ghost use Rattle.replay_spec.specs.Change.{put_instance, mend, without};
@@ -16,7 +16,8 @@ use std::alloc::AllocError;
 impl InOrder<KeptInstance> {
     /// The instance of a number.
     pub fn instance(&self, number: u64) -> Option<&Numbered<KeptInstance>>
-        ensures { (scripts : List Named) → option_map (λ i. instance_of scripts i.now) result ≡ instance_at number (instances_of scripts self.now) }
+        ensures instance { (scripts : List Named) → option_map (λ i. instance_of scripts i.now) result ≡ instance_at number (instances_of scripts self.now) }
+        ensures placed { (scripts : List Named) → ArePlaced scripts self.now → IfSome result (λ i. IsPlaced scripts i.now) }
     {
         self.get(number)
     }
@@ -64,8 +65,9 @@ impl InOrder<KeptInstance> {
         ensures instances { (scripts : List Named) → instances_of scripts self.new ≡ mend number (ended_with after) (instances_of scripts self.old) }
         ensures placed { StayPlaced self.old self.new }
     {
-        if let Some(place) = self.place(number) {
-            self.things[place].item.end(after);
+        match self.place(number) {
+            Some(place) => self.things[place].item.end(after),
+            None => (),
         }
     }
 
@@ -75,8 +77,9 @@ impl InOrder<KeptInstance> {
         ensures instances { (scripts : List Named) → instances_of scripts self.new ≡ mend number (shown_with show) (instances_of scripts self.old) }
         ensures placed { StayPlaced self.old self.new }
     {
-        if let Some(place) = self.place(number) {
-            self.things[place].item.show(show);
+        match self.place(number) {
+            Some(place) => self.things[place].item.show(show),
+            None => (),
         }
     }
 }

@@ -1,0 +1,24 @@
+use Rattle.std.proofs.Common.{◌∙◌, ap, sym, arith}
+use Rattle.page_names.specs.Views.{name_of, target_of}
+use Rattle.page_names.specs.declared.names.Target.{Target}
+use Rattle.segments.specs.Views.{segment_of}
+use Rattle.replay_spec.specs.Admission.{admit}
+use Rattle.instance_book.specs.Views.{book_of}
+use Rattle.instance_book.proofs.Admitted.{start_prepared, page_prepared}
+use Rattle.instance_book.proofs.book.Book.prepare.Goals as goal
+
+pub prepare_start-requires-clause-number : goal.prepare_start-requires-clause-number
+prepare_start-requires-clause-number c = omega (arith, c.args.self.now.below c.args.ticket.now.number c.requires.out, c.args.self.now.numbers)
+
+pub prepare_page-requires-clause-number : goal.prepare_page-requires-clause-number
+prepare_page-requires-clause-number c = omega (arith, c.args.self.now.below c.args.ticket.now.number c.requires.out, c.args.self.now.numbers)
+
+pub returns-in-Start-clause-decided : goal.returns-in-Start-clause-decided
+returns-in-Start-clause-decided c scripts journal down fuel a adm admitted fits =
+    start_prepared scripts journal down fuel c.args.life c.args.instances c.args.pages c.args.self.now c.args.ticket.now (segment_of c.args.segment) c.prepare_start.result (name_of c.in-Start.field-0) a
+    (ap (λ (t : Target). admit (book_of scripts journal down c.args.self.now) (target_of t)) (sym c.in-Start.is) ∙ adm) admitted fits c.prepare_start.ensures.decided
+
+pub returns-in-Page-clause-decided : goal.returns-in-Page-clause-decided
+returns-in-Page-clause-decided c scripts journal down fuel a adm admitted fits =
+    page_prepared scripts journal down fuel c.args.life c.args.instances c.args.pages c.args.self.now c.args.ticket.now (segment_of c.args.segment) c.prepare_page.result (name_of c.in-Page.field-0) c.in-Page.page a
+    (ap (λ (t : Target). admit (book_of scripts journal down c.args.self.now) (target_of t)) (sym c.in-Page.is) ∙ adm) admitted fits c.prepare_page.ensures.decided
