@@ -216,6 +216,6 @@ admitted_sound rules b t (resumes at) g h =
 admitted_sound rules b t (refused r) g h = tt
 
 -- so is what a publish records
-pub recorded_sound_of : (rules : Rules) (b : Book) (t : Ticket) (c : Change) (inside : List TxName) → IsSound b → Records rules b t c inside
+pub recorded_sound_of : {lawful : Type 0} (rules : Rules) (b : Book) (t : Ticket) (c : Change) (inside : List TxName) → IsSound b → Records lawful rules b t c inside
     → IsSoundChange b.scripts b.shelf b.instances c inside
 recorded_sound_of rules b t c inside g h = subst (IsSoundDecision b) h.decided (admitted_sound rules b t (admit b t.target) g (says b t.target))

@@ -35,7 +35,7 @@ none_of : (n : ℕ) (ps : List Page) → page_at n ps ≡ None → is_one n (map
 none_of n [] none = refl
 none_of n (q ∷ ps) none = grind (arith, nat_tests, none_of n ps)
 
-none_newly : (kind : SendKind) (n : ℕ) (ps : List Page) (revoked : List ℕ) → page_at n ps ≡ None → is_one n revoked ≡ false → is_one n (revoked_by kind ps revoked) ≡ false
+pub none_newly : (kind : SendKind) (n : ℕ) (ps : List Page) (revoked : List ℕ) → page_at n ps ≡ None → is_one n revoked ≡ false → is_one n (revoked_by kind ps revoked) ≡ false
 none_newly Suspend n ps revoked none h = h
 none_newly Forward n ps revoked none h = none_of n ps none
 

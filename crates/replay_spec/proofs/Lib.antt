@@ -23,3 +23,8 @@ pub mod Steps
 pub mod Local
 pub mod Stays
 pub mod Refused
+pub mod Lands
+pub mod Numbers
+pub mod Differ
+pub mod Revoked
+pub mod Closing

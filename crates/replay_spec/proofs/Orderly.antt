@@ -78,7 +78,7 @@ decided_by rules b t (resumes at) h =
 decided_by rules b t (refused r) h = tt
 
 -- so is what a publish records
-pub recorded_orderly : (rules : Rules) (b : Book) (t : Ticket) (c : Change) (inside : List TxName) → Records rules b t c inside
+pub recorded_orderly : {lawful : Type 0} (rules : Rules) (b : Book) (t : Ticket) (c : Change) (inside : List TxName) → Records lawful rules b t c inside
     → IsOrderlyChange b.clock b.instances c × IsOf t.number c
 recorded_orderly rules b t c inside h = subst (IsOrderlyDecision b t.number) h.decided (decided_by rules b t (admit b t.target) (says b t.target))
 
@@ -252,19 +252,19 @@ kept rules scripts b doubt g down =
     landed b (reopened_with scripts (land rules doubt.change doubt.inside b)) doubt.change doubt.inside g (subst (IsOrderlyDoubt b.clock b.instances) down g.doubt)
     (is_doubted b doubt down) refl refl refl refl (kept_fewer rules scripts b doubt) (λ m h. absurd h) tt (omega arith)
 
-pub went : (rules : Rules) (b d : Book) (o : Option Change) → Goes rules b o d → IsOrderly b → Later b d
-went rules b d o stays g = same b g
-went rules b d o draws g = drawn b g
-went rules b d o (spends n out) g = spent b n g
-went rules b d o (publishes t c inside h) g = let fits = recorded_orderly rules b t c inside h in published rules b t.number c inside g h.out h.up fits.0 fits.1
-went rules b d o (fails count t c inside h) g = let fits = recorded_orderly rules b t c inside h in failed b count t.number c inside g h.out fits.0 fits.1
-went rules b d o (goes_to tick later up) g = swept rules b tick g later up
-went rules b d o (fails_at count tick later up) g = failed_at b count tick g later
-went rules b d o (keeps scripts doubt down) g = kept rules scripts b doubt g down
-went rules b d o (loses scripts) g = lost b scripts g
+pub went : {lawful : Type 0} (rules : Rules) (b d : Book) (o : Option Change) → Goes lawful rules b o d → lawful → IsOrderly b → Later b d
+went rules b d o stays l g = same b g
+went rules b d o draws l g = drawn b g
+went rules b d o (spends n out) l g = spent b n g
+went rules b d o (publishes t c inside h) l g = let fits = recorded_orderly rules b t c inside h in published rules b t.number c inside g (h.out l) h.up fits.0 fits.1
+went rules b d o (fails count t c inside h) l g = let fits = recorded_orderly rules b t c inside h in failed b count t.number c inside g (h.out l) fits.0 fits.1
+went rules b d o (goes_to tick later up) l g = swept rules b tick g later up
+went rules b d o (fails_at count tick later up) l g = failed_at b count tick g later
+went rules b d o (keeps scripts doubt down) l g = kept rules scripts b doubt g down
+went rules b d o (loses scripts) l g = lost b scripts g
 
 pub stepped : (m : Moment) (b : Book) → IsOrderly b → IsLawful m.event b → Later b (then_book m b)
-stepped m b g lawful = went m.rules b (then_book m b) (lands m.rules b m.event m.fate) (goes m.rules b m.nonce m.event m.fate lawful) g
+stepped m b g lawful = went m.rules b (then_book m b) (lands m.rules b m.event m.fate) (goes m.rules b m.nonce m.event m.fate) lawful g
 
 pub later_then : (b c d : Book) → Later b c → Later c d → Later b d
 later_then b c d one two = record {

@@ -57,27 +57,27 @@ landed b d c inside g later sound here is up fewer =
       named = subst (SinceNamed (Unused b) b.instances) (sym is) all.1;
     }
 
-went_on : (rules : Rules) (b d : Book) (o : Option Change) → Goes rules b o d → IsSound b → Later b d → Well b d
-went_on rules b d o stays g later = still b b g later refl refl g.doubt
-went_on rules b d o draws g later = still b (draw b) g later refl refl g.doubt
-went_on rules b d o (spends n out) g later = still b (spend n b) g later refl refl g.doubt
-went_on rules b d o (publishes t c inside h) g later =
+went_on : {lawful : Type 0} (rules : Rules) (b d : Book) (o : Option Change) → Goes lawful rules b o d → lawful → IsSound b → Later b d → Well b d
+went_on rules b d o stays l g later = still b b g later refl refl g.doubt
+went_on rules b d o draws l g later = still b (draw b) g later refl refl g.doubt
+went_on rules b d o (spends n out) l g later = still b (spend n b) g later refl refl g.doubt
+went_on rules b d o (publishes t c inside h) l g later =
     let fits = recorded_orderly rules b t c inside h in
-    landed b (land rules c inside (spend t.number b)) c inside g later (recorded_sound_of rules b t c inside g h) (is_out b t.number c h.out fits.1) refl h.up
+    landed b (land rules c inside (spend t.number b)) c inside g later (recorded_sound_of rules b t c inside g h) (is_out b t.number c (h.out l) fits.1) refl h.up
     (published_fewer rules b t.number c inside h.up fits.1)
-went_on rules b d o (fails count t c inside h) g later = still b (doubting count c inside (spend t.number b)) g later refl refl (recorded_sound_of rules b t c inside g h)
-went_on rules b d o (goes_to tick after up) g later = landed b (land rules (sweeps tick) [] b) (sweeps tick) [] g later tt (λ m e. absurd e) refl up (swept_fewer rules b tick up)
-went_on rules b d o (fails_at count tick after up) g later = still b (doubting count (sweeps tick) [] b) g later refl refl tt
-went_on rules b d o (keeps scripts doubt down) g later =
+went_on rules b d o (fails count t c inside h) l g later = still b (doubting count c inside (spend t.number b)) g later refl refl (recorded_sound_of rules b t c inside g h)
+went_on rules b d o (goes_to tick after up) l g later = landed b (land rules (sweeps tick) [] b) (sweeps tick) [] g later tt (λ m e. absurd e) refl up (swept_fewer rules b tick up)
+went_on rules b d o (fails_at count tick after up) l g later = still b (doubting count (sweeps tick) [] b) g later refl refl tt
+went_on rules b d o (keeps scripts doubt down) l g later =
     landed b (reopened_with scripts (land rules doubt.change doubt.inside b)) doubt.change doubt.inside g later
     (subst (IsSoundDoubt b.scripts b.shelf b.instances) down g.doubt) (is_doubted b doubt down) refl refl (kept_fewer rules scripts b doubt)
-went_on rules b d o (loses scripts) g later = lost b scripts g later
+went_on rules b d o (loses scripts) l g later = lost b scripts g later
 
-pub went : (rules : Rules) (b d : Book) (o : Option Change) → Goes rules b o d → IsSound b → Well b d
-went rules b d o h g = went_on rules b d o h g (orderly.went rules b d o h g.orderly)
+pub went : {lawful : Type 0} (rules : Rules) (b d : Book) (o : Option Change) → Goes lawful rules b o d → lawful → IsSound b → Well b d
+went rules b d o h l g = went_on rules b d o h l g (orderly.went rules b d o h l g.orderly)
 
 pub stepped : (m : Moment) (b : Book) → IsSound b → IsLawful m.event b → Well b (then_book m b)
-stepped m b g lawful = went m.rules b (then_book m b) (lands m.rules b m.event m.fate) (goes m.rules b m.nonce m.event m.fate lawful) g
+stepped m b g lawful = went m.rules b (then_book m b) (lands m.rules b m.event m.fate) (goes m.rules b m.nonce m.event m.fate) lawful g
 
 then_well : (b c d : Book) → Well b c → Well c d → Well b d
 then_well b c d one two = record {

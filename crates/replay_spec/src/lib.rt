@@ -89,6 +89,17 @@ pub fn the_clock_never_falls()
     ensures { TheClockNeverFalls }
 {}
 
+/// No number is used twice, also over crashes.
+pub fn no_number_twice()
+    ensures { NoNumberTwice }
+{}
+
+/// The numbers that are out are those of the tickets that were taken and not published, each with the target, answer and
+/// nonce of its take.
+pub fn tickets_are_out()
+    ensures { TicketsAreOut }
+{}
+
 // Of what a visit does and what it is answered.
 
 /// A take that is not answered with a ticket changes nothing, a publish that neither shows a page nor ends only spends
@@ -100,6 +111,28 @@ pub fn refused_is_unchanged()
 /// A start changes the book only by a page that it shows.
 pub fn a_start_opens_or_leaves()
     ensures { AStartOpensOrLeaves }
+{}
+
+/// After an event that left a transaction none leaves it, and each on a page inside it is refused without effect.
+pub fn closed_is_closed()
+    ensures { ClosedIsClosed }
+{}
+
+/// What revokes a page is a forward of its instance, and it revokes every page that is there, and not its own; a revoked
+/// page stays so.
+pub fn a_forward_revokes()
+    ensures { AForwardRevokes }
+{}
+
+/// The names that a page is inside are all different, where the fuel is too little for the count of a segment's
+/// transactions to stand still.
+pub fn names_stay_different()
+    ensures { NamesStayDifferent }
+{}
+
+/// A page is inside no closed transaction when it is shown, those included that its own segment left.
+pub fn shown_is_open()
+    ensures { ShownIsOpen }
 {}
 
 // Of the records that events leave.
