@@ -28,3 +28,6 @@ pub mod Numbers
 pub mod Differ
 pub mod Revoked
 pub mod Closing
+pub mod Freeing
+pub mod Answered
+pub mod Shown

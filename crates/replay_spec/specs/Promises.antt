@@ -48,7 +48,7 @@ AShownPageIsAdmitted =
 -- Nothing else closes a transaction in an instance than a segment that left it.
 abbrev pub NothingElseCloses : Type 0
 NothingElseCloses =
-    (b : Book) (m : Moment) → IsSound b → IsLawful m.event b → (k : ℕ) (t : TxName)
+    (b : Book) (m : Moment) → IsSound b → (k : ℕ) (t : TxName)
     → ClosedIn (then_book m b).instances k t → ClosedIn b.instances k t ⊎ Leaves t b m
 
 -- by the event this instance finishes; or time goes on to a tick at which all its pages are expired
@@ -65,7 +65,7 @@ pub record Expires (b : Book) (m : Moment) (i : Instance) : Type 0 where
 -- Nothing else frees an instance.
 abbrev pub NothingElseFrees : Type 0
 NothingElseFrees =
-    (b : Book) (m : Moment) → IsOrderly b → IsLawful m.event b → (k : ℕ) (i : Instance) → instance_at k b.instances ≡ Some i
+    (b : Book) (m : Moment) → IsOrderly b → (k : ℕ) (i : Instance) → instance_at k b.instances ≡ Some i
     → instance_at k (then_book m b).instances ≡ None → Finishes b m k ⊎ Expires b m i
 
 -- what a visit is answered that stops so

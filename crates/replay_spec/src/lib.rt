@@ -102,6 +102,12 @@ pub fn tickets_are_out()
 
 // Of what a visit does and what it is answered.
 
+/// A visit that is admitted at its take and again at its publish, and meets no limit and no fault of the disk, is
+/// answered as its script stops, or for want of memory.
+pub fn a_visit_is_answered()
+    ensures { AVisitIsAnswered }
+{}
+
 /// A take that is not answered with a ticket changes nothing, a publish that neither shows a page nor ends only spends
 /// its number, and a sweep that is refused changes nothing; a disk's fault leaves in doubt just what was decided.
 pub fn refused_is_unchanged()
@@ -113,9 +119,24 @@ pub fn a_start_opens_or_leaves()
     ensures { AStartOpensOrLeaves }
 {}
 
+/// A page that is shown is admitted under its URL, at once, where it lives at all.
+pub fn a_shown_page_is_admitted()
+    ensures { AShownPageIsAdmitted }
+{}
+
 /// After an event that left a transaction none leaves it, and each on a page inside it is refused without effect.
 pub fn closed_is_closed()
     ensures { ClosedIsClosed }
+{}
+
+/// Nothing else closes a transaction than a segment that left it.
+pub fn nothing_else_closes()
+    ensures { NothingElseCloses }
+{}
+
+/// Nothing else frees an instance than its finish, or a sweep when all its pages are expired.
+pub fn nothing_else_frees()
+    ensures { NothingElseFrees }
 {}
 
 /// What revokes a page is a forward of its instance, and it revokes every page that is there, and not its own; a revoked
