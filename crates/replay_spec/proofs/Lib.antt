@@ -31,3 +31,7 @@ pub mod Closing
 pub mod Freeing
 pub mod Answered
 pub mod Shown
+pub mod Tests
+pub mod Again
+pub mod Events
+pub mod Recovered

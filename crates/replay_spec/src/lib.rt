@@ -162,3 +162,19 @@ pub fn shown_is_open()
 pub fn journal_is_last()
     ensures { JournalIsLast }
 {}
+
+/// Each event leaves one record, or none, of which recovery makes the book behind it.
+pub fn events_are_remade()
+    ensures { EventsAreRemade }
+{}
+
+/// The records that a run leaves suffice: the book that they make of the first is the last, as after a crash, and none is
+/// passed over.
+pub fn records_suffice()
+    ensures { RecordsSuffice }
+{}
+
+/// Whatever records tell, the book that they make of an empty one is orderly.
+pub fn records_make_orderly_books()
+    ensures { RecordsMakeOrderlyBooks }
+{}
