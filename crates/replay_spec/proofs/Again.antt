@@ -1,25 +1,25 @@
 -- What a decision records is made again from its record.
-use Rattle.std.proofs.Common.{◌≡◌, ℕ, ◌+◌, ◌≤◌, ◌<◌, List, [], length, map, Option, Some, None, Bool, true, false, refl, sym, ap, subst, ◌∙◌, slice_get, arith}
+use Rattle.std.proofs.Common.{◌≡◌, ℕ, ◌+◌, ◌≤◌, ◌<◌, List, [], length, map, Option, Some, None, Bool, true, refl, sym, ap, subst, ◌∙◌, slice_get, arith}
 use Rattle.std.specs.Prelude.{⊤, ◌&&◌, nat_lt}
 use Rattle.std.proofs.lemmas.Bool.{and_from}
 use Rattle.std.proofs.lemmas.Bool.Decides.{nat_tests}
 use Rattle.script_value.specs.Val.{Val}
 use Rattle.script_value.specs.declared.outcome.TxName.{TxName}
-use Rattle.instance_cells.specs.Cells.{Effect, AreOn, Holds}
+use Rattle.instance_cells.specs.Cells.{AreOn, Holds}
 use Rattle.script_nodes.specs.Setup.{Named}
 use Rattle.script_nodes.specs.declared.script.SendKind.{SendKind}
 use Rattle.replay_spec.specs.Tape.{present, How, shows, finishes, ends, Outcome, paged}
 use Rattle.replay_spec.specs.Tape as tape
 use Rattle.replay_spec.specs.Eval.{Segment}
-use Rattle.replay_spec.specs.Book.{Change, sweeps, Book, instance_at, page_at}
+use Rattle.replay_spec.specs.Book.{Change, sweeps, Book}
 use Rattle.replay_spec.specs.Rules.{Rules}
 use Rattle.replay_spec.specs.Admission.{◌>>=◌, when, or_else, Place, Admission, begins, resumes, refused, admit}
 use Rattle.replay_spec.specs.Next.{Ticket, starts, Visit, url_for, home_of, answered, newest, tape_for, comes_to, start_visit, page_visit}
-use Rattle.replay_spec.specs.Step.{Reply, Decision, replies, records, unless, too_long, full_journal, with_room, opening, extension, ending, finish, reply_by, full, stopped, decide}
+use Rattle.replay_spec.specs.Step.{Reply, Decision, replies, records, unless, down_by, too_long, full_journal, with_room, opening, extension, ending, finish, reply_by, full, stopped, decide}
 use Rattle.replay_spec.specs.Recovery.{most_fuel, are_effects, are_names, is_kind, are_on, hold_over, page_of_numbers, again, shows_so, ended_so, remade}
 use Rattle.replay_spec.specs.Invariant.{IsOrderly}
 use Rattle.replay_spec.specs.Laws.{IsInFuel}
-use Rattle.replay_spec.specs.Remade.{IsRemade, NamesItsCells, NameTheirCells}
+use Rattle.replay_spec.specs.Remade.{IsRemade, NamesItsCells, NameTheirCells, DecisionsAreRemade}
 use Rattle.replay_spec.proofs.Fuel.{more_is_same}
 use Rattle.replay_spec.proofs.Second.{pages_past}
 use Rattle.replay_spec.proofs.OnCells.{on_cells}
@@ -138,3 +138,8 @@ recorded_remade rules b t c inside less g names h = subst (IsRemadeDecision b) h
 
 pub swept_remade : (b : Book) (tick : ℕ) → b.clock < tick → IsRemade b (sweeps tick) []
 swept_remade b tick later = ([], (passes (nat_lt b.clock tick) [] (grind (arith, nat_tests, later)), refl))
+
+pub decided_remade : DecisionsAreRemade
+decided_remade rules b t less g names r c inside e =
+    subst (IsRemadeDecision b) e
+    (unless_again b (down_by b.down) (decide rules b t (admit b t.target)) (admitted_again rules b t (admit b t.target) less g names (says b t.target)))

@@ -1,5 +1,5 @@
 -- What an admitted visit is answered.
-use Rattle.std.proofs.Common.{◌≡◌, ◌+◌, ◌==◌, ◌^◌, ◌⊎◌, ℕ, List, length, Option, Some, None, Bool, true, false, refl, sym, ap, subst, ◌∙◌, inl, inr, ⊎_elim, arith}
+use Rattle.std.proofs.Common.{◌≡◌, ◌+◌, ◌==◌, ◌^◌, ◌⊎◌, ℕ, List, length, Option, Some, None, Bool, true, false, refl, inl, inr, ⊎_elim, arith}
 use Rattle.std.specs.Prelude.{nat_le, nat_lt}
 use Rattle.script_value.specs.Val.{Val}
 use Rattle.script_value.specs.declared.outcome.TxName.{TxName}
@@ -12,7 +12,7 @@ use Rattle.replay_spec.specs.Rules.{Journal, Rules}
 use Rattle.replay_spec.specs.Change.{record_length, longer_by}
 use Rattle.replay_spec.specs.Admission.{when, or_else, Admission, begins, resumes, refused, refusal_of, admit}
 use Rattle.replay_spec.specs.Next.{Ticket, Origin, starts, answers, Visit, url_for, comes_to, start_visit, page_visit}
-use Rattle.replay_spec.specs.Step.{Event, take, publish, Fate, plain, no_memory, disk_fault, lost, kept, Reply, taken, memory, worn, shelf_full, instance_full, oversize, journal_full, Decision, replies, records, unless, down_by, refused_by, no_room, full, too_long, full_journal, with_room, change_by, reply_by, stopped, decide, publish_comes, fate_of, settle, take_unless, take_by, no_take, step}
+use Rattle.replay_spec.specs.Step.{Fate, plain, no_memory, disk_fault, lost, kept, Reply, taken, memory, worn, shelf_full, instance_full, oversize, journal_full, Decision, replies, records, unless, down_by, refused_by, full, too_long, full_journal, with_room, change_by, reply_by, stopped, decide, fate_of, settle, take_unless, take_by, step}
 use Rattle.replay_spec.specs.Promises.{reply_to, Stops, IsLimit, IsDiskFault, IsAdmission, AVisitIsAnswered}
 
 -- a take that meets no limit

@@ -1,13 +1,12 @@
 -- Closed is closed.
-use Rattle.std.proofs.Common.{◌≡◌, ◌==◌, ◌++◌, ◌^◌, ℕ, List, [], Option, Some, None, Bool, refl, sym, subst, inl, inr, arith}
-use Rattle.std.specs.Prelude.{nat_le, if◌then◌else◌}
+use Rattle.std.proofs.Common.{◌≡◌, ◌==◌, ◌++◌, ◌^◌, ℕ, List, [], Option, Some, None, Bool, refl, sym, subst, inl, arith}
 use Rattle.script_value.specs.declared.outcome.TxName.{TxName}
 use Rattle.script_value.specs.declared.outcome.Refusal.{Refusal}
 use Rattle.script_value.specs.declared.outcome.Refusal.TheVariants.{Revoked, Expired}
 use Rattle.page_names.specs.Names.{Destination, start, page}
 use Rattle.script_nodes.specs.Setup.{Named}
 use Rattle.replay_spec.specs.Names.{Has, first_closed}
-use Rattle.replay_spec.specs.Book.{Page, Instance, Change, opens, extends, ends, finishes, sweeps, Doubt, Book, instance_at, page_at, is_expired, spend, reopened}
+use Rattle.replay_spec.specs.Book.{Page, Instance, Change, opens, extends, ends, finishes, sweeps, Doubt, Book, instance_at, page_at, is_expired, spend}
 use Rattle.replay_spec.specs.Rules.{Rules}
 use Rattle.replay_spec.specs.Change.{mend, done, shown_by, page_by, without, instances_by}
 use Rattle.replay_spec.specs.Admission.{when, or_else, is_one, Place, place_at, closed_by, Admission, refused, refusal_of, unless_why, found, admit}

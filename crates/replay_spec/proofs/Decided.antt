@@ -11,7 +11,7 @@ use Rattle.replay_spec.specs.Names.{Has}
 use Rattle.replay_spec.specs.Tape.{Reads, present, recorded, Answer, Tape, How, shows, finishes, ends, Outcome, paged}
 use Rattle.replay_spec.specs.Tape as tape
 use Rattle.replay_spec.specs.Eval.{Segment, run, unread}
-use Rattle.replay_spec.specs.Book.{Page, Instance, Change, Book, instance_at, page_at, chain}
+use Rattle.replay_spec.specs.Book.{Page, Change, Book, instance_at, page_at, chain}
 use Rattle.replay_spec.specs.Rules.{Rules}
 use Rattle.replay_spec.specs.Change.{page_by}
 use Rattle.replay_spec.specs.Admission.{or_else, Place, Admission, begins, resumes, refused, admit}

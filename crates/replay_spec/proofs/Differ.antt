@@ -1,11 +1,10 @@
 -- The names that a page is inside are all different, and none of them is closed when it is shown.
 use Rattle.std.proofs.Common.{◌≡◌, ◌==◌, ◌<◌, ◌+◌, ◌-◌, ◌^◌, ◌++◌, ◌⊎◌, ℕ, List, [], ◌∷◌, length, Option, Some, None, Bool, not, filter, refl, sym, ap, subst, ◌∙◌, inl, inr, ⊎_elim, slice_get, arith}
-use Rattle.std.specs.Prelude.{nat_le, if◌then◌else◌, ⊤}
+use Rattle.std.specs.Prelude.{⊤}
 use Rattle.std.proofs.lemmas.Bool.{cases_eq}
 use Rattle.std.proofs.lemmas.Bool.Decides.{nat_tests}
 use Rattle.std.proofs.lemmas.Option.{same_Some}
 use Rattle.script_value.specs.declared.outcome.TxName.{TxName}
-use Rattle.page_names.specs.Names.{Destination}
 use Rattle.script_nodes.specs.Setup.{Named}
 use Rattle.replay_spec.specs.Names.{Has}
 use Rattle.replay_spec.specs.Tape.{present, How, shows, finishes, ends, Outcome, paged}
@@ -17,7 +16,7 @@ use Rattle.replay_spec.specs.Rules.{Rules}
 use Rattle.replay_spec.specs.Change.{mend, put_in_order, put_page, root_by, page_by, done, shown_by, fresh, opened_by, instances_by, land}
 use Rattle.replay_spec.specs.Admission.{or_else, Place, Admission, begins, resumes, refused, admit}
 use Rattle.replay_spec.specs.Next.{Ticket, Visit, url_for, newest, comes_to, start_visit, page_visit}
-use Rattle.replay_spec.specs.Step.{Event, take, publish, sweep, crash, Fate, plain, no_memory, disk_fault, lost, kept, Reply, swept, Decision, replies, records, unless, down_by, too_long, full_journal, with_room, change_by, reply_by, full, stopped, decide, decide_sweep, publish_comes, sweep_comes, fate_of, settle, recovered, take_by, step}
+use Rattle.replay_spec.specs.Step.{Event, Fate, Reply, Decision, replies, records, unless, too_long, full_journal, with_room, change_by, reply_by, full, stopped, decide, step}
 use Rattle.replay_spec.specs.Invariant.{Apart, Unused, IsSound}
 use Rattle.replay_spec.specs.Runs.{lands}
 use Rattle.replay_spec.specs.Laws.{Distinct, IsInFuel, IsLawful, NamesDiffer, NamesStayDifferent, ShownIsOpen}

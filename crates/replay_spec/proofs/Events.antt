@@ -1,22 +1,22 @@
 -- Each event leaves a record, or none, of which recovery makes the book behind it.
-use Rattle.std.proofs.Common.{◌≡◌, ◌≤◌, ◌<◌, ◌+◌, ◌==◌, max, ℕ, List, [], ◌∷◌, ◌++◌, Option, Some, None, Bool, true, false, not, filter, refl, sym, ap, subst, ◌∙◌, inl, inr, ⊎_elim, slice_get, arith}
-use Rattle.std.specs.Prelude.{nat_le, if◌then◌else◌, ⊤}
+use Rattle.std.proofs.Common.{◌≡◌, ◌≤◌, ◌+◌, ◌==◌, ℕ, List, [], ◌∷◌, ◌++◌, Option, Some, None, Bool, false, not, filter, refl, sym, ap, subst, ◌∙◌, inl, inr, ⊎_elim, slice_get, arith}
+use Rattle.std.specs.Prelude.{nat_le, if◌then◌else◌}
 use Rattle.std.proofs.lemmas.Bool.Decides.{nat_tests}
 use Rattle.script_value.specs.declared.outcome.TxName.{TxName}
 use Rattle.page_names.specs.Names.{Destination}
 use Rattle.script_nodes.specs.Setup.{Named}
-use Rattle.replay_spec.specs.Book.{Instance, Opening, Change, opens, extends, ends, finishes, sweeps, Doubt, Book, is_live, instance_at, draw, spend, reopened, reopened_with}
+use Rattle.replay_spec.specs.Book.{Instance, Opening, Change, opens, extends, ends, finishes, sweeps, Doubt, Book, is_live, instance_at, spend, reopened, reopened_with}
 use Rattle.replay_spec.specs.Rules.{Journal, Rules}
 use Rattle.replay_spec.specs.Change.{mend, root_by, page_by, done, shown_by, fresh, opened_by, instances_by, longer_by, land}
 use Rattle.replay_spec.specs.Admission.{is_one}
-use Rattle.replay_spec.specs.Step.{Event, take, publish, sweep, crash, Fate, Reply, swept, Decision, publish_comes, sweep_comes, fate_of, settle, take_by, step}
+use Rattle.replay_spec.specs.Step.{Event, take, publish, sweep, crash, Fate, swept, Decision, publish_comes, sweep_comes, fate_of, settle, take_by, step}
 use Rattle.replay_spec.specs.Runs.{lands, with_change}
 use Rattle.replay_spec.specs.Recovery.{most_fuel, remade, Made, number_in, is_repeated, with_number, taken_in, counted, redone, redo, records_after}
 use Rattle.replay_spec.specs.Invariant.{Among, IsOf, Unused, Apart, IsOrderly, IsSound}
-use Rattle.replay_spec.specs.Laws.{IsLawful, Moment, then_book, book_after, AreLawful, changes_of}
-use Rattle.replay_spec.specs.Remade.{IsRemade, IsRemadeDoubt, NamesItsCells, NameTheirCells, AreUsed, made_of, IsTakenIn, IsRemadeBy, EventsAreRemade, KeepsSetup, AreUnder, AreTakenIn, RecordsSuffice}
+use Rattle.replay_spec.specs.Laws.{Moment, then_book, book_after, changes_of}
+use Rattle.replay_spec.specs.Remade.{IsRemade, IsRemadeDoubt, NamesItsCells, NameTheirCells, AreUsed, made_of, IsRemadeBy, EventsAreRemade, KeepsSetup, AreTakenIn, RecordsSuffice}
 use Rattle.replay_spec.proofs.Found.{KeepsNumber, keep_found}
-use Rattle.replay_spec.proofs.Going.{doubting, Goes, stays, draws, spends, publishes, fails, goes_to, fails_at, keeps, loses, goes}
+use Rattle.replay_spec.proofs.Going.{Goes, stays, draws, spends, publishes, fails, goes_to, fails_at, keeps, loses, goes}
 use Rattle.replay_spec.proofs.Orderly.{recorded_orderly, is_same}
 use Rattle.replay_spec.proofs.Orderly as orderly
 use Rattle.replay_spec.proofs.Lands.{LandsAs, lands_as}
@@ -71,8 +71,8 @@ landed rules b d seen c inside (names, (made, same)) new is =
     let into = taken b seen c names made new in (
       (names, into),
       is ∙ (ap (λ (n : ℕ). record (reopened (land rules c inside b)) { length = n }) (same_length rules.journal b c)
-      ∙ (ap (λ (js : List Instance). record (reopened (land rules c inside (reopened b))) { instances = js }) (sym same)
-      ∙ sym (ap (λ (o : Option (List TxName)). reopened (redone rules c o (reopened b))) into))),
+          ∙ (ap (λ (js : List Instance). record (reopened (land rules c inside (reopened b))) { instances = js }) (sym same)
+          ∙ sym (ap (λ (o : Option (List TxName)). reopened (redone rules c o (reopened b))) into))),
     )
 
 remake_by : {lawful : Type 0} (rules : Rules) (b d : Book) (o : Option Change) (seen : List ℕ) → Goes lawful rules b o d → lawful → rules.fuel ≤ most_fuel → IsSound b → NameTheirCells b
@@ -85,8 +85,8 @@ remake_by rules b d o seen (publishes t c inside h) l less g names doubt used =
     let is_it = (recorded_orderly rules b t c inside h).1 in
     let d = land rules c inside (spend t.number b) in (
       landed rules b (reopened_with b.scripts d) seen c inside again
-      (λ m e there. used m there (inl (subst (λ (x : ℕ). Among x b.out) (is_same t.number m c is_it e) (h.out l))))
-      (ap (λ (n : ℕ). record (reopened (land rules c inside b)) { length = n }) (spent_length rules.journal b t.number c)),
+          (λ m e there. used m there (inl (subst (λ (x : ℕ). Among x b.out) (is_same t.number m c is_it e) (h.out l))))
+          (ap (λ (n : ℕ). record (reopened (land rules c inside b)) { length = n }) (spent_length rules.journal b t.number c)),
       subst (IsRemadeDoubt d) (sym h.up) tt,
     )
 remake_by rules b d o seen (fails count t c inside h) l less g names doubt used =
@@ -99,7 +99,7 @@ remake_by rules b d o seen (fails_at count tick later up) l less g names doubt u
 remake_by rules b d o seen (keeps scripts x down) l less g names doubt used =
     let d = reopened_with scripts (land rules x.change x.inside b) in (
       landed rules b (reopened_with b.scripts d) seen x.change x.inside (subst (IsRemadeDoubt b) down doubt)
-      (λ m e there. used m there (orderly.is_doubted b x down m e)) refl,
+          (λ m e there. used m there (orderly.is_doubted b x down m e)) refl,
       tt,
     )
 remake_by rules b d o seen (loses scripts) l less g names doubt used = (refl, tt)

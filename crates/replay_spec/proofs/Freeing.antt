@@ -1,20 +1,19 @@
 -- Nothing else closes a transaction, and nothing else frees an instance.
-use Rattle.std.proofs.Common.{◌≡◌, ◌≢◌, ◌==◌, ◌++◌, ◌⊎◌, ℕ, List, [], ◌∷◌, Option, Some, None, Bool, true, false, not, filter, refl, sym, ap, subst, ◌∙◌, inl, inr, ⊎_elim, slice_get, arith}
+use Rattle.std.proofs.Common.{◌≡◌, ◌==◌, ◌++◌, ◌⊎◌, ℕ, List, [], ◌∷◌, Option, Some, None, Bool, true, false, not, filter, refl, sym, ap, subst, ◌∙◌, inl, inr, ⊎_elim, slice_get, arith}
 use Rattle.std.specs.List.{list_all}
 use Rattle.std.proofs.lemmas.Bool.{cases_eq}
 use Rattle.std.proofs.lemmas.Bool.Decides.{nat_tests}
 use Rattle.script_value.specs.declared.outcome.TxName.{TxName}
-use Rattle.instance_cells.specs.Cells.{Effect}
 use Rattle.script_nodes.specs.Setup.{Named}
 use Rattle.replay_spec.specs.Names.{Has}
 use Rattle.replay_spec.specs.Book.{Instance, Opening, Finish, Change, opens, extends, ends, finishes, sweeps, Book, is_expired, is_live, instance_at}
 use Rattle.replay_spec.specs.Change.{mend, root_by, page_by, done, shown_by, fresh, opened_by, instances_by}
 use Rattle.replay_spec.specs.Runs.{lands}
-use Rattle.replay_spec.specs.Invariant.{Apart, ClosedIn, Root, IsSoundChange, IsOrderly, IsSound}
+use Rattle.replay_spec.specs.Invariant.{Apart, ClosedIn, IsSoundChange}
 use Rattle.replay_spec.specs.Laws.{Moment, then_book, closes, Leaves}
 use Rattle.replay_spec.specs.Laws as law
-use Rattle.replay_spec.specs.Promises.{Finishes, Expires, NothingElseCloses, NothingElseFrees}
-use Rattle.replay_spec.proofs.Names.{has_none, has_parts}
+use Rattle.replay_spec.specs.Promises.{NothingElseCloses, NothingElseFrees}
+use Rattle.replay_spec.proofs.Names.{has_parts}
 use Rattle.replay_spec.proofs.Numbered.{number_of, put_found, put_other}
 use Rattle.replay_spec.proofs.Found.{KeepsNumber, mend_found, mend_other, keep_found}
 use Rattle.replay_spec.proofs.Landed.{never}

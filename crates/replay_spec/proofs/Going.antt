@@ -1,5 +1,5 @@
 -- What an event makes of a book.
-use Rattle.std.proofs.Common.{◌≡◌, ◌<◌, ◌≤◌, ℕ, List, [], Option, Some, None, Bool, true, false, refl, sym, subst, arith}
+use Rattle.std.proofs.Common.{◌≡◌, ◌<◌, ℕ, List, [], Option, Some, None, Bool, true, false, refl, arith}
 use Rattle.std.specs.Prelude.{nat_le, if◌then◌else◌}
 use Rattle.std.proofs.lemmas.Bool.Decides.{nat_tests}
 use Rattle.script_value.specs.declared.outcome.TxName.{TxName}
@@ -10,7 +10,7 @@ use Rattle.replay_spec.specs.Rules.{Rules}
 use Rattle.replay_spec.specs.Change.{land}
 use Rattle.replay_spec.specs.Admission.{admit}
 use Rattle.replay_spec.specs.Next.{Ticket}
-use Rattle.replay_spec.specs.Step.{Event, take, publish, sweep, crash, Fate, plain, no_memory, disk_fault, lost, kept, Reply, swept, Decision, replies, records, unless, down_by, full_journal, decide, decide_sweep, sweep_comes, fate_of, settle, recovered, no_take, take_unless, take_by, step}
+use Rattle.replay_spec.specs.Step.{Event, take, publish, sweep, crash, Fate, plain, no_memory, disk_fault, lost, kept, Reply, swept, Decision, replies, records, unless, down_by, full_journal, decide, fate_of, settle, recovered, no_take, take_unless, take_by, step}
 use Rattle.replay_spec.specs.Runs.{recorded_under, kept_under, lands}
 use Rattle.replay_spec.specs.Invariant.{Among}
 use Rattle.replay_spec.specs.Laws.{IsLawful}

@@ -1,5 +1,5 @@
 -- What an event lands, as its book shows it.
-use Rattle.std.proofs.Common.{◌≡◌, ℕ, List, [], Option, Some, None, refl, subst}
+use Rattle.std.proofs.Common.{◌≡◌, List, [], Option, Some, None, refl, subst}
 use Rattle.script_value.specs.declared.outcome.TxName.{TxName}
 use Rattle.replay_spec.specs.Book.{Change, Book}
 use Rattle.replay_spec.specs.Rules.{Rules}

@@ -35,3 +35,4 @@ pub mod Tests
 pub mod Again
 pub mod Events
 pub mod Recovered
+pub mod Goes

@@ -1,18 +1,15 @@
 -- Numbers that are drawn, spent and used.
-use Rattle.std.proofs.Common.{◌≡◌, ◌≤◌, ◌==◌, ◌^◌, ◌⊎◌, ℕ, List, [], ◌∷◌, ◌++◌, map, Option, Some, None, Bool, true, false, not, filter, refl, sym, ap, subst, ◌∙◌, inl, inr, ⊎_elim, arith}
+use Rattle.std.proofs.Common.{◌≡◌, ◌==◌, ◌^◌, ℕ, List, [], ◌∷◌, ◌++◌, map, Option, Some, None, Bool, not, filter, refl, ap, subst, ◌∙◌, ⊎_elim, arith}
 use Rattle.std.specs.Prelude.{nat_le, if◌then◌else◌, ⊤}
 use Rattle.script_value.specs.Val.{Val}
-use Rattle.script_value.specs.declared.outcome.TxName.{TxName}
 use Rattle.page_names.specs.Names.{Destination}
-use Rattle.script_nodes.specs.Setup.{Named}
-use Rattle.replay_spec.specs.Book.{Change, opens, extends, ends, finishes, sweeps, Doubt, Book, spend, reopened}
+use Rattle.replay_spec.specs.Book.{Change, opens, extends, ends, finishes, sweeps, Doubt, Book, spend}
 use Rattle.replay_spec.specs.Rules.{Rules}
-use Rattle.replay_spec.specs.Change.{logged_by, land}
 use Rattle.script_value.specs.declared.outcome.Refusal.{Refusal}
 use Rattle.replay_spec.specs.Admission.{when, or_else, refusal_of, admit}
 use Rattle.replay_spec.specs.Next.{Ticket}
-use Rattle.replay_spec.specs.Step.{Event, take, publish, sweep, crash, Fate, plain, no_memory, disk_fault, lost, kept, Reply, taken, worn, swept, Decision, replies, records, unless, down_by, refused_by, full_journal, decide, publish_comes, sweep_comes, fate_of, settle, recovered, no_take, take_unless, take_by, step}
-use Rattle.replay_spec.specs.Runs.{recorded_under, kept_under, lands, with_change}
+use Rattle.replay_spec.specs.Step.{Event, take, publish, sweep, crash, Fate, plain, no_memory, disk_fault, lost, kept, Reply, taken, worn, swept, Decision, down_by, refused_by, publish_comes, sweep_comes, fate_of, settle, no_take, take_unless, take_by, step}
+use Rattle.replay_spec.specs.Runs.{lands, with_change}
 use Rattle.replay_spec.specs.Invariant.{Among, AreDifferent, IsOf, Unused, IsOrderly}
 use Rattle.replay_spec.specs.Laws.{then_book, changes_of, numbers_of, NoNumberTwice, tickets_by, TicketsAreOut}
 use Rattle.replay_spec.proofs.Going.{Goes, stays, draws, spends, publishes, fails, goes_to, fails_at, keeps, loses, goes}

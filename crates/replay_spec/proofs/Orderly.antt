@@ -1,24 +1,24 @@
 -- Each lawful event keeps a book orderly.
-use Rattle.std.proofs.Common.{◌<◌, ◌≡◌, ◌≢◌, ◌≤◌, ◌==◌, ◌+◌, max, ℕ, List, [], ◌∷◌, ◌++◌, Option, Some, None, Bool, true, false, not, filter, refl, sym, ap, subst, ◌∙◌, inl, inr, ⊎_elim, arith}
+use Rattle.std.proofs.Common.{◌<◌, ◌≡◌, ◌≤◌, ◌==◌, ◌+◌, max, ℕ, List, [], ◌∷◌, ◌++◌, Option, Some, None, Bool, true, false, not, filter, refl, sym, ap, subst, ◌∙◌, inl, inr, ⊎_elim, arith}
 use Rattle.std.specs.Prelude.{⊤, if◌then◌else◌}
 use Rattle.script_value.specs.declared.outcome.TxName.{TxName}
 use Rattle.script_nodes.specs.Setup.{Named}
 use Rattle.replay_spec.specs.Tape.{present, How, shows, Outcome, paged}
 use Rattle.replay_spec.specs.Tape as tape
 use Rattle.replay_spec.specs.Eval.{Segment}
-use Rattle.replay_spec.specs.Book.{Change, opens, extends, ends, finishes, sweeps, Doubt, Book, instance_at, page_at, draw, spend, reopened, reopened_with}
-use Rattle.replay_spec.specs.Rules.{Journal, Rules}
+use Rattle.replay_spec.specs.Book.{Change, opens, extends, ends, finishes, sweeps, Doubt, Book, instance_at, page_at, draw, spend, reopened_with}
+use Rattle.replay_spec.specs.Rules.{Rules}
 use Rattle.replay_spec.specs.Change.{instances_by, logged_by, clock_by, land}
 use Rattle.replay_spec.specs.Admission.{or_else, Place, Admission, begins, resumes, refused, admit}
 use Rattle.replay_spec.specs.Next.{Ticket, Origin, starts, answers, Visit, url_for, comes_to, start_visit, page_visit}
-use Rattle.replay_spec.specs.Step.{Reply, Decision, replies, records, unless, too_long, full_journal, with_room, change_by, reply_by, full, stopped, decide, step}
+use Rattle.replay_spec.specs.Step.{Reply, Decision, replies, records, unless, too_long, full_journal, with_room, change_by, reply_by, full, stopped, decide}
 use Rattle.replay_spec.specs.Runs.{lands}
 use Rattle.replay_spec.specs.Invariant.{Among, AreDifferent, HasPage, IsOf, IsDoubted, Unused, AreOrderly, IsOrderlyChange, IsOrderlyDoubt, IsOrderly}
 use Rattle.replay_spec.specs.Laws.{IsLawful, Moment, then_book, book_after, AreLawful, Leads, OrderlyBooksStay, EachHasItsCells}
 use Rattle.replay_spec.proofs.Numbered.{number_of}
 use Rattle.replay_spec.proofs.Stand.{among_drawn, among_spent, Since, since_same, since_then, orderly_less, is_below, empty_orderly, Later}
 use Rattle.replay_spec.proofs.Landed.{land_well}
-use Rattle.replay_spec.proofs.Admitted.{StandsAt, Stands, Says, says}
+use Rattle.replay_spec.proofs.Admitted.{Stands, Says, says}
 use Rattle.replay_spec.proofs.Going.{doubting, Records, Goes, stays, draws, spends, publishes, fails, goes_to, fails_at, keeps, loses, goes}
 
 -- what a decision records answers a page that is there, and is of the number that is spent

@@ -1,18 +1,18 @@
 -- The book that records make is orderly.
-use Rattle.std.proofs.Common.{◌≡◌, ◌≤◌, ◌<◌, max, ℕ, List, [], ◌∷◌, Option, Some, None, Bool, true, false, refl, sym, ap, subst, ◌∙◌, inl, inr, ⊎_elim, arith}
-use Rattle.std.specs.Prelude.{if◌then◌else◌, nat_lt, ⊤}
+use Rattle.std.proofs.Common.{◌≡◌, ◌<◌, max, ℕ, List, [], ◌∷◌, Option, Some, None, Bool, true, false, refl, sym, subst, inl, inr, ⊎_elim, arith}
+use Rattle.std.specs.Prelude.{if◌then◌else◌, nat_lt}
 use Rattle.std.proofs.lemmas.Bool.Decides.{nat_tests}
 use Rattle.script_value.specs.declared.outcome.TxName.{TxName}
 use Rattle.script_nodes.specs.Setup.{Named}
-use Rattle.replay_spec.specs.Book.{Instance, Change, opens, extends, ends, finishes, sweeps, Book, instance_at, page_at, reopened}
+use Rattle.replay_spec.specs.Book.{Change, opens, extends, ends, finishes, sweeps, Book, instance_at, page_at, reopened}
 use Rattle.replay_spec.specs.Rules.{Rules}
 use Rattle.replay_spec.specs.Change.{logged_by}
-use Rattle.replay_spec.specs.Admission.{is_one, when, Place}
-use Rattle.replay_spec.specs.Recovery.{remade, page_of_numbers, Made, nothing_made, number_in, is_repeated, with_number, taken_in, redone, redo}
+use Rattle.replay_spec.specs.Admission.{is_one, Place}
+use Rattle.replay_spec.specs.Recovery.{remade, page_of_numbers, Made, number_in, is_repeated, with_number, taken_in, redone, redo}
 use Rattle.replay_spec.specs.Invariant.{Among, HasPage, IsOf, Unused, AreOrderly, IsOrderlyChange, IsOrderly}
 use Rattle.replay_spec.specs.Remade.{IsOrderlyMade, RecordsMakeOrderlyBooks}
 use Rattle.replay_spec.proofs.Admitted.{came_from, when_is}
-use Rattle.replay_spec.proofs.Stand.{orderly_less, is_below, none_orderly}
+use Rattle.replay_spec.proofs.Stand.{orderly_less, none_orderly}
 use Rattle.replay_spec.proofs.Landed.{land_well}
 
 -- what is not among those seen

@@ -1,28 +1,25 @@
 -- A page that is shown is admitted.
-use Rattle.std.proofs.Common.{◌≡◌, ◌≢◌, ◌≤◌, ◌<◌, ◌+◌, ◌-◌, ◌^◌, ◌==◌, ◌++◌, ◌⊎◌, ℕ, List, [], ◌∷◌, length, Option, Some, None, Bool, true, false, refl, sym, ap, subst, ◌∙◌, inl, inr, ⊎_elim, slice_get, arith}
-use Rattle.std.specs.Prelude.{◌&&◌, nat_le, ⊤}
+use Rattle.std.proofs.Common.{◌≡◌, ◌≤◌, ◌<◌, ◌+◌, ◌==◌, ◌++◌, ℕ, List, [], length, Option, Some, None, true, false, refl, sym, ap, subst, ◌∙◌, inl, slice_get, arith}
+use Rattle.std.specs.Prelude.{◌&&◌, ⊤}
 use Rattle.std.specs.Str.{bytes_eq}
 use Rattle.std.proofs.lemmas.Bool.Decides.{nat_tests}
 use Rattle.std.proofs.lemmas.Bool.{and_from}
 use Rattle.std.proofs.lemmas.Slice.Eq.{bytes_eq-Decides}
 use Rattle.script_value.specs.declared.outcome.TxName.{TxName}
-use Rattle.script_value.specs.declared.outcome.Refusal.{Refusal}
-use Rattle.script_value.specs.declared.outcome.Refusal.TheVariants.{Revoked, Expired}
-use Rattle.page_names.specs.Names.{Destination, page}
 use Rattle.page_names.specs.declared.names.PageName.{PageName}
 use Rattle.script_nodes.specs.Setup.{Named}
 use Rattle.script_nodes.specs.declared.script.SendKind.{SendKind}
-use Rattle.replay_spec.specs.Names.{Has, first_closed}
+use Rattle.replay_spec.specs.Names.{first_closed}
 use Rattle.replay_spec.specs.Tape.{present, How, shows, Outcome, paged, Now}
 use Rattle.replay_spec.specs.Tape as tape
 use Rattle.replay_spec.specs.Eval.{Segment}
 use Rattle.replay_spec.specs.Book.{Page, Instance, Opening, Extension, Change, opens, extends, Book, instance_at, page_at, is_expired, spend}
 use Rattle.replay_spec.specs.Rules.{Rules}
-use Rattle.replay_spec.specs.Change.{mend, put_page, put_instance, revoked_by, root_by, page_by, shown_by, fresh, opened_by, instances_by, land}
-use Rattle.replay_spec.specs.Admission.{when, or_else, is_one, Place, closed_by, why_not, Admission, begins, resumes, refused, admit}
-use Rattle.replay_spec.specs.Next.{Ticket, Origin, starts, answers, Visit, url_for, comes_to, start_visit, page_visit}
-use Rattle.replay_spec.specs.Step.{publish, Fate, Reply, shown, Decision, replies, records, unless, down_by, too_long, full_journal, with_room, opening, extension, ending, finish, change_by, reply_by, full, stopped, decide, publish_comes, step}
-use Rattle.replay_spec.specs.Invariant.{Root, Unused, IsOrderly, IsSound}
+use Rattle.replay_spec.specs.Change.{put_instance, root_by, page_by, shown_by, fresh, opened_by, land}
+use Rattle.replay_spec.specs.Admission.{or_else, is_one, Place, why_not, Admission, begins, resumes, refused, admit}
+use Rattle.replay_spec.specs.Next.{Ticket, starts, Visit, url_for, comes_to, start_visit, page_visit}
+use Rattle.replay_spec.specs.Step.{publish, Reply, shown, Decision, records, unless, down_by, too_long, full_journal, with_room, opening, extension, ending, finish, reply_by, full, stopped, decide, publish_comes, step}
+use Rattle.replay_spec.specs.Invariant.{Unused, IsOrderly, IsSound}
 use Rattle.replay_spec.specs.Laws.{IsLawful, NamesDiffer, Lands, Spares}
 use Rattle.replay_spec.specs.Promises.{IsAdmitted, AShownPageIsAdmitted}
 use Rattle.replay_spec.proofs.Names.{none_open}

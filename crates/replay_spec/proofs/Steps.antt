@@ -1,19 +1,20 @@
 -- Each lawful event keeps a book sound.
-use Rattle.std.proofs.Common.{◌≡◌, ℕ, List, [], ◌∷◌, ◌++◌, Option, Some, None, refl, sym, ap, subst, ◌∙◌, inl, inr}
+use Rattle.std.proofs.Common.{◌≡◌, ℕ, List, [], ◌∷◌, ◌++◌, Option, None, refl, sym, ap, subst, ◌∙◌}
 use Rattle.script_value.specs.declared.outcome.TxName.{TxName}
 use Rattle.script_nodes.specs.Setup.{Named}
-use Rattle.replay_spec.specs.Book.{Change, sweeps, Doubt, Book, draw, spend, reopened_with}
+use Rattle.replay_spec.specs.Book.{Change, sweeps, Book, draw, spend, reopened_with}
 use Rattle.replay_spec.specs.Rules.{Rules, empty_book}
 use Rattle.replay_spec.specs.Change.{instances_by, land}
-use Rattle.replay_spec.specs.Step.{step}
-use Rattle.replay_spec.specs.Runs.{lands}
-use Rattle.replay_spec.specs.Invariant.{AreSound, IsSoundChange, IsSoundDoubt, IsOf, Unused, IsSound, Replays}
-use Rattle.replay_spec.specs.Laws.{IsLawful, Moment, then_book, book_after, AreLawful, Leads, IsReached, SoundBooksStay, ReachedBooksAreSound, EachChainReplays}
+use Rattle.replay_spec.specs.Step.{Event, Fate}
+use Rattle.replay_spec.specs.Runs.{Shelf, after, lands}
+use Rattle.replay_spec.specs.Invariant.{AreSound, IsSoundChange, IsSoundDoubt, IsOf, Unused, IsSound}
+use Rattle.replay_spec.specs.Laws.{IsLawful, Moment, then_book, book_after, AreLawful, Leads, IsLawfulRun, IsReached, SoundBooksStay, ReachedBooksAreSound, EachChainReplays}
 use Rattle.replay_spec.proofs.Ancestors.{chain_is}
 use Rattle.replay_spec.proofs.Stand.{SinceNamed, named_same, named_then, sound_less, empty_sound, Later, Well}
 use Rattle.replay_spec.proofs.Sound.{land_named}
 use Rattle.replay_spec.proofs.Decided.{recorded_sound_of}
-use Rattle.replay_spec.proofs.Going.{doubting, Records, Goes, stays, draws, spends, publishes, fails, goes_to, fails_at, keeps, loses, goes}
+use Rattle.replay_spec.proofs.Going.{doubting, Goes, stays, draws, spends, publishes, fails, goes_to, fails_at, keeps, loses, goes}
+use Rattle.replay_spec.proofs.Goes.{run_leads}
 use Rattle.replay_spec.proofs.Orderly as orderly
 use Rattle.replay_spec.proofs.Orderly.{recorded_orderly, published_fewer, swept_fewer, kept_fewer, is_out, is_doubted, later_then}
 
@@ -116,15 +117,17 @@ leads_on b c d one two = record {
   there = after_more one.moments two.moments b ∙ (ap (λ (x : Book). book_after two.moments x) one.there ∙ two.there);
 }
 
+further : (shelf : ℕ) (b c : Book) → IsReached shelf b → Leads b c → IsReached shelf c
+further shelf b c h on = record { rules = h.rules; scripts = h.scripts; from = leads_on (empty_book h.rules h.scripts shelf) b c h.from on }
+
 pub reached : ReachedBooksAreSound
 reached shelf b h =
     let start = empty_book h.rules h.scripts shelf in
     let well = led start b (empty_sound h.rules h.scripts shelf) h.from in (
       (well.sound, well.later.shelf),
-      λ (c : Book) (on : Leads b c). (
-        record { rules = h.rules; scripts = h.scripts; from = leads_on start b c h.from on },
-        (orderly.led b c well.sound.orderly on).fewer,
-      ),
+      λ (c : Book) (on : Leads b c). (further shelf b c h on, (orderly.led b c well.sound.orderly on).fewer),
+      λ (source : ℕ → ℕ) (xs : List (Event × Fate)) (s : Shelf) (is : s.book ≡ b) (lawful : IsLawfulRun source xs s).
+          further shelf s.book (after source xs s).book (subst (IsReached shelf) (sym is) h) (run_leads source xs s lawful),
     )
 
 pub each_replays : EachChainReplays

@@ -1,6 +1,6 @@
 -- What the tests of a record say.
-use Rattle.std.proofs.Common.{◌≡◌, ◌<◌, ◌==◌, ℕ, ℤ, List, [], ◌∷◌, Bool, true, false, Result, Ok, Err, refl, subst, sym, arith}
-use Rattle.std.specs.Prelude.{◌&&◌, IsOk, nat_lt}
+use Rattle.std.proofs.Common.{◌≡◌, ◌<◌, ◌==◌, ℕ, List, [], ◌∷◌, true, Result, Ok, Err, refl, subst, arith}
+use Rattle.std.specs.Prelude.{IsOk, nat_lt}
 use Rattle.std.specs.Ordering.{int_eq}
 use Rattle.std.specs.Cmp.{signed_Decides}
 use Rattle.std.proofs.lemmas.Bool.{and_from}

@@ -1,18 +1,17 @@
 -- What holds of clocks, of pages that are shown and closed, of instances that are freed, and of what a visit is answered.
-use Rattle.std.specs.Prelude.{◌≡◌, ◌≢◌, ◌⊎◌, ◌≤◌, ◌<◌, ◌-◌, ◌^◌, ℕ, List, Option, Some, None, true, ⊤}
+use Rattle.std.specs.Prelude.{◌≡◌, ◌⊎◌, ◌≤◌, ◌<◌, ◌-◌, ◌^◌, ℕ, List, Some, None, true, ⊤}
 use Rattle.std.specs.List.{list_all}
 use Rattle.script_value.specs.declared.outcome.TxName.{TxName}
 use Rattle.page_names.specs.Names.{Destination, page, spelling}
 use Rattle.page_names.specs.declared.names.PageName.{PageName}
 use Rattle.script_value.specs.Val.{Val}
-use Rattle.script_nodes.specs.Setup.{Named}
 use Rattle.replay_spec.specs.Tape.{present, Outcome, paged, faulted}
 use Rattle.replay_spec.specs.Tape as tape
-use Rattle.replay_spec.specs.Book.{Instance, Finish, Change, finishes, sweeps, Book, instance_at, is_expired}
+use Rattle.replay_spec.specs.Book.{Instance, Finish, finishes, sweeps, Book, instance_at, is_expired}
 use Rattle.replay_spec.specs.Rules.{Rules}
 use Rattle.replay_spec.specs.Admission.{Place, place_at, Admission, begins, resumes, refused, admit}
 use Rattle.replay_spec.specs.Next.{Ticket, Visit, url_for, comes_to, start_visit, page_visit}
-use Rattle.replay_spec.specs.Step.{Event, take, publish, Fate, no_memory, Reply, taken, shown, fault, out_of_fuel, shelf_full, instance_full, disk_failed, down, oversize, journal_full, worn, memory, reply_by, step}
+use Rattle.replay_spec.specs.Step.{take, publish, Fate, no_memory, Reply, taken, shown, fault, out_of_fuel, shelf_full, instance_full, disk_failed, down, oversize, journal_full, worn, memory, reply_by, step}
 use Rattle.replay_spec.specs.Runs.{lands}
 use Rattle.replay_spec.specs.Invariant.{ClosedIn, IsOrderly, IsSound}
 use Rattle.replay_spec.specs.Laws.{IsLawful, Moment, then_book, Leads, Leaves, NamesDiffer}

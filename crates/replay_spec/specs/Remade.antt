@@ -52,6 +52,12 @@ pub record NameTheirCells (b : Book) : Type 0 where
   pub setup : (k : ℕ) (s : Named) → slice_get b.scripts k ≡ Some s → NamesItsCells s
   pub instances : (k : ℕ) (i : Instance) → instance_at k b.instances ≡ Some i → NamesItsCells i.script
 
+-- What a publish records would be made again from its record, over the book that it was decided on.
+abbrev pub DecisionsAreRemade : Type 0
+DecisionsAreRemade =
+    (rules : Rules) (b : Book) (t : Ticket) → rules.fuel ≤ most_fuel → IsOrderly b → NameTheirCells b
+    → (r : Reply) (c : Change) (inside : List TxName) → publish_comes rules b t ≡ records r c inside → IsRemade b c inside
+
 -- the numbers that were seen are used; the book as after a crash, with these
 abbrev pub AreUsed : List ℕ → Book → Type 0
 AreUsed seen b = (n : ℕ) → Among n seen → Unused b n → ⊥

@@ -3,7 +3,7 @@
 
 ghost use Rattle.replay_spec.specs.Laws.{EffectsHoldRunSame, AHeldRunIsNext, EffectsAreOnCells, RecordedIsPresent, MoreFuelIsTheSame, NamesFollow, OrderlyBooksStay, SoundBooksStay, ReachedBooksAreSound, EachHasItsCells, EachChainReplays, PagesStay, RefusedIsUnchanged, AStartOpensOrLeaves, ClosedIsClosed, NamesStayDifferent, ShownIsOpen, AForwardRevokes, NoNumberTwice, TicketsAreOut, ShadowsRise};
 ghost use Rattle.replay_spec.specs.Promises.{TheClockNeverFalls, AShownPageIsAdmitted, NothingElseCloses, NothingElseFrees, AVisitIsAnswered};
-ghost use Rattle.replay_spec.specs.Remade.{EffectsHold, JournalIsLast, EventsAreRemade, RecordsSuffice, RecordsMakeOrderlyBooks};
+ghost use Rattle.replay_spec.specs.Remade.{EffectsHold, JournalIsLast, DecisionsAreRemade, EventsAreRemade, RecordsSuffice, RecordsMakeOrderlyBooks};
 
 // Of single runs of a script.
 
@@ -61,8 +61,8 @@ pub fn sound_books_stay()
     ensures { SoundBooksStay }
 {}
 
-/// Each book that lawful events lead to from an empty one is sound and of the same shelf. What is said of sound books
-/// holds of these, at each moment of each run, over crashes and under rules and setups that change.
+/// Each book that lawful events lead to from an empty one is sound and of the same shelf, with fewer unused numbers. What
+/// is said of sound books holds of these, in every run, over crashes and under rules and setups that change.
 pub fn reached_books_are_sound()
     ensures { ReachedBooksAreSound }
 {}
@@ -158,9 +158,14 @@ pub fn shown_is_open()
 
 // Of the records that events leave.
 
-/// The journal is asked last.
+/// The journal is asked last: a publish is decided as without one, and then its record is measured.
 pub fn journal_is_last()
     ensures { JournalIsLast }
+{}
+
+/// What a publish records is made again from its record, whose script is run again.
+pub fn decisions_are_remade()
+    ensures { DecisionsAreRemade }
 {}
 
 /// Each event leaves one record, or none, of which recovery makes the book behind it.
