@@ -1,4 +1,5 @@
 ghost use Rattle.std.specs.Prelude.{◌≡◌, IfOk};
+ghost use Rattle.segments.specs.Views.{now_of, ran_of};
 
 use instance_cells::Cells;
 use script_value::{Items, Str, Value};
@@ -51,6 +52,17 @@ pub struct Tape<'t> {
 }
 
 impl Answer {
+    /// The segment.
+    pub fn segment(&self) -> Now
+        ensures { now_of result ≡ ran_of self.now }
+    {
+        Now {
+            number: self.number,
+            url: &self.url,
+            reads: Reads::Recorded(&self.reads),
+        }
+    }
+
     /// A copy, equal to its source.
     pub fn try_clone(&self, alloc: Global) -> Result<Answer, AllocError>
         ensures { IfOk result (λ copy. copy ≡ self.now) }
