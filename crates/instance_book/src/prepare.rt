@@ -1,5 +1,5 @@
 ghost use Rattle.std.specs.Prelude.{◌≡◌, ◌<◌, ◌≤◌, ◌+◌, ◌^◌, ◌++◌, None, Ok, IfOk, IfErr, OnOk, map, length, Contains};
-ghost use Rattle.instance_cells.specs.Cells.{AreOn, commit, reads_of};
+ghost use Rattle.instance_cells.specs.Cells.{AreOn, reads_of};
 ghost use Rattle.instance_cells.specs.Views.{effect_of};
 ghost use Rattle.segments.specs.Views.{segment_of};
 ghost use Rattle.instance_book.specs.Lists.{HasRoom};
@@ -18,23 +18,13 @@ use crate::page::KeptPage;
 use crate::prepared::{Change, Ending, Extension, Finish, Opening, Prepared};
 use crate::ticket::Ticket;
 use expiry::{LONGEST_LIFE, deadline};
-use instance_cells::{Cells, Effect};
+use instance_cells::Effect;
 use page_names::{PageName, Target};
 use script_nodes::SendKind;
 use script_value::{Bytes, Items, Refusal, Reply, TxName, Value};
 use segments::{PlainEnd, Rerun};
 use std::alloc::{AllocError, Global};
 use transactions::Closed;
-
-// The cells behind these effects.
-fn cells_after(alloc: Global, cells: &Cells, effects: &[Effect]) -> Result<Cells, AllocError>
-    requires { AreOn (length cells.now) (map effect_of effects.now) }
-    ensures { IfOk result (λ after. after ≡ commit (map effect_of effects.now) cells.now) }
-{
-    let mut after = cells.try_clone(alloc)?;
-    after.commit(alloc, effects)?;
-    Ok(after)
-}
 
 // The closed transactions with these more.
 fn closed_with(closed: Closed, left: &[TxName]) -> Result<Closed, AllocError>
@@ -124,7 +114,7 @@ fn begun(
 {
     Ok(KeptInstance {
         script: ticket.script,
-        cells: cells_after(alloc, &ticket.cells, effects)?,
+        cells: ticket.cells.committed(alloc, effects)?,
         closed: closed_with(Closed::new(alloc), left)?,
         revoked: InOrder::new(alloc),
         pages: InOrder::with_room(alloc)?,
@@ -138,7 +128,7 @@ impl KeptInstance {
         ensures { IfOk result (IsLeftBy effects.now left.now self.now) }
     {
         Ok(After {
-            cells: cells_after(alloc, &self.cells, effects)?,
+            cells: self.cells.committed(alloc, effects)?,
             closed: closed_after(alloc, &self.closed, left)?,
         })
     }
