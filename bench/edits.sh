@@ -10,7 +10,7 @@ work=$(mktemp -d "${TMPDIR:-/tmp}/hovgyelit-edits.XXXXXX") || exit 1
 trap 'rm -rf "$work"' EXIT
 trap 'exit 1' HUP INT TERM
 
-[ $# -gt 0 ] || set -- $(cd edits && echo *)
+[ $# -gt 0 ] || { cd edits && set -- * && cd ..; } || exit 1
 for crate in "$@"; do
     [ -d "edits/$crate" ] || { echo "edits/$crate: there is no such folder" >&2; exit 1; }
 done
