@@ -49,7 +49,7 @@ fields_verdict minor method target fields =
     if lacks_host minor fields then Err BadRequest
     else (if not (is_none (values_of (codes "Transfer-Encoding") fields)) then Err Chunked
     else length_verdict method target (values_of (codes "Content-Type") fields) (closes_by minor fields)
-        (announced (values_of (codes "Content-Length") fields)))
+    (announced (values_of (codes "Content-Length") fields)))
 
 -- the same of a head in the grammar of `httparse`; what is none is a bad request
 abbrev pub head_verdict : Option RequestHead → Result Asked Refused

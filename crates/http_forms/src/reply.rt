@@ -83,12 +83,7 @@ fn last_lines(closes: bool) -> &'static str
 }
 
 // Writes the length of a body in two pieces, the last lines, and the body.
-fn write_body<O: Sink>(
-    sink: &mut O,
-    closes: bool,
-    body: &[u8],
-    end: &[u8],
-) -> Result<(), Failed>
+fn write_body<O: Sink>(sink: &mut O, closes: bool, body: &[u8], end: &[u8]) -> Result<(), Failed>
     requires { length body.now + length end.now < 2 ^ 64 }
     ensures { Writes (O.view sink.old) (O.view sink.new) (spec.length_and_body closes (body.now ++ end.now)) result }
 {
@@ -122,12 +117,7 @@ fn write_page<O: Sink>(sink: &mut O, closes: bool, page: &[u8]) -> Result<(), Fa
 }
 
 // Writes a word and a newline, as plain text.
-fn write_word<O: Sink>(
-    sink: &mut O,
-    status: Status,
-    closes: bool,
-    word: &str,
-) -> Result<(), Failed>
+fn write_word<O: Sink>(sink: &mut O, status: Status, closes: bool, word: &str) -> Result<(), Failed>
     ensures { Writes (O.view sink.old) (O.view sink.new)
         (spec.word_message status closes word.now) result }
 {

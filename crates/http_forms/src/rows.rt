@@ -136,7 +136,13 @@ fn head_verdict(lines: &[u8]) -> Result<Asked, Refused>
                 return Err(Refused::BadRequest);
             }
             let method = head.method.of(lines);
-            fields_verdict(head.version, method, head.path, lines, &room[..head.headers])
+            fields_verdict(
+                head.version,
+                method,
+                head.path,
+                lines,
+                &room[..head.headers],
+            )
         }
         Ok(Status::Partial) => Err(Refused::BadRequest),
         Err(_) => Err(Refused::BadRequest),
