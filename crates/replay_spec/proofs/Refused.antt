@@ -23,12 +23,12 @@ takes_unless : (b : Book) (nonce : ℕ) (o : Option Doubt) (is_worn : Bool) (a :
     Takes b nonce (take_unless r b nonce).0 (take_unless r b nonce).1
 takes_unless b nonce o is_worn a = grind arith
 
-takes_by : (rules : Rules) (b : Book) (target : Destination) (nonce : ℕ) (fate : Fate) → Takes b nonce (take_by rules b target nonce fate).0 (take_by rules b target nonce fate).1
-takes_by rules b target nonce no_memory = refl
-takes_by rules b target nonce plain = takes_unless b nonce b.down (b.drawn == 2 ^ 62) (refusal_of (admit rules.scripts b target))
-takes_by rules b target nonce (disk_fault count) = takes_unless b nonce b.down (b.drawn == 2 ^ 62) (refusal_of (admit rules.scripts b target))
-takes_by rules b target nonce lost = takes_unless b nonce b.down (b.drawn == 2 ^ 62) (refusal_of (admit rules.scripts b target))
-takes_by rules b target nonce kept = takes_unless b nonce b.down (b.drawn == 2 ^ 62) (refusal_of (admit rules.scripts b target))
+takes_by : (b : Book) (target : Destination) (nonce : ℕ) (fate : Fate) → Takes b nonce (take_by b target nonce fate).0 (take_by b target nonce fate).1
+takes_by b target nonce no_memory = refl
+takes_by b target nonce plain = takes_unless b nonce b.down (b.drawn == 2 ^ 62) (refusal_of (admit b target))
+takes_by b target nonce (disk_fault count) = takes_unless b nonce b.down (b.drawn == 2 ^ 62) (refusal_of (admit b target))
+takes_by b target nonce lost = takes_unless b nonce b.down (b.drawn == 2 ^ 62) (refusal_of (admit b target))
+takes_by b target nonce kept = takes_unless b nonce b.down (b.drawn == 2 ^ 62) (refusal_of (admit b target))
 
 -- a reply alone that is told of a refusal, or of a start that ends or finishes
 abbrev IsIdle : Reply → Type 0
@@ -140,9 +140,9 @@ sweeping rules b tick fate h =
 pub unchanged : RefusedIsUnchanged
 unfolding step
 unchanged rules b nonce fate = (
-  λ (target : Destination) (answer : Val). takes_by rules b target nonce fate,
+  λ (target : Destination) (answer : Val). takes_by b target nonce fate,
   λ (t : Ticket). settled rules (spend t.number b) (fate_of rules.journal fate) (publish_comes rules b t)
-      (unless_tells b.down (decide rules b t (admit rules.scripts b t.target)) (decided_tells rules b t (admit rules.scripts b t.target))),
+      (unless_tells b.down (decide rules b t (admit b t.target)) (decided_tells rules b t (admit b t.target))),
   λ (tick : ℕ) (h : b.clock < tick). sweeping rules b tick (fate_of rules.journal fate) h,
   λ (tick : ℕ) (h : tick ≤ b.clock). late rules b tick (fate_of rules.journal fate) h,
 )
