@@ -1,5 +1,5 @@
 -- What a change makes of orderly instances.
-use Rattle.std.proofs.Common.{◌++◌, ◌≡◌, ◌≢◌, ◌≤◌, ◌<◌, ◌==◌, ◌⊎◌, ℕ, suc, List, [], ◌∷◌, length, map, Option, Some, None, Bool, true, false, not, filter, refl, sym, ap, subst, ◌∙◌, inl, inr, ⊎_elim, slice_get, arith}
+use Rattle.std.proofs.Common.{◌≡◌, ◌≢◌, ◌==◌, ◌⊎◌, ℕ, List, [], ◌∷◌, length, map, Option, Some, None, Bool, false, not, filter, refl, sym, ap, subst, ◌∙◌, inl, inr, ⊎_elim, slice_get, arith}
 use Rattle.std.proofs.lemmas.Bool.{cases_eq}
 use Rattle.std.proofs.lemmas.Bool.Decides.{nat_tests}
 use Rattle.std.proofs.lemmas.Option.{same_Some}
@@ -10,7 +10,7 @@ use Rattle.instance_cells.specs.Cells.{Effect, cell_of, cell_at, left_by, landed
 use Rattle.script_nodes.specs.Setup.{Named}
 use Rattle.script_nodes.specs.declared.script.SendKind.{SendKind}
 use Rattle.script_nodes.specs.declared.script.SendKind.TheVariants.{Suspend, Forward}
-use Rattle.replay_spec.specs.Book.{Page, Instance, Opening, Extension, Change, opens, extends, ends, finishes, sweeps, is_live, instance_at, page_at, parent_of}
+use Rattle.replay_spec.specs.Book.{Page, Instance, Opening, Extension, Change, opens, extends, ends, finishes, sweeps, is_live, instance_at, page_at}
 use Rattle.replay_spec.specs.Change.{mend, put_page, put_instance, revoked_by, root_by, page_by, done, shown_by, fresh, opened_by, instances_by}
 use Rattle.replay_spec.specs.Admission.{is_one}
 use Rattle.replay_spec.specs.Invariant.{Apart, Lineage, PageAt, HasPage, AreOrderly, IsOrderlyChange, IsOf}
@@ -35,7 +35,7 @@ none_of : (n : ℕ) (ps : List Page) → page_at n ps ≡ None → is_one n (map
 none_of n [] none = refl
 none_of n (q ∷ ps) none = grind (arith, nat_tests, none_of n ps)
 
-none_newly : (kind : SendKind) (n : ℕ) (ps : List Page) (revoked : List ℕ) → page_at n ps ≡ None → is_one n revoked ≡ false → is_one n (revoked_by kind ps revoked) ≡ false
+pub none_newly : (kind : SendKind) (n : ℕ) (ps : List Page) (revoked : List ℕ) → page_at n ps ≡ None → is_one n revoked ≡ false → is_one n (revoked_by kind ps revoked) ≡ false
 none_newly Suspend n ps revoked none h = h
 none_newly Forward n ps revoked none h = none_of n ps none
 

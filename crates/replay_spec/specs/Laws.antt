@@ -16,9 +16,9 @@ use Rattle.replay_spec.specs.Book.{Page, Instance, Extension, Change, opens, ext
 use Rattle.replay_spec.specs.Rules.{Rules, empty_book}
 use Rattle.replay_spec.specs.Change.{land}
 use Rattle.replay_spec.specs.Admission.{is_one, Place, place_at, begins, resumes, admit}
-use Rattle.replay_spec.specs.Next.{Ticket, comes_to, start_visit, page_visit}
+use Rattle.replay_spec.specs.Next.{Ticket, comes_to, page_visit}
 use Rattle.replay_spec.specs.Step.{Event, take, publish, sweep, crash, Fate, Reply, taken, shown, finished, ended, swept, disk_failed, refusal, memory, down, worn, Decision, replies, records, settles, decide, publish_comes, sweep_comes, step}
-use Rattle.replay_spec.specs.Runs.{Shelf, shelf_step, lands, with_change}
+use Rattle.replay_spec.specs.Runs.{Shelf, shelf_step, after, lands, with_change}
 use Rattle.replay_spec.specs.Invariant.{Among, AreDifferent, AreAncestors, Replays, PageAt, Unused, IsOrderly, IsSound}
 
 -- each of these segments is past: its reads were recorded
@@ -161,14 +161,23 @@ pub record Leads (b c : Book) : Type 0 where
   pub lawful : AreLawful moments b
   pub there : book_after moments b ≡ c
 
+-- what the events of a shelf meet, whose source gives these nonces
+abbrev pub moments_of : (source : ℕ → ℕ) → List (Event × Fate) → Shelf → List Moment
+moments_of source [] s = []
+moments_of source (x ∷ xs) s =
+    record { rules = s.rules; nonce = source s.nonces; event = x.0; fate = x.1 } ∷ moments_of source xs (shelf_step source s x.0 x.1).1
+
+-- each publish of these spends a number that is out
+abbrev pub IsLawfulRun : (source : ℕ → ℕ) → List (Event × Fate) → Shelf → Type 0
+IsLawfulRun source xs s = AreLawful (moments_of source xs s) s.book
+
 -- lawful events lead to it from an empty book of this shelf
 pub record IsReached (shelf : ℕ) (b : Book) : Type 0 where
   pub rules : Rules
   pub scripts : List Named
   pub from : Leads (empty_book rules scripts shelf) b
 
--- Each lawful event keeps a book orderly, and a sound one sound, of its shelf, with fewer unused numbers. So each book that is reached is
--- sound, and each that is reached from a sound one.
+-- Each lawful event keeps a book orderly, of its shelf, with fewer unused numbers, and a sound one sound.
 abbrev pub OrderlyBooksStay : Type 0
 OrderlyBooksStay =
     ((rules : Rules) (scripts : List Named) (shelf : ℕ) → IsOrderly (empty_book rules scripts shelf))
@@ -179,11 +188,14 @@ SoundBooksStay =
     ((rules : Rules) (scripts : List Named) (shelf : ℕ) → IsSound (empty_book rules scripts shelf))
     × ((b c : Book) → IsSound b → Leads b c → IsSound c)
 
+-- So each book that is reached is sound, and of its shelf; what is reached from it has fewer unused numbers, and each run of a shelf
+-- reaches its last book.
 abbrev pub ReachedBooksAreSound : Type 0
 ReachedBooksAreSound =
     (shelf : ℕ) (b : Book) → IsReached shelf b
     → (IsSound b × (b.shelf ≡ shelf))
     × ((c : Book) → Leads b c → IsReached shelf c × ((n : ℕ) → Unused c n → Unused b n))
+    × ((source : ℕ → ℕ) (xs : List (Event × Fate)) (s : Shelf) → s.book ≡ b → IsLawfulRun source xs s → IsReached shelf (after source xs s).book)
 
 -- Each instance has as many cells as its script.
 abbrev pub EachHasItsCells : Type 0
@@ -342,16 +354,6 @@ ShownIsOpen =
     (rules : Rules) (b : Book) (t : Ticket) (at : Place) → IsSound b → NamesDiffer b → IsLawful (publish t) b → admit b t.target ≡ resumes at
     → let o = comes_to (page_visit b t at) (present at.instance.cells rules.fuel) in
     first_closed (at.instance.closed ++ o.left) o.entered ≡ None
-
--- what the events of a shelf meet, whose source gives these nonces
-abbrev pub moments_of : (source : ℕ → ℕ) → List (Event × Fate) → Shelf → List Moment
-moments_of source [] s = []
-moments_of source (x ∷ xs) s =
-    record { rules = s.rules; nonce = source s.nonces; event = x.0; fate = x.1 } ∷ moments_of source xs (shelf_step source s x.0 x.1).1
-
--- each publish of these spends a number that is out
-abbrev pub IsLawfulRun : (source : ℕ → ℕ) → List (Event × Fate) → Shelf → Type 0
-IsLawfulRun source xs s = AreLawful (moments_of source xs s) s.book
 
 -- the instance of this number has revoked the page of this number
 pub record RevokedIn (is : List Instance) (k n : ℕ) : Type 0 where

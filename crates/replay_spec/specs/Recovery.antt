@@ -10,7 +10,7 @@ use Rattle.script_nodes.specs.declared.script.SendKind.{SendKind}
 use Rattle.script_nodes.specs.declared.script.SendKind.TheVariants.{Suspend, Forward}
 use Rattle.script_nodes.specs.Setup.{Named}
 use Rattle.replay_spec.specs.Names.{is_name}
-use Rattle.replay_spec.specs.Tape.{present, How, shows, Outcome, paged}
+use Rattle.replay_spec.specs.Tape.{present, shows, Outcome, paged}
 use Rattle.replay_spec.specs.Eval.{Segment}
 use Rattle.replay_spec.specs.Book.{Opening, Extension, Change, opens, extends, ends, finishes, sweeps, Book, instance_at, page_at, reopened}
 use Rattle.replay_spec.specs.Rules.{Rules, empty_book}
