@@ -54,7 +54,7 @@ class Window:
     """A window of its own, and what a visitor does in it."""
 
     def __init__(self, browser, url):
-        self.browser = browser
+        self.browser, self.left = browser, None
         target = browser.call("Target.createTarget", url=url, newWindow=True)["targetId"]
         self.session = browser.call("Target.attachToTarget", targetId=target, flatten=True)["sessionId"]
 
@@ -65,35 +65,51 @@ class Window:
         """What a text of JavaScript gives in the page as it is now, if anything."""
         return self.call("Runtime.evaluate", expression=expression, returnByValue=True).get("result", {}).get("value")
 
+    def page(self):
+        """When the page was loaded, which tells it from each other page, and what it shows once it is whole."""
+        shown = self.value("document.readyState == 'complete' && performance.timeOrigin + ' ' + document.body.innerText")
+        return (shown or " ").split(" ", 1)
+
+    def leave(self):
+        """Notes the page, so that it is not taken for the next one."""
+        self.left = self.page()[0]
+
     def shows(self, text):
-        """Waits until the page shows this text."""
+        """Waits until another page than the one that was left shows this text."""
         began = time.monotonic()
-        while text not in (shown := self.value("document.readyState == 'complete' && document.body.innerText") or ""):
+        while True:
+            loaded, shown = self.page()
+            if loaded != self.left and text in shown:
+                break
             if time.monotonic() > began + PATIENCE:
                 sys.exit(f"WRONG: the page shows '{shown}', not '{text}'")
             time.sleep(0.05)
-        print(f"    {text} ({time.monotonic() - began:.1f} s)", flush=True)
+        print(f"    {' '.join(text.split())} ({time.monotonic() - began:.1f} s)", flush=True)
 
     def type(self, text):
         self.value("document.querySelector('input').focus(); document.querySelector('input').select()")
         self.call("Input.insertText", text=text)
 
     def press(self):
+        self.leave()
         self.value("document.querySelector('button').click()")
 
     def follow(self, text):
+        self.leave()
         self.value(f"[...document.links].find(a => a.innerText == {json.dumps(text)}).click()")
 
     def target_of(self, text):
         return self.value(f"[...document.links].find(a => a.innerText == {json.dumps(text)}).href")
 
     def back(self):
+        self.leave()
         history = self.call("Page.getNavigationHistory")
         before = history["entries"][history["currentIndex"] - 1]["id"]
         self.call("Page.navigateToHistoryEntry", entryId=before)
 
     def again(self):
         """Loads the page once more, and sends once more what it came from."""
+        self.leave()
         self.call("Page.reload")
 
 

@@ -26,7 +26,7 @@ until grep -q listening "$work/where"; do
 done
 python3 bench/browser.py "$(sed -n 's/.*listening on .*://p' "$work/where")" "$work/profile" || fail "the walk went wrong"
 kill "$server" || fail "the server is gone"
-wait "$server"
+wait "$server" 2>/dev/null
 status=$?
 server=
 [ "$status" -eq 143 ] || fail "TERM ended the server with status $status"

@@ -24,7 +24,7 @@ done
         edit = substr($0, RSTART + 10, RLENGTH - 12)
         why = substr($0, RSTART + RLENGTH)
         if (why ~ /^refused/) { refused++; print "refused      " edit }
-        else { others++; print "NOT REFUSED  " edit ": " why }
+        else { others++; sub(/^NOT REFUSED: /, "", why); print "NOT REFUSED  " edit ": " why }
         next
     }
     { print }

@@ -151,14 +151,23 @@ def a_reset_in_the_reply():
 
 
 def many_links():
-    """Two hundred at once, that ask each for a page."""
-    socks = [link() for _ in range(200)]
+    """Two hundred at once, that ask each for a page, and end behind it."""
+    socks = []
+    for _ in range(200):
+        socks.append(link())
+        socks[-1].sendall(START)
     for sock in socks:
-        sock.sendall(START)
-    replies = [read(sock) for sock in socks]
-    if not all(reply.startswith(b"HTTP/1.1 200 ") for reply in replies):
-        raise AssertionError("not all of them were answered")
+        if not read(sock).startswith(b"HTTP/1.1 200 "):
+            raise AssertionError("not all of them were answered")
+        sock.close()
     return None, 0, None
+
+
+def a_link_kept_open():
+    """It does not end the link: the server waits for that for a moment."""
+    sock = link()
+    sock.sendall(START)
+    return sock, 1, b"200"
 
 
 class Visit:
@@ -213,6 +222,7 @@ CLIENTS = [
     two_requests,
     a_reply_that_is_not_read,
     a_reset_in_the_reply,
+    a_link_kept_open,
     many_links,
 ]
 

@@ -33,7 +33,7 @@ until grep -q listening "$work/where"; do
 done
 python3 "$here/bench/hostile.py" "$(sed -n 's/.*listening on .*://p' "$work/where")" "$@" || fail "a client met something else"
 kill "$server" || fail "the server is gone"
-wait "$server"
+wait "$server" 2>/dev/null
 status=$?
 server=
 [ "$status" -eq 143 ] || fail "TERM ended the server with status $status"
