@@ -18,26 +18,20 @@ use Rattle.replay_spec.specs.Tape.{send_page, Reads, recorded, present, bound, A
 use Rattle.replay_spec.specs.Eval.{value_at, copied, is_not_false}
 use Rattle.machine_spec.specs.Machine.{Frame, in_binding, in_operand, in_body, in_seq, in_and, in_or, in_if, in_count, in_store, in_turn, in_isolate, in_page, in_finish, in_back, Control, visit, value, Point, inside_of, visits, gives, node_at, part_at, parts_from, bindings_from, body_at, op_at, store_by, next_binding, next_part, next_operand, next_turn, first_turn, visited, cut, taken, Machine, Step, goes, stopped, stepped, step_at, step, then, steps}
 use Rattle.machine_spec.specs.Laws.{Stops}
+use Rattle.machine_spec.specs.Dues.{InSegment, owed_by, owed}
 use Rattle.machine_spec.proofs.Acts.{IsActLaw, visited_paid, taken_all}
-
--- present cells, no answer left, and a cost within the fuel
-pub record Fits (fuel : ℕ) (s : State) : Type 0 where
-  pub cells : List Val
-  pub reads : s.segment.reads ≡ present cells fuel
-  pub later : s.later ≡ []
-  pub cost : s.cost ≤ fuel
 
 -- where an end has a value its cost is at least c, and else at least b
 abbrev Costs : ℕ → (b c : ℕ) → {A : Type 0} → End A → Type 0
-Costs fuel b c (got v s) = Fits fuel s × (c ≤ s.cost)
+Costs fuel b c (got v s) = InSegment fuel s × (c ≤ s.cost)
 Costs fuel b c (stop o names s) = b ≤ s.cost
 
 -- the cost does not fall, and an action that is charged raises it
 abbrev Stays : ℕ → (A : Type 0) → Run A → Type 0
-Stays fuel A r = (s : State) → Fits fuel s → Costs fuel s.cost s.cost (r s)
+Stays fuel A r = (s : State) → InSegment fuel s → Costs fuel s.cost s.cost (r s)
 
 abbrev Raises : ℕ → (A : Type 0) → Run A → Type 0
-Raises fuel A r = (s : State) → Fits fuel s → Costs fuel s.cost (suc s.cost) (r s)
+Raises fuel A r = (s : State) → InSegment fuel s → Costs fuel s.cost (suc s.cost) (r s)
 
 weaker : (fuel a b c d : ℕ) {A : Type 0} (e : End A) → a ≤ c → b ≤ d → Costs fuel c d e → Costs fuel a b e
 weaker fuel a b c d (got v s) h k g = (g.0, let i = g.1 in omega arith)
@@ -51,7 +45,7 @@ raises_on : (fuel c : ℕ) {A B : Type 0} (e : End A) (f : A → Run B) → Cost
 raises_on fuel c (got x s) f h g = weaker fuel c (suc c) s.cost (suc s.cost) (f x s) h.1 (let i = h.1 in omega arith) (g x s h.0)
 raises_on fuel c (stop o names s) f h g = h
 
-charges_by : (fuel cost : ℕ) (inside : List TxName) (over : Bool) (s : State) → s.cost < cost → (over ≡ false → cost ≤ fuel) → Fits fuel s → Costs fuel s.cost (suc s.cost) (charged inside over cost s)
+charges_by : (fuel cost : ℕ) (inside : List TxName) (over : Bool) (s : State) → s.cost < cost → (over ≡ false → cost ≤ fuel) → InSegment fuel s → Costs fuel s.cost (suc s.cost) (charged inside over cost s)
 charges_by fuel cost inside true s h k f = omega arith
 charges_by fuel cost inside false s h k f = (record { cells = f.cells; reads = f.reads; later = f.later; cost = k refl }, omega arith)
 
@@ -66,33 +60,33 @@ charges fuel h inside n more s f =
     charges_by fuel cost inside (is_over (bound s.segment.reads) cost) s (let c = f.cost in omega arith) (within fuel cost s.segment.reads f.cells f.reads) f
 
 -- the segment goes on where its reads, the answers that are left and its cost stay
-kept : (fuel : ℕ) (s t : State) → t.segment.reads ≡ s.segment.reads → t.later ≡ s.later → t.cost ≡ s.cost → Fits fuel s → Fits fuel t
+kept : (fuel : ℕ) (s t : State) → t.segment.reads ≡ s.segment.reads → t.later ≡ s.later → t.cost ≡ s.cost → InSegment fuel s → InSegment fuel t
 kept fuel s t p q r f = record { cells = f.cells; reads = p ∙ f.reads; later = q ∙ f.later; cost = let c = f.cost in omega arith }
 
-same : (fuel : ℕ) (s : State) → Fits fuel s → Fits fuel s × (s.cost ≤ s.cost)
+same : (fuel : ℕ) (s : State) → InSegment fuel s → InSegment fuel s × (s.cost ≤ s.cost)
 same fuel s f = (f, omega arith)
 
 sends : (fuel : ℕ) (inside : List TxName) (kind : SendKind) (page : Val) (later : List Answer) (s : State) → later ≡ [] → Costs fuel s.cost s.cost (sent inside kind page later s)
 sends fuel inside kind page [] s e = omega arith
 sends fuel inside kind page (a ∷ later) s e = absurd (cc)
 
-reads : (fuel : ℕ) (c : ℕ) (source : Reads) (s : State) → source ≡ s.segment.reads → Fits fuel s → Costs fuel s.cost s.cost (read_from source c s)
+reads : (fuel : ℕ) (c : ℕ) (source : Reads) (s : State) → source ≡ s.segment.reads → InSegment fuel s → Costs fuel s.cost s.cost (read_from source c s)
 reads fuel c (recorded vs) s e f = absurd (let p = f.reads in cc)
 reads fuel c (present cells n) s e f = (kept fuel s _ refl refl refl f, omega arith)
 
-sets : (fuel : ℕ) (c : ℕ) (v : Val) (source : Reads) (s : State) → source ≡ s.segment.reads → Fits fuel s → Costs fuel s.cost s.cost (set_in source c v s)
+sets : (fuel : ℕ) (c : ℕ) (v : Val) (source : Reads) (s : State) → source ≡ s.segment.reads → InSegment fuel s → Costs fuel s.cost s.cost (set_in source c v s)
 sets fuel c v (recorded vs) s e f = absurd (let p = f.reads in cc)
 sets fuel c v (present cells n) s e f = (kept fuel s _ refl refl refl f, omega arith)
 
-added_by : (fuel : ℕ) (inside : List TxName) (c : ℕ) (w : Val) (n : ℤ) (r : Result Val Fault) (s : State) → Fits fuel s → Costs fuel s.cost s.cost (added inside c w n r s)
+added_by : (fuel : ℕ) (inside : List TxName) (c : ℕ) (w : Val) (n : ℤ) (r : Result Val Fault) (s : State) → InSegment fuel s → Costs fuel s.cost s.cost (added inside c w n r s)
 added_by fuel inside c w n (Ok v) s f = (kept fuel s _ refl refl refl f, omega arith)
 added_by fuel inside c w n (Err k) s f = omega arith
 
-adds_to : (fuel : ℕ) (inside : List TxName) (c : ℕ) (w : Val) (n : Result ℤ Fault) (s : State) → Fits fuel s → Costs fuel s.cost s.cost (add_to inside c w n s)
+adds_to : (fuel : ℕ) (inside : List TxName) (c : ℕ) (w : Val) (n : Result ℤ Fault) (s : State) → InSegment fuel s → Costs fuel s.cost s.cost (add_to inside c w n s)
 adds_to fuel inside c w (Ok n) s f = added_by fuel inside c w n (sum w n) s f
 adds_to fuel inside c w (Err k) s f = omega arith
 
-adds : (fuel : ℕ) (inside : List TxName) (c : ℕ) (v : Val) (source : Reads) (s : State) → source ≡ s.segment.reads → Fits fuel s → Costs fuel s.cost s.cost (add_in inside source c v s)
+adds : (fuel : ℕ) (inside : List TxName) (c : ℕ) (v : Val) (source : Reads) (s : State) → source ≡ s.segment.reads → InSegment fuel s → Costs fuel s.cost s.cost (add_in inside source c v s)
 adds fuel inside c v (recorded vs) s e f = absurd (let p = f.reads in cc)
 adds fuel inside c v (present cells n) s e f = adds_to fuel inside c (cell_at (commit s.effects cells) c) (as_number v) s f
 
@@ -117,13 +111,6 @@ law fuel h = record {
 }
 
 -- ## What is owed
-
-abbrev pub owed_by : Control → (frames : ℕ) → ℕ
-owed_by (visit n) k = k
-owed_by (value v) k = suc k
-
-abbrev pub owed : Point → ℕ
-owed p = owed_by p.control (length p.frames)
 
 -- each point that is next owes one more than the frames behind it
 abbrev Owes : List Frame → End Point → Type 0
@@ -210,8 +197,8 @@ taken_owes a (in_back n) v env fs s = tt
 -- ## Steps
 
 -- a step that goes on has taken its due from what was owed and the cost; one that stops has not lowered the cost
-abbrev Pays : ℕ → (before cost : ℕ) → Step → Type 0
-Pays fuel before cost (goes m) = Fits fuel m.state × (owed m.point + 1 + 2 * cost ≤ before + 2 * m.state.cost)
+abbrev pub Pays : ℕ → (before cost : ℕ) → Step → Type 0
+Pays fuel before cost (goes m) = InSegment fuel m.state × (owed m.point + 1 + 2 * cost ≤ before + 2 * m.state.cost)
 Pays fuel before cost (stopped o names d s) = cost ≤ s.cost
 
 paid_by : (fuel before cost least : ℕ) (env : List Val) (fs : List Frame) (e : End Point) → Costs fuel cost least e → Owes fs e → suc (length fs) + 1 + 2 * cost ≤ before + 2 * least
@@ -219,7 +206,7 @@ paid_by : (fuel before cost least : ℕ) (env : List Val) (fs : List Frame) (e :
 paid_by fuel before cost least env fs (got p s) c o h = (c.0, let i = c.1 in omega arith)
 paid_by fuel before cost least env fs (stop n names s) c o h = c
 
-step_pays : (fuel : ℕ) → fuel < 2 ^ 63 → (a : Arena) (c : Control) (env : List Val) (fs : List Frame) (s : State) → Fits fuel s → Pays fuel (owed_by c (length fs)) s.cost (step_at a c env fs s)
+pub step_pays : (fuel : ℕ) → fuel < 2 ^ 63 → (a : Arena) (c : Control) (env : List Val) (fs : List Frame) (s : State) → InSegment fuel s → Pays fuel (owed_by c (length fs)) s.cost (step_at a c env fs s)
 step_pays fuel h a (visit n) env fs s f =
     paid_by fuel (length fs) s.cost (suc s.cost) env fs (visited n (node_at a n) env fs s)
     (visited_paid (λ inside A r. Stays fuel A r) (λ inside A r. Raises fuel A r) (law fuel h) n (node_at a n) env fs s f) (visited_owes n (node_at a n) env fs s) (omega arith)
@@ -236,7 +223,7 @@ pub record Halts (a : Arena) (k : ℕ) (m : Machine) : Type 0 where
   pub soon : stops.count ≤ k + 1
 
 halts_by : (fuel : ℕ) (a : Arena) (k : ℕ) (m : Machine) (y : Step) → step a m ≡ y → Pays fuel (owed m.point) m.state.cost y → owed m.point + 2 * fuel ≤ k + 2 * m.state.cost
-    → ((j : ℕ) → k ≡ suc j → (n : Machine) → Fits fuel n.state → owed n.point + 2 * fuel ≤ j + 2 * n.state.cost → Halts a j n) → Halts a k m
+    → ((j : ℕ) → k ≡ suc j → (n : Machine) → InSegment fuel n.state → owed n.point + 2 * fuel ≤ j + 2 * n.state.cost → Halts a j n) → Halts a k m
 halts_by fuel a k m (stopped o names d s) e p b ih =
     record { stops = record { count = 1; outcome = o; entered = names; kept = d; state = s; are = ap (then (steps a 0)) e }; few = omega arith; soon = omega arith }
 halts_by fuel a zero m (goes n) e p b ih = absurd (let f = p.0 in let c = f.cost in let r = p.1 in omega arith)
@@ -254,7 +241,7 @@ halts_by fuel a (suc k) m (goes n) e p b ih =
 same_left : (j k : ℕ) → suc k ≡ suc j → k ≡ j
 same_left j k e = omega arith
 
-pub halts : (fuel : ℕ) → fuel < 2 ^ 63 → (a : Arena) (k : ℕ) (m : Machine) → Fits fuel m.state → owed m.point + 2 * fuel ≤ k + 2 * m.state.cost → Halts a k m
+pub halts : (fuel : ℕ) → fuel < 2 ^ 63 → (a : Arena) (k : ℕ) (m : Machine) → InSegment fuel m.state → owed m.point + 2 * fuel ≤ k + 2 * m.state.cost → Halts a k m
 halts fuel h a zero m f b =
     halts_by fuel a zero m (step a m) refl (step_pays fuel h a m.point.control m.point.env m.point.frames m.state f) b (λ j e. absurd (omega arith))
 halts fuel h a (suc k) m f b =

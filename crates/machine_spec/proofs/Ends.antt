@@ -182,7 +182,7 @@ all_weaker P Q [] f h = tt
 all_weaker P Q (p ∷ ps) f h = (f p h.0, all_weaker P Q ps f h.1)
 
 -- the parts of a node stand behind it
-behind : (a : Arena) → IsScript a → (n : ℕ) (x : Option Node) → slice_get a.nodes n ≡ x → AllByRecursion (IsBehind n (length a.nodes)) (parts (unwrap_or x (node.Lit (Truth false))))
+pub behind : (a : Arena) → IsScript a → (n : ℕ) (x : Option Node) → slice_get a.nodes n ≡ x → AllByRecursion (IsBehind n (length a.nodes)) (parts (unwrap_or x (node.Lit (Truth false))))
 behind a i n None e = tt
 behind a i n (Some x) e = parts_behind a i n x e
 

@@ -19,7 +19,7 @@ use Rattle.replay_spec.specs.Eval.{value_at, copied, is_not_false}
 use Rattle.replay_spec.specs.Laws.{Waits}
 use Rattle.machine_spec.specs.Machine.{Frame, in_binding, in_operand, in_body, in_seq, in_and, in_or, in_if, in_count, in_store, in_turn, in_isolate, in_page, in_finish, in_back, Control, visit, value, Point, inside_of, visits, gives, given, node_at, part_in, part_at, parts_from, bindings_from, bindings_in, body_at, body_in, op_at, op_in, store_by, next_binding, next_part, next_operand, next_turn, first_turn, visited, cut, taken, next, Machine, Suspended, Step, goes, stopped, stepped, step_at, step, then, steps}
 use Rattle.machine_spec.specs.Laws.{started}
-use Rattle.machine_spec.specs.Fits.{node_of, place_of, IsKind, Binds, Works, IsSend, Fits, EachStateFits}
+use Rattle.machine_spec.specs.Fits.{node_of, place_of, IsKind, Binds, Works, FitsAt, IsSend, Fits, EachStateFits}
 use Rattle.machine_spec.proofs.Meaning.{cut_back, length_more}
 use Rattle.machine_spec.proofs.Acts.{IsPlain, visited_paid, taken_any, any_given, plain_or_page}
 use Rattle.machine_spec.proofs.Grow.{more, Grows, Grown, law}
@@ -110,10 +110,6 @@ push a f fs x p outer env e kind place binds w =
     (subst (λ (z : Node). IsKind f z) (sym e) kind, (subst (λ (z : Node). slice_get (parts z) (place_of f) ≡ Some p) (sym e) place, (outer, (binds, w))))
 
 -- ## What is next
-
-abbrev FitsAt : Arena → Control → List Val → List Frame → Type 0
-FitsAt a (visit p) env fs = Works a fs p env
-FitsAt a (value v) env fs = (p : ℕ) × Works a fs p env
 
 abbrev Suits : Arena → End Point → Type 0
 Suits a (got p s) = FitsAt a p.control p.env p.frames
@@ -255,7 +251,7 @@ next_suits a (value v) env (f ∷ fs) s w =
 -- ## Stops
 
 -- what is kept at a page that waits
-abbrev FitsStep : Arena → Step → Type 0
+abbrev pub FitsStep : Arena → Step → Type 0
 FitsStep a (goes m) = FitsAt a m.point.control m.point.env m.point.frames
 FitsStep a (stopped o names d s) = Waits o → Fits a d
 
@@ -304,7 +300,7 @@ frame_fits a f v env fs s kind w (inr is) = by_page f kind w is.1.1
     by_page (in_finish n) k w e = absurd (cc)
     by_page (in_back n) k w e = absurd (cc)
 
-step_fits : (a : Arena) (c : Control) (env : List Val) (fs : List Frame) (s : State) → FitsAt a c env fs → FitsStep a (step_at a c env fs s)
+pub step_fits : (a : Arena) (c : Control) (env : List Val) (fs : List Frame) (s : State) → FitsAt a c env fs → FitsStep a (step_at a c env fs s)
 step_fits a (visit n) env fs s w =
     stepped_fits a env fs (visited n (node_at a n) env fs s) (node_suits a n (node_at a n) refl env fs s w)
     (plain_by nothing (visited n (node_at a n) env fs s) (visited n (node_at a n) env fs (more nothing s)) (visited_paid (λ inside A r. Grown nothing A r) (λ inside A r. Grown nothing A r) (law nothing) n (node_at a n) env fs s))
@@ -340,7 +336,7 @@ each_fits a t d is =
 no_literal : (f : Frame) (v : Value) → IsKind f (node.Lit v) → ⊥
 no_literal f v h = grind (arith, h)
 
-there : (xs : List Node) (n : ℕ) (x : Node) → slice_get xs n ≡ Some x → n < length xs
+pub there : (xs : List Node) (n : ℕ) (x : Node) → slice_get xs n ≡ Some x → n < length xs
 there [] n x e = absurd (cc)
 there (y ∷ xs) zero x e = omega arith
 there (y ∷ xs) (suc n) x e = omega (arith, there xs n x e)

@@ -5,7 +5,7 @@ use Rattle.script_nodes.specs.declared.script.Node.{Node}
 use Rattle.script_nodes.specs.declared.script.Node.TheVariants as node
 use Rattle.script_nodes.specs.Arena.{Arena, parts}
 use Rattle.replay_spec.specs.Tape.{Tape}
-use Rattle.machine_spec.specs.Machine.{Frame, in_binding, in_operand, in_body, in_seq, in_and, in_or, in_if, in_count, in_store, in_turn, in_isolate, in_page, in_finish, in_back, node_at, Suspended}
+use Rattle.machine_spec.specs.Machine.{Control, visit, value, Frame, in_binding, in_operand, in_body, in_seq, in_and, in_or, in_if, in_count, in_store, in_turn, in_isolate, in_page, in_finish, in_back, node_at, Suspended}
 use Rattle.machine_spec.specs.Laws.{IsStateOf}
 
 abbrev pub node_of : Frame → ℕ
@@ -47,9 +47,9 @@ IsKind (in_or n k) (node.Or ps) = ⊤
 IsKind (in_if n k) (node.If test a b) = ⊤
 IsKind (in_count n) (node.For count body) = ⊤
 IsKind (in_turn n turns done) (node.For count body) = length done < turns
-IsKind (in_store n) (node.CellShadow c value) = ⊤
-IsKind (in_store n) (node.InstSet c value) = ⊤
-IsKind (in_store n) (node.InstAdd c value) = ⊤
+IsKind (in_store n) (node.CellShadow c e) = ⊤
+IsKind (in_store n) (node.InstSet c e) = ⊤
+IsKind (in_store n) (node.InstAdd c e) = ⊤
 IsKind (in_isolate n name) (node.Isolate body) = ⊤
 IsKind (in_page n kind) (node.Send sent body) = sent ≡ kind
 IsKind (in_finish n) (node.Finish body) = ⊤
@@ -70,6 +70,11 @@ Works a [] p env = (p ≡ 0) × (env ≡ [])
 Works a (f ∷ fs) p env =
     IsKind f (node_at a (node_of f)) × ((slice_get (parts (node_at a (node_of f))) (place_of f) ≡ Some p)
     × ((outer : List Val) × (Binds f outer env × Works a fs (node_of f) outer)))
+
+-- the variables and the frames of a machine are those of the node that it visits, or whose value it gives
+abbrev pub FitsAt : Arena → Control → List Val → List Frame → Type 0
+FitsAt a (visit p) env fs = Works a fs p env
+FitsAt a (value v) env fs = (p : ℕ) × Works a fs p env
 
 -- it sends a page that waits for an answer
 abbrev pub IsSend : Node → Type 0

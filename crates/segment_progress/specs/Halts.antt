@@ -1,10 +1,10 @@
 -- How a segment stops.
 use Rattle.std.specs.Prelude.{◌≡◌, ⊤}
 use Rattle.segments.specs.Views.{outcome_of}
-use Rattle.plain_rerun.specs.declared.halt.Halt.{Halt}
-use Rattle.plain_rerun.specs.declared.halt.Halt.TheVariants.{Memory, Stopped}
-use Rattle.plain_rerun.specs.declared.halt.How.{How}
-use Rattle.plain_rerun.specs.declared.halt.How.TheVariants.{Shows, Finishes, Ends}
+use Rattle.segment_progress.specs.declared.halt.Halt.{Halt}
+use Rattle.segment_progress.specs.declared.halt.Halt.TheVariants.{Memory, Stopped}
+use Rattle.segment_progress.specs.declared.halt.How.{How}
+use Rattle.segment_progress.specs.declared.halt.How.TheVariants.{Shows, Finishes, Ends}
 use Rattle.replay_spec.specs.Tape as spec
 
 abbrev pub how_of : How → spec.How

@@ -9,7 +9,7 @@ ghost use Rattle.segments.specs.Views.{source_of, now_of, tape_of, outcome_of, s
 ghost use Rattle.replay_spec.specs.Tape as tape;
 ghost use Rattle.replay_spec.specs.Tape.{begin, begins, charge, send_page, enter, leave, shadow, read_cell, set_cell, add_cell};
 ghost use Rattle.replay_spec.specs.Eval.{copied, eval, segment_at};
-ghost use Rattle.plain_rerun.specs.States.{reads_left, effects_left, left_in, state_of, inside_of, found, Pops, Acts, Does, Ends, TellsStop};
+ghost use Rattle.segment_progress.specs.States.{reads_left, effects_left, left_in, state_of, inside_of, found, Pops, Acts, Does, Ends, TellsStop};
 
 use crate::halt::{Halt, How, halt_at};
 use instance_cells::{AddFault, Effect, Trail};
@@ -171,6 +171,34 @@ impl<'t> Progress<'t> {
                 },
             ),
         }
+    }
+
+    /// A segment with no answer behind it, with these bindings of web cells and inside these transactions.
+    pub fn resume(
+        alloc: Global,
+        defaults: &'t Items,
+        segment: Now<'t>,
+        shades: Shades,
+        inside: Vec<TxName>,
+    ) -> Result<Progress<'t>, AllocError>
+        ensures state { IfOk result (λ p. state_of p ≡ begins (now_of segment.entry) [] shades defaults.now) }
+        ensures inside { IfOk result (λ p. inside_of p ≡ inside.items) }
+    {
+        let source = source_from(alloc, segment.reads)?;
+        Ok(Progress {
+            segment,
+            source,
+            rest: Rest {
+                past: &[],
+                newest: None,
+            },
+            cost: 0,
+            left: Vec::new(alloc),
+            entries: 0,
+            shades,
+            defaults,
+            inside,
+        })
     }
 
     /// How many transactions are open.
@@ -347,17 +375,26 @@ impl<'t> Progress<'t> {
         }
     }
 
-    /// What the run comes to, where it stops so.
-    pub fn into_rerun(self, alloc: Global, end: PlainEnd) -> Rerun
-        ensures { segment_of result ≡ segment_at (outcome_of end) (inside_of self.entry) (state_of self.entry) }
+    /// What the run comes to, where it stops so, and the bindings of web cells there.
+    pub fn into_parts(self, alloc: Global, end: PlainEnd) -> (Rerun, Shades)
+        ensures rerun { segment_of result.0 ≡ segment_at (outcome_of end) (inside_of self.entry) (state_of self.entry) }
+        ensures shades { result.1 ≡ self.entry.shades }
     {
-        Rerun {
+        let rerun = Rerun {
             end,
             effects: effects_of(alloc, self.source),
             entered: self.inside,
             left: self.left,
             cost: self.cost,
-        }
+        };
+        (rerun, self.shades)
+    }
+
+    /// What the run comes to, where it stops so.
+    pub fn into_rerun(self, alloc: Global, end: PlainEnd) -> Rerun
+        ensures { segment_of result ≡ segment_at (outcome_of end) (inside_of self.entry) (state_of self.entry) }
+    {
+        self.into_parts(alloc, end).0
     }
 }
 

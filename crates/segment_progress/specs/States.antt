@@ -10,13 +10,13 @@ use Rattle.instance_cells.specs.Cells.{Effect}
 use Rattle.instance_cells.specs.Trails.{start_of, effects_of}
 use Rattle.segments.specs.declared.ends.PlainEnd.{PlainEnd}
 use Rattle.segments.specs.Views.{answer_of, now_of, outcome_of}
-use Rattle.plain_rerun.specs.declared.halt.Halt.{Halt}
-use Rattle.plain_rerun.specs.declared.halt.Halt.TheVariants.{Memory, Stopped}
-use Rattle.plain_rerun.specs.declared.progress.Source.{Source}
-use Rattle.plain_rerun.specs.declared.progress.Source.TheVariants as source
-use Rattle.plain_rerun.specs.declared.progress.Next.{Next}
-use Rattle.plain_rerun.specs.declared.progress.Rest.{Rest}
-use Rattle.plain_rerun.specs.declared.progress.Progress.{Progress}
+use Rattle.segment_progress.specs.declared.halt.Halt.{Halt}
+use Rattle.segment_progress.specs.declared.halt.Halt.TheVariants.{Memory, Stopped}
+use Rattle.segment_progress.specs.declared.progress.Source.{Source}
+use Rattle.segment_progress.specs.declared.progress.Source.TheVariants as source
+use Rattle.segment_progress.specs.declared.progress.Next.{Next}
+use Rattle.segment_progress.specs.declared.progress.Rest.{Rest}
+use Rattle.segment_progress.specs.declared.progress.Progress.{Progress}
 use Rattle.replay_spec.specs.Tape as spec
 
 -- what is left to read
