@@ -2,10 +2,9 @@
 use Rattle.std.proofs.Common.{◌≡◌, ℕ, zero, suc, ◌-◌, ◌<◌, ℤ, pos, negsuc, List, [], ◌∷◌, ◌++◌, length, Result, Ok, Err, refl, ap, arith}
 use Rattle.script_value.specs.Val.{Val, number}
 use Rattle.script_value.specs.declared.outcome.Fault.{Fault}
-use Rattle.script_value.specs.declared.outcome.Fault.TheVariants.{WrongType}
 use Rattle.prim_ops.specs.Lists.{list_of}
 use Rattle.replay_spec.specs.Tape.{State, faulted, stop, answer}
-use Rattle.segment_progress.specs.States.{IsNoCount}
+use Rattle.segment_progress.specs.Counts.{count_of}
 use Rattle.machine_spec.specs.Machine.{Frame, inside_of, in_turn, visits, given, next_turn, first_turn}
 
 pub more_turns : (n turns b left : ℕ) (done env : List Val) (fs : List Frame) (s : State) → 0 < left
@@ -26,12 +25,17 @@ one_done n turns b done env v fs s = ap (λ (k : ℕ). next_turn n turns b (turn
     more [] = refl
     more (x ∷ xs) = ap suc (more xs)
 
-pub all_turns : (n b k : ℕ) (r : Result ℤ Fault) (env : List Val) (fs : List Frame) (s : State) → r ≡ Ok (pos k)
+pub all_turns : (n b k : ℕ) (r : Result ℤ Fault) (env : List Val) (fs : List Frame) (s : State) → count_of r ≡ Ok k
     → first_turn n b r env fs s ≡ next_turn n k b (k - 0) [] env fs s
-all_turns n b k r env fs s e = rw e (ap (λ (j : ℕ). next_turn n k b j [] env fs s) (let h : k ≡ k - 0 = omega arith in h))
+all_turns n b k (Ok (pos j)) env fs s e =
+    let same : j ≡ k = cc in
+    let whole : k ≡ k - 0 = omega arith in
+    rw same (ap (λ (i : ℕ). next_turn n k b i [] env fs s) whole)
+all_turns n b k (Ok (negsuc j)) env fs s e = absurd (cc)
+all_turns n b k (Err j) env fs s e = absurd (cc)
 
-pub no_count : (n b : ℕ) (r : Result ℤ Fault) (env : List Val) (fs : List Frame) (s : State) → IsNoCount r
-    → first_turn n b r env fs s ≡ stop (faulted WrongType) (inside_of fs) s
-no_count n b (Ok (pos k)) env fs s h = absurd h
-no_count n b (Ok (negsuc k)) env fs s h = refl
-no_count n b (Err k) env fs s h = rw h refl
+pub no_count : (n b : ℕ) (k : Fault) (r : Result ℤ Fault) (env : List Val) (fs : List Frame) (s : State) → count_of r ≡ Err k
+    → first_turn n b r env fs s ≡ stop (faulted k) (inside_of fs) s
+no_count n b k (Ok (pos j)) env fs s e = absurd (cc)
+no_count n b k (Ok (negsuc j)) env fs s e = cc
+no_count n b k (Err j) env fs s e = cc

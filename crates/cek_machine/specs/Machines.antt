@@ -3,16 +3,21 @@ use Rattle.std.specs.Prelude.{◌≡◌, ℕ, ◌+◌, [], Option, Some, None}
 use Rattle.segments.specs.declared.ends.PlainEnd.{PlainEnd}
 use Rattle.segments.specs.Views.{outcome_of}
 use Rattle.segment_progress.specs.States.{state_of}
-use Rattle.script_nodes.specs.Arena.{Arena}
+use Rattle.script_nodes.specs.Arena.{Arena, IsScript}
 use Rattle.replay_spec.specs.Tape.{Now}
 use Rattle.machine_spec.specs.Laws.{started}
 use Rattle.machine_spec.specs.Machine as spec
 use Rattle.machine_spec.specs.Machine.{inside_of, goes, stopped, step, steps}
 use Rattle.cek_machine.specs.declared.machine.Machine.{Machine}
-use Rattle.cek_machine.specs.Spots.{point, frames_of}
+use Rattle.machine_spec.specs.Fits.{FitsAt}
+use Rattle.cek_machine.specs.Spots.{point, frames_of, control_of, Sound}
 
 abbrev pub machine_of : Machine → spec.Machine
 machine_of m = record { point = point m.control m.spot; state = state_of m.spot.progress }
+
+-- it fits its script, and what it is inside is its frames'
+abbrev pub IsReady : Machine → Type 0
+IsReady m = Sound m.spot × (IsScript m.script.now × FitsAt m.script.now (control_of m.control) m.spot.env (frames_of m.spot))
 
 -- what is kept of a machine
 abbrev pub kept_of : Machine → spec.Suspended
@@ -27,9 +32,8 @@ Steps (Some end) a old new = step a (machine_of old) ≡ stopped (outcome_of end
 abbrev pub start_of : Arena → Now → spec.Machine
 start_of a now = started a (record { first = now; later = [] })
 
--- so many steps were taken; the last of them is a stop
-abbrev pub Runs : Option PlainEnd → (a : Arena) → (old new : Machine) → (before count : ℕ) → Type 0
-Runs None a old new before count = (k : ℕ) × ((count ≡ before + k) × (steps a k (machine_of old) ≡ goes (machine_of new)))
-Runs (Some end) a old new before count =
+-- these steps were taken, and the last of them is this stop
+abbrev pub Runs : PlainEnd → (a : Arena) → (old new : Machine) → (before count : ℕ) → Type 0
+Runs end a old new before count =
     (k : ℕ) × ((count ≡ before + k + 1) × ((mid : spec.Machine) × ((steps a k (machine_of old) ≡ goes mid)
     × (step a mid ≡ stopped (outcome_of end) (inside_of (frames_of new.spot)) (kept_of new) (state_of new.spot.progress)))))

@@ -1,20 +1,16 @@
 ghost use Rattle.std.specs.Prelude.{◌≡◌, ◌<◌, ◌≤◌, ◌+◌, ◌-◌, ◌^◌, ◌∷◌, ◌++◌, [], length, suc, OnOk, IsTrue};
 ghost use Rattle.script_value.specs.Views.{meaning};
-ghost use Rattle.prim_ops.specs.Table.{takes, value_of};
-ghost use Rattle.replay_spec.specs.Tape.{answer, send_page, shadow, set_cell, add_cell};
+ghost use Rattle.prim_ops.specs.Table.{takes};
+ghost use Rattle.replay_spec.specs.Tape.{send_page, shadow, set_cell, add_cell};
 ghost use Rattle.replay_spec.specs.Eval.{value_at, copied};
-ghost use Rattle.segment_progress.specs.States.{state_of, inside_of as plain_inside, Gives};
-ghost use Rattle.segment_progress.specs.declared.progress.Progress.{Progress as Steps};
 ghost use Rattle.script_nodes.specs.declared.script.Node.TheVariants as variant;
 ghost use Rattle.machine_spec.specs.Machine.{inside_of, given, visits, next_part, next_operand, next_binding, visited};
 ghost use Rattle.cek_machine.specs.Spots.{Moves, Sound, SoundUnder, IsFlat, frame_of};
 
 use crate::frame::{Control, Frame};
 use script_nodes::SendKind;
-use plain_rerun::PlainEnd;
-use plain_rerun::progress::{Halt, Progress};
-use prim_ops::{ApplyFault, apply};
 use script_value::{Items, Op, Value};
+use segment_progress::{Halt, Progress, applied};
 use std::alloc::Global;
 
 /// Where a machine is, its control aside.
@@ -25,18 +21,6 @@ pub struct Spot<'t> {
     pub progress: Progress<'t>,
 }
 
-// The value of an operation, or the stop at its fault.
-pub fn applied(alloc: Global, op: Op, operands: Items) -> Result<Value, Halt>
-    requires { IsTrue (takes op (length operands)) }
-    ensures { (p : Steps) → Gives meaning result p (answer (plain_inside p) (value_of op operands) (state_of p)) }
-{
-    match apply(alloc, op, operands) {
-        Ok(value) => Ok(value),
-        Err(ApplyFault::Fault(fault)) => Err(Halt::Stopped(PlainEnd::Faulted(fault))),
-        Err(ApplyFault::Memory) => Err(Halt::Memory),
-    }
-}
-
 impl<'t> Spot<'t> {
     /// A value that a node names is copied, and given.
     pub fn copy_of(&mut self, alloc: Global, value: &Value) -> Result<Control, Halt>
@@ -44,7 +28,7 @@ impl<'t> Spot<'t> {
         ensures gives { Moves result self.old self.new (λ env fs. given (copied (inside_of fs) (meaning value.now)) env fs) }
         ensures sound { OnOk result (Sound self.new) }
     {
-        let value = self.progress.copy_of(alloc, value)?;
+        let value = self.progress.copy_of(alloc, Some(value))?;
         Ok(Control::Give(value))
     }
 
@@ -54,16 +38,8 @@ impl<'t> Spot<'t> {
         ensures gives { Moves result self.old self.new (λ env fs. given (copied (inside_of fs) (value_at env place)) env fs) }
         ensures sound { OnOk result (Sound self.new) }
     {
-        match self.env.get(place) {
-            Some(value) => {
-                let value = self.progress.copy_of(alloc, value)?;
-                Ok(Control::Give(value))
-            }
-            None => {
-                let value = self.progress.copied(Value::Truth(false))?;
-                Ok(Control::Give(value))
-            }
-        }
+        let value = self.progress.copy_of(alloc, self.env.get(place))?;
+        Ok(Control::Give(value))
     }
 
     /// The value of a web cell is copied, and given.
@@ -72,8 +48,7 @@ impl<'t> Spot<'t> {
         ensures gives { Moves result self.old self.new (visited node (variant.CellRef cell)) }
         ensures sound { OnOk result (Sound self.new) }
     {
-        let value = self.progress.web_value(alloc, cell)?;
-        let value = self.progress.copied(value)?;
+        let value = self.progress.web_cell(alloc, cell)?;
         Ok(Control::Give(value))
     }
 
@@ -83,8 +58,7 @@ impl<'t> Spot<'t> {
         ensures gives { Moves result self.old self.new (visited node (variant.InstRef cell)) }
         ensures sound { OnOk result (Sound self.new) }
     {
-        let value = self.progress.read_cell(alloc, cell)?;
-        let value = self.progress.copied(value)?;
+        let value = self.progress.instance_cell(alloc, cell)?;
         Ok(Control::Give(value))
     }
 

@@ -1,87 +1,45 @@
-ghost use Rattle.std.specs.Prelude.{◌≡◌, ◌<◌, ◌≤◌, ◌+◌, ◌-◌, ◌^◌, ◌∷◌, ◌++◌, [], OnOk, IfSome, IsTrue, length, drop, suc, pos};
-ghost use Rattle.script_value.specs.Val.{number};
+ghost use Rattle.std.specs.Prelude.{◌≡◌, ◌<◌, ◌≤◌, ◌+◌, ◌-◌, ◌∷◌, ◌++◌, [], OnOk, length, drop, suc, pos};
 ghost use Rattle.script_value.specs.Views.{meaning};
-ghost use Rattle.replay_spec.specs.Tape.{as_number};
-ghost use Rattle.segment_progress.specs.States.{Counts};
-ghost use Rattle.prim_ops.specs.Table.{takes, is_false};
+ghost use Rattle.replay_spec.specs.Tape.{leave};
 ghost use Rattle.cek_machine.specs.declared.frame.Frame.TheVariants as frame;
-ghost use Rattle.machine_spec.specs.Machine.{node_at, taken, next_turn, next_part, in_seq};
-ghost use Rattle.cek_machine.specs.Spots.{Moves, Sound, SoundUnder, IsFlat, frame_of};
+ghost use Rattle.machine_spec.specs.Machine.{given, taken, next_turn};
+ghost use Rattle.cek_machine.specs.Kinds.{IsNodeAt, IsFor, IsIf, IsStore, IsRowAt, IsPrimAt, IsLetAt, Stands};
+ghost use Rattle.cek_machine.specs.Spots.{Moves, Sound, SoundUnder, frame_of};
 
 use crate::frame::{Control, Frame};
-use crate::spot::{Spot, applied};
-use crate::visits::node_of;
+use crate::nodes::{behind, node_of, row_of, turn_behind};
+use crate::spot::Spot;
 use script_nodes::{Node, Script};
-use plain_rerun::PlainEnd;
-use plain_rerun::progress::{Halt, halt_ended, halt_finished};
-use script_value::{Fault, Items, Op, TxName, Value};
+use script_value::{Items, Op, TxName, Value};
+use segment_progress::{Halt, How, applied, halt_at, is_false, turn_count};
 use std::alloc::Global;
 
-// Whether a value is #f, the only one that is false.
-fn is_false(value: &Value) -> bool
-    ensures { result ≡ is_false (meaning value.now) }
-{
-    match value {
-        Value::Truth(truth) => !*truth,
-        _ => false,
-    }
-}
-
-// How many turns a value says, where it is a number that is not negative.
-fn turn_count(count: &Value) -> Option<u64>
-    ensures { Counts result (as_number (meaning count.now)) }
-{
-    match count {
-        Value::Int(count) => {
-            if *count < 0 {
-                return None;
-            }
-            Some(*count as u64)
-        }
-        _ => None,
-    }
-}
-
-// The parts behind this one.
-fn behind(parts: &[u32], part: usize) -> Option<&[u32]>
-    ensures left { IfSome result (λ left. left.now ≡ drop (suc part) parts.now) }
-    ensures length { IfSome result (λ left. part + 1 + length left.now ≡ length parts.now) }
-{
-    if part < parts.len() {
-        Some(&parts[part + 1..])
-    } else {
-        None
-    }
-}
-
 impl<'t> Spot<'t> {
-    fn take_seq(
+    // A binding is done: the next, or the body.
+    fn take_binding(
         &mut self,
         script: &Script,
         node: u32,
-        part: usize,
+        done: Items,
         value: Value,
     ) -> Result<Control, Halt>
-        requires { Sound self.old }
-        ensures gives { Moves result self.old self.new (taken script.now (frame_of (frame.Seq node part)) (meaning value)) }
+        requires sound { Sound self.old }
+        requires stands { IsLetAt script.now node (length done) }
+        ensures gives { Moves result self.old self.new (taken script.now (frame_of (frame.Binding node done)) (meaning value)) }
         ensures sound { OnOk result (Sound self.new) }
     {
         match node_of(script, node) {
-            Some(Node::Seq { parts }) => match behind(parts.as_slice(), part) {
-                Some(left) => self.next_part(
-                    Frame::Seq {
-                        node,
-                        part: part + 1,
-                    },
-                    left,
-                    value,
-                ),
-                None => Err(Halt::Memory),
-            },
-            _ => Err(Halt::Memory),
+            Node::Let { bindings, body } => {
+                let left = behind(bindings.as_slice(), done.len());
+                let mut done = done;
+                done.push(value)?;
+                self.next_binding(node, left, *body, done)
+            }
+            _ => unreachable!(),
         }
     }
 
+    // An operand is done: the next, or the operation.
     fn take_operand(
         &mut self,
         script: &Script,
@@ -90,114 +48,44 @@ impl<'t> Spot<'t> {
         done: Items,
         value: Value,
     ) -> Result<Control, Halt>
-        requires { Sound self.old }
+        requires sound { Sound self.old }
+        requires stands { IsPrimAt script.now node (length done) }
         ensures gives { Moves result self.old self.new (taken script.now (frame_of (frame.Operand node done)) (meaning value)) }
         ensures sound { OnOk result (Sound self.new) }
     {
         match node_of(script, node) {
-            Some(Node::Prim { op, operands }) => match behind(operands.as_slice(), done.len()) {
-                Some(left) => {
-                    let mut done = done;
-                    done.push(value)?;
-                    self.next_operand(alloc, node, *op, left, done)
-                }
-                None => Err(Halt::Memory),
-            },
-            _ => Err(Halt::Memory),
+            Node::Prim { op, operands } => {
+                let left = behind(operands.as_slice(), done.len());
+                let mut done = done;
+                done.push(value)?;
+                self.next_operand(alloc, node, *op, left, done)
+            }
+            _ => unreachable!(),
         }
     }
 
-    fn take_if(
+    // A part of a sequence is done: the next, or its value.
+    fn take_seq(
         &mut self,
         script: &Script,
         node: u32,
         part: usize,
         value: Value,
     ) -> Result<Control, Halt>
-        requires { Sound self.old }
-        ensures gives { Moves result self.old self.new (taken script.now (frame_of (frame.If node part)) (meaning value)) }
+        requires sound { Sound self.old }
+        requires stands { IsRowAt script.now node part }
+        ensures gives { Moves result self.old self.new (taken script.now (frame_of (frame.Seq node part)) (meaning value)) }
         ensures sound { OnOk result (Sound self.new) }
     {
-        if part != 0 {
-            return Ok(Control::Give(value));
-        }
-        match node_of(script, node) {
-            Some(
-                Node::If {
-                    then,
-                    otherwise,
-                    ..
-                },
-            ) => {
-                if is_false(&value) {
-                    self.work(Frame::If { node, part: 2 }, *otherwise)
-                } else {
-                    self.work(Frame::If { node, part: 1 }, *then)
-                }
-            }
-            _ => Err(Halt::Memory),
-        }
+        let left = behind(row_of(node_of(script, node)), part);
+        let next = Frame::Seq {
+            node,
+            part: part + 1,
+        };
+        self.next_part(next, left, value)
     }
 
-    fn take_isolate(
-        &mut self,
-        script: &Script,
-        node: u32,
-        name: TxName,
-        value: Value,
-    ) -> Result<Control, Halt>
-        requires { SoundUnder (frame.Isolate node name) self.old }
-        ensures gives { Moves result self.old self.new (taken script.now (frame_of (frame.Isolate node name)) (meaning value)) }
-        ensures sound { OnOk result (Sound self.new) }
-    {
-        let outside = self.progress.depth() - 1;
-        let value = self.progress.leave(outside, name, value)?;
-        Ok(Control::Give(value))
-    }
-
-    fn take_binding(
-        &mut self,
-        script: &Script,
-        node: u32,
-        done: Items,
-        value: Value,
-    ) -> Result<Control, Halt>
-        requires { Sound self.old }
-        ensures gives { Moves result self.old self.new (taken script.now (frame_of (frame.Binding node done)) (meaning value)) }
-        ensures sound { OnOk result (Sound self.new) }
-    {
-        match node_of(script, node) {
-            Some(Node::Let { bindings, body }) => match behind(bindings.as_slice(), done.len()) {
-                Some(left) => {
-                    let mut done = done;
-                    done.push(value)?;
-                    self.next_binding(node, left, *body, done)
-                }
-                None => Err(Halt::Memory),
-            },
-            _ => Err(Halt::Memory),
-        }
-    }
-
-    fn take_store(
-        &mut self,
-        script: &Script,
-        alloc: Global,
-        node: u32,
-        value: Value,
-    ) -> Result<Control, Halt>
-        requires { Sound self.old }
-        ensures gives { Moves result self.old self.new (taken script.now (frame_of (frame.Store node)) (meaning value)) }
-        ensures sound { OnOk result (Sound self.new) }
-    {
-        match node_of(script, node) {
-            Some(Node::CellShadow { cell, .. }) => self.shadow(*cell, value),
-            Some(Node::InstSet { cell, .. }) => self.set_cell(alloc, *cell, value),
-            Some(Node::InstAdd { cell, .. }) => self.add_cell(alloc, *cell, &value),
-            _ => Err(Halt::Memory),
-        }
-    }
-
+    // A part of a conjunction is done: the next, unless it is false.
     fn take_and(
         &mut self,
         script: &Script,
@@ -205,29 +93,23 @@ impl<'t> Spot<'t> {
         part: usize,
         value: Value,
     ) -> Result<Control, Halt>
-        requires { Sound self.old }
+        requires sound { Sound self.old }
+        requires stands { IsRowAt script.now node part }
         ensures gives { Moves result self.old self.new (taken script.now (frame_of (frame.And node part)) (meaning value)) }
         ensures sound { OnOk result (Sound self.new) }
     {
         if is_false(&value) {
             return Ok(Control::Give(value));
         }
-        match node_of(script, node) {
-            Some(Node::And { parts }) => match behind(parts.as_slice(), part) {
-                Some(left) => self.next_part(
-                    Frame::And {
-                        node,
-                        part: part + 1,
-                    },
-                    left,
-                    value,
-                ),
-                None => Err(Halt::Memory),
-            },
-            _ => Err(Halt::Memory),
-        }
+        let left = behind(row_of(node_of(script, node)), part);
+        let next = Frame::And {
+            node,
+            part: part + 1,
+        };
+        self.next_part(next, left, value)
     }
 
+    // A part of a disjunction is done: the next, if it is false.
     fn take_or(
         &mut self,
         script: &Script,
@@ -235,27 +117,84 @@ impl<'t> Spot<'t> {
         part: usize,
         value: Value,
     ) -> Result<Control, Halt>
-        requires { Sound self.old }
+        requires sound { Sound self.old }
+        requires stands { IsRowAt script.now node part }
         ensures gives { Moves result self.old self.new (taken script.now (frame_of (frame.Or node part)) (meaning value)) }
         ensures sound { OnOk result (Sound self.new) }
     {
         if !is_false(&value) {
             return Ok(Control::Give(value));
         }
-        match node_of(script, node) {
-            Some(Node::Or { parts }) => match behind(parts.as_slice(), part) {
-                Some(left) => self.next_part(
-                    Frame::Or {
-                        node,
-                        part: part + 1,
-                    },
-                    left,
-                    value,
-                ),
-                None => Err(Halt::Memory),
-            },
-            _ => Err(Halt::Memory),
+        let left = behind(row_of(node_of(script, node)), part);
+        let next = Frame::Or {
+            node,
+            part: part + 1,
+        };
+        self.next_part(next, left, value)
+    }
+
+    // The test is done: what it chooses. What was chosen is done: its value.
+    fn take_if(
+        &mut self,
+        script: &Script,
+        node: u32,
+        part: usize,
+        value: Value,
+    ) -> Result<Control, Halt>
+        requires sound { Sound self.old }
+        requires stands { IsNodeAt script.now IsIf node }
+        ensures gives { Moves result self.old self.new (taken script.now (frame_of (frame.If node part)) (meaning value)) }
+        ensures sound { OnOk result (Sound self.new) }
+    {
+        if part != 0 {
+            return Ok(Control::Give(value));
         }
+        match node_of(script, node) {
+            Node::If {
+                then,
+                otherwise,
+                ..
+            } => {
+                if is_false(&value) {
+                    self.work(Frame::If { node, part: 2 }, *otherwise)
+                } else {
+                    self.work(Frame::If { node, part: 1 }, *then)
+                }
+            }
+            _ => unreachable!(),
+        }
+    }
+
+    // What a cell is given is done: the cell has it.
+    fn take_store(
+        &mut self,
+        script: &Script,
+        alloc: Global,
+        node: u32,
+        value: Value,
+    ) -> Result<Control, Halt>
+        requires sound { Sound self.old }
+        requires stands { IsNodeAt script.now IsStore node }
+        ensures gives { Moves result self.old self.new (taken script.now (frame_of (frame.Store node)) (meaning value)) }
+        ensures sound { OnOk result (Sound self.new) }
+    {
+        match node_of(script, node) {
+            Node::CellShadow { cell, .. } => self.shadow(*cell, value),
+            Node::InstSet { cell, .. } => self.set_cell(alloc, *cell, value),
+            Node::InstAdd { cell, .. } => self.add_cell(alloc, *cell, &value),
+            _ => unreachable!(),
+        }
+    }
+
+    // What stands in a transaction is done: it is left.
+    fn take_isolate(&mut self, node: u32, name: TxName, value: Value) -> Result<Control, Halt>
+        requires { SoundUnder (frame.Isolate node name) self.old }
+        ensures gives { Moves result self.old self.new (λ env fs. given (leave name (meaning value)) env fs) }
+        ensures sound { OnOk result (Sound self.new) }
+    {
+        let outside = self.progress.depth() - 1;
+        let value = self.progress.leave(outside, name, value)?;
+        Ok(Control::Give(value))
     }
 
     // The next of the turns; behind them the list of their values is given.
@@ -268,14 +207,13 @@ impl<'t> Spot<'t> {
         body: u32,
         done: Items,
     ) -> Result<Control, Halt>
-        requires sound { Sound self.old }
-        requires few { turns < 2 ^ 63 }
+        requires { Sound self.old }
         ensures gives { Moves result self.old self.new (next_turn node turns body (turns - length done) done) }
         ensures sound { OnOk result (Sound self.new) }
     {
-        let turn = done.len() as u64;
-        if turn < turns {
-            self.env.push(Value::Int(turn as i64))?;
+        if (done.len() as u64) < turns {
+            let turn = turn_behind(&done)?;
+            self.env.push(Value::Int(turn))?;
             self.work(Frame::Turn { node, turns, done }, body)
         } else {
             let value = applied(alloc, Op::List, done)?;
@@ -283,6 +221,7 @@ impl<'t> Spot<'t> {
         }
     }
 
+    // A turn is done.
     #[tactic(auto, using(crate::proofs::Turns::one_done))]
     fn take_turn(
         &mut self,
@@ -293,41 +232,41 @@ impl<'t> Spot<'t> {
         done: Items,
         value: Value,
     ) -> Result<Control, Halt>
-        requires { Sound self.old }
+        requires sound { Sound self.old }
+        requires stands { IsNodeAt script.now IsFor node }
         ensures gives { Moves result self.old self.new (taken script.now (frame_of (frame.Turn node turns done)) (meaning value)) }
         ensures sound { OnOk result (Sound self.new) }
     {
-        if turns > i64::MAX as u64 {
-            return Err(Halt::Memory);
-        }
         match node_of(script, node) {
-            Some(Node::For { body, .. }) => {
+            Node::For { body, .. } => {
                 let mut done = done;
                 done.push(value)?;
                 self.next_turn(alloc, node, turns, *body, done)
             }
-            _ => Err(Halt::Memory),
+            _ => unreachable!(),
         }
     }
 
+    // The count of turns is done: the first turn.
     #[tactic(auto, using(crate::proofs::Turns::all_turns, crate::proofs::Turns::no_count))]
     fn take_count(
         &mut self,
         script: &Script,
         alloc: Global,
         node: u32,
-        value: &Value,
+        value: Value,
     ) -> Result<Control, Halt>
-        requires { Sound self.old }
-        ensures gives { Moves result self.old self.new (taken script.now (frame_of (frame.Count node)) (meaning value.now)) }
+        requires sound { Sound self.old }
+        requires stands { IsNodeAt script.now IsFor node }
+        ensures gives { Moves result self.old self.new (taken script.now (frame_of (frame.Count node)) (meaning value)) }
         ensures sound { OnOk result (Sound self.new) }
     {
         match node_of(script, node) {
-            Some(Node::For { body, .. }) => match turn_count(value) {
-                Some(turns) => self.next_turn(alloc, node, turns, *body, Items::new(alloc)),
-                None => Err(Halt::Stopped(PlainEnd::Faulted(Fault::WrongType))),
-            },
-            _ => Err(Halt::Memory),
+            Node::For { body, .. } => {
+                let turns = turn_count(value)?;
+                self.next_turn(alloc, node, turns, *body, Items::new(alloc))
+            }
+            _ => unreachable!(),
         }
     }
 
@@ -339,7 +278,8 @@ impl<'t> Spot<'t> {
         frame: Frame,
         value: Value,
     ) -> Result<Control, Halt>
-        requires { SoundUnder frame self.old }
+        requires sound { SoundUnder frame self.old }
+        requires stands { Stands script.now frame }
         ensures gives { Moves result self.old self.new (taken script.now (frame_of frame) (meaning value)) }
         ensures sound { OnOk result (Sound self.new) }
     {
@@ -348,18 +288,18 @@ impl<'t> Spot<'t> {
             Frame::Operand { node, done } => self.take_operand(script, alloc, node, done, value),
             Frame::Body { .. } => Ok(Control::Give(value)),
             Frame::Seq { node, part } => self.take_seq(script, node, part, value),
-            Frame::If { node, part } => self.take_if(script, node, part, value),
-            Frame::Store { node } => self.take_store(script, alloc, node, value),
-            Frame::Isolate { node, name } => self.take_isolate(script, node, name, value),
-            Frame::Page { kind, .. } => self.send(alloc, kind, &value),
-            Frame::Finish { .. } => Err(halt_finished(alloc, &value)),
-            Frame::Back { .. } => Err(halt_ended(alloc, &value)),
             Frame::And { node, part } => self.take_and(script, node, part, value),
             Frame::Or { node, part } => self.take_or(script, node, part, value),
-            Frame::Count { node } => self.take_count(script, alloc, node, &value),
+            Frame::If { node, part } => self.take_if(script, node, part, value),
+            Frame::Count { node } => self.take_count(script, alloc, node, value),
+            Frame::Store { node } => self.take_store(script, alloc, node, value),
             Frame::Turn { node, turns, done } => {
                 self.take_turn(script, alloc, node, turns, done, value)
             }
+            Frame::Isolate { node, name } => self.take_isolate(node, name, value),
+            Frame::Page { kind, .. } => self.send(alloc, kind, &value),
+            Frame::Finish { .. } => Err(halt_at(alloc, How::Finishes, &value)),
+            Frame::Back { .. } => Err(halt_at(alloc, How::Ends, &value)),
         }
     }
 }

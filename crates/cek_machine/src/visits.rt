@@ -1,28 +1,16 @@
-ghost use Rattle.std.specs.Prelude.{◌≡◌, ◌<◌, OnOk, IfSome, IsTrue, length, slice_get, Some};
+ghost use Rattle.std.specs.Prelude.{OnOk, IsTrue, length};
 ghost use Rattle.prim_ops.specs.Table.{takes};
 ghost use Rattle.script_nodes.specs.declared.script.Node.TheVariants as variant;
 ghost use Rattle.script_nodes.specs.Arena.{IsFull};
-ghost use Rattle.machine_spec.specs.Machine.{node_at, visited};
+ghost use Rattle.machine_spec.specs.Machine.{visited};
 ghost use Rattle.cek_machine.specs.Spots.{Moves, Sound, IsFlat, frame_of, paid_visit};
 
 use crate::frame::{Control, Frame};
 use crate::spot::Spot;
-use script_nodes::{Node, Numbers, Script};
-use plain_rerun::progress::Halt;
+use script_nodes::{Node, Numbers};
 use script_value::{Items, Op, Value};
+use segment_progress::Halt;
 use std::alloc::Global;
-
-/// The node of a number, where there is one.
-pub fn node_of(script: &Script, number: u32) -> Option<&Node>
-    ensures node { IfSome result (λ x. node_at script.now number ≡ x.now) }
-    ensures full { IfSome result (λ x. IsFull x.now) }
-{
-    if (number as usize) < script.count() {
-        Some(script.node(number))
-    } else {
-        None
-    }
-}
 
 impl<'t> Spot<'t> {
     /// A visit is charged, and a part is worked on in this frame.
