@@ -1,20 +1,24 @@
 -- A machine that fits stands on nodes that are there.
-use Rattle.std.proofs.Common.{◌≡◌, ℕ, ◌<◌, List, [], ◌∷◌, length, Some, slice_get, subst, arith}
+use Rattle.std.proofs.Common.{◌≡◌, ℕ, ◌<◌, ◌^◌, List, [], ◌∷◌, length, Some, slice_get, sym, ap, subst, arith}
 use Rattle.script_value.specs.Val.{Val}
 use Rattle.script_value.specs.declared.value.Value.{Value}
 use Rattle.script_nodes.specs.declared.script.Node.{Node}
 use Rattle.script_nodes.specs.Arena.{Arena, IsScript, parts}
+use Rattle.segment_progress.specs.States.{state_of}
+use Rattle.replay_spec.specs.Tape.{got}
 use Rattle.machine_spec.specs.Machine as spec
-use Rattle.machine_spec.specs.Machine.{node_at, bindings_in, goes, step, in_binding, in_operand, in_seq, in_and, in_or, in_if, in_count, in_store, in_turn}
+use Rattle.machine_spec.specs.Machine.{node_at, bindings_in, next, goes, step, outer_env, outer_frames, stepped, in_binding, in_operand, in_seq, in_and, in_or, in_if, in_count, in_store, in_turn}
 use Rattle.machine_spec.specs.Fits.{node_of, place_of, IsKind, Works, FitsAt}
 use Rattle.machine_spec.proofs.Fitting.{node_is_there}
-use Rattle.machine_spec.proofs.Stepping.{visit_there, place_there, fits_on}
+use Rattle.machine_spec.proofs.Stepping.{visit_there, place_there, fits_on, pays_on}
+use Rattle.machine_spec.specs.Dues.{InSegment}
+use Rattle.cek_machine.specs.Machines.{most_cost, steps_left}
 use Rattle.cek_machine.specs.declared.frame.Frame.{Frame}
 use Rattle.cek_machine.specs.declared.frame.Frame.TheVariants as frame
-use Rattle.cek_machine.specs.declared.machine.Machine.{Machine}
+use Rattle.cek_machine.specs.declared.frame.Control.{Control}
+use Rattle.cek_machine.specs.declared.spot.Spot.{Spot}
 use Rattle.cek_machine.specs.Kinds.{IsRow, IsLet, IsPrim, IsIf, IsFor, IsStore, Stands}
-use Rattle.cek_machine.specs.Spots.{frame_of, Sound}
-use Rattle.cek_machine.specs.Machines.{machine_of, IsReady}
+use Rattle.cek_machine.specs.Spots.{frame_of, frames_of, control_of, point}
 
 pub visits_there : (a : Arena) (n : ℕ) (env : List Val) (fs : List spec.Frame) → IsScript a → FitsAt a (spec.visit n) env fs → n < length a.nodes
 visits_there a n env fs i w = visit_there a i n env fs w
@@ -75,7 +79,25 @@ stands a f v env fs gs e w =
     let x = subst (λ (hs : List spec.Frame). FitsAt a (spec.value v) env hs) e w in
     by_kind a f x.0 x.1.0 x.1.1.0
 
--- a machine that is ready goes on as one that is
-pub ready_on : (old new : Machine) → new.script.now ≡ old.script.now → IsReady old → Sound new.spot → step old.script.now (machine_of old) ≡ goes (machine_of new) → IsReady new
-ready_on old new same r sound e =
-    (sound, (rw same r.1.0, rw same (fits_on old.script.now (machine_of old) (machine_of new) r.1.1 e)))
+-- what is next of a machine that fits
+pub fits_next : (a : Arena) (c d : Control) (s t : Spot) (e : Control) → d ≡ c → FitsAt a (control_of c) s.env (frames_of s)
+    → next a (control_of d) s.env (frames_of s) (state_of s.progress) ≡ got (point e t) (state_of t.progress) → FitsAt a (control_of e) t.env (frames_of t)
+fits_next a c d s t e same w g =
+    let here = subst (λ (x : Control). FitsAt a (control_of x) s.env (frames_of s)) (sym same) w in
+    let m : spec.Machine = record { point = point d s; state = state_of s.progress } in
+    let n : spec.Machine = record { point = point e t; state = state_of t.progress } in
+    fits_on a m n here (ap (stepped (outer_env (control_of d) s.env (frames_of s)) (outer_frames (control_of d) (frames_of s))) g)
+
+-- a step that goes on leaves fewer
+pub within_on : (a : Arena) (m n : spec.Machine) (fuel : ℕ) → fuel < 2 ^ 63 → InSegment fuel m.state → step a m ≡ goes n → InSegment fuel n.state
+within_on a m n fuel h w e = (pays_on fuel h a m n w e).0
+
+pub fewer_left : (a : Arena) (m n : spec.Machine) (fuel : ℕ) → fuel < 2 ^ 63 → InSegment fuel m.state → step a m ≡ goes n → steps_left n < steps_left m
+fewer_left a m n fuel h w e =
+    let p = pays_on fuel h a m n w e in
+    let before = ap most_cost w.reads in
+    let behind = ap most_cost p.0.reads in
+    let paid = p.1 in
+    let least = w.cost in
+    let most = p.0.cost in
+    omega (arith, before, behind)

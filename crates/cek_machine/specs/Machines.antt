@@ -1,15 +1,16 @@
 -- The machine of the program, and a step of it.
-use Rattle.std.specs.Prelude.{◌≡◌, ℕ, ◌+◌, [], Option, Some, None}
+use Rattle.std.specs.Prelude.{◌≡◌, ℕ, ◌+◌, ◌-◌, ◌*◌, ◌^◌, ◌<◌, [], Option, Some, None, unwrap_or}
 use Rattle.segments.specs.declared.ends.PlainEnd.{PlainEnd}
 use Rattle.segments.specs.Views.{outcome_of}
 use Rattle.segment_progress.specs.States.{state_of}
 use Rattle.script_nodes.specs.Arena.{Arena, IsScript}
-use Rattle.replay_spec.specs.Tape.{Now}
+use Rattle.replay_spec.specs.Tape.{Now, Reads, bound}
 use Rattle.machine_spec.specs.Laws.{started}
 use Rattle.machine_spec.specs.Machine as spec
 use Rattle.machine_spec.specs.Machine.{inside_of, goes, stopped, step, steps}
 use Rattle.cek_machine.specs.declared.machine.Machine.{Machine}
 use Rattle.machine_spec.specs.Fits.{FitsAt}
+use Rattle.machine_spec.specs.Dues.{InSegment, owed}
 use Rattle.cek_machine.specs.Spots.{point, frames_of, control_of, Sound}
 
 abbrev pub machine_of : Machine → spec.Machine
@@ -18,6 +19,18 @@ machine_of m = record { point = point m.control m.spot; state = state_of m.spot.
 -- it fits its script, and what it is inside is its frames'
 abbrev pub IsReady : Machine → Type 0
 IsReady m = Sound m.spot × (IsScript m.script.now × FitsAt m.script.now (control_of m.control) m.spot.env (frames_of m.spot))
+
+-- its segment runs over present cells, with no answer left, and within its fuel
+abbrev pub IsWithin : Machine → Type 0
+IsWithin m = (fuel : ℕ) × ((fuel < 2 ^ 63) × InSegment fuel (state_of m.spot.progress))
+
+-- the fuel that bounds a segment
+abbrev pub most_cost : Reads → ℕ
+most_cost reads = unwrap_or (bound reads) 0
+
+-- the most steps that are left
+abbrev pub steps_left : spec.Machine → ℕ
+steps_left m = owed m.point + 2 * (most_cost m.state.segment.reads - m.state.cost)
 
 -- what is kept of a machine
 abbrev pub kept_of : Machine → spec.Suspended

@@ -1,14 +1,15 @@
-ghost use Rattle.std.specs.Prelude.{◌≡◌, ◌+◌, OnOk, IfOk, None};
+ghost use Rattle.std.specs.Prelude.{◌≡◌, ◌+◌, OnOk, IfOk, None, map};
 ghost use Rattle.script_value.specs.Views.{meaning};
 ghost use Rattle.script_nodes.specs.Arena.{IsScript};
-ghost use Rattle.segments.specs.Views.{now_of};
+ghost use Rattle.segments.specs.Views.{now_of, outcome_of};
+ghost use Rattle.instance_cells.specs.Views.{effect_of};
 ghost use Rattle.segment_progress.specs.States.{state_of};
 ghost use Rattle.machine_spec.specs.Machine.{cut, next, outer_env, outer_frames, inside_of};
 ghost use Rattle.machine_spec.specs.Fits.{FitsAt, Fits};
 ghost use Rattle.machine_spec.specs.Laws.{resumed};
 ghost use Rattle.cek_machine.specs.Kinds.{Stands};
 ghost use Rattle.cek_machine.specs.Spots.{suspended_of, Sound, Pops, ComesOut, frame_of, frames_of, control_of};
-ghost use Rattle.cek_machine.specs.Machines.{Steps as StepsSo, IsReady, machine_of, start_of};
+ghost use Rattle.cek_machine.specs.Machines.{Steps as StepsSo, Runs, IsReady, IsWithin, machine_of, start_of, kept_of};
 
 use crate::frame::{Control, Frame, Suspended};
 use crate::nodes::node_of;
@@ -17,7 +18,7 @@ use crate::steps::Steps;
 use script_nodes::Script;
 use script_value::{Items, Value};
 use segment_progress::{Halt, How, Progress, halt_at};
-use segments::{Now, PlainEnd};
+use segments::{Now, PlainEnd, Rerun};
 use std::alloc::{AllocError, Global};
 use std::mem;
 use std::sync::ledger::Ledger;
@@ -142,7 +143,6 @@ impl<'s> Machine<'s> {
     }
 
     /// One step of the table, which counts one: the machine goes on, or it stops so.
-    #[tactic(auto, using(crate::proofs::Standing::ready_on))]
     pub fn step<L: Ledger>(
         &mut self,
         alloc: Global,
@@ -164,5 +164,46 @@ impl<'s> Machine<'s> {
             Err(Halt::Stopped(end)) => Ok(Some(end)),
             Err(Halt::Memory) => Err(AllocError),
         }
+    }
+
+    /// Steps up to the stop. A segment over present cells comes to one.
+    pub fn run<L: Ledger>(
+        &mut self,
+        alloc: Global,
+        steps: &mut Steps<L>,
+    ) -> Result<PlainEnd, AllocError>
+        requires ready { IsReady self.old }
+        requires within { IsWithin self.old }
+        ensures runs { IfOk result (λ end. Runs end self.old.script.now self.old self.new steps.old steps.new) }
+    {
+        loop {
+            match self.step(alloc, steps)? {
+                Some(end) => return Ok(end),
+                None => (),
+            }
+        }
+    }
+
+    /// What the segment came to, where it stopped so, and what is kept of the machine there.
+    pub fn into_parts(self, alloc: Global, end: PlainEnd) -> (Rerun, Suspended)
+        ensures end { outcome_of result.0.end ≡ outcome_of end }
+        ensures effects { map effect_of result.0.effects.items ≡ (state_of self.entry.spot.progress).effects }
+        ensures left { result.0.left.items ≡ (state_of self.entry.spot.progress).left }
+        ensures cost { result.0.cost ≡ (state_of self.entry.spot.progress).cost }
+        ensures kept { suspended_of result.1 ≡ kept_of self.entry }
+    {
+        let Machine { spot, .. } = self;
+        let Spot {
+            env,
+            frames,
+            progress,
+        } = spot;
+        let (rerun, shades) = progress.into_parts(alloc, end);
+        let state = Suspended {
+            env,
+            frames,
+            shades,
+        };
+        (rerun, state)
     }
 }
