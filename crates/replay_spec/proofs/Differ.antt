@@ -19,7 +19,8 @@ use Rattle.replay_spec.specs.Next.{Ticket, Visit, url_for, newest, comes_to, sta
 use Rattle.replay_spec.specs.Step.{Event, Fate, Reply, Decision, replies, records, unless, too_long, full_journal, with_room, change_by, reply_by, full, stopped, decide, step}
 use Rattle.replay_spec.specs.Invariant.{Apart, Unused, IsSound}
 use Rattle.replay_spec.specs.Runs.{lands}
-use Rattle.replay_spec.specs.Laws.{Distinct, IsInFuel, IsLawful, NamesDiffer, NamesStayDifferent, ShownIsOpen}
+use Rattle.replay_spec.specs.Laws.{Distinct, IsInFuel, IsLawful, Moment, then_book, book_after, AreLawful, AreShort, NamesDiffer, NamesStayDifferent, ShownIsOpen}
+use Rattle.replay_spec.proofs.Steps.{stepped}
 use Rattle.replay_spec.proofs.Names.{has_none, has_parts, none_open}
 use Rattle.replay_spec.proofs.Follows.{follow, own_of, distinct_of, apart_of}
 use Rattle.replay_spec.proofs.Numbered.{put_found, put_other}
@@ -155,11 +156,18 @@ went_names rules b d o (keeps scripts doubt down) l less g h =
     landed_names rules b (reopened_with scripts (land rules doubt.change doubt.inside b)) doubt.change doubt.inside g.orderly.instances.apart h (h.doubt doubt down) refl refl
 went_names rules b d o (loses scripts) l less g h = record { pages = h.pages; doubt = λ x e. absurd (let no : ⊥ = cc in no) }
 
+ran_names : (b : Book) (ms : List Moment) → IsSound b → NamesDiffer b → AreLawful ms b → AreShort ms → NamesDiffer (book_after ms b)
+ran_names b [] g h lawful short = h
+ran_names b (m ∷ ms) g h lawful short =
+    let d = then_book m b in
+    ran_names d ms (stepped m b g lawful.0).sound
+    (went_names m.rules b d (lands m.rules b m.event m.fate) (goes m.rules b m.nonce m.event m.fate) lawful.0 short.0 g h) lawful.1 short.1
+
 pub stay_different : NamesStayDifferent
-stay_different rules less = (
-  λ (scripts : List Named) (shelf : ℕ). record { pages = λ k n i p here shown. absurd (let no : ⊥ = cc in no); doubt = λ d e. absurd (let no : ⊥ = cc in no) },
-  λ (b : Book) (nonce : ℕ) (event : Event) (fate : Fate) (g : IsSound b) (h : NamesDiffer b) (lawful : IsLawful event b).
-      went_names rules b (step rules b nonce event fate).1 (lands rules b event fate) (goes rules b nonce event fate) lawful less g h,
+stay_different = (
+  λ (rules : Rules) (scripts : List Named) (shelf : ℕ).
+      record { pages = λ k n i p here shown. absurd (let no : ⊥ = cc in no); doubt = λ d e. absurd (let no : ⊥ = cc in no) },
+  ran_names,
 )
 
 pub shown_open : ShownIsOpen

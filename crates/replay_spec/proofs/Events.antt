@@ -14,7 +14,7 @@ use Rattle.replay_spec.specs.Runs.{lands, with_change}
 use Rattle.replay_spec.specs.Recovery.{most_fuel, remade, Made, number_in, is_repeated, with_number, taken_in, counted, redone, redo, records_after}
 use Rattle.replay_spec.specs.Invariant.{Among, IsOf, Unused, Apart, IsOrderly, IsSound}
 use Rattle.replay_spec.specs.Laws.{Moment, then_book, book_after, changes_of}
-use Rattle.replay_spec.specs.Remade.{IsRemade, IsRemadeDoubt, NamesItsCells, NameTheirCells, AreUsed, made_of, IsRemadeBy, EventsAreRemade, KeepsSetup, AreTakenIn, RecordsSuffice}
+use Rattle.replay_spec.specs.Remade.{IsRemade, IsRemadeDoubt, NamesItsCells, NameTheirCells, AreUsed, made_of, IsRemadeBy, GivesNamed, CellsStayNamed, EventsAreRemade, KeepsSetup, AreTakenIn, RecordsSuffice}
 use Rattle.replay_spec.proofs.Found.{KeepsNumber, keep_found}
 use Rattle.replay_spec.proofs.Going.{Goes, stays, draws, spends, publishes, fails, goes_to, fails_at, keeps, loses, goes}
 use Rattle.replay_spec.proofs.Orderly.{recorded_orderly, is_same}
@@ -153,11 +153,31 @@ named_landed : (b d : Book) (o : Option Change) → IsOrderly b → NameTheirCel
 named_landed b d None g h is = subst Named_in (sym is) h.instances
 named_landed b d (Some c) g h (inside, (fits, is)) = subst Named_in (sym is) (named_by b.scripts b.instances c inside g.instances.apart h.setup h.instances)
 
-named_then : (b : Book) (m : Moment) → IsOrderly b → NameTheirCells b → (then_book m b).scripts ≡ b.scripts → NameTheirCells (then_book m b)
-named_then b m g h same = record {
-  setup = λ k s at. h.setup k s (ap (λ (ss : List Named). slice_get ss k) (sym same) ∙ at);
+named_then : (b : Book) (m : Moment) → IsOrderly b → NameTheirCells b → ((k : ℕ) (s : Named) → slice_get (then_book m b).scripts k ≡ Some s → NamesItsCells s)
+    → NameTheirCells (then_book m b)
+named_then b m g h setup = record {
+  setup = setup;
   instances = named_landed b (then_book m b) (lands m.rules b m.event m.fate) g h (lands_as m.rules b (then_book m b) (lands m.rules b m.event m.fate) (goes m.rules b m.nonce m.event m.fate) g);
 }
+
+-- the setup behind an event
+given : (rules : Rules) (b : Book) (nonce : ℕ) (x : Event) (fate : Fate) → NameTheirCells b → GivesNamed x
+    → (k : ℕ) (s : Named) → slice_get (step rules b nonce x fate).1.scripts k ≡ Some s → NamesItsCells s
+unfolding step
+given rules b nonce (take target answer) fate h named k s at = h.setup k s (ap (λ (ss : List Named). slice_get ss k) (sym (took_setup b target nonce fate)) ∙ at)
+given rules b nonce (publish t) fate h named k s at =
+    h.setup k s (ap (λ (ss : List Named). slice_get ss k) (sym (settled_setup rules (spend t.number b) (fate_of rules.journal fate) (publish_comes rules b t))) ∙ at)
+given rules b nonce (sweep tick) fate h named k s at =
+    h.setup k s (ap (λ (ss : List Named). slice_get ss k) (sym (swept_setup rules b tick (fate_of rules.journal fate) (nat_le tick b.clock))) ∙ at)
+given rules b nonce (crash scripts) fate h named k s at = named k s at
+
+pub stay_named : CellsStayNamed
+stay_named = (
+  λ (rules : Rules) (scripts : List Named) (shelf : ℕ) (h : (k : ℕ) (s : Named) → slice_get scripts k ≡ Some s → NamesItsCells s).
+      record { setup = h; instances = λ k i found. absurd (let no : ⊥ = cc in no) },
+  λ (b : Book) (m : Moment) (g : IsOrderly b) (h : NameTheirCells b) (named : GivesNamed m.event).
+      named_then b m g h (given m.rules b m.nonce m.event m.fate h named),
+)
 
 -- what rules have to do with a record is the journal
 redone_alike : (r s : Rules) (c : Change) (o : Option (List TxName)) (b : Book) → r.journal ≡ s.journal → redone r c o b ≡ redone s c o b
@@ -209,4 +229,4 @@ suffice rules (m ∷ ms) b seen g names doubt used lawful under =
     let one = remake_by m.rules b d o seen went lawful.0 under.0 g names doubt used in
     let next = used_then b d o seen (uses m.rules b d o went lawful.0 g.orderly) well.later.fewer used in
     one_then m.rules rules b d (book_after ms d) o (changes_of ms d) seen under.1 setup one.0
-    (suffice rules ms d (seen_by o seen) well.sound (named_then b m g.orderly names setup) one.1 next lawful.1 under.3)
+    (suffice rules ms d (seen_by o seen) well.sound (named_then b m g.orderly names (λ k s at. names.setup k s (ap (λ (ss : List Named). slice_get ss k) (sym setup) ∙ at))) one.1 next lawful.1 under.3)

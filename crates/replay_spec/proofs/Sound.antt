@@ -26,8 +26,8 @@ module _ (u new : ℕ → Type 0) (shelf : ℕ) (is : List Instance) (g : AreOrd
   known : (t : TxName) (k : ℕ) → Knows is k t → u t.ticket → ⊥
   known t k h x = ⊎_elim (λ named. s.no_name t k named x) (λ shut. s.no_closed t k shut x) h
 
-  -- The instance of this number after a change: each page is of a transaction that stood in it or is new, and what it closed was
-  -- known there.
+  -- The instance of this number after a change: each page is of a transaction that stood in it or is new, and what it
+  -- closed was known there.
   record Renamed (k : ℕ) (j : Instance) : Type 0 where
     page : (m : ℕ) (p : Page) → page_at m j.pages ≡ Some p → PageAt is k m p ⊎ (new m × ((t : TxName) → Has p.inside t → NamedIn is k t ⊎ new t.ticket))
     closed : (t : TxName) → Has j.closed t → Knows is k t

@@ -150,7 +150,8 @@ abbrev pub book_after : List Moment → Book → Book
 book_after [] b = b
 book_after (m ∷ ms) b = book_after ms (then_book m b)
 
--- Each of these events is lawful where it comes. The rules may change whenever a shelf is opened, and the setup at each crash.
+-- Each of these events is lawful where it comes. The rules may change whenever a shelf is opened, and the setup at each
+-- crash.
 abbrev pub AreLawful : List Moment → Book → Type 0
 AreLawful [] b = ⊤
 AreLawful (m ∷ ms) b = IsLawful m.event b × AreLawful ms (then_book m b)
@@ -188,8 +189,8 @@ SoundBooksStay =
     ((rules : Rules) (scripts : List Named) (shelf : ℕ) → IsSound (empty_book rules scripts shelf))
     × ((b c : Book) → IsSound b → Leads b c → IsSound c)
 
--- So each book that is reached is sound, and of its shelf; what is reached from it has fewer unused numbers, and each run of a shelf
--- reaches its last book.
+-- So each book that is reached is sound, and of its shelf; what is reached from it has fewer unused numbers, and each run
+-- of a shelf reaches its last book.
 abbrev pub ReachedBooksAreSound : Type 0
 ReachedBooksAreSound =
     (shelf : ℕ) (b : Book) → IsReached shelf b
@@ -242,9 +243,9 @@ pub record Doubts (b : Book) (d : Decision) (count : ℕ) (c : Book) : Type 0 wh
   pub decided : d ≡ records reply change inside
   pub left : c ≡ record b { down = Some (record { count = count; change = change; inside = inside }) }
 
--- What shows a page lands what was decided, and so does a sweep. What ends or finishes lands it, or leaves the book where nothing
--- was to be recorded. The disk's fault leaves in doubt just what was decided, with the count that it tells. All else leaves the
--- book.
+-- What shows a page lands what was decided, and so does a sweep. What ends or finishes lands it, or leaves the book where
+-- nothing was to be recorded. The disk's fault leaves in doubt just what was decided, with the count that it tells. All
+-- else leaves the book.
 abbrev pub Spares : Rules → Book → Decision → Reply → Book → Type 0
 Spares rules b d (shown bytes url) c = Lands rules b d (shown bytes url) c
 Spares rules b d (swept n) c = Lands rules b d (swept n) c
@@ -341,12 +342,16 @@ pub record NamesDiffer (b : Book) : Type 0 where
   pub pages : (k n : ℕ) (i : Instance) (p : Page) → instance_at k b.instances ≡ Some i → page_at n i.pages ≡ Some p → Distinct p.inside
   pub doubt : (d : Doubt) → b.down ≡ Some d → Distinct d.inside
 
--- The names in a book differ, where fuel is too little for the count of a segment's transactions to stand still.
+-- fuel that is too little for the count of a segment's transactions to stand still
+abbrev pub AreShort : List Moment → Type 0
+AreShort [] = ⊤
+AreShort (m ∷ ms) = (m.rules.fuel < 2 ^ 32 - 1) × AreShort ms
+
+-- Under such fuel the names in a book go on to differ.
 abbrev pub NamesStayDifferent : Type 0
 NamesStayDifferent =
-    (rules : Rules) → rules.fuel < 2 ^ 32 - 1
-    → ((scripts : List Named) (shelf : ℕ) → NamesDiffer (empty_book rules scripts shelf))
-    × ((b : Book) (nonce : ℕ) (event : Event) (fate : Fate) → IsSound b → NamesDiffer b → IsLawful event b → NamesDiffer (step rules b nonce event fate).1)
+    ((rules : Rules) (scripts : List Named) (shelf : ℕ) → NamesDiffer (empty_book rules scripts shelf))
+    × ((b : Book) (ms : List Moment) → IsSound b → NamesDiffer b → AreLawful ms b → AreShort ms → NamesDiffer (book_after ms b))
 
 -- Then a page is inside no closed transaction when it is shown, those included that its own segment left.
 abbrev pub ShownIsOpen : Type 0
@@ -368,8 +373,8 @@ pub record Forwards (rules : Rules) (b : Book) (event : Event) (fate : Fate) (k 
   pub here : extension.instance ≡ k
   pub forward : extension.kind ≡ Forward
 
--- What revokes a page is a forward of its instance, and it revokes every page that is there, and not the one that it shows. A revoked
--- page stays revoked as long as its instance stands.
+-- What revokes a page is a forward of its instance, and it revokes every page that is there, and not the one that it
+-- shows. A revoked page stays revoked as long as its instance stands.
 abbrev pub AForwardRevokes : Type 0
 AForwardRevokes =
     (rules : Rules) (b : Book) (nonce : ℕ) (event : Event) (fate : Fate) → IsSound b → IsLawful event b → (k n : ℕ)
@@ -393,8 +398,8 @@ numbers_of (ends e ∷ cs) = e.number ∷ numbers_of cs
 numbers_of (finishes f ∷ cs) = f.number ∷ numbers_of cs
 numbers_of (sweeps tick ∷ cs) = numbers_of cs
 
--- No number is used twice, also over crashes: the segments that change a book have different numbers, and ones that were unused
--- before.
+-- No number is used twice, also over crashes: the segments that change a book have different numbers, and ones that were
+-- unused before.
 abbrev pub NoNumberTwice : Type 0
 NoNumberTwice =
     (ms : List Moment) (b : Book) → IsOrderly b → AreLawful ms b

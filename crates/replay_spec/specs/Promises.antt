@@ -35,8 +35,8 @@ pub record IsAdmitted (b : Book) (url : List ℕ) (t : Ticket) : Type 0 where
   pub number : at.page.number ≡ t.number
   pub nonce : at.page.nonce ≡ t.nonce
 
--- A page that is shown is admitted under its URL, at once, where it lives at all, and where fuel is too little for the count of a
--- segment's transactions to stand still.
+-- A page that is shown is admitted under its URL, at once, where it lives at all, and where fuel is too little for the
+-- count of a segment's transactions to stand still.
 abbrev pub AShownPageIsAdmitted : Type 0
 AShownPageIsAdmitted =
     (rules : Rules) (b : Book) (nonce : ℕ) (t : Ticket) (fate : Fate) → rules.fuel < 2 ^ 32 - 1 → 1 ≤ rules.life
@@ -99,8 +99,8 @@ abbrev pub IsAdmission : Admission → Type 0
 IsAdmission (refused r) = ⊥
 IsAdmission _ = ⊤
 
--- A visit that is admitted at its take gets a ticket, and one that is admitted again at its publish is answered as its script stops
--- then: where it meets no limit and no fault of the disk, and but for want of memory.
+-- A visit that is admitted at its take gets a ticket, and one that is admitted again at its publish is answered as its
+-- script stops then: where it meets no limit and no fault of the disk, and but for want of memory.
 abbrev pub AVisitIsAnswered : Type 0
 AVisitIsAnswered =
     (rules : Rules) (b : Book) (nonce : ℕ) (fate : Fate)

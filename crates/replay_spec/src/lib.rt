@@ -3,7 +3,7 @@
 
 ghost use Rattle.replay_spec.specs.Laws.{EffectsHoldRunSame, AHeldRunIsNext, EffectsAreOnCells, RecordedIsPresent, MoreFuelIsTheSame, NamesFollow, OrderlyBooksStay, SoundBooksStay, ReachedBooksAreSound, EachHasItsCells, EachChainReplays, PagesStay, RefusedIsUnchanged, AStartOpensOrLeaves, ClosedIsClosed, NamesStayDifferent, ShownIsOpen, AForwardRevokes, NoNumberTwice, TicketsAreOut, ShadowsRise};
 ghost use Rattle.replay_spec.specs.Promises.{TheClockNeverFalls, AShownPageIsAdmitted, NothingElseCloses, NothingElseFrees, AVisitIsAnswered};
-ghost use Rattle.replay_spec.specs.Remade.{EffectsHold, JournalIsLast, DecisionsAreRemade, EventsAreRemade, RecordsSuffice, RecordsMakeOrderlyBooks};
+ghost use Rattle.replay_spec.specs.Remade.{EffectsHold, JournalIsLast, CellsStayNamed, DecisionsAreRemade, EventsAreRemade, RecordsSuffice, RecordsMakeOrderlyBooks};
 
 // Of single runs of a script.
 
@@ -161,6 +161,11 @@ pub fn shown_is_open()
 /// The journal is asked last: a publish is decided as without one, and then its record is measured.
 pub fn journal_is_last()
     ensures { JournalIsLast }
+{}
+
+/// Scripts of a book go on to name cells that they have, where each setup does that is given at a crash.
+pub fn cells_stay_named()
+    ensures { CellsStayNamed }
 {}
 
 /// What a publish records is made again from its record, whose script is run again.
