@@ -15,7 +15,8 @@ use Rattle.script_nodes.specs.Closed.{IsClosed}
 use Rattle.core_syntax.specs.Expands.{IsLevel}
 use Rattle.core_syntax.specs.Definitions.{Defined, is_too_many, limited, at_form, begins_well, expanded}
 use Rattle.core_syntax.specs.Forms.{core_of}
-use Rattle.core_syntax.proofs.Closed.{Holds, closed_core}
+use Rattle.core_syntax.proofs.Holds.{Holds}
+use Rattle.core_syntax.proofs.Closed.{closed_core}
 use Rattle.script_nodes.proofs.Scripts.{script_laid}
 
 within_limits : (c : Core) → count c ≤ 16384 → height c ≤ 1024 → is_too_many c ≡ false

@@ -7,9 +7,8 @@ ghost use Rattle.core_syntax.specs.Expands.{Expands, ExpandsFault, IsLevel};
 use crate::defined::Defined;
 use crate::faults::{ExpandFault, ReadFault, SyntaxError, SyntaxKind};
 use crate::layout::lay;
-use crate::names::Names;
 use crate::nodes::{LayFault, Nodes};
-use crate::read::read;
+use crate::read::Reader;
 use crate::shapes::is_headed;
 use script_nodes::Script;
 use script_value::Value;
@@ -71,8 +70,13 @@ fn expand_expression<'a>(
     requires { IsLevel (cells_of defined) }
     ensures { Expands result (expression_at number (cells_of defined.entry) (meaning form.now) []) }
 {
-    let mut scope = Names::new(alloc);
-    let tree = match read(alloc, &defined.names, &mut scope, false, form) {
+    let Defined {
+        names,
+        web,
+        instance,
+    } = defined;
+    let mut reader = Reader::new(alloc, &names);
+    let tree = match reader.read(false, form) {
         Ok(tree) => tree,
         Err(fault) => return Err(at_number(number, fault)),
     };
@@ -80,7 +84,7 @@ fn expand_expression<'a>(
     match lay(alloc, &mut nodes, DEPTH_LIMIT, &tree) {
         Err(LayFault::Memory) => Err(ExpandFault::Memory),
         Err(LayFault::TooMany) => Err(at(number, SyntaxKind::TooMany)),
-        Ok(_) => Ok(Script::from_parts(nodes.into_vec(), defined.web, defined.instance)),
+        Ok(_) => Ok(Script::from_parts(nodes.into_vec(), web, instance)),
     }
 }
 

@@ -9,10 +9,12 @@ mod book;
 mod calls;
 mod chain;
 mod copies;
+mod in_order;
 mod install;
 mod instance;
 mod instances;
-mod numbers;
+mod list;
+mod numbered;
 mod page;
 mod pages;
 mod prepare;
@@ -20,10 +22,10 @@ mod prepared;
 mod ticket;
 
 pub use book::Book;
-pub use prepared::Prepared;
+pub use prepared::{Change, Ending, Extension, Finish, Opening, Prepared};
 pub use ticket::Ticket;
 
-/// A page that is admitted stands in its instance, which is of a script of the setup; and so is a start.
+/// A page that is admitted stands in its instance, and a start that is admitted is of a script of the setup.
 pub fn admitted_stand()
     ensures { AdmittedStand }
 {}
