@@ -124,7 +124,7 @@ steps_fit a (suc k) m n w e = by_first (λ m1 v h. steps_fit a k m1 n v h) (step
 -- what is owed at the beginning
 owed_begun : (from : Origin) (a : Arena) (x : Answer) → owed (begun from a x).point ≤ frames_in from + 1
 owed_begun Start a x = omega arith
-owed_begun (Page d) a x = omega (arith, length-reverse (map frame_of d.frames.items), length-map frame_of d.frames.items)
+owed_begun (Page d) a x = omega (arith, length-reverse (map frame_of d.frames.items), length-map d.frames.items frame_of)
 
 -- this stop was reached by so many steps
 abbrev pub Ran : Arena → Machine → spec.Outcome → List TxName → Suspended → State → (before count : ℕ) → Type 0
