@@ -1,14 +1,13 @@
 -- A machine that fits stands on nodes that are there.
-use Rattle.std.proofs.Common.{◌≡◌, ℕ, ◌<◌, ◌^◌, List, [], ◌∷◌, length, Some, slice_get, sym, ap, subst, arith}
+use Rattle.std.proofs.Common.{◌≡◌, ℕ, ◌<◌, ◌^◌, List, ◌∷◌, length, Some, slice_get, sym, ap, subst, arith}
 use Rattle.script_value.specs.Val.{Val}
-use Rattle.script_value.specs.declared.value.Value.{Value}
 use Rattle.script_nodes.specs.declared.script.Node.{Node}
 use Rattle.script_nodes.specs.Arena.{Arena, IsScript, parts}
 use Rattle.segment_progress.specs.States.{state_of}
 use Rattle.replay_spec.specs.Tape.{got}
 use Rattle.machine_spec.specs.Machine as spec
 use Rattle.machine_spec.specs.Machine.{node_at, bindings_in, next, goes, step, outer_env, outer_frames, stepped, in_binding, in_operand, in_seq, in_and, in_or, in_if, in_count, in_store, in_turn}
-use Rattle.machine_spec.specs.Fits.{node_of, place_of, IsKind, Works, FitsAt}
+use Rattle.machine_spec.specs.Fits.{node_of, place_of, IsKind, FitsAt}
 use Rattle.machine_spec.proofs.Fitting.{node_is_there}
 use Rattle.machine_spec.proofs.Stepping.{visit_there, place_there, fits_on, pays_on}
 use Rattle.machine_spec.specs.Dues.{InSegment}

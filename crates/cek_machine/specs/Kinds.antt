@@ -1,5 +1,5 @@
 -- Which frames of the program stand on their nodes.
-use Rattle.std.specs.Prelude.{ℕ, ◌<◌, List, length, ⊤}
+use Rattle.std.specs.Prelude.{ℕ, ◌<◌, length, ⊤}
 use Rattle.script_nodes.specs.declared.script.Node.{Node}
 use Rattle.script_nodes.specs.declared.script.Node.TheVariants as node
 use Rattle.script_nodes.specs.Arena.{Arena, parts}

@@ -1,15 +1,14 @@
 -- What a program that steps rests on.
-use Rattle.std.proofs.Common.{◌≡◌, ◌∙◌, ℕ, zero, suc, ◌+◌, ◌*◌, ◌^◌, ◌<◌, ◌≤◌, List, [], ◌∷◌, length, Some, slice_get, refl, subst, arith}
+use Rattle.std.proofs.Common.{◌≡◌, ℕ, zero, suc, ◌+◌, ◌*◌, ◌^◌, ◌<◌, ◌≤◌, List, [], ◌∷◌, length, Some, slice_get, refl, subst, arith}
 use Rattle.std.specs.List.{AllByRecursion}
 use Rattle.script_value.specs.Val.{Val}
 use Rattle.script_value.specs.declared.outcome.TxName.{TxName}
-use Rattle.script_nodes.specs.declared.script.Node.{Node}
 use Rattle.script_nodes.specs.Arena.{Arena, IsScript, IsBehind, parts}
-use Rattle.script_nodes.proofs.Scripts.{has_nodes, parts_behind}
+use Rattle.script_nodes.proofs.Scripts.{has_nodes}
 use Rattle.replay_spec.specs.Tape.{State, Outcome}
 use Rattle.replay_spec.specs.Laws.{Waits}
-use Rattle.machine_spec.specs.Machine.{Frame, visit, value, node_at, Machine, Suspended, Step, goes, stopped, step}
-use Rattle.machine_spec.specs.Fits.{node_of, place_of, IsKind, Works, FitsAt, Fits}
+use Rattle.machine_spec.specs.Machine.{Frame, visit, node_at, Machine, Suspended, Step, goes, stopped, step}
+use Rattle.machine_spec.specs.Fits.{node_of, place_of, FitsAt, Fits}
 use Rattle.machine_spec.specs.Dues.{InSegment, owed}
 use Rattle.machine_spec.proofs.Ends.{behind}
 use Rattle.machine_spec.proofs.Fitting.{FitsStep, step_fits}

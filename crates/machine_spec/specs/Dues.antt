@@ -1,7 +1,7 @@
 -- What bounds the steps of a segment.
 use Rattle.std.specs.Prelude.{◌≡◌, ◌≤◌, ℕ, suc, List, [], length}
 use Rattle.script_value.specs.Val.{Val}
-use Rattle.replay_spec.specs.Tape.{Reads, recorded, present, State}
+use Rattle.replay_spec.specs.Tape.{present, State}
 use Rattle.machine_spec.specs.Machine.{Control, visit, value, Point}
 
 -- a segment over present cells: no answer is left, and the cost is within the fuel

@@ -1,5 +1,5 @@
 -- What a machine came to is what its script comes to.
-use Rattle.std.proofs.Common.{◌≡◌, ◌∙◌, ℕ, zero, suc, ◌+◌, ◌*◌, ◌^◌, ◌<◌, ◌≤◌, List, [], length, map, refl, sym, ap, subst, arith}
+use Rattle.std.proofs.Common.{◌≡◌, ◌∙◌, ℕ, zero, suc, ◌+◌, ◌*◌, ◌^◌, ◌<◌, ◌≤◌, List, map, refl, sym, ap, subst, arith}
 use Rattle.std.proofs.lemmas.List.{length-reverse, length-map}
 use Rattle.script_value.specs.Val.{Val}
 use Rattle.script_value.specs.declared.outcome.TxName.{TxName}
@@ -10,11 +10,10 @@ use Rattle.replay_spec.specs.Tape.{Answer, Reads, recorded, present, State, Tape
 use Rattle.replay_spec.specs.Tape as spec
 use Rattle.replay_spec.specs.Eval as eval
 use Rattle.replay_spec.specs.Laws.{Waits, reading, longer}
-use Rattle.machine_spec.specs.Machine as machine
 use Rattle.machine_spec.specs.Machine.{Machine, Suspended, Step, goes, stopped, step, then, steps, inside_of}
 use Rattle.machine_spec.specs.Fits.{FitsAt, Fits}
 use Rattle.machine_spec.specs.Dues.{InSegment, owed}
-use Rattle.machine_spec.specs.Laws.{started, resumed, alone, Stops, segment_of, ComesTo, IsStateOf}
+use Rattle.machine_spec.specs.Laws.{started, resumed, alone, Stops, ComesTo, IsStateOf}
 use Rattle.machine_spec.proofs.Law.{resume_is, start_is}
 use Rattle.machine_spec.proofs.Replay.{first_stop}
 use Rattle.machine_spec.proofs.Bound.{halts}
@@ -22,7 +21,7 @@ use Rattle.machine_spec.proofs.Stepping.{fits_on, fits_kept}
 use Rattle.segments.specs.declared.ends.PlainEnd.{PlainEnd}
 use Rattle.segments.specs.Views as plain
 use Rattle.cek_machine.specs.declared.frame.Suspended as kept
-use Rattle.cek_machine.specs.Spots.{suspended_of, frame_of, stack}
+use Rattle.cek_machine.specs.Spots.{suspended_of, frame_of}
 use Rattle.send_suspend.specs.declared.segment.Origin.{Origin}
 use Rattle.send_suspend.specs.declared.segment.Origin.TheVariants.{Start, Page}
 use Rattle.send_suspend.specs.declared.segment.Outcome.{Outcome}
@@ -81,14 +80,24 @@ last_over a fuel m tape now c r is =
     let waits = λ (w : Waits (outcome_of r.outcome)). subst Waits is.outcome w in
     let run = eval.run (script_of a) (tape now) in
     let entered : c.stops.entered ≡ run.entered = ap (λ (x : eval.Segment). x.entered) c.runs in (
-      (is.outcome ∙ ap (λ (x : eval.Segment). x.outcome) c.runs,
-        (is.effects ∙ ap (λ (x : eval.Segment). x.effects) c.runs,
-          (is.left ∙ ap (λ (x : eval.Segment). x.left) c.runs,
-            (is.cost ∙ ap (λ (x : eval.Segment). x.cost) c.runs,
-              keeps r.outcome c.stops.kept (λ d. inside_of d.frames ≡ run.entered) is.kept (λ w. sym c.inside ∙ entered))))),
-      (keeps r.outcome c.stops.kept (λ d. IsStateOf a (tape now) d) is.kept (λ w. c.shows (waits w)),
+      (
+        is.outcome ∙ ap (λ (x : eval.Segment). x.outcome) c.runs,
+        (
+          is.effects ∙ ap (λ (x : eval.Segment). x.effects) c.runs,
+          (
+            is.left ∙ ap (λ (x : eval.Segment). x.left) c.runs,
+            (
+              is.cost ∙ ap (λ (x : eval.Segment). x.cost) c.runs,
+              keeps r.outcome c.stops.kept (λ d. inside_of d.frames ≡ run.entered) is.kept (λ w. sym c.inside ∙ entered),
+            ),
+          ),
+        ),
+      ),
+      (
+        keeps r.outcome c.stops.kept (λ d. IsStateOf a (tape now) d) is.kept (λ w. c.shows (waits w)),
         keeps r.outcome c.stops.kept (λ d. IsStateOf a (tape (recorded (reads_of (map effect_of r.effects.items)))) d) is.kept
-        (λ w. subst (λ (es : List Effect). IsStateOf a (tape (recorded (reads_of es))) c.stops.kept) (sym is.effects) (c.recorded (waits w)))),
+            (λ w. subst (λ (es : List Effect). IsStateOf a (tape (recorded (reads_of es))) c.stops.kept) (sym is.effects) (c.recorded (waits w))),
+      ),
     )
 
 -- the law of a segment

@@ -1,4 +1,3 @@
-use Rattle.std.proofs.Common.{◌≡◌, ap}
 use Rattle.script_value.specs.Views.{meaning}
 use Rattle.segments.specs.Views.{outcome_of}
 use Rattle.segment_progress.specs.States.{state_of}

@@ -23,8 +23,17 @@ loop-end-preserved g c =
     let went = rw c.in-None.is at c.in_ok-end.ensures.step in
     let here = subst (λ (a : Arena). step a (machine_of c.loop-end.self) ≡ goes (machine_of c.step.new.self)) (ap (λ s. s.now) script) went in (
       c.in_ok-end.ensures.ready c.in-None.is,
-      ((within.0, (within.1.0, within_on c.loop-end.self.script.now (machine_of c.loop-end.self) (machine_of c.step.new.self) within.0 within.1.0 within.1.1 went)),
-        (c.step.ensures.script ∙ script,
-          (suc k, (omega (arith, before, counted),
-            steps_then c.args.self.now.script.now k (machine_of c.args.self.now) (machine_of c.loop-end.self) (goes (machine_of c.step.new.self)) inv.1.1.1.1.1 here)))),
+      (
+        (within.0, (within.1.0, within_on c.loop-end.self.script.now (machine_of c.loop-end.self) (machine_of c.step.new.self) within.0 within.1.0 within.1.1 went)),
+        (
+          c.step.ensures.script ∙ script,
+          (
+            suc k,
+            (
+              omega (arith, before, counted),
+              steps_then c.args.self.now.script.now k (machine_of c.args.self.now) (machine_of c.loop-end.self) (goes (machine_of c.step.new.self)) inv.1.1.1.1.1 here,
+            ),
+          ),
+        ),
+      ),
     )
