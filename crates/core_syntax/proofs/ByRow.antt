@@ -295,7 +295,7 @@ variable_row cells scope p None = refl
 variable_row cells scope p (Some k) = refl
 
 -- what the table says of a form is what it says of its row
-core_by_row : (cells : CellNames) (scope : List (List ℕ)) (p : Bool) (v : Val) → spec.core_of cells scope p v ≡ row_of cells scope p v >>= core_in_row cells scope p
+pub core_by_row : (cells : CellNames) (scope : List (List ℕ)) (p : Bool) (v : Val) → spec.core_of cells scope p v ≡ row_of cells scope p v >>= core_in_row cells scope p
 core_by_row cells scope p (symbol x) = variable_row cells scope p (place_of x scope)
 core_by_row cells scope p (list (val (symbol s) vs)) = form_row cells scope p (head_of s) (symbol s) vs
 core_by_row cells scope p _ = refl
