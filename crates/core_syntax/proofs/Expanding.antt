@@ -16,7 +16,6 @@ use Rattle.script_nodes.specs.Closed.{IsClosed}
 use Rattle.core_syntax.specs.Expands.{IsLevel}
 use Rattle.core_syntax.specs.Definitions.{Defined, nothing_defined, definable, definition_of, is_too_many, limited, at_form, begins_well, expanded, expanded_from, told}
 use Rattle.core_syntax.specs.Forms.{core_of}
-use Rattle.core_syntax.specs.Names.{◌>>=◌}
 use Rattle.core_syntax.specs.Rows.{row_of}
 use Rattle.core_syntax.specs.Shapes.{is_headed}
 use Rattle.core_syntax.proofs.ByRow.{core_by_row}

@@ -1,4 +1,4 @@
-use Rattle.std.proofs.Common.{sym, ◌∙◌, map}
+use Rattle.std.proofs.Common.{sym, map}
 use Rattle.script_value.specs.Views.{meaning}
 use Rattle.core_syntax.proofs.Expanding.{begins_badly}
 use Rattle.core_syntax.proofs.forms.expand.Goals as goal
