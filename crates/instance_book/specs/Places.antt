@@ -13,6 +13,10 @@ IsPlaced scripts i = i.item.script < length scripts
 abbrev pub ArePlaced : List Named → InOrder KeptInstance → Type 0
 ArePlaced scripts is = AllByRecursion (IsPlaced scripts) is.things.items
 
+-- where this one is of a script of the setup too, each goes on to be
+abbrev pub StayPlacedWith : Numbered KeptInstance → (old new : InOrder KeptInstance) → Type 0
+StayPlacedWith i old new = (scripts : List Named) → IsPlaced scripts i → ArePlaced scripts old → ArePlaced scripts new
+
 -- where each was of a script of the setup, each is
 abbrev pub StayPlaced : (old new : InOrder KeptInstance) → Type 0
 StayPlaced old new = (scripts : List Named) → ArePlaced scripts old → ArePlaced scripts new

@@ -82,6 +82,9 @@ abbrev pub ticket_for : Target → Value → (number nonce : ℕ) → next.Ticke
 ticket_for target answer number nonce =
     record { target = target_of target; answer = meaning answer; number = number; nonce = nonce }
 
+abbrev pub IsTicketFor : Target → Value → (number nonce : ℕ) → Ticket → Type 0
+IsTicketFor target answer number nonce t = ticket_of t ≡ ticket_for target answer number nonce
+
 -- there is room for one page more in the instance of a number
 abbrev pub HasRoomAt : ℕ → InOrder KeptInstance → Type 0
 HasRoomAt n is =
