@@ -1,7 +1,8 @@
 #!/usr/bin/env python3
 """Looks whether the documents are true to the crates: each line that docs/DEFINITIONS.md quotes stands in a definition of
-the files named above it, each law of docs/PROOFS.md is a function of replay_spec and the other way round, and each call
-that PROOFS names is in its crate. Ends with 1 where something is not. No part of the gate."""
+the files named above it, and each name in its text in some crate; each law of docs/PROOFS.md is a function of replay_spec
+and the other way round, and each call that PROOFS names is in its crate. Ends with 1 where something is not. No part of
+the gate."""
 
 import glob
 import os
@@ -47,6 +48,14 @@ def quotes():
             wrong(f"docs/DEFINITIONS.md:{number}: no definition has this line: {line}")
 
 
+def words():
+    files = [*glob.glob(f"{TOP}/crates/*/specs/**/*.antt", recursive=True), *glob.glob(f"{TOP}/crates/*/src/**/*.rt", recursive=True)]
+    there = set(re.findall(r"\w+", "\n".join(map(text_of, files))))
+    prose = re.sub(r"```.*?```", "", text_of("docs/DEFINITIONS.md"), flags=re.S)
+    for name in set(re.findall(r"`(\w+)`", prose)) - there:
+        wrong(f"docs/DEFINITIONS.md: no crate has {name}")
+
+
 def part(text, begin, end):
     at = text.index(begin)
     return text[at : text.index(end, at)]
@@ -70,6 +79,7 @@ def names():
 
 
 quotes()
+words()
 names()
 print(f"{faults} wrong")
 sys.exit(1 if faults else 0)
