@@ -3,27 +3,19 @@
 
 ghost use Rattle.std.specs.Prelude.{◌≡◌, codes};
 ghost use Rattle.web_outside.specs.Pieces.{HandsAllOn};
-ghost use Rattle.script_server.specs.Output.{sinks_of, PrintsTo};
+ghost use Rattle.server_command.specs.Output.{sinks_of, PrintsTo};
 
 mod adapters;
-mod answer;
 mod buffers;
-mod command;
-mod desk;
 mod door;
 mod link;
 mod machine;
 mod porch;
-mod serial;
-mod serving;
-mod staff;
-#[cfg(test)]
-mod tests;
 
 use adapters::{Reading, Writing};
-use command::command;
 use door::SocketDoor;
 use machine::{MachineClock, MachineSeeds};
+use server_command::command;
 use std::alloc::AllocError;
 use std::fs::Files;
 use std::io::ErrorKind;
