@@ -1,3 +1,4 @@
+pub mod Buffers
 pub mod Stream
 pub mod Streams
 pub mod Sockets

@@ -1,7 +1,9 @@
 //! How a run ends: by its words, by its input and by its output.
 
+use crate::outside::{
+    CHECK, FAIR, FULL, Outside, PLAY, STUCK, Transcript, input_of, parts_of, ran,
+};
 use crate::transcripts::{SUM, SUM_SCRIPT};
-use crate::outside::{CHECK, FAIR, FULL, Outside, PLAY, STUCK, Transcript, input_of, parts_of, ran};
 use std::alloc::Global;
 use std::test::Fail;
 

@@ -1,7 +1,7 @@
 //! Runs of `play`: what scripts, visits in any order, clocks and limits give.
 
-use crate::transcripts::*;
 use crate::outside::{FAIR, PLAY, answered, input_of, parts_of, ran, repeated};
+use crate::transcripts::*;
 use std::alloc::Global;
 use std::test::Fail;
 

@@ -1,7 +1,7 @@
 //! Setups that are served over links in memory: what is told, what stands on the links, and what fails.
 
-use server_command::command;
 use crate::outside::setup_of;
+use server_command::command;
 use std::alloc::Global;
 use std::test::Fail;
 use web_outside::{

@@ -1,7 +1,7 @@
 //! The first fault of a setup and of a script, as `play` and `check` tell it, and the limits of both.
 
-use crate::transcripts::SUM_SCRIPT;
 use crate::outside::{CHECK, FAIR, PLAY, answered, ran, repeated, setup_of};
+use crate::transcripts::SUM_SCRIPT;
 use std::test::Fail;
 
 // Inputs, and what `play` tells of their setups.

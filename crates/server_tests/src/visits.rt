@@ -1,8 +1,8 @@
 //! Two visits under way on one page, for each two ways in which their segments stop; and transactions, for each way to leave them.
 
+use crate::outside::{FAIR, answered, input_of, ran, repeated};
 use crate::runs::{Run, first_wrong};
 use crate::transcripts::QUIZ_SCRIPT;
-use crate::outside::{FAIR, answered, input_of, ran, repeated};
 use std::alloc::Global;
 use std::test::Fail;
 
