@@ -45,9 +45,9 @@ fn read_piece<S: Source>(
     wanted: usize,
 ) -> Result<usize, ReadStop>
     requires { 0 < wanted }
-    ensures read { ReadsPiece (S.left source.old) (S.left source.new) bytes.old.items bytes.new.items wanted result }
-    ensures failed { IsErrOf result ReadStop.Failed → Rose (S.fault_count source.old) (S.fault_count source.new) }
-    ensures later { S.fault_count source.old ≤ S.fault_count source.new }
+    ensures read { ReadsPiece (S.view source.old).left (S.view source.new).left bytes.old.items bytes.new.items wanted result }
+    ensures failed { IsErrOf result ReadStop.Failed → Rose (S.view source.old).faults (S.view source.new).faults }
+    ensures later { (S.view source.old).faults ≤ (S.view source.new).faults }
 {
     let mut piece = [0u8; 4096];
     let size = wanted.min(piece.len());
@@ -60,9 +60,9 @@ fn read_piece<S: Source>(
 /// behind them.
 pub(crate) fn read_bytes<S: Source>(source: &mut S, bytes: &mut Vec<u8>) -> Result<bool, ReadStop>
     requires { bytes.old.items ≡ [] }
-    ensures read { ReadsAll (S.left source.old) (S.left source.new) bytes.new.items result }
-    ensures failed { IsErrOf result ReadStop.Failed → Rose (S.fault_count source.old) (S.fault_count source.new) }
-    ensures later { S.fault_count source.old ≤ S.fault_count source.new }
+    ensures read { ReadsAll (S.view source.old).left (S.view source.new).left bytes.new.items result }
+    ensures failed { IsErrOf result ReadStop.Failed → Rose (S.view source.old).faults (S.view source.new).faults }
+    ensures later { (S.view source.old).faults ≤ (S.view source.new).faults }
 {
     let mut scanner = RequestScanner::new();
     let mut wanted = scanner.wanted(bytes);

@@ -33,9 +33,9 @@ fn judge(alloc: Global, bytes: &[u8], ended: bool) -> Result<Incoming, ReadStop>
 
 /// Reads the bytes of one request, and not one too many.
 pub(crate) fn read_request<S: Source>(alloc: Global, source: &mut S) -> Result<Incoming, ReadStop>
-    ensures came { Comes (S.left source.old) (S.left source.new) result }
-    ensures failed { IsErrOf result ReadStop.Failed → Rose (S.fault_count source.old) (S.fault_count source.new) }
-    ensures later { S.fault_count source.old ≤ S.fault_count source.new }
+    ensures came { Comes (S.view source.old).left (S.view source.new).left result }
+    ensures failed { IsErrOf result ReadStop.Failed → Rose (S.view source.old).faults (S.view source.new).faults }
+    ensures later { (S.view source.old).faults ≤ (S.view source.new).faults }
 {
     let mut bytes = Vec::new(alloc);
     let ended = read_bytes(source, &mut bytes)?;

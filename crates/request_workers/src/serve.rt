@@ -1,7 +1,7 @@
 ghost use Rattle.std.specs.Prelude.{◌≡◌, ◌≤◌, ℕ, option_map, IfOk};
 ghost use Rattle.script_value.specs.Views.{meaning};
 ghost use Rattle.page_names.specs.Views.{target_of};
-ghost use Rattle.request_workers.specs.Scenes.{seen, IsLater};
+ghost use Rattle.request_workers.specs.Scenes.{IsLater};
 ghost use Rattle.request_workers.specs.Serving.{Replies, Answers, ServesOrDrops, served_by};
 
 use crate::read::ReadStop;
@@ -107,10 +107,8 @@ pub fn serve_one<A: Answering, L: Link, G: Gate>(
 ) -> Result<Served, AllocError>
     requires { (A.rules answering.now).IsOwn pass.old }
     ensures own { (A.rules answering.now).IsOwn pass.new }
-    ensures served { let look = seen L.input L.output L.Input.left L.Input.fault_count L.Output.written L.Output.handed L.Output.fault_count in
-        ServesOrDrops (A.rules answering.now) pass.old pass.new (look link.old) (look link.new) result }
-    ensures later { let look = seen L.input L.output L.Input.left L.Input.fault_count L.Output.written L.Output.handed L.Output.fault_count in
-        IsLater (look link.old) (look link.new) }
+    ensures served { ServesOrDrops (A.rules answering.now) pass.old pass.new (L.view link.old) (L.view link.new) result }
+    ensures later { IsLater (L.view link.old) (L.view link.new) }
 {
     let incoming = match read_request(alloc, link.input()) {
         Ok(incoming) => incoming,
