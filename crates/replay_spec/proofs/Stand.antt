@@ -6,7 +6,7 @@ use Rattle.script_nodes.specs.Setup.{Named}
 use Rattle.replay_spec.specs.Book.{Page, Instance, Change, opens, extends, ends, finishes, sweeps, Book, instance_at}
 use Rattle.replay_spec.specs.Rules.{Rules, empty_book}
 use Rattle.replay_spec.specs.Change.{logged_by}
-use Rattle.replay_spec.specs.Invariant.{PageAt, NamedIn, ClosedIn, AreSound, Among, IsOf, Unused, IsSound}
+use Rattle.replay_spec.specs.Invariant.{PageAt, NamedIn, ClosedIn, AreOrderly, AreSound, Among, IsOf, Unused, IsOrderly, IsSound}
 use Rattle.replay_spec.proofs.Ancestors.{Grown}
 
 pub among_of : (ms : List ℕ) (n : ℕ) → Contains ms n → Among n ms
@@ -30,26 +30,27 @@ pub record Was (is : List Instance) (k : ℕ) (j : Instance) : Type 0 where
   pub grown : Grown instance.pages j.pages
   pub longer : length instance.pages ≤ length j.pages
 
--- What comes later: a name of a used number stands where it stood, and stays closed there; a page and an instance of a used
--- number were there.
+-- What comes later: a page and an instance of a used number were there.
 pub record Since (unused : ℕ → Type 0) (is js : List Instance) : Type 0 where
-  pub held : (t : TxName) (k : ℕ) → NamedIn js k t → (unused t.ticket → ⊥) → NamedIn is k t
-  pub shut : (t : TxName) (k : ℕ) → NamedIn js k t → (unused t.ticket → ⊥) → ClosedIn is k t → ClosedIn js k t
   pub paged : (k m : ℕ) (p : Page) → PageAt js k m p → (unused m → ⊥) → PageAt is k m p
   pub was : (k : ℕ) (j : Instance) → instance_at k js ≡ Some j → (unused k → ⊥) → Was is k j
+
+-- And a name of a used number stands where it stood, and stays closed there.
+pub record SinceNamed (unused : ℕ → Type 0) (is js : List Instance) : Type 0 where
+  pub held : (t : TxName) (k : ℕ) → NamedIn js k t → (unused t.ticket → ⊥) → NamedIn is k t
+  pub shut : (t : TxName) (k : ℕ) → NamedIn js k t → (unused t.ticket → ⊥) → ClosedIn is k t → ClosedIn js k t
 
 pub was_same : (is : List Instance) (k : ℕ) (i : Instance) → instance_at k is ≡ Some i → Was is k i
 was_same is k i found = record { instance = i; found = found; script = refl; grown = λ n p there. there; longer = omega arith }
 
 pub since_same : (unused : ℕ → Type 0) (is : List Instance) → Since unused is is
-since_same unused is = record { held = λ t k h used. h; shut = λ t k h used closed. closed; paged = λ k m p h used. h; was = λ k j found used. was_same is k j found }
+since_same unused is = record { paged = λ k m p h used. h; was = λ k j found used. was_same is k j found }
+
+pub named_same : (unused : ℕ → Type 0) (is : List Instance) → SinceNamed unused is is
+named_same unused is = record { held = λ t k h used. h; shut = λ t k h used closed. closed }
 
 pub since_then : (u v : ℕ → Type 0) (is js ks : List Instance) → ((n : ℕ) → v n → u n) → Since u is js → Since v js ks → Since u is ks
 since_then u v is js ks fewer first second = record {
-  held = λ t k h used. first.held t k (second.held t k h (λ x. used (fewer t.ticket x))) used;
-  shut = λ t k h used closed.
-      let still : v t.ticket → ⊥ = λ x. used (fewer t.ticket x) in
-      second.shut t k h still (first.shut t k (second.held t k h still) used closed);
   paged = λ k m p h used. first.paged k m p (second.paged k m p h (λ x. used (fewer m x))) used;
   was = was;
 }
@@ -66,17 +67,31 @@ since_then u v is js ks fewer first second = record {
           longer = omega (arith, late.longer, early.longer);
         }
 
+pub named_then : (u v : ℕ → Type 0) (is js ks : List Instance) → ((n : ℕ) → v n → u n) → SinceNamed u is js → SinceNamed v js ks → SinceNamed u is ks
+named_then u v is js ks fewer first second = record {
+  held = λ t k h used. first.held t k (second.held t k h (λ x. used (fewer t.ticket x))) used;
+  shut = λ t k h used closed.
+      let still : v t.ticket → ⊥ = λ x. used (fewer t.ticket x) in
+      second.shut t k h still (first.shut t k (second.held t k h still) used closed);
+}
+
 -- fewer numbers are unused
-pub sound_less : (scripts : List Named) (u v : ℕ → Type 0) (shelf : ℕ) (is : List Instance) → ((n : ℕ) → v n → u n) → AreSound scripts u shelf is → AreSound scripts v shelf is
-sound_less scripts u v shelf is fewer s = record {
+pub orderly_less : (u v : ℕ → Type 0) (is : List Instance) → ((n : ℕ) → v n → u n) → AreOrderly u is → AreOrderly v is
+orderly_less u v is fewer s = record {
   apart = s.apart;
   no_instance = λ n x. s.no_instance n (fewer n x);
   no_page = λ n x. s.no_page n (fewer n x);
+  none_revoked = λ n x. s.none_revoked n (fewer n x);
+  lineage = s.lineage;
+  sized = s.sized;
+}
+
+pub sound_less : (u v : ℕ → Type 0) (shelf : ℕ) (is : List Instance) → ((n : ℕ) → v n → u n) → AreSound u shelf is → AreSound v shelf is
+sound_less u v shelf is fewer s = record {
   no_name = λ t k h x. s.no_name t k h (fewer t.ticket x);
   no_closed = λ t k h x. s.no_closed t k h (fewer t.ticket x);
   home = s.home;
-  sized = s.sized;
-  rooted = s.rooted;
+  replays = s.replays;
 }
 
 pub is_below : (m : ℕ) (c : Change) → IsOf m c → m < logged_by c
@@ -86,26 +101,59 @@ is_below m (ends e) h = omega (arith, h)
 is_below m (finishes f) h = omega (arith, h)
 is_below m (sweeps tick) h = absurd h
 
-pub empty_sound : (scripts : List Named) (rules : Rules) (shelf : ℕ) → IsSound scripts (empty_book rules shelf)
-empty_sound scripts rules shelf = record {
+-- no instances
+pub none_orderly : (unused : ℕ → Type 0) → AreOrderly unused []
+none_orderly unused = record {
+  apart = tt;
+  no_instance = λ n u. refl;
+  no_page = λ n u k i found. absurd (let no : ⊥ = cc in no);
+  none_revoked = λ n u k i found. absurd (let no : ⊥ = cc in no);
+  lineage = λ k i found n p here. absurd (let no : ⊥ = cc in no);
+  sized = λ k i found. absurd (let never : ⊥ = cc in never);
+}
+
+none_named : (k : ℕ) (t : TxName) → NamedIn [] k t → ⊥
+none_named k t h = let none : None ≡ Some h.stands.instance = h.stands.found in cc
+
+none_closed : (k : ℕ) (t : TxName) → ClosedIn [] k t → ⊥
+none_closed k t h = let none : None ≡ Some h.instance = h.found in cc
+
+none_known : (k l : ℕ) (t : TxName) → NamedIn [] k t ⊎ ClosedIn [] k t → k ≡ l
+none_known k l t (inl h) = absurd (none_named k t h)
+none_known k l t (inr h) = absurd (none_closed k t h)
+
+pub empty_orderly : (rules : Rules) (scripts : List Named) (shelf : ℕ) → IsOrderly (empty_book rules scripts shelf)
+empty_orderly rules scripts shelf = record {
   below = λ n h. absurd h;
+  different = tt;
+  doubted = λ n h. absurd h;
   logged = omega arith;
+  instances = none_orderly (Unused (empty_book rules scripts shelf));
+  doubt = tt;
+}
+
+pub empty_sound : (rules : Rules) (scripts : List Named) (shelf : ℕ) → IsSound (empty_book rules scripts shelf)
+empty_sound rules scripts shelf = record {
+  orderly = empty_orderly rules scripts shelf;
   instances = record {
-    apart = tt;
-    no_instance = λ n u. refl;
-    no_page = λ n u k i found. absurd (let no : ⊥ = cc in no);
-    no_name = λ t k h u. let none : None ≡ Some h.stands.instance = h.stands.found in cc;
-    no_closed = λ t k h u. let none : None ≡ Some h.instance = h.found in cc;
-    home = λ t k l h g. absurd (let none : None ≡ Some h.stands.instance = h.stands.found in let no : ⊥ = cc in no);
-    sized = λ k i found. absurd (let never : ⊥ = cc in never);
-    rooted = λ k i found n p here. absurd (let no : ⊥ = cc in no);
+    no_name = λ t k h u. none_named k t h;
+    no_closed = λ t k h u. none_closed k t h;
+    home = λ t k l h g. none_known k l t h;
+    replays = λ k i found n p here h. absurd (let no : ⊥ = cc in no);
   };
   doubt = tt;
 }
 
--- a later book
-pub record Well (scripts : List Named) (b c : Book) : Type 0 where
-  pub sound : IsSound scripts c
+-- a later book: orderly, of the same shelf, with fewer unused numbers
+pub record Later (b c : Book) : Type 0 where
+  pub orderly : IsOrderly c
   pub shelf : c.shelf ≡ b.shelf
   pub fewer : (n : ℕ) → Unused c n → Unused b n
   pub since : Since (Unused b) b.instances c.instances
+  pub clock : b.clock ≤ c.clock
+
+-- and sound
+pub record Well (b c : Book) : Type 0 where
+  pub sound : IsSound c
+  pub later : Later b c
+  pub named : SinceNamed (Unused b) b.instances c.instances

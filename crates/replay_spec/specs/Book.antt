@@ -5,6 +5,7 @@ use Rattle.script_value.specs.Val.{Val}
 use Rattle.script_value.specs.declared.outcome.TxName.{TxName}
 use Rattle.instance_cells.specs.Cells.{Effect}
 use Rattle.script_nodes.specs.declared.script.SendKind.{SendKind}
+use Rattle.script_nodes.specs.Setup.{Named}
 
 -- A page that was shown: the page that was answered before it, and with what (a root keeps the empty list); what its segment
 -- read; the transactions round it; and until when it can be answered.
@@ -17,17 +18,17 @@ pub record Page : Type 0 where
   pub inside : List TxName
   pub deadline : ℕ
 
--- a run of the script of this place in the setup, with its cells, its closed transactions, the numbers of its revoked pages,
--- and its pages in the order of their numbers
+-- a run of this script, with its cells, its closed transactions, the numbers of its revoked pages, and its pages in the order
+-- of their numbers
 pub record Instance : Type 0 where
   pub number : ℕ
-  pub script : ℕ
+  pub script : Named
   pub cells : List Val
   pub closed : List TxName
   pub revoked : List ℕ
   pub pages : List Page
 
--- a start of the script of this place showed a page
+-- a start of the script of this place in the setup showed a page
 pub record Opening : Type 0 where
   pub number : ℕ
   pub nonce : ℕ
@@ -81,10 +82,11 @@ pub record Doubt : Type 0 where
   pub change : Change
   pub inside : List TxName
 
--- `drawn`: the next number; `logged`: one more than the greatest number in a record; `length`: that of the journal; `out`: the
--- numbers that were taken and not published
+-- `scripts`: the setup, of which starts are; `drawn`: the next number; `logged`: one more than the greatest number in a record;
+-- `length`: that of the journal; `out`: the numbers that were taken and not published
 pub record Book : Type 0 where
   pub shelf : ℕ
+  pub scripts : List Named
   pub clock : ℕ
   pub drawn : ℕ
   pub logged : ℕ
@@ -135,3 +137,7 @@ spend n b = record b { out = filter (λ m. not (m == n)) b.out }
 -- the shelf is opened again: numbers that no record has are drawn again
 abbrev pub reopened : Book → Book
 reopened b = record b { drawn = b.logged; out = []; down = None }
+
+-- and has this setup from then on
+abbrev pub reopened_with : List Named → Book → Book
+reopened_with scripts b = record (reopened b) { scripts = scripts }

@@ -1,5 +1,5 @@
 -- What a change makes of the book.
-use Rattle.std.specs.Prelude.{ℕ, max, ◌+◌, ◌==◌, not, List, map, [], ◌∷◌, ◌++◌, filter, Option, Some, None, nat_lt, if◌then◌else◌}
+use Rattle.std.specs.Prelude.{ℕ, max, ◌+◌, ◌==◌, not, List, map, [], ◌∷◌, ◌++◌, filter, Option, Some, None, nat_lt, slice_get, if◌then◌else◌}
 use Rattle.script_value.specs.Val.{list, no_vals}
 use Rattle.script_value.specs.declared.outcome.TxName.{TxName}
 use Rattle.instance_cells.specs.Cells.{Effect, commit, reads_of}
@@ -7,7 +7,7 @@ use Rattle.script_nodes.specs.Setup.{Named}
 use Rattle.script_nodes.specs.declared.script.SendKind.{SendKind}
 use Rattle.script_nodes.specs.declared.script.SendKind.TheVariants.{Suspend, Forward}
 use Rattle.replay_spec.specs.Book.{Page, Instance, Opening, Extension, Change, opens, extends, ends, finishes, sweeps, Book, is_live, reopened}
-use Rattle.replay_spec.specs.Rules.{Journal, Rules, first_cells}
+use Rattle.replay_spec.specs.Rules.{Journal, Rules}
 
 -- the first instance of this number, changed
 abbrev pub mend : ℕ → (Instance → Instance) → List Instance → List Instance
@@ -62,19 +62,23 @@ abbrev pub shown_by : List Effect → List TxName → SendKind → Page → Inst
 shown_by effects left kind p i =
     record (done effects left i) { revoked = revoked_by kind i.pages i.revoked; pages = put_page p i.pages }
 
--- an instance of the script of this place before its first segment
-abbrev pub fresh : List Named → ℕ → ℕ → Instance
-fresh scripts n k =
-    record { number = n; script = k; cells = first_cells scripts k; closed = []; revoked = []; pages = [] }
+-- an instance of this script before its first segment
+abbrev pub fresh : Named → (number : ℕ) → Instance
+fresh s n = record { number = n; script = s; cells = s.script.cells; closed = []; revoked = []; pages = [] }
+
+-- the instance that a start of this script opens, if there is one
+abbrev pub opened_by : Option Named → Opening → List TxName → List Instance → List Instance
+opened_by None o inside is = is
+opened_by (Some s) o inside is = put_instance (shown_by o.effects o.left o.kind (root_by o inside) (fresh s o.number)) is
 
 -- all instances but the one of this number
 abbrev pub without : ℕ → List Instance → List Instance
 without n is = filter (λ i. not (i.number == n)) is
 
--- the instances after a change, whose new page is inside these transactions; a tick frees those whose pages are all expired
+-- the instances after a change under this setup, whose new page is inside these transactions; a tick frees those whose pages are
+-- all expired
 abbrev pub instances_by : List Named → Change → List TxName → List Instance → List Instance
-instances_by scripts (opens o) inside is =
-    put_instance (shown_by o.effects o.left o.kind (root_by o inside) (fresh scripts o.number o.script)) is
+instances_by scripts (opens o) inside is = opened_by (slice_get scripts o.script) o inside is
 instances_by scripts (extends x) inside is = mend x.instance (shown_by x.effects x.left x.kind (page_by x inside)) is
 instances_by scripts (ends e) inside is = mend e.instance (done e.effects e.left) is
 instances_by scripts (finishes f) inside is = without f.instance is
@@ -107,5 +111,5 @@ land rules c inside b = record b {
   clock = clock_by c b.clock;
   logged = max b.logged (logged_by c);
   length = longer_by rules.journal b c;
-  instances = instances_by rules.scripts c inside b.instances;
+  instances = instances_by b.scripts c inside b.instances;
 }

@@ -1,7 +1,10 @@
 -- What holds of every run.
-use Rattle.std.specs.Prelude.{◌≡◌, ◌⊎◌, ◌≤◌, ◌<◌, ◌-◌, ◌^◌, ℕ, List, [], ◌∷◌, ◌++◌, Option, Some, None, Contains, map, not, filter, ◌==◌, ◌+◌, true, length, reverse, slice_get, ⊤}
+use Rattle.std.specs.Prelude.{◌≡◌, ◌⊎◌, ◌≤◌, ◌<◌, ◌-◌, ◌^◌, ℕ, List, [], ◌∷◌, ◌++◌, Option, Some, None, Contains, map, not, filter, ◌==◌, ◌+◌, true, length, reverse, ⊤}
 use Rattle.script_value.specs.Val.{Val}
 use Rattle.script_value.specs.declared.outcome.TxName.{TxName}
+use Rattle.script_value.specs.declared.outcome.Refusal.TheVariants.{Unknown, Revoked, Closed}
+use Rattle.page_names.specs.Names.{Destination, start, page}
+use Rattle.page_names.specs.declared.names.PageName.{PageName}
 use Rattle.instance_cells.specs.Cells.{Holds, AreOn, reads_of}
 use Rattle.script_nodes.specs.Core.{OnCells}
 use Rattle.script_nodes.specs.declared.script.SendKind.TheVariants.{Forward}
@@ -9,17 +12,14 @@ use Rattle.script_nodes.specs.Setup.{Script, Named}
 use Rattle.replay_spec.specs.Names.{Has, first_closed}
 use Rattle.replay_spec.specs.Tape.{Reads, recorded, present, bound, Now, Answer, Tape, tape_behind, shows, Outcome, paged, out_of_fuel, End, got, stop}
 use Rattle.replay_spec.specs.Eval.{Segment, end_of, run, unread}
-use Rattle.script_value.specs.declared.outcome.Refusal.TheVariants.{Unknown, Revoked, Closed}
-use Rattle.page_names.specs.Names.{Destination, start, page}
-use Rattle.page_names.specs.declared.names.PageName.{PageName}
-use Rattle.replay_spec.specs.Book.{Page, Instance, Extension, Change, opens, extends, ends, finishes, sweeps, Doubt, Book, instance_at, page_at, chain, draw, spend, reopened}
-use Rattle.replay_spec.specs.Rules.{Journal, Rules, first_cells, empty_book}
-use Rattle.replay_spec.specs.Change.{record_length, land}
+use Rattle.replay_spec.specs.Book.{Page, Instance, Extension, Change, opens, extends, ends, finishes, sweeps, Doubt, Book, instance_at, page_at, chain, draw, spend}
+use Rattle.replay_spec.specs.Rules.{Rules, empty_book}
+use Rattle.replay_spec.specs.Change.{land}
 use Rattle.replay_spec.specs.Admission.{is_one, Place, place_at, begins, resumes, admit}
 use Rattle.replay_spec.specs.Next.{Ticket, comes_to, start_visit, page_visit}
 use Rattle.replay_spec.specs.Step.{Event, take, publish, sweep, crash, Fate, Reply, taken, shown, finished, ended, swept, disk_failed, refusal, memory, down, worn, Decision, replies, records, settles, decide, publish_comes, sweep_comes, step}
-use Rattle.replay_spec.specs.Runs.{Shelf, shelf_step, after, answers_to, lands, with_change, records_of, book_of}
-use Rattle.replay_spec.specs.Invariant.{AreAncestors, Replays, PageAt, Among, Unused, IsSound}
+use Rattle.replay_spec.specs.Runs.{Shelf, shelf_step, lands, with_change}
+use Rattle.replay_spec.specs.Invariant.{Among, AreDifferent, AreAncestors, Replays, PageAt, Unused, IsOrderly, IsSound}
 
 -- each of these segments is past: its reads were recorded
 abbrev pub IsRecorded : Reads → Type 0
@@ -150,36 +150,53 @@ abbrev pub book_after : List Moment → Book → Book
 book_after [] b = b
 book_after (m ∷ ms) b = book_after ms (then_book m b)
 
--- Each of these events is lawful where it comes. The rules may change whenever a shelf is opened; the scripts stay.
-abbrev pub AreLawful : List Named → List Moment → Book → Type 0
-AreLawful scripts [] b = ⊤
-AreLawful scripts (m ∷ ms) b = (m.rules.scripts ≡ scripts) × IsLawful m.event b × AreLawful scripts ms (then_book m b)
+-- Each of these events is lawful where it comes. The rules may change whenever a shelf is opened, and the setup at each crash.
+abbrev pub AreLawful : List Moment → Book → Type 0
+AreLawful [] b = ⊤
+AreLawful (m ∷ ms) b = IsLawful m.event b × AreLawful ms (then_book m b)
 
 -- lawful events lead from a book to another
-pub record Leads (scripts : List Named) (b c : Book) : Type 0 where
+pub record Leads (b c : Book) : Type 0 where
   pub moments : List Moment
-  pub lawful : AreLawful scripts moments b
+  pub lawful : AreLawful moments b
   pub there : book_after moments b ≡ c
 
--- An empty book is sound, and each lawful event keeps a book so.
+-- lawful events lead to it from an empty book of this shelf
+pub record IsReached (shelf : ℕ) (b : Book) : Type 0 where
+  pub rules : Rules
+  pub scripts : List Named
+  pub from : Leads (empty_book rules scripts shelf) b
+
+-- Each lawful event keeps a book orderly, and a sound one sound, of its shelf, with fewer unused numbers. So each book that is reached is
+-- sound, and each that is reached from a sound one.
+abbrev pub OrderlyBooksStay : Type 0
+OrderlyBooksStay =
+    ((rules : Rules) (scripts : List Named) (shelf : ℕ) → IsOrderly (empty_book rules scripts shelf))
+    × ((b c : Book) → IsOrderly b → Leads b c → IsOrderly c × (c.shelf ≡ b.shelf) × ((n : ℕ) → Unused c n → Unused b n))
+
 abbrev pub SoundBooksStay : Type 0
 SoundBooksStay =
-    (rules : Rules)
-    → ((shelf : ℕ) → IsSound rules.scripts (empty_book rules shelf))
-    × ((b : Book) (nonce : ℕ) (event : Event) (fate : Fate) → IsSound rules.scripts b → IsLawful event b → IsSound rules.scripts (step rules b nonce event fate).1)
+    ((rules : Rules) (scripts : List Named) (shelf : ℕ) → IsSound (empty_book rules scripts shelf))
+    × ((b c : Book) → IsSound b → Leads b c → IsSound c)
+
+abbrev pub ReachedBooksAreSound : Type 0
+ReachedBooksAreSound =
+    (shelf : ℕ) (b : Book) → IsReached shelf b
+    → (IsSound b × (b.shelf ≡ shelf))
+    × ((c : Book) → Leads b c → IsReached shelf c × ((n : ℕ) → Unused c n → Unused b n))
 
 -- Each instance has as many cells as its script.
 abbrev pub EachHasItsCells : Type 0
 EachHasItsCells =
-    (scripts : List Named) (b : Book) → IsSound scripts b → (k : ℕ) (i : Instance) → instance_at k b.instances ≡ Some i
-    → length i.cells ≡ length (first_cells scripts i.script)
+    (b : Book) → IsOrderly b → (k : ℕ) (i : Instance) → instance_at k b.instances ≡ Some i
+    → length i.cells ≡ length i.script.script.cells
 
 -- The chain of a page is all of its ancestors from the root on, and then the page, and it replays.
 abbrev pub EachChainReplays : Type 0
 EachChainReplays =
-    (scripts : List Named) (b : Book) → IsSound scripts b
-    → (k n : ℕ) (i : Instance) (p : Page) (s : Named) → instance_at k b.instances ≡ Some i → page_at n i.pages ≡ Some p → slice_get scripts i.script ≡ Some s
-    → (ancestors : List Page) × (AreAncestors i.pages p ancestors × (chain i.pages p ≡ reverse (p ∷ ancestors)) × Replays s b.shelf i.number ancestors p)
+    (b : Book) → IsSound b
+    → (k n : ℕ) (i : Instance) (p : Page) → instance_at k b.instances ≡ Some i → page_at n i.pages ≡ Some p
+    → (ancestors : List Page) × (AreAncestors i.pages p ancestors × (chain i.pages p ≡ reverse (p ∷ ancestors)) × Replays i.script b.shelf i.number ancestors p)
 
 -- the same page, behind the same pages, whatever is the answer to it
 pub record IsSame (b c : Book) (x y : Place) : Type 0 where
@@ -190,38 +207,8 @@ pub record IsSame (b c : Book) (x y : Place) : Type 0 where
 -- since, also in crashes: what may end it is why it can't be answered, or that its instance is freed.
 abbrev pub PagesStay : Type 0
 PagesStay =
-    (scripts : List Named) (b c : Book) → IsSound scripts b → Leads scripts b c → (name : List ℕ) (n : PageName) (x : Place) → place_at scripts b name n ≡ Some x
-    → (instance_at n.instance c.instances ≡ None) ⊎ ((y : Place) × ((place_at scripts c name n ≡ Some y) × IsSame b c x y))
-
--- a journal takes the records of two books alike
-abbrev pub TakesAlike : Option Journal → Book → Book → Type 0
-TakesAlike None b c = ⊤
-TakesAlike (Some j) b c = (b.length ≡ c.length) × ((change : Change) → record_length j b change ≡ record_length j c change)
-
--- A visit depends on the pages behind its own and its instance's cells alone: in two books of one shelf, where its page has the
--- same pages behind it in instances of one number and script, its script runs over the same tape, and with the same cells it
--- comes to the same. At the same clock, with as many pages and a journal that takes it alike, it is decided the same, and so
--- answered the same where it is admitted and neither shelf is down.
-abbrev pub AVisitIsLocal : Type 0
-AVisitIsLocal =
-    (rules : Rules) (b c : Book) (t : Ticket) (x y : Place) → b.shelf ≡ c.shelf → x.script ≡ y.script → x.instance.number ≡ y.instance.number
-    → x.page.number ≡ y.page.number → chain x.instance.pages x.page ≡ chain y.instance.pages y.page
-    → (page_visit b t x ≡ page_visit c t y)
-    × (x.instance.cells ≡ y.instance.cells
-    → (comes_to (page_visit b t x) (present x.instance.cells rules.fuel) ≡ comes_to (page_visit c t y) (present y.instance.cells rules.fuel))
-    × (b.clock ≡ c.clock → TakesAlike rules.journal b c → length x.instance.pages ≡ length y.instance.pages
-    → (decide rules b t (resumes x) ≡ decide rules c t (resumes y))
-    × (admit rules.scripts b t.target ≡ resumes x → admit rules.scripts c t.target ≡ resumes y → b.down ≡ c.down
-    → (nonce : ℕ) (fate : Fate) → (step rules b nonce (publish t) fate).0 ≡ (step rules c nonce (publish t) fate).0)))
-
--- And what a start comes to depends on the shelf's number alone; how it is decided, on the clock, the journal and how many
--- instances there are.
-abbrev pub AStartIsLocal : Type 0
-AStartIsLocal =
-    (rules : Rules) (b c : Book) (t : Ticket) (k : ℕ) (s : Named) → b.shelf ≡ c.shelf
-    → (start_visit b t k s ≡ start_visit c t k s)
-    × (b.clock ≡ c.clock → TakesAlike rules.journal b c → length b.instances ≡ length c.instances
-    → decide rules b t (begins k s) ≡ decide rules c t (begins k s))
+    (b c : Book) → IsOrderly b → Leads b c → (name : List ℕ) (n : PageName) (x : Place) → place_at b name n ≡ Some x
+    → (instance_at n.instance c.instances ≡ None) ⊎ ((y : Place) × ((place_at c name n ≡ Some y) × IsSame b c x y))
 
 -- what is answered `taken` draws the next number and the next nonce, and what is not leaves the book
 abbrev pub Takes : Book → (nonce : ℕ) → Reply → Book → Type 0
@@ -274,13 +261,6 @@ Opens (replies r) = ⊤
 
 abbrev pub AStartOpensOrLeaves : Type 0
 AStartOpensOrLeaves = (rules : Rules) (b : Book) (t : Ticket) (k : ℕ) (s : Named) → Opens (decide rules b t (begins k s))
-
--- a run over more events is the run over the first, and then over the others
-abbrev pub RunsGoOn : Type 0
-RunsGoOn =
-    (rules : Rules) (source : ℕ → ℕ) (xs ys : List (Event × Fate)) (s : Shelf)
-    → (after rules source (xs ++ ys) s ≡ after rules source ys (after rules source xs s))
-    × (answers_to rules source (xs ++ ys) s ≡ answers_to rules source xs s ++ answers_to rules source ys (after rules source xs s))
 
 -- the transactions that a page is inside
 abbrev pub names_of : Option Page → List TxName
@@ -338,10 +318,10 @@ without_effect _ b = b
 -- refused without effect.
 abbrev pub ClosedIsClosed : Type 0
 ClosedIsClosed =
-    (scripts : List Named) (b c : Book) (leaving next : Moment) (name : TxName) → IsSound scripts b → leaving.rules.scripts ≡ scripts → IsLawful leaving.event b
-    → Leaves name b leaving → Leads scripts (then_book leaving b) c → next.rules.scripts ≡ scripts
+    (b c : Book) (leaving next : Moment) (name : TxName) → IsSound b → IsLawful leaving.event b → Leaves name b leaving
+    → Leads (then_book leaving b) c
     → (Leaves name c next → ⊥)
-    × ((a : Book) → IsSound scripts a → Leads scripts a c → IsOn name a next.event
+    × ((a : Book) → IsSound a → Leads a c → IsOn name a next.event
     → IsRefusal (step next.rules c next.nonce next.event next.fate).0 × (then_book next c ≡ without_effect next.event c))
 
 -- each page's names are all different, and so are those that a page in doubt would be inside
@@ -353,38 +333,25 @@ pub record NamesDiffer (b : Book) : Type 0 where
 abbrev pub NamesStayDifferent : Type 0
 NamesStayDifferent =
     (rules : Rules) → rules.fuel < 2 ^ 32 - 1
-    → ((shelf : ℕ) → NamesDiffer (empty_book rules shelf))
-    × ((b : Book) (nonce : ℕ) (event : Event) (fate : Fate) → IsSound rules.scripts b → NamesDiffer b → IsLawful event b → NamesDiffer (step rules b nonce event fate).1)
+    → ((scripts : List Named) (shelf : ℕ) → NamesDiffer (empty_book rules scripts shelf))
+    × ((b : Book) (nonce : ℕ) (event : Event) (fate : Fate) → IsSound b → NamesDiffer b → IsLawful event b → NamesDiffer (step rules b nonce event fate).1)
 
 -- Then a page is inside no closed transaction when it is shown, those included that its own segment left.
 abbrev pub ShownIsOpen : Type 0
 ShownIsOpen =
-    (rules : Rules) (b : Book) (t : Ticket) (at : Place) → IsSound rules.scripts b → NamesDiffer b → IsLawful (publish t) b → admit rules.scripts b t.target ≡ resumes at
+    (rules : Rules) (b : Book) (t : Ticket) (at : Place) → IsSound b → NamesDiffer b → IsLawful (publish t) b → admit b t.target ≡ resumes at
     → let o = comes_to (page_visit b t at) (present at.instance.cells rules.fuel) in
     first_closed (at.instance.closed ++ o.left) o.entered ≡ None
 
 -- what the events of a shelf meet, whose source gives these nonces
-abbrev pub moments_of : Rules → (source : ℕ → ℕ) → List (Event × Fate) → Shelf → List Moment
-moments_of rules source [] s = []
-moments_of rules source (x ∷ xs) s =
-    record { rules = rules; nonce = source s.nonces; event = x.0; fate = x.1 } ∷ moments_of rules source xs (shelf_step rules source s x.0 x.1).1
+abbrev pub moments_of : (source : ℕ → ℕ) → List (Event × Fate) → Shelf → List Moment
+moments_of source [] s = []
+moments_of source (x ∷ xs) s =
+    record { rules = s.rules; nonce = source s.nonces; event = x.0; fate = x.1 } ∷ moments_of source xs (shelf_step source s x.0 x.1).1
 
 -- each publish of these spends a number that is out
-abbrev pub IsLawfulRun : Rules → (source : ℕ → ℕ) → List (Event × Fate) → Shelf → Type 0
-IsLawfulRun rules source xs s = AreLawful rules.scripts (moments_of rules source xs s) s.book
-
--- a shelf's run leads from its book to the last
-abbrev pub ARunLeads : Type 0
-ARunLeads =
-    (rules : Rules) (source : ℕ → ℕ) (xs : List (Event × Fate)) (s : Shelf) → IsLawfulRun rules source xs s
-    → Leads rules.scripts s.book (after rules source xs s).book
-
--- The records that a run leaves suffice: the book that they make of the first is the last, as after a crash. The transactions
--- that a new page is inside are no part of its record: its script is run again.
-abbrev pub RecordsSuffice : Type 0
-RecordsSuffice =
-    (rules : Rules) (source : ℕ → ℕ) (xs : List (Event × Fate)) (s : Shelf) → IsSound rules.scripts s.book → IsLawfulRun rules source xs s
-    → reopened (after rules source xs s).book ≡ reopened (book_of rules (records_of rules source xs s) s.book)
+abbrev pub IsLawfulRun : (source : ℕ → ℕ) → List (Event × Fate) → Shelf → Type 0
+IsLawfulRun source xs s = AreLawful (moments_of source xs s) s.book
 
 -- the instance of this number has revoked the page of this number
 pub record RevokedIn (is : List Instance) (k n : ℕ) : Type 0 where
@@ -399,17 +366,18 @@ pub record Forwards (rules : Rules) (b : Book) (event : Event) (fate : Fate) (k 
   pub here : extension.instance ≡ k
   pub forward : extension.kind ≡ Forward
 
--- What revokes a page is a forward of its instance, and it revokes every page that is there. A revoked page stays revoked as long
--- as its instance stands.
+-- What revokes a page is a forward of its instance, and it revokes every page that is there, and not the one that it shows. A revoked
+-- page stays revoked as long as its instance stands.
 abbrev pub AForwardRevokes : Type 0
 AForwardRevokes =
-    (rules : Rules) (b : Book) (nonce : ℕ) (event : Event) (fate : Fate) → IsSound rules.scripts b → IsLawful event b → (k n : ℕ)
+    (rules : Rules) (b : Book) (nonce : ℕ) (event : Event) (fate : Fate) → IsSound b → IsLawful event b → (k n : ℕ)
     → let c = (step rules b nonce event fate).1 in
     (RevokedIn c.instances k n → RevokedIn b.instances k n ⊎ Forwards rules b event fate k)
     × ((p : Page) → PageAt b.instances k n p → Forwards rules b event fate k → RevokedIn c.instances k n)
+    × ((f : Forwards rules b event fate k) → RevokedIn c.instances k f.extension.number → ⊥)
     × ((p : Page) → PageAt b.instances k n p → RevokedIn b.instances k n → (instance_at k c.instances ≡ None) ⊎ RevokedIn c.instances k n)
 
--- the changes that these moments land
+-- the changes that these moments land: the records that they leave
 abbrev pub changes_of : List Moment → Book → List Change
 changes_of [] b = []
 changes_of (m ∷ ms) b = with_change (lands m.rules b m.event m.fate) (changes_of ms (then_book m b))
@@ -423,16 +391,11 @@ numbers_of (ends e ∷ cs) = e.number ∷ numbers_of cs
 numbers_of (finishes f ∷ cs) = f.number ∷ numbers_of cs
 numbers_of (sweeps tick ∷ cs) = numbers_of cs
 
--- all different
-abbrev pub AreDifferent : List ℕ → Type 0
-AreDifferent [] = ⊤
-AreDifferent (n ∷ ns) = (Among n ns → ⊥) × AreDifferent ns
-
 -- No number is used twice, also over crashes: the segments that change a book have different numbers, and ones that were unused
 -- before.
 abbrev pub NoNumberTwice : Type 0
 NoNumberTwice =
-    (scripts : List Named) (ms : List Moment) (b : Book) → IsSound scripts b → AreLawful scripts ms b
+    (ms : List Moment) (b : Book) → IsOrderly b → AreLawful ms b
     → AreDifferent (numbers_of (changes_of ms b)) × ((n : ℕ) → Among n (numbers_of (changes_of ms b)) → Unused b n)
 
 -- The tickets that are out, each with the target, answer and nonce of its take: a take that is answered `taken` gives one, a
@@ -440,7 +403,7 @@ NoNumberTwice =
 abbrev pub tickets_by : Event → Reply → List Ticket → List Ticket
 tickets_by (take target answer) (taken number nonce) ts = ts ++ record { target = target; answer = answer; number = number; nonce = nonce } ∷ []
 tickets_by (publish t) r ts = filter (λ u. not (u.number == t.number)) ts
-tickets_by crash r ts = []
+tickets_by (crash scripts) r ts = []
 tickets_by _ _ ts = ts
 
 abbrev pub tickets_over : List Moment → Book → List Ticket → List Ticket
@@ -450,8 +413,8 @@ tickets_over (m ∷ ms) b ts = tickets_over ms (then_book m b) (tickets_by m.eve
 -- The numbers that are out are those of these tickets, and are all different.
 abbrev pub TicketsAreOut : Type 0
 TicketsAreOut =
-    (scripts : List Named) (ms : List Moment) (b : Book) (ts : List Ticket) → IsSound scripts b → AreLawful scripts ms b
-    → map (λ t. t.number) ts ≡ b.out → AreDifferent b.out
+    (ms : List Moment) (b : Book) (ts : List Ticket) → IsOrderly b → AreLawful ms b
+    → map (λ t. t.number) ts ≡ b.out
     → (map (λ t. t.number) (tickets_over ms b ts) ≡ (book_after ms b).out) × AreDifferent (book_after ms b).out
 
 -- the web cells rise from this one, each bound once

@@ -8,9 +8,13 @@ pub mod Admission
 pub mod Next
 pub mod Step
 pub mod Runs
+pub mod Recovery
 pub mod Samples
 pub mod Vectors
 pub mod VectorsTape
 pub mod VectorsOrder
-pub mod Laws
+pub mod VectorsRecovery
 pub mod Invariant
+pub mod Laws
+pub mod Promises
+pub mod Remade

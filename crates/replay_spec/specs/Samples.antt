@@ -10,7 +10,7 @@ use Rattle.script_nodes.specs.Setup.{Named}
 use Rattle.replay_spec.specs.Rules.{Rules, Journal}
 use Rattle.replay_spec.specs.Next.{url_of}
 use Rattle.replay_spec.specs.Step.{Event, take, publish, Fate, plain, Reply, shown}
-use Rattle.replay_spec.specs.Runs.{answers_to, empty_shelf}
+use Rattle.replay_spec.specs.Runs.{Shelf, answers_to, empty_shelf}
 
 abbrev pub name : List ℕ
 name = codes "s"
@@ -23,16 +23,20 @@ script web cells parts = record { name = name; text = []; script = record { web 
 abbrev pub journal : (begun length : ℕ) → Journal
 journal begun length = record { begun = begun; length_of = λ b c. length }
 
-abbrev pub rules : Named → Rules
-rules s = record { scripts = s ∷ []; fuel = 100000; life = 3600; instances = 256; pages = 64; journal = Some (journal 100 50) }
+abbrev pub rules : Rules
+rules = record { fuel = 100000; life = 3600; instances = 256; pages = 64; journal = Some (journal 100 50) }
+
+-- a shelf of number 0 that is empty, under these rules and a setup of one script
+abbrev pub opened : Rules → Named → Shelf
+opened r s = empty_shelf r (s ∷ []) 0
 
 -- nonces as a counter gives them
 abbrev pub counted : ℕ → ℕ
 counted k = k
 
--- what the events of a run on one shelf are answered
-abbrev pub Answers : Rules → List (Event × Fate) → List Reply → Type 0
-Answers r events expected = answers_to r counted events (empty_shelf r 0) ≡ expected
+-- what the events of a run from this shelf are answered
+abbrev pub Answers : Shelf → List (Event × Fate) → List Reply → Type 0
+Answers s events expected = answers_to counted events s ≡ expected
 
 abbrev pub at : (instance n nonce : ℕ) → Destination
 at instance n nonce = page name (record { shelf = 0; instance = instance; page = n; nonce = nonce })

@@ -1,26 +1,28 @@
 -- One event of a shelf, its reply and the book after it.
-use Rattle.std.specs.Prelude.{ℕ, ◌+◌, ◌-◌, ◌^◌, ◌==◌, length, nat_le, nat_lt, if◌then◌else◌, List, [], Option, Some, None}
+use Rattle.std.specs.Prelude.{ℕ, ◌+◌, ◌-◌, ◌^◌, ◌==◌, length, nat_le, nat_lt, if◌then◌else◌, List, [], filter, Option, Some, None}
 use Rattle.script_value.specs.Val.{Val}
 use Rattle.script_value.specs.declared.outcome.TxName.{TxName}
 use Rattle.script_value.specs.declared.outcome.Fault.{Fault}
 use Rattle.script_value.specs.declared.outcome.Refusal.{Refusal}
 use Rattle.page_names.specs.Names.{Destination}
 use Rattle.script_nodes.specs.declared.script.SendKind.{SendKind}
+use Rattle.script_nodes.specs.Setup.{Named}
 use Rattle.replay_spec.specs.Tape.{present, How, shows, Outcome, paged, faulted}
 use Rattle.replay_spec.specs.Tape as tape
 use Rattle.replay_spec.specs.Eval.{Segment}
-use Rattle.replay_spec.specs.Book.{Change, opens, extends, ends, finishes, sweeps, Doubt, Book, draw, spend, reopened}
+use Rattle.replay_spec.specs.Book.{Change, opens, extends, ends, finishes, sweeps, Doubt, Book, is_live, draw, spend, reopened_with}
 use Rattle.replay_spec.specs.Rules.{Journal, Rules}
-use Rattle.replay_spec.specs.Change.{instances_by, record_length, longer_by, land}
+use Rattle.replay_spec.specs.Change.{record_length, longer_by, land}
 use Rattle.replay_spec.specs.Admission.{when, or_else, Admission, begins, resumes, refused, refusal_of, admit}
 use Rattle.replay_spec.specs.Next.{Ticket, Origin, starts, answers, Visit, url_for, comes_to, start_visit, page_visit}
 
--- a visit begins; its segment is published; time goes on to a tick; the program dies, and the shelf is opened again
+-- a visit begins; its segment is published; time goes on to a tick; the program dies, and the shelf is opened again with this
+-- setup
 pub data Event : Type 0 where
   take : Destination → Val → Event
   publish : Ticket → Event
   sweep : (tick : ℕ) → Event
-  crash : Event
+  crash : (scripts : List Named) → Event
 
 -- what the model leaves open at an event: whether memory was there, whether the disk failed, and at a crash whether what was in
 -- doubt is kept
@@ -62,9 +64,9 @@ refused_by None = None
 refused_by (Some r) = Some (refusal r)
 
 -- why there is no take: the shelf is down, its numbers are worn, or the target is not admitted
-abbrev pub no_take : Rules → Book → Destination → Option Reply
-no_take rules b target =
-    or_else (down_by b.down) (or_else (when (b.drawn == 2 ^ 62) worn) (refused_by (refusal_of (admit rules.scripts b target))))
+abbrev pub no_take : Book → Destination → Option Reply
+no_take b target =
+    or_else (down_by b.down) (or_else (when (b.drawn == 2 ^ 62) worn) (refused_by (refusal_of (admit b target))))
 
 abbrev pub take_unless : Option Reply → Book → (nonce : ℕ) → Reply × Book
 take_unless (Some r) b nonce = (r, b)
@@ -177,16 +179,16 @@ decide rules b t (resumes at) =
 decide rules b t (refused r) = replies (refusal r)
 
 -- how many instances a tick frees
-abbrev pub freed : Rules → (tick : ℕ) → Book → ℕ
-freed rules tick b = length b.instances - length (instances_by rules.scripts (sweeps tick) [] b.instances)
+abbrev pub freed : (tick : ℕ) → Book → ℕ
+freed tick b = length b.instances - length (filter (is_live tick) b.instances)
 
 abbrev pub decide_sweep : Rules → (tick : ℕ) → Book → Decision
 decide_sweep rules tick b =
-    unless (full_journal rules.journal b (sweeps tick)) (records (swept (freed rules tick b)) (sweeps tick) [])
+    unless (full_journal rules.journal b (sweeps tick)) (records (swept (freed tick b)) (sweeps tick) [])
 
 -- what a publish and a sweep come to on the book of now
 abbrev pub publish_comes : Rules → Book → Ticket → Decision
-publish_comes rules b t = unless (down_by b.down) (decide rules b t (admit rules.scripts b t.target))
+publish_comes rules b t = unless (down_by b.down) (decide rules b t (admit b t.target))
 
 abbrev pub sweep_comes : Rules → Book → (tick : ℕ) → Decision
 sweep_comes rules b tick = unless (down_by b.down) (decide_sweep rules tick b)
@@ -217,18 +219,18 @@ abbrev pub recovered : Rules → Fate → Option Doubt → Book → Book
 recovered rules kept (Some doubt) b = land rules doubt.change doubt.inside b
 recovered rules _ _ b = b
 
-abbrev pub opened : Book → Reply × Book
-opened b = (live (length b.instances), reopened b)
+abbrev pub opened : List Named → Book → Reply × Book
+opened scripts b = (live (length b.instances), reopened_with scripts b)
 
-abbrev pub take_by : Rules → Book → Destination → (nonce : ℕ) → Fate → Reply × Book
-take_by rules b target nonce no_memory = (memory, b)
-take_by rules b target nonce _ = take_unless (no_take rules b target) b nonce
+abbrev pub take_by : Book → Destination → (nonce : ℕ) → Fate → Reply × Book
+take_by b target nonce no_memory = (memory, b)
+take_by b target nonce _ = take_unless (no_take b target) b nonce
 
 -- A take draws this nonce, which the shelf's source gives next. A publish spends its number, whatever its reply. A tick at or
--- below the clock does nothing.
+-- below the clock does nothing. Behind what is kept of a doubt the setup is the one given at the crash.
 unfoldable pub step : Rules → Book → (nonce : ℕ) → Event → Fate → Reply × Book
-step rules b nonce (take target answer) fate = take_by rules b target nonce fate
+step rules b nonce (take target answer) fate = take_by b target nonce fate
 step rules b nonce (publish t) fate = settle rules (spend t.number b) (fate_of rules.journal fate) (publish_comes rules b t)
 step rules b nonce (sweep tick) fate =
     if nat_le tick b.clock then (swept 0, b) else settle rules b (fate_of rules.journal fate) (sweep_comes rules b tick)
-step rules b nonce crash fate = opened (recovered rules fate b.down b)
+step rules b nonce (crash scripts) fate = opened scripts (recovered rules fate b.down b)

@@ -5,14 +5,14 @@ use Rattle.script_value.specs.Val.{truth, text}
 use Rattle.script_value.specs.declared.outcome.Refusal.TheVariants.{Unknown, Revoked, Closed, Expired}
 use Rattle.page_names.specs.Names.{start}
 use Rattle.script_nodes.specs.Core.{isolate}
-use Rattle.replay_spec.specs.Runs.{after, empty_shelf}
+use Rattle.replay_spec.specs.Runs.{after}
 use Rattle.replay_spec.specs.Rules.{empty_book}
 use Rattle.replay_spec.specs.Step.{Event, take, sweep, crash, Fate, plain, no_memory, disk_fault, lost, kept, Reply, taken, shown, finished, ended, refusal, out_of_fuel, shelf_full, instance_full, disk_failed, down, oversize, journal_full, worn, memory, swept, live, step}
-use Rattle.replay_spec.specs.Samples.{name, script, journal, rules, counted, Answers, at, url, link_to, takes, publishing, publishes, get, nothing, says, link, hotel, fwd, fin, shop, pay, transaction, note}
+use Rattle.replay_spec.specs.Samples.{name, script, journal, rules, opened, counted, Answers, at, url, link_to, takes, publishing, publishes, get, nothing, says, link, hotel, fwd, fin, shop, pay, transaction, note}
 
 -- two clones do not see each other's web cell
 pub two_guests :
-    Answers (rules hotel)
+    Answers (opened rules hotel)
     (get (start name) nothing 0 ++ get (at 0 0 0) (text (codes "A")) 1 ++ get (at 0 0 0) (text (codes "B")) 2 ++ get (at 0 1 1) nothing 3 ++ get (at 0 2 2) nothing 4)
     (taken 0 0 ∷ link_to (codes "list") 0 0 ∷ taken 1 1 ∷ link_to (codes "confirm") 0 1 ∷ taken 2 2 ∷ link_to (codes "confirm") 0 2
     ∷ taken 3 3 ∷ ended (codes "A") ∷ taken 4 4 ∷ ended (codes "B") ∷ [])
@@ -21,7 +21,7 @@ two_guests = refl
 
 -- a page that forwards revokes the older, also for a visit in flight
 pub forwarded :
-    Answers (rules fwd)
+    Answers (opened rules fwd)
     (get (start name) nothing 0 ++ takes (at 0 0 0) nothing ∷ get (at 0 0 0) nothing 2 ++ publishes (at 0 0 0) nothing 1 ∷ takes (at 0 0 0) nothing ∷ get (at 0 2 2) nothing 3)
     (taken 0 0 ∷ link_to (codes "1") 0 0 ∷ taken 1 1 ∷ taken 2 2 ∷ link_to (codes "2") 0 2 ∷ refusal Revoked ∷ refusal Revoked ∷ taken 3 3 ∷ ended (codes "done") ∷ [])
 unfolding step
@@ -29,21 +29,21 @@ forwarded = refl
 
 -- an instance that is finished is gone
 pub finished_once :
-    Answers (rules fin) (get (start name) nothing 0 ++ get (at 0 0 0) nothing 1 ++ takes (at 0 0 0) nothing ∷ get (start name) nothing 2)
+    Answers (opened rules fin) (get (start name) nothing 0 ++ get (at 0 0 0) nothing 1 ++ takes (at 0 0 0) nothing ∷ get (start name) nothing 2)
     (taken 0 0 ∷ link_to (codes "1") 0 0 ∷ taken 1 1 ∷ finished (codes "bye") ∷ refusal Unknown ∷ taken 2 2 ∷ link_to (codes "1") 2 2 ∷ [])
 unfolding step
 finished_once = refl
 
 -- the last item is sold once: the second click is run again at its publish
 pub sold_once :
-    Answers (rules shop) (get (start name) nothing 0 ++ takes (at 0 0 0) nothing ∷ takes (at 0 0 0) nothing ∷ publishes (at 0 0 0) nothing 1 ∷ publishes (at 0 0 0) nothing 2 ∷ [])
+    Answers (opened rules shop) (get (start name) nothing 0 ++ takes (at 0 0 0) nothing ∷ takes (at 0 0 0) nothing ∷ publishes (at 0 0 0) nothing 1 ∷ publishes (at 0 0 0) nothing 2 ∷ [])
     (taken 0 0 ∷ link_to (codes "buy") 0 0 ∷ taken 1 1 ∷ taken 2 2 ∷ ended (codes "bought") ∷ ended (codes "sold out") ∷ [])
 unfolding step
 sold_once = refl
 
 -- paid once, and not again by the card's page or another page of the payment; at the cart another transaction is entered
 pub paid_once :
-    Answers (rules pay)
+    Answers (opened rules pay)
     (get (start name) nothing 0 ++ get (at 0 0 0) nothing 1 ++ get (at 0 1 1) nothing 2 ++ get (at 0 1 1) nothing 3 ++ get (at 0 2 2) nothing 4
     ++ takes (at 0 1 1) nothing ∷ takes (at 0 3 3) nothing ∷ get (at 0 0 0) nothing 5)
     (taken 0 0 ∷ link_to (codes "cart") 0 0 ∷ taken 1 1 ∷ link_to (codes "card") 0 1 ∷ taken 2 2 ∷ link_to (codes "pay") 0 2 ∷ taken 3 3 ∷ link_to (codes "pay") 0 3
@@ -59,14 +59,14 @@ paying = taken 0 0 ∷ link_to (codes "cart") 0 0 ∷ taken 1 1 ∷ link_to (cod
 
 -- of two visits in flight the first pays
 pub paid_by_one :
-    Answers (rules pay) (to_pay ++ takes (at 0 2 2) nothing ∷ takes (at 0 2 2) nothing ∷ publishes (at 0 2 2) nothing 3 ∷ publishes (at 0 2 2) nothing 4 ∷ [])
+    Answers (opened rules pay) (to_pay ++ takes (at 0 2 2) nothing ∷ takes (at 0 2 2) nothing ∷ publishes (at 0 2 2) nothing 3 ∷ publishes (at 0 2 2) nothing 4 ∷ [])
     (paying ++ taken 3 3 ∷ taken 4 4 ∷ link_to (codes "1") 0 3 ∷ refusal (Closed (transaction 1)) ∷ [])
 unfolding step digits
 paid_by_one = refl
 
 -- a transaction is closed also where the segment that leaves it ends
 pub closed_at_the_end :
-    Answers (rules (script [] [] (isolate (link (codes "1")) ∷ says (codes "done") ∷ [])))
+    Answers (opened rules (script [] [] (isolate (link (codes "1")) ∷ says (codes "done") ∷ [])))
     (get (start name) nothing 0 ++ get (at 0 0 0) nothing 1 ++ takes (at 0 0 0) nothing ∷ [])
     (taken 0 0 ∷ link_to (codes "1") 0 0 ∷ taken 1 1 ∷ ended (codes "done") ∷ refusal (Closed (transaction 0)) ∷ [])
 unfolding step
@@ -74,48 +74,48 @@ closed_at_the_end = refl
 
 -- a payment in doubt is kept or lost at the crash; a lost one's number is drawn again, and the nonces go on
 abbrev doubted : Fate → List (Event × Fate)
-doubted fate = to_pay ++ takes (at 0 2 2) nothing ∷ (publishing (at 0 2 2) nothing 3 3, disk_fault 1) ∷ takes (at 0 1 1) nothing ∷ (crash, fate) ∷ takes (at 0 1 1) nothing ∷ []
+doubted fate = to_pay ++ takes (at 0 2 2) nothing ∷ (publishing (at 0 2 2) nothing 3 3, disk_fault 1) ∷ takes (at 0 1 1) nothing ∷ (crash (pay ∷ []), fate) ∷ takes (at 0 1 1) nothing ∷ []
 
-pub payment_kept : Answers (rules pay) (doubted kept) (paying ++ taken 3 3 ∷ disk_failed 1 ∷ down 1 ∷ live 1 ∷ refusal (Closed (transaction 1)) ∷ [])
+pub payment_kept : Answers (opened rules pay) (doubted kept) (paying ++ taken 3 3 ∷ disk_failed 1 ∷ down 1 ∷ live 1 ∷ refusal (Closed (transaction 1)) ∷ [])
 unfolding step digits
 payment_kept = refl
 
-pub payment_lost : Answers (rules pay) (doubted lost) (paying ++ taken 3 3 ∷ disk_failed 1 ∷ down 1 ∷ live 1 ∷ taken 3 4 ∷ [])
+pub payment_lost : Answers (opened rules pay) (doubted lost) (paying ++ taken 3 3 ∷ disk_failed 1 ∷ down 1 ∷ live 1 ∷ taken 3 4 ∷ [])
 unfolding step digits
 payment_lost = refl
 
 -- a shelf in memory has no disk that fails
 pub paid_in_memory :
-    Answers (record (rules pay) { journal = None }) (doubted lost)
+    Answers (opened (record rules { journal = None }) pay) (doubted lost)
     (paying ++ taken 3 3 ∷ link_to (codes "1") 0 3 ∷ refusal (Closed (transaction 1)) ∷ live 1 ∷ refusal (Closed (transaction 1)) ∷ [])
 unfolding step digits
 paid_in_memory = refl
 
 -- a ticket is lost in a crash with nothing in doubt, and pages are not
 pub crashed :
-    Answers (rules hotel)
-    (get (start name) nothing 0 ++ get (at 0 0 0) (text (codes "A")) 1 ++ takes (at 0 1 1) nothing ∷ (crash, kept) ∷ takes (at 0 0 0) (text (codes "B"))
+    Answers (opened rules hotel)
+    (get (start name) nothing 0 ++ get (at 0 0 0) (text (codes "A")) 1 ++ takes (at 0 1 1) nothing ∷ (crash (hotel ∷ []), kept) ∷ takes (at 0 0 0) (text (codes "B"))
     ∷ (publishing (at 0 0 0) (text (codes "B")) 2 3, plain) ∷ takes (at 0 1 1) nothing ∷ (publishing (at 0 1 1) nothing 3 4, plain) ∷ [])
     (taken 0 0 ∷ link_to (codes "list") 0 0 ∷ taken 1 1 ∷ link_to (codes "confirm") 0 1 ∷ taken 2 2 ∷ live 1 ∷ taken 2 3 ∷ shown (codes "confirm") (url 0 2 3)
     ∷ taken 3 4 ∷ ended (codes "A") ∷ [])
 unfolding step
 crashed = refl
 
-pub nothing_is_out : (after (rules hotel) counted (takes (start name) nothing ∷ (crash, lost) ∷ []) (empty_shelf (rules hotel) 0)).book ≡ empty_book (rules hotel) 0
+pub nothing_is_out : (after counted (takes (start name) nothing ∷ (crash (hotel ∷ []), lost) ∷ []) (opened rules hotel)).book ≡ empty_book rules (hotel ∷ []) 0
 unfolding step
 nothing_is_out = refl
 
 -- what is said is an instance cell: all pages see it
 pub said_to_all :
-    Answers (rules note) (get (start name) nothing 0 ++ get (at 0 0 0) (text (codes "hi")) 1 ++ get (at 0 0 0) (truth false) 2)
+    Answers (opened rules note) (get (start name) nothing 0 ++ get (at 0 0 0) (text (codes "hi")) 1 ++ get (at 0 0 0) (truth false) 2)
     (taken 0 0 ∷ link_to (codes "say") 0 0 ∷ taken 1 1 ∷ ended (codes "ok") ∷ taken 2 2 ∷ ended (codes "hi") ∷ [])
 unfolding step
 said_to_all = refl
 
 -- a page is answered until its deadline; an instance is freed by the sweep at which all of its pages are over; both hold behind a crash
 pub expired :
-    Answers (record (rules hotel) { life = 100 })
-    (get (start name) nothing 0 ++ (sweep 50, plain) ∷ get (at 0 0 0) nothing 1 ++ (sweep 100, plain) ∷ takes (at 0 0 0) nothing ∷ (crash, lost) ∷ takes (at 0 0 0) nothing
+    Answers (opened (record rules { life = 100 }) hotel)
+    (get (start name) nothing 0 ++ (sweep 50, plain) ∷ get (at 0 0 0) nothing 1 ++ (sweep 100, plain) ∷ takes (at 0 0 0) nothing ∷ (crash (hotel ∷ []), lost) ∷ takes (at 0 0 0) nothing
     ∷ takes (at 0 1 1) nothing ∷ (sweep 99, plain) ∷ (sweep 150, plain) ∷ takes (at 0 0 0) nothing ∷ [])
     (taken 0 0 ∷ link_to (codes "list") 0 0 ∷ swept 0 ∷ taken 1 1 ∷ link_to (codes "confirm") 0 1 ∷ swept 0 ∷ refusal (Expired 100) ∷ live 1 ∷ refusal (Expired 100)
     ∷ taken 2 2 ∷ swept 0 ∷ swept 1 ∷ refusal Unknown ∷ [])
@@ -124,37 +124,37 @@ expired = refl
 
 -- a sweep in doubt is kept or lost
 abbrev swept_or_not : Fate → List (Event × Fate)
-swept_or_not fate = get (start name) nothing 0 ++ (sweep 100, disk_fault 2) ∷ (sweep 200, plain) ∷ (crash, fate) ∷ takes (at 0 0 0) nothing ∷ []
+swept_or_not fate = get (start name) nothing 0 ++ (sweep 100, disk_fault 2) ∷ (sweep 200, plain) ∷ (crash (hotel ∷ []), fate) ∷ takes (at 0 0 0) nothing ∷ []
 
-pub sweep_kept : Answers (record (rules hotel) { life = 100 }) (swept_or_not kept) (taken 0 0 ∷ link_to (codes "list") 0 0 ∷ disk_failed 2 ∷ down 2 ∷ live 0 ∷ refusal Unknown ∷ [])
+pub sweep_kept : Answers (opened (record rules { life = 100 }) hotel) (swept_or_not kept) (taken 0 0 ∷ link_to (codes "list") 0 0 ∷ disk_failed 2 ∷ down 2 ∷ live 0 ∷ refusal Unknown ∷ [])
 unfolding step
 sweep_kept = refl
 
-pub sweep_lost : Answers (record (rules hotel) { life = 100 }) (swept_or_not lost) (taken 0 0 ∷ link_to (codes "list") 0 0 ∷ disk_failed 2 ∷ down 2 ∷ live 1 ∷ taken 1 1 ∷ [])
+pub sweep_lost : Answers (opened (record rules { life = 100 }) hotel) (swept_or_not lost) (taken 0 0 ∷ link_to (codes "list") 0 0 ∷ disk_failed 2 ∷ down 2 ∷ live 1 ∷ taken 1 1 ∷ [])
 unfolding step
 sweep_lost = refl
 
 -- limits
 pub too_many_instances :
-    Answers (record (rules hotel) { instances = 1 }) (get (start name) nothing 0 ++ get (start name) nothing 1) (taken 0 0 ∷ link_to (codes "list") 0 0 ∷ taken 1 1 ∷ shelf_full 1 ∷ [])
+    Answers (opened (record rules { instances = 1 }) hotel) (get (start name) nothing 0 ++ get (start name) nothing 1) (taken 0 0 ∷ link_to (codes "list") 0 0 ∷ taken 1 1 ∷ shelf_full 1 ∷ [])
 unfolding step
 too_many_instances = refl
 
 pub too_many_pages :
-    Answers (record (rules hotel) { pages = 1 }) (get (start name) nothing 0 ++ get (at 0 0 0) nothing 1) (taken 0 0 ∷ link_to (codes "list") 0 0 ∷ taken 1 1 ∷ instance_full 1 ∷ [])
+    Answers (opened (record rules { pages = 1 }) hotel) (get (start name) nothing 0 ++ get (at 0 0 0) nothing 1) (taken 0 0 ∷ link_to (codes "list") 0 0 ∷ taken 1 1 ∷ instance_full 1 ∷ [])
 unfolding step
 too_many_pages = refl
 
 -- what shows no page needs no room for one
 pub ends_in_the_full :
-    Answers (record (rules (script [] [] (link (codes "1") ∷ says (codes "2") ∷ []))) { pages = 1 }) (get (start name) nothing 0 ++ get (at 0 0 0) nothing 1)
+    Answers (opened (record rules { pages = 1 }) (script [] [] (link (codes "1") ∷ says (codes "2") ∷ []))) (get (start name) nothing 0 ++ get (at 0 0 0) nothing 1)
     (taken 0 0 ∷ link_to (codes "1") 0 0 ∷ taken 1 1 ∷ ended (codes "2") ∷ [])
 unfolding step
 ends_in_the_full = refl
 
 -- want of memory draws nothing at a take, no nonce either, and spends the number at a publish
 pub no_memory_there :
-    Answers (rules hotel)
+    Answers (opened rules hotel)
     ((take (start name) nothing, no_memory) ∷ takes (start name) nothing ∷ (publishing (start name) nothing 0 0, no_memory) ∷ get (start name) nothing 1)
     (memory ∷ taken 0 0 ∷ memory ∷ taken 1 1 ∷ link_to (codes "list") 1 1 ∷ [])
 unfolding step
@@ -162,25 +162,25 @@ no_memory_there = refl
 
 -- a record that is too long, and a journal that would be; a shelf whose numbers are worn
 pub too_long_a_record :
-    Answers (record (rules hotel) { journal = Some (journal 100 1048577) }) (get (start name) nothing 0) (taken 0 0 ∷ oversize 1048577 ∷ [])
+    Answers (opened (record rules { journal = Some (journal 100 1048577) }) hotel) (get (start name) nothing 0) (taken 0 0 ∷ oversize 1048577 ∷ [])
 unfolding step
 too_long_a_record = refl
 
 pub too_long_a_journal :
-    Answers (record (rules hotel) { journal = Some (journal (2 ^ 30 - 60) 50) }) (get (start name) nothing 0 ++ get (start name) nothing 1 ++ (sweep 5, plain) ∷ [])
+    Answers (opened (record rules { journal = Some (journal (2 ^ 30 - 60) 50) }) hotel) (get (start name) nothing 0 ++ get (start name) nothing 1 ++ (sweep 5, plain) ∷ [])
     (taken 0 0 ∷ link_to (codes "list") 0 0 ∷ taken 1 1 ∷ journal_full 1073741874 ∷ journal_full 1073741874 ∷ [])
 unfolding step
 too_long_a_journal = refl
 
-pub worn_out : (step (rules hotel) (record (empty_book (rules hotel) 0) { drawn = 2 ^ 62 }) 0 (take (start name) nothing) plain).0 ≡ worn
+pub worn_out : (step rules (record (empty_book rules (hotel ∷ []) 0) { drawn = 2 ^ 62 }) 0 (take (start name) nothing) plain).0 ≡ worn
 unfolding step
 worn_out = refl
 
 -- the fuel: a charge of ten beside the one of the whole, and one more
-pub in_fuel : Answers (record (rules (script [] [] (says (codes "12345678") ∷ []))) { fuel = 11 }) (get (start name) nothing 0) (taken 0 0 ∷ ended (codes "12345678") ∷ [])
+pub in_fuel : Answers (opened (record rules { fuel = 11 }) (script [] [] (says (codes "12345678") ∷ []))) (get (start name) nothing 0) (taken 0 0 ∷ ended (codes "12345678") ∷ [])
 unfolding step
 in_fuel = refl
 
-pub out_of_it : Answers (record (rules (script [] [] (says (codes "123456789") ∷ []))) { fuel = 11 }) (get (start name) nothing 0) (taken 0 0 ∷ out_of_fuel 12 ∷ [])
+pub out_of_it : Answers (opened (record rules { fuel = 11 }) (script [] [] (says (codes "123456789") ∷ []))) (get (start name) nothing 0) (taken 0 0 ∷ out_of_fuel 12 ∷ [])
 unfolding step
 out_of_it = refl

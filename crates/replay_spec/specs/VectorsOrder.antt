@@ -12,14 +12,21 @@ use Rattle.script_nodes.specs.declared.script.SendKind.TheVariants.{Suspend}
 use Rattle.script_nodes.specs.Core.{lit, var, bind, prim, send, cores_of}
 use Rattle.script_nodes.specs.Setup.{Named}
 use Rattle.replay_spec.specs.Book.{Page, Instance, sweeps, Doubt, Book}
-use Rattle.replay_spec.specs.Rules.{Rules, empty_book}
+use Rattle.replay_spec.specs.Rules.{Rules}
 use Rattle.replay_spec.specs.Next.{url_of}
 use Rattle.replay_spec.specs.Step.{Event, take, sweep, Fate, plain, no_memory, disk_fault, Reply, taken, shown, ended, refusal, fault, shelf_full, instance_full, down, oversize, journal_full, worn, memory, swept, step}
-use Rattle.replay_spec.specs.Runs.{Shelf, after, answers_to}
+use Rattle.replay_spec.specs.Runs.{Shelf, empty_shelf, after, answers_to}
 use Rattle.replay_spec.specs.Samples.{name, script, journal, rules, at, takes, publishing, nothing, link}
 
 abbrev doubt : Doubt
 doubt = record { count = 7; change = sweeps 9; inside = [] }
+
+-- a script that shows a page, and one whose second segment gives no page
+abbrev one_page : Named
+one_page = script [] [] (link (codes "1") ∷ link (codes "2") ∷ [])
+
+abbrev no_page_then : Named
+no_page_then = script [] [] (link (codes "1") ∷ lit (number (pos 1)) ∷ [])
 
 -- the transaction of another segment
 abbrev closed_one : TxName
@@ -29,107 +36,100 @@ closed_one = record { ticket = 0; entry = 0 }
 abbrev old_page : Page
 old_page = record { number = 0; nonce = 0; parent = None; answer = nothing; reads = []; inside = closed_one ∷ []; deadline = 5 }
 
-abbrev old : (revoked : List ℕ) → (closed : List TxName) → Instance
-old revoked closed = record { number = 0; script = 0; cells = []; closed = closed; revoked = revoked; pages = old_page ∷ [] }
+abbrev old : Named → (revoked : List ℕ) → (closed : List TxName) → Instance
+old s revoked closed = record { number = 0; script = s; cells = []; closed = closed; revoked = revoked; pages = old_page ∷ [] }
 
 abbrev book : List Instance → Book
-book is = record { shelf = 0; clock = 5; drawn = 2; logged = 1; length = 100; out = 1 ∷ []; down = None; instances = is }
-
--- a script that shows a page, and one whose second segment gives no page
-abbrev one_page : Named
-one_page = script [] [] (link (codes "1") ∷ link (codes "2") ∷ [])
-
-abbrev no_page_then : Named
-no_page_then = script [] [] (link (codes "1") ∷ lit (number (pos 1)) ∷ [])
+book is = record { shelf = 0; scripts = one_page ∷ []; clock = 5; drawn = 2; logged = 1; length = 100; out = 1 ∷ []; down = None; instances = is }
 
 abbrev told : Rules → Book → Event → Fate → Reply
 told r b event fate = (step r b 3 event fate).0
 
 -- a take: down, then worn, then the target
-pub down_before_worn : told (rules one_page) (record (book []) { drawn = 2 ^ 62; down = Some doubt }) (take (start name) nothing) plain ≡ down 7
+pub down_before_worn : told rules (record (book []) { drawn = 2 ^ 62; down = Some doubt }) (take (start name) nothing) plain ≡ down 7
 unfolding step
 down_before_worn = refl
 
-pub worn_before_unknown : told (rules one_page) (record (book []) { drawn = 2 ^ 62 }) (take (at 0 0 0) nothing) plain ≡ worn
+pub worn_before_unknown : told rules (record (book []) { drawn = 2 ^ 62 }) (take (at 0 0 0) nothing) plain ≡ worn
 unfolding step
 worn_before_unknown = refl
 
 -- a target: unknown, then revoked, then closed, then expired
-pub unknown_before_revoked : told (rules one_page) (book (old (0 ∷ []) (closed_one ∷ []) ∷ [])) (take (at 0 0 1) nothing) plain ≡ refusal Unknown
+pub unknown_before_revoked : told rules (book (old one_page (0 ∷ []) (closed_one ∷ []) ∷ [])) (take (at 0 0 1) nothing) plain ≡ refusal Unknown
 unfolding step
 unknown_before_revoked = refl
 
-pub revoked_before_closed : told (rules one_page) (book (old (0 ∷ []) (closed_one ∷ []) ∷ [])) (take (at 0 0 0) nothing) plain ≡ refusal Revoked
+pub revoked_before_closed : told rules (book (old one_page (0 ∷ []) (closed_one ∷ []) ∷ [])) (take (at 0 0 0) nothing) plain ≡ refusal Revoked
 unfolding step
 revoked_before_closed = refl
 
-pub closed_before_expired : told (rules one_page) (book (old [] (closed_one ∷ []) ∷ [])) (take (at 0 0 0) nothing) plain ≡ refusal (Closed closed_one)
+pub closed_before_expired : told rules (book (old one_page [] (closed_one ∷ []) ∷ [])) (take (at 0 0 0) nothing) plain ≡ refusal (Closed closed_one)
 unfolding step
 closed_before_expired = refl
 
-pub expired_alone : told (rules one_page) (book (old [] [] ∷ [])) (take (at 0 0 0) nothing) plain ≡ refusal (Expired 5)
+pub expired_alone : told rules (book (old one_page [] [] ∷ [])) (take (at 0 0 0) nothing) plain ≡ refusal (Expired 5)
 unfolding step
 expired_alone = refl
 
 -- a publish: down, then the target, then a fault, then what is full, then the record's length, then the journal's, then the disk
-abbrev young : Book
-young = record (book (old [] [] ∷ [])) { clock = 4 }
+abbrev young : Named → Book
+young s = record (book (old s [] [] ∷ [])) { clock = 4 }
 
 abbrev answering : Event
 answering = publishing (at 0 0 0) nothing 1 1
 
-pub down_before_target : told (rules one_page) (record (book []) { down = Some doubt }) answering plain ≡ down 7
+pub down_before_target : told rules (record (book []) { down = Some doubt }) answering plain ≡ down 7
 unfolding step
 down_before_target = refl
 
 -- want of memory may be told before all of these
-pub memory_before_down : told (rules one_page) (record (book []) { down = Some doubt }) answering no_memory ≡ memory
+pub memory_before_down : told rules (record (book []) { down = Some doubt }) answering no_memory ≡ memory
 unfolding step
 memory_before_down = refl
 
-pub target_before_fault : told (rules no_page_then) (book (old [] [] ∷ [])) answering plain ≡ refusal (Expired 5)
+pub target_before_fault : told rules (book (old no_page_then [] [] ∷ [])) answering plain ≡ refusal (Expired 5)
 unfolding step
 target_before_fault = refl
 
-pub fault_before_full : told (record (rules no_page_then) { pages = 1 }) young answering plain ≡ fault NotPage
+pub fault_before_full : told (record rules { pages = 1 }) (young no_page_then) answering plain ≡ fault NotPage
 unfolding step
 fault_before_full = refl
 
-pub full_before_length : told (record (rules one_page) { pages = 1; journal = Some (journal 100 1048577) }) young answering plain ≡ instance_full 1
+pub full_before_length : told (record rules { pages = 1; journal = Some (journal 100 1048577) }) (young one_page) answering plain ≡ instance_full 1
 unfolding step
 full_before_length = refl
 
 pub shelf_full_before_length :
-    told (record (rules one_page) { instances = 1; journal = Some (journal 100 1048577) }) young (publishing (start name) nothing 1 1) plain ≡ shelf_full 1
+    told (record rules { instances = 1; journal = Some (journal 100 1048577) }) (young one_page) (publishing (start name) nothing 1 1) plain ≡ shelf_full 1
 unfolding step
 shelf_full_before_length = refl
 
 pub record_before_journal :
-    told (record (rules one_page) { journal = Some (journal 100 1048577) }) (record young { length = 2 ^ 30 }) answering plain ≡ oversize 1048577
+    told (record rules { journal = Some (journal 100 1048577) }) (record (young one_page) { length = 2 ^ 30 }) answering plain ≡ oversize 1048577
 unfolding step
 record_before_journal = refl
 
-pub journal_before_disk : told (rules one_page) (record young { length = 2 ^ 30 }) answering (disk_fault 8) ≡ journal_full 1073741879
+pub journal_before_disk : told rules (record (young one_page) { length = 2 ^ 30 }) answering (disk_fault 8) ≡ journal_full 1073741879
 unfolding step
 journal_before_disk = refl
 
 -- a record and a journal of just their most
 pub just_room :
-    told (record (rules one_page) { journal = Some (journal 100 1048576) }) (record young { length = 2 ^ 30 - 1048581 }) answering plain
+    told (record rules { journal = Some (journal 100 1048576) }) (record (young one_page) { length = 2 ^ 30 - 1048581 }) answering plain
     ≡ shown (codes "2") (url_of (record { name = name; shelf = 0; instance = 0 }) 1 1)
 unfolding step
 just_room = refl
 
 -- a sweep: a tick at the clock, then down, then the journal, then the disk
-pub clock_before_down : told (rules one_page) (record (book []) { down = Some doubt }) (sweep 5) (disk_fault 8) ≡ swept 0
+pub clock_before_down : told rules (record (book []) { down = Some doubt }) (sweep 5) (disk_fault 8) ≡ swept 0
 unfolding step
 clock_before_down = refl
 
-pub down_before_journal : told (rules one_page) (record (book []) { length = 2 ^ 30; down = Some doubt }) (sweep 6) plain ≡ down 7
+pub down_before_journal : told rules (record (book []) { length = 2 ^ 30; down = Some doubt }) (sweep 6) plain ≡ down 7
 unfolding step
 down_before_journal = refl
 
-pub sweep_journal_before_disk : told (rules one_page) (record (book []) { length = 2 ^ 30 }) (sweep 6) (disk_fault 8) ≡ journal_full 1073741879
+pub sweep_journal_before_disk : told rules (record (book []) { length = 2 ^ 30 }) (sweep 6) (disk_fault 8) ≡ journal_full 1073741879
 unfolding step
 sweep_journal_before_disk = refl
 
@@ -148,15 +148,12 @@ two_pages = record {
   };
 }
 
-abbrev two_scripts : Rules
-two_scripts = record {
-  scripts = record { name = codes "t"; text = []; script = record { web = []; cells = []; body = lit (number (pos 1)) } } ∷ two_pages ∷ [];
-  fuel = 1000;
-  life = 60;
-  instances = 4;
-  pages = 4;
-  journal = None;
-}
+abbrev two_scripts : List Named
+two_scripts =
+    record { name = codes "t"; text = []; script = record { web = []; cells = []; body = lit (number (pos 1)) } } ∷ two_pages ∷ []
+
+abbrev small : Rules
+small = record { fuel = 1000; life = 60; instances = 4; pages = 4; journal = None }
 
 -- the URL of a page of instance 0 on shelf 7
 abbrev url : ℕ → ℕ → List ℕ
@@ -184,10 +181,10 @@ visits =
     ++ visit (answered (codes "s") 1 11) (text (codes "y")) 2 ++ visit (answered (codes "s") 0 10) (text (codes "z")) 3
 
 abbrev empty : Shelf
-empty = record { book = empty_book two_scripts 7; nonces = 0 }
+empty = empty_shelf small two_scripts 7
 
 pub visits_replies :
-    answers_to two_scripts from_ten visits empty
+    answers_to from_ten visits empty
     ≡ taken 0 10 ∷ shown (codes "a") (url 0 10) ∷ taken 1 11 ∷ shown (codes "<p>x</p>") (url 1 11)
     ∷ taken 2 12 ∷ ended (codes "<p>xy</p>") ∷ taken 3 13 ∷ shown (codes "<p>z</p>") (url 3 13) ∷ []
 unfolding step
@@ -201,6 +198,7 @@ page_with n nonce parent answer =
 abbrev visited : Book
 visited = record {
   shelf = 7;
+  scripts = two_scripts;
   clock = 0;
   drawn = 4;
   logged = 4;
@@ -209,7 +207,7 @@ visited = record {
   down = None;
   instances = record {
     number = 0;
-    script = 1;
+    script = two_pages;
     cells = [];
     closed = [];
     revoked = [];
@@ -218,35 +216,35 @@ visited = record {
   } ∷ [];
 }
 
-pub visits_book : after two_scripts from_ten visits empty ≡ record { book = visited; nonces = 4 }
+pub visits_book : after from_ten visits empty ≡ record { rules = small; book = visited; nonces = 4 }
 unfolding step
 visits_book = refl
 
 -- the page that came last, answered: its parent's page and no other stands before it
 pub through_the_last :
-    answers_to two_scripts from_ten (visit (answered (codes "s") 3 13) (text (codes "y")) 4) (record { book = visited; nonces = 4 })
+    answers_to from_ten (visit (answered (codes "s") 3 13) (text (codes "y")) 4) (record { rules = small; book = visited; nonces = 4 })
     ≡ taken 4 14 ∷ ended (codes "<p>zy</p>") ∷ []
 unfolding step
 through_the_last = refl
 
 -- no such nonce; the name of another script; no such page; another shelf; no such script
-pub unknown_nonce : step two_scripts visited 14 (take (answered (codes "s") 0 11) nothing) plain ≡ (refusal Unknown, visited)
+pub unknown_nonce : step small visited 14 (take (answered (codes "s") 0 11) nothing) plain ≡ (refusal Unknown, visited)
 unfolding step
 unknown_nonce = refl
 
-pub unknown_script : step two_scripts visited 14 (take (answered (codes "t") 0 10) nothing) plain ≡ (refusal Unknown, visited)
+pub unknown_script : step small visited 14 (take (answered (codes "t") 0 10) nothing) plain ≡ (refusal Unknown, visited)
 unfolding step
 unknown_script = refl
 
-pub unknown_page : step two_scripts visited 14 (take (answered (codes "s") 2 12) nothing) plain ≡ (refusal Unknown, visited)
+pub unknown_page : step small visited 14 (take (answered (codes "s") 2 12) nothing) plain ≡ (refusal Unknown, visited)
 unfolding step
 unknown_page = refl
 
 pub unknown_shelf :
-    step two_scripts visited 14 (take (page (codes "s") (record { shelf = 6; instance = 0; page = 0; nonce = 10 })) nothing) plain ≡ (refusal Unknown, visited)
+    step small visited 14 (take (page (codes "s") (record { shelf = 6; instance = 0; page = 0; nonce = 10 })) nothing) plain ≡ (refusal Unknown, visited)
 unfolding step
 unknown_shelf = refl
 
-pub unknown_start : step two_scripts visited 14 (take (start (codes "u")) nothing) plain ≡ (refusal Unknown, visited)
+pub unknown_start : step small visited 14 (take (start (codes "u")) nothing) plain ≡ (refusal Unknown, visited)
 unfolding step
 unknown_start = refl

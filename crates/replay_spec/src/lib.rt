@@ -1,11 +1,20 @@
 //! What a page script means, what a shelf answers, and laws of both.
 #![tactic(auto)]
 
-ghost use Rattle.replay_spec.specs.Laws.{EffectsHoldRunSame, AHeldRunIsNext, EffectsAreOnCells, RecordedIsPresent, MoreFuelIsTheSame, NamesFollow, SoundBooksStay, EachHasItsCells, EachChainReplays, PagesStay, AVisitIsLocal, AStartIsLocal, RefusedIsUnchanged, AStartOpensOrLeaves, RunsGoOn, ClosedIsClosed, ARunLeads, RecordsSuffice, NamesStayDifferent, ShownIsOpen, AForwardRevokes, NoNumberTwice, TicketsAreOut, ShadowsRise};
+ghost use Rattle.replay_spec.specs.Laws.{EffectsHoldRunSame, AHeldRunIsNext, EffectsAreOnCells, RecordedIsPresent, MoreFuelIsTheSame, NamesFollow, OrderlyBooksStay, SoundBooksStay, ReachedBooksAreSound, EachHasItsCells, EachChainReplays, PagesStay, RefusedIsUnchanged, AStartOpensOrLeaves, ClosedIsClosed, NamesStayDifferent, ShownIsOpen, AForwardRevokes, NoNumberTwice, TicketsAreOut, ShadowsRise};
+ghost use Rattle.replay_spec.specs.Promises.{TheClockNeverFalls, AShownPageIsAdmitted, NothingElseCloses, NothingElseFrees, AVisitIsAnswered};
+ghost use Rattle.replay_spec.specs.Remade.{EffectsHold, JournalIsLast, EventsAreRemade, RecordsSuffice, RecordsMakeOrderlyBooks};
+
+// Of single runs of a script.
 
 /// A run whose effects over some cells hold over others comes to the same over those.
 pub fn effects_hold_run_same()
     ensures { EffectsHoldRunSame }
+{}
+
+/// The effects of a run hold over the cells that it ran over.
+pub fn effects_hold()
+    ensures { EffectsHold }
 {}
 
 /// A publish may take what the first run came to, where its effects hold over the cells of now.
@@ -35,99 +44,28 @@ pub fn names_follow()
     ensures { NamesFollow }
 {}
 
-/// An empty book is sound, and each lawful event keeps a book so, whatever its fate.
-pub fn sound_books_stay()
-    ensures { SoundBooksStay }
-{}
-
-/// In a sound book each instance has as many cells as its script.
-pub fn each_has_its_cells()
-    ensures { EachHasItsCells }
-{}
-
-/// In a sound book the chain of a page is all of its ancestors from the root on, and then the page, and it replays: the
-/// script, run from its start over it, shows a page inside the transactions that the page keeps, and reads just what was
-/// recorded.
-pub fn each_chain_replays()
-    ensures { EachChainReplays }
-{}
-
-/// A page that was shown stands as long as its instance does, behind the pages that it had behind it.
-pub fn pages_stay()
-    ensures { PagesStay }
-{}
-
-/// What a visit comes to depends on the pages behind its own and on its cells alone, and not on other pages or instances.
-pub fn a_visit_is_local()
-    ensures { AVisitIsLocal }
-{}
-
-/// What a start comes to depends on the shelf's number alone.
-pub fn a_start_is_local()
-    ensures { AStartIsLocal }
-{}
-
-/// A take that is not answered with a ticket changes nothing, a publish that neither shows a page nor ends only spends
-/// its number, and a sweep that is refused changes nothing; a disk's fault leaves in doubt just what was decided.
-pub fn refused_is_unchanged()
-    ensures { RefusedIsUnchanged }
-{}
-
-/// A start changes the book only by a page that it shows.
-pub fn a_start_opens_or_leaves()
-    ensures { AStartOpensOrLeaves }
-{}
-
-/// After an event that left a transaction none leaves it, and each on a page inside it is refused without effect.
-pub fn closed_is_closed()
-    ensures { ClosedIsClosed }
-{}
-
-/// The records that a run leaves suffice: the book that they make of the first is the last, as after a crash.
-pub fn records_suffice()
-    ensures { RecordsSuffice }
-{}
-
-/// The names that a page is inside are all different, where the fuel is too little for the count of a segment's
-/// transactions to stand still.
-pub fn names_stay_different()
-    ensures { NamesStayDifferent }
-{}
-
-/// A page is inside no closed transaction when it is shown, those included that its own segment left.
-pub fn shown_is_open()
-    ensures { ShownIsOpen }
-{}
-
-/// What revokes a page is a forward of its instance, and it revokes every page that is there; a revoked page stays so.
-pub fn a_forward_revokes()
-    ensures { AForwardRevokes }
-{}
-
-/// No number is used twice, also over crashes.
-pub fn no_number_twice()
-    ensures { NoNumberTwice }
-{}
-
-/// The numbers that are out are those of the tickets that were taken and not published, each with the target, answer and
-/// nonce of its take.
-pub fn tickets_are_out()
-    ensures { TicketsAreOut }
-{}
-
 /// The bindings of web cells rise in every run, each cell bound once.
 pub fn shadows_rise()
     ensures { ShadowsRise }
 {}
 
-// What the crates above cite, and no more than the definitions of runs themselves: equations of their recursion.
+// Of the books that events lead to.
 
-/// A run over more events is the run over the first, and then over the others.
-pub fn runs_go_on()
-    ensures { RunsGoOn }
+/// An empty book is orderly, and each lawful event keeps a book so, whatever its fate, with fewer unused numbers.
+pub fn orderly_books_stay()
+    ensures { OrderlyBooksStay }
 {}
 
-/// A run of a shelf leads from its book to the last.
-pub fn a_run_leads()
-    ensures { ARunLeads }
+/// In an orderly book each instance has as many cells as its script.
+pub fn each_has_its_cells()
+    ensures { EachHasItsCells }
+{}
+
+// Of what a visit does and what it is answered.
+
+// Of the records that events leave.
+
+/// The journal is asked last.
+pub fn journal_is_last()
+    ensures { JournalIsLast }
 {}

@@ -1,0 +1,155 @@
+-- What the records of a journal make: the book of a shelf, as after a crash.
+use Rattle.std.specs.Prelude.{ℕ, max, ◌==◌, ◌&&◌, Bool, true, false, Result, Ok, Err, List, [], ◌∷◌, length, Option, Some, None, nat_lt, slice_get, if◌then◌else◌}
+use Rattle.std.specs.Ordering.{int_eq}
+use Rattle.script_value.specs.Val.{Val, list, no_vals}
+use Rattle.script_value.specs.declared.outcome.TxName.{TxName}
+use Rattle.prim_ops.specs.Same.{same}
+use Rattle.page_names.specs.Names.{start}
+use Rattle.instance_cells.specs.Cells.{Effect, read, set, add, cell_of, cell_at, sum, landed}
+use Rattle.script_nodes.specs.declared.script.SendKind.{SendKind}
+use Rattle.script_nodes.specs.declared.script.SendKind.TheVariants.{Suspend, Forward}
+use Rattle.script_nodes.specs.Setup.{Named}
+use Rattle.replay_spec.specs.Names.{is_name}
+use Rattle.replay_spec.specs.Tape.{present, How, shows, Outcome, paged}
+use Rattle.replay_spec.specs.Eval.{Segment}
+use Rattle.replay_spec.specs.Book.{Opening, Extension, Change, opens, extends, ends, finishes, sweeps, Book, instance_at, page_at, reopened}
+use Rattle.replay_spec.specs.Rules.{Rules, empty_book}
+use Rattle.replay_spec.specs.Change.{logged_by, longer_by, land}
+use Rattle.replay_spec.specs.Admission.{◌>>=◌, when, is_one, Place}
+use Rattle.replay_spec.specs.Next.{Visit, comes_to, start_visit, page_visit}
+
+-- the most fuel that a shelf may have: a record's script is run again with it, whatever the fuel was when the record was written
+abbrev pub most_fuel : ℕ
+most_fuel = 10000000
+
+-- the same effects, names and kind, as tests
+abbrev pub is_effect : Effect → Effect → Bool
+is_effect (read c v) (read d w) = c == d && same v w
+is_effect (set c v) (set d w) = c == d && same v w
+is_effect (add c m) (add d n) = c == d && int_eq m n
+is_effect _ _ = false
+
+abbrev pub are_effects : List Effect → List Effect → Bool
+are_effects [] [] = true
+are_effects (d ∷ ds) (e ∷ es) = is_effect d e && are_effects ds es
+are_effects _ _ = false
+
+abbrev pub are_names : List TxName → List TxName → Bool
+are_names [] [] = true
+are_names (s ∷ ss) (t ∷ ts) = is_name s t && are_names ss ts
+are_names _ _ = false
+
+abbrev pub is_kind : SendKind → SendKind → Bool
+is_kind Suspend Suspend = true
+is_kind Forward Forward = true
+is_kind _ _ = false
+
+-- an effect stands over its cell's value; all are on so many cells; and each stands over these, the earlier writes applied
+abbrev pub is_ok : {A E : Type 0} → Result A E → Bool
+is_ok (Ok x) = true
+is_ok (Err e) = false
+
+abbrev pub stands_over : Effect → Val → Bool
+stands_over (read c v) w = same w v
+stands_over (set c v) w = true
+stands_over (add c n) w = is_ok (sum w n)
+
+abbrev pub are_on : (cells : ℕ) → List Effect → Bool
+are_on n [] = true
+are_on n (e ∷ es) = nat_lt (cell_of e) n && are_on n es
+
+abbrev pub hold_over : List Effect → (cells : List Val) → Bool
+hold_over [] cells = true
+hold_over (e ∷ es) cells = stands_over e (cell_at cells (cell_of e)) && hold_over es (landed e cells)
+
+-- the page that stands under these numbers
+abbrev pub page_of_numbers : Book → (instance page : ℕ) → Option Place
+page_of_numbers b instance page = do
+  i ← instance_at instance b.instances
+  p ← page_at page i.pages
+  Some (record { instance = i; page = p })
+
+-- the visits that records tell of, which do not look at a target
+abbrev pub opening_visit : Book → Opening → Named → Visit
+opening_visit b o s =
+    start_visit b (record { target = start s.name; answer = list no_vals; number = o.number; nonce = o.nonce }) o.script s
+
+abbrev pub extension_visit : Book → Extension → Place → Visit
+extension_visit b x at =
+    page_visit b (record { target = start at.instance.script.name; answer = x.answer; number = x.number; nonce = x.nonce }) at
+
+-- the names that a run is inside which shows a page of this kind, with these effects, and leaves these transactions
+abbrev pub shows_so : Outcome → SendKind → List Effect → (left : List TxName) → Segment → Option (List TxName)
+shows_so (paged (shows k) bytes) kind effects left m =
+    when (is_kind k kind && are_effects m.effects effects && are_names m.left left) m.entered
+shows_so _ kind effects left m = None
+
+abbrev pub again : SendKind → List Effect → (left : List TxName) → Segment → Option (List TxName)
+again kind effects left m = shows_so m.outcome kind effects left m
+
+-- what ended or finished is on cells of the instance, and holds over them
+abbrev pub ended_so : List Effect → (cells : List Val) → Option (List TxName)
+ended_so effects cells = when (are_on (length cells) effects && hold_over effects cells) []
+
+-- The names that the page of a record is inside, as its script tells, which is run again over the cells that stand there. None where
+-- the record can't be of this book: there is no such script, instance or page; the script does not show a page so; the effects do
+-- not hold; or the tick is over.
+abbrev pub remade : Book → Change → Option (List TxName)
+remade b (opens o) = do
+  s ← slice_get b.scripts o.script
+  again o.kind o.effects o.left (comes_to (opening_visit b o s) (present s.script.cells most_fuel))
+remade b (extends x) = do
+  at ← page_of_numbers b x.instance x.page
+  again x.kind x.effects x.left (comes_to (extension_visit b x at) (present at.instance.cells most_fuel))
+remade b (ends e) = do
+  at ← page_of_numbers b e.instance e.page
+  ended_so e.effects at.instance.cells
+remade b (finishes f) = do
+  at ← page_of_numbers b f.instance f.page
+  ended_so f.effects at.instance.cells
+remade b (sweeps tick) = when (nat_lt b.clock tick) []
+
+-- the book that records made, and the numbers of the segments that they told of
+pub record Made : Type 0 where
+  pub book : Book
+  pub seen : List ℕ
+
+abbrev pub nothing_made : Rules → List Named → (shelf : ℕ) → Made
+nothing_made rules scripts shelf = record { book = empty_book rules scripts shelf; seen = [] }
+
+-- the number that a change uses
+abbrev pub number_in : Change → Option ℕ
+number_in (opens o) = Some o.number
+number_in (extends x) = Some x.number
+number_in (ends e) = Some e.number
+number_in (finishes f) = Some f.number
+number_in (sweeps tick) = None
+
+abbrev pub is_repeated : Option ℕ → List ℕ → Bool
+is_repeated None seen = false
+is_repeated (Some n) seen = is_one n seen
+
+abbrev pub with_number : Option ℕ → List ℕ → List ℕ
+with_number None seen = seen
+with_number (Some n) seen = n ∷ seen
+
+-- what a record would land with: none where it is passed over, since it repeats a number or can't be of this book
+abbrev pub taken_in : Made → Change → Option (List TxName)
+taken_in m c = if is_repeated (number_in c) m.seen then None else remade m.book c
+
+-- a record that is passed over counts all the same
+abbrev pub counted : Rules → Change → Book → Book
+counted rules c b = record b { logged = max b.logged (logged_by c); length = longer_by rules.journal b c }
+
+abbrev pub redone : Rules → Change → Option (List TxName) → Book → Book
+redone rules c None b = counted rules c b
+redone rules c (Some inside) b = land rules c inside b
+
+-- one record more
+abbrev pub redo : Rules → Change → Made → Made
+redo rules c m =
+    record { book = reopened (redone rules c (taken_in m c) m.book); seen = with_number (number_in c) m.seen }
+
+abbrev pub records_after : Rules → List Change → Made → Made
+records_after rules [] m = m
+records_after rules (c ∷ cs) m = records_after rules cs (redo rules c m)
