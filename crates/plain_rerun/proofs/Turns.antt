@@ -1,16 +1,14 @@
--- One turn of a body, and the values of conditions.
-use Rattle.std.proofs.Common.{◌≡◌, ◌∙◌, ℕ, suc, ◌+◌, ◌-◌, ◌<◌, ℤ, pos, List, [], ◌∷◌, ◌++◌, Result, Ok, Err, true, refl, arith}
-use Rattle.script_value.specs.Val.{Val, number, truth, text, symbol, list}
+-- The turns of a body.
+use Rattle.std.proofs.Common.{◌≡◌, ◌∙◌, ℕ, suc, ◌+◌, ◌-◌, ◌<◌, ℤ, pos, List, [], ◌∷◌, ◌++◌, Result, Ok, Err, refl, arith}
+use Rattle.std.specs.Prelude.{negsuc}
+use Rattle.script_value.specs.Val.{Val, number}
 use Rattle.script_value.specs.declared.outcome.TxName.{TxName}
 use Rattle.script_value.specs.declared.outcome.Fault.{Fault}
-use Rattle.script_value.specs.declared.outcome.Fault.TheVariants.{WrongType}
 use Rattle.prim_ops.specs.Lists.{list_of}
-use Rattle.prim_ops.specs.Table.{is_false}
 use Rattle.script_nodes.specs.Core.{Core, repeat}
-use Rattle.replay_spec.specs.Tape.{Run, State, Outcome, faulted, got, stop, answer, charge, as_number}
+use Rattle.replay_spec.specs.Tape.{Run, State, Outcome, faulted, got, stop, answer, charge}
 use Rattle.replay_spec.specs.Eval.{eval, turns, for_each}
-use Rattle.plain_rerun.specs.States.{IsNoCount}
-use Rattle.std.specs.Prelude.{false, negsuc}
+use Rattle.plain_rerun.specs.Parts.{count_of, turns_at}
 
 one_more : (n i : ℕ) (done : List Val) (body : List Val → Run Val) (env : List Val) (s t : State) (v : Val)
     → body (env ++ number (pos i) ∷ []) s ≡ got v t
@@ -51,28 +49,34 @@ turn_kept count i b env env1 inside inside1 done first s t v h n o e before =
 -- the count of a loop, and then its turns
 pub repeat_goes : (n b : Core) (env env1 : List Val) (inside inside1 inside2 : List TxName) (s s1 s2 : State) (v : Val)
     → charge inside 1 s ≡ got tt s1 → inside1 ≡ inside → eval n env inside1 s1 ≡ got v s2 → env1 ≡ env → inside2 ≡ inside1
-    → eval (repeat n b) env inside s ≡ for_each inside2 (as_number v) (λ e. eval b e inside2) env1 s2
+    → eval (repeat n b) env inside s ≡ turns_at v b env1 inside2 s2
 repeat_goes n b env env1 inside inside1 inside2 s s1 s2 v e i f k j =
     let g = rw i at f in
     rw (j, i, k, e, g) refl
 
 -- the list of the values of the turns
-pub turns_listed : (r : Result ℤ Fault) (n : ℕ) (inside inside1 : List TxName) (body : List Val → Run Val) (env : List Val) (s t : State) (vs : List Val)
-    → r ≡ Ok (pos n) → turns n 0 [] body env s ≡ got vs t → inside1 ≡ inside
-    → for_each inside r body env s ≡ answer inside1 (list_of vs) t
-turns_listed r n inside inside1 body env s t vs h e i = rw (h, i, e) refl
+pub turns_listed : (r : Result ℤ Fault) (n : ℕ) (inside : List TxName) (body : List Val → Run Val) (env : List Val) (s t : State) (vs : List Val)
+    → count_of r ≡ Ok n → turns n 0 [] body env s ≡ got vs t
+    → for_each inside r body env s ≡ answer inside (list_of vs) t
+turns_listed (Ok (pos m)) n inside body env s t vs h e =
+    let same : m ≡ n = cc in
+    rw (same, e) refl
+turns_listed (Ok (negsuc m)) n inside body env s t vs h e = absurd (cc)
+turns_listed (Err k) n inside body env s t vs h e = absurd (cc)
+
+-- the turns stopped
+pub turns_cut : (r : Result ℤ Fault) (n : ℕ) (inside entered : List TxName) (body : List Val → Run Val) (env : List Val) (s t : State) (o : Outcome)
+    → count_of r ≡ Ok n → turns n 0 [] body env s ≡ stop o entered t
+    → for_each inside r body env s ≡ stop o entered t
+turns_cut (Ok (pos m)) n inside entered body env s t o h e =
+    let same : m ≡ n = cc in
+    rw (same, e) refl
+turns_cut (Ok (negsuc m)) n inside entered body env s t o h e = absurd (cc)
+turns_cut (Err k) n inside entered body env s t o h e = absurd (cc)
 
 -- a value that is no number of turns
-pub no_turns : (r : Result ℤ Fault) (inside : List TxName) (body : List Val → Run Val) (env : List Val) (s : State)
-    → IsNoCount r → for_each inside r body env s ≡ stop (faulted WrongType) inside s
-no_turns (Ok (pos n)) inside body env s h = absurd h
-no_turns (Ok (negsuc n)) inside body env s h = refl
-no_turns (Err k) inside body env s h = rw h refl
-
-pub false_alone : (v : Val) → is_false v ≡ true → v ≡ truth false
-false_alone (number n) e = absurd (cc)
-false_alone (truth true) e = absurd (cc)
-false_alone (truth false) e = refl
-false_alone (text t) e = absurd (cc)
-false_alone (symbol s) e = absurd (cc)
-false_alone (list vs) e = absurd (cc)
+pub no_turns : (r : Result ℤ Fault) (k : Fault) (inside : List TxName) (body : List Val → Run Val) (env : List Val) (s : State)
+    → count_of r ≡ Err k → for_each inside r body env s ≡ stop (faulted k) inside s
+no_turns (Ok (pos n)) k inside body env s h = absurd (cc)
+no_turns (Ok (negsuc n)) k inside body env s h = cc
+no_turns (Err j) k inside body env s h = cc

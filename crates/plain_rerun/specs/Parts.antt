@@ -1,13 +1,18 @@
--- A script's nodes as the trees that they stand for.
-use Rattle.std.specs.Prelude.{ℕ, List, [], map, length}
+-- A script's nodes as the trees that they stand for, and what the engine does with them.
+use Rattle.std.specs.Prelude.{◌≡◌, ℕ, ℤ, pos, negsuc, Bool, true, false, List, [], map, length, Result, Ok, Err}
 use Rattle.std.specs.List.{AllByRecursion}
-use Rattle.script_value.specs.Val.{Val}
+use Rattle.script_value.specs.Val.{Val, truth}
 use Rattle.script_value.specs.declared.outcome.Op.{Op}
 use Rattle.script_value.specs.declared.outcome.TxName.{TxName}
+use Rattle.script_value.specs.declared.outcome.Fault.{Fault}
+use Rattle.script_value.specs.declared.outcome.Fault.TheVariants.{WrongType}
+use Rattle.prim_ops.specs.Table.{is_false}
 use Rattle.script_nodes.specs.Core.{Core, Cores, cores_of, prim, bind, branch, repeat, cell_shadow}
 use Rattle.script_nodes.specs.Arena.{Arena, tree_at, IsBehind}
-use Rattle.replay_spec.specs.Tape.{Run, as_number}
-use Rattle.replay_spec.specs.Eval.{eval, turns, for_each}
+use Rattle.replay_spec.specs.Tape.{Run, How, ◌>>=◌, ◌>>◌, charge, halt, as_number}
+use Rattle.replay_spec.specs.Eval.{eval, eval_while, turns, for_each, is_any, is_not_false}
+use Rattle.plain_rerun.specs.declared.goes_on.GoesOn.{GoesOn}
+use Rattle.plain_rerun.specs.declared.goes_on.GoesOn.TheVariants.{Always, WhileTrue, WhileFalse}
 
 abbrev pub tree : Arena → ℕ → Core
 tree a n = tree_at a.nodes n
@@ -32,17 +37,44 @@ prim_at a op operands = prim op (trees a operands)
 abbrev pub shadow_at : Arena → (cell value : ℕ) → Core
 shadow_at a cell value = cell_shadow cell (tree a value)
 
+-- which values let the next part go on
+abbrev pub passes : GoesOn → Val → Bool
+passes Always = is_any
+passes WhileTrue = is_not_false
+passes WhileFalse = is_false
+
+-- the value where there is no part
+abbrev pub starts : GoesOn → Bool
+starts Always = false
+starts WhileTrue = true
+starts WhileFalse = false
+
+-- parts from left to right as long as their values pass: what a sequence, a conjunction and a disjunction are
+abbrev pub joined : GoesOn → Cores → List Val → List TxName → Run Val
+joined g es env inside = do
+  charge inside 1
+  eval_while (passes g) (truth (starts g)) es env inside
+
+-- the page that a part gives stops the segment
+abbrev pub stops_at : How → Core → List Val → List TxName → Run Val
+stops_at how b env inside = do
+  charge inside 1
+  page ← eval b env inside
+  halt inside how page
+
 -- the values of so many turns of a body
 abbrev pub first_turns : ℕ → Core → List Val → List TxName → Run (List Val)
 first_turns n body env inside = turns n 0 [] (λ e. eval body e inside) env
 
 -- the list of the values of as many turns of a body as a value says
-abbrev pub list_of_turns : Val → Core → List Val → List TxName → Run Val
-list_of_turns count body env inside = for_each inside (as_number count) (λ e. eval body e inside) env
+abbrev pub turns_at : Val → Core → List Val → List TxName → Run Val
+turns_at count b env inside = for_each inside (as_number count) (λ e. eval b e inside) env
 
--- the same of a body by its number
-abbrev pub turns_at : Arena → Val → (body : ℕ) → List Val → List TxName → Run Val
-turns_at a count body = list_of_turns count (tree a body)
+-- how many turns a number says
+abbrev pub count_of : Result ℤ Fault → Result ℕ Fault
+count_of (Ok (pos n)) = Ok n
+count_of (Ok (negsuc n)) = Err WrongType
+count_of (Err k) = Err k
 
 -- these parts stand behind a node, and in the script
 abbrev pub AreBehind : Arena → ℕ → List ℕ → Type 0

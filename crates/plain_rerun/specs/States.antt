@@ -1,18 +1,22 @@
 -- What the engine's progress stands for in the definitions.
-use Rattle.std.specs.Prelude.{◌≡◌, ℕ, ◌<◌, ◌^◌, ℤ, pos, negsuc, List, [], map, Option, Some, None, Result, Ok, Err, ⊤}
+use Rattle.std.specs.Prelude.{◌≡◌, List, [], ◌∷◌, ◌++◌, map, Option, Some, None, option_map, Result, Ok, Err, unwrap_or, false, ⊤}
+use Rattle.std.specs.Borrow.{Bor}
+use Rattle.std.specs.declared.alloc.AllocError.{AllocError}
+use Rattle.script_value.specs.Val.{Val, truth}
 use Rattle.script_value.specs.Views.{meaning}
+use Rattle.script_value.specs.declared.value.Value.{Value}
 use Rattle.script_value.specs.declared.outcome.TxName.{TxName}
-use Rattle.script_value.specs.declared.outcome.Fault.{Fault}
-use Rattle.script_value.specs.declared.outcome.Fault.TheVariants.{WrongType, NotPage}
 use Rattle.instance_cells.specs.Cells.{Effect}
 use Rattle.instance_cells.specs.Trails.{start_of, effects_of}
-use Rattle.plain_rerun.specs.declared.ends.PlainEnd.TheVariants.{Faulted}
-use Rattle.plain_rerun.specs.declared.progress.Halt.{Halt}
-use Rattle.plain_rerun.specs.declared.progress.Halt.TheVariants.{Memory, Stopped}
+use Rattle.segments.specs.declared.ends.PlainEnd.{PlainEnd}
+use Rattle.segments.specs.Views.{answer_of, now_of, outcome_of}
+use Rattle.plain_rerun.specs.declared.halt.Halt.{Halt}
+use Rattle.plain_rerun.specs.declared.halt.Halt.TheVariants.{Memory, Stopped}
 use Rattle.plain_rerun.specs.declared.progress.Source.{Source}
 use Rattle.plain_rerun.specs.declared.progress.Source.TheVariants as source
+use Rattle.plain_rerun.specs.declared.progress.Next.{Next}
+use Rattle.plain_rerun.specs.declared.progress.Rest.{Rest}
 use Rattle.plain_rerun.specs.declared.progress.Progress.{Progress}
-use Rattle.plain_rerun.specs.Views.{answer_of, outcome_of}
 use Rattle.replay_spec.specs.Tape as spec
 
 -- what is left to read
@@ -25,11 +29,28 @@ abbrev pub effects_left : Source → List Effect
 effects_left (source.Recorded vs) = []
 effects_left (source.Present trail fuel) = effects_of trail
 
+-- the answer, and the segment that it begins
+abbrev pub next_of : Next → spec.Answer
+next_of n = record { value = meaning n.answer.now; segment = now_of n.segment }
+
+abbrev pub listed : Option Next → List spec.Answer
+listed None = []
+listed (Some n) = next_of n ∷ []
+
+-- what is left of a tape
+abbrev pub left_in : Rest → List spec.Answer
+left_in r = map answer_of r.past.now ++ listed r.newest
+
+-- the first of these is taken, where there is one
+abbrev pub Pops : Option Next → (old new : List spec.Answer) → Type 0
+Pops None old new = (old ≡ []) × (new ≡ [])
+Pops (Some n) old new = old ≡ next_of n ∷ new
+
 -- how far the tape was used
 abbrev pub state_of : Progress → spec.State
 state_of p = record {
-  segment = record { number = p.segment.now.number; url = p.segment.now.url; reads = reads_left p.source };
-  later = map answer_of p.later.now;
+  segment = record { number = p.segment.number; url = p.segment.url.now; reads = reads_left p.source };
+  later = left_in p.rest;
   cost = p.cost;
   effects = effects_left p.source;
   left = p.left.items;
@@ -42,6 +63,10 @@ state_of p = record {
 abbrev pub inside_of : Progress → List TxName
 inside_of p = p.inside.items
 
+-- a value that was looked up, or #f
+abbrev pub found : Option (Bor Value) → Val
+found value = unwrap_or (option_map (λ v. meaning v.now) value) (truth false)
+
 -- what a call gave is how the run ends, unless memory ran out
 abbrev pub Gives : {X Y : Type 0} → (X → Y) → Result X Halt → Progress → spec.End Y → Type 0
 Gives view (Ok x) p end = end ≡ spec.got (view x) (state_of p)
@@ -52,24 +77,23 @@ Gives view (Err (Stopped o)) p end = end ≡ spec.stop (outcome_of o) (inside_of
 abbrev pub Acts : {X Y : Type 0} → (X → Y) → Result X Halt → (old new : Progress) → (List TxName → spec.Run Y) → Type 0
 Acts view r old new action = Gives view r new (action (inside_of old) (state_of old))
 
--- the halt is this stop, unless memory ran out
-abbrev pub HaltsAs : Halt → spec.Outcome → Type 0
-HaltsAs Memory o = ⊤
-HaltsAs (Stopped e) o = o ≡ outcome_of e
+-- the same of an action that never stops
+abbrev pub Does : {X Y : Type 0} → (X → Y) → Result X AllocError → (old new : Progress) → (List TxName → spec.Run Y) → Type 0
+Does view (Ok x) old new action = action (inside_of old) (state_of old) ≡ spec.got (view x) (state_of new)
+Does view (Err e) old new action = ⊤
 
--- the bytes of a page, or the halt where there are none
-abbrev pub RendersAs : {X : Type 0} → (X → List ℕ) → Result X Halt → Option (List ℕ) → Type 0
-RendersAs view (Ok bytes) page = page ≡ Some (view bytes)
-RendersAs view (Err Memory) page = ⊤
-RendersAs view (Err (Stopped e)) page = (page ≡ None) × (e ≡ Faulted NotPage)
+-- the same where no memory is taken
+abbrev pub Ends : {X Y : Type 0} → (X → Y) → Result X PlainEnd → Progress → spec.End Y → Type 0
+Ends view (Ok x) p end = end ≡ spec.got (view x) (state_of p)
+Ends view (Err o) p end = end ≡ spec.stop (outcome_of o) (inside_of p) (state_of p)
 
--- no number of turns: a value that is no number, or one that is negative
-abbrev pub IsNoCount : Result ℤ Fault → Type 0
-IsNoCount (Ok (pos n)) = ⊥
-IsNoCount (Ok (negsuc n)) = ⊤
-IsNoCount (Err k) = k ≡ WrongType
+-- the run goes on with a value
+abbrev pub IsGot : {Y : Type 0} → spec.End Y → Type 0
+IsGot (spec.got x state) = ⊤
+IsGot (spec.stop o entered state) = ⊥
 
--- so many turns, or none
-abbrev pub Counts : Option ℕ → Result ℤ Fault → Type 0
-Counts None r = IsNoCount r
-Counts (Some n) r = (r ≡ Ok (pos n)) × (n < 2 ^ 63)
+-- memory ran out at most where the run goes on: a stop is told whatever memory there is
+abbrev pub TellsStop : {X Y : Type 0} → Result X Halt → spec.End Y → Type 0
+TellsStop (Ok x) end = ⊤
+TellsStop (Err Memory) end = IsGot end
+TellsStop (Err (Stopped o)) end = ⊤

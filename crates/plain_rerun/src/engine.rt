@@ -1,52 +1,47 @@
-ghost use Rattle.std.specs.Prelude.{◌≡◌, ◌<◌, ◌^◌, [], ◌∷◌, ◌++◌, length, IfOk, OnOk, IsTrue};
+ghost use Rattle.std.specs.Prelude.{◌≡◌, ◌<◌, ◌^◌, [], ◌∷◌, ◌++◌, length, IfOk, OnOk, IsTrue, IsErr};
 ghost use Rattle.script_value.specs.Views.{meaning};
-ghost use Rattle.prim_ops.specs.Table.{takes, value_of, is_false};
-ghost use Rattle.script_nodes.specs.Core.{seq, and_all, or_any, prim, send, finish, back, isolate, cell_ref, cell_shadow, inst_ref, inst_set, inst_add};
+ghost use Rattle.prim_ops.specs.Table.{takes, value_of};
+ghost use Rattle.script_nodes.specs.Core.{send, isolate, inst_set, inst_add};
 ghost use Rattle.script_nodes.specs.Arena.{script_of};
+ghost use Rattle.segments.specs.Views.{segment_of, tape_of};
 ghost use Rattle.replay_spec.specs.Tape.{answer, as_number};
 ghost use Rattle.replay_spec.specs.Eval.{eval, eval_into, value_at, copied, run};
-ghost use Rattle.plain_rerun.specs.Parts.{tree, trees, let_at, if_at, for_at, prim_at, shadow_at, turns_at, first_turns, AreBehind};
-ghost use Rattle.plain_rerun.specs.Views.{segment_of, tape_of};
-ghost use Rattle.plain_rerun.specs.States.{state_of, inside_of, Gives, Acts, Counts};
+ghost use Rattle.plain_rerun.specs.Halts.{how_of};
+ghost use Rattle.plain_rerun.specs.Parts.{tree, trees, let_at, if_at, for_at, prim_at, shadow_at, joined, stops_at, first_turns, turns_at, count_of, AreBehind};
+ghost use Rattle.plain_rerun.specs.States.{state_of, inside_of, Gives, TellsStop};
+ghost use Rattle.plain_rerun.specs.Runs.{Runs};
 ghost use Rattle.plain_rerun.specs.declared.progress.Progress.{Progress as Steps};
 
-use crate::ends::{PlainEnd, Rerun};
-use crate::progress::{Halt, Progress, halt_ended, halt_finished};
-use crate::tape::Tape;
+use crate::goes_on::{GoesOn, is_false};
+use crate::halt::{Halt, How, halt_at};
+use crate::progress::Progress;
 use prim_ops::{ApplyFault, apply};
 use script_nodes::{Node, Numbers, Script, SendKind};
 use script_value::{Fault, Items, Op, Value};
+use segments::{PlainEnd, Rerun, Tape};
 use std::alloc::{AllocError, Global};
 
-// Whether a value is #f, the only one that is false.
-fn is_false(value: &Value) -> bool
-    ensures { result ≡ is_false (meaning value.now) }
-{
-    match value {
-        Value::Truth(truth) => !*truth,
-        _ => false,
-    }
-}
-
-// How many turns a value says, where it is a number that is not negative.
-fn turn_count(count: &Value) -> Option<u64>
-    ensures { Counts result (as_number (meaning count.now)) }
+// How many turns a value says; WrongType where it is no number, or one that is negative.
+fn turn_count(count: Value) -> Result<u64, Fault>
+    ensures count { result ≡ count_of (as_number (meaning count)) }
+    ensures low { IfOk result (λ n. n < 2 ^ 63) }
 {
     match count {
         Value::Int(count) => {
-            if *count < 0 {
-                return None;
+            if count < 0 {
+                return Err(Fault::WrongType);
             }
-            Some(*count as u64)
+            Ok(count as u64)
         }
-        _ => None,
+        _ => Err(Fault::WrongType),
     }
 }
 
-// The value of an operation, or the stop at its fault.
+// The value of an operation, or the stop at its fault, which takes no memory.
 fn applied(alloc: Global, op: Op, operands: Items) -> Result<Value, Halt>
     requires { IsTrue (takes op (length operands)) }
-    ensures { (p : Steps) → Gives meaning result p (answer (inside_of p) (value_of op operands) (state_of p)) }
+    ensures gives { (p : Steps) → Gives meaning result p (answer (inside_of p) (value_of op operands) (state_of p)) }
+    ensures told { (p : Steps) → TellsStop result (answer (inside_of p) (value_of op operands) (state_of p)) }
 {
     match apply(alloc, op, operands) {
         Ok(value) => Ok(value),
@@ -55,491 +50,334 @@ fn applied(alloc: Global, op: Op, operands: Items) -> Result<Value, Halt>
     }
 }
 
-// A variable's value.
-fn variable(
+// A run of a script: the values of the variables in scope, and how far the tape was used.
+#[derive(Drop)]
+struct Engine<'t> {
     alloc: Global,
-    place: usize,
-    env: &Items,
-    progress: &mut Progress,
-) -> Result<Value, Halt>
-    ensures gives { Acts meaning result progress.old progress.new (λ inside. copied inside (value_at env.now place)) }
-    ensures inside { inside_of progress.new ≡ inside_of progress.old }
-{
-    match env.get(place) {
-        Some(value) => progress.copy_of(alloc, value),
-        None => progress.copied(Value::Truth(false)),
-    }
+    env: Items,
+    progress: Progress<'t>,
 }
 
-// The value of a web cell.
-fn web_cell(alloc: Global, cell: u8, progress: &mut Progress) -> Result<Value, Halt>
-    ensures gives { Acts meaning result progress.old progress.new (eval (cell_ref cell) []) }
-    ensures inside { inside_of progress.new ≡ inside_of progress.old }
-{
-    let value = progress.web_value(alloc, cell)?;
-    progress.copied(value)
-}
-
-// The value of an instance cell: the read is recorded before it is charged.
-fn instance_cell(alloc: Global, cell: u8, progress: &mut Progress) -> Result<Value, Halt>
-    ensures gives { Acts meaning result progress.old progress.new (eval (inst_ref cell) []) }
-    ensures inside { inside_of progress.new ≡ inside_of progress.old }
-{
-    let value = progress.read_cell(alloc, cell)?;
-    progress.copied(value)
-}
-
-// The value of a node over what is left of the tape.
-#[cycle(visit)]
-fn visit(
-    script: &Script,
-    alloc: Global,
-    number: u32,
-    env: &mut Items,
-    progress: &mut Progress,
-) -> Result<Value, Halt>
-    requires { number < length script.now.nodes }
-    ensures gives { Acts meaning result progress.old progress.new (eval (tree script.now number) env.old) }
-    ensures inside { OnOk result (inside_of progress.new ≡ inside_of progress.old) }
-    ensures env { OnOk result (env.new ≡ env.old) }
-{
-    match script.node(number) {
-        Node::Lit(value) => progress.copy_of(alloc, value),
-        Node::Var(place) => variable(alloc, *place, env, progress),
-        Node::Let { bindings, body } => {
-            visit_let(script, alloc, number, bindings, *body, env, progress)
-        }
-        Node::Seq { parts } => visit_seq(script, alloc, number, parts, env, progress),
-        Node::If {
-            test,
-            then,
-            otherwise,
-        } => {
-            visit_if(
-                script, alloc, number, *test, *then, *otherwise, env, progress,
-            )
-        }
-        Node::And { parts } => visit_and(script, alloc, number, parts, env, progress),
-        Node::Or { parts } => visit_or(script, alloc, number, parts, env, progress),
-        Node::For { count, body } => {
-            visit_for(script, alloc, number, *count, *body, env, progress)
-        }
-        Node::Prim { op, operands } => {
-            visit_prim(script, alloc, number, *op, operands, env, progress)
-        }
-        Node::Send { kind, body } => {
-            visit_send(script, alloc, number, *kind, *body, env, progress)
-        }
-        Node::Finish { body } => visit_finish(script, alloc, number, *body, env, progress),
-        Node::Back { body } => visit_back(script, alloc, number, *body, env, progress),
-        Node::Isolate { body } => visit_isolate(script, alloc, number, *body, env, progress),
-        Node::CellRef { cell } => web_cell(alloc, *cell, progress),
-        Node::CellShadow { cell, value } => {
-            visit_shadow(script, alloc, number, *cell, *value, env, progress)
-        }
-        Node::InstRef { cell } => instance_cell(alloc, *cell, progress),
-        Node::InstSet { cell, value } => {
-            visit_set(script, alloc, number, *cell, *value, env, progress)
-        }
-        Node::InstAdd { cell, value } => {
-            visit_add(script, alloc, number, *cell, *value, env, progress)
+impl<'t> Engine<'t> {
+    // The value of a node over what is left of the tape.
+    #[cycle(visit)]
+    fn visit(&mut self, script: &Script, number: u32) -> Result<Value, Halt>
+        requires { number < length script.now.nodes }
+        ensures gives { Runs meaning result self.old self.new (eval (tree script.now number)) }
+        ensures inside { OnOk result (inside_of self.new.progress ≡ inside_of self.old.progress) }
+        ensures env { OnOk result (self.new.env ≡ self.old.env) }
+    {
+        match script.node(number) {
+            Node::Lit(value) => self.progress.copy_of(self.alloc, Some(value)),
+            Node::Var(place) => self.variable(*place),
+            Node::Let { bindings, body } => self.visit_let(script, number, bindings, *body),
+            Node::Seq { parts } => self.visit_while(script, number, GoesOn::Always, parts),
+            Node::If {
+                test,
+                then,
+                otherwise,
+            } => self.visit_if(script, number, *test, *then, *otherwise),
+            Node::And { parts } => self.visit_while(script, number, GoesOn::WhileTrue, parts),
+            Node::Or { parts } => self.visit_while(script, number, GoesOn::WhileFalse, parts),
+            Node::For { count, body } => self.visit_for(script, number, *count, *body),
+            Node::Prim { op, operands } => self.visit_prim(script, number, *op, operands),
+            Node::Send { kind, body } => self.visit_send(script, number, *kind, *body),
+            Node::Finish { body } => self.visit_last(script, number, How::Finishes, *body),
+            Node::Back { body } => self.visit_last(script, number, How::Ends, *body),
+            Node::Isolate { body } => self.visit_isolate(script, number, *body),
+            Node::CellRef { cell } => self.progress.web_cell(self.alloc, *cell),
+            Node::CellShadow { cell, value } => self.visit_shadow(script, number, *cell, *value),
+            Node::InstRef { cell } => self.progress.instance_cell(self.alloc, *cell),
+            Node::InstSet { cell, value } => self.visit_set(script, number, *cell, *value),
+            Node::InstAdd { cell, value } => self.visit_add(script, number, *cell, *value),
         }
     }
-}
 
-// The bindings, left to right, and then the body with their values.
-#[cycle(visit)]
-fn visit_let(
-    script: &Script,
-    alloc: Global,
-    number: u32,
-    bindings: &Numbers,
-    body: u32,
-    env: &mut Items,
-    progress: &mut Progress,
-) -> Result<Value, Halt>
-    requires { AreBehind script.now number (bindings.now ++ body ∷ []) }
-    ensures gives { Acts meaning result progress.old progress.new (eval (let_at script.now bindings.now body) env.old) }
-    ensures inside { OnOk result (inside_of progress.new ≡ inside_of progress.old) }
-    ensures env { OnOk result (env.new ≡ env.old) }
-{
-    progress.charge(1)?;
-    let depth = env.len();
-    let values = visit_all(script, alloc, number, bindings.as_slice(), env, progress)?;
-    env.append(values)?;
-    let value = visit(script, alloc, body, env, progress)?;
-    env.truncate(depth);
-    Ok(value)
-}
-
-// All parts, left to right: the last value.
-#[cycle(visit)]
-fn visit_seq(
-    script: &Script,
-    alloc: Global,
-    number: u32,
-    parts: &Numbers,
-    env: &mut Items,
-    progress: &mut Progress,
-) -> Result<Value, Halt>
-    requires { AreBehind script.now number parts.now }
-    ensures gives { Acts meaning result progress.old progress.new (eval (seq (trees script.now parts.now)) env.old) }
-    ensures inside { OnOk result (inside_of progress.new ≡ inside_of progress.old) }
-    ensures env { OnOk result (env.new ≡ env.old) }
-{
-    progress.charge(1)?;
-    let mut last = Value::Truth(false);
-    for part in parts.as_slice() {
-        last = visit(script, alloc, *part, env, progress)?;
+    // A variable's value.
+    fn variable(&mut self, place: usize) -> Result<Value, Halt>
+        ensures gives { Runs meaning result self.old self.new (λ env inside. copied inside (value_at env place)) }
+        ensures told { TellsStop result (copied (inside_of self.old.progress) (value_at self.old.env place) (state_of self.old.progress)) }
+        ensures inside { inside_of self.new.progress ≡ inside_of self.old.progress }
+        ensures env { self.new.env ≡ self.old.env }
+    {
+        self.progress.copy_of(self.alloc, self.env.get(place))
     }
-    Ok(last)
-}
 
-// The test, and then one of the two others.
-#[cycle(visit)]
-fn visit_if(
-    script: &Script,
-    alloc: Global,
-    number: u32,
-    test: u32,
-    then: u32,
-    otherwise: u32,
-    env: &mut Items,
-    progress: &mut Progress,
-) -> Result<Value, Halt>
-    requires { AreBehind script.now number (test ∷ then ∷ otherwise ∷ []) }
-    ensures gives { Acts meaning result progress.old progress.new (eval (if_at script.now test then otherwise) env.old) }
-    ensures inside { OnOk result (inside_of progress.new ≡ inside_of progress.old) }
-    ensures env { OnOk result (env.new ≡ env.old) }
-{
-    progress.charge(1)?;
-    let value = visit(script, alloc, test, env, progress)?;
-    if is_false(&value) {
-        visit(script, alloc, otherwise, env, progress)
-    } else {
-        visit(script, alloc, then, env, progress)
+    // The bindings, left to right, and then the body with their values.
+    #[cycle(visit)]
+    fn visit_let(
+        &mut self,
+        script: &Script,
+        number: u32,
+        bindings: &Numbers,
+        body: u32,
+    ) -> Result<Value, Halt>
+        requires { AreBehind script.now number (bindings.now ++ body ∷ []) }
+        ensures gives { Runs meaning result self.old self.new (eval (let_at script.now bindings.now body)) }
+        ensures inside { OnOk result (inside_of self.new.progress ≡ inside_of self.old.progress) }
+        ensures env { OnOk result (self.new.env ≡ self.old.env) }
+    {
+        self.progress.charge(1)?;
+        let depth = self.env.len();
+        let values = self.visit_all(script, number, bindings.as_slice())?;
+        self.env.append(values)?;
+        let value = self.visit(script, body)?;
+        self.env.truncate(depth);
+        Ok(value)
     }
-}
 
-// The parts up to the first that is #f: the last value, #t where there is no part.
-#[cycle(visit)]
-fn visit_and(
-    script: &Script,
-    alloc: Global,
-    number: u32,
-    parts: &Numbers,
-    env: &mut Items,
-    progress: &mut Progress,
-) -> Result<Value, Halt>
-    requires { AreBehind script.now number parts.now }
-    ensures gives { Acts meaning result progress.old progress.new (eval (and_all (trees script.now parts.now)) env.old) }
-    ensures inside { OnOk result (inside_of progress.new ≡ inside_of progress.old) }
-    ensures env { OnOk result (env.new ≡ env.old) }
-{
-    progress.charge(1)?;
-    let mut last = Value::Truth(true);
-    for part in parts.as_slice() {
-        let value = visit(script, alloc, *part, env, progress)?;
+    // The parts, left to right, as long as their values pass: the last value.
+    #[cycle(visit)]
+    fn visit_while(
+        &mut self,
+        script: &Script,
+        number: u32,
+        goes_on: GoesOn,
+        parts: &Numbers,
+    ) -> Result<Value, Halt>
+        requires { AreBehind script.now number parts.now }
+        ensures gives { Runs meaning result self.old self.new (joined goes_on (trees script.now parts.now)) }
+        ensures inside { OnOk result (inside_of self.new.progress ≡ inside_of self.old.progress) }
+        ensures env { OnOk result (self.new.env ≡ self.old.env) }
+    {
+        self.progress.charge(1)?;
+        let mut last = goes_on.start();
+        for part in parts.as_slice() {
+            last = self.visit(script, *part)?;
+            if !goes_on.passes(&last) {
+                return Ok(last);
+            }
+        }
+        Ok(last)
+    }
+
+    // The test, and then one of the two others.
+    #[cycle(visit)]
+    fn visit_if(
+        &mut self,
+        script: &Script,
+        number: u32,
+        test: u32,
+        then: u32,
+        otherwise: u32,
+    ) -> Result<Value, Halt>
+        requires { AreBehind script.now number (test ∷ then ∷ otherwise ∷ []) }
+        ensures gives { Runs meaning result self.old self.new (eval (if_at script.now test then otherwise)) }
+        ensures inside { OnOk result (inside_of self.new.progress ≡ inside_of self.old.progress) }
+        ensures env { OnOk result (self.new.env ≡ self.old.env) }
+    {
+        self.progress.charge(1)?;
+        let value = self.visit(script, test)?;
         if is_false(&value) {
-            return Ok(value);
-        }
-        last = value;
-    }
-    Ok(last)
-}
-
-// The parts up to the first that is not #f: its value, #f where there is none.
-#[cycle(visit)]
-#[tactic(auto, using(crate::proofs::Turns::false_alone))]
-fn visit_or(
-    script: &Script,
-    alloc: Global,
-    number: u32,
-    parts: &Numbers,
-    env: &mut Items,
-    progress: &mut Progress,
-) -> Result<Value, Halt>
-    requires { AreBehind script.now number parts.now }
-    ensures gives { Acts meaning result progress.old progress.new (eval (or_any (trees script.now parts.now)) env.old) }
-    ensures inside { OnOk result (inside_of progress.new ≡ inside_of progress.old) }
-    ensures env { OnOk result (env.new ≡ env.old) }
-{
-    progress.charge(1)?;
-    for part in parts.as_slice() {
-        let value = visit(script, alloc, *part, env, progress)?;
-        if !is_false(&value) {
-            return Ok(value);
+            self.visit(script, otherwise)
+        } else {
+            self.visit(script, then)
         }
     }
-    Ok(Value::Truth(false))
-}
 
-// The list of the values of the body, in as many turns as the count says.
-#[cycle(visit)]
-fn visit_for(
-    script: &Script,
-    alloc: Global,
-    number: u32,
-    count: u32,
-    body: u32,
-    env: &mut Items,
-    progress: &mut Progress,
-) -> Result<Value, Halt>
-    requires { AreBehind script.now number (count ∷ body ∷ []) }
-    ensures gives { Acts meaning result progress.old progress.new (eval (for_at script.now count body) env.old) }
-    ensures inside { OnOk result (inside_of progress.new ≡ inside_of progress.old) }
-    ensures env { OnOk result (env.new ≡ env.old) }
-{
-    progress.charge(1)?;
-    let count = visit(script, alloc, count, env, progress)?;
-    visit_body(script, alloc, count, body, env, progress)
-}
+    // The list of the values of the body, in as many turns as the count says.
+    #[cycle(visit)]
+    fn visit_for(
+        &mut self,
+        script: &Script,
+        number: u32,
+        count: u32,
+        body: u32,
+    ) -> Result<Value, Halt>
+        requires { AreBehind script.now number (count ∷ body ∷ []) }
+        ensures gives { Runs meaning result self.old self.new (eval (for_at script.now count body)) }
+        ensures inside { OnOk result (inside_of self.new.progress ≡ inside_of self.old.progress) }
+        ensures env { OnOk result (self.new.env ≡ self.old.env) }
+    {
+        self.progress.charge(1)?;
+        let count = self.visit(script, count)?;
+        self.visit_body(script, count, body)
+    }
 
-// The turns of a body, as many as this value says.
-#[cycle(visit)]
-#[tactic(auto, using(crate::proofs::Turns::no_turns, crate::proofs::Turns::turns_listed))]
-fn visit_body(
-    script: &Script,
-    alloc: Global,
-    count: Value,
-    body: u32,
-    env: &mut Items,
-    progress: &mut Progress,
-) -> Result<Value, Halt>
-    requires { body < length script.now.nodes }
-    ensures gives { Acts meaning result progress.old progress.new (turns_at script.now (meaning count) body env.old) }
-    ensures inside { OnOk result (inside_of progress.new ≡ inside_of progress.old) }
-    ensures env { OnOk result (env.new ≡ env.old) }
-{
-    match turn_count(&count) {
-        Some(count) => {
-            let values = visit_turns(script, alloc, count, body, env, progress)?;
-            applied(alloc, Op::List, values)
+    // The list of the values of as many turns of a body as this value says.
+    #[cycle(visit)]
+    #[tactic(auto, using(crate::proofs::Turns::no_turns, crate::proofs::Turns::turns_listed, crate::proofs::Turns::turns_cut))]
+    fn visit_body(&mut self, script: &Script, count: Value, body: u32) -> Result<Value, Halt>
+        requires { body < length script.now.nodes }
+        ensures gives { Runs meaning result self.old self.new (turns_at (meaning count) (tree script.now body)) }
+        ensures inside { OnOk result (inside_of self.new.progress ≡ inside_of self.old.progress) }
+        ensures env { OnOk result (self.new.env ≡ self.old.env) }
+    {
+        let count = turn_count(count)?;
+        let values = self.visit_turns(script, count, body)?;
+        applied(self.alloc, Op::List, values)
+    }
+
+    // The values of so many turns of a body, whose last variable is the turn.
+    #[cycle(visit)]
+    #[tactic(auto, using(crate::proofs::Turns::turns_stop))]
+    fn visit_turns(&mut self, script: &Script, count: u64, body: u32) -> Result<Items, Halt>
+        requires body { body < length script.now.nodes }
+        requires count { count < 2 ^ 63 }
+        ensures gives { Runs (λ vs. vs) result self.old self.new (first_turns count (tree script.now body)) }
+        ensures inside { OnOk result (inside_of self.new.progress ≡ inside_of self.old.progress) }
+        ensures env { OnOk result (self.new.env ≡ self.old.env) }
+    {
+        let depth = self.env.len();
+        let mut values = Items::new(self.alloc);
+        for turn in 0..count {
+            self.env.push(Value::Int(turn as i64))?;
+            let value = self.visit(script, body)?;
+            self.env.truncate(depth);
+            values.push(value)?;
         }
-        None => Err(Halt::Stopped(PlainEnd::Faulted(Fault::WrongType))),
+        Ok(values)
     }
-}
 
-// The values of so many turns of a body, whose last variable is the turn.
-#[cycle(visit)]
-#[tactic(auto, using(crate::proofs::Turns::turns_stop))]
-fn visit_turns(
-    script: &Script,
-    alloc: Global,
-    count: u64,
-    body: u32,
-    env: &mut Items,
-    progress: &mut Progress,
-) -> Result<Items, Halt>
-    requires body { body < length script.now.nodes }
-    requires count { count < 2 ^ 63 }
-    ensures gives { Acts (λ vs. vs) result progress.old progress.new (first_turns count (tree script.now body) env.old) }
-    ensures inside { OnOk result (inside_of progress.new ≡ inside_of progress.old) }
-    ensures env { OnOk result (env.new ≡ env.old) }
-{
-    let depth = env.len();
-    let mut values = Items::new(alloc);
-    for turn in 0..count {
-        env.push(Value::Int(turn as i64))?;
-        let value = visit(script, alloc, body, env, progress)?;
-        env.truncate(depth);
-        values.push(value)?;
+    // An operation over the values of its operands.
+    #[cycle(visit)]
+    fn visit_prim(
+        &mut self,
+        script: &Script,
+        number: u32,
+        op: Op,
+        operands: &Numbers,
+    ) -> Result<Value, Halt>
+        requires behind { AreBehind script.now number operands.now }
+        requires full { IsTrue (takes op (length operands.now)) }
+        ensures gives { Runs meaning result self.old self.new (eval (prim_at script.now op operands.now)) }
+        ensures inside { OnOk result (inside_of self.new.progress ≡ inside_of self.old.progress) }
+        ensures env { OnOk result (self.new.env ≡ self.old.env) }
+    {
+        self.progress.charge(1)?;
+        let values = self.visit_all(script, number, operands.as_slice())?;
+        applied(self.alloc, op, values)
     }
-    Ok(values)
-}
 
-// An operation over the values of its operands.
-#[cycle(visit)]
-fn visit_prim(
-    script: &Script,
-    alloc: Global,
-    number: u32,
-    op: Op,
-    operands: &Numbers,
-    env: &mut Items,
-    progress: &mut Progress,
-) -> Result<Value, Halt>
-    requires behind { AreBehind script.now number operands.now }
-    requires full { IsTrue (takes op (length operands.now)) }
-    ensures gives { Acts meaning result progress.old progress.new (eval (prim_at script.now op operands.now) env.old) }
-    ensures inside { OnOk result (inside_of progress.new ≡ inside_of progress.old) }
-    ensures env { OnOk result (env.new ≡ env.old) }
-{
-    progress.charge(1)?;
-    let values = visit_all(script, alloc, number, operands.as_slice(), env, progress)?;
-    applied(alloc, op, values)
-}
-
-// The page that the body gives for the URL is sent: the answer to it.
-#[cycle(visit)]
-fn visit_send(
-    script: &Script,
-    alloc: Global,
-    number: u32,
-    kind: SendKind,
-    body: u32,
-    env: &mut Items,
-    progress: &mut Progress,
-) -> Result<Value, Halt>
-    requires { AreBehind script.now number (body ∷ []) }
-    ensures gives { Acts meaning result progress.old progress.new (eval (send kind (tree script.now body)) env.old) }
-    ensures inside { OnOk result (inside_of progress.new ≡ inside_of progress.old) }
-    ensures env { OnOk result (env.new ≡ env.old) }
-{
-    progress.charge(1)?;
-    let depth = env.len();
-    env.push(progress.url(alloc)?)?;
-    let page = visit(script, alloc, body, env, progress)?;
-    env.truncate(depth);
-    progress.send(alloc, kind, &page)
-}
-
-// The page that the body gives is sent, and the instance is freed.
-#[cycle(visit)]
-fn visit_finish(
-    script: &Script,
-    alloc: Global,
-    number: u32,
-    body: u32,
-    env: &mut Items,
-    progress: &mut Progress,
-) -> Result<Value, Halt>
-    requires { AreBehind script.now number (body ∷ []) }
-    ensures gives { Acts meaning result progress.old progress.new (eval (finish (tree script.now body)) env.old) }
-    ensures inside { OnOk result (inside_of progress.new ≡ inside_of progress.old) }
-    ensures env { OnOk result (env.new ≡ env.old) }
-{
-    progress.charge(1)?;
-    let page = visit(script, alloc, body, env, progress)?;
-    Err(halt_finished(alloc, &page))
-}
-
-// The page that the body gives is the last of its segment.
-#[cycle(visit)]
-fn visit_back(
-    script: &Script,
-    alloc: Global,
-    number: u32,
-    body: u32,
-    env: &mut Items,
-    progress: &mut Progress,
-) -> Result<Value, Halt>
-    requires { AreBehind script.now number (body ∷ []) }
-    ensures gives { Acts meaning result progress.old progress.new (eval (back (tree script.now body)) env.old) }
-    ensures inside { OnOk result (inside_of progress.new ≡ inside_of progress.old) }
-    ensures env { OnOk result (env.new ≡ env.old) }
-{
-    progress.charge(1)?;
-    let page = visit(script, alloc, body, env, progress)?;
-    Err(halt_ended(alloc, &page))
-}
-
-// A transaction round its part.
-#[cycle(visit)]
-fn visit_isolate(
-    script: &Script,
-    alloc: Global,
-    number: u32,
-    body: u32,
-    env: &mut Items,
-    progress: &mut Progress,
-) -> Result<Value, Halt>
-    requires { AreBehind script.now number (body ∷ []) }
-    ensures gives { Acts meaning result progress.old progress.new (eval (isolate (tree script.now body)) env.old) }
-    ensures inside { OnOk result (inside_of progress.new ≡ inside_of progress.old) }
-    ensures env { OnOk result (env.new ≡ env.old) }
-{
-    let outside = progress.depth();
-    let name = progress.enter()?;
-    let value = visit(script, alloc, body, env, progress)?;
-    progress.leave(outside, name, value)
-}
-
-// A web cell is bound to the value of the part.
-#[cycle(visit)]
-fn visit_shadow(
-    script: &Script,
-    alloc: Global,
-    number: u32,
-    cell: u8,
-    value: u32,
-    env: &mut Items,
-    progress: &mut Progress,
-) -> Result<Value, Halt>
-    requires { AreBehind script.now number (value ∷ []) }
-    ensures gives { Acts meaning result progress.old progress.new (eval (shadow_at script.now cell value) env.old) }
-    ensures inside { OnOk result (inside_of progress.new ≡ inside_of progress.old) }
-    ensures env { OnOk result (env.new ≡ env.old) }
-{
-    progress.charge(1)?;
-    let value = visit(script, alloc, value, env, progress)?;
-    progress.shadow(cell, value)
-}
-
-// An instance cell is set to the value of the part.
-#[cycle(visit)]
-fn visit_set(
-    script: &Script,
-    alloc: Global,
-    number: u32,
-    cell: u8,
-    value: u32,
-    env: &mut Items,
-    progress: &mut Progress,
-) -> Result<Value, Halt>
-    requires { AreBehind script.now number (value ∷ []) }
-    ensures gives { Acts meaning result progress.old progress.new (eval (inst_set cell (tree script.now value)) env.old) }
-    ensures inside { OnOk result (inside_of progress.new ≡ inside_of progress.old) }
-    ensures env { OnOk result (env.new ≡ env.old) }
-{
-    progress.charge(1)?;
-    let value = visit(script, alloc, value, env, progress)?;
-    progress.set_cell(alloc, cell, value)
-}
-
-// The value of the part is added to an instance cell.
-#[cycle(visit)]
-fn visit_add(
-    script: &Script,
-    alloc: Global,
-    number: u32,
-    cell: u8,
-    value: u32,
-    env: &mut Items,
-    progress: &mut Progress,
-) -> Result<Value, Halt>
-    requires { AreBehind script.now number (value ∷ []) }
-    ensures gives { Acts meaning result progress.old progress.new (eval (inst_add cell (tree script.now value)) env.old) }
-    ensures inside { OnOk result (inside_of progress.new ≡ inside_of progress.old) }
-    ensures env { OnOk result (env.new ≡ env.old) }
-{
-    progress.charge(1)?;
-    let operand = visit(script, alloc, value, env, progress)?;
-    progress.add_cell(alloc, cell, &operand)
-}
-
-// The values of parts, left to right.
-#[cycle(visit)]
-fn visit_all(
-    script: &Script,
-    alloc: Global,
-    number: u32,
-    parts: &[u32],
-    env: &mut Items,
-    progress: &mut Progress,
-) -> Result<Items, Halt>
-    requires { AreBehind script.now number parts.now }
-    ensures gives { Acts (λ vs. vs) result progress.old progress.new (eval_into [] (trees script.now parts.now) env.old) }
-    ensures inside { OnOk result (inside_of progress.new ≡ inside_of progress.old) }
-    ensures env { OnOk result (env.new ≡ env.old) }
-    ensures each { IfOk result (λ vs. length vs ≡ length parts.now) }
-{
-    let mut values = Items::new(alloc);
-    for part in parts {
-        let value = visit(script, alloc, *part, env, progress)?;
-        values.push(value)?;
+    // The page that the body gives for the URL is sent: the answer to it.
+    #[cycle(visit)]
+    fn visit_send(
+        &mut self,
+        script: &Script,
+        number: u32,
+        kind: SendKind,
+        body: u32,
+    ) -> Result<Value, Halt>
+        requires { AreBehind script.now number (body ∷ []) }
+        ensures gives { Runs meaning result self.old self.new (eval (send kind (tree script.now body))) }
+        ensures inside { OnOk result (inside_of self.new.progress ≡ inside_of self.old.progress) }
+        ensures env { OnOk result (self.new.env ≡ self.old.env) }
+    {
+        self.progress.charge(1)?;
+        let depth = self.env.len();
+        let url = self.progress.url(self.alloc)?;
+        self.env.push(url)?;
+        let page = self.visit(script, body)?;
+        self.env.truncate(depth);
+        self.progress.send(self.alloc, kind, &page)
     }
-    Ok(values)
+
+    // The page that the body gives stops the segment.
+    #[cycle(visit)]
+    fn visit_last(
+        &mut self,
+        script: &Script,
+        number: u32,
+        how: How,
+        body: u32,
+    ) -> Result<Value, Halt>
+        requires { AreBehind script.now number (body ∷ []) }
+        ensures gives { Runs meaning result self.old self.new (stops_at (how_of how) (tree script.now body)) }
+        ensures inside { OnOk result (inside_of self.new.progress ≡ inside_of self.old.progress) }
+        ensures env { OnOk result (self.new.env ≡ self.old.env) }
+    {
+        self.progress.charge(1)?;
+        let page = self.visit(script, body)?;
+        Err(halt_at(self.alloc, how, &page))
+    }
+
+    // A transaction round its part.
+    #[cycle(visit)]
+    fn visit_isolate(&mut self, script: &Script, number: u32, body: u32) -> Result<Value, Halt>
+        requires { AreBehind script.now number (body ∷ []) }
+        ensures gives { Runs meaning result self.old self.new (eval (isolate (tree script.now body))) }
+        ensures inside { OnOk result (inside_of self.new.progress ≡ inside_of self.old.progress) }
+        ensures env { OnOk result (self.new.env ≡ self.old.env) }
+    {
+        let outside = self.progress.depth();
+        let name = self.progress.enter()?;
+        let value = self.visit(script, body)?;
+        Ok(self.progress.leave(outside, name, value)?)
+    }
+
+    // A web cell is bound to the value of the part.
+    #[cycle(visit)]
+    fn visit_shadow(
+        &mut self,
+        script: &Script,
+        number: u32,
+        cell: u8,
+        value: u32,
+    ) -> Result<Value, Halt>
+        requires { AreBehind script.now number (value ∷ []) }
+        ensures gives { Runs meaning result self.old self.new (eval (shadow_at script.now cell value)) }
+        ensures inside { OnOk result (inside_of self.new.progress ≡ inside_of self.old.progress) }
+        ensures env { OnOk result (self.new.env ≡ self.old.env) }
+    {
+        self.progress.charge(1)?;
+        let value = self.visit(script, value)?;
+        Ok(self.progress.shadow(cell, value)?)
+    }
+
+    // An instance cell is set to the value of the part.
+    #[cycle(visit)]
+    fn visit_set(
+        &mut self,
+        script: &Script,
+        number: u32,
+        cell: u8,
+        value: u32,
+    ) -> Result<Value, Halt>
+        requires { AreBehind script.now number (value ∷ []) }
+        ensures gives { Runs meaning result self.old self.new (eval (inst_set cell (tree script.now value))) }
+        ensures inside { OnOk result (inside_of self.new.progress ≡ inside_of self.old.progress) }
+        ensures env { OnOk result (self.new.env ≡ self.old.env) }
+    {
+        self.progress.charge(1)?;
+        let value = self.visit(script, value)?;
+        Ok(self.progress.set_cell(self.alloc, cell, value)?)
+    }
+
+    // The value of the part is added to an instance cell.
+    #[cycle(visit)]
+    fn visit_add(
+        &mut self,
+        script: &Script,
+        number: u32,
+        cell: u8,
+        value: u32,
+    ) -> Result<Value, Halt>
+        requires { AreBehind script.now number (value ∷ []) }
+        ensures gives { Runs meaning result self.old self.new (eval (inst_add cell (tree script.now value))) }
+        ensures inside { OnOk result (inside_of self.new.progress ≡ inside_of self.old.progress) }
+        ensures env { OnOk result (self.new.env ≡ self.old.env) }
+    {
+        self.progress.charge(1)?;
+        let operand = self.visit(script, value)?;
+        self.progress.add_cell(self.alloc, cell, &operand)
+    }
+
+    // The values of parts, left to right.
+    #[cycle(visit)]
+    fn visit_all(&mut self, script: &Script, number: u32, parts: &[u32]) -> Result<Items, Halt>
+        requires { AreBehind script.now number parts.now }
+        ensures gives { Runs (λ vs. vs) result self.old self.new (eval_into [] (trees script.now parts.now)) }
+        ensures inside { OnOk result (inside_of self.new.progress ≡ inside_of self.old.progress) }
+        ensures env { OnOk result (self.new.env ≡ self.old.env) }
+        ensures each { IfOk result (λ vs. length vs ≡ length parts.now) }
+    {
+        let mut values = Items::new(self.alloc);
+        for part in parts {
+            let value = self.visit(script, *part)?;
+            values.push(value)?;
+        }
+        Ok(values)
+    }
 }
 
 /// Runs a script from its start over a tape, and says what it comes to.
@@ -548,14 +386,17 @@ fn visit_all(
 pub fn rerun(alloc: Global, script: &Script, tape: &Tape) -> Result<Rerun, AllocError>
     ensures { IfOk result (λ r. segment_of r ≡ run (script_of script.now) (tape_of tape.now)) }
 {
-    let mut env = Items::new(alloc);
-    let mut progress = Progress::begin(alloc, script.web_defaults(), tape)?;
-    let halt = match visit(script, alloc, script.root(), &mut env, &mut progress) {
-        Ok(page) => halt_ended(alloc, &page),
+    let mut engine = Engine {
+        alloc,
+        env: Items::new(alloc),
+        progress: Progress::begin(alloc, script.web_defaults(), tape)?,
+    };
+    let halt = match engine.visit(script, script.root()) {
+        Ok(page) => halt_at(alloc, How::Ends, &page),
         Err(halt) => halt,
     };
     match halt {
-        Halt::Stopped(end) => Ok(progress.into_rerun(alloc, end)),
+        Halt::Stopped(end) => Ok(engine.progress.into_rerun(alloc, end)),
         Halt::Memory => Err(AllocError),
     }
 }

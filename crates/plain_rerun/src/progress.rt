@@ -1,48 +1,24 @@
-ghost use Rattle.std.specs.Prelude.{◌≡◌, [], ◌∷◌, ◌++◌, take, length, map, IfOk};
+ghost use Rattle.std.specs.Prelude.{◌≡◌, ◌+◌, [], ◌∷◌, ◌++◌, take, length, map, unwrap_or, IfOk};
+ghost use Rattle.script_value.specs.Val.{size_of};
 ghost use Rattle.script_value.specs.Views.{meaning};
-ghost use Rattle.xexpr_page.specs.Page.{page_of};
+ghost use Rattle.instance_cells.specs.Cells.{cell_at};
 ghost use Rattle.instance_cells.specs.Views.{effect_of};
+ghost use Rattle.web_cells.specs.Shadows.{binding};
+ghost use Rattle.script_nodes.specs.Core.{cell_ref, inst_ref};
+ghost use Rattle.segments.specs.Views.{source_of, now_of, tape_of, outcome_of, segment_of};
 ghost use Rattle.replay_spec.specs.Tape as tape;
-ghost use Rattle.replay_spec.specs.Tape.{begin, charge, page_stop, send_page, shows, finishes, ends, enter, leave, lookup, shadow, read_cell, set_cell, add_cell};
-ghost use Rattle.replay_spec.specs.Eval.{copied, segment_at};
-ghost use Rattle.plain_rerun.specs.Views.{source_of, tape_of, outcome_of, segment_of};
-ghost use Rattle.plain_rerun.specs.States.{reads_left, effects_left, state_of, inside_of, Acts, HaltsAs, RendersAs};
-ghost use Rattle.plain_rerun.specs.declared.progress.Halt.TheVariants.{Memory};
+ghost use Rattle.replay_spec.specs.Tape.{begin, begins, charge, send_page, enter, leave, shadow, read_cell, set_cell, add_cell};
+ghost use Rattle.replay_spec.specs.Eval.{copied, eval, segment_at};
+ghost use Rattle.plain_rerun.specs.States.{reads_left, effects_left, left_in, state_of, inside_of, found, Pops, Acts, Does, Ends, TellsStop};
 
-use crate::ends::{PlainEnd, Rerun};
-use crate::tape::{Answer, Now, Reads, Tape};
+use crate::halt::{Halt, How, halt_at};
 use instance_cells::{AddFault, Effect, Trail};
 use script_nodes::SendKind;
-use script_value::{Bytes, Fault, Items, TxName, Value, size};
-use std::alloc::{AllocError, AllocFailed, Global};
+use script_value::{Items, TxName, Value, size};
+use segments::{Answer, Now, PlainEnd, Reads, Rerun, Tape};
+use std::alloc::{AllocError, Global};
 use std::mem;
 use web_cells::Shades;
-use xexpr_page::{RenderFault, render};
-
-/// Why a run gives no value.
-#[derive(Drop)]
-pub enum Halt {
-    /// Memory ran out.
-    Memory,
-    /// The segment stopped.
-    Stopped(PlainEnd),
-}
-
-impl From<AllocError> for Halt {
-    ghost from_gives = { λ _ e. e ≡ Memory };
-
-    fn from(_e: AllocError) -> Halt {
-        Halt::Memory
-    }
-}
-
-impl<T: Drop> From<AllocFailed<T>> for Halt {
-    ghost from_gives = { λ _ e. e ≡ Memory };
-
-    fn from(_e: AllocFailed<T>) -> Halt {
-        Halt::Memory
-    }
-}
 
 /// Where a segment's reads come from: the recorded values that are left, or the present cells and what was done to them.
 #[derive(Drop)]
@@ -51,12 +27,26 @@ pub enum Source<'t> {
     Present { trail: Trail<'t>, fuel: u64 },
 }
 
+/// An answer, and the segment that it begins.
+#[derive(Clone, Copy, Drop)]
+pub struct Next<'t> {
+    answer: &'t Value,
+    segment: Now<'t>,
+}
+
+/// What is left of a tape: segments that ran, and the newest, where it has not begun.
+#[derive(Clone, Copy, Drop)]
+pub struct Rest<'t> {
+    past: &'t [Answer],
+    newest: Option<Next<'t>>,
+}
+
 /// How far a tape was used, and what its current segment did.
 #[derive(Drop)]
 pub struct Progress<'t> {
-    segment: &'t Now,
+    segment: Now<'t>,
     source: Source<'t>,
-    later: &'t [Answer],
+    rest: Rest<'t>,
     cost: u64,
     left: Vec<TxName>,
     entries: u32,
@@ -68,76 +58,78 @@ pub struct Progress<'t> {
 /// The greatest cost that is counted, 2^63.
 const COST_LIMIT: u64 = 9_223_372_036_854_775_808;
 
-// The bytes of a page.
-fn page_bytes(alloc: Global, page: &Value) -> Result<Bytes, Halt>
-    ensures { RendersAs (λ bytes. bytes) result (page_of (meaning page.now)) }
-{
-    match render(alloc, page) {
-        Ok(bytes) => Ok(bytes),
-        Err(RenderFault::NotPage) => Err(Halt::Stopped(PlainEnd::Faulted(Fault::NotPage))),
-        Err(RenderFault::Memory) => Err(Halt::Memory),
-    }
-}
-
-/// Why a segment stops at a page that waits for an answer.
-pub fn halt_shown(alloc: Global, kind: SendKind, page: &Value) -> Halt
-    ensures { HaltsAs result (page_stop (shows kind) (page_of (meaning page.now))) }
-{
-    match page_bytes(alloc, page) {
-        Ok(page) => Halt::Stopped(PlainEnd::Shown { page, kind }),
-        Err(halt) => halt,
-    }
-}
-
-/// Why a segment stops at a page that frees the instance.
-pub fn halt_finished(alloc: Global, page: &Value) -> Halt
-    ensures { HaltsAs result (page_stop finishes (page_of (meaning page.now))) }
-{
-    match page_bytes(alloc, page) {
-        Ok(page) => Halt::Stopped(PlainEnd::Finished(page)),
-        Err(halt) => halt,
-    }
-}
-
-/// Why a segment stops at a last page.
-pub fn halt_ended(alloc: Global, page: &Value) -> Halt
-    ensures { HaltsAs result (page_stop ends (page_of (meaning page.now))) }
-{
-    match page_bytes(alloc, page) {
-        Ok(page) => Halt::Stopped(PlainEnd::Ended(page)),
-        Err(halt) => halt,
+impl<'t> Rest<'t> {
+    // The first answer that is left, which it is then no longer.
+    fn next(&mut self) -> Option<Next<'t>>
+        ensures { Pops result (left_in self.old) (left_in self.new) }
+    {
+        match self.past {
+            [] => {
+                let newest = self.newest;
+                self.newest = None;
+                newest
+            }
+            [answer, past @ ..] => {
+                self.past = past;
+                Some(Next {
+                    answer: &answer.value,
+                    segment: answer.segment(),
+                })
+            }
+        }
     }
 }
 
 // A segment begins: nothing was read or done.
-fn source_from<'t>(alloc: Global, reads: &'t Reads) -> Result<Source<'t>, AllocError>
-    ensures reads { IfOk result (λ source. reads_left source ≡ source_of reads.now) }
+fn source_from<'t>(alloc: Global, reads: Reads<'t>) -> Result<Source<'t>, AllocError>
+    ensures reads { IfOk result (λ source. reads_left source ≡ source_of reads.entry) }
     ensures effects { IfOk result (λ source. effects_left source ≡ []) }
 {
     match reads {
         Reads::Recorded(values) => Ok(Source::Recorded(values.as_slice())),
         Reads::Present { cells, fuel } => Ok(Source::Present {
             trail: Trail::new(alloc, cells)?,
-            fuel: *fuel,
+            fuel,
         }),
     }
 }
 
+/// A copy of a value that was looked up; #f where there is none.
+pub fn copy_found(alloc: Global, value: Option<&Value>) -> Result<Value, AllocError>
+    ensures { IfOk result (λ v. meaning v ≡ found value.entry) }
+{
+    match value {
+        Some(value) => value.try_clone(alloc),
+        None => Ok(Value::Truth(false)),
+    }
+}
+
+/// The size of a value that was looked up; that of #f where there is none.
+pub fn size_found(value: Option<&Value>) -> u64
+    ensures { result ≡ size_of (found value.entry) }
+{
+    match value {
+        Some(value) => size(value),
+        None => 1,
+    }
+}
+
 impl<'t> Progress<'t> {
-    /// At the start of a tape, where each web cell has its default.
-    pub fn begin(
+    // Where a segment begins with no web cell bound, inside no transaction.
+    fn at(
         alloc: Global,
         defaults: &'t Items,
-        tape: &'t Tape,
+        segment: Now<'t>,
+        rest: Rest<'t>,
     ) -> Result<Progress<'t>, AllocError>
-        ensures state { IfOk result (λ p. state_of p ≡ begin defaults.now (tape_of tape.now)) }
+        ensures state { IfOk result (λ p. state_of p ≡ begins (now_of segment.entry) (left_in rest.entry) [] defaults.now) }
         ensures inside { IfOk result (λ p. inside_of p ≡ []) }
     {
-        let source = source_from(alloc, &tape.first.reads)?;
+        let source = source_from(alloc, segment.reads)?;
         Ok(Progress {
-            segment: &tape.first,
+            segment,
             source,
-            later: tape.later.as_slice(),
+            rest,
             cost: 0,
             left: Vec::new(alloc),
             entries: 0,
@@ -145,6 +137,40 @@ impl<'t> Progress<'t> {
             defaults,
             inside: Vec::new(alloc),
         })
+    }
+
+    /// At the start of a tape, where each web cell has its default.
+    pub fn begin(
+        alloc: Global,
+        defaults: &'t Items,
+        tape: &Tape<'t>,
+    ) -> Result<Progress<'t>, AllocError>
+        ensures state { IfOk result (λ p. state_of p ≡ begin defaults.now (tape_of tape.now)) }
+        ensures inside { IfOk result (λ p. inside_of p ≡ []) }
+    {
+        match tape.past {
+            [] => Progress::at(
+                alloc,
+                defaults,
+                tape.newest,
+                Rest {
+                    past: tape.past,
+                    newest: None,
+                },
+            ),
+            [first, past @ ..] => Progress::at(
+                alloc,
+                defaults,
+                first.segment(),
+                Rest {
+                    past,
+                    newest: Some(Next {
+                        answer: tape.answer,
+                        segment: tape.newest,
+                    }),
+                },
+            ),
+        }
     }
 
     /// How many transactions are open.
@@ -161,39 +187,63 @@ impl<'t> Progress<'t> {
         Ok(Value::Text(self.segment.url.try_clone(alloc)?))
     }
 
-    /// The cost grows; a segment over present cells stops where it is above the fuel.
-    pub fn charge(&mut self, amount: u64) -> Result<(), Halt>
-        ensures gives { Acts (λ x. x) result self.old self.new (λ inside. charge inside amount) }
+    /// The cost grows; a segment over present cells stops where it is above the fuel. It takes no memory.
+    pub fn charge(&mut self, amount: u64) -> Result<(), PlainEnd>
+        ensures gives { Ends (λ x. x) result self.new (charge (inside_of self.old) amount (state_of self.old)) }
         ensures inside { inside_of self.new ≡ inside_of self.old }
+        ensures shades { self.new.shades ≡ self.old.shades }
+        ensures defaults { self.new.defaults ≡ self.old.defaults }
     {
         self.cost = self.cost.saturating_add(amount).min(COST_LIMIT);
         match &self.source {
             Source::Recorded(_) => Ok(()),
             Source::Present { fuel, .. } => {
                 if *fuel < self.cost {
-                    return Err(Halt::Stopped(PlainEnd::Fuel(self.cost)));
+                    return Err(PlainEnd::Fuel(self.cost));
                 }
                 Ok(())
             }
         }
     }
 
-    /// A copy of a value that a node names, which costs its size.
-    pub fn copy_of(&mut self, alloc: Global, value: &Value) -> Result<Value, Halt>
-        ensures gives { Acts meaning result self.old self.new (λ inside. copied inside (meaning value.now)) }
+    /// A copy of a value that a node names, which costs its size; #f where there is none.
+    pub fn copy_of(&mut self, alloc: Global, value: Option<&Value>) -> Result<Value, Halt>
+        ensures gives { Acts meaning result self.old self.new (λ inside. copied inside (found value.entry)) }
+        ensures told { TellsStop result (copied (inside_of self.old) (found value.entry) (state_of self.old)) }
         ensures inside { inside_of self.new ≡ inside_of self.old }
     {
-        self.charge(1 + size(value))?;
-        Ok(value.try_clone(alloc)?)
+        self.charge(1 + size_found(value))?;
+        Ok(copy_found(alloc, value)?)
     }
 
-    /// A value that a node named, whose copy costs its size.
-    pub fn copied(&mut self, value: Value) -> Result<Value, Halt>
-        ensures gives { Acts meaning result self.old self.new (λ inside. copied inside (meaning value)) }
+    // What a web cell is bound to, or else its default.
+    fn web_value(&self, cell: u8) -> Option<&Value>
+        ensures { found result ≡ unwrap_or (binding cell self.now.shades) (cell_at self.now.defaults.now cell) }
+    {
+        match self.shades.lookup(cell) {
+            Some(value) => Some(value),
+            None => self.defaults.get(cell as usize),
+        }
+    }
+
+    /// The value of a web cell: its nearest binding, or else its default.
+    pub fn web_cell(&mut self, alloc: Global, cell: u8) -> Result<Value, Halt>
+        ensures gives { Acts meaning result self.old self.new (eval (cell_ref cell) []) }
+        ensures told { TellsStop result (eval (cell_ref cell) [] (inside_of self.old) (state_of self.old)) }
         ensures inside { inside_of self.new ≡ inside_of self.old }
     {
-        self.charge(1 + size(&value))?;
-        Ok(value)
+        let size = size_found(self.web_value(cell));
+        self.charge(1 + size)?;
+        Ok(copy_found(alloc, self.web_value(cell))?)
+    }
+
+    /// A web cell is bound from here on.
+    pub fn shadow(&mut self, cell: u8, value: Value) -> Result<Value, AllocError>
+        ensures gives { Does meaning result self.old self.new (λ inside. shadow cell (meaning value)) }
+        ensures inside { inside_of self.new ≡ inside_of self.old }
+    {
+        self.shades.shadow(cell, value)?;
+        Ok(Value::Truth(true))
     }
 
     /// A page is sent: the next answer, or the stop there.
@@ -201,25 +251,23 @@ impl<'t> Progress<'t> {
         ensures gives { Acts meaning result self.old self.new (λ inside. send_page inside kind (meaning page.now)) }
         ensures inside { inside_of self.new ≡ inside_of self.old }
     {
-        match self.later {
-            [] => Err(halt_shown(alloc, kind, page)),
-            [answer, rest @ ..] => {
-                let value = answer.value.try_clone(alloc)?;
-                let source = source_from(alloc, &answer.segment.reads)?;
-                drop(mem::replace(&mut self.source, source));
-                self.segment = &answer.segment;
-                self.later = rest;
-                self.cost = 0;
-                self.left.clear();
-                self.entries = 0;
-                Ok(value)
-            }
-        }
+        let Some(next) = self.rest.next() else {
+            return Err(halt_at(alloc, How::Shows(kind), page));
+        };
+        let value = next.answer.try_clone(alloc)?;
+        let source = source_from(alloc, next.segment.reads)?;
+        drop(mem::replace(&mut self.source, source));
+        self.segment = next.segment;
+        self.cost = 0;
+        self.left.clear();
+        self.entries = 0;
+        Ok(value)
     }
 
     /// One more transaction is entered.
     pub fn enter(&mut self) -> Result<TxName, Halt>
         ensures gives { Acts (λ name. name) result self.old self.new enter }
+        ensures told { TellsStop result (enter (inside_of self.old) (state_of self.old)) }
         ensures inside { IfOk result (λ name. inside_of self.new ≡ inside_of self.old ++ name ∷ []) }
     {
         self.charge(1)?;
@@ -233,8 +281,8 @@ impl<'t> Progress<'t> {
     }
 
     /// A value is given out of a transaction: those outside it stay open, and it counts as left where another segment entered it.
-    pub fn leave(&mut self, outside: usize, name: TxName, value: Value) -> Result<Value, Halt>
-        ensures gives { Acts meaning result self.old self.new (λ inside. leave name (meaning value)) }
+    pub fn leave(&mut self, outside: usize, name: TxName, value: Value) -> Result<Value, AllocError>
+        ensures gives { Does meaning result self.old self.new (λ inside. leave name (meaning value)) }
         ensures inside { inside_of self.new ≡ take outside (inside_of self.old) }
     {
         self.inside.truncate(outside);
@@ -244,31 +292,9 @@ impl<'t> Progress<'t> {
         Ok(value)
     }
 
-    /// The value of a web cell: its nearest binding, or else its default.
-    pub fn web_value(&self, alloc: Global, cell: u8) -> Result<Value, AllocError>
-        ensures { IfOk result (λ v. lookup cell (state_of self.now) ≡ tape.got (meaning v) (state_of self.now)) }
-    {
-        match self.shades.lookup(cell) {
-            Some(value) => value.try_clone(alloc),
-            None => match self.defaults.get(cell as usize) {
-                Some(value) => value.try_clone(alloc),
-                None => Ok(Value::Truth(false)),
-            },
-        }
-    }
-
-    /// A web cell is bound from here on.
-    pub fn shadow(&mut self, cell: u8, value: Value) -> Result<Value, Halt>
-        ensures gives { Acts meaning result self.old self.new (λ inside. shadow cell (meaning value)) }
-        ensures inside { inside_of self.new ≡ inside_of self.old }
-    {
-        self.shades.shadow(cell, value)?;
-        Ok(Value::Truth(true))
-    }
-
-    /// A read of an instance cell.
-    pub fn read_cell(&mut self, alloc: Global, cell: u8) -> Result<Value, Halt>
-        ensures gives { Acts meaning result self.old self.new (λ inside. read_cell cell) }
+    // A read of an instance cell.
+    fn read_cell(&mut self, alloc: Global, cell: u8) -> Result<Value, AllocError>
+        ensures gives { Does meaning result self.old self.new (λ inside. read_cell cell) }
         ensures inside { inside_of self.new ≡ inside_of self.old }
     {
         match &mut self.source {
@@ -280,13 +306,23 @@ impl<'t> Progress<'t> {
                     Ok(value)
                 }
             },
-            Source::Present { trail, .. } => Ok(trail.read(alloc, cell)?),
+            Source::Present { trail, .. } => trail.read(alloc, cell),
         }
     }
 
+    /// The value of an instance cell: the read is recorded before it is charged.
+    pub fn instance_cell(&mut self, alloc: Global, cell: u8) -> Result<Value, Halt>
+        ensures gives { Acts meaning result self.old self.new (eval (inst_ref cell) []) }
+        ensures inside { inside_of self.new ≡ inside_of self.old }
+    {
+        let value = self.read_cell(alloc, cell)?;
+        self.charge(1 + size(&value))?;
+        Ok(value)
+    }
+
     /// A write of an instance cell.
-    pub fn set_cell(&mut self, alloc: Global, cell: u8, value: Value) -> Result<Value, Halt>
-        ensures gives { Acts meaning result self.old self.new (λ inside. set_cell cell (meaning value)) }
+    pub fn set_cell(&mut self, alloc: Global, cell: u8, value: Value) -> Result<Value, AllocError>
+        ensures gives { Does meaning result self.old self.new (λ inside. set_cell cell (meaning value)) }
         ensures inside { inside_of self.new ≡ inside_of self.old }
     {
         match &mut self.source {

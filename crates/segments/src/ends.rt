@@ -1,5 +1,5 @@
 ghost use Rattle.std.specs.Prelude.{◌≡◌, IfOk};
-ghost use Rattle.plain_rerun.specs.Views.{segment_of};
+ghost use Rattle.segments.specs.Views.{segment_of};
 
 use instance_cells::{Effect, clone_effects};
 use script_nodes::SendKind;

@@ -1,0 +1,18 @@
+-- How a segment stops.
+use Rattle.std.specs.Prelude.{◌≡◌, ⊤}
+use Rattle.segments.specs.Views.{outcome_of}
+use Rattle.plain_rerun.specs.declared.halt.Halt.{Halt}
+use Rattle.plain_rerun.specs.declared.halt.Halt.TheVariants.{Memory, Stopped}
+use Rattle.plain_rerun.specs.declared.halt.How.{How}
+use Rattle.plain_rerun.specs.declared.halt.How.TheVariants.{Shows, Finishes, Ends}
+use Rattle.replay_spec.specs.Tape as spec
+
+abbrev pub how_of : How → spec.How
+how_of (Shows kind) = spec.shows kind
+how_of Finishes = spec.finishes
+how_of Ends = spec.ends
+
+-- the halt is this stop, unless memory ran out
+abbrev pub HaltsAs : Halt → spec.Outcome → Type 0
+HaltsAs Memory o = ⊤
+HaltsAs (Stopped e) o = o ≡ outcome_of e
