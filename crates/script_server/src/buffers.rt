@@ -21,7 +21,7 @@ pub struct ReadAhead<S> {
 }
 
 impl<S: Source> ReadAhead<S> {
-    ghost use Rattle.script_server.specs.Buffers.{kept_ahead, left_ahead};
+    ghost use Rattle.script_server.specs.Buffers.{kept_ahead, ahead_view};
 
     /// Nothing is read yet.
     pub fn new(source: S) -> ReadAhead<S>
@@ -38,9 +38,9 @@ impl<S: Source> ReadAhead<S> {
 
     // Reads on below where nothing is kept.
     fn fill(&mut self) -> Result<(), Failed>
-        ensures same { Keeps (left_ahead S.left self.old) (left_ahead S.left self.new) }
-        ensures end { OnOk result (kept_ahead self.new ≡ [] → IsAtEnd (S.left self.new.source)) }
-        ensures cause { HasCause (S.fault_count self.old.source) (S.fault_count self.new.source) result }
+        ensures same { Keeps (ahead_view S.view self.old).left (ahead_view S.view self.new).left }
+        ensures end { OnOk result (kept_ahead self.new ≡ [] → IsAtEnd (S.view self.new.source).left) }
+        ensures cause { HasCause (S.view self.old.source).faults (S.view self.new.source).faults result }
     {
         if self.start == self.end {
             let count = self.source.read(&mut self.bytes)?;
@@ -66,11 +66,9 @@ impl<S: Source> ReadAhead<S> {
 }
 
 impl<S: Source> Source for ReadAhead<S> {
-    ghost use Rattle.script_server.specs.Buffers.{left_ahead};
+    ghost use Rattle.script_server.specs.Buffers.{ahead_view};
 
-    ghost left = { left_ahead S.left };
-
-    ghost fault_count = { λ s. S.fault_count s.source };
+    ghost view = { ahead_view S.view };
 
     fn faults(&self) -> u64 {
         self.source.faults()
@@ -94,7 +92,7 @@ pub struct Together<O> {
 }
 
 impl<O: Sink> Together<O> {
-    ghost use Rattle.script_server.specs.Buffers.{kept_together, written_together};
+    ghost use Rattle.script_server.specs.Buffers.{kept_together, together_view};
 
     /// Nothing is kept yet.
     pub fn new(sink: O) -> Together<O>
@@ -119,10 +117,10 @@ impl<O: Sink> Together<O> {
     // Writes below what it takes of what is kept.
     fn pour_some(&mut self) -> Result<(), Failed>
         requires { self.old.start < self.old.end }
-        ensures same { Keeps (written_together O.written self.old) (written_together O.written self.new) }
+        ensures same { Keeps (together_view O.view self.old).written (together_view O.view self.new).written }
         ensures moves { OnOk result (self.old.start < self.new.start) }
         ensures end { self.new.end ≡ self.old.end }
-        ensures cause { HasCause (O.fault_count self.old.sink) (O.fault_count self.new.sink) result }
+        ensures cause { HasCause (O.view self.old.sink).faults (O.view self.new.sink).faults result }
     {
         let kept = &self.bytes[..self.end];
         self.start += self.sink.write(&kept[self.start..])?;
@@ -144,9 +142,9 @@ impl<O: Sink> Together<O> {
 
     // Writes below all that is kept. Where that fails, what was not taken is kept on.
     fn pour(&mut self) -> Result<(), Failed>
-        ensures same { Keeps (written_together O.written self.old) (written_together O.written self.new) }
+        ensures same { Keeps (together_view O.view self.old).written (together_view O.view self.new).written }
         ensures empty { OnOk result (self.new.end ≡ 0) }
-        ensures cause { HasCause (O.fault_count self.old.sink) (O.fault_count self.new.sink) result }
+        ensures cause { HasCause (O.view self.old.sink).faults (O.view self.new.sink).faults result }
     {
         while self.start < self.end {
             self.pour_some()?;
@@ -158,9 +156,9 @@ impl<O: Sink> Together<O> {
 
     // Writes below what is kept where there is no room for another byte.
     fn make_room(&mut self) -> Result<(), Failed>
-        ensures same { Keeps (written_together O.written self.old) (written_together O.written self.new) }
+        ensures same { Keeps (together_view O.view self.old).written (together_view O.view self.new).written }
         ensures room { OnOk result (self.new.end < 8192) }
-        ensures cause { HasCause (O.fault_count self.old.sink) (O.fault_count self.new.sink) result }
+        ensures cause { HasCause (O.view self.old.sink).faults (O.view self.new.sink).faults result }
     {
         if self.end == TOGETHER {
             self.pour()?;
@@ -170,13 +168,9 @@ impl<O: Sink> Together<O> {
 }
 
 impl<O: Sink> Sink for Together<O> {
-    ghost use Rattle.script_server.specs.Buffers.{written_together};
+    ghost use Rattle.script_server.specs.Buffers.{together_view};
 
-    ghost written = { written_together O.written };
-
-    ghost handed = { λ s. O.handed s.sink };
-
-    ghost fault_count = { λ s. O.fault_count s.sink };
+    ghost view = { together_view O.view };
 
     fn faults(&self) -> u64 {
         self.sink.faults()

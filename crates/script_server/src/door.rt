@@ -1,6 +1,5 @@
 // The real door: one listener for all workers.
-ghost use Rattle.std.specs.Prelude.{◌≡◌, ◌≤◌, ◌-◌, ◌^◌, None, All, min, sum_by, vec_len, IfOk};
-ghost use Rattle.web_outside.specs.Doors.{counts_with};
+ghost use Rattle.std.specs.Prelude.{◌≡◌, ◌≤◌, ◌+◌, ◌-◌, ◌^◌, None, All, min, sum_by, vec_len, IfOk};
 ghost use Rattle.script_server.specs.Sockets.{IsOpened};
 
 use crate::line::Patience;
@@ -80,11 +79,7 @@ where
 {
     type Porch = SocketPorch<'r, R>;
 
-    ghost links = { λ _. None };
-
-    ghost closed = { λ _. None };
-
-    ghost fault_count = { λ door. door.faults };
+    ghost view = { λ door. record { links = λ _. None; closed = None; faults = door.faults } };
 
     fn faults(&self) -> u64 {
         self.faults
@@ -111,7 +106,7 @@ where
     }
 
     fn close(&mut self, porches: Vec<SocketPorch<'r, R>>)
-        ensures { self.new.faults ≡ counts_with (λ porch. porch.faults) porches.entry.items self.old.faults }
+        ensures { self.new.faults ≡ min (self.old.faults + sum_by (λ porch. porch.faults) porches.entry.items) (2 ^ 64 - 1) }
     {
         self.faults = self.faults.saturating_add(faults_of(&porches));
     }

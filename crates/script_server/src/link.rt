@@ -1,5 +1,6 @@
 // A connection as a link.
 ghost use Rattle.std.specs.Prelude.{refl};
+ghost use Rattle.script_server.specs.Sockets.{link_view};
 
 use crate::adapters::{Reading, Writing};
 use crate::buffers::{ReadAhead, Together};
@@ -30,9 +31,7 @@ impl<C: Clock + Drop> Link for SocketLink<C> {
 
     type Output = Telling<C>;
 
-    ghost input = { λ link. link.input };
-
-    ghost output = { λ link. link.output };
+    ghost view = { link_view };
 
     ghost with_input = { λ link half. record link { input = half } };
 
@@ -48,11 +47,7 @@ impl<C: Clock + Drop> Link for SocketLink<C> {
 
     ghost input_set = { λ _ _. refl };
 
-    ghost output_kept = { λ _ _. refl };
-
     ghost output_set = { λ _ _. refl };
-
-    ghost input_kept = { λ _ _. refl };
 }
 
 impl<C: Clock + Drop> SocketLink<C> {

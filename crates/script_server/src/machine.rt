@@ -95,9 +95,7 @@ fn sources_of(alloc: Global, key: [u8; 32], count: u32) -> Result<Vec<StreamNonc
 }
 
 impl<R: Files> Seeds<StreamNonces> for MachineSeeds<'_, R> {
-    ghost gives = { λ _ _. None };
-
-    ghost fault_count = { λ s. s.faults };
+    ghost view = { λ s. record { gives = λ _. None; faults = s.faults } };
 
     fn faults(&self) -> u64 {
         self.faults

@@ -1,5 +1,5 @@
 // Where a worker accepts links.
-ghost use Rattle.std.specs.Prelude.{◌≡◌, ◌≤◌, IfOk, OnErr, None};
+ghost use Rattle.std.specs.Prelude.{◌≡◌, ◌≤◌, IfOk};
 ghost use Rattle.web_outside.specs.Causes.{HasCause};
 
 use crate::line::Patience;
@@ -136,17 +136,9 @@ impl<'r, R: Clock + Eprint> SocketPorch<'r, R> {
 impl<'r, R: Clock + Eprint> Porch for SocketPorch<'r, R> {
     type Link = SocketLink<&'r R>;
 
-    ghost coming = { λ _. None };
+    ghost use Rattle.script_server.specs.Sockets.{porch_view};
 
-    ghost served = { λ _. None };
-
-    ghost given = { λ porch. porch.given };
-
-    ghost most = { λ porch. porch.most };
-
-    ghost is_lent = { λ porch. porch.lent };
-
-    ghost fault_count = { λ porch. porch.faults };
+    ghost view = { porch_view };
 
     fn faults(&self) -> u64 {
         self.faults

@@ -1,12 +1,12 @@
 use Rattle.std.proofs.Common.{◌≤◌, ◌-◌}
 use Rattle.std.specs.Io.KnownBytes.{Keeps}
-use Rattle.script_server.specs.Buffers.{written_together}
+use Rattle.script_server.specs.Buffers.{together_view}
 use Rattle.script_server.proofs.buffers.Together.pour.Given as goal
 
 abbrev pub invariant-loop-self : goal.invariant-loop-self
 invariant-loop-self g l = record {
-  same : Keeps (written_together g.O.Sink.written l.fn.self) (written_together g.O.Sink.written l.self);
-  later : g.O.Sink.fault_count l.fn.self.sink ≤ g.O.Sink.fault_count l.self.sink;
+  same : Keeps (together_view g.O.Sink.view l.fn.self).written (together_view g.O.Sink.view l.self).written;
+  later : (g.O.Sink.view l.fn.self.sink).faults ≤ (g.O.Sink.view l.self.sink).faults;
 }
 
 abbrev pub decreases-loop-self : goal.decreases-loop-self
