@@ -3,12 +3,13 @@ pub mod Places
 pub mod Endings
 pub mod Causes
 pub mod Kept
+pub mod Open
 pub mod Fitting
 pub mod Stepping
 pub mod Serials
 pub mod Playing
 pub mod Servings
 pub mod ShelfRuns
-pub mod Orderly
+pub mod Held
 pub mod Entering
 pub mod Transcribed

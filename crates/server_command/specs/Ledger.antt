@@ -8,9 +8,9 @@ use Rattle.script_value.specs.declared.outcome.Reply.TheVariants.{Refused}
 use Rattle.page_names.specs.Names.{Destination, destination_of}
 use Rattle.replay_spec.specs.Next.{Ticket}
 use Rattle.replay_spec.specs.Step.{Event, take, publish, sweep, Fate, plain, Reply, taken, swept, memory}
-use Rattle.play_steps.specs.Rules.{StageRules}
+use Rattle.play_steps.specs.Rules.{StageRules, Call, answered, event}
 use Rattle.play_steps.specs.Step.{Step}
-use Rattle.play_steps.specs.Transcript.{Run, transcript}
+use Rattle.play_steps.specs.Transcript.{Run, text_of, transcript}
 use Rattle.server_command.specs.Target.{answer_to, path_and_query, shelf_for}
 use Rattle.server_command.specs.Desk.{Desk, told}
 
@@ -59,46 +59,46 @@ taken_in l worker target answer (taken number nonce) =
 taken_in l worker target answer r = (Err (told r), l)
 
 -- a take on a shelf that is not there is no event, and its target is unknown; nor is a take of a path that names nothing
-abbrev pub take_on : Ledger → (shelf worker : ℕ) → Destination → Val → Fate → Result ℕ outcome.Reply × Ledger
-take_on l k worker target answer fate =
+abbrev pub take_on : Ledger → (shelf worker : ℕ) → Destination → Val → Call Ledger Fate (Result ℕ outcome.Reply)
+take_on l k worker target answer =
     if nat_lt k l.count
-    then taken_in (entered l k (take target answer) fate) worker target answer (first_reply l.replies)
-    else (Err (Refused Unknown), l)
+    then event (λ fate. taken_in (entered l k (take target answer) fate) worker target answer (first_reply l.replies))
+    else answered (Err (Refused Unknown))
 
-abbrev pub take_at : Ledger → (worker : ℕ) → Val → Fate → Option Destination → Result ℕ outcome.Reply × Ledger
-take_at l worker answer fate None = (Err (Refused Unknown), l)
-take_at l worker answer fate (Some target) = take_on l (shelf_for l.count worker target) worker target answer fate
+abbrev pub take_at : Ledger → (worker : ℕ) → Val → Option Destination → Call Ledger Fate (Result ℕ outcome.Reply)
+take_at l worker answer None = answered (Err (Refused Unknown))
+take_at l worker answer (Some target) = take_on l (shelf_for l.count worker target) worker target answer
 
-abbrev pub ledger_take : Ledger → (worker : ℕ) → (target : List ℕ) → Fate → Result ℕ outcome.Reply × Ledger
-ledger_take l worker target fate =
-    let parts = path_and_query target in take_at l worker (answer_to parts.1) fate (destination_of parts.0)
+abbrev pub ledger_take : Ledger → (worker : ℕ) → (target : List ℕ) → Call Ledger Fate (Result ℕ outcome.Reply)
+ledger_take l worker target =
+    let parts = path_and_query target in take_at l worker (answer_to parts.1) (destination_of parts.0)
 
 -- a publish is of the ticket that the worker holds
-abbrev pub publish_on : Ledger → (shelf worker : ℕ) → Ticket → Fate → outcome.Reply × Ledger
-publish_on l k worker t fate =
+abbrev pub publish_on : Ledger → (shelf worker : ℕ) → Ticket → Call Ledger Fate outcome.Reply
+publish_on l k worker t =
     if nat_lt k l.count
-    then (told (first_reply l.replies), holding (entered l k (publish t) fate) worker None)
-    else (Refused Unknown, l)
+    then event (λ fate. (told (first_reply l.replies), holding (entered l k (publish t) fate) worker None))
+    else answered (Refused Unknown)
 
-abbrev pub publish_held : Ledger → (worker : ℕ) → Fate → Option Ticket → outcome.Reply × Ledger
-publish_held l worker fate None = (Refused Unknown, l)
-publish_held l worker fate (Some t) = publish_on l (shelf_for l.count worker t.target) worker t fate
+abbrev pub publish_held : Ledger → (worker : ℕ) → Option Ticket → Call Ledger Fate outcome.Reply
+publish_held l worker None = answered (Refused Unknown)
+publish_held l worker (Some t) = publish_on l (shelf_for l.count worker t.target) worker t
 
 abbrev pub ticket_in : Ledger → (worker : ℕ) → Option Ticket
 ticket_in l worker = option_and_then (λ t. t) (slice_get l.held worker)
 
-abbrev pub ledger_publish : Ledger → (worker : ℕ) → Fate → outcome.Reply × Ledger
-ledger_publish l worker fate = publish_held l worker fate (ticket_in l worker)
+abbrev pub ledger_publish : Ledger → (worker : ℕ) → Call Ledger Fate outcome.Reply
+ledger_publish l worker = publish_held l worker (ticket_in l worker)
 
 abbrev pub swept_in : Ledger → Reply → Result ℕ outcome.Reply × Ledger
 swept_in l (swept count) = (Ok count, l)
 swept_in l r = (Err (told r), l)
 
-abbrev pub ledger_sweep : Ledger → (shelf tick : ℕ) → Fate → Result ℕ outcome.Reply × Ledger
-ledger_sweep l k tick fate =
+abbrev pub ledger_sweep : Ledger → (shelf tick : ℕ) → Call Ledger Fate (Result ℕ outcome.Reply)
+ledger_sweep l k tick =
     if nat_lt k l.count
-    then swept_in (entered l k (sweep tick) fate) (first_reply l.replies)
-    else (Err (Refused Unknown), l)
+    then event (λ fate. swept_in (entered l k (sweep tick) fate) (first_reply l.replies))
+    else answered (Err (Refused Unknown))
 
 -- what a run's steps enter in a ledger
 abbrev pub ledger_rules : StageRules
@@ -119,7 +119,7 @@ reading d number steps fates replies = transcript ledger_rules (ledger_of d repl
 
 -- what the lines print, and the events that they are
 abbrev pub print_of : Desk → (number : ℕ) → List (Option Step) → List Fate → List Reply → List ℕ
-print_of d number steps fates replies = (reading d number steps fates replies).text
+print_of d number steps fates replies = text_of (reading d number steps fates replies)
 
 abbrev pub events_of : Desk → (number : ℕ) → List (Option Step) → List Fate → List Reply → List Entry
 events_of d number steps fates replies = (reading d number steps fates replies).state.entries

@@ -3,6 +3,7 @@ use Rattle.std.proofs.Common.{◌≡◌, ◌≢◌, ◌⊎◌, ◌∙◌, ap, sy
 use Rattle.std.proofs.lemmas.List.{length-set}
 use Rattle.script_value.specs.Val.{Val}
 use Rattle.page_names.specs.Names.{Destination}
+use Rattle.script_nodes.specs.Setup.{Named}
 use Rattle.replay_spec.specs.Book.{Book, draw}
 use Rattle.replay_spec.specs.Rules.{Rules}
 use Rattle.replay_spec.specs.Next.{Ticket}
@@ -17,7 +18,7 @@ use Rattle.server_command.proofs.Kept.{published, swept, of_among, among_other}
 use Rattle.server_command.proofs.Places.{at_set, none_there, same_Some}
 
 -- The numbers that are out were drawn. What workers hold is out on its shelf, and of one shelf they hold different numbers.
-pub record IsOrderly (n : ℕ) (ss : List Shelf) (held : List (Option Ticket)) : Type 0 where
+pub record AreOut (n : ℕ) (ss : List Shelf) (held : List (Option Ticket)) : Type 0 where
   pub count : length ss ≡ n
   pub below : (k : ℕ) (s : Shelf) → slice_get ss k ≡ Some s → (m : ℕ) → Among m s.book.out → m < s.book.drawn
   pub out : (w : ℕ) (t : Ticket) → slice_get held w ≡ Some (Some t) → (s : Shelf) → slice_get ss (shelf_for n w t.target) ≡ Some s
@@ -25,15 +26,15 @@ pub record IsOrderly (n : ℕ) (ss : List Shelf) (held : List (Option Ticket)) :
   pub apart : (v w : ℕ) (t u : Ticket) → slice_get held v ≡ Some (Some t) → slice_get held w ≡ Some (Some u)
       → shelf_for n v t.target ≡ shelf_for n w u.target → t.number ≡ u.number → v ≡ w
 
-pub first_orderly : (rules : Rules) → IsOrderly 1 (first_desk rules).shelves (first_desk rules).held
-first_orderly rules = record {
+pub first_orderly : (rules : Rules) (scripts : List Named) → AreOut 1 (first_desk rules scripts).shelves (first_desk rules scripts).held
+first_orderly rules scripts = record {
   count = refl;
   below = nothing_out;
   out = λ w t h s e. absurd (none_there 16 w t h);
   apart = λ v w t u h g same e. absurd (none_there 16 v t h);
 }
   where
-    nothing_out : (k : ℕ) (s : Shelf) → slice_get (first_desk rules).shelves k ≡ Some s → (m : ℕ) → Among m s.book.out → m < s.book.drawn
+    nothing_out : (k : ℕ) (s : Shelf) → slice_get (first_desk rules scripts).shelves k ≡ Some s → (m : ℕ) → Among m s.book.out → m < s.book.drawn
     nothing_out zero s e m h = absurd (subst (λ (x : Shelf). Among m x.book.out) (sym (same_Some _ s e)) h)
     nothing_out (suc k) s e m h = absurd (let no : None ≡ Some s = e in cc)
 
@@ -43,7 +44,7 @@ moved ss j k s e here = subst (λ i. slice_get ss i ≡ Some s) (sym e) here
 
 -- a shelf on which the same numbers are out
 pub orderly_same : (n : ℕ) (ss : List Shelf) (held : List (Option Ticket)) (k : ℕ) (s new : Shelf) → slice_get ss k ≡ Some s
-    → new.book.out ≡ s.book.out → new.book.drawn ≡ s.book.drawn → IsOrderly n ss held → IsOrderly n (slice_set ss k new) held
+    → new.book.out ≡ s.book.out → new.book.drawn ≡ s.book.drawn → AreOut n ss held → AreOut n (slice_set ss k new) held
 orderly_same n ss held k s new here out drawn o = record {
   count = length-set ss k new ∙ o.count;
   below = λ j x e m h. elim (at_set ss k j new x e) [
@@ -62,8 +63,8 @@ orderly_same n ss held k s new here out drawn o = record {
 -- a ticket that is published is held no more, and its number is not out
 pub orderly_spent : (n : ℕ) (ss : List Shelf) (held : List (Option Ticket)) (k worker : ℕ) (s new : Shelf) (t : Ticket) → slice_get ss k ≡ Some s
     → k ≡ shelf_for n worker t.target → slice_get held worker ≡ Some (Some t)
-    → new.book.out ≡ filter (λ m. not (m == t.number)) s.book.out → new.book.drawn ≡ s.book.drawn → IsOrderly n ss held
-    → IsOrderly n (slice_set ss k new) (slice_set held worker None)
+    → new.book.out ≡ filter (λ m. not (m == t.number)) s.book.out → new.book.drawn ≡ s.book.drawn → AreOut n ss held
+    → AreOut n (slice_set ss k new) (slice_set held worker None)
 orderly_spent n ss held k worker s new t here place holds out drawn o = record {
   count = length-set ss k new ∙ o.count;
   below = λ j x e m h. elim (at_set ss k j new x e) [
@@ -97,8 +98,8 @@ among_last n (k ∷ ms) = inr (among_last n ms)
 
 -- a ticket that is taken has the number that was drawn
 pub orderly_taken : (n : ℕ) (ss : List Shelf) (held : List (Option Ticket)) (k worker : ℕ) (s new : Shelf) (t : Ticket) → slice_get ss k ≡ Some s
-    → k ≡ shelf_for n worker t.target → t.number ≡ s.book.drawn → new.book ≡ draw s.book → IsOrderly n ss held
-    → IsOrderly n (slice_set ss k new) (slice_set held worker (Some t))
+    → k ≡ shelf_for n worker t.target → t.number ≡ s.book.drawn → new.book ≡ draw s.book → AreOut n ss held
+    → AreOut n (slice_set ss k new) (slice_set held worker (Some t))
 orderly_taken n ss held k worker s new t here place number is o = record {
   count = length-set ss k new ∙ o.count;
   below = λ j x e m h. elim (at_set ss k j new x e) [
@@ -154,28 +155,28 @@ orderly_taken n ss held k worker s new t here place number is o = record {
 
 -- a take, by what it was answered
 pub take_orderly : (n : ℕ) (d : Desk) (k worker : ℕ) (target : Destination) (answer : Val) (nonce : ℕ) (s new : Shelf) (r : Reply) → slice_get d.shelves k ≡ Some s
-    → k ≡ shelf_for n worker target → Takes s.book nonce r new.book → IsOrderly n d.shelves d.held
-    → (let x = taken_by d k worker target answer (r, new) in IsOrderly n x.1.shelves x.1.held)
+    → k ≡ shelf_for n worker target → Takes s.book nonce r new.book → AreOut n d.shelves d.held
+    → (let x = taken_by d k worker target answer (r, new) in AreOut n x.1.shelves x.1.held)
 take_orderly n d k worker target answer nonce s new (taken number drawn) here place took o =
     orderly_taken n d.shelves d.held k worker s new (record { target = target; answer = answer; number = number; nonce = drawn }) here place took.0 took.2 o
 take_orderly n d k worker target answer nonce s new r here place took o =
     orderly_same n d.shelves d.held k s new here (ap (λ (b : Book). b.out) took) (ap (λ (b : Book). b.drawn) took) o
 
 pub publish_orderly : (n : ℕ) (d : Desk) (k worker : ℕ) (t : Ticket) (fate : Fate) (s : Shelf) → slice_get d.shelves k ≡ Some s
-    → k ≡ shelf_for n worker t.target → slice_get d.held worker ≡ Some (Some t) → IsOrderly n d.shelves d.held
-    → IsOrderly n (slice_set d.shelves k (shelf_step d.rules counting s (publish t) fate).1) (slice_set d.held worker None)
+    → k ≡ shelf_for n worker t.target → slice_get d.held worker ≡ Some (Some t) → AreOut n d.shelves d.held
+    → AreOut n (slice_set d.shelves k (shelf_step counting s (publish t) fate).1) (slice_set d.held worker None)
 publish_orderly n d k worker t fate s here place holds o =
-    let kept = published d.rules s.book (counting s.nonces) t fate in
-    orderly_spent n d.shelves d.held k worker s (shelf_step d.rules counting s (publish t) fate).1 t here place holds kept.out kept.drawn o
+    let kept = published s.rules s.book (counting s.nonces) t fate in
+    orderly_spent n d.shelves d.held k worker s (shelf_step counting s (publish t) fate).1 t here place holds kept.out kept.drawn o
 
-pub sweep_orderly : (n : ℕ) (d : Desk) (k tick : ℕ) (fate : Fate) (s : Shelf) → slice_get d.shelves k ≡ Some s → IsOrderly n d.shelves d.held
-    → IsOrderly n (slice_set d.shelves k (shelf_step d.rules counting s (sweep tick) fate).1) d.held
+pub sweep_orderly : (n : ℕ) (d : Desk) (k tick : ℕ) (fate : Fate) (s : Shelf) → slice_get d.shelves k ≡ Some s → AreOut n d.shelves d.held
+    → AreOut n (slice_set d.shelves k (shelf_step counting s (sweep tick) fate).1) d.held
 sweep_orderly n d k tick fate s here o =
-    let kept = swept d.rules s.book (counting s.nonces) tick fate in
-    orderly_same n d.shelves d.held k s (shelf_step d.rules counting s (sweep tick) fate).1 here kept.out kept.drawn o
+    let kept = swept s.rules s.book (counting s.nonces) tick fate in
+    orderly_same n d.shelves d.held k s (shelf_step counting s (sweep tick) fate).1 here kept.out kept.drawn o
 
 -- a publish of what a worker holds
 pub publish_lawful : (n : ℕ) (d : Desk) (k worker : ℕ) (t : Ticket) (s : Shelf) → slice_get d.shelves k ≡ Some s → k ≡ shelf_for n worker t.target
-    → slice_get d.held worker ≡ Some (Some t) → IsOrderly n d.shelves d.held → IsLawful (publish t) s.book
+    → slice_get d.held worker ≡ Some (Some t) → AreOut n d.shelves d.held → IsLawful (publish t) s.book
 publish_lawful n d k worker t s here place holds o =
     of_among s.book.out t.number (o.out worker t holds s (moved d.shelves (shelf_for n worker t.target) k s (sym place) here))
