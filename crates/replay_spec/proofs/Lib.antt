@@ -17,3 +17,9 @@ pub mod Landed
 pub mod Admitted
 pub mod Going
 pub mod Orderly
+pub mod Sound
+pub mod Decided
+pub mod Steps
+pub mod Local
+pub mod Stays
+pub mod Refused

@@ -56,12 +56,51 @@ pub fn orderly_books_stay()
     ensures { OrderlyBooksStay }
 {}
 
+/// An empty book is sound, and each lawful event keeps a book so, whatever its fate.
+pub fn sound_books_stay()
+    ensures { SoundBooksStay }
+{}
+
+/// Each book that lawful events lead to from an empty one is sound and of the same shelf. What is said of sound books
+/// holds of these, at each moment of each run, over crashes and under rules and setups that change.
+pub fn reached_books_are_sound()
+    ensures { ReachedBooksAreSound }
+{}
+
 /// In an orderly book each instance has as many cells as its script.
 pub fn each_has_its_cells()
     ensures { EachHasItsCells }
 {}
 
+/// In a sound book the chain of a page is all of its ancestors from the root on, and then the page, and it replays: the
+/// script, run from its start over it, shows a page inside the transactions that the page keeps, and reads just what was
+/// recorded.
+pub fn each_chain_replays()
+    ensures { EachChainReplays }
+{}
+
+/// A page that was shown stands as long as its instance does, behind the pages that it had behind it.
+pub fn pages_stay()
+    ensures { PagesStay }
+{}
+
+/// The clock never falls, and what is expired stays so.
+pub fn the_clock_never_falls()
+    ensures { TheClockNeverFalls }
+{}
+
 // Of what a visit does and what it is answered.
+
+/// A take that is not answered with a ticket changes nothing, a publish that neither shows a page nor ends only spends
+/// its number, and a sweep that is refused changes nothing; a disk's fault leaves in doubt just what was decided.
+pub fn refused_is_unchanged()
+    ensures { RefusedIsUnchanged }
+{}
+
+/// A start changes the book only by a page that it shows.
+pub fn a_start_opens_or_leaves()
+    ensures { AStartOpensOrLeaves }
+{}
 
 // Of the records that events leave.
 
