@@ -84,19 +84,19 @@ after_event d x one run next h k = record {
 
 -- a call, and a run behind it
 after_call : {X : Type 0} (d : Desk) (call : Call Desk Fate X) (over : Ledger → Call Ledger Fate X) (fates : List Fate)
-    (next : X → Desk → List Fate → Run desk_rules) (then : X → Ledger → List Fate → Run ledger_rules)
-    → Enters d call over → ((a : X) (e : Desk) (later : List Fate) → Follows e (next a e later) (λ l. then a l later))
-    → Follows d (called desk_rules call d fates next) (λ l. called ledger_rules (over l) l fates then)
-after_call d (answered a) over fates next then h k =
-    again d (next a d fates) (λ l. then a l fates) (λ l. called ledger_rules (over l) l fates then) (k a d fates)
-    (λ later before. ap (λ c. called ledger_rules c (ledger_of d later before) fates then) (h later before))
-after_call d (event by) over fates next then h k =
+    (next : X → Desk → List Fate → Run desk_rules) (after : X → Ledger → List Fate → Run ledger_rules)
+    → Enters d call over → ((a : X) (e : Desk) (later : List Fate) → Follows e (next a e later) (λ l. after a l later))
+    → Follows d (called desk_rules call d fates next) (λ l. called ledger_rules (over l) l fates after)
+after_call d (answered a) over fates next after h k =
+    again d (next a d fates) (λ l. after a l fates) (λ l. called ledger_rules (over l) l fates after) (k a d fates)
+    (λ later before. ap (λ c. called ledger_rules c (ledger_of d later before) fates after) (h later before))
+after_call d (event by) over fates next after h k =
     let fate = first_fate desk_rules fates in
     let more = later_fates desk_rules fates in
     let x = by fate in
-    again d (next x.0 x.1 more) (λ l. let y = h.over_by l fate in then y.0 y.1 more) (λ l. called ledger_rules (over l) l fates then)
-    (after_event d x (λ l. h.over_by l fate) (next x.0 x.1 more) (λ a l. then a l more) (h.one fate) (k x.0 x.1 more))
-    (λ later before. ap (λ c. called ledger_rules c (ledger_of d later before) fates then) (h.same later before))
+    again d (next x.0 x.1 more) (λ l. let y = h.over_by l fate in after y.0 y.1 more) (λ l. called ledger_rules (over l) l fates after)
+    (after_event d x (λ l. h.over_by l fate) (next x.0 x.1 more) (λ a l. after a l more) (h.one fate) (k x.0 x.1 more))
+    (λ later before. ap (λ c. called ledger_rules c (ledger_of d later before) fates after) (h.same later before))
 
 -- reports, and a run behind them
 behind_told : (d : Desk) (told : List Report) (run : Run desk_rules) (over : Ledger → Run ledger_rules) → Follows d run over

@@ -43,9 +43,9 @@ later_replies (r ∷ replies) = replies
 
 -- an event is entered, with the next reply
 abbrev pub entered : Ledger → (shelf : ℕ) → Event → Fate → Ledger
-entered l k event fate = record l {
+entered l k x fate = record l {
   replies = later_replies l.replies;
-  entries = l.entries ++ record { shelf = k; event = event; fate = fate; reply = first_reply l.replies } ∷ [];
+  entries = l.entries ++ record { shelf = k; event = x; fate = fate; reply = first_reply l.replies } ∷ [];
 }
 
 -- a worker holds this from now on
