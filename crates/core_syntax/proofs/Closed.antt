@@ -24,7 +24,7 @@ use Rattle.core_syntax.specs.Names.{◌>>=◌, or_fault, place_of, place_in, Cel
 use Rattle.core_syntax.specs.Shapes.{count_of, is_empty, is_word, begins, on, symbol_in, bound_name, names_of, single_name, parameter, names_before, are_clauses, ends_in_else}
 use Rattle.core_syntax.specs.Templates.{is_splice, has_splice, is_template, is_plain}
 use Rattle.core_syntax.specs.Forms as spec
-use Rattle.core_syntax.specs.Closed.{IsClosed, AreClosed, cores_length}
+use Rattle.script_nodes.specs.Closed.{IsClosed, AreClosed, cores_length}
 
 abbrev pub Holds : {A : Type 0} → (A → Type 0) → Result A SyntaxKind → Type 0
 Holds P (Ok x) = P x

@@ -8,15 +8,15 @@ use Rattle.core_syntax.specs.declared.faults.SyntaxKind.{SyntaxKind}
 use Rattle.core_syntax.specs.declared.faults.SyntaxKind.TheVariants.{Shape, TooMany}
 use Rattle.script_nodes.specs.Core.{Core, count, height}
 use Rattle.script_nodes.specs.Arena.{IsScript, tree_at, script_of}
-use Rattle.core_syntax.specs.Layout.{layout}
-use Rattle.core_syntax.specs.Readings.{tree_at-layout}
+use Rattle.script_nodes.specs.Layout.{layout}
+use Rattle.script_nodes.specs.Readings.{tree_at-layout}
 use Rattle.core_syntax.specs.Laid.{Lacks, Stands}
-use Rattle.core_syntax.specs.Closed.{IsClosed}
+use Rattle.script_nodes.specs.Closed.{IsClosed}
 use Rattle.core_syntax.specs.Expands.{IsLevel}
 use Rattle.core_syntax.specs.Definitions.{Defined, is_too_many, limited, at_form, begins_well, expanded}
 use Rattle.core_syntax.specs.Forms.{core_of}
 use Rattle.core_syntax.proofs.Closed.{Holds, closed_core}
-use Rattle.core_syntax.proofs.Scripts.{script_laid}
+use Rattle.script_nodes.proofs.Scripts.{script_laid}
 
 within_limits : (c : Core) → count c ≤ 16384 → height c ≤ 1024 → is_too_many c ≡ false
 within_limits c p q = grind (arith, nat_tests)
@@ -45,8 +45,6 @@ expression_closed d v c l e =
 pub record Made (d : Defined) (v : Val) (number : ℕ) (nodes : List Node) : Type 0 where
   pub script : IsScript (record { nodes = nodes; web = d.web; cells = d.cells })
   pub table : at_form number (limited d (core_of d.names [] false v)) ≡ Ok (script_of (record { nodes = nodes; web = d.web; cells = d.cells }))
-  pub numbered : nodes ≡ layout 0 (tree_at nodes 0)
-  pub closed : IsClosed (length d.web) (length d.cells) 0 false (tree_at nodes 0)
 
 pub made : (d : Defined) (v : Val) (c : Core) (number left first : ℕ) (old nodes : List Node)
     → IsLevel d → core_of d.names [] false v ≡ Ok c → old ≡ [] → left ≡ 1024 → Stands old nodes left first (layout (length old) c) (count c) (height c) → Made d v number nodes
@@ -55,12 +53,9 @@ made d v c number left first old nodes l e o f s =
     let same : nodes ≡ layout 0 c = s.behind ∙ rw o refl in
     let tree : tree_at nodes 0 ≡ c = ap (λ ns. tree_at ns 0) same ∙ tree_at-layout c in
     let fits : is_too_many c ≡ false = within_limits c (let r = s.room in omega arith) (let r = s.low in omega arith) in
-    let closed = expression_closed d v c l e in
     record {
-      script = rw same (script_laid c d.web d.cells closed);
+      script = rw same (script_laid c d.web d.cells (expression_closed d v c l e));
       table = rw (e, fits, tree) refl;
-      numbered = same ∙ ap (layout 0) (sym tree);
-      closed = rw tree closed;
     }
 
 pub too_many : (d : Defined) (v : Val) (c : Core) (number left : ℕ) (old : List Node)

@@ -4,7 +4,6 @@ pub mod Words
 pub mod Choices
 pub mod Lays
 pub mod Closed
-pub mod Scripts
 pub mod Expanding
 pub mod Forming
 pub mod Filling

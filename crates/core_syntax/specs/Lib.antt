@@ -8,10 +8,7 @@ pub mod Forms
 pub mod Filling
 pub mod Definitions
 pub mod DefinitionsSeen
-pub mod Layout
 pub mod Trees
-pub mod Layouts
-pub mod Readings
 pub mod CoreCode
 pub mod TreeFalls
 pub mod Vectors
@@ -19,5 +16,4 @@ pub mod VectorsOfScripts
 pub mod Gives
 pub mod Views
 pub mod Laid
-pub mod Closed
 pub mod Expands

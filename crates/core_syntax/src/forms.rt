@@ -1,11 +1,8 @@
-ghost use Rattle.std.specs.Prelude.{◌≡◌, [], IfOk, IsTrue, false, length, map};
+ghost use Rattle.std.specs.Prelude.{◌≡◌, [], IsTrue, map};
 ghost use Rattle.script_value.specs.Views.{meaning};
-ghost use Rattle.script_nodes.specs.Arena.{script_of, tree_at};
-ghost use Rattle.core_syntax.specs.Closed.{IsClosed};
 ghost use Rattle.core_syntax.specs.Definitions.{begins_well, expanded, expression_at};
 ghost use Rattle.core_syntax.specs.DefinitionsSeen.{cells_of};
 ghost use Rattle.core_syntax.specs.Expands.{Expands, ExpandsFault, IsLevel};
-ghost use Rattle.core_syntax.specs.Layout.{layout};
 
 use crate::defined::Defined;
 use crate::faults::{ExpandFault, ReadFault, SyntaxError, SyntaxKind};
@@ -24,8 +21,6 @@ const DEPTH_LIMIT: u32 = 1_024;
 /// The script that data are: definitions of cells, and then one expression.
 pub fn expand(alloc: Global, forms: &[Value]) -> Result<Script, ExpandFault>
     ensures table { Expands result (expanded (map meaning forms.now)) }
-    ensures numbered { IfOk result (λ s. s.nodes ≡ layout 0 (tree_at s.nodes 0)) }
-    ensures closed { IfOk result (λ s. IsClosed (length s.web) (length s.cells) 0 false (script_of s).body) }
     // That there is no expression, or that the first of several forms is no definition, is told whatever memory there is.
     ensures memory { result ≡ Err ExpandFault.Memory → IsTrue (begins_well (map meaning forms.now)) }
 {
@@ -46,9 +41,7 @@ fn begins_well(forms: &[Value]) -> bool
 }
 
 fn expand_forms(alloc: Global, forms: &[Value]) -> Result<Script, ExpandFault>
-    ensures table { Expands result (expanded (map meaning forms.now)) }
-    ensures numbered { IfOk result (λ s. s.nodes ≡ layout 0 (tree_at s.nodes 0)) }
-    ensures closed { IfOk result (λ s. IsClosed (length s.web) (length s.cells) 0 false (script_of s).body) }
+    ensures { Expands result (expanded (map meaning forms.now)) }
 {
     let mut defined = Defined::new(alloc);
     for place in 0..forms.len() {
@@ -76,9 +69,7 @@ fn expand_expression<'a>(
     form: &'a Value,
 ) -> Result<Script, ExpandFault>
     requires { IsLevel (cells_of defined) }
-    ensures table { Expands result (expression_at number (cells_of defined.entry) (meaning form.now) []) }
-    ensures numbered { IfOk result (λ s. s.nodes ≡ layout 0 (tree_at s.nodes 0)) }
-    ensures closed { IfOk result (λ s. IsClosed (length s.web) (length s.cells) 0 false (script_of s).body) }
+    ensures { Expands result (expression_at number (cells_of defined.entry) (meaning form.now) []) }
 {
     let mut scope = Names::new(alloc);
     let tree = match read(alloc, &defined.names, &mut scope, false, form) {

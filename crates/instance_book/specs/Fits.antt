@@ -2,7 +2,7 @@
 use Rattle.std.specs.Prelude.{◌≡◌, ℕ, List, map, Some, slice_get, ⊤}
 use Rattle.script_value.specs.Views.{meaning}
 use Rattle.script_nodes.specs.Setup.{Named}
-use Rattle.plain_rerun.specs.Views.{answer_of}
+use Rattle.segments.specs.Views.{answer_of}
 use Rattle.replay_spec.specs.Tape.{Reads, Answer, Tape, tape_behind}
 use Rattle.replay_spec.specs.Book as spec
 use Rattle.replay_spec.specs.Rules.{first_cells}

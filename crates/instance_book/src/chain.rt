@@ -1,6 +1,6 @@
 ghost use Rattle.std.specs.Prelude.{◌≡◌, IfOk, map, option_map, reverse, string_bytes};
 ghost use Rattle.page_names.specs.Views.{name_of};
-ghost use Rattle.plain_rerun.specs.Views.{answer_of};
+ghost use Rattle.segments.specs.Views.{answer_of};
 ghost use Rattle.replay_spec.specs.Book as spec;
 ghost use Rattle.replay_spec.specs.Next as next;
 ghost use Rattle.instance_book.specs.Views.{page_of, pages_of};
@@ -8,8 +8,8 @@ ghost use Rattle.instance_book.specs.Chains.{home_of, link_of, chain_in, past_of
 
 use crate::page::{KeptPage, Pages};
 use page_names::{PageName, ScriptName, url_text};
-use plain_rerun::{Answer, Now, Reads};
 use script_value::Str;
+use segments::Answer;
 use std::alloc::{AllocError, Global};
 
 /// What the URLs of an instance's pages share.
@@ -40,11 +40,9 @@ impl Home {
     {
         Ok(Answer {
             value: page.answer.try_clone(alloc)?,
-            segment: Now {
-                number: page.number,
-                url: self.url(alloc, page.number, page.nonce)?,
-                reads: Reads::Recorded(page.reads.try_clone(alloc)?),
-            },
+            number: page.number,
+            url: self.url(alloc, page.number, page.nonce)?,
+            reads: page.reads.try_clone(alloc)?,
         })
     }
 

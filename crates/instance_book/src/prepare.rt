@@ -1,7 +1,7 @@
 ghost use Rattle.std.specs.Prelude.{◌≡◌, ◌<◌, ◌≤◌, ◌+◌, ◌^◌, ◌++◌, Ok, IfOk, IfErr, OnOk, map, length, Contains};
 ghost use Rattle.instance_cells.specs.Cells.{AreOn, commit, reads_of};
 ghost use Rattle.instance_cells.specs.Views.{effect_of};
-ghost use Rattle.plain_rerun.specs.Views.{segment_of};
+ghost use Rattle.segments.specs.Views.{segment_of};
 ghost use Rattle.instance_book.specs.Views.{book_of, HasRoomAt};
 ghost use Rattle.instance_book.specs.Changes.{renewed, HasRoomFor};
 ghost use Rattle.instance_book.specs.Prepares.{StartsOn, AnswersOn, IsOnCells, AreOnCells, IsPrepared};
@@ -17,9 +17,9 @@ use crate::ticket::Ticket;
 use expiry::{LONGEST_LIFE, deadline};
 use instance_cells::{Cells, Effect};
 use page_names::{PageName, Target};
-use plain_rerun::{PlainEnd, Rerun};
 use script_nodes::SendKind;
 use script_value::{Bytes, Items, Refusal, Reply, TxName, Value};
+use segments::{PlainEnd, Rerun};
 use std::alloc::{AllocError, Global};
 use transactions::Closed;
 

@@ -1,5 +1,5 @@
 -- What the program's values stand for.
-use Rattle.std.specs.Prelude.{◌≡◌, ℕ, ℤ, List, [], ◌∷◌, ◌++◌, map, Result, Ok, Err, IsOk, slice_set, ⊤}
+use Rattle.std.specs.Prelude.{◌≡◌, ℕ, ℤ, List, [], ◌∷◌, ◌++◌, map, Result, Ok, Err, IsOk, slice_set}
 use Rattle.script_value.specs.Val.{Val, number}
 use Rattle.script_value.specs.Views.{meaning}
 use Rattle.script_value.specs.declared.outcome.Fault.{Fault}
@@ -49,20 +49,14 @@ Adds (Err k) old new c v = (sum_of (cell_at old c) v ≡ Err k) × (new ≡ old)
 abbrev pub has : (start : List Val) → List Effect → ℕ → Val
 has start es c = cell_at (behind es start) c
 
--- at this fault a read of what the cell has was recorded
+-- at this fault a read of what the cell has was recorded; nothing where memory ran out
 abbrev pub Refuses : Result (Unit {0}) AddFault → (start : List Val) → (old new : List Effect) → ℕ → Fault → Type 0
 Refuses (Ok x) start old new c k = ⊥
 Refuses (Err (FaultOf l)) start old new c k = (l ≡ k) × Notes (spec.read c (has start old c)) old new
-Refuses (Err Memory) start old new c k = ⊤
+Refuses (Err Memory) start old new c k = new ≡ old
 
--- the add to what the cell has was recorded, or the fault with a read in its place
+-- the add to what the cell has was recorded, or the fault with a read in its place; nothing where memory ran out
 abbrev pub AddsTo : Result (Unit {0}) AddFault → (start : List Val) → (old new : List Effect) → ℕ → (operand : Val) → Type 0
 AddsTo (Ok x) start old new c v = (n : ℤ) × ((v ≡ number n) × (Notes (spec.add c n) old new × IsOk (sum (has start old c) n)))
 AddsTo (Err (FaultOf k)) start old new c v = (sum_of (has start old c) v ≡ Err k) × Notes (spec.read c (has start old c)) old new
-AddsTo (Err Memory) start old new c v = ⊤
-
--- where memory did not run out
-abbrev pub HadMemory : Result (Unit {0}) AddFault → Type 0 → Type 0
-HadMemory (Ok x) p = p
-HadMemory (Err (FaultOf k)) p = p
-HadMemory (Err Memory) p = ⊤
+AddsTo (Err Memory) start old new c v = new ≡ old

@@ -113,6 +113,18 @@ impl Cells {
         Ok(())
     }
 
+    /// Whether each effect is on one of these cells. It takes no memory.
+    pub fn are_on(&self, effects: &[Effect]) -> bool
+        ensures { IsTrue result ↔ AreOn (length self.now) (map effect_of effects.now) }
+    {
+        for effect in effects {
+            if effect.cell() as usize >= self.len() {
+                return false;
+            }
+        }
+        true
+    }
+
     /// Whether each read gives the same and each add has a sum over these cells, the earlier writes applied.
     ///
     /// It takes no memory.
@@ -154,17 +166,25 @@ impl Cells {
         })
     }
 
+    /// These cells with the sets and the adds applied, the oldest first.
+    pub fn committed(&self, alloc: Global, effects: &[Effect]) -> Result<Cells, AllocError>
+        requires { AreOn (length self.now) (map effect_of effects.now) }
+        ensures { IfOk result (λ next. next ≡ commit (map effect_of effects.now) self.now) }
+    {
+        let mut next = self.try_clone(alloc)?;
+        for effect in effects {
+            next.land(alloc, effect)?;
+        }
+        Ok(next)
+    }
+
     /// Applies the sets and the adds, the oldest first; where memory runs out, nothing changes.
     pub fn commit(&mut self, alloc: Global, effects: &[Effect]) -> Result<(), AllocError>
         requires { AreOn (length self.old) (map effect_of effects.now) }
         ensures ok { OnOk result (self.new ≡ commit (map effect_of effects.now) self.old) }
         ensures err { OnErr result (self.new ≡ self.old) }
     {
-        let mut next = self.try_clone(alloc)?;
-        for effect in effects {
-            next.land(alloc, effect)?;
-        }
-        *self = next;
+        *self = self.committed(alloc, effects)?;
         Ok(())
     }
 }

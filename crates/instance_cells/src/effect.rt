@@ -1,6 +1,7 @@
 ghost use Rattle.std.specs.Prelude.{◌≡◌, ◌↔◌, map, IsTrue, IfOk};
 ghost use Rattle.script_value.specs.Views.{meaning};
 ghost use Rattle.instance_cells.specs.Cells as spec;
+ghost use Rattle.instance_cells.specs.Cells.{cell_of};
 ghost use Rattle.instance_cells.specs.Views.{effect_of, seen_of, Sums};
 ghost use Rattle.instance_cells.specs.OneCell.{HoldsAt, Turns};
 
@@ -19,6 +20,15 @@ pub enum Effect {
 }
 
 impl Effect {
+    /// The cell that it is on.
+    pub fn cell(&self) -> u8
+        ensures { result ≡ cell_of (effect_of self.now) }
+    {
+        match self {
+            Effect::Read(cell, _) | Effect::Set(cell, _) | Effect::Add(cell, _) => *cell,
+        }
+    }
+
     /// A copy, equal to its source.
     pub fn try_clone(&self, alloc: Global) -> Result<Effect, AllocError>
         ensures { IfOk result (λ copy. copy ≡ self.now) }

@@ -1,7 +1,7 @@
 ghost use Rattle.std.specs.Prelude.{◌≡◌, [], ◌∷◌, ◌++◌, map, IfOk, OnOk, OnErr};
 ghost use Rattle.script_value.specs.Views.{meaning};
 ghost use Rattle.instance_cells.specs.Cells as spec;
-ghost use Rattle.instance_cells.specs.Views.{effect_of, behind, has, Notes, Refuses, HadMemory};
+ghost use Rattle.instance_cells.specs.Views.{effect_of, behind, has, Notes, Refuses};
 ghost use Rattle.instance_cells.specs.declared.trail.AddFault.TheVariants.{Memory};
 
 use crate::cells::Cells;
@@ -74,11 +74,12 @@ impl<'c> Trail<'c> {
         })
     }
 
-    /// A read of a cell, recorded; #f where there is no such cell.
+    /// A read of a cell, recorded; #f where there is no such cell. Where memory runs out, nothing changes.
     pub fn read(&mut self, alloc: Global, cell: u8) -> Result<Value, AllocError>
         ensures value { IfOk result (λ v. meaning v ≡ has self.old.start.now self.old.effects.items cell) }
         ensures effects { IfOk result (λ v. Notes (spec.read cell (meaning v)) self.old.effects.items self.new.effects.items) }
-        ensures start { OnOk result (self.new.start.now ≡ self.old.start.now) }
+        ensures err { OnErr result (self.new.effects.items ≡ self.old.effects.items) }
+        ensures start { self.new.start.now ≡ self.old.start.now }
     {
         let value = self.current.value(alloc, cell)?;
         let seen = value.try_clone(alloc)?;
@@ -86,10 +87,11 @@ impl<'c> Trail<'c> {
         Ok(value)
     }
 
-    /// A write of a cell, recorded.
+    /// A write of a cell, recorded. Where memory runs out, nothing changes.
     pub fn set(&mut self, alloc: Global, cell: u8, value: Value) -> Result<(), AllocError>
         ensures effects { OnOk result (Notes (spec.set cell (meaning value)) self.old.effects.items self.new.effects.items) }
-        ensures start { OnOk result (self.new.start.now ≡ self.old.start.now) }
+        ensures err { OnErr result (self.new.effects.items ≡ self.old.effects.items) }
+        ensures start { self.new.start.now ≡ self.old.start.now }
     {
         let kept = value.try_clone(alloc)?;
         note(&mut self.effects, Effect::Set(cell, kept))?;
@@ -97,10 +99,10 @@ impl<'c> Trail<'c> {
         Ok(())
     }
 
-    /// An add to a cell, recorded; at a fault a read of the cell is recorded in its place.
+    /// An add to a cell, recorded; at a fault a read of the cell is recorded in its place. Where memory runs out, nothing changes.
     pub fn add(&mut self, alloc: Global, cell: u8, operand: &Value) -> Result<(), AddFault>
         ensures adds { AddsOn result self.old self.new cell (meaning operand.now) }
-        ensures start { HadMemory result (self.new.start.now ≡ self.old.start.now) }
+        ensures start { self.new.start.now ≡ self.old.start.now }
     {
         let n = match operand {
             Value::Int(n) => *n,
@@ -119,7 +121,7 @@ impl<'c> Trail<'c> {
     // A fault of an add: a read of the cell is recorded.
     fn refuse(&mut self, alloc: Global, cell: u8, fault: Fault) -> Result<(), AddFault>
         ensures adds { Refuses result self.old.start.now self.old.effects.items self.new.effects.items cell fault }
-        ensures start { HadMemory result (self.new.start.now ≡ self.old.start.now) }
+        ensures start { self.new.start.now ≡ self.old.start.now }
     {
         drop(self.read(alloc, cell)?);
         Err(AddFault::Fault(fault))

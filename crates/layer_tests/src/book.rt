@@ -4,9 +4,10 @@ ghost use Rattle.instance_book.specs.Changes.{HasRoomFor};
 
 use crate::texts::{datum, is_datum, setup, target, text_of};
 use instance_book::{Book, Prepared, Ticket};
-use plain_rerun::{PlainEnd, Rerun, rerun};
+use plain_rerun::rerun;
 use script_nodes::{SendKind, Setup};
 use script_value::{Bytes, Refusal, Reply};
+use segments::{PlainEnd, Rerun};
 use std::alloc::Global;
 use std::test::Fail;
 
@@ -109,7 +110,7 @@ const READS: &str =
 // Whether the run of a ticket shows this page.
 fn shows(alloc: Global, setup: &Setup, ticket: &Ticket, wanted: &str) -> Result<bool, Fail> {
     let named = setup.get(ticket.script).ok_or("no script")?;
-    let tape = ticket.tape(alloc, ticket.cells.try_clone(alloc)?, 1_000)?;
+    let tape = ticket.tape(&ticket.cells, 1_000);
     match &rerun(alloc, &named.script, &tape)?.end {
         PlainEnd::Shown { page, .. } => Ok(text_of(page)? == wanted),
         _ => Ok(false),

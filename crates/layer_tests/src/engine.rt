@@ -1,62 +1,74 @@
 use crate::texts::{data, script, text_of};
 use instance_cells::{Cells, Effect};
-use plain_rerun::{Answer, Now, PlainEnd, Reads, Rerun, Tape, rerun};
+use plain_rerun::rerun;
 use script_nodes::{Script, SendKind};
 use script_value::{Items, Str, TxName, Value};
+use segments::{Answer, Now, PlainEnd, Reads, Rerun, Tape, clone_answers};
 use std::alloc::Global;
 use std::test::Fail;
 
 /// What a segment of these runs may cost.
 pub const FUEL: u64 = 100_000;
 
-// The segment of a number, whose pages have the URL `/NUMBER`.
-fn segment(alloc: Global, number: u64, reads: Reads) -> Result<Now, Fail> {
-    Ok(Now {
+// The URL `/NUMBER`.
+fn url(alloc: Global, number: u64) -> Result<Str, Fail> {
+    Ok(Str::new(format!(in alloc; "/{number}")?))
+}
+
+// A segment that ran behind an answer, and read this.
+fn ran_behind(alloc: Global, number: u64, value: Value, reads: Items) -> Result<Answer, Fail> {
+    Ok(Answer {
+        value,
         number,
-        url: Str::new(format!(in alloc; "/{number}")?),
+        url: url(alloc, number)?,
         reads,
     })
 }
 
-// Reads over what a script's instance cells begin with.
-fn present(alloc: Global, script: &Script, fuel: u64) -> Result<Reads, Fail> {
-    Ok(Reads::Present {
-        cells: Cells::of(alloc, script.instance_defaults().as_slice())?,
+// What a script comes to behind these segments and an answer, over what its instance cells begin with.
+fn run_behind(
+    alloc: Global,
+    script: &Script,
+    past: &[Answer],
+    answer: &Value,
+    fuel: u64,
+) -> Result<Rerun, Fail> {
+    let number = past.len() as u64;
+    let url = url(alloc, number)?;
+    let cells = Cells::of(alloc, script.instance_defaults().as_slice())?;
+    let reads = Reads::Present {
+        cells: &cells,
         fuel,
-    })
+    };
+    let newest = Now {
+        number,
+        url: &url,
+        reads,
+    };
+    let tape = Tape {
+        past,
+        answer,
+        newest,
+    };
+    Ok(rerun(alloc, script, &tape)?)
 }
 
-// The reads of a segment: the last is over present cells, and those before it read nothing.
-fn reads(alloc: Global, script: &Script, is_last: bool, fuel: u64) -> Result<Reads, Fail> {
-    if is_last {
-        return present(alloc, script, fuel);
-    }
-    Ok(Reads::Recorded(Items::new(alloc)))
-}
-
-// These answers as a tape; its segments have the numbers 0, 1 and so on.
-fn tape(alloc: Global, script: &Script, answers: Vec<Value>, fuel: u64) -> Result<Tape, Fail> {
-    let count = answers.len() as u64;
-    let mut later = Vec::new(alloc);
-    let mut number: u64 = 0;
+// What a script comes to over these answers; its segments have the numbers 0, 1 and so on, and those before the last read nothing.
+fn run_over(alloc: Global, script: &Script, answers: Vec<Value>, fuel: u64) -> Result<Rerun, Fail> {
+    let mut past = Vec::new(alloc);
+    let mut last = Value::Truth(false);
     for value in answers {
-        number = number.saturating_add(1);
-        let reads = reads(alloc, script, number == count, fuel)?;
-        let segment = segment(alloc, number, reads)?;
-        later.push(Answer { value, segment })?;
+        let number = past.len() as u64;
+        past.push(ran_behind(alloc, number, last, Items::new(alloc))?)?;
+        last = value;
     }
-    let first = reads(alloc, script, count == 0, fuel)?;
-    Ok(Tape {
-        first: segment(alloc, 0, first)?,
-        later,
-    })
+    run_behind(alloc, script, past.as_slice(), &last, fuel)
 }
 
 /// What the script of a text comes to over the answers of a text.
 pub fn ran(alloc: Global, text: &str, answers: &str, fuel: u64) -> Result<Rerun, Fail> {
     let script = script(alloc, text)?;
-    let tape = tape(alloc, &script, data(alloc, answers)?, fuel)?;
-    Ok(rerun(alloc, &script, &tape)?)
+    run_over(alloc, &script, data(alloc, answers)?, fuel)
 }
 
 /// How a run stopped, in words.
@@ -320,35 +332,19 @@ fn the_last_segment_tells_its_effects(rt: HostRuntime) -> Result<(), Fail> {
 const READS: &str =
     "(define c (make-instance-cell 5)) (let ((a (instance-cell-ref c)) (b (instance-cell-ref c)) (d (instance-cell-ref c))) (send/suspend (lambda (u) u)) `(p ,(number->string (+ a b)) ,(if d \"t\" \"f\") ,(number->string (instance-cell-ref c))))";
 
-// The tape of a first segment that read 1 and 2, and of another over present cells.
-fn recorded_tape(alloc: Global, script: &Script) -> Result<Tape, Fail> {
-    let recorded = Reads::Recorded(Items::from_vec(data(alloc, "1 2")?));
-    let first = segment(alloc, 0, recorded)?;
-    let segment = segment(alloc, 1, present(alloc, script, FUEL)?)?;
-    let value = Value::Int(0);
-    let mut later = Vec::new(alloc);
-    later.push(Answer { value, segment })?;
-    Ok(Tape { first, later })
-}
-
 #[test]
 fn recorded_reads_are_given_in_their_order(rt: HostRuntime) -> Result<(), Fail> {
-    let script = script(rt.alloc(), READS)?;
-    let tape = recorded_tape(rt.alloc(), &script)?;
-    let run = rerun(rt.alloc(), &script, &tape)?;
-    let told = end_told(rt.alloc(), &run.end)?;
+    let alloc = rt.alloc();
+    let script = script(alloc, READS)?;
+    let read = Items::from_vec(data(alloc, "1 2")?);
+    let mut past = Vec::new(alloc);
+    past.push(ran_behind(alloc, 0, Value::Truth(false), read)?)?;
+    let past = clone_answers(alloc, past.as_slice())?;
+    let run = run_behind(alloc, &script, past.as_slice(), &Value::Int(0), FUEL)?;
+    let run = run.try_clone(alloc)?;
+    let told = end_told(alloc, &run.end)?;
     assert_eq!(rt; told.as_str(), "ended <p>3f5</p>");
-    Ok(())
-}
-
-#[test]
-fn copies_of_a_tape_and_of_a_run_are_like_them(rt: HostRuntime) -> Result<(), Fail> {
-    let script = script(rt.alloc(), READS)?;
-    let tape = recorded_tape(rt.alloc(), &script)?.try_clone(rt.alloc())?;
-    let run = rerun(rt.alloc(), &script, &tape)?.try_clone(rt.alloc())?;
-    let told = end_told(rt.alloc(), &run.end)?;
-    assert_eq!(rt; told.as_str(), "ended <p>3f5</p>");
-    let told = effects_told(rt.alloc(), run.effects.as_slice())?;
+    let told = effects_told(alloc, run.effects.as_slice())?;
     assert_eq!(rt; told.as_str(), "read 0 5;");
     Ok(())
 }
@@ -442,8 +438,7 @@ fn a_list_of_turns_nests_200_deep_at_most(rt: HostRuntime) -> Result<(), Fail> {
     for (depth, wanted) in [(199, "ended x"), (200, "Deep")] {
         let mut answers = Vec::new(rt.alloc());
         answers.push(nested(rt.alloc(), depth)?)?;
-        let tape = tape(rt.alloc(), &script, answers, FUEL)?;
-        let run = rerun(rt.alloc(), &script, &tape)?;
+        let run = run_over(rt.alloc(), &script, answers, FUEL)?;
         assert_eq!(rt; end_told(rt.alloc(), &run.end)?.as_str(), wanted);
     }
     Ok(())

@@ -47,9 +47,7 @@ pub(crate) fn segment_of(alloc: Global, setup: &Setup, ticket: &Ticket, fuel: u6
     ensures { IsRunIfAny (scripts_of setup.now) fuel ticket.now result }
 {
     let named = setup.get(ticket.script)?;
-    let cells = ticket.cells.try_clone(alloc).ok()?;
-    let tape = ticket.tape(alloc, cells, fuel).ok()?;
-    rerun(alloc, &named.script, &tape).ok()
+    rerun(alloc, &named.script, &ticket.tape(&ticket.cells, fuel)).ok()
 }
 
 // The ticket that a worker holds, which it holds no longer.

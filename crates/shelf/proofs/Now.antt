@@ -5,7 +5,7 @@ use Rattle.script_nodes.specs.Setup.{Named, Script}
 use Rattle.page_names.specs.Names.{start, page}
 use Rattle.page_names.specs.declared.names.PageName.{PageName}
 use Rattle.instance_cells.specs.Cells.{Effect, Holds, AreOn}
-use Rattle.plain_rerun.specs.Views.{answer_of}
+use Rattle.segments.specs.Views.{answer_of}
 use Rattle.replay_spec.specs.Tape.{Reads, recorded, present, Tape}
 use Rattle.replay_spec.specs.Eval.{Segment, run}
 use Rattle.replay_spec.specs.Book.{Page, Instance, Book, instance_at}

@@ -8,7 +8,7 @@ use Rattle.script_nodes.specs.Setup.{Named}
 use Rattle.script_nodes.specs.declared.setup.Setup.{Setup}
 use Rattle.page_names.specs.Views.{target_of}
 use Rattle.page_names.specs.declared.names.Target.{Target}
-use Rattle.plain_rerun.specs.declared.ends.Rerun.{Rerun}
+use Rattle.segments.specs.declared.ends.Rerun.{Rerun}
 use Rattle.replay_spec.specs.Book as spec
 use Rattle.replay_spec.specs.Rules as spec_rules
 use Rattle.replay_spec.specs.Step as step

@@ -8,8 +8,8 @@ use Rattle.page_names.specs.Names.{Destination, start, page}
 use Rattle.page_names.specs.Views.{target_of}
 use Rattle.instance_cells.specs.Cells.{Effect, Holds}
 use Rattle.instance_cells.specs.Views.{effect_of}
-use Rattle.plain_rerun.specs.declared.ends.Rerun.{Rerun}
-use Rattle.plain_rerun.specs.Views.{segment_of}
+use Rattle.segments.specs.declared.ends.Rerun.{Rerun}
+use Rattle.segments.specs.Views.{segment_of}
 use Rattle.replay_spec.specs.Tape.{present}
 use Rattle.replay_spec.specs.Eval.{Segment, run}
 use Rattle.replay_spec.specs.Book as spec

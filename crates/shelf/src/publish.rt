@@ -16,7 +16,7 @@ use crate::second::segment_now;
 use crate::shelf::Shelf;
 use instance_book::{Book, Prepared, Ticket};
 use page_names::Target;
-use plain_rerun::Rerun;
+use segments::Rerun;
 use script_nodes::Setup;
 use script_value::{Reply, Value};
 use std::alloc::Global;

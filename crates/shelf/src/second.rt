@@ -8,9 +8,10 @@ ghost use Rattle.shelf.specs.Views.{HaveTheirCells, IsRunOf, IsSegmentNow, FitsN
 
 use instance_book::{Book, Ticket, admitted_stand};
 use page_names::Target;
-use plain_rerun::{Rerun, rerun};
+use plain_rerun::rerun;
 use replay_spec::{effects_are_on_cells, effects_hold_run_same};
 use script_nodes::Setup;
+use segments::Rerun;
 use std::alloc::{AllocError, Global};
 
 /// What the segment of a ticket comes to over the cells of now: the first run's result where its effects hold over them, and
@@ -48,6 +49,5 @@ pub fn segment_now(
         effects_hold_run_same();
         return Ok(first);
     }
-    let tape = ticket.tape(alloc, cells.try_clone(alloc)?, fuel)?;
-    rerun(alloc, &named.script, &tape)
+    rerun(alloc, &named.script, &ticket.tape(cells, fuel))
 }

@@ -4,7 +4,7 @@ use Rattle.page_names.specs.Views.{target_of, name_of}
 use Rattle.page_names.specs.declared.names.Target.{Target}
 use Rattle.instance_cells.specs.Cells.{AreOn, Holds}
 use Rattle.instance_cells.specs.Views.{effect_of}
-use Rattle.plain_rerun.specs.Views.{segment_of, tape_of}
+use Rattle.segments.specs.Views.{segment_of, tape_of}
 use Rattle.replay_spec.specs.Tape.{present, Tape}
 use Rattle.replay_spec.specs.Admission.{admit}
 use Rattle.instance_book.specs.Views.{book_of}

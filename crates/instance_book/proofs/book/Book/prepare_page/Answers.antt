@@ -1,7 +1,7 @@
 use Rattle.std.proofs.Common.{◌≡◌, ap, sym, subst, ℕ, ◌+◌, map, length, Some, IfOk, nat_le, false, arith}
 use Rattle.std.proofs.lemmas.Bool.Decides.{nat_tests}
 use Rattle.instance_cells.specs.Views.{effect_of}
-use Rattle.plain_rerun.specs.Views.{outcome_of, segment_of}
+use Rattle.segments.specs.Views.{outcome_of, segment_of}
 use Rattle.replay_spec.specs.Book.{Instance, instance_at}
 use Rattle.replay_spec.specs.Change.{done, shown_by}
 use Rattle.instance_book.specs.Views.{book_of, instance_of, instances_of}

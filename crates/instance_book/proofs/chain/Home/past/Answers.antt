@@ -1,6 +1,6 @@
 use Rattle.std.proofs.Common.{◌≡◌, ◌∙◌, ◌++◌, ◌∷◌, [], ap, sym, refl, map, reverse, arith, List}
 use Rattle.std.proofs.lemmas.List.{append-nil, map-append, nil_from_length}
-use Rattle.plain_rerun.specs.Views.{answer_of}
+use Rattle.segments.specs.Views.{answer_of}
 use Rattle.replay_spec.specs.Tape.{Answer}
 use Rattle.replay_spec.specs.Next.{answered}
 use Rattle.instance_book.specs.Chains.{home_of, link_of}

@@ -1,5 +1,5 @@
 use Rattle.std.proofs.Common.{◌≡◌, ◌++◌, map, reverse, vec_len}
-use Rattle.plain_rerun.specs.Views.{answer_of}
+use Rattle.segments.specs.Views.{answer_of}
 use Rattle.replay_spec.specs.Next.{answered}
 use Rattle.instance_book.specs.Chains.{home_of, link_of}
 use Rattle.instance_book.proofs.chain.Home.past.Given as goal

@@ -1,7 +1,7 @@
 use Rattle.std.proofs.Common.{refl}
 use Rattle.script_nodes.specs.Views.{scripts_of}
 use Rattle.page_names.specs.Views.{target_of}
-use Rattle.plain_rerun.specs.Views.{segment_of}
+use Rattle.segments.specs.Views.{segment_of}
 use Rattle.replay_spec.specs.Admission.{admit}
 use Rattle.instance_book.specs.Views.{book_of}
 use Rattle.shelf.specs.Events.{decision_of}

@@ -5,10 +5,6 @@ use Rattle.script_value.specs.declared.value.Value.{Value}
 use Rattle.script_value.specs.declared.value.Value.TheVariants as value
 use Rattle.script_nodes.specs.declared.script.Node.{Node}
 use Rattle.script_nodes.specs.declared.script.Node.TheVariants as node
-use Rattle.core_syntax.specs.declared.heads.LastPage.{LastPage}
-use Rattle.core_syntax.specs.declared.heads.LastPage.TheVariants.{Finish, Back}
-use Rattle.core_syntax.specs.declared.heads.Store.{Store}
-use Rattle.core_syntax.specs.declared.heads.Store.TheVariants.{Shadow, Set, Add}
 use Rattle.script_nodes.specs.Core.{Core, Cores, lit, var, bind, branch, repeat, prim, seq, and_all, or_any, send, finish, back, isolate, cell_ref, cell_shadow, inst_ref, inst_set, inst_add, no_cores, core, count, count_all}
 
 -- the value that a tree of values is
@@ -52,13 +48,3 @@ abbrev mutual
   pub layout_all : ℕ → Cores → List Node
   layout_all n no_cores = []
   layout_all n (core c cs) = layout n c ++ layout_all (n + count c) cs
-
--- the nodes that send a last page, and that write a cell
-abbrev pub last_node : LastPage → ℕ → Node
-last_node Finish b = node.Finish b
-last_node Back b = node.Back b
-
-abbrev pub store_node : Store → ℕ → ℕ → Node
-store_node Shadow c e = node.CellShadow c e
-store_node Set c e = node.InstSet c e
-store_node Add c e = node.InstAdd c e

@@ -6,23 +6,23 @@ use Rattle.script_value.specs.Views.{meaning}
 use Rattle.script_nodes.specs.declared.script.Node.{Node}
 use Rattle.script_nodes.specs.Core.{Core, Cores, lit, var, bind, branch, repeat, prim, seq, and_all, or_any, send, finish, back, isolate, cell_ref, cell_shadow, inst_ref, inst_set, inst_add, no_cores, core, cores_of, count, count_all}
 use Rattle.script_nodes.specs.Arena.{tree_within, tree_at}
-use Rattle.core_syntax.specs.Layout.{layout, layout_all, starts, value_from}
-use Rattle.core_syntax.specs.Layouts.{length-layout, length-layout_all, count_pos}
+use Rattle.script_nodes.specs.Layout.{layout, layout_all, starts, value_from}
+use Rattle.script_nodes.specs.Layouts.{length-layout, length-layout_all, count_pos}
 
 slice_get_seam : (before : List Node) (x : Node) (xs : List Node) → slice_get (before ++ x ∷ xs) (length before) ≡ Some x
 slice_get_seam [] x xs = refl
 slice_get_seam (y ∷ before) x xs = slice_get_seam before x xs
 
 -- these nodes stand from place n on
-abbrev StandAt : List Node → ℕ → List Node → Type 0
+abbrev pub StandAt : List Node → ℕ → List Node → Type 0
 StandAt nodes n [] = ⊤
 StandAt nodes n (x ∷ xs) = (slice_get nodes n ≡ Some x) × StandAt nodes (n + 1) xs
 
-front : (nodes : List Node) (n : ℕ) (xs ys : List Node) → StandAt nodes n (xs ++ ys) → StandAt nodes n xs
+pub front : (nodes : List Node) (n : ℕ) (xs ys : List Node) → StandAt nodes n (xs ++ ys) → StandAt nodes n xs
 front nodes n [] ys h = tt
 front nodes n (x ∷ xs) ys h = (h.0, front nodes (n + 1) xs ys h.1)
 
-behind : (nodes : List Node) (n m : ℕ) (xs ys : List Node) → n + length xs ≡ m → StandAt nodes n (xs ++ ys) → StandAt nodes m ys
+pub behind : (nodes : List Node) (n m : ℕ) (xs ys : List Node) → n + length xs ≡ m → StandAt nodes n (xs ++ ys) → StandAt nodes m ys
 behind nodes n m [] ys e h = let f : n ≡ m = omega arith in rw (← f) h
 behind nodes n m (x ∷ xs) ys e h = behind nodes (n + 1) m xs ys (omega arith) h.1
 
@@ -40,7 +40,7 @@ meaning-value_from (list vs) = ap list (vals_of-items_of vs)
 mutual
   unfolding tree_within
 
-  reads : (nodes : List Node) (bound n : ℕ) (c : Core) → StandAt nodes n (layout n c) → count c ≤ bound → tree_within bound nodes n ≡ c
+  pub reads : (nodes : List Node) (bound n : ℕ) (c : Core) → StandAt nodes n (layout n c) → count c ≤ bound → tree_within bound nodes n ≡ c
   reads nodes zero n c s h = absurd (omega (arith, count_pos c))
   reads nodes (suc b) n (lit v) s h = rw s.0 (ap lit (meaning-value_from v))
   reads nodes (suc b) n (var k) s h = rw s.0 refl
@@ -81,7 +81,7 @@ mutual
       let rest = reads_all nodes b (n + count c) cs (behind nodes n _ (layout n c) _ (omega (arith, length-layout n c)) s) (omega arith) in
       cc
 
-at_end : (before xs nodes : List Node) → nodes ≡ before ++ xs → StandAt nodes (length before) xs
+pub at_end : (before xs nodes : List Node) → nodes ≡ before ++ xs → StandAt nodes (length before) xs
 at_end before [] nodes e = tt
 at_end before (x ∷ xs) nodes e =
     let here : slice_get nodes (length before) ≡ Some x = rw e (slice_get_seam before x xs) in

@@ -1,7 +1,7 @@
 -- Lengths of layouts.
 use Rattle.std.proofs.Common.{◌≡◌, ℕ, ◌+◌, ◌<◌, length, refl, arith, length-append}
 use Rattle.script_nodes.specs.Core.{Core, Cores, lit, var, bind, branch, repeat, prim, seq, and_all, or_any, send, finish, back, isolate, cell_ref, cell_shadow, inst_ref, inst_set, inst_add, no_cores, core, count, count_all}
-use Rattle.core_syntax.specs.Layout.{layout, layout_all}
+use Rattle.script_nodes.specs.Layout.{layout, layout_all}
 
 mutual
   pub length-layout : (n : ℕ) (c : Core) → length (layout n c) ≡ count c
