@@ -1,5 +1,5 @@
 -- A link that was answered.
-use Rattle.std.proofs.Common.{◌≡◌, ℕ, List, Option, Some, Result, Ok, Err, OnOk, sym, subst, is_ok, option_map}
+use Rattle.std.proofs.Common.{◌≡◌, ◌∙◌, ℕ, List, Option, Some, Result, Ok, Err, OnOk, refl, sym, ap, subst, is_ok, option_map}
 use Rattle.std.specs.Io.KnownBytes.{Appends}
 use Rattle.web_outside.specs.Causes.{HasCause}
 use Rattle.web_outside.specs.View.{SourceView, SinkView, LinkView}
@@ -45,6 +45,9 @@ pub of_link : (S : LinkView → LinkView → Type 0) (link read wrote : LinkView
     → i ≡ link.input → read ≡ record link { input = i' } → o ≡ read.output → wrote ≡ record read { output = o' }
     → S (record { input = i; output = o }) (record { input = i'; output = o' }) → S link wrote
 of_link S link read wrote i i' o o' a b c d s =
-    let before : record { input = i; output = o } ≡ link = cc in
-    let after : record { input = i'; output = o' } ≡ wrote = cc in
+    let same : o ≡ link.output = c ∙ ap (λ (r : LinkView). r.output) b in
+    let before : record { input = i; output = o } ≡ link =
+    subst (λ (x : SourceView). record { input = x; output = o } ≡ link) (sym a) (subst (λ (y : SinkView). record { input = link.input; output = y } ≡ link) (sym same) refl) in
+    let after : record { input = i'; output = o' } ≡ wrote =
+    subst (λ (x : SourceView). record { input = x; output = o' } ≡ wrote) (ap (λ (r : LinkView). r.input) b) (sym d) in
     subst (λ w. S link w) after (subst (λ w. S w (record { input = i'; output = o' })) before s)
