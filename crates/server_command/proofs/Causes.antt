@@ -11,20 +11,22 @@ use Rattle.web_outside.specs.declared.source.InputFault.{InputFault}
 use Rattle.web_outside.specs.declared.source.InputFault.TheVariants as faults
 use Rattle.web_outside.proofs.Writes.{appends_none}
 use Rattle.command_words.specs.App.{app}
-use Rattle.command_words.specs.Plain.{Asked, Serving, asked_by, check, play, serve, IsPlain}
+use Rattle.command_words.specs.Plain.{IsPlain}
+use Rattle.command_words.specs.declared.Command.TheVariants.{Check, Play, Serve}
+use Rattle.command_words.specs.declared.Service.{Service}
 use Rattle.command_words.specs.declared.Command.{Command}
 use Rattle.command_words.specs.Reads.{asked_from}
 use Rattle.command_words.proofs.PlainWords.{plain_means}
-use Rattle.setup_reader.specs.Setup.{Parsed}
+use Rattle.setup_reader.specs.Setup.{Parsed, Fault}
 use Rattle.setup_reader.proofs.Sections.{setup_found}
 use Rattle.replay_spec.specs.Step.{Fate}
 use Rattle.play_steps.specs.Transcript.{End, done, bad_line}
 use Rattle.server_command.specs.declared.command.Status.{Status}
 use Rattle.server_command.specs.declared.command.Status.TheVariants as status
 use Rattle.server_command.specs.Laws.{TranscriptsAreRuns}
-use Rattle.server_command.specs.Output.{output_of, ending_of, ended, served, written, run_of, Answers, nothing}
-use Rattle.server_command.specs.Command.{Met, ReadToEnd, Whole, Paused, Leaves, Outputs, Comes, ComesServing, ComesTo, Came, Refuses, Explains, Explained, EndsAs, Ends, EndsWell, IsLawful, ServesWell, asked_unless, asked_in, code_of, due, due_to, unread_line, unread_status}
-use Rattle.server_command.specs.Serving.{CanCount, HaveRisen, LeavesInput}
+use Rattle.server_command.specs.Output.{output_of, counted, ending_of, ended, served, written, run_of, Answers, nothing}
+use Rattle.server_command.specs.Command.{Met, ReadToEnd, Whole, Paused, Leaves, Outputs, Comes, ComesServing, ComesTo, Came, Refuses, Explains, Explained, IsUnread, EndsAs, Ends, EndsWell, IsLawful, ServesWell, asked_unless, asked_in, code_of, due, due_to, unread_line, unread_status}
+use Rattle.server_command.specs.Serving.{Serves, HaveRisen, LeavesInput}
 use Rattle.setup_reader.specs.declared.setup.Ending.TheVariants.{Input}
 use Rattle.setup_reader.specs.Setup.{setup_of}
 use Rattle.server_command.proofs.Endings.{whole_input, always, tells}
@@ -34,7 +36,7 @@ read_to_end : (met : Met) (bytes : List ℕ) → Consumes met.input met.unread b
 read_to_end met bytes read end short = record { end = end; short = whole_input met.input met.unread bytes (λ b. length b ≤ 16777216) read end short }
 
 -- what was done with the whole input explains the status
-comes : (asked : Asked) (s : Status) (met : Met) (bytes : List ℕ) (fates : List Fate) → Consumes met.input met.unread bytes → IsAtEnd met.unread → length bytes ≤ 16777216
+comes : (asked : Command) (s : Status) (met : Met) (bytes : List ℕ) (fates : List Fate) → Consumes met.input met.unread bytes → IsAtEnd met.unread → length bytes ≤ 16777216
     → Leaves asked bytes s fates met.output → Comes asked fates s met
 comes asked status.Done met bytes fates read end short p = (read_to_end met bytes read end short, whole_input _ _ _ _ read end p)
 comes asked status.Usage met bytes fates read end short p = absurd p
@@ -47,81 +49,102 @@ comes asked status.Long met bytes fates read end short p = absurd p
 comes asked status.Door met bytes fates read end short p = absurd p
 comes asked status.Key met bytes fates read end short p = absurd p
 
-pub came : (asked : Asked) (s : Status) (met : Met) (bytes : List ℕ) → Consumes met.input met.unread bytes → IsAtEnd met.unread → length bytes ≤ 16777216
+pub came : (asked : Command) (s : Status) (met : Met) (bytes : List ℕ) → Consumes met.input met.unread bytes → IsAtEnd met.unread → length bytes ≤ 16777216
     → Outputs asked bytes s met.output → Came asked s met
 came asked s met bytes read end short p = (p.0, comes asked s met bytes p.0 read end short p.1)
 
 -- memory ran out before the whole input was there
-pub memory_came : (asked : Asked) (s : Status) (met : Met) → s ≡ status.Memory
-    → AppendsUnlessFault met.output.held met.output.holds (codes "error 10 memory\n") met.output.before met.output.after
-    → ConsumesSome met.input met.unread → Came asked s met
-memory_came asked s met e p some =
+memory_came : (asked : Command) (met : Met) → IsUnread faults.Memory met → Came asked status.Memory met
+memory_came asked met p =
     let paused : Paused asked [] (codes "error 10 memory\n") met =
-    always met.input _ (λ bytes. ([], nothing, tells met.output.held met.output.held met.output.holds [] _ met.output.before met.output.after (appends_none met.output.held) p)) in
-    subst (λ x. Came asked x met) (sym e) ([], (paused, some))
+    always met.input _ (λ bytes. ([], nothing, tells met.output.held met.output.held met.output.holds [] _ met.output.before met.output.after (appends_none met.output.held) p.0)) in
+    ([], (paused, p.1))
 
 -- what holds where the input was not read for this fault
-pub unread : {A : Type 0} (r : Result A InputFault) (fault : InputFault) (P : Type 0) → r ≡ Err fault → (IsErrOf r fault → P) → P
+unread : {A : Type 0} (r : Result A InputFault) (fault : InputFault) (P : Type 0) → r ≡ Err fault → (IsErrOf r fault → P) → P
 unread r fault P is h = h (subst (λ x. IsErrOf x fault) (sym is) refl)
 
-pub unread_came : {A : Type 0} (asked : Asked) (s : Status) (met : Met) (r : Result A InputFault) (fault : InputFault) → r ≡ Err fault → s ≡ unread_status fault
+pub unread_by : {A : Type 0} (met : Met) (r : Result A InputFault) (fault : InputFault) → r ≡ Err fault
     → AppendsUnlessFault met.output.held met.output.holds (unread_line fault) met.output.before met.output.after
     → (IsErrOf r faults.Long → ReadsPast met.input met.unread 16777216) → (IsErrOf r faults.Failed → Rose met.input_before met.input_after)
-    → (IsErrOf r faults.Failed → ReadsUpTo met.input met.unread 16777216) → ConsumesSome met.input met.unread → Came asked s met
-unread_came asked s met r faults.Failed is e line long failed short some =
-    subst (λ x. Came asked x met) (sym e) ([], (unread r faults.Failed _ is failed, line, unread r faults.Failed _ is short))
-unread_came asked s met r faults.Memory is e line long failed short some = memory_came asked s met e line some
-unread_came asked s met r faults.Long is e line long failed short some =
-    subst (λ x. Came asked x met) (sym e) ([], (unread r faults.Long _ is long, line))
+    → (IsErrOf r faults.Failed → ReadsUpTo met.input met.unread 16777216) → ConsumesSome met.input met.unread → IsUnread fault met
+unread_by met r faults.Failed is line long failed short some = (unread r faults.Failed _ is failed, line, unread r faults.Failed _ is short)
+unread_by met r faults.Memory is line long failed short some = (line, some)
+unread_by met r faults.Long is line long failed short some = (unread r faults.Long _ is long, line)
 
--- each fault is one of the three
-pub one_fault : (f : InputFault) → (f ≡ faults.Failed) ⊎ ((f ≡ faults.Memory) ⊎ (f ≡ faults.Long))
-one_fault faults.Failed = inl refl
-one_fault faults.Memory = inr (inl refl)
-one_fault faults.Long = inr (inr refl)
+came_unread : (asked : Command) (met : Met) (fault : InputFault) → IsUnread fault met → Came asked (unread_status fault) met
+came_unread asked met faults.Failed p = ([], p)
+came_unread asked met faults.Memory p = memory_came asked met p
+came_unread asked met faults.Long p = ([], p)
 
--- its line was told
-pub line_told : (held holds : Option (List ℕ)) (before after : ℕ) (f k : InputFault) → f ≡ k → AppendsUnlessFault held holds (unread_line f) before after
-    → AppendsUnlessFault held holds (unread_line k) before after
-line_told held holds before after f k is told = subst (λ x. AppendsUnlessFault held holds (unread_line x) before after) is told
+pub unread_came : (asked : Command) (s : Status) (met : Met) (fault : InputFault) → s ≡ unread_status fault → IsUnread fault met → Came asked s met
+unread_came asked s met fault e p = subst (λ x. Came asked x met) (sym e) (came_unread asked met fault p)
+
+served_unread : (serves : Serves) (v : Service) (met : Met) (fault : InputFault) → IsUnread fault met → serves.unopened
+    → ComesServing serves v (unread_status fault) met
+served_unread serves v met faults.Failed p none = (p, none)
+served_unread serves v met faults.Memory p none = (p, inl none)
+served_unread serves v met faults.Long p none = (p, none)
+
+pub unread_served : (serves : Serves) (v : Service) (s : Status) (met : Met) (fault : InputFault) → s ≡ unread_status fault → IsUnread fault met
+    → serves.unopened → ComesServing serves v s met
+unread_served serves v s met fault e p none = subst (λ x. ComesServing serves v x met) (sym e) (served_unread serves v met fault p none)
+
+-- what was done with the whole input explains the status of a serving
+pub served_came : (serves : Serves) (v : Service) (s : Status) (met : Met) (bytes : List ℕ) → Consumes met.input met.unread bytes → IsAtEnd met.unread
+    → length bytes ≤ 16777216 → LeavesInput serves v bytes s met.output met.door met.seeds → ComesServing serves v s met
+served_came serves v status.Done met bytes read end short p = (read_to_end met bytes read end short, whole_input _ _ _ _ read end p)
+served_came serves v status.Usage met bytes read end short p = absurd p
+served_came serves v status.Setup met bytes read end short p = (read_to_end met bytes read end short, whole_input _ _ _ _ read end p)
+served_came serves v status.Line met bytes read end short p = absurd p
+served_came serves v status.Read met bytes read end short p = absurd p
+served_came serves v status.Write met bytes read end short p =
+    ((read_to_end met bytes read end short, whole_input _ _ _ _ read end p), p.2.2.0)
+served_came serves v status.Memory met bytes read end short p =
+    ((p.0, (bytes, read)), inr (read_to_end met bytes read end short, whole_input _ _ _ _ read end p))
+served_came serves v status.Long met bytes read end short p = absurd p
+served_came serves v status.Door met bytes read end short p =
+    ((read_to_end met bytes read end short, whole_input _ _ _ _ read end p), p.2.0)
+served_came serves v status.Key met bytes read end short p =
+    ((read_to_end met bytes read end short, whole_input _ _ _ _ read end p), p.2.0)
 
 -- ---- words
 
-pub asks : (words : List (List ℕ)) (asked : Asked) → faults_in app words ≡ [] → asked_from (subcommand_of app words) ≡ Some asked → asked_in words ≡ Some asked
+pub asks : (words : List (List ℕ)) (asked : Command) → faults_in app words ≡ [] → asked_from (subcommand_of app words) ≡ Some asked → asked_in words ≡ Some asked
 asks words asked fine found = ap (λ fs. asked_unless fs (asked_from (subcommand_of app words))) fine ∙ found
 
 -- what words ask for that were read
 pub asks_if : {E : Type 0} (words : List (List ℕ)) (r : Result Command E) (k : Command) → r ≡ Ok k → IfOk r (λ _. faults_in app words ≡ [])
-    → IfOk r (λ x. asked_from (subcommand_of app words) ≡ Some (asked_by x)) → asked_in words ≡ Some (asked_by k)
+    → IfOk r (λ x. asked_from (subcommand_of app words) ≡ Some x) → asked_in words ≡ Some k
 asks_if words r k is fine found =
-    asks words (asked_by k) (subst (λ x. IfOk x (λ _. faults_in app words ≡ [])) is fine)
-    (subst (λ x. IfOk x (λ y. asked_from (subcommand_of app words) ≡ Some (asked_by y))) is found)
+    asks words k (subst (λ x. IfOk x (λ _. faults_in app words ≡ [])) is fine)
+    (subst (λ x. IfOk x (λ y. asked_from (subcommand_of app words) ≡ Some y)) is found)
 
-none_unless : (faults : List ErrorKind) (asked : Option Asked) → faults ≢ [] → asked_unless faults asked ≡ None
+none_unless : (faults : List ErrorKind) (asked : Option Command) → faults ≢ [] → asked_unless faults asked ≡ None
 none_unless [] asked some = absurd (some refl)
 none_unless (f ∷ fs) asked some = refl
 
 pub asks_nothing : (words : List (List ℕ)) → faults_in app words ≢ [] → asked_in words ≡ None
 asks_nothing words some = none_unless (faults_in app words) _ some
 
-pub plain_asks : (words : List (List ℕ)) (asked : Asked) → IsPlain words asked → asked_in words ≡ Some asked
+pub plain_asks : (words : List (List ℕ)) (asked : Command) → IsPlain words asked → asked_in words ≡ Some asked
 plain_asks words asked p = let m = plain_means words asked p in asks words asked m.0 m.1
 
 -- words that ask for something are not told that they are no command
-not_refused : (o : Option Asked) (asked : Asked) (met : Met) → o ≡ Some asked → Refuses o status.Usage met → ⊥
+not_refused : (o : Option Command) (asked : Command) (met : Met) → o ≡ Some asked → Refuses o status.Usage met → ⊥
 not_refused o asked met is h = let none : None ≡ Some asked = sym h.0 ∙ is in cc
 
-never_usage : (can : CanCount) (asked : Asked) (fates : List Fate) (met : Met) → ComesTo can asked fates status.Usage met → ⊥
-never_usage can check fates met h = h
-never_usage can (play c) fates met h = h
-never_usage can (serve v) fates met h = h
+never_usage : (serves : Serves) (asked : Command) (fates : List Fate) (met : Met) → ComesTo serves asked fates status.Usage met → ⊥
+never_usage serves Check fates met h = h
+never_usage serves (Play c) fates met h = h
+never_usage serves (Serve v) fates met h = h
 
-refuted : (can : CanCount) (met : Met) (asked : Asked) (fates : List Fate) → asked_in met.words ≡ Some asked → Explains can status.Usage fates met → ⊥
-refuted can met asked fates is (inl h) = not_refused (asked_in met.words) asked met is h
-refuted can met asked fates is (inr h) = never_usage can h.0 fates met h.1.1
+refuted : (serves : Serves) (met : Met) (asked : Command) (fates : List Fate) → asked_in met.words ≡ Some asked → Explains serves status.Usage fates met → ⊥
+refuted serves met asked fates is (inl h) = not_refused (asked_in met.words) asked met is h
+refuted serves met asked fates is (inr h) = never_usage serves h.0 fates met h.1.1
 
-pub understood : (can : CanCount) (s : Status) (met : Met) (asked : Asked) → asked_in met.words ≡ Some asked → Explained can s met → s ≢ status.Usage
-understood can s met asked is h e = refuted can met asked h.0 is (subst (λ x. Explains can x h.0 met) e h.1)
+pub understood : (serves : Serves) (s : Status) (met : Met) (asked : Command) → asked_in met.words ≡ Some asked → Explained serves s met → s ≢ status.Usage
+understood serves s met asked is h e = refuted serves met asked h.0 is (subst (λ x. Explains serves x h.0 met) e h.1)
 
 -- ---- the status that is due
 
@@ -139,20 +162,20 @@ consumed_length (Some xs) (Some ys) bytes read e c =
 past_length : (old new : Option (List ℕ)) (bytes : List ℕ) (limit : ℕ) → old ≡ Some bytes → ReadsPast old new limit → limit < length bytes
 past_length old new bytes limit e past = omega (arith, past.past, consumed_length old new bytes past.read e past.consumed)
 
-due_short : (asked : Asked) (bytes : List ℕ) (fates : List Fate) → length bytes ≤ 16777216 → due_to (Some asked) bytes fates ≡ (output_of asked bytes fates).status
+due_short : (asked : Command) (bytes : List ℕ) (fates : List Fate) → length bytes ≤ 16777216 → due_to (Some asked) bytes fates ≡ (output_of asked bytes fates).status
 due_short asked bytes fates short = rw (le-leb (length bytes) 16777216 short) refl
 
-due_long : (asked : Asked) (bytes : List ℕ) (fates : List Fate) → 16777216 < length bytes → due_to (Some asked) bytes fates ≡ 11
+due_long : (asked : Command) (bytes : List ℕ) (fates : List Fate) → 16777216 < length bytes → due_to (Some asked) bytes fates ≡ 11
 due_long asked bytes fates long = rw (lt-leb (length bytes) 16777216 long) refl
 
-whole : (asked : Asked) (met : Met) (bytes : List ℕ) (fates : List Fate) (n : ℕ) → met.input ≡ Some bytes → asked_in met.words ≡ Some asked
+whole : (asked : Command) (met : Met) (bytes : List ℕ) (fates : List Fate) (n : ℕ) → met.input ≡ Some bytes → asked_in met.words ≡ Some asked
     → ReadToEnd met → Whole asked fates n met → n ≡ due met.words bytes fates
 whole asked met bytes fates n e is read h =
     let answers = known (λ b. Answers (output_of asked b fates) n met.output) met.input bytes e h in
     let short = known (λ b. length b ≤ 16777216) met.input bytes e read.short in
     sym (ap (λ a. due_to a bytes fates) is ∙ due_short asked bytes fates short ∙ answers.0)
 
-asked_exact : (asked : Asked) (s : Status) (met : Met) (bytes : List ℕ) (fates : List Fate) → met.input ≡ Some bytes → asked_in met.words ≡ Some asked
+asked_exact : (asked : Command) (s : Status) (met : Met) (bytes : List ℕ) (fates : List Fate) → met.input ≡ Some bytes → asked_in met.words ≡ Some asked
     → Comes asked fates s met → EndsAs (code_of s) (due met.words bytes fates) met
 asked_exact asked status.Done met bytes fates e is h = inl (whole asked met bytes fates 0 e is h.0 h.1)
 asked_exact asked status.Usage met bytes fates e is h = absurd h
@@ -167,38 +190,38 @@ asked_exact asked status.Long met bytes fates e is h =
     inl (sym (ap (λ a. due_to a bytes fates) is ∙ due_long asked bytes fates (past_length met.input met.unread bytes 16777216 e h.0)))
 
 -- what is known of the input that was served
-input_left : (can : CanCount) (v : Serving) (s : Status) (met : Met) (bytes : List ℕ) → met.input ≡ Some bytes → IfSome met.input (λ b. LeavesInput (can v) b s met.output met.door met.seeds)
-    → LeavesInput (can v) bytes s met.output met.door met.seeds
-input_left can v s met bytes e h = known (λ b. LeavesInput (can v) b s met.output met.door met.seeds) met.input bytes e h
+input_left : (serves : Serves) (v : Service) (s : Status) (met : Met) (bytes : List ℕ) → met.input ≡ Some bytes → IfSome met.input (λ b. LeavesInput serves v b s met.output met.door met.seeds)
+    → LeavesInput serves v bytes s met.output met.door met.seeds
+input_left serves v s met bytes e h = known (λ b. LeavesInput serves v b s met.output met.door met.seeds) met.input bytes e h
 
-served_due : (v : Serving) (met : Met) (bytes : List ℕ) (fates : List Fate) (n : ℕ) → met.input ≡ Some bytes → asked_in met.words ≡ Some (serve v) → ReadToEnd met
+served_due : (v : Service) (met : Met) (bytes : List ℕ) (fates : List Fate) (n : ℕ) → met.input ≡ Some bytes → asked_in met.words ≡ Some (Serve v) → ReadToEnd met
     → (served (setup_of Input bytes)).status ≡ n → n ≡ due met.words bytes fates
 served_due v met bytes fates n e is read h =
     let short = known (λ b. length b ≤ 16777216) met.input bytes e read.short in
-    sym (ap (λ a. due_to a bytes fates) is ∙ due_short (serve v) bytes fates short ∙ h)
+    sym (ap (λ a. due_to a bytes fates) is ∙ due_short (Serve v) bytes fates short ∙ h)
 
-serving_exact : (can : CanCount) (v : Serving) (s : Status) (met : Met) (bytes : List ℕ) (fates : List Fate) → met.input ≡ Some bytes → asked_in met.words ≡ Some (serve v)
-    → ComesServing can v s met → EndsAs (code_of s) (due met.words bytes fates) met
-serving_exact can v status.Done met bytes fates e is h =
-    let left = input_left can v status.Done met bytes e h.1 in
+serving_exact : (serves : Serves) (v : Service) (s : Status) (met : Met) (bytes : List ℕ) (fates : List Fate) → met.input ≡ Some bytes → asked_in met.words ≡ Some (Serve v)
+    → ComesServing serves v s met → EndsAs (code_of s) (due met.words bytes fates) met
+serving_exact serves v status.Done met bytes fates e is h =
+    let left = input_left serves v status.Done met bytes e h.1 in
     inl (served_due v met bytes fates 0 e is h.0 (ap (λ r. (served r).status) left.1))
-serving_exact can v status.Usage met bytes fates e is h = absurd h
-serving_exact can v status.Setup met bytes fates e is h =
-    let left = input_left can v status.Setup met bytes e h.1 in inl (served_due v met bytes fates 3 e is h.0 left.0)
-serving_exact can v status.Line met bytes fates e is h = absurd h
-serving_exact can v status.Read met bytes fates e is h = inr (inl (refl, h.0))
-serving_exact can v status.Write met bytes fates e is h = inr (inr (inl (refl, h.1)))
-serving_exact can v status.Memory met bytes fates e is h = inr (inr (inr (inr (inr refl))))
-serving_exact can v status.Long met bytes fates e is h =
-    inl (sym (ap (λ a. due_to a bytes fates) is ∙ due_long (serve v) bytes fates (past_length met.input met.unread bytes 16777216 e h.0)))
-serving_exact can v status.Door met bytes fates e is h = inr (inr (inr (inl (refl, h.1))))
-serving_exact can v status.Key met bytes fates e is h = inr (inr (inr (inr (inl (refl, h.1)))))
+serving_exact serves v status.Usage met bytes fates e is h = absurd h
+serving_exact serves v status.Setup met bytes fates e is h =
+    let left = input_left serves v status.Setup met bytes e h.1 in inl (served_due v met bytes fates 3 e is h.0 left.0.0)
+serving_exact serves v status.Line met bytes fates e is h = absurd h
+serving_exact serves v status.Read met bytes fates e is h = inr (inl (refl, h.0.0))
+serving_exact serves v status.Write met bytes fates e is h = inr (inr (inl (refl, h.1)))
+serving_exact serves v status.Memory met bytes fates e is h = inr (inr (inr (inr (inr refl))))
+serving_exact serves v status.Long met bytes fates e is h =
+    inl (sym (ap (λ a. due_to a bytes fates) is ∙ due_long (Serve v) bytes fates (past_length met.input met.unread bytes 16777216 e h.0.0)))
+serving_exact serves v status.Door met bytes fates e is h = inr (inr (inr (inl (refl, h.1))))
+serving_exact serves v status.Key met bytes fates e is h = inr (inr (inr (inr (inl (refl, h.1)))))
 
-exact_to : (can : CanCount) (asked : Asked) (s : Status) (met : Met) (bytes : List ℕ) (fates : List Fate) → met.input ≡ Some bytes → asked_in met.words ≡ Some asked
-    → ComesTo can asked fates s met → EndsAs (code_of s) (due met.words bytes fates) met
-exact_to can check s met bytes fates e is h = asked_exact check s met bytes fates e is h
-exact_to can (play c) s met bytes fates e is h = asked_exact (play c) s met bytes fates e is h
-exact_to can (serve v) s met bytes fates e is h = serving_exact can v s met bytes fates e is h
+exact_to : (serves : Serves) (asked : Command) (s : Status) (met : Met) (bytes : List ℕ) (fates : List Fate) → met.input ≡ Some bytes → asked_in met.words ≡ Some asked
+    → ComesTo serves asked fates s met → EndsAs (code_of s) (due met.words bytes fates) met
+exact_to serves Check s met bytes fates e is h = asked_exact Check s met bytes fates e is h
+exact_to serves (Play c) s met bytes fates e is h = asked_exact (Play c) s met bytes fates e is h
+exact_to serves (Serve v) s met bytes fates e is h = serving_exact serves v s met bytes fates e is h
 
 refused_exact : (s : Status) (met : Met) (bytes : List ℕ) (fates : List Fate) → Refuses (asked_in met.words) s met → EndsAs (code_of s) (due met.words bytes fates) met
 refused_exact status.Done met bytes fates h = absurd h
@@ -212,23 +235,23 @@ refused_exact status.Door met bytes fates h = absurd h
 refused_exact status.Key met bytes fates h = absurd h
 refused_exact status.Long met bytes fates h = absurd h
 
-exact : (can : CanCount) (s : Status) (met : Met) (bytes : List ℕ) (fates : List Fate) → met.input ≡ Some bytes → Explains can s fates met → EndsAs (code_of s) (due met.words bytes fates) met
-exact can s met bytes fates e (inl h) = refused_exact s met bytes fates h
-exact can s met bytes fates e (inr h) = exact_to can h.0 s met bytes fates e h.1.0 h.1.1
+exact : (serves : Serves) (s : Status) (met : Met) (bytes : List ℕ) (fates : List Fate) → met.input ≡ Some bytes → Explains serves s fates met → EndsAs (code_of s) (due met.words bytes fates) met
+exact serves s met bytes fates e (inl h) = refused_exact s met bytes fates h
+exact serves s met bytes fates e (inr h) = exact_to serves h.0 s met bytes fates e h.1.0 h.1.1
 
-exact_if : (can : CanCount) (s : Status) (met : Met) (fates : List Fate) (o : Option (List ℕ)) → met.input ≡ o → Explains can s fates met
+exact_if : (serves : Serves) (s : Status) (met : Met) (fates : List Fate) (o : Option (List ℕ)) → met.input ≡ o → Explains serves s fates met
     → IfSome o (λ bytes. EndsAs (code_of s) (due met.words bytes fates) met)
-exact_if can s met fates None e h = tt
-exact_if can s met fates (Some bytes) e h = exact can s met bytes fates e h
+exact_if serves s met fates None e h = tt
+exact_if serves s met fates (Some bytes) e h = exact serves s met bytes fates e h
 
-pub ends : (can : CanCount) → TranscriptsAreRuns → (result : ℕ) (s : Status) (met : Met) → result ≡ code_of s → Explained can s met → Ends can result met
-ends can law result s met code h = record {
+pub ends : (serves : Serves) → TranscriptsAreRuns → (result : ℕ) (s : Status) (met : Met) → result ≡ code_of s → Explained serves s met → Ends serves result met
+ends serves law result s met code h = record {
   fates = h.0;
   status = s;
   code = code;
   explained = h.1;
   events = λ c bytes setup asked input is. plays_events law c bytes setup h.0 is;
-  exact = subst (λ n. IfSome met.input (λ bytes. EndsAs n (due met.words bytes h.0) met)) (sym code) (exact_if can s met h.0 met.input refl h.1);
+  exact = subst (λ n. IfSome met.input (λ bytes. EndsAs n (due met.words bytes h.0) met)) (sym code) (exact_if serves s met h.0 met.input refl h.1);
 }
 
 -- ---- lawful inputs
@@ -238,12 +261,12 @@ ended_status : (text : List ℕ) (e : End) → ((ended text e).status ≡ 0) ⊎
 ended_status text done = inl refl
 ended_status text (bad_line n) = inr refl
 
-setup_status : (asked : Asked) (setup : Parsed) (fates : List Fate) → ((written asked (Ok setup) fates).status ≡ 0) ⊎ ((written asked (Ok setup) fates).status ≡ 4)
-setup_status check setup fates = inl refl
-setup_status (play c) setup fates = ended_status _ (run_of c setup.scripts _ fates).end
-setup_status (serve v) setup fates = inl refl
+setup_status : (asked : Command) (setup : Parsed) (fates : List Fate) → ((written asked (Ok setup) fates).status ≡ 0) ⊎ ((written asked (Ok setup) fates).status ≡ 4)
+setup_status Check setup fates = inl refl
+setup_status (Play c) setup fates = ended_status _ (run_of c setup.scripts _ fates).end
+setup_status (Serve v) setup fates = inl refl
 
-lawful_status : (asked : Asked) (bytes : List ℕ) (fates : List Fate) → IsLawful asked bytes → ((output_of asked bytes fates).status ≡ 0) ⊎ ((output_of asked bytes fates).status ≡ 4)
+lawful_status : (asked : Command) (bytes : List ℕ) (fates : List Fate) → IsLawful asked bytes → ((output_of asked bytes fates).status ≡ 0) ⊎ ((output_of asked bytes fates).status ≡ 4)
 lawful_status asked bytes fates l =
     subst (λ r. ((written asked r fates).status ≡ 0) ⊎ ((written asked r fates).status ≡ 4)) (sym (setup_found (ending_of asked) bytes l.setup l.spelled)) (setup_status asked l.setup fates)
 
@@ -251,7 +274,7 @@ not_3 : (n : ℕ) → (n ≡ 0) ⊎ (n ≡ 4) → n ≡ 3 → ⊥
 not_3 n (inl e) h = omega arith
 not_3 n (inr e) h = omega arith
 
-asked_complete : (asked : Asked) (s : Status) (met : Met) (bytes : List ℕ) (fates : List Fate) → met.input ≡ Some bytes → IsLawful asked bytes
+asked_complete : (asked : Command) (s : Status) (met : Met) (bytes : List ℕ) (fates : List Fate) → met.input ≡ Some bytes → IsLawful asked bytes
     → (Rose met.input_before met.input_after → ⊥) → (Rose met.output.before met.output.after → ⊥) → Comes asked fates s met
     → (code_of s ≡ 0) ⊎ ((code_of s ≡ 4) ⊎ (code_of s ≡ 10))
 asked_complete asked status.Done met bytes fates e l read write h = inl refl
@@ -268,35 +291,56 @@ asked_complete asked status.Long met bytes fates e l read write h =
 asked_complete asked status.Door met bytes fates e l read write h = absurd h
 asked_complete asked status.Key met bytes fates e l read write h = absurd h
 
-serving_complete : (can : CanCount) (v : Serving) (s : Status) (met : Met) (bytes : List ℕ) → met.input ≡ Some bytes → IsLawful (serve v) bytes
-    → (Rose met.input_before met.input_after → ⊥) → (Rose met.output.before met.output.after → ⊥) → ServesWell (serve v) met → ComesServing can v s met
+serving_complete : (serves : Serves) (v : Service) (s : Status) (met : Met) (bytes : List ℕ) → met.input ≡ Some bytes → IsLawful (Serve v) bytes
+    → (Rose met.input_before met.input_after → ⊥) → (Rose met.output.before met.output.after → ⊥) → ServesWell (Serve v) met → ComesServing serves v s met
     → (code_of s ≡ 0) ⊎ (code_of s ≡ 10)
-serving_complete can v status.Done met bytes e l read write well h = inl refl
-serving_complete can v status.Usage met bytes e l read write well h = absurd h
-serving_complete can v status.Setup met bytes e l read write well h =
-    let left = input_left can v status.Setup met bytes e h.1 in absurd (not_3 _ (lawful_status (serve v) bytes [] l) left.0)
-serving_complete can v status.Line met bytes e l read write well h = absurd h
-serving_complete can v status.Read met bytes e l read write well h = absurd (read h.0)
-serving_complete can v status.Write met bytes e l read write well h = absurd (write h.1)
-serving_complete can v status.Memory met bytes e l read write well h = inr refl
-serving_complete can v status.Long met bytes e l read write well h =
-    let long = past_length met.input met.unread bytes 16777216 e h.0 in absurd (omega (arith, long, l.short))
-serving_complete can v status.Door met bytes e l read write well h = absurd (well.0 h.1)
-serving_complete can v status.Key met bytes e l read write well h = absurd (well.1 h.1)
+serving_complete serves v status.Done met bytes e l read write well h = inl refl
+serving_complete serves v status.Usage met bytes e l read write well h = absurd h
+serving_complete serves v status.Setup met bytes e l read write well h =
+    let left = input_left serves v status.Setup met bytes e h.1 in absurd (not_3 _ (lawful_status (Serve v) bytes [] l) left.0.0)
+serving_complete serves v status.Line met bytes e l read write well h = absurd h
+serving_complete serves v status.Read met bytes e l read write well h = absurd (read h.0.0)
+serving_complete serves v status.Write met bytes e l read write well h = absurd (write h.1)
+serving_complete serves v status.Memory met bytes e l read write well h = inr refl
+serving_complete serves v status.Long met bytes e l read write well h =
+    let long = past_length met.input met.unread bytes 16777216 e h.0.0 in absurd (omega (arith, long, l.short))
+serving_complete serves v status.Door met bytes e l read write well h = absurd (well.0 h.1)
+serving_complete serves v status.Key met bytes e l read write well h = absurd (well.1 h.1)
 
-complete_to : (can : CanCount) (asked : Asked) (s : Status) (met : Met) (bytes : List ℕ) (fates : List Fate) → met.input ≡ Some bytes → IsLawful asked bytes
-    → (Rose met.input_before met.input_after → ⊥) → (Rose met.output.before met.output.after → ⊥) → ServesWell asked met → ComesTo can asked fates s met
+-- a check has no steps
+check_complete : (s : Status) (met : Met) (bytes : List ℕ) (fates : List Fate) → met.input ≡ Some bytes → IsLawful Check bytes
+    → (code_of s ≡ 0) ⊎ ((code_of s ≡ 4) ⊎ (code_of s ≡ 10)) → Comes Check fates s met → (code_of s ≡ 0) ⊎ (code_of s ≡ 10)
+check_complete s met bytes fates e l (inl done) h = inl done
+check_complete s met bytes fates e l (inr (inl line)) h = absurd (no_line s met bytes fates e l (is_line s line) h)
+  where
+    is_line : (x : Status) → code_of x ≡ 4 → x ≡ status.Line
+    is_line x is = grind (arith, is)
+
+    four : (x : Result Parsed Fault) → (counted x).status ≡ 4 → ⊥
+    four (Err f) is = omega arith
+    four (Ok setup) is = omega arith
+
+    no_line : (x : Status) (m : Met) (input : List ℕ) (more : List Fate) → m.input ≡ Some input → IsLawful Check input → x ≡ status.Line → Comes Check more x m → ⊥
+    no_line x m input more told lawful is came =
+        let line = subst (λ y. Comes Check more y m) is came in
+        let answers = known (λ b. Answers (output_of Check b more) 4 m.output) m.input input told line.1 in
+        four (setup_of Input input) answers.0
+check_complete s met bytes fates e l (inr (inr memory)) h = inr memory
+
+complete_to : (serves : Serves) (asked : Command) (s : Status) (met : Met) (bytes : List ℕ) (fates : List Fate) → met.input ≡ Some bytes → IsLawful asked bytes
+    → (Rose met.input_before met.input_after → ⊥) → (Rose met.output.before met.output.after → ⊥) → ServesWell asked met → ComesTo serves asked fates s met
     → EndsWell asked (code_of s)
-complete_to can check s met bytes fates e l read write well h = asked_complete check s met bytes fates e l read write h
-complete_to can (play c) s met bytes fates e l read write well h = asked_complete (play c) s met bytes fates e l read write h
-complete_to can (serve v) s met bytes fates e l read write well h = serving_complete can v s met bytes e l read write well h
+complete_to serves Check s met bytes fates e l read write well h =
+    check_complete s met bytes fates e l (asked_complete Check s met bytes fates e l read write h) h
+complete_to serves (Play o) s met bytes fates e l read write well h = asked_complete (Play o) s met bytes fates e l read write h
+complete_to serves (Serve v) s met bytes fates e l read write well h = serving_complete serves v s met bytes e l read write well h
 
-memory_ends : (asked : Asked) (n : ℕ) → n ≡ 10 → EndsWell asked n
-memory_ends check n e = inr (inr e)
-memory_ends (play c) n e = inr (inr e)
-memory_ends (serve v) n e = inr e
+memory_ends : (asked : Command) (n : ℕ) → n ≡ 10 → EndsWell asked n
+memory_ends Check n e = inr e
+memory_ends (Play o) n e = inr (inr e)
+memory_ends (Serve v) n e = inr e
 
-refused_complete : (s : Status) (met : Met) (asked : Asked) → asked_in met.words ≡ Some asked → Refuses (asked_in met.words) s met → code_of s ≡ 10
+refused_complete : (s : Status) (met : Met) (asked : Command) → asked_in met.words ≡ Some asked → Refuses (asked_in met.words) s met → code_of s ≡ 10
 refused_complete status.Done met asked is h = absurd h
 refused_complete status.Usage met asked is h = absurd (let no : None ≡ Some asked = sym h.0 ∙ is in cc)
 refused_complete status.Setup met asked is h = absurd h
@@ -308,29 +352,29 @@ refused_complete status.Long met asked is h = absurd h
 refused_complete status.Door met asked is h = absurd h
 refused_complete status.Key met asked is h = absurd h
 
-same_asked : (o : Option Asked) (a b : Asked) → o ≡ Some a → o ≡ Some b → a ≡ b
+same_asked : (o : Option Command) (a b : Command) → o ≡ Some a → o ≡ Some b → a ≡ b
 same_asked o a b e f = cc
 
-pub complete : (can : CanCount) (s : Status) (met : Met) (asked : Asked) (bytes : List ℕ) → asked_in met.words ≡ Some asked → met.input ≡ Some bytes → IsLawful asked bytes
-    → (Rose met.input_before met.input_after → ⊥) → (Rose met.output.before met.output.after → ⊥) → ServesWell asked met → (fates : List Fate) → Explains can s fates met
+pub complete : (serves : Serves) (s : Status) (met : Met) (asked : Command) (bytes : List ℕ) → asked_in met.words ≡ Some asked → met.input ≡ Some bytes → IsLawful asked bytes
+    → (Rose met.input_before met.input_after → ⊥) → (Rose met.output.before met.output.after → ⊥) → ServesWell asked met → (fates : List Fate) → Explains serves s fates met
     → EndsWell asked (code_of s)
-complete can s met asked bytes is e l read write well fates (inl h) = memory_ends asked (code_of s) (refused_complete s met asked is h)
-complete can s met asked bytes is e l read write well fates (inr h) =
+complete serves s met asked bytes is e l read write well fates (inl h) = memory_ends asked (code_of s) (refused_complete s met asked is h)
+complete serves s met asked bytes is e l read write well fates (inr h) =
     let same = same_asked (asked_in met.words) asked h.0 is h.1.0 in
     subst (λ a. EndsWell a (code_of s)) (sym same)
-    (complete_to can h.0 s met bytes fates e (subst (λ a. IsLawful a bytes) same l) read write (subst (λ a. ServesWell a met) same well) h.1.1)
+    (complete_to serves h.0 s met bytes fates e (subst (λ a. IsLawful a bytes) same l) read write (subst (λ a. ServesWell a met) same well) h.1.1)
 
 -- ---- the causes of what serving alone may end with
 
-door_of : (can : CanCount) (asked : Asked) (fates : List Fate) (met : Met) → ComesTo can asked fates status.Door met → HaveRisen met.door
-door_of can check fates met h = absurd h
-door_of can (play c) fates met h = absurd h
-door_of can (serve v) fates met h = h.1
+door_of : (serves : Serves) (asked : Command) (fates : List Fate) (met : Met) → ComesTo serves asked fates status.Door met → HaveRisen met.door
+door_of serves Check fates met h = absurd h
+door_of serves (Play c) fates met h = absurd h
+door_of serves (Serve v) fates met h = h.1
 
-key_of : (can : CanCount) (asked : Asked) (fates : List Fate) (met : Met) → ComesTo can asked fates status.Key met → HaveRisen met.seeds
-key_of can check fates met h = absurd h
-key_of can (play c) fates met h = absurd h
-key_of can (serve v) fates met h = h.1
+key_of : (serves : Serves) (asked : Command) (fates : List Fate) (met : Met) → ComesTo serves asked fates status.Key met → HaveRisen met.seeds
+key_of serves Check fates met h = absurd h
+key_of serves (Play c) fates met h = absurd h
+key_of serves (Serve v) fates met h = h.1
 
 is_door : (s : Status) → code_of s ≡ 9 → s ≡ status.Door
 is_door s e = grind (arith, e)
@@ -338,19 +382,19 @@ is_door s e = grind (arith, e)
 is_key : (s : Status) → code_of s ≡ 14 → s ≡ status.Key
 is_key s e = grind (arith, e)
 
-door_rose : (can : CanCount) (fates : List Fate) (met : Met) → Explains can status.Door fates met → HaveRisen met.door
-door_rose can fates met (inl h) = absurd h
-door_rose can fates met (inr h) = door_of can h.0 fates met h.1.1
+door_rose : (serves : Serves) (fates : List Fate) (met : Met) → Explains serves status.Door fates met → HaveRisen met.door
+door_rose serves fates met (inl h) = absurd h
+door_rose serves fates met (inr h) = door_of serves h.0 fates met h.1.1
 
-key_rose : (can : CanCount) (fates : List Fate) (met : Met) → Explains can status.Key fates met → HaveRisen met.seeds
-key_rose can fates met (inl h) = absurd h
-key_rose can fates met (inr h) = key_of can h.0 fates met h.1.1
+key_rose : (serves : Serves) (fates : List Fate) (met : Met) → Explains serves status.Key fates met → HaveRisen met.seeds
+key_rose serves fates met (inl h) = absurd h
+key_rose serves fates met (inr h) = key_of serves h.0 fates met h.1.1
 
-pub door_cause : (can : CanCount) (s : Status) (met : Met) → Explained can s met → code_of s ≡ 9 → HaveRisen met.door
-door_cause can s met h e = door_rose can h.0 met (subst (λ x. Explains can x h.0 met) (is_door s e) h.1)
+pub door_cause : (serves : Serves) (s : Status) (met : Met) → Explained serves s met → code_of s ≡ 9 → HaveRisen met.door
+door_cause serves s met h e = door_rose serves h.0 met (subst (λ x. Explains serves x h.0 met) (is_door s e) h.1)
 
-pub key_cause : (can : CanCount) (s : Status) (met : Met) → Explained can s met → code_of s ≡ 14 → HaveRisen met.seeds
-key_cause can s met h e = key_rose can h.0 met (subst (λ x. Explains can x h.0 met) (is_key s e) h.1)
+pub key_cause : (serves : Serves) (s : Status) (met : Met) → Explained serves s met → code_of s ≡ 14 → HaveRisen met.seeds
+key_cause serves s met h e = key_rose serves h.0 met (subst (λ x. Explains serves x h.0 met) (is_key s e) h.1)
 
 pub usage_code : (s : Status) → s ≢ status.Usage → code_of s ≢ 2
 usage_code status.Done n e = omega arith

@@ -5,7 +5,8 @@ use Rattle.std.specs.Io.KnownBytes.{Appends, Consumes, IsAtEnd, Keeps}
 use Rattle.web_outside.specs.Causes.{Rose}
 use Rattle.web_outside.specs.Pieces.{AppendsUnlessFault}
 use Rattle.web_outside.proofs.Writes.{appends_none, appends_then, appends_kept}
-use Rattle.command_words.specs.Plain.{Asked, check, play, serve}
+use Rattle.command_words.specs.declared.Command.{Command}
+use Rattle.command_words.specs.declared.Command.TheVariants.{Check, Play, Serve}
 use Rattle.setup_reader.specs.declared.setup.Ending.TheVariants.{Input}
 use Rattle.setup_reader.specs.Setup.{Parsed, Fault, setup_of}
 use Rattle.setup_reader.specs.Faults.{fault_line}
@@ -59,13 +60,13 @@ tells_nothing old new text before after p =
     record { shown = []; cut = []; is = refl; grown = subst (Appends old new) (sym (append-nil text)) p; whole = inl refl }
 
 -- memory ran out before anything was written
-pub early : (asked : Asked) (bytes : List ℕ) (s : Status) (old new : Option (List ℕ)) (before after : ℕ) → s ≡ status.Memory
+pub early : (asked : Command) (bytes : List ℕ) (s : Status) (old new : Option (List ℕ)) (before after : ℕ) → s ≡ status.Memory
     → AppendsUnlessFault old new (codes "error 10 memory\n") before after → Outputs asked bytes s (sinks old new before after)
 early asked bytes s old new before after e p =
     subst (λ x. Outputs asked bytes x (sinks old new before after)) (sym e) ([], ([], nothing, tells old old new [] _ before after (appends_none old) p))
 
 -- all of the text was written, and handed on or not
-pub whole_text : (asked : Asked) (bytes : List ℕ) (fates : List Fate) (s : Status) (old new : Option (List ℕ)) (before mid after : ℕ)
+pub whole_text : (asked : Command) (bytes : List ℕ) (fates : List Fate) (s : Status) (old new : Option (List ℕ)) (before mid after : ℕ)
     → (output_of asked bytes fates).status ≡ 0 → (output_of asked bytes fates).error ≡ [] → Appends old new (output_of asked bytes fates).text
     → before ≤ mid → (s ≡ status.Done) ⊎ ((s ≡ status.Write) × Rose mid after) → Outputs asked bytes s (sinks old new before after)
 whole_text asked bytes fates s old new before mid after zero none p le (inl e) =
@@ -75,13 +76,13 @@ whole_text asked bytes fates s old new before mid after zero none p le (inr e) =
     subst (λ x. Outputs asked bytes x (sinks old new before after)) (sym e.0) (fates, (rose_since before mid after le e.1, inr (zero, p)))
 
 -- a setup that has a fault is all that is told
-pub faulty_output : (asked : Asked) (bytes : List ℕ) (fates : List Fate) (e : Fault) → setup_of (ending_of asked) bytes ≡ Err e
+pub faulty_output : (asked : Command) (bytes : List ℕ) (fates : List Fate) (e : Fault) → setup_of (ending_of asked) bytes ≡ Err e
     → output_of asked bytes fates ≡ faulty e
-faulty_output check bytes fates e h = rw h refl
-faulty_output (play c) bytes fates e h = rw h refl
-faulty_output (serve v) bytes fates e h = rw h refl
+faulty_output Check bytes fates e h = rw h refl
+faulty_output (Play c) bytes fates e h = rw h refl
+faulty_output (Serve v) bytes fates e h = rw h refl
 
-pub tells_fault : (asked : Asked) (bytes line : List ℕ) (e : Fault) (old new : Option (List ℕ)) (before after : ℕ) → setup_of (ending_of asked) bytes ≡ Err e
+pub tells_fault : (asked : Command) (bytes line : List ℕ) (e : Fault) (old new : Option (List ℕ)) (before after : ℕ) → setup_of (ending_of asked) bytes ≡ Err e
     → line ≡ fault_line e → AppendsUnlessFault old new line before after → Outputs asked bytes status.Setup (sinks old new before after)
 tells_fault asked bytes line e old new before after h same p =
     let is = faulty_output asked bytes [] e h in
@@ -91,8 +92,8 @@ tells_fault asked bytes line e old new before after h same p =
 -- the number of the scripts is all that is told
 pub tells_count : (bytes text : List ℕ) (setup : Parsed) (s : Status) (old mid new : Option (List ℕ)) (before between after : ℕ)
     → setup_of Input bytes ≡ Ok setup → text ≡ codes "ok " ++ (decimal (length setup.scripts) ++ 10 ∷ []) → Appends old mid text → Keeps mid new
-    → before ≤ between → (s ≡ status.Done) ⊎ ((s ≡ status.Write) × Rose between after) → Outputs check bytes s (sinks old new before after)
+    → before ≤ between → (s ≡ status.Done) ⊎ ((s ≡ status.Write) × Rose between after) → Outputs Check bytes s (sinks old new before after)
 tells_count bytes text setup s old mid new before between after h same p kept le ends =
-    let is : output_of check bytes [] ≡ counted (Ok setup) = ap counted h in
+    let is : output_of Check bytes [] ≡ counted (Ok setup) = ap counted h in
     let grown = subst (Appends old new) (same ∙ sym (ap (λ (o : Output). o.text) is)) (appends_kept old mid new text p kept) in
-    whole_text check bytes [] s old new before between after (ap (λ (o : Output). o.status) is) (ap (λ (o : Output). o.error) is) grown le ends
+    whole_text Check bytes [] s old new before between after (ap (λ (o : Output). o.status) is) (ap (λ (o : Output). o.error) is) grown le ends

@@ -1,12 +1,11 @@
-pub mod Tries
 pub mod Places
 pub mod Endings
 pub mod Causes
 pub mod Kept
 pub mod Open
+pub mod Happening
 pub mod Fitting
 pub mod Stepping
-pub mod Serials
 pub mod Playing
 pub mod Servings
 pub mod ShelfRuns

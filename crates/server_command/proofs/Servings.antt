@@ -2,17 +2,19 @@
 use Rattle.std.proofs.Common.{◌≡◌, ◌∷◌, [], ap, subst, sym, ℕ, List, length, slice_set, Option, IfSome, refl, arith}
 use Rattle.std.specs.Prelude.{All, Err, slice_index_or}
 use Rattle.std.proofs.lemmas.List.Elements.{All-head}
-use Rattle.web_outside.specs.Doors.{GiveLists, HaveNone}
+use Rattle.web_outside.specs.Doors.{GiveLists, HaveNone, counts_with}
+use Rattle.web_outside.specs.View.{PorchView}
+use Rattle.web_outside.specs.Causes.{Rose}
 use Rattle.web_outside.specs.Pieces.{AppendsUnlessFault}
 use Rattle.web_outside.proofs.Writes.{appends_none}
 use Rattle.script_nodes.specs.Setup.{Named}
-use Rattle.command_words.specs.Plain.{Serving}
+use Rattle.command_words.specs.declared.Service.{Service}
 use Rattle.replay_spec.specs.Rules.{Rules}
-use Rattle.request_workers.specs.Counting.{Count}
+use Rattle.request_workers.specs.Counting.{Count, nothing, both}
 use Rattle.request_workers.specs.Tallies.{count_of}
-use Rattle.request_workers.specs.Working.{EndsBy}
 use Rattle.request_workers.specs.declared.tally.Tally.{Tally}
-use Rattle.request_workers.specs.declared.tally.WorkEnd.TheVariants.{Done}
+use Rattle.request_workers.specs.declared.tally.WorkEnd.{WorkEnd}
+use Rattle.request_workers.specs.declared.tally.WorkEnd.TheVariants as ends
 use Rattle.setup_reader.specs.declared.setup.Ending.TheVariants.{Input}
 use Rattle.setup_reader.specs.Setup.{Fault, setup_of}
 use Rattle.setup_reader.specs.Faults.{fault_line}
@@ -20,7 +22,7 @@ use Rattle.server_command.specs.declared.command.Status.{Status}
 use Rattle.server_command.specs.declared.command.Status.TheVariants as status
 use Rattle.server_command.specs.Command.{TellsFaultLine}
 use Rattle.server_command.specs.Output.{Answers, Sinks, rules_for, served, sinks}
-use Rattle.server_command.specs.Serving.{Faults, LeavesInput, Served, Told, Views, WorksAt, WorksFirst}
+use Rattle.server_command.specs.Serving.{Faults, LeavesInput, Outside, Served, Serves, WorksAt, WorksFirst, end_with, worker_of}
 use Rattle.server_command.proofs.Endings.{tells}
 
 -- the one item of a list
@@ -34,23 +36,43 @@ one_is [] x one = absurd (omega (arith, one))
 one_is (y ∷ []) x one = refl
 one_is (y ∷ z ∷ rest) x one = absurd (omega (arith, one))
 
-pub served_by : {P L N : Type 0} (views : Views P L) (nonce : N → ℕ → ℕ) (told : Told P L N) (s : Serving) (scripts : List Named) (tally : Tally) (source : N) (had has : List P) (rules : Rules)
-    → IfSome told.gives (λ sources. sources ≡ source ∷ []) → GiveLists views.coming had told.links → HaveNone views.served had → All (λ p. views.given p ≡ 0) had → All (λ p. views.most p ≡ s.connections) had
-    → rules ≡ rules_for s.choices scripts → WorksFirst views told.shown rules nonce (nonce source) had has tally → tally.end ≡ Done → IfSome told.closed (λ porches. porches ≡ has)
-    → Served views nonce told s scripts (count_of tally)
-served_by views nonce told s scripts tally source had has rules drawn came fresh none most is w done closed = record {
-  source = source;
+-- the count of one worker
+one_total : (c : Count) → both c nothing ≡ c
+one_total c = grind arith
+
+-- the end of one worker
+one_end : (e : WorkEnd) → end_with e ends.Done ≡ e
+one_end ends.Done = refl
+one_end ends.Failed = refl
+
+pub served_by : {P L N : Type 0} (o : Outside P L N) (s : Service) (scripts : List Named) (tally : Tally) (source : N) (had has : List P) (rules : Rules)
+    → IfSome (o.seeds.gives 1) (λ given. given ≡ source ∷ []) → GiveLists o.views.porch had (o.before.links s.port) → HaveNone o.views.porch had
+    → All (λ p. (o.views.porch p).given ≡ 0) had → All (λ p. (o.views.porch p).most ≡ s.connections) had
+    → rules ≡ rules_for s.options → WorksFirst o.views rules scripts source had has (worker_of tally) → IfSome o.after.closed (λ porches. porches ≡ has)
+    → Served o s scripts tally.end (count_of tally)
+served_by o s scripts tally source had has rules drawn came fresh none most is w closed = record {
+  sources = source ∷ [];
+  old = w.before ∷ [];
+  new = w.after ∷ [];
+  workers = worker_of tally ∷ [];
   drawn = drawn;
-  old = w.before;
-  new = w.after;
-  came = subst (λ ps. GiveLists views.coming ps told.links) w.had came;
-  fresh = subst (HaveNone views.served) w.had fresh;
-  none = All-head (λ p. views.given p ≡ 0) w.before [] (subst (All (λ p. views.given p ≡ 0)) w.had none);
-  most = All-head (λ p. views.most p ≡ s.connections) w.before [] (subst (All (λ p. views.most p ≡ s.connections)) w.had most);
-  works = subst (λ r. WorksAt views told.shown r nonce (nonce source) w.before w.after (count_of tally)) is w.works;
-  ended = subst (λ e. EndsBy e (views.given w.after) (views.most w.after) (views.coming w.after) (views.faults w.before) (views.faults w.after)) done w.ended;
-  closed = subst (λ ps. IfSome told.closed (λ porches. porches ≡ ps)) w.has closed;
+  came = subst (λ ps. GiveLists o.views.porch ps (o.before.links s.port)) w.had came;
+  fresh = subst (HaveNone o.views.porch) w.had fresh;
+  none = subst (All (λ p. (o.views.porch p).given ≡ 0)) w.had none;
+  most = subst (All (λ p. (o.views.porch p).most ≡ s.connections)) w.had most;
+  works = subst (λ r. WorksAt o.views r scripts source w.before w.after (worker_of tally)) is w.works;
+  ended = sym (one_end tally.end);
+  counted = sym (one_total (count_of tally));
+  closed = subst (λ ps. IfSome o.after.closed (λ porches. porches ≡ ps)) w.has closed;
 }
+
+-- a porch that failed is a fault of the door that closed it
+pub porch_rose : {P L : Type 0} (view : P → PorchView L) (old new : List P) (before after : P) (count rose : ℕ) → old ≡ before ∷ [] → new ≡ after ∷ []
+    → All (λ p. (view p).faults ≡ 0) old → Rose (view before).faults (view after).faults → rose ≡ counts_with view new count → Rose count rose
+porch_rose view old new before after count rose had has fresh failed is =
+    let none = All-head (λ p. (view p).faults ≡ 0) before [] (subst (All (λ p. (view p).faults ≡ 0)) had fresh) in
+    let one = is ∙ ap (λ ps. counts_with view ps count) has in
+    omega (arith, none, failed, one)
 
 -- the line of a setup's fault
 pub tells_fault_line : (line : List ℕ) (e : Fault) (old new : Option (List ℕ)) (before after : ℕ) → line ≡ fault_line e → AppendsUnlessFault old new line before after
@@ -58,16 +80,16 @@ pub tells_fault_line : (line : List ℕ) (e : Fault) (old new : Option (List ℕ
 tells_fault_line line e old new before after same p = subst (λ l. AppendsUnlessFault old new l before after) same p
 
 -- a fault of a setup is all that is told
-pub fault_left : (can : List Named → Count → Type 0) (bytes : List ℕ) (fault : Fault) (s : Status) (out : Sinks) (door seeds : Faults) → setup_of Input bytes ≡ Err fault → TellsFaultLine fault s out
-    → LeavesInput can bytes s out door seeds
-fault_left can bytes fault status.Setup out door seeds is told =
-    subst (λ r. Answers (served r) 3 out) (sym is) (refl, tells out.held out.held out.holds [] (fault_line fault) out.before out.after (appends_none out.held) told)
-fault_left can bytes fault status.Memory out door seeds is told = told
-fault_left can bytes fault status.Done out door seeds is told = absurd told
-fault_left can bytes fault status.Usage out door seeds is told = absurd told
-fault_left can bytes fault status.Line out door seeds is told = absurd told
-fault_left can bytes fault status.Read out door seeds is told = absurd told
-fault_left can bytes fault status.Write out door seeds is told = absurd told
-fault_left can bytes fault status.Long out door seeds is told = absurd told
-fault_left can bytes fault status.Door out door seeds is told = absurd told
-fault_left can bytes fault status.Key out door seeds is told = absurd told
+pub fault_left : (serves : Serves) (v : Service) (bytes : List ℕ) (fault : Fault) (s : Status) (out : Sinks) (door seeds : Faults) → setup_of Input bytes ≡ Err fault
+    → TellsFaultLine fault s out → serves.unopened → LeavesInput serves v bytes s out door seeds
+fault_left serves v bytes fault status.Setup out door seeds is told none =
+    (subst (λ r. Answers (served r) 3 out) (sym is) (refl, tells out.held out.held out.holds [] (fault_line fault) out.before out.after (appends_none out.held) told), none)
+fault_left serves v bytes fault status.Memory out door seeds is told none = (told, inl none)
+fault_left serves v bytes fault status.Done out door seeds is told none = absurd told
+fault_left serves v bytes fault status.Usage out door seeds is told none = absurd told
+fault_left serves v bytes fault status.Line out door seeds is told none = absurd told
+fault_left serves v bytes fault status.Read out door seeds is told none = absurd told
+fault_left serves v bytes fault status.Write out door seeds is told none = absurd told
+fault_left serves v bytes fault status.Long out door seeds is told none = absurd told
+fault_left serves v bytes fault status.Door out door seeds is told none = absurd told
+fault_left serves v bytes fault status.Key out door seeds is told none = absurd told

@@ -1,20 +1,18 @@
-ghost use Rattle.std.specs.Prelude.{◌≡◌, ◌≢◌, ◌⊎◌, Some, None, Ok, Err, ◌≤◌, ◌++◌, List, ℕ, codes, IfOk, [], ◌∷◌, string_bytes};
+ghost use Rattle.std.specs.Prelude.{◌≡◌, ◌≢◌, ◌≤◌, ◌++◌, ◌∷◌, [], List, ℕ, Some, None, Ok, Err, codes, IfOk, string_bytes};
 ghost use Rattle.std.specs.Fmt.{decimal};
+ghost use Rattle.std.specs.Io.KnownBytes.{Keeps};
 ghost use Rattle.web_outside.specs.Causes.{Rose};
 ghost use Rattle.web_outside.specs.Pieces.{HandsAllOn, HandsOn};
-ghost use Rattle.script_nodes.specs.Setup.{Named};
 ghost use Rattle.script_nodes.specs.Views.{scripts_of};
 ghost use Rattle.setup_reader.specs.Views.{fault_of, parsed_of};
-ghost use Rattle.command_words.specs.Plain.{Asked, AreInRange, CanServe, IsInRange, IsPlain, Serving, choices_in, serving_in};
+ghost use Rattle.command_words.specs.Plain.{AreInRange, CanServe, IsInRange, IsPlain};
+ghost use Rattle.command_words.specs.declared.Command.{Command as Asked};
+ghost use Rattle.request_workers.specs.Tallies.{count_of};
 ghost use Rattle.server_command.specs.declared.command.Status.{Status};
 ghost use Rattle.server_command.specs.Command as spec;
-ghost use Rattle.std.specs.Io.KnownBytes.{Keeps};
 ghost use Rattle.server_command.specs.Command.{Came, ComesServing, Counts, Ends, Explained, IsComplete, IsDoneUnlessFault, Outputs, OutputsFor, PlaysSteps, TellsFault, TellsFaultLine, TellsLine, texts, asked_in, asked_of, met_of, unread_line, unread_status};
 ghost use Rattle.server_command.specs.Output.{PrintsTo, ending_of, sinks_of};
-ghost use Rattle.server_command.specs.Serving.{Faults, LeavesInput, LeavesServing, TellsCount, can_count, count_line, faults_of, told, views_of};
-ghost use Rattle.request_workers.specs.Counting.{Count};
-ghost use Rattle.request_workers.specs.Scenes.{seen};
-ghost use Rattle.request_workers.specs.Tallies.{count_of};
+ghost use Rattle.server_command.specs.Serving.{Faults, LeavesInput, LeavesServing, TellsCount, count_line, faults_of, outside, serves_over, views};
 
 use crate::desk::{new_desk, transcripts_are_runs};
 use crate::serving::{ServeFault, serve};
@@ -95,9 +93,9 @@ fn count_line(alloc: Global, count: usize) -> Result<String, AllocError>
 // Says that memory ran out.
 fn no_memory<O: Sink>(output: &mut O) -> Status
     ensures status { result ≡ Status.Memory }
-    ensures line { PrintsTo (sinks_of O.written O.fault_count output.old output.new) (codes "error 10 memory\n") }
-    ensures handed { HandsAllOn O.written O.handed O.fault_count output.old output.new }
-    ensures later { O.fault_count output.old ≤ O.fault_count output.new }
+    ensures line { PrintsTo (sinks_of (O.view output.old) (O.view output.new)) (codes "error 10 memory\n") }
+    ensures handed { HandsAllOn (O.view output.old) (O.view output.new) }
+    ensures later { (O.view output.old).faults ≤ (O.view output.new).faults }
 {
     write_or_drop(output, b"error 10 memory\n");
     Status::Memory
@@ -106,8 +104,9 @@ fn no_memory<O: Sink>(output: &mut O) -> Status
 // Says why the input was not read whole.
 fn tell_unread<O: Sink>(fault: InputFault, output: &mut O) -> Status
     ensures status { result ≡ unread_status fault }
-    ensures line { PrintsTo (sinks_of O.written O.fault_count output.old output.new) (unread_line fault) }
-    ensures handed { HandsAllOn O.written O.handed O.fault_count output.old output.new }
+    ensures line { PrintsTo (sinks_of (O.view output.old) (O.view output.new)) (unread_line fault) }
+    ensures handed { HandsAllOn (O.view output.old) (O.view output.new) }
+    ensures later { (O.view output.old).faults ≤ (O.view output.new).faults }
     ensures other { result ≢ Status.Done }
 {
     match fault {
@@ -125,10 +124,10 @@ fn tell_unread<O: Sink>(fault: InputFault, output: &mut O) -> Status
 
 // Hands on all that was written, behind which nothing is told.
 fn hand_on<O: Sink>(output: &mut O) -> Status
-    ensures done { result ≡ Status.Done → HandsOn (O.written output.new) (O.handed output.new) }
-    ensures same { Keeps (O.written output.old) (O.written output.new) }
-    ensures status { IsDoneUnlessFault result (O.fault_count output.old) (O.fault_count output.new) }
-    ensures later { O.fault_count output.old ≤ O.fault_count output.new }
+    ensures done { result ≡ Status.Done → HandsOn (O.view output.new).written (O.view output.new).handed }
+    ensures same { Keeps (O.view output.old).written (O.view output.new).written }
+    ensures status { IsDoneUnlessFault result (O.view output.old).faults (O.view output.new).faults }
+    ensures later { (O.view output.old).faults ≤ (O.view output.new).faults }
 {
     match output.flush() {
         Ok(()) => Status::Done,
@@ -138,9 +137,10 @@ fn hand_on<O: Sink>(output: &mut O) -> Status
 
 // Tells how many scripts a setup has.
 fn tell_count<O: Sink>(alloc: Global, setup: &Setup, output: &mut O) -> Status
-    ensures outputs { Counts (scripts_of setup.now) result (sinks_of O.written O.fault_count output.old output.new) }
-    ensures handed { HandsAllOn O.written O.handed O.fault_count output.old output.new }
-    ensures done { result ≡ Status.Done → HandsOn (O.written output.new) (O.handed output.new) }
+    ensures outputs { Counts (scripts_of setup.now) result (sinks_of (O.view output.old) (O.view output.new)) }
+    ensures handed { HandsAllOn (O.view output.old) (O.view output.new) }
+    ensures later { (O.view output.old).faults ≤ (O.view output.new).faults }
+    ensures done { result ≡ Status.Done → HandsOn (O.view output.new).written (O.view output.new).handed }
 {
     let Ok(text) = count_line(alloc, setup.len()) else {
         return no_memory(output);
@@ -153,9 +153,9 @@ fn tell_count<O: Sink>(alloc: Global, setup: &Setup, output: &mut O) -> Status
 
 // Tells at which line of the steps a run ended.
 fn tell_line<O: Sink>(alloc: Global, number: u64, output: &mut O) -> Status
-    ensures tells { TellsLine number result (sinks_of O.written O.fault_count output.old output.new) }
-    ensures handed { HandsAllOn O.written O.handed O.fault_count output.old output.new }
-    ensures later { O.fault_count output.old ≤ O.fault_count output.new }
+    ensures tells { TellsLine number result (sinks_of (O.view output.old) (O.view output.new)) }
+    ensures handed { HandsAllOn (O.view output.old) (O.view output.new) }
+    ensures later { (O.view output.old).faults ≤ (O.view output.new).faults }
 {
     match line_error(alloc, number) {
         Ok(text) => {
@@ -174,11 +174,12 @@ fn play_all<O: Sink>(
     steps: &[u8],
     output: &mut O,
 ) -> Status
-    requires { AreInRange (choices_in options.now) }
-    ensures outputs { PlaysSteps (choices_in options.now) (scripts_of setup.now) steps.now result
-        (sinks_of O.written O.fault_count output.old output.new) }
-    ensures handed { HandsAllOn O.written O.handed O.fault_count output.old output.new }
-    ensures done { result ≡ Status.Done → HandsOn (O.written output.new) (O.handed output.new) }
+    requires { AreInRange options.now }
+    ensures outputs { PlaysSteps options.now (scripts_of setup.now) steps.now result
+        (sinks_of (O.view output.old) (O.view output.new)) }
+    ensures handed { HandsAllOn (O.view output.old) (O.view output.new) }
+    ensures later { (O.view output.old).faults ≤ (O.view output.new).faults }
+    ensures done { result ≡ Status.Done → HandsOn (O.view output.new).written (O.view output.new).handed }
 {
     let mut desk = new_desk(alloc, setup, options);
     match play(alloc, &mut desk, steps, output) {
@@ -191,9 +192,10 @@ fn play_all<O: Sink>(
 
 // Tells the fault of a setup.
 fn tell_fault<O: Sink>(alloc: Global, error: &SetupError, output: &mut O) -> Status
-    ensures outputs { TellsFault (fault_of error.now) result (sinks_of O.written O.fault_count output.old output.new) }
-    ensures line { TellsFaultLine (fault_of error.now) result (sinks_of O.written O.fault_count output.old output.new) }
-    ensures handed { HandsAllOn O.written O.handed O.fault_count output.old output.new }
+    ensures outputs { TellsFault (fault_of error.now) result (sinks_of (O.view output.old) (O.view output.new)) }
+    ensures line { TellsFaultLine (fault_of error.now) result (sinks_of (O.view output.old) (O.view output.new)) }
+    ensures handed { HandsAllOn (O.view output.old) (O.view output.new) }
+    ensures later { (O.view output.old).faults ≤ (O.view output.new).faults }
     ensures other { result ≢ Status.Done }
 {
     match fault_line(alloc, error) {
@@ -219,9 +221,10 @@ fn ending_of(job: &Job) -> Ending
 fn run_setup<O: Sink>(alloc: Global, job: &Job, parsed: &Parsed, output: &mut O) -> Status
     requires { IsInRange (asked_of job.now) }
     ensures outputs { OutputsFor (asked_of job.now) (Ok (parsed_of parsed.now)) result
-        (sinks_of O.written O.fault_count output.old output.new) }
-    ensures handed { HandsAllOn O.written O.handed O.fault_count output.old output.new }
-    ensures done { result ≡ Status.Done → HandsOn (O.written output.new) (O.handed output.new) }
+        (sinks_of (O.view output.old) (O.view output.new)) }
+    ensures handed { HandsAllOn (O.view output.old) (O.view output.new) }
+    ensures later { (O.view output.old).faults ≤ (O.view output.new).faults }
+    ensures done { result ≡ Status.Done → HandsOn (O.view output.new).written (O.view output.new).handed }
 {
     match job {
         Job::Check => tell_count(alloc, &parsed.setup, output),
@@ -233,9 +236,10 @@ fn run_setup<O: Sink>(alloc: Global, job: &Job, parsed: &Parsed, output: &mut O)
 fn run_input<O: Sink>(alloc: Global, job: &Job, input: &[u8], output: &mut O) -> Status
     requires { IsInRange (asked_of job.now) }
     ensures outputs { Outputs (asked_of job.now) input.now result
-        (sinks_of O.written O.fault_count output.old output.new) }
-    ensures handed { HandsAllOn O.written O.handed O.fault_count output.old output.new }
-    ensures done { result ≡ Status.Done → HandsOn (O.written output.new) (O.handed output.new) }
+        (sinks_of (O.view output.old) (O.view output.new)) }
+    ensures handed { HandsAllOn (O.view output.old) (O.view output.new) }
+    ensures later { (O.view output.old).faults ≤ (O.view output.new).faults }
+    ensures done { result ≡ Status.Done → HandsOn (O.view output.new).written (O.view output.new).handed }
 {
     match Parsed::parse(alloc, ending_of(job), input) {
         Ok(parsed) => run_setup(alloc, job, &parsed, output),
@@ -249,10 +253,12 @@ fn run_job<I: Source, O: Sink>(alloc: Global, job: &Job, input: &mut I, output: 
     requires { IsInRange (asked_of job.now) }
     ensures comes { (words : List (List ℕ)) (door : Faults) (seeds : Faults)
         → Came (asked_of job.now) result
-        (met_of words I.left I.fault_count input.old input.new
-        (sinks_of O.written O.fault_count output.old output.new) door seeds) }
-    ensures handed { HandsAllOn O.written O.handed O.fault_count output.old output.new }
-    ensures done { result ≡ Status.Done → HandsOn (O.written output.new) (O.handed output.new) }
+        (met_of words (I.view input.old) (I.view input.new)
+        (sinks_of (O.view output.old) (O.view output.new)) door seeds) }
+    ensures handed { HandsAllOn (O.view output.old) (O.view output.new) }
+    ensures later { (O.view output.old).faults ≤ (O.view output.new).faults }
+    ensures input_later { (I.view input.old).faults ≤ (I.view input.new).faults }
+    ensures done { result ≡ Status.Done → HandsOn (O.view output.new).written (O.view output.new).handed }
 {
     match read_all(alloc, input) {
         Ok(bytes) => run_input(alloc, job, &bytes, output),
@@ -279,9 +285,10 @@ fn tally_line(alloc: Global, tally: &Tally) -> Result<String, AllocError>
 
 // Tells what was counted.
 fn tell_tally<O: Sink>(alloc: Global, tally: &Tally, output: &mut O) -> Status
-    ensures outputs { TellsCount (count_of tally.now) result (sinks_of O.written O.fault_count output.old output.new) }
-    ensures handed { HandsAllOn O.written O.handed O.fault_count output.old output.new }
-    ensures done { result ≡ Status.Done → HandsOn (O.written output.new) (O.handed output.new) }
+    ensures outputs { TellsCount (count_of tally.now) result (sinks_of (O.view output.old) (O.view output.new)) }
+    ensures handed { HandsAllOn (O.view output.old) (O.view output.new) }
+    ensures later { (O.view output.old).faults ≤ (O.view output.new).faults }
+    ensures done { result ≡ Status.Done → HandsOn (O.view output.new).written (O.view output.new).handed }
 {
     let Ok(text) = tally_line(alloc, tally) else {
         return no_memory(output);
@@ -303,16 +310,18 @@ fn serve_setup<O: Sink, A: Door, C: Clock, N: Nonces + Drop, S: Seeds<N>, G: Gat
     seeds: &mut S,
     gate: &G,
 ) -> Status
-    requires { CanServe (serving_in service.now) }
-    ensures outputs { let look = seen A.Porch.Link.input A.Porch.Link.output A.Porch.Link.Input.left A.Porch.Link.Input.fault_count
-        A.Porch.Link.Output.written A.Porch.Link.Output.handed A.Porch.Link.Output.fault_count in
-        let views = views_of look A.Porch.coming A.Porch.served A.Porch.given A.Porch.most A.Porch.fault_count in
-        let can = can_count views N.nonce (told (C.shows clock.now) (A.links door.old) (A.closed door.new) (S.gives seeds.old 1)) in
-        LeavesServing (can (serving_in service.now) (scripts_of setup.now)) result
-        (sinks_of O.written O.fault_count output.old output.new)
-        (faults_of A.fault_count door.old door.new) (faults_of S.fault_count seeds.old seeds.new) }
-    ensures handed { HandsAllOn O.written O.handed O.fault_count output.old output.new }
-    ensures done { result ≡ Status.Done → HandsOn (O.written output.new) (O.handed output.new) }
+    requires { CanServe service.now }
+    ensures outputs { let o = outside (views A.Porch.Link.view A.Porch.view N.nonce (C.shows clock.now))
+            (A.view door.old) (A.view door.new) (S.view seeds.old) in
+        LeavesServing (serves_over o) service.now (scripts_of setup.now) result
+        (sinks_of (O.view output.old) (O.view output.new))
+        (faults_of (A.view door.old).faults (A.view door.new).faults)
+        (faults_of (S.view seeds.old).faults (S.view seeds.new).faults) }
+    ensures handed { HandsAllOn (O.view output.old) (O.view output.new) }
+    ensures later { (O.view output.old).faults ≤ (O.view output.new).faults }
+    ensures door_later { (A.view door.old).faults ≤ (A.view door.new).faults }
+    ensures seeds_later { (S.view seeds.old).faults ≤ (S.view seeds.new).faults }
+    ensures done { result ≡ Status.Done → HandsOn (O.view output.new).written (O.view output.new).handed }
 {
     match serve(alloc, service, setup, door, clock, seeds, gate) {
         Ok(tally) => tell_tally(alloc, &tally, output),
@@ -339,16 +348,18 @@ fn serve_input<O: Sink, A: Door, C: Clock, N: Nonces + Drop, S: Seeds<N>, G: Gat
     seeds: &mut S,
     gate: &G,
 ) -> Status
-    requires { CanServe (serving_in service.now) }
-    ensures outputs { let look = seen A.Porch.Link.input A.Porch.Link.output A.Porch.Link.Input.left A.Porch.Link.Input.fault_count
-        A.Porch.Link.Output.written A.Porch.Link.Output.handed A.Porch.Link.Output.fault_count in
-        let views = views_of look A.Porch.coming A.Porch.served A.Porch.given A.Porch.most A.Porch.fault_count in
-        let can = can_count views N.nonce (told (C.shows clock.now) (A.links door.old) (A.closed door.new) (S.gives seeds.old 1)) in
-        LeavesInput (can (serving_in service.now)) input.now result
-        (sinks_of O.written O.fault_count output.old output.new)
-        (faults_of A.fault_count door.old door.new) (faults_of S.fault_count seeds.old seeds.new) }
-    ensures handed { HandsAllOn O.written O.handed O.fault_count output.old output.new }
-    ensures done { result ≡ Status.Done → HandsOn (O.written output.new) (O.handed output.new) }
+    requires { CanServe service.now }
+    ensures outputs { let o = outside (views A.Porch.Link.view A.Porch.view N.nonce (C.shows clock.now))
+            (A.view door.old) (A.view door.new) (S.view seeds.old) in
+        LeavesInput (serves_over o) service.now input.now result
+        (sinks_of (O.view output.old) (O.view output.new))
+        (faults_of (A.view door.old).faults (A.view door.new).faults)
+        (faults_of (S.view seeds.old).faults (S.view seeds.new).faults) }
+    ensures handed { HandsAllOn (O.view output.old) (O.view output.new) }
+    ensures later { (O.view output.old).faults ≤ (O.view output.new).faults }
+    ensures door_later { (A.view door.old).faults ≤ (A.view door.new).faults }
+    ensures seeds_later { (S.view seeds.old).faults ≤ (S.view seeds.new).faults }
+    ensures done { result ≡ Status.Done → HandsOn (O.view output.new).written (O.view output.new).handed }
 {
     match Parsed::parse(alloc, Ending::Input, input) {
         Ok(parsed) => serve_setup(
@@ -377,16 +388,20 @@ fn run_service<I: Source, O: Sink, A: Door, C: Clock, N: Nonces + Drop, S: Seeds
     seeds: &mut S,
     gate: &G,
 ) -> Status
-    requires { CanServe (serving_in service.now) }
-    ensures comes { let look = seen A.Porch.Link.input A.Porch.Link.output A.Porch.Link.Input.left A.Porch.Link.Input.fault_count
-        A.Porch.Link.Output.written A.Porch.Link.Output.handed A.Porch.Link.Output.fault_count in
-        let views = views_of look A.Porch.coming A.Porch.served A.Porch.given A.Porch.most A.Porch.fault_count in
-        let can = can_count views N.nonce (told (C.shows clock.now) (A.links door.old) (A.closed door.new) (S.gives seeds.old 1)) in
-        (words : List (List ℕ)) → ComesServing can (serving_in service.now) result
-        (met_of words I.left I.fault_count input.old input.new (sinks_of O.written O.fault_count output.old output.new)
-        (faults_of A.fault_count door.old door.new) (faults_of S.fault_count seeds.old seeds.new)) }
-    ensures handed { HandsAllOn O.written O.handed O.fault_count output.old output.new }
-    ensures done { result ≡ Status.Done → HandsOn (O.written output.new) (O.handed output.new) }
+    requires { CanServe service.now }
+    ensures comes { let o = outside (views A.Porch.Link.view A.Porch.view N.nonce (C.shows clock.now))
+            (A.view door.old) (A.view door.new) (S.view seeds.old) in
+        (words : List (List ℕ)) → ComesServing (serves_over o) service.now result
+        (met_of words (I.view input.old) (I.view input.new)
+        (sinks_of (O.view output.old) (O.view output.new))
+        (faults_of (A.view door.old).faults (A.view door.new).faults)
+        (faults_of (S.view seeds.old).faults (S.view seeds.new).faults)) }
+    ensures handed { HandsAllOn (O.view output.old) (O.view output.new) }
+    ensures later { (O.view output.old).faults ≤ (O.view output.new).faults }
+    ensures input_later { (I.view input.old).faults ≤ (I.view input.new).faults }
+    ensures door_later { (A.view door.old).faults ≤ (A.view door.new).faults }
+    ensures seeds_later { (S.view seeds.old).faults ≤ (S.view seeds.new).faults }
+    ensures done { result ≡ Status.Done → HandsOn (O.view output.new).written (O.view output.new).handed }
 {
     match read_all(alloc, input) {
         Ok(bytes) => serve_input(alloc, service, &bytes, output, door, clock, seeds, gate),
@@ -405,15 +420,19 @@ fn run<I: Source, O: Sink, A: Door, C: Clock, N: Nonces + Drop, S: Seeds<N>, G: 
     seeds: &mut S,
     gate: &G,
 ) -> Status
-    ensures explained { let look = seen A.Porch.Link.input A.Porch.Link.output A.Porch.Link.Input.left A.Porch.Link.Input.fault_count
-        A.Porch.Link.Output.written A.Porch.Link.Output.handed A.Porch.Link.Output.fault_count in
-        let views = views_of look A.Porch.coming A.Porch.served A.Porch.given A.Porch.most A.Porch.fault_count in
-        let can = can_count views N.nonce (told (C.shows clock.now) (A.links door.old) (A.closed door.new) (S.gives seeds.old 1)) in
-        Explained can result
-        (met_of (texts words.now) I.left I.fault_count input.old input.new (sinks_of O.written O.fault_count output.old output.new)
-        (faults_of A.fault_count door.old door.new) (faults_of S.fault_count seeds.old seeds.new)) }
-    ensures handed { HandsAllOn O.written O.handed O.fault_count output.old output.new }
-    ensures done { result ≡ Status.Done → HandsOn (O.written output.new) (O.handed output.new) }
+    ensures explained { let o = outside (views A.Porch.Link.view A.Porch.view N.nonce (C.shows clock.now))
+            (A.view door.old) (A.view door.new) (S.view seeds.old) in
+        Explained (serves_over o) result
+        (met_of (texts words.now) (I.view input.old) (I.view input.new)
+        (sinks_of (O.view output.old) (O.view output.new))
+        (faults_of (A.view door.old).faults (A.view door.new).faults)
+        (faults_of (S.view seeds.old).faults (S.view seeds.new).faults)) }
+    ensures handed { HandsAllOn (O.view output.old) (O.view output.new) }
+    ensures later { (O.view output.old).faults ≤ (O.view output.new).faults }
+    ensures input_later { (I.view input.old).faults ≤ (I.view input.new).faults }
+    ensures door_later { (A.view door.old).faults ≤ (A.view door.new).faults }
+    ensures seeds_later { (S.view seeds.old).faults ≤ (S.view seeds.new).faults }
+    ensures done { result ≡ Status.Done → HandsOn (O.view output.new).written (O.view output.new).handed }
     ensures plain { (asked : Asked) → IsPlain (texts words.now) asked → asked_in (texts words.now) ≡ Some asked }
 {
     match read_words(alloc, words) {
@@ -449,27 +468,33 @@ pub fn command<R, I: Source, O: Sink, A: Door, C: Clock, N: Nonces + Drop, S: Se
 ) -> u8
     // How it ended, and what was written, by the fates of its visits; the status is the one that is due to the words and the
     // input by these fates, but for faults of the input and the output and for want of memory.
-    ensures ended { let look = seen A.Porch.Link.input A.Porch.Link.output A.Porch.Link.Input.left A.Porch.Link.Input.fault_count
-        A.Porch.Link.Output.written A.Porch.Link.Output.handed A.Porch.Link.Output.fault_count in
-        let views = views_of look A.Porch.coming A.Porch.served A.Porch.given A.Porch.most A.Porch.fault_count in
-        let can = can_count views N.nonce (told (C.shows clock.now) (A.links door.old) (A.closed door.new) (S.gives seeds.old 1)) in
-        Ends can result
-        (met_of (texts words.now) I.left I.fault_count input.old input.new (sinks_of O.written O.fault_count output.old output.new)
-        (faults_of A.fault_count door.old door.new) (faults_of S.fault_count seeds.old seeds.new)) }
+    ensures ended { let o = outside (views A.Porch.Link.view A.Porch.view N.nonce (C.shows clock.now))
+            (A.view door.old) (A.view door.new) (S.view seeds.old) in
+        Ends (serves_over o) result
+        (met_of (texts words.now) (I.view input.old) (I.view input.new)
+        (sinks_of (O.view output.old) (O.view output.new))
+        (faults_of (A.view door.old).faults (A.view door.new).faults)
+        (faults_of (S.view seeds.old).faults (S.view seeds.new).faults)) }
     // Plain words over a lawful input end well, at a step that does not fit, or for want of memory, where nothing outside fails.
     ensures complete { IsComplete result
-        (met_of (texts words.now) I.left I.fault_count input.old input.new (sinks_of O.written O.fault_count output.old output.new)
-        (faults_of A.fault_count door.old door.new) (faults_of S.fault_count seeds.old seeds.new)) }
+        (met_of (texts words.now) (I.view input.old) (I.view input.new)
+        (sinks_of (O.view output.old) (O.view output.new))
+        (faults_of (A.view door.old).faults (A.view door.new).faults)
+        (faults_of (S.view seeds.old).faults (S.view seeds.new).faults)) }
     // All that was written was handed on, unless the output failed; a run that ends well has handed on all in any case.
-    ensures handed { HandsAllOn O.written O.handed O.fault_count output.old output.new }
-    ensures done { result ≡ 0 → HandsOn (O.written output.new) (O.handed output.new) }
+    ensures handed { HandsAllOn (O.view output.old) (O.view output.new) }
+    ensures done { result ≡ 0 → HandsOn (O.view output.new).written (O.view output.new).handed }
+    ensures later { (O.view output.old).faults ≤ (O.view output.new).faults }
+    ensures input_later { (I.view input.old).faults ≤ (I.view input.new).faults }
+    ensures door_later { (A.view door.old).faults ≤ (A.view door.new).faults }
+    ensures seeds_later { (S.view seeds.old).faults ≤ (S.view seeds.new).faults }
     ensures usage { result ≡ 2 → asked_in (texts words.now) ≡ None }
     ensures plain { (asked : Asked) → IsPlain (texts words.now) asked → asked_in (texts words.now) ≡ Some asked }
     ensures understood { (asked : Asked) → IsPlain (texts words.now) asked → result ≢ 2 }
-    ensures read { result ≡ 5 → Rose (I.fault_count input.old) (I.fault_count input.new) }
-    ensures write { result ≡ 6 → Rose (O.fault_count output.old) (O.fault_count output.new) }
-    ensures door { result ≡ 9 → Rose (A.fault_count door.old) (A.fault_count door.new) }
-    ensures key { result ≡ 14 → Rose (S.fault_count seeds.old) (S.fault_count seeds.new) }
+    ensures read { result ≡ 5 → Rose (I.view input.old).faults (I.view input.new).faults }
+    ensures write { result ≡ 6 → Rose (O.view output.old).faults (O.view output.new).faults }
+    ensures door { result ≡ 9 → Rose (A.view door.old).faults (A.view door.new).faults }
+    ensures key { result ≡ 14 → Rose (S.view seeds.old).faults (S.view seeds.new).faults }
 {
     transcripts_are_runs();
     code_of(run(alloc, words, input, output, door, clock, seeds, gate))

@@ -1,9 +1,8 @@
-ghost use Rattle.std.specs.Prelude.{◌≡◌, List};
-ghost use Rattle.script_nodes.specs.Setup.{Named};
+ghost use Rattle.std.specs.Prelude.{◌≡◌};
 ghost use Rattle.shelf.specs.Ranges as ranges;
-ghost use Rattle.shelf.specs.Views.{rules_over};
+ghost use Rattle.shelf.specs.Views.{rules_of};
 ghost use Rattle.script_nodes.specs.Views.{scripts_of};
-ghost use Rattle.command_words.specs.Plain.{choices_in, AreInRange};
+ghost use Rattle.command_words.specs.Plain.{AreInRange};
 ghost use Rattle.server_command.specs.Desk.{first_desk};
 ghost use Rattle.server_command.specs.Laws.{TranscriptsAreRuns};
 ghost use Rattle.server_command.specs.Output.{rules_for};
@@ -46,10 +45,10 @@ impl<'s> Model for Desk<'s> {
 
 /// The rules of the one shelf that steps are played on.
 pub(crate) fn rules_of(options: &Options) -> Rules
-    requires { AreInRange (choices_in options.now) }
+    requires { AreInRange options.now }
     ensures in_range { ranges.AreInRange result }
     ensures number { result.number ≡ 0 }
-    ensures rules { (scripts : List Named) → rules_over scripts result ≡ rules_for (choices_in options.now) scripts }
+    ensures rules { rules_of result ≡ rules_for options.now }
 {
     Rules {
         number: 0,
@@ -63,8 +62,8 @@ pub(crate) fn rules_of(options: &Options) -> Rules
 
 /// An empty shelf of a setup under these options, in their ranges, and workers that hold nothing.
 pub fn new_desk<'s>(alloc: Global, setup: &'s Setup, options: &Options) -> Desk<'s>
-    requires { AreInRange (choices_in options.now) }
-    ensures { desk_of result.0 result.1 ≡ first_desk (rules_for (choices_in options.now) (scripts_of setup.now)) }
+    requires { AreInRange options.now }
+    ensures { desk_of result.0 result.1 ≡ first_desk (rules_for options.now) (scripts_of setup.now) }
 {
     Desk {
         alloc,

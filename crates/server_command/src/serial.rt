@@ -1,14 +1,12 @@
 ghost use Rattle.std.specs.Prelude.{◌≡◌, ◌<◌, ◌^◌, IfOk, true};
 ghost use Rattle.script_nodes.specs.Views.{scripts_of};
 ghost use Rattle.page_names.specs.Views.{target_of};
-ghost use Rattle.shelf.specs.Views.{rules_of};
 ghost use Rattle.server_command.specs.Serial.{pass_rules};
 ghost use Rattle.server_command.specs.Staff.{IsHere};
 
 use crate::staff::segment_of;
 use http_forms::Answering;
 use page_names::Target;
-use replay_spec::{each_has_its_cells, refused_is_unchanged, sound_books_stay};
 use script_nodes::Setup;
 use script_value::{Refusal, Reply, Value};
 use shelf::{Rules, Shelf};
@@ -40,7 +38,7 @@ fn is_here(target: &Target) -> bool
 impl<'s, N: Nonces + Drop> Answering for Serial<'s, N> {
     type Pass = Shelf<N>;
 
-    ghost rules = { λ s. pass_rules (rules_of s.setup.now s.rules) N.nonce (N.nonce s.source) };
+    ghost rules = { λ s. pass_rules (scripts_of s.setup.now) N.nonce (N.nonce s.source) };
 
     fn visit<G: Gate>(
         &self,
@@ -50,9 +48,6 @@ impl<'s, N: Nonces + Drop> Answering for Serial<'s, N> {
         answer: Value,
         gate: &G,
     ) -> Reply {
-        sound_books_stay();
-        each_has_its_cells();
-        refused_is_unchanged();
         if !is_here(target) {
             return Reply::Refused(Refusal::Unknown);
         }
@@ -72,7 +67,6 @@ impl<'s, N: Nonces + Drop> Answering for Serial<'s, N> {
         pass: &mut Shelf<N>,
         tick: u64,
     ) -> Result<Vec<Result<u32, Reply>>, AllocError> {
-        sound_books_stay();
         let mut answers = Vec::with_capacity(alloc, 1)?;
         match answers.push(pass.sweep(tick)) {
             Ok(()) => Ok(answers),

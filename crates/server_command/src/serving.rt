@@ -1,18 +1,14 @@
-ghost use Rattle.std.specs.Prelude.{◌≡◌, ◌≤◌, ◌∷◌, [], ℕ, List, IfOk, IfSome, IsErrOf, vec_len};
+ghost use Rattle.std.specs.Prelude.{◌≡◌, ◌≤◌, ◌∷◌, [], IfOk, IfSome, IsErrOf, vec_len};
 ghost use Rattle.web_outside.specs.Causes.{Rose};
 ghost use Rattle.script_nodes.specs.Views.{scripts_of};
-ghost use Rattle.command_words.specs.Plain.{CanServe, serving_in};
-ghost use Rattle.request_workers.specs.Scenes.{seen};
-ghost use Rattle.request_workers.specs.Tallies.{count_of};
-ghost use Rattle.request_workers.specs.Working.{EndsBy};
+ghost use Rattle.command_words.specs.Plain.{CanServe};
 ghost use Rattle.shelf.specs.Ranges.{AreInRange};
 ghost use Rattle.shelf.specs.Views.{rules_of};
-ghost use Rattle.server_command.specs.Serving.{Served, WorksAt, WorksFirst, told, views_of};
+ghost use Rattle.server_command.specs.Serving.{ServesBy, WorksFirst, outside, serves_over, views, worker_of};
 
 use crate::desk::rules_of;
 use crate::serial::Serial;
 use command_words::Service;
-use replay_spec::sound_books_stay;
 use request_workers::{Tally, WorkEnd, work};
 use script_nodes::Setup;
 use shelf::Shelf;
@@ -32,8 +28,9 @@ pub enum ServeFault {
 
 // The one source of nonces that the seeds give.
 fn draw_source<N: Nonces + Drop, S: Seeds<N>>(alloc: Global, seeds: &mut S) -> Result<N, ServeFault>
-    ensures drawn { IfOk result (λ source. IfSome (S.gives seeds.old 1) (λ sources. sources ≡ source ∷ [])) }
-    ensures key { IsErrOf result ServeFault.Key → Rose (S.fault_count seeds.old) (S.fault_count seeds.new) }
+    ensures drawn { IfOk result (λ source. IfSome ((S.view seeds.old).gives 1) (λ given. given ≡ source ∷ [])) }
+    ensures key { IsErrOf result ServeFault.Key → Rose (S.view seeds.old).faults (S.view seeds.new).faults }
+    ensures later { (S.view seeds.old).faults ≤ (S.view seeds.new).faults }
     ensures other { IsErrOf result ServeFault.Door → ⊥ }
 {
     match seeds.draw(alloc, 1) {
@@ -57,13 +54,9 @@ fn work_first<P: Porch, C: Clock, N: Nonces + Drop, G: Gate>(
     requires one { vec_len porches.old ≡ 1 }
     requires rules { AreInRange serial.now.rules }
     requires number { serial.now.rules.number ≡ 0 }
-    ensures works { let look = seen P.Link.input P.Link.output P.Link.Input.left P.Link.Input.fault_count
-        P.Link.Output.written P.Link.Output.handed P.Link.Output.fault_count in
-        let views = views_of look P.coming P.served P.given P.most P.fault_count in
-        WorksFirst views (C.shows clock.now) (rules_of serial.now.setup.now serial.now.rules) N.nonce (N.nonce serial.now.source)
-        porches.old.items porches.new.items result }
+    ensures works { WorksFirst (views P.Link.view P.view N.nonce (C.shows clock.now)) (rules_of serial.now.rules)
+        (scripts_of serial.now.setup.now) serial.now.source porches.old.items porches.new.items (worker_of result) }
 {
-    sound_books_stay();
     let mut shelf = Shelf::begin(alloc, serial.source.again(), serial.rules);
     work(alloc, serial, &mut shelf, &mut porches[0], clock, gate)
 }
@@ -79,14 +72,14 @@ pub fn serve<A: Door, C: Clock, N: Nonces + Drop, S: Seeds<N>, G: Gate>(
     seeds: &mut S,
     gate: &G,
 ) -> Result<Tally, ServeFault>
-    requires { CanServe (serving_in service.now) }
-    ensures served { let look = seen A.Porch.Link.input A.Porch.Link.output A.Porch.Link.Input.left A.Porch.Link.Input.fault_count
-        A.Porch.Link.Output.written A.Porch.Link.Output.handed A.Porch.Link.Output.fault_count in
-        let views = views_of look A.Porch.coming A.Porch.served A.Porch.given A.Porch.most A.Porch.fault_count in
-        IfOk result (λ tally. Served views N.nonce (told (C.shows clock.now) (A.links door.old) (A.closed door.new) (S.gives seeds.old 1))
-        (serving_in service.now) (scripts_of setup.now) (count_of tally)) }
-    ensures key { IsErrOf result ServeFault.Key → Rose (S.fault_count seeds.old) (S.fault_count seeds.new) }
-    ensures door { IsErrOf result ServeFault.Door → Rose (A.fault_count door.old) (A.fault_count door.new) }
+    requires { CanServe service.now }
+    ensures served { let o = outside (views A.Porch.Link.view A.Porch.view N.nonce (C.shows clock.now))
+            (A.view door.old) (A.view door.new) (S.view seeds.old) in
+        ServesBy (serves_over o) service.now (scripts_of setup.now) result }
+    ensures key { IsErrOf result ServeFault.Key → Rose (S.view seeds.old).faults (S.view seeds.new).faults }
+    ensures door { IsErrOf result ServeFault.Door → Rose (A.view door.old).faults (A.view door.new).faults }
+    ensures door_later { (A.view door.old).faults ≤ (A.view door.new).faults }
+    ensures seeds_later { (S.view seeds.old).faults ≤ (S.view seeds.new).faults }
 {
     let source = draw_source(alloc, seeds)?;
     let mut porches = match door.listen(alloc, service.port, 1, service.connections) {

@@ -2,7 +2,6 @@ ghost use Rattle.std.specs.Prelude.{◌≡◌, ◌<◌, ◌^◌, ◌∷◌, [], 
 ghost use Rattle.script_nodes.specs.Views.{scripts_of};
 ghost use Rattle.page_names.specs.Names.{destination_of};
 ghost use Rattle.play_steps.specs.Rules.{Publishes, Sweeps};
-ghost use Rattle.replay_spec.specs.Runs.{empty_shelf};
 ghost use Rattle.shelf.specs.Ranges.{AreInRange};
 ghost use Rattle.shelf.specs.Views.{IsRunIfAny, rules_of};
 ghost use Rattle.server_command.specs.Desk as spec;
@@ -11,13 +10,13 @@ ghost use Rattle.server_command.specs.Staff.{NamesHere, IsFit, TakesTicket, desk
 
 use crate::answer::answer_to;
 use http_forms::path_and_query;
-use instance_book::{Ticket, admitted_stand};
+use instance_book::Ticket;
 use page_names::{Target, parse_target};
 use plain_rerun::{Rerun, rerun};
-use replay_spec::{each_has_its_cells, pages_stay, refused_is_unchanged, sound_books_stay};
+use replay_spec::refused_is_unchanged;
 use script_nodes::Setup;
 use script_value::{Refusal, Reply};
-use shelf::{Rules, Shelf};
+use shelf::{Rules, Shelf, tickets_go_on_to_fit};
 use std::alloc::Global;
 use std::mem;
 use web_outside::Counting;
@@ -72,10 +71,9 @@ fn no_tickets() -> [Option<Ticket>; 16]
 /// An empty shelf under these rules, whose workers hold nothing.
 pub fn new_staff(alloc: Global, setup: &Setup, rules: Rules) -> Staff
     requires { AreInRange rules }
-    ensures desk { rules.number ≡ 0 → desk_of setup.now result ≡ first_desk (rules_of setup.now rules) }
+    ensures desk { rules.number ≡ 0 → desk_of setup.now result ≡ first_desk (rules_of rules) (scripts_of setup.now) }
     ensures fit { IsFit (scripts_of setup.now) result }
 {
-    sound_books_stay();
     Staff {
         shelf: Shelf::begin(alloc, Counting::new(), rules),
         tickets: no_tickets(),
@@ -105,7 +103,6 @@ pub fn take(
     ensures held { IfOk result (λ _. is_some (spec.ticket_of (desk_of setup.now staff.new) worker) ≡ true) }
     ensures fit { IsFit (scripts_of setup.now) staff.new }
 {
-    sound_books_stay();
     refused_is_unchanged();
     let (path, query) = path_and_query(target);
     let Some(target) = target_at(path) else {
@@ -132,10 +129,7 @@ pub fn publish(alloc: Global, setup: &Setup, staff: &mut Staff, worker: u32) -> 
     ensures fit { IsFit (scripts_of setup.now) staff.new }
 {
     // What holds of a ticket at its take holds until it is published.
-    sound_books_stay();
-    each_has_its_cells();
-    pages_stay();
-    admitted_stand();
+    tickets_go_on_to_fit();
     let Some(ticket) = handed_in(&mut staff.tickets, worker) else {
         return Reply::Refused(Refusal::Unknown);
     };
@@ -151,6 +145,5 @@ pub fn sweep(setup: &Setup, staff: &mut Staff, tick: u64) -> Result<u32, Reply>
     ensures fit { IsFit (scripts_of setup.now) staff.new }
 {
     let _ = setup;
-    sound_books_stay();
     staff.shelf.sweep(tick)
 }

@@ -1,6 +1,4 @@
 use Rattle.std.proofs.Common.{◌≡◌, [], Ok, Err, inl, inr, refl, rules}
-use Rattle.command_words.specs.Plain as plain
-use Rattle.command_words.specs.Plain.{choices_in, serving_in}
 use Rattle.command_words.specs.declared.Command.TheVariants.{Check, Play, Serve}
 use Rattle.command_words.specs.declared.WordsFault.TheVariants.{Usage}
 use Rattle.server_command.specs.Command.{texts}
@@ -11,7 +9,7 @@ pub returns-in-Ok-Check-clause-explained : goal.returns-in-Ok-Check-clause-expla
 returns-in-Ok-Check-clause-explained g c =
     let is : c.read_words.result ≡ Ok Check = search rules in
     let comes = c.run_job.ensures.comes _ _ _ in
-    (comes.0, inr (plain.check, (asks_if (texts c.args.words.now) _ Check is c.read_words.ensures.fine c.read_words.ensures.found, comes.1)))
+    (comes.0, inr (Check, (asks_if (texts c.args.words.now) _ Check is c.read_words.ensures.fine c.read_words.ensures.found, comes.1)))
 
 pub returns-in-Ok-Check-clause-plain : goal.returns-in-Ok-Check-clause-plain
 returns-in-Ok-Check-clause-plain g c = λ asked p. plain_asks _ asked p
@@ -20,7 +18,7 @@ pub returns-in-Ok-Play-clause-explained : goal.returns-in-Ok-Play-clause-explain
 returns-in-Ok-Play-clause-explained g c =
     let is : c.read_words.result ≡ Ok (Play c.in-Ok-Play.options) = search rules in
     let comes = c.run_job-in-Ok-Play.ensures.comes _ _ _ in
-    (comes.0, inr (plain.play (choices_in c.in-Ok-Play.options), (asks_if (texts c.args.words.now) _ (Play c.in-Ok-Play.options) is c.read_words.ensures.fine c.read_words.ensures.found, comes.1)))
+    (comes.0, inr (Play c.in-Ok-Play.options, (asks_if (texts c.args.words.now) _ (Play c.in-Ok-Play.options) is c.read_words.ensures.fine c.read_words.ensures.found, comes.1)))
 
 pub returns-in-Ok-Play-clause-plain : goal.returns-in-Ok-Play-clause-plain
 returns-in-Ok-Play-clause-plain g c = λ asked p. plain_asks _ asked p
@@ -28,7 +26,7 @@ returns-in-Ok-Play-clause-plain g c = λ asked p. plain_asks _ asked p
 pub returns-in-Ok-Serve-clause-explained : goal.returns-in-Ok-Serve-clause-explained
 returns-in-Ok-Serve-clause-explained g c =
     let is : c.read_words.result ≡ Ok (Serve c.in-Ok-Serve.service) = search rules in
-    ([], inr (plain.serve (serving_in c.in-Ok-Serve.service), (asks_if (texts c.args.words.now) _ (Serve c.in-Ok-Serve.service) is c.read_words.ensures.fine c.read_words.ensures.found, c.run_service.ensures.comes (texts c.args.words.now))))
+    ([], inr (Serve c.in-Ok-Serve.service, (asks_if (texts c.args.words.now) _ (Serve c.in-Ok-Serve.service) is c.read_words.ensures.fine c.read_words.ensures.found, c.run_service.ensures.comes (texts c.args.words.now))))
 
 pub returns-in-Ok-Serve-clause-plain : goal.returns-in-Ok-Serve-clause-plain
 returns-in-Ok-Serve-clause-plain g c = λ asked p. plain_asks _ asked p

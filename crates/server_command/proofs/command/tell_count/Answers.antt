@@ -1,11 +1,11 @@
 use Rattle.std.proofs.Common.{◌∙◌, ◌++◌, ◌∷◌, [], ap, codes}
 use Rattle.std.specs.Fmt.{decimal}
-use Rattle.command_words.specs.Plain as plain
+use Rattle.command_words.specs.declared.Command.TheVariants.{Check}
 use Rattle.server_command.proofs.Endings.{early, tells_count}
 use Rattle.server_command.proofs.command.tell_count.Goals as goal
 
 pub returns-in_default-clause-outputs : goal.returns-in_default-clause-outputs
-returns-in_default-clause-outputs g c = λ steps bytes e. early plain.check bytes _ _ _ _ _ c.no_memory.ensures.status c.no_memory.ensures.line
+returns-in_default-clause-outputs g c = λ steps bytes e. early Check bytes _ _ _ _ _ c.no_memory.ensures.status c.no_memory.ensures.line
 
 pub returns-in-Ok-write_all-clause-outputs : goal.returns-in-Ok-write_all-clause-outputs
 returns-in-Ok-write_all-clause-outputs g c = λ steps bytes e.
