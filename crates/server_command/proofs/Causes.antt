@@ -21,8 +21,8 @@ use Rattle.setup_reader.specs.Setup.{Parsed, Fault}
 use Rattle.setup_reader.proofs.Sections.{setup_found}
 use Rattle.replay_spec.specs.Step.{Fate}
 use Rattle.play_steps.specs.Transcript.{End, done, bad_line}
-use Rattle.server_command.specs.declared.command.Status.{Status}
-use Rattle.server_command.specs.declared.command.Status.TheVariants as status
+use Rattle.server_command.specs.declared.program.Status.{Status}
+use Rattle.server_command.specs.declared.program.Status.TheVariants as status
 use Rattle.server_command.specs.Laws.{TranscriptsAreRuns}
 use Rattle.server_command.specs.Output.{output_of, counted, ending_of, ended, served, written, run_of, Answers, nothing}
 use Rattle.server_command.specs.Command.{Met, ReadToEnd, Whole, Paused, Leaves, Outputs, Comes, ComesServing, ComesTo, Came, Refuses, Explains, Explained, IsUnread, EndsAs, Ends, EndsWell, IsLawful, ServesWell, asked_unless, asked_in, code_of, due, due_to, unread_line, unread_status}
@@ -310,7 +310,7 @@ serving_complete serves v status.Key met bytes e l read write well h = absurd (w
 -- a check has no steps
 check_complete : (s : Status) (met : Met) (bytes : List ℕ) (fates : List Fate) → met.input ≡ Some bytes → IsLawful Check bytes
     → (code_of s ≡ 0) ⊎ ((code_of s ≡ 4) ⊎ (code_of s ≡ 10)) → Comes Check fates s met → (code_of s ≡ 0) ⊎ (code_of s ≡ 10)
-check_complete s met bytes fates e l (inl done) h = inl done
+check_complete s met bytes fates e l (inl well) h = inl well
 check_complete s met bytes fates e l (inr (inl line)) h = absurd (no_line s met bytes fates e l (is_line s line) h)
   where
     is_line : (x : Status) → code_of x ≡ 4 → x ≡ status.Line

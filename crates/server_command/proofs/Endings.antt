@@ -11,8 +11,8 @@ use Rattle.setup_reader.specs.declared.setup.Ending.TheVariants.{Input}
 use Rattle.setup_reader.specs.Setup.{Parsed, Fault, setup_of}
 use Rattle.setup_reader.specs.Faults.{fault_line}
 use Rattle.replay_spec.specs.Step.{Fate}
-use Rattle.server_command.specs.declared.command.Status.{Status}
-use Rattle.server_command.specs.declared.command.Status.TheVariants as status
+use Rattle.server_command.specs.declared.program.Status.{Status}
+use Rattle.server_command.specs.declared.program.Status.TheVariants as status
 use Rattle.server_command.specs.Output.{Output, output_of, counted, ending_of, faulty, sinks, Tells, Answers, nothing}
 use Rattle.server_command.specs.Command.{Outputs}
 

@@ -19,8 +19,8 @@ use Rattle.server_command.specs.Desk.{Desk, desk_rules, first_desk}
 use Rattle.server_command.specs.Output.{Output, output_of, rules_for, finished, ended, sinks, Tells, at_line, replies}
 use Rattle.server_command.specs.Laws.{TranscriptsAreRuns}
 use Rattle.server_command.specs.Command.{Outputs, PlaysEvents, TellsLine}
-use Rattle.server_command.specs.declared.command.Status.{Status}
-use Rattle.server_command.specs.declared.command.Status.TheVariants as status
+use Rattle.server_command.specs.declared.program.Status.{Status}
+use Rattle.server_command.specs.declared.program.Status.TheVariants as status
 use Rattle.server_command.proofs.Endings.{whole_text, tells, since}
 
 -- the output of a run of these steps, by its transcript

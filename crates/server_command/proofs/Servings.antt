@@ -1,5 +1,5 @@
 -- What a serving came to, by what its calls say.
-use Rattle.std.proofs.Common.{◌≡◌, ◌∷◌, [], ap, subst, sym, ℕ, List, length, slice_set, Option, IfSome, refl, arith}
+use Rattle.std.proofs.Common.{◌≡◌, ◌≤◌, ◌<◌, ◌^◌, ◌∷◌, ◌∙◌, [], inl, ap, subst, sym, ℕ, List, length, slice_set, Option, IfSome, refl, arith}
 use Rattle.std.specs.Prelude.{All, Err, slice_index_or}
 use Rattle.std.proofs.lemmas.List.Elements.{All-head}
 use Rattle.web_outside.specs.Doors.{GiveLists, HaveNone, counts_with}
@@ -18,8 +18,8 @@ use Rattle.request_workers.specs.declared.tally.WorkEnd.TheVariants as ends
 use Rattle.setup_reader.specs.declared.setup.Ending.TheVariants.{Input}
 use Rattle.setup_reader.specs.Setup.{Fault, setup_of}
 use Rattle.setup_reader.specs.Faults.{fault_line}
-use Rattle.server_command.specs.declared.command.Status.{Status}
-use Rattle.server_command.specs.declared.command.Status.TheVariants as status
+use Rattle.server_command.specs.declared.program.Status.{Status}
+use Rattle.server_command.specs.declared.program.Status.TheVariants as status
 use Rattle.server_command.specs.Command.{TellsFaultLine}
 use Rattle.server_command.specs.Output.{Answers, Sinks, rules_for, served, sinks}
 use Rattle.server_command.specs.Serving.{Faults, LeavesInput, Outside, Served, Serves, WorksAt, WorksFirst, end_with, worker_of}
@@ -65,6 +65,11 @@ served_by o s scripts tally source had has rules drawn came fresh none most is w
   counted = sym (one_total (count_of tally));
   closed = subst (λ ps. IfSome o.after.closed (λ porches. porches ≡ ps)) w.has closed;
 }
+
+-- a count of a door does not fall where those of porches are added
+pub not_less : {P L : Type 0} (view : P → PorchView L) (porches : List P) (first count rose : ℕ) → first ≤ count → count < 2 ^ 64 → rose ≡ counts_with view porches count
+    → first ≤ rose
+not_less view porches first count rose before low is = omega (arith, before, low, is)
 
 -- a porch that failed is a fault of the door that closed it
 pub porch_rose : {P L : Type 0} (view : P → PorchView L) (old new : List P) (before after : P) (count rose : ℕ) → old ≡ before ∷ [] → new ≡ after ∷ []

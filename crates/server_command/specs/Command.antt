@@ -25,10 +25,10 @@ use Rattle.setup_reader.specs.Faults.{fault_line}
 use Rattle.setup_reader.specs.Sections.{IsSetup}
 use Rattle.replay_spec.specs.Step.{Fate, Reply}
 use Rattle.play_steps.specs.Step.{Step, steps_of, lines_of, AreSteps}
-use Rattle.server_command.specs.declared.command.Status.{Status}
-use Rattle.server_command.specs.declared.command.Status.TheVariants as status
-use Rattle.server_command.specs.declared.command.Job.{Job}
-use Rattle.server_command.specs.declared.command.Job.TheVariants as job
+use Rattle.server_command.specs.declared.program.Status.{Status}
+use Rattle.server_command.specs.declared.program.Status.TheVariants as status
+use Rattle.server_command.specs.declared.program.Job.{Job}
+use Rattle.server_command.specs.declared.program.Job.TheVariants as job
 use Rattle.server_command.specs.Serving.{Serves, Faults, HaveRisen, LeavesInput}
 use Rattle.server_command.specs.Desk.{first_desk}
 use Rattle.server_command.specs.Ledger.{print_of}

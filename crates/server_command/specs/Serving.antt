@@ -17,8 +17,8 @@ use Rattle.request_workers.specs.declared.tally.Tally.{Tally}
 use Rattle.request_workers.specs.declared.tally.WorkEnd.{WorkEnd}
 use Rattle.request_workers.specs.declared.tally.WorkEnd.TheVariants as ends
 use Rattle.shelf.specs.declared.shelf.Shelf.{Shelf}
-use Rattle.server_command.specs.declared.command.Status.{Status}
-use Rattle.server_command.specs.declared.command.Status.TheVariants as status
+use Rattle.server_command.specs.declared.program.Status.{Status}
+use Rattle.server_command.specs.declared.program.Status.TheVariants as status
 use Rattle.server_command.specs.declared.serving.ServeFault.{ServeFault}
 use Rattle.server_command.specs.declared.serving.ServeFault.TheVariants as fault
 use Rattle.server_command.specs.Output.{Output, Sinks, PrintsTo, Answers, BreaksOff, rules_for, served}
@@ -130,18 +130,24 @@ pub record Served {P L N : Type 0} (o : Outside P L N) (s : Service) (scripts : 
   pub counted : count ≡ total workers
   pub closed : IfSome o.after.closed (λ porches. porches ≡ new)
 
--- what a serving may come to: links were served and counted so; or no door was opened, and so none was closed
+-- what a serving may come to: links were served to their end and counted so; they were served until a porch failed; or no door was
+-- opened, and so none was closed
 pub record Serves : Type 1 where
-  pub can : Service → List Named → WorkEnd → Count → Type 0
+  pub can : Service → List Named → Count → Type 0
+  pub fails : Service → List Named → Count → Type 0
   pub unopened : Type 0
 
 abbrev pub serves_over : {P L N : Type 0} → Outside P L N → Serves
-serves_over o = record { can = Served o; unopened = o.after.closed ≡ o.before.closed }
+serves_over o = record {
+  can = λ s scripts count. Served o s scripts ends.Done count;
+  fails = λ s scripts count. Served o s scripts ends.Failed count;
+  unopened = o.after.closed ≡ o.before.closed;
+}
 
 -- what was served, by how a serving ended
 abbrev pub ServesBy : Serves → Service → List Named → Result Tally ServeFault → Type 0
-ServesBy serves s scripts (Ok tally) = serves.can s scripts ends.Done (count_of tally)
-ServesBy serves s scripts (Err fault.Door) = serves.unopened ⊎ ((count : Count) × serves.can s scripts ends.Failed count)
+ServesBy serves s scripts (Ok tally) = serves.can s scripts (count_of tally)
+ServesBy serves s scripts (Err fault.Door) = serves.unopened ⊎ ((count : Count) × serves.fails s scripts count)
 ServesBy serves s scripts (Err e) = serves.unopened
 
 -- ---- how it ended
@@ -159,18 +165,18 @@ HaveRisen f = Rose f.before f.after
 
 -- links were served to their end, and counted so; or no door was opened
 abbrev pub HasServedIfAny : Serves → Service → List Named → Type 0
-HasServedIfAny serves s scripts = serves.unopened ⊎ ((count : Count) × serves.can s scripts ends.Done count)
+HasServedIfAny serves s scripts = serves.unopened ⊎ ((count : Count) × serves.can s scripts count)
 
 -- the links of a setup were served and their counts told; or the seeds or the door failed, at once or at last; or memory ran out
 abbrev pub LeavesServing : Serves → Service → List Named → Status → Sinks → (door seeds : Faults) → Type 0
 LeavesServing serves s scripts status.Done out door seeds =
-    (count : Count) × serves.can s scripts ends.Done count × TellsCount count status.Done out
+    (count : Count) × serves.can s scripts count × TellsCount count status.Done out
 LeavesServing serves s scripts status.Write out door seeds =
-    (count : Count) × serves.can s scripts ends.Done count × TellsCount count status.Write out
+    (count : Count) × serves.can s scripts count × TellsCount count status.Write out
 LeavesServing serves s scripts status.Memory out door seeds =
     PrintsTo out (codes "error 10 memory\n") × HasServedIfAny serves s scripts
 LeavesServing serves s scripts status.Door out door seeds =
-    HaveRisen door × PrintsTo out (codes "error 9 door\n") × (serves.unopened ⊎ ((count : Count) × serves.can s scripts ends.Failed count))
+    HaveRisen door × PrintsTo out (codes "error 9 door\n") × (serves.unopened ⊎ ((count : Count) × serves.fails s scripts count))
 LeavesServing serves s scripts status.Key out door seeds =
     HaveRisen seeds × PrintsTo out (codes "error 14 key\n") × serves.unopened
 LeavesServing serves s scripts _ out door seeds = ⊥

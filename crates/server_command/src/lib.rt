@@ -2,10 +2,10 @@
 #![tactic(auto)]
 
 mod answer;
-mod command;
 mod desk;
+mod program;
 mod serial;
 mod serving;
 mod staff;
 
-pub use command::{Status, command};
+pub use program::{Status, command};

@@ -93,6 +93,8 @@ pub fn serve<A: Door, C: Clock, N: Nonces + Drop, S: Seeds<N>, G: Gate>(
         source,
     };
     let tally = work_first(alloc, &serial, &mut porches, clock, gate);
+    // A count is below 2^64, so it does not fall where those of the porches are added.
+    let _count = door.faults();
     door.close(porches);
     match tally.end {
         WorkEnd::Done => Ok(tally),

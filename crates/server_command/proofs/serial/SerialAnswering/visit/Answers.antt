@@ -10,9 +10,6 @@ use Rattle.shelf.specs.Views.{fate_by, shelf_of}
 use Rattle.server_command.specs.Serial.{elsewhere, published, refused}
 use Rattle.server_command.proofs.serial.SerialAnswering.visit.Goals as goal
 
-pub returns-then-clause-visit : goal.returns-then-clause-visit
-returns-then-clause-visit g c = ?
-
 pub returns-in-Ok-clause-visit : goal.returns-in-Ok-clause-visit
 returns-in-Ok-clause-visit g c = λ given has.
     let s = c.args.self.now in
@@ -26,10 +23,10 @@ returns-in-Ok-clause-visit g c = λ given has.
     let ticket : ticket_of t ≡ record { target = target_of c.args.target.now; answer = meaning c.args.answer; number = t.number; nonce = t.nonce } =
     ap (λ (x : next.Ticket). let y : next.Ticket = record { target = x.target; answer = x.answer; number = t.number; nonce = t.nonce } in y) c.in-Ok.ensures.ticket in
     record {
-      later = _;
+      later = drawn_by (reply_of c.publish.result) middle;
       stream = told.1;
       how = published (c.is_here.ensures.here here) t.number t.nonce (shelf_of scripts middle c.take.new.self) took.0
-          (subst (λ (x : next.Ticket). shelf_step source (shelf_of scripts middle c.take.new.self) (publish x) (fate_by (reply_of c.publish.result)) ≡ (reply_of c.publish.result, shelf_of scripts _ c.publish.new.self)) ticket told.0);
+          (subst (λ (x : next.Ticket). shelf_step source (shelf_of scripts middle c.take.new.self) (publish x) (fate_by (reply_of c.publish.result)) ≡ (reply_of c.publish.result, shelf_of scripts (drawn_by (reply_of c.publish.result) middle) c.publish.new.self)) ticket told.0);
     }
 
 pub returns-in-Err-clause-visit : goal.returns-in-Err-clause-visit
@@ -37,3 +34,7 @@ returns-in-Err-clause-visit g c = λ given has.
     let here : c.is_here.result ≡ true = search rules in
     let took = c.in-Err.ensures.event (g.N.Nonces.nonce c.args.self.now.source) given has in
     record { later = _; stream = took.1; how = refused (c.is_here.ensures.here here) took.0 }
+
+pub returns-then-not-is_here-clause-visit : goal.returns-then-not-is_here-clause-visit
+returns-then-not-is_here-clause-visit g c = λ given has.
+    record { later = given; stream = has; how = elsewhere (λ here. (let yes = c.is_here.ensures.only here in let no = c.if-not-is_here.true in cc)) refl refl }

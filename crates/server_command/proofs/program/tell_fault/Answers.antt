@@ -1,7 +1,7 @@
 use Rattle.std.proofs.Common.{◌∙◌}
 use Rattle.server_command.proofs.Endings.{early, tells_fault}
 use Rattle.server_command.proofs.Servings.{tells_fault_line}
-use Rattle.server_command.proofs.command.tell_fault.Goals as goal
+use Rattle.server_command.proofs.program.tell_fault.Goals as goal
 
 pub returns-in-Ok-clause-outputs : goal.returns-in-Ok-clause-outputs
 returns-in-Ok-clause-outputs g c = λ asked bytes e.

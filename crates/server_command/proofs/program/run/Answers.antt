@@ -3,7 +3,7 @@ use Rattle.command_words.specs.declared.Command.TheVariants.{Check, Play, Serve}
 use Rattle.command_words.specs.declared.WordsFault.TheVariants.{Usage}
 use Rattle.server_command.specs.Command.{texts}
 use Rattle.server_command.proofs.Causes.{asks_if, asks_nothing, plain_asks}
-use Rattle.server_command.proofs.command.run.Goals as goal
+use Rattle.server_command.proofs.program.run.Goals as goal
 
 pub returns-in-Ok-Check-clause-explained : goal.returns-in-Ok-Check-clause-explained
 returns-in-Ok-Check-clause-explained g c =

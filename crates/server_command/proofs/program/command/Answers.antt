@@ -1,7 +1,7 @@
 use Rattle.std.proofs.Common.{◌≢◌, ◌∙◌, subst, sym}
 use Rattle.server_command.specs.Command.{EndsWell}
 use Rattle.server_command.proofs.Causes.{complete, door_cause, ends, key_cause, plain_asks, understood, usage_code}
-use Rattle.server_command.proofs.command.command.Goals as goal
+use Rattle.server_command.proofs.program.command.Goals as goal
 
 pub returns-clause-ended : goal.returns-clause-ended
 returns-clause-ended g c = ends _ c.transcripts_are_runs.ensures _ c.run.result _ c.code_of.ensures c.run.ensures.explained

@@ -1,6 +1,6 @@
 use Rattle.std.proofs.Common.{refl}
 use Rattle.server_command.proofs.Playing.{done_outputs, line_outputs, write_outputs, memory_outputs}
-use Rattle.server_command.proofs.command.play_all.Goals as goal
+use Rattle.server_command.proofs.program.play_all.Goals as goal
 
 pub new_desk-desk-requires : goal.new_desk-desk-requires
 new_desk-desk-requires g c = c.requires

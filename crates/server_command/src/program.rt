@@ -8,7 +8,7 @@ ghost use Rattle.setup_reader.specs.Views.{fault_of, parsed_of};
 ghost use Rattle.command_words.specs.Plain.{AreInRange, CanServe, IsInRange, IsPlain};
 ghost use Rattle.command_words.specs.declared.Command.{Command as Asked};
 ghost use Rattle.request_workers.specs.Tallies.{count_of};
-ghost use Rattle.server_command.specs.declared.command.Status.{Status};
+ghost use Rattle.server_command.specs.declared.program.Status.{Status};
 ghost use Rattle.server_command.specs.Command as spec;
 ghost use Rattle.server_command.specs.Command.{Came, ComesServing, Counts, Ends, Explained, IsComplete, IsDoneUnlessFault, Outputs, OutputsFor, PlaysSteps, TellsFault, TellsFaultLine, TellsLine, texts, asked_in, asked_of, met_of, unread_line, unread_status};
 ghost use Rattle.server_command.specs.Output.{PrintsTo, ending_of, sinks_of};

@@ -1,6 +1,6 @@
 use Rattle.std.proofs.Common.{◌≡◌, Err, rules}
 use Rattle.server_command.proofs.Causes.{unread_by, unread_came}
-use Rattle.server_command.proofs.command.run_job.Goals as goal
+use Rattle.server_command.proofs.program.run_job.Goals as goal
 
 pub returns-in-Err-clause-comes : goal.returns-in-Err-clause-comes
 returns-in-Err-clause-comes g c = λ words door seeds.

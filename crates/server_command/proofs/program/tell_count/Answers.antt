@@ -2,7 +2,7 @@ use Rattle.std.proofs.Common.{◌∙◌, ◌++◌, ◌∷◌, [], ap, codes}
 use Rattle.std.specs.Fmt.{decimal}
 use Rattle.command_words.specs.declared.Command.TheVariants.{Check}
 use Rattle.server_command.proofs.Endings.{early, tells_count}
-use Rattle.server_command.proofs.command.tell_count.Goals as goal
+use Rattle.server_command.proofs.program.tell_count.Goals as goal
 
 pub returns-in_default-clause-outputs : goal.returns-in_default-clause-outputs
 returns-in_default-clause-outputs g c = λ steps bytes e. early Check bytes _ _ _ _ _ c.no_memory.ensures.status c.no_memory.ensures.line
