@@ -1,6 +1,7 @@
 -- What a prepared visit makes of a book is what the definitions make of it.
-use Rattle.std.proofs.Common.{◌≡◌, ◌∙◌, ap, sym, subst, ℕ, ◌+◌, max, nat_le, List, [], ◌∷◌, length, Some, Result, Ok, Err, IfOk, IfErr, OnOk, refl, arith, false}
+use Rattle.std.proofs.Common.{◌≡◌, ◌∙◌, ap, sym, subst, ℕ, zero, suc, ◌+◌, ◌<◌, max, nat_le, List, [], ◌∷◌, length, slice_get, get_or, Option, Some, None, Result, Ok, Err, IfOk, IfErr, OnOk, refl, arith, true, false}
 use Rattle.std.proofs.lemmas.Bool.Decides.{nat_tests}
+use Rattle.std.proofs.lemmas.Option.{get_or_from_slice_get}
 use Rattle.script_value.specs.declared.outcome.Reply.{Reply}
 use Rattle.script_value.specs.declared.outcome.Reply.TheVariants as reply
 use Rattle.script_value.specs.declared.outcome.TxName.{TxName}
@@ -10,56 +11,95 @@ use Rattle.script_nodes.specs.declared.script.SendKind.TheVariants.{Suspend, For
 use Rattle.instance_cells.specs.Cells.{Effect}
 use Rattle.replay_spec.specs.Tape.{shows, finishes, ends, paged}
 use Rattle.replay_spec.specs.Eval.{Segment}
+use Rattle.replay_spec.specs.Book as spec
 use Rattle.replay_spec.specs.Book.{Instance, Book, instance_at, spend}
-use Rattle.replay_spec.specs.Rules.{Rules, first_cells}
-use Rattle.replay_spec.specs.Change.{put_instance, mend, without, shown_by, done, fresh}
+use Rattle.replay_spec.specs.Rules.{Rules}
+use Rattle.replay_spec.specs.Change.{put_instance, mend, without, shown_by, done, fresh, root_by, opened_by}
 use Rattle.replay_spec.specs.Admission.{Place}
 use Rattle.replay_spec.specs.Next.{start_visit, page_visit, url_for}
 use Rattle.replay_spec.specs.Step as step
-use Rattle.replay_spec.specs.Step.{replies, records, settles, carried_out, opening, extension, ending, finish}
+use Rattle.replay_spec.specs.Step.{Decision, replies, records, settles, carried_out, opening, extension, ending, finish}
 use Rattle.instance_book.specs.declared.prepared.Prepared.{Prepared}
 use Rattle.instance_book.specs.declared.prepared.Change.{Change}
-use Rattle.instance_book.specs.declared.prepared.Change.TheVariants.{Nothing, Opens, Extends, Ends, Finishes}
+use Rattle.instance_book.specs.declared.prepared.Change.TheVariants.{Opens, Extends, Ends, Finishes}
 use Rattle.instance_book.specs.declared.ticket.Ticket.{Ticket}
 use Rattle.std.specs.declared.alloc.AllocError.{AllocError}
 use Rattle.instance_book.specs.declared.book.Book as RustBook
-use Rattle.instance_book.specs.Views.{ticket_of, reply_of, HasRoomAt}
-use Rattle.instance_book.specs.Changes.{instances_with, put_into, ended_with, shown_with, HasRoomFor}
+use Rattle.instance_book.specs.Views.{script_in, no_script, ticket_of, reply_of, HasRoomAt}
+use Rattle.instance_book.specs.Changes.{instances_after, put_into, decision_by, decision_of, ended_with, shown_with, HasRoomFor, IsPlacedBy}
 use Rattle.instance_book.specs.Fits.{IsFor, FitsStart}
-use Rattle.instance_book.specs.Prepares.{rules_with, IsRecord, Prepares, first_page, first_instance, next_page, OpensWith, ExtendsBy, EndsBy, IsOpening, IsExtension, IsEnding}
+use Rattle.instance_book.specs.Prepares.{rules_with, IsRecord, IsCarriedOut, Prepares, first_page, first_instance, next_page, opening_by, extension_by, ending_by, finish_by, OpensWith, ExtendsBy, EndsBy, IsOpening, IsExtension, IsEnding, IsFinish}
 
 -- two changes of the instance that is there which agree on it
-pub mend_agrees : (n : ℕ) (f g : Instance → Instance) (is : List Instance) (i : Instance) → instance_at n is ≡ Some i → f i ≡ g i → mend n f is ≡ mend n g is
+mend_agrees : (n : ℕ) (f g : Instance → Instance) (is : List Instance) (i : Instance) → instance_at n is ≡ Some i → f i ≡ g i → mend n f is ≡ mend n g is
 mend_agrees n f g [] i h e = refl
 mend_agrees n f g (j ∷ js) i h e = grind (arith, nat_tests, h, e, mend_agrees n f g js i)
 
-opens_as : (c : Change) (i : Instance) (is : List Instance) → OpensWith c i → instances_with c is ≡ put_instance i is
-opens_as Nothing i is h = absurd h
-opens_as (Opens j) i is h = ap (λ (k : Instance). put_instance k is) h
-opens_as (Extends n s) i is h = absurd h
-opens_as (Ends n a) i is h = absurd h
-opens_as (Finishes n) i is h = absurd h
+-- what a decision is answered with, and whether it opens an instance of a script of the setup
+abbrev reply_in : Decision → step.Reply
+reply_in (replies r) = r
+reply_in (records r c inside) = r
 
-extends_as : (c : Change) (i : Instance) (f : Instance → Instance) (is : List Instance) → instance_at i.number is ≡ Some i → ExtendsBy c i f → instances_with c is ≡ mend i.number f is
-extends_as Nothing i f is found h = absurd h
-extends_as (Opens j) i f is found h = absurd h
-extends_as (Extends n s) i f is found h = ap (λ (m : ℕ). mend m (shown_with s) is) h.0 ∙ mend_agrees i.number (shown_with s) f is i found h.1
-extends_as (Ends n a) i f is found h = absurd h
-extends_as (Finishes n) i f is found h = absurd h
+reply_is : (r : step.Reply) (c : Option Change) → reply_in (decision_by r c) ≡ r
+reply_is r None = refl
+reply_is r (Some c) = refl
 
-ends_as : (c : Change) (i : Instance) (f : Instance → Instance) (is : List Instance) → instance_at i.number is ≡ Some i → EndsBy c i f → instances_with c is ≡ mend i.number f is
-ends_as Nothing i f is found h = absurd h
-ends_as (Opens j) i f is found h = absurd h
-ends_as (Extends n s) i f is found h = absurd h
-ends_as (Ends n a) i f is found h = ap (λ (m : ℕ). mend m (ended_with a) is) h.0 ∙ mend_agrees i.number (ended_with a) f is i found h.1
-ends_as (Finishes n) i f is found h = absurd h
+abbrev PlacedIn : List Named → Decision → Type 0
+PlacedIn scripts (records r (spec.opens o) inside) = o.script < length scripts
+PlacedIn scripts _ = Unit {0}
+
+placed_by : (scripts : List Named) (r : step.Reply) (c : Option Change) (d : Decision) → decision_by r c ≡ d → PlacedIn scripts d → IsPlacedBy scripts c
+placed_by scripts r None d e h = tt
+placed_by scripts r (Some (Opens o)) d e h = subst (PlacedIn scripts) (sym e) h
+placed_by scripts r (Some (Extends x)) d e h = tt
+placed_by scripts r (Some (Ends x)) d e h = tt
+placed_by scripts r (Some (Finishes x)) d e h = tt
+
+below_length : {A : Type 0} (xs : List A) (k : ℕ) (x : A) → slice_get xs k ≡ Some x → k < length xs
+below_length [] k x h = absurd (cc)
+below_length (y ∷ ys) zero x h = omega arith
+below_length (y ∷ ys) (suc k) x h = omega (arith, below_length ys k x h)
+
+-- what a change makes of the instances
+opens_as : (scripts : List Named) (c : Option Change) (f : List Named → Instance) (is : List Instance) → OpensWith c f → instances_after scripts c is ≡ put_instance (f scripts) is
+opens_as scripts None f is h = absurd h
+opens_as scripts (Some (Opens o)) f is h = ap (λ (k : Instance). put_instance k is) (h scripts)
+opens_as scripts (Some (Extends x)) f is h = absurd h
+opens_as scripts (Some (Ends x)) f is h = absurd h
+opens_as scripts (Some (Finishes x)) f is h = absurd h
+
+extends_as : (scripts : List Named) (c : Option Change) (i : Instance) (f : Instance → Instance) (is : List Instance) → instance_at i.number is ≡ Some i → ExtendsBy c i f → instances_after scripts c is ≡ mend i.number f is
+extends_as scripts None i f is found h = absurd h
+extends_as scripts (Some (Opens o)) i f is found h = absurd h
+extends_as scripts (Some (Extends x)) i f is found h = ap (λ (m : ℕ). mend m (shown_with x.show) is) h.0 ∙ mend_agrees i.number (shown_with x.show) f is i found h.1
+extends_as scripts (Some (Ends x)) i f is found h = absurd h
+extends_as scripts (Some (Finishes x)) i f is found h = absurd h
+
+ends_as : (scripts : List Named) (c : Option Change) (i : Instance) (f : Instance → Instance) (is : List Instance) → instance_at i.number is ≡ Some i → EndsBy c i f → instances_after scripts c is ≡ mend i.number f is
+ends_as scripts None i f is found h = absurd h
+ends_as scripts (Some (Opens o)) i f is found h = absurd h
+ends_as scripts (Some (Extends x)) i f is found h = absurd h
+ends_as scripts (Some (Ends e)) i f is found h = ap (λ (m : ℕ). mend m (ended_with e.after) is) h.0 ∙ mend_agrees i.number (ended_with e.after) f is i found h.1
+ends_as scripts (Some (Finishes x)) i f is found h = absurd h
+
+-- the instance that a decision frees
+abbrev FreesAs : List Named → Option Change → List Instance → Decision → Type 0
+FreesAs scripts c is (records r (spec.finishes f) inside) = instances_after scripts c is ≡ without f.instance is
+FreesAs scripts c is _ = Unit {0}
+
+finishes_as : (scripts : List Named) (r : step.Reply) (c : Option Change) (is : List Instance) → FreesAs scripts c is (decision_by r c)
+finishes_as scripts r None is = tt
+finishes_as scripts r (Some (Opens o)) is = tt
+finishes_as scripts r (Some (Extends x)) is = tt
+finishes_as scripts r (Some (Ends x)) is = tt
+finishes_as scripts r (Some (Finishes f)) is = refl
 
 -- the instance of a start that showed its first page
-first_is : (scripts : List Named) (t : Ticket) (k : ℕ) (effects : List Effect) (inside left : List TxName) (kind : SendKind) (deadline : ℕ)
-    → t.script ≡ k → t.cells ≡ first_cells scripts k
-    → first_instance t effects inside left deadline ≡ shown_by effects left kind (first_page t effects inside deadline) (fresh scripts t.number k)
-first_is scripts t k effects inside left Suspend deadline script cells = rw (script, cells) refl
-first_is scripts t k effects inside left Forward deadline script cells = rw (script, cells) refl
+first_is : (scripts : List Named) (t : Ticket) (s : Named) (effects : List Effect) (inside left : List TxName) (kind : SendKind) (deadline : ℕ)
+    → script_in scripts t.script ≡ s → t.cells ≡ s.script.cells
+    → first_instance scripts t effects inside left deadline ≡ shown_by effects left kind (first_page t effects inside deadline) (fresh s t.number)
+first_is scripts t s effects inside left Suspend deadline script cells = rw (script, cells) refl
+first_is scripts t s effects inside left Forward deadline script cells = rw (script, cells) refl
 
 -- a book with other instances, and more logged
 abbrev logged_with : ℕ → List Instance → Book → Book
@@ -70,13 +110,26 @@ same_books n m is js b e f = rw (e, f) refl
 
 module _ (scripts : List Named) (fuel life instances pages : ℕ) (b : Book) (t : Ticket) where
   abbrev rules : Rules
-  rules = rules_with scripts fuel life instances pages
+  rules = rules_with fuel life instances pages
+
+  -- what is prepared makes of the book what the decision makes of it
+  carried : (p : Prepared) (d : Decision) (is : List Instance → List Instance) → decision_of p ≡ d → p.logged ≡ t.number + 1
+      → ((n : ℕ) → carried_out rules (spend n b) d ≡ (reply_in d, logged_with (t.number + 1) (is b.instances) (spend n b)))
+      → instances_after scripts p.change b.instances ≡ is b.instances → PlacedIn scripts d → IsCarriedOut scripts rules b d p
+  carried p d is decision logged landed made placed = record {
+    decision = decision;
+    lands = λ n.
+        let reply : reply_in d ≡ reply_of p.reply = ap reply_in (sym decision) ∙ reply_is (reply_of p.reply) p.change in
+        let book : logged_with (t.number + 1) (is b.instances) (spend n b) ≡ put_into scripts p (spend n b) = same_books (t.number + 1) p.logged (is b.instances) (instances_after scripts p.change b.instances) (spend n b) (sym logged) (sym made) in
+        landed n ∙ (ap (λ (r : step.Reply). (r, logged_with (t.number + 1) (is b.instances) (spend n b))) reply ∙ ap (λ (c : Book). (reply_of p.reply, c)) book);
+    placed = placed_by scripts (reply_of p.reply) p.change d decision placed;
+  }
 
   -- what changes nothing
-  pub stays : (p : Prepared) (r : Reply) → p.reply ≡ r → p.logged ≡ 0 → p.change ≡ Nothing → Prepares rules b (replies (reply_of r)) (Ok p)
-  stays p r e l c n =
+  pub stays : (p : Prepared) (r : Reply) → p.reply ≡ r → p.logged ≡ 0 → p.change ≡ None → Prepares scripts rules b (replies (reply_of r)) (Ok p)
+  stays p r e l c =
       let logged : max b.logged 0 ≡ b.logged = grind arith in
-      rw (e, l, c, logged) refl
+      record { decision = rw (e, c) refl; lands = λ n. rw (e, l, c, logged) refl; placed = rw c tt }
 
   start_shows : (k : ℕ) (named : Named) (s : Segment) (kind : SendKind) (bytes : List ℕ) → s.outcome ≡ paged (shows kind) bytes → nat_le instances (length b.instances) ≡ false
       → let v = start_visit b (ticket_of t) k named in
@@ -85,25 +138,41 @@ module _ (scripts : List Named) (fuel life instances pages : ℕ) (b : Book) (t 
 
   -- what was to be recorded and found no memory
   pub start_wants : (k : ℕ) (named : Named) (s : Segment) (kind : SendKind) (bytes : List ℕ) → s.outcome ≡ paged (shows kind) bytes → nat_le instances (length b.instances) ≡ false
-      → Prepares rules b (settles rules b (length b.instances) (start_visit b (ticket_of t) k named) s) (Err reply.Memory)
+      → Prepares scripts rules b (settles rules b (length b.instances) (start_visit b (ticket_of t) k named) s) (Err reply.Memory)
   start_wants k named s kind bytes e full = subst IsRecord (sym (start_shows k named s kind bytes e full)) tt
 
-  pub opening_lands : (k : ℕ) (named : Named) (s : Segment) (kind : SendKind) (bytes : List ℕ) (p : Prepared) → FitsStart scripts b t k named
+  pub opening_lands : b.scripts ≡ scripts → (k : ℕ) (named : Named) (s : Segment) (kind : SendKind) (bytes : List ℕ) (p : Prepared) → FitsStart scripts b t k named
       → s.outcome ≡ paged (shows kind) bytes → nat_le instances (length b.instances) ≡ false
-      → IsOpening p t bytes s.effects s.entered s.left (b.clock + life)
-      → Prepares rules b (settles rules b (length b.instances) (start_visit b (ticket_of t) k named) s) (Ok p)
-  opening_lands k named s kind bytes p fits e full o n =
+      → IsOpening p t bytes s.effects s.entered s.left kind (b.clock + life)
+      → Prepares scripts rules b (settles rules b (length b.instances) (start_visit b (ticket_of t) k named) s) (Ok p)
+  opening_lands setup k named s kind bytes p fits e full o =
       let v = start_visit b (ticket_of t) k named in
-      let reply : reply_of p.reply ≡ step.shown bytes (url_for v) = ap reply_of o.reply ∙ ap (step.shown bytes) fits.run.url in
-      let is : instances_with p.change b.instances ≡ put_instance (shown_by s.effects s.left kind (first_page t s.effects s.entered (b.clock + life)) (fresh scripts t.number k)) b.instances =
-      opens_as p.change _ b.instances o.change ∙ ap (λ (i : Instance). put_instance i b.instances) (first_is scripts t k s.effects s.entered s.left kind (b.clock + life) fits.place fits.cells) in
-      ap (carried_out rules (spend n b)) (start_shows k named s kind bytes e full)
-      ∙ sym (ap (λ (r : step.Reply). (r, put_into p (spend n b))) reply ∙ ap (λ (c : Book). (step.shown bytes (url_for v), c)) (same_books p.logged (t.number + 1) _ _ (spend n b) o.logged is))
+      let deadline = b.clock + life in
+      let record_of : ℕ → spec.Opening = λ m. record (opening_by t s.effects s.left kind deadline) { script = m } in
+      let d : Decision = records (step.shown bytes (url_for v)) (spec.opens (record_of k)) s.entered in
+      let same : records (step.shown bytes t.url) (spec.opens (record_of t.script)) s.entered ≡ d =
+      ap (λ (u : List ℕ). records (step.shown bytes u) (spec.opens (record_of t.script)) s.entered) fits.run.url ∙ ap (λ (m : ℕ). records (step.shown bytes (url_for v)) (spec.opens (record_of m)) s.entered) fits.place in
+      let there : slice_get scripts k ≡ Some named = ap (slice_get scripts) (sym fits.place) ∙ fits.run.script in
+      let its : script_in scripts t.script ≡ named = get_or_from_slice_get scripts t.script named no_script fits.run.script in
+      let begins : Instance = shown_by s.effects s.left kind (first_page t s.effects s.entered deadline) (fresh named t.number) in
+      let opened : opened_by (slice_get b.scripts k) (record_of k) s.entered b.instances ≡ put_instance begins b.instances =
+      ap (λ (ss : List Named). opened_by (slice_get ss k) (record_of k) s.entered b.instances) setup ∙ ap (λ (x : Option Named). opened_by x (record_of k) s.entered b.instances) there in
+      let made : instances_after scripts p.change b.instances ≡ put_instance begins b.instances =
+      opens_as scripts p.change _ b.instances o.change ∙ ap (λ (i : Instance). put_instance i b.instances) (first_is scripts t named s.effects s.entered s.left kind deadline its fits.cells) in
+      subst (λ (x : Decision). Prepares scripts rules b x (Ok p)) (sym (start_shows k named s kind bytes e full))
+      (carried p d (put_instance begins) (o.recorded.decision ∙ same) o.recorded.logged
+      (λ n. ap (λ (is : List Instance). (step.shown bytes (url_for v), logged_with (t.number + 1) is (spend n b))) opened) made (below_length scripts k named there))
 
   page_shows : (at : Place) (s : Segment) (kind : SendKind) (bytes : List ℕ) → s.outcome ≡ paged (shows kind) bytes → nat_le pages (length at.instance.pages) ≡ false
       → let v = page_visit b (ticket_of t) at in
       settles rules b (length at.instance.pages) v s ≡ records (step.shown bytes (url_for v)) (extension (b.clock + life) v s at.instance.number at.page.number kind) s.entered
   page_shows at s kind bytes e full = rw (e, full) refl
+
+  pub page_full : (at : Place) (s : Segment) (kind : SendKind) (bytes : List ℕ) (count : ℕ) → s.outcome ≡ paged (shows kind) bytes → count ≡ length at.instance.pages → nat_le pages count ≡ true
+      → Prepares scripts rules b (settles rules b (length at.instance.pages) (page_visit b (ticket_of t) at) s) (Err (reply.InstanceFull count))
+  page_full at s kind bytes count e many full =
+      let here : nat_le pages (length at.instance.pages) ≡ true = ap (nat_le pages) (sym many) ∙ full in
+      rw (e, here, many) refl
 
   page_ends : (at : Place) (s : Segment) (bytes : List ℕ) → s.outcome ≡ paged ends bytes
       → let v = page_visit b (ticket_of t) at in
@@ -116,75 +185,85 @@ module _ (scripts : List Named) (fuel life instances pages : ℕ) (b : Book) (t 
   page_finishes at s bytes e = rw e refl
 
   page_wants : (at : Place) (s : Segment) (kind : SendKind) (bytes : List ℕ) → s.outcome ≡ paged (shows kind) bytes → nat_le pages (length at.instance.pages) ≡ false
-      → Prepares rules b (settles rules b (length at.instance.pages) (page_visit b (ticket_of t) at) s) (Err reply.Memory)
+      → Prepares scripts rules b (settles rules b (length at.instance.pages) (page_visit b (ticket_of t) at) s) (Err reply.Memory)
   page_wants at s kind bytes e full = subst IsRecord (sym (page_shows at s kind bytes e full)) tt
 
   pub end_wants : (at : Place) (s : Segment) (bytes : List ℕ) → s.outcome ≡ paged ends bytes
-      → Prepares rules b (settles rules b (length at.instance.pages) (page_visit b (ticket_of t) at) s) (Err reply.Memory)
+      → Prepares scripts rules b (settles rules b (length at.instance.pages) (page_visit b (ticket_of t) at) s) (Err reply.Memory)
   end_wants at s bytes e = subst IsRecord (sym (page_ends at s bytes e)) tt
+
+  pub finish_wants : (at : Place) (s : Segment) (bytes : List ℕ) → s.outcome ≡ paged finishes bytes
+      → Prepares scripts rules b (settles rules b (length at.instance.pages) (page_visit b (ticket_of t) at) s) (Err reply.Memory)
+  finish_wants at s bytes e = subst IsRecord (sym (page_finishes at s bytes e)) tt
 
   pub extension_lands : (at : Place) (s : Segment) (kind : SendKind) (bytes : List ℕ) (p : Prepared) → IsFor scripts t (page_visit b (ticket_of t) at)
       → instance_at at.instance.number b.instances ≡ Some at.instance
       → s.outcome ≡ paged (shows kind) bytes → nat_le pages (length at.instance.pages) ≡ false
-      → IsExtension p t at.instance bytes (shown_by s.effects s.left kind (next_page t at.page.number s.effects s.entered (b.clock + life)))
-      → Prepares rules b (settles rules b (length at.instance.pages) (page_visit b (ticket_of t) at) s) (Ok p)
-  extension_lands at s kind bytes p fits found e full x n =
+      → IsExtension p t at.instance at.page.number bytes s.effects s.entered s.left kind (b.clock + life) (shown_by s.effects s.left kind (next_page t at.page.number s.effects s.entered (b.clock + life)))
+      → Prepares scripts rules b (settles rules b (length at.instance.pages) (page_visit b (ticket_of t) at) s) (Ok p)
+  extension_lands at s kind bytes p fits found e full x =
       let v = page_visit b (ticket_of t) at in
-      let reply : reply_of p.reply ≡ step.shown bytes (url_for v) = ap reply_of x.reply ∙ ap (step.shown bytes) fits.url in
-      let is = extends_as p.change at.instance _ b.instances found x.change in
-      ap (carried_out rules (spend n b)) (page_shows at s kind bytes e full)
-      ∙ sym (ap (λ (r : step.Reply). (r, put_into p (spend n b))) reply ∙ ap (λ (c : Book). (step.shown bytes (url_for v), c)) (same_books p.logged (t.number + 1) _ _ (spend n b) x.logged is))
+      let change : spec.Change = spec.extends (extension_by t at.instance.number at.page.number s.effects s.left kind (b.clock + life)) in
+      let d : Decision = records (step.shown bytes (url_for v)) change s.entered in
+      let f : Instance → Instance = shown_by s.effects s.left kind (next_page t at.page.number s.effects s.entered (b.clock + life)) in
+      let same : records (step.shown bytes t.url) change s.entered ≡ d = ap (λ (u : List ℕ). records (step.shown bytes u) change s.entered) fits.url in
+      subst (λ (y : Decision). Prepares scripts rules b y (Ok p)) (sym (page_shows at s kind bytes e full))
+      (carried p d (mend at.instance.number f) (x.recorded.decision ∙ same) x.recorded.logged (λ n. refl) (extends_as scripts p.change at.instance f b.instances found x.change) tt)
 
   pub ending_lands : (at : Place) (s : Segment) (bytes : List ℕ) (p : Prepared) → instance_at at.instance.number b.instances ≡ Some at.instance
-      → s.outcome ≡ paged ends bytes → IsEnding p t at.instance bytes (done s.effects s.left)
-      → Prepares rules b (settles rules b (length at.instance.pages) (page_visit b (ticket_of t) at) s) (Ok p)
-  ending_lands at s bytes p found e x n =
-      let is = ends_as p.change at.instance _ b.instances found x.change in
-      ap (carried_out rules (spend n b)) (page_ends at s bytes e)
-      ∙ sym (ap (λ (r : Reply). (reply_of r, put_into p (spend n b))) x.reply ∙ ap (λ (c : Book). (step.ended bytes, c)) (same_books p.logged (t.number + 1) _ _ (spend n b) x.logged is))
+      → s.outcome ≡ paged ends bytes → IsEnding p t at.instance at.page.number bytes s.effects s.entered s.left (done s.effects s.left)
+      → Prepares scripts rules b (settles rules b (length at.instance.pages) (page_visit b (ticket_of t) at) s) (Ok p)
+  ending_lands at s bytes p found e x =
+      let d : Decision = records (step.ended bytes) (spec.ends (ending_by t at.instance.number at.page.number s.effects s.left)) s.entered in
+      subst (λ (y : Decision). Prepares scripts rules b y (Ok p)) (sym (page_ends at s bytes e))
+      (carried p d (mend at.instance.number (done s.effects s.left)) x.recorded.decision x.recorded.logged (λ n. refl) (ends_as scripts p.change at.instance (done s.effects s.left) b.instances found x.change) tt)
 
   pub finish_lands : (at : Place) (s : Segment) (bytes : List ℕ) (p : Prepared) → s.outcome ≡ paged finishes bytes
-      → p.reply ≡ reply.Finished bytes → p.logged ≡ t.number + 1 → p.change ≡ Finishes at.instance.number
-      → Prepares rules b (settles rules b (length at.instance.pages) (page_visit b (ticket_of t) at) s) (Ok p)
-  finish_lands at s bytes p e r l c n =
-      let is : instances_with p.change b.instances ≡ without at.instance.number b.instances = ap (λ (d : Change). instances_with d b.instances) c in
-      ap (carried_out rules (spend n b)) (page_finishes at s bytes e)
-      ∙ sym (ap (λ (r : Reply). (reply_of r, put_into p (spend n b))) r ∙ ap (λ (c : Book). (step.finished bytes, c)) (same_books p.logged (t.number + 1) _ _ (spend n b) l is))
+      → IsFinish p t at.instance.number at.page.number bytes s.effects s.entered
+      → Prepares scripts rules b (settles rules b (length at.instance.pages) (page_visit b (ticket_of t) at) s) (Ok p)
+  finish_lands at s bytes p e x =
+      let d : Decision = records (step.finished bytes) (spec.finishes (finish_by t at.instance.number at.page.number s.effects)) s.entered in
+      let made : FreesAs scripts p.change b.instances d = subst (FreesAs scripts p.change b.instances) x.decision (finishes_as scripts (reply_of p.reply) p.change b.instances) in
+      subst (λ (y : Decision). Prepares scripts rules b y (Ok p)) (sym (page_finishes at s bytes e))
+      (carried p d (without at.instance.number) x.decision x.logged (λ n. refl) made tt)
 
-  pub extended : (at : Place) (s : Segment) (kind : SendKind) (bytes : List ℕ) (i : Instance) (parent : ℕ) (made : Result Prepared AllocError) (r : Result Prepared Reply)
-      → IsFor scripts t (page_visit b (ticket_of t) at) → instance_at at.instance.number b.instances ≡ Some at.instance → i ≡ at.instance → parent ≡ at.page.number
-      → s.outcome ≡ paged (shows kind) bytes → nat_le pages (length i.pages) ≡ false
-      → IfOk made (λ p. IsExtension p t i bytes (shown_by s.effects s.left kind (next_page t parent s.effects s.entered (b.clock + life))))
+  -- an extension for which room was wanted too
+  pub extended : (at : Place) (s : Segment) (kind : SendKind) (bytes : List ℕ) (made : Result Prepared AllocError) (r : Result Prepared Reply)
+      → IsFor scripts t (page_visit b (ticket_of t) at) → instance_at at.instance.number b.instances ≡ Some at.instance
+      → s.outcome ≡ paged (shows kind) bytes → nat_le pages (length at.instance.pages) ≡ false
+      → IfOk made (λ p. IsExtension p t at.instance at.page.number bytes s.effects s.entered s.left kind (b.clock + life) (shown_by s.effects s.left kind (next_page t at.page.number s.effects s.entered (b.clock + life))))
       → IfOk r (λ p. made ≡ Ok p) → IfErr r (λ e. e ≡ reply.Memory)
-      → Prepares rules b (settles rules b (length at.instance.pages) (page_visit b (ticket_of t) at) s) r
-  extended at s kind bytes i parent made (Ok p) fits found same number e full x is err =
-      let one : IsExtension p t i bytes (shown_by s.effects s.left kind (next_page t parent s.effects s.entered (b.clock + life))) =
-      subst (λ (m : Result Prepared AllocError). IfOk m (λ q. IsExtension q t i bytes (shown_by s.effects s.left kind (next_page t parent s.effects s.entered (b.clock + life))))) is x in
-      let two : IsExtension p t at.instance bytes (shown_by s.effects s.left kind (next_page t parent s.effects s.entered (b.clock + life))) =
-      subst (λ (j : Instance). IsExtension p t j bytes (shown_by s.effects s.left kind (next_page t parent s.effects s.entered (b.clock + life)))) same one in
-      let three : IsExtension p t at.instance bytes (shown_by s.effects s.left kind (next_page t at.page.number s.effects s.entered (b.clock + life))) =
-      subst (λ (m : ℕ). IsExtension p t at.instance bytes (shown_by s.effects s.left kind (next_page t m s.effects s.entered (b.clock + life)))) number two in
-      extension_lands at s kind bytes p fits found e (subst (λ (j : Instance). nat_le pages (length j.pages) ≡ false) same full) three
-  extended at s kind bytes i parent made (Err q) fits found same number e full x is err =
-      subst (λ (z : Reply). Prepares rules b (settles rules b (length at.instance.pages) (page_visit b (ticket_of t) at) s) (Err z)) (sym err)
-      (page_wants at s kind bytes e (subst (λ (j : Instance). nat_le pages (length j.pages) ≡ false) same full))
-
-  pub ended : (at : Place) (s : Segment) (bytes : List ℕ) (i : Instance) (p : Prepared) → instance_at at.instance.number b.instances ≡ Some at.instance → i ≡ at.instance
-      → s.outcome ≡ paged ends bytes → IsEnding p t i bytes (done s.effects s.left)
-      → Prepares rules b (settles rules b (length at.instance.pages) (page_visit b (ticket_of t) at) s) (Ok p)
-  ended at s bytes i p found same e x = ending_lands at s bytes p found e (subst (λ (j : Instance). IsEnding p t j bytes (done s.effects s.left)) same x)
+      → Prepares scripts rules b (settles rules b (length at.instance.pages) (page_visit b (ticket_of t) at) s) r
+  extended at s kind bytes made (Ok p) fits found e full x is err =
+      extension_lands at s kind bytes p fits found e full
+      (subst (λ (m : Result Prepared AllocError). IfOk m (λ q. IsExtension q t at.instance at.page.number bytes s.effects s.entered s.left kind (b.clock + life) (shown_by s.effects s.left kind (next_page t at.page.number s.effects s.entered (b.clock + life))))) is x)
+  extended at s kind bytes made (Err q) fits found e full x is err =
+      subst (λ (z : Reply). Prepares scripts rules b (settles rules b (length at.instance.pages) (page_visit b (ticket_of t) at) s) (Err z)) (sym err) (page_wants at s kind bytes e full)
 
 -- the room of what is prepared
-room_by : (c : Change) (i : Instance) (f : Instance → Instance) (b : RustBook.Book) → ExtendsBy c i f → HasRoomAt i.number b.instances → HasRoomFor c b
-room_by Nothing i f b h room = absurd h
-room_by (Opens j) i f b h room = absurd h
-room_by (Extends n s) i f b h room = subst (λ (m : ℕ). HasRoomAt m b.instances) (sym h.0) room
-room_by (Ends n a) i f b h room = absurd h
-room_by (Finishes n) i f b h room = absurd h
+room_by : (c : Option Change) (i : Instance) (f : Instance → Instance) (b : RustBook.Book) → ExtendsBy c i f → HasRoomAt i.number b.instances → HasRoomFor c b
+room_by None i f b h room = absurd h
+room_by (Some (Opens o)) i f b h room = absurd h
+room_by (Some (Extends x)) i f b h room = subst (λ (m : ℕ). HasRoomAt m b.instances) (sym h.0) room
+room_by (Some (Ends x)) i f b h room = absurd h
+room_by (Some (Finishes x)) i f b h room = absurd h
 
-pub room_made : (t : Ticket) (i : Instance) (bytes : List ℕ) (f : Instance → Instance) (n : ℕ) (b : RustBook.Book) (made : Result Prepared AllocError) (r : Result Prepared Reply) → i.number ≡ n
-    → IfOk made (λ p. IsExtension p t i bytes f) → IfOk r (λ p. made ≡ Ok p) → OnOk r (HasRoomAt n b.instances) → IfOk r (λ p. HasRoomFor p.change b)
-room_made t i bytes f n b made (Ok p) number x is room =
-    let one : IsExtension p t i bytes f = subst (λ (m : Result Prepared AllocError). IfOk m (λ q. IsExtension q t i bytes f)) is x in
+pub ending_room : (c : Option Change) (i : Instance) (f : Instance → Instance) (b : RustBook.Book) → EndsBy c i f → HasRoomFor c b
+ending_room None i f b h = absurd h
+ending_room (Some (Opens o)) i f b h = absurd h
+ending_room (Some (Extends x)) i f b h = absurd h
+ending_room (Some (Ends x)) i f b h = tt
+ending_room (Some (Finishes x)) i f b h = absurd h
+
+-- what was made whatever the setup was made under this one
+pub under : {A E : Type 0} (P : List Named → A → Type 0) (r : Result A E) (scripts : List Named) → IfOk r (λ x. (ss : List Named) → P ss x) → IfOk r (P scripts)
+under P (Ok x) scripts h = h scripts
+under P (Err e) scripts h = tt
+
+pub room_made : (t : Ticket) (i : Instance) (answered : ℕ) (bytes : List ℕ) (effects : List Effect) (inside left : List TxName) (kind : SendKind) (deadline : ℕ) (f : Instance → Instance) (n : ℕ) (b : RustBook.Book)
+    (made : Result Prepared AllocError) (r : Result Prepared Reply) → i.number ≡ n
+    → IfOk made (λ p. IsExtension p t i answered bytes effects inside left kind deadline f) → IfOk r (λ p. made ≡ Ok p) → OnOk r (HasRoomAt n b.instances) → IfOk r (λ p. HasRoomFor p.change b)
+room_made t i answered bytes effects inside left kind deadline f n b made (Ok p) number x is room =
+    let one : IsExtension p t i answered bytes effects inside left kind deadline f = subst (λ (m : Result Prepared AllocError). IfOk m (λ q. IsExtension q t i answered bytes effects inside left kind deadline f)) is x in
     room_by p.change i f b one.change (subst (λ (m : ℕ). HasRoomAt m b.instances) (sym number) room)
-room_made t i bytes f n b made (Err q) number x is room = tt
+room_made t i answered bytes effects inside left kind deadline f n b made (Err q) number x is room = tt

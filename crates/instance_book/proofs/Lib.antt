@@ -1,6 +1,6 @@
 pub mod Orders
-pub mod Viewed
-pub mod InPlace
+pub mod Lists
+pub mod Seen
 pub mod Links
 pub mod Lands
 pub mod Admitted

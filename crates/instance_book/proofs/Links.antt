@@ -5,11 +5,12 @@ use Rattle.std.specs.Borrow.{Bor}
 use Rattle.replay_spec.specs.Tape.{Answer}
 use Rattle.replay_spec.specs.Book.{Page, chain_within, parent_of}
 use Rattle.replay_spec.specs.Next.{Home, answered}
+use Rattle.instance_book.specs.declared.numbered.Numbered.{Numbered}
 use Rattle.instance_book.specs.declared.page.KeptPage.{KeptPage}
 use Rattle.instance_book.specs.Chains.{link_of}
 
 abbrev Link : Type 0
-Link = Bor KeptPage
+Link = Bor (Numbered KeptPage)
 
 -- behind the root there is nothing
 pub chain_none : (n : ℕ) (ps : List Page) → chain_within n ps None ≡ []

@@ -5,20 +5,21 @@ use Rattle.page_names.specs.Views.{name_of}
 use Rattle.replay_spec.specs.Tape.{Answer}
 use Rattle.replay_spec.specs.Book as spec
 use Rattle.replay_spec.specs.Next as next
+use Rattle.instance_book.specs.declared.numbered.Numbered.{Numbered}
+use Rattle.instance_book.specs.declared.in_order.InOrder.{InOrder}
 use Rattle.instance_book.specs.declared.page.KeptPage.{KeptPage}
-use Rattle.instance_book.specs.declared.page.Pages.{Pages}
 use Rattle.instance_book.specs.declared.chain.Home.{Home}
 use Rattle.instance_book.specs.Views.{page_of, pages_of}
 
-abbrev pub link_of : Bor KeptPage → spec.Page
+abbrev pub link_of : Bor (Numbered KeptPage) → spec.Page
 link_of p = page_of p.now
 
 abbrev pub home_of : Home → next.Home
 home_of h = record { name = name_of h.name; shelf = h.shelf; instance = h.instance }
 
 -- the pages from the root to this one, and each with the answer behind which it was shown
-abbrev pub chain_in : Pages → KeptPage → List spec.Page
+abbrev pub chain_in : InOrder KeptPage → Numbered KeptPage → List spec.Page
 chain_in ps p = spec.chain (pages_of ps) (page_of p)
 
-abbrev pub past_of : Home → Pages → KeptPage → List Answer
-past_of h ps p = map (next.answered (home_of h)) (chain_in ps p)
+abbrev pub past_behind : Home → InOrder KeptPage → Numbered KeptPage → List Answer
+past_behind h ps p = map (next.answered (home_of h)) (chain_in ps p)

@@ -1,44 +1,162 @@
 -- What a prepared visit makes of the book.
-use Rattle.std.specs.Prelude.{◌+◌, ◌^◌, ◌<◌, max, List, length, Option, Some, None, ⊤}
+use Rattle.std.specs.Prelude.{◌≡◌, ◌+◌, ◌^◌, ◌<◌, ℕ, max, List, [], ◌∷◌, map, length, Option, Some, None, ⊤}
+use Rattle.script_value.specs.Views.{meaning}
+use Rattle.script_value.specs.declared.outcome.TxName.{TxName}
+use Rattle.script_nodes.specs.Setup.{Named}
+use Rattle.instance_cells.specs.Views.{effect_of}
 use Rattle.replay_spec.specs.Book as spec
 use Rattle.replay_spec.specs.Change.{put_page, put_instance, mend, without}
+use Rattle.replay_spec.specs.Step as step
+use Rattle.replay_spec.specs.Step.{Decision, replies, records}
+use Rattle.instance_book.specs.declared.in_order.InOrder.{InOrder}
+use Rattle.instance_book.specs.declared.instance.KeptInstance.{KeptInstance}
 use Rattle.instance_book.specs.declared.after.After.{After}
 use Rattle.instance_book.specs.declared.after.Show.{Show}
-use Rattle.instance_book.specs.declared.prepared.Prepared.{Prepared}
+use Rattle.instance_book.specs.declared.prepared.Opening.{Opening}
+use Rattle.instance_book.specs.declared.prepared.Extension.{Extension}
+use Rattle.instance_book.specs.declared.prepared.Ending.{Ending}
+use Rattle.instance_book.specs.declared.prepared.Finish.{Finish}
 use Rattle.instance_book.specs.declared.prepared.Change.{Change}
-use Rattle.instance_book.specs.declared.prepared.Change.TheVariants.{Nothing, Opens, Extends, Ends, Finishes}
+use Rattle.instance_book.specs.declared.prepared.Change.TheVariants.{Opens, Extends, Ends, Finishes}
+use Rattle.instance_book.specs.declared.prepared.Prepared.{Prepared}
 use Rattle.instance_book.specs.declared.book.Book.{Book}
-use Rattle.instance_book.specs.Views.{page_of, instance_of, HasPlace, HasRoomAt}
+use Rattle.instance_book.specs.Orders.{numbers_of}
+use Rattle.instance_book.specs.Lists.{HasRoom}
+use Rattle.instance_book.specs.Views.{page_of, script_in, instance_with, reply_of, HasRoomAt}
 
 -- the one that came anew, or else what there is
 abbrev pub renewed : {A : Type 0} → A → Option A → A
 renewed x None = x
 renewed x (Some y) = y
 
+-- the numbers that are revoked, where these came anew
+abbrev pub renewed_by : List ℕ → Option (InOrder (Unit {0})) → List ℕ
+renewed_by ns None = ns
+renewed_by ns (Some list) = numbers_of list.things.items
+
+-- an instance behind a segment: its cells, closings, revoked numbers and pages
 abbrev pub ended_with : After → spec.Instance → spec.Instance
 ended_with a i = record i { cells = a.cells; closed = renewed i.closed a.closed }
 
-abbrev pub shown_with : Show → spec.Instance → spec.Instance
-shown_with s i = record (ended_with s.after i) { revoked = renewed i.revoked s.revoked; pages = put_page (page_of s.page) i.pages }
+abbrev pub revoked_with : Option (InOrder (Unit {0})) → spec.Instance → spec.Instance
+revoked_with revoked i = record i { revoked = renewed_by i.revoked revoked }
 
-abbrev pub instances_with : Change → List spec.Instance → List spec.Instance
-instances_with Nothing is = is
-instances_with (Opens i) is = put_instance (instance_of i) is
-instances_with (Extends n s) is = mend n (shown_with s) is
-instances_with (Ends n a) is = mend n (ended_with a) is
-instances_with (Finishes n) is = without n is
+abbrev pub shown_with : Show → spec.Instance → spec.Instance
+shown_with s i = record (revoked_with s.revoked (ended_with s.after i)) { pages = put_page (page_of s.page) i.pages }
+
+-- of what was kept of an instance this was made
+abbrev pub Becomes : (spec.Instance → spec.Instance) → (old new : KeptInstance) → Type 0
+Becomes f old new = (scripts : List Named) (n : ℕ) → instance_with scripts n new ≡ f (instance_with scripts n old)
+
+-- the change of a record
+abbrev pub opening_of : Opening → spec.Opening
+opening_of o = record {
+  number = o.page.number;
+  nonce = o.page.item.nonce;
+  script = o.instance.script;
+  effects = map effect_of o.effects.items;
+  left = o.left.items;
+  kind = o.kind;
+  deadline = o.page.item.deadline;
+}
+
+abbrev pub extension_of : Extension → spec.Extension
+extension_of x = record {
+  number = x.show.page.number;
+  nonce = x.show.page.item.nonce;
+  instance = x.instance;
+  page = x.answered;
+  answer = meaning x.show.page.item.answer;
+  effects = map effect_of x.effects.items;
+  left = x.left.items;
+  kind = x.kind;
+  deadline = x.show.page.item.deadline;
+}
+
+abbrev pub ending_of : Ending → spec.Ending
+ending_of e = record {
+  number = e.number;
+  instance = e.instance;
+  page = e.answered;
+  answer = meaning e.answer;
+  effects = map effect_of e.effects.items;
+  left = e.left.items;
+}
+
+abbrev pub finish_of : Finish → spec.Finish
+finish_of f = record {
+  number = f.number;
+  instance = f.instance;
+  page = f.answered;
+  answer = meaning f.answer;
+  effects = map effect_of f.effects.items;
+}
+
+abbrev pub change_of : Change → spec.Change
+change_of (Opens o) = spec.opens (opening_of o)
+change_of (Extends x) = spec.extends (extension_of x)
+change_of (Ends e) = spec.ends (ending_of e)
+change_of (Finishes f) = spec.finishes (finish_of f)
+
+-- the transactions that were open where its segment stopped
+abbrev pub inside_of : Change → List TxName
+inside_of (Opens o) = o.page.item.inside.items
+inside_of (Extends x) = x.show.page.item.inside.items
+inside_of (Ends e) = e.inside.items
+inside_of (Finishes f) = f.inside.items
+
+-- the decision that is prepared
+abbrev pub decision_by : step.Reply → Option Change → Decision
+decision_by r None = replies r
+decision_by r (Some c) = records r (change_of c) (inside_of c)
+
+abbrev pub decision_of : Prepared → Decision
+decision_of p = decision_by (reply_of p.reply) p.change
+
+-- the instance that begins with its page
+abbrev pub begun_with : List Named → Opening → spec.Instance
+begun_with scripts o =
+    let i = instance_with scripts o.page.number o.instance in record i { pages = put_page (page_of o.page) i.pages }
+
+abbrev pub instances_with : List Named → Change → List spec.Instance → List spec.Instance
+instances_with scripts (Opens o) is = put_instance (begun_with scripts o) is
+instances_with scripts (Extends x) is = mend x.instance (shown_with x.show) is
+instances_with scripts (Ends e) is = mend e.instance (ended_with e.after) is
+instances_with scripts (Finishes f) is = without f.instance is
+
+abbrev pub instances_after : List Named → Option Change → List spec.Instance → List spec.Instance
+instances_after scripts None is = is
+instances_after scripts (Some c) is = instances_with scripts c is
 
 -- the book behind a change, and behind all that is prepared
-abbrev pub changed_by : Change → spec.Book → spec.Book
-changed_by c b = record b { instances = instances_with c b.instances }
+abbrev pub changed_by : List Named → Option Change → spec.Book → spec.Book
+changed_by scripts c b = record b { instances = instances_after scripts c b.instances }
 
-abbrev pub put_into : Prepared → spec.Book → spec.Book
-put_into p b = record (changed_by p.change b) { logged = max b.logged p.logged }
+abbrev pub put_into : List Named → Prepared → spec.Book → spec.Book
+put_into scripts p b =
+    record (changed_by scripts p.change b) { logged = max b.logged p.logged }
 
 -- the room that it takes is there
-abbrev pub HasRoomFor : Change → Book → Type 0
-HasRoomFor Nothing b = ⊤
-HasRoomFor (Opens i) b = HasPlace b.instances × (length b.instances.items.items + 1 < 2 ^ 32)
-HasRoomFor (Extends n s) b = HasRoomAt n b.instances
-HasRoomFor (Ends n a) b = ⊤
-HasRoomFor (Finishes n) b = ⊤
+pub record HasRoomToOpen (o : Opening) (b : Book) : Type 0 where
+  pub page : HasRoom o.instance.pages
+  pub instance : HasRoom b.instances
+  pub few : length b.instances.things.items + 1 < 2 ^ 32
+
+abbrev pub HasRoomWith : Change → Book → Type 0
+HasRoomWith (Opens o) b = HasRoomToOpen o b
+HasRoomWith (Extends x) b = HasRoomAt x.instance b.instances
+HasRoomWith (Ends e) b = ⊤
+HasRoomWith (Finishes f) b = ⊤
+
+abbrev pub HasRoomFor : Option Change → Book → Type 0
+HasRoomFor None b = ⊤
+HasRoomFor (Some c) b = HasRoomWith c b
+
+-- a new instance is of a script of the setup
+abbrev pub OpensPlaced : List Named → Change → Type 0
+OpensPlaced scripts (Opens o) = o.instance.script < length scripts
+OpensPlaced scripts _ = ⊤
+
+abbrev pub IsPlacedBy : List Named → Option Change → Type 0
+IsPlacedBy scripts None = ⊤
+IsPlacedBy scripts (Some c) = OpensPlaced scripts c

@@ -1,5 +1,8 @@
 pub mod Orders
+pub mod Lists
 pub mod Views
+pub mod Places
+pub mod Makes
 pub mod Changes
 pub mod Fits
 pub mod Admissions
@@ -8,4 +11,3 @@ pub mod Swept
 pub mod Prepares
 pub mod Segments
 pub mod Copies
-pub mod Stands

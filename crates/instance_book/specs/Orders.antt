@@ -1,9 +1,13 @@
 -- Numbers that rise, and where one of them stands.
-use Rattle.std.specs.Prelude.{◌≡◌, ℕ, ◌<◌, ◌≤◌, List, length, slice_index, Result, IfOk, IfErr}
+use Rattle.std.specs.Prelude.{◌≡◌, ℕ, ◌<◌, ◌≤◌, List, length, map, slice_index, Result, IfOk, IfErr}
+use Rattle.instance_book.specs.declared.numbered.Numbered.{Numbered}
 
 -- each number is below those behind it
 abbrev pub Rises : List ℕ → Type 0
 Rises ns = (j k : ℕ) → j < k → k < length ns → slice_index ns j < slice_index ns k
+
+abbrev pub numbers_of : {T : Type 0} → List (Numbered T) → List ℕ
+numbers_of things = map (λ thing. thing.number) things
 
 -- the number stands at this place
 pub record IsAt (ns : List ℕ) (n place : ℕ) : Type 0 where

@@ -1,48 +1,56 @@
 -- What a visit is prepared as.
-use Rattle.std.specs.Prelude.{◌≡◌, ℕ, ◌+◌, List, [], ◌∷◌, length, Some, None, Result, Ok, Err, ⊤}
+use Rattle.std.specs.Prelude.{◌≡◌, ℕ, ◌+◌, List, [], ◌∷◌, length, Option, Some, None, IfSome, Result, Ok, Err, ⊤}
 use Rattle.script_value.specs.Val.{list, no_vals}
 use Rattle.script_value.specs.Views.{meaning}
 use Rattle.script_value.specs.declared.outcome.Reply.{Reply}
 use Rattle.script_value.specs.declared.outcome.Reply.TheVariants as reply
 use Rattle.script_value.specs.declared.outcome.TxName.{TxName}
 use Rattle.script_nodes.specs.Setup.{Named}
+use Rattle.script_nodes.specs.declared.script.SendKind.{SendKind}
 use Rattle.instance_cells.specs.Cells.{Effect, AreOn, commit, reads_of}
 use Rattle.page_names.specs.Names.{Destination, start, page}
 use Rattle.page_names.specs.Views.{target_of}
 use Rattle.page_names.specs.declared.names.PageName.{PageName}
 use Rattle.replay_spec.specs.Eval.{Segment}
 use Rattle.replay_spec.specs.Book as spec
-use Rattle.replay_spec.specs.Book.{instance_at, spend}
+use Rattle.replay_spec.specs.Book.{Doubt, instance_at, spend}
 use Rattle.replay_spec.specs.Rules.{Rules}
 use Rattle.replay_spec.specs.Admission.{Place, Admission, begins, resumes, refused, refusal_of, admit}
 use Rattle.replay_spec.specs.Next.{start_visit, page_visit}
-use Rattle.replay_spec.specs.Step.{Decision, replies, records, settles, carried_out, refusal}
+use Rattle.replay_spec.specs.Step.{Decision, replies, records, settles, carried_out, refusal, shown, ended, finished}
 use Rattle.instance_book.specs.declared.prepared.Prepared.{Prepared}
 use Rattle.instance_book.specs.declared.prepared.Change.{Change}
-use Rattle.instance_book.specs.declared.prepared.Change.TheVariants.{Opens, Extends, Ends}
+use Rattle.instance_book.specs.declared.prepared.Change.TheVariants.{Opens, Extends, Ends, Finishes}
+use Rattle.instance_book.specs.declared.book.Book.{Book}
 use Rattle.instance_book.specs.declared.ticket.Ticket.{Ticket}
-use Rattle.instance_book.specs.Views.{ticket_of, instance_of, reply_of}
-use Rattle.instance_book.specs.Changes.{put_into, ended_with, shown_with}
+use Rattle.instance_book.specs.Views.{script_in, ticket_of, reply_of, book_of}
+use Rattle.instance_book.specs.Changes.{begun_with, shown_with, ended_with, decision_of, put_into, IsPlacedBy}
+use Rattle.instance_book.specs.Swept.{cells_at}
 use Rattle.instance_book.specs.Fits.{IsFor, FitsStart, FitsAs}
 
--- the rules of a shelf in memory
-abbrev pub rules_with : List Named → (fuel life instances pages : ℕ) → Rules
-rules_with scripts fuel life instances pages =
-    record { scripts = scripts; fuel = fuel; life = life; instances = instances; pages = pages; journal = None }
+-- what a visit runs under beside no journal: its record is measured by whoever keeps one
+abbrev pub rules_with : (fuel life instances pages : ℕ) → Rules
+rules_with fuel life instances pages =
+    record { fuel = fuel; life = life; instances = instances; pages = pages; journal = None }
 
 -- the decision changes the book
 abbrev pub IsRecord : Decision → Type 0
 IsRecord (replies r) = ⊥
 IsRecord (records r c inside) = ⊤
 
--- What is prepared carries a decision out, also on the book where numbers are spent; a refusal is the decision. Want of memory is
--- told only of one that changes the book.
-abbrev pub Prepares : Rules → spec.Book → Decision → Result Prepared Reply → Type 0
-Prepares rules b d (Ok p) = (n : ℕ) → carried_out rules (spend n b) d ≡ (reply_of p.reply, put_into p (spend n b))
-Prepares rules b d (Err reply.Memory) = IsRecord d
-Prepares rules b d (Err r) = d ≡ replies (reply_of r)
+-- What is prepared is the decision, and what it makes of the book carries the decision out, also where numbers are spent.
+pub record IsCarriedOut (scripts : List Named) (rules : Rules) (b : spec.Book) (d : Decision) (p : Prepared) : Type 0 where
+  pub decision : decision_of p ≡ d
+  pub lands : (n : ℕ) → carried_out rules (spend n b) d ≡ (reply_of p.reply, put_into scripts p (spend n b))
+  pub placed : IsPlacedBy scripts p.change
 
--- the first page of an instance, and the instance
+-- A refusal is the decision. Want of memory is told only of one that changes the book.
+abbrev pub Prepares : List Named → Rules → spec.Book → Decision → Result Prepared Reply → Type 0
+Prepares scripts rules b d (Ok p) = IsCarriedOut scripts rules b d p
+Prepares scripts rules b d (Err reply.Memory) = IsRecord d
+Prepares scripts rules b d (Err r) = d ≡ replies (reply_of r)
+
+-- the first page of an instance, and the instance without it and with it
 abbrev pub first_page : Ticket → List Effect → List TxName → (deadline : ℕ) → spec.Page
 first_page t effects inside deadline = record {
   number = t.number;
@@ -54,15 +62,13 @@ first_page t effects inside deadline = record {
   deadline = deadline;
 }
 
-abbrev pub first_instance : Ticket → List Effect → (inside left : List TxName) → (deadline : ℕ) → spec.Instance
-first_instance t effects inside left deadline = record {
-  number = t.number;
-  script = t.script;
-  cells = commit effects t.cells;
-  closed = left;
-  revoked = [];
-  pages = first_page t effects inside deadline ∷ [];
-}
+abbrev pub begun_by : List Named → Ticket → (number : ℕ) → List Effect → (left : List TxName) → spec.Instance
+begun_by scripts t n effects left =
+    record { number = n; script = script_in scripts t.script; cells = commit effects t.cells; closed = left; revoked = []; pages = [] }
+
+abbrev pub first_instance : List Named → Ticket → List Effect → (inside left : List TxName) → (deadline : ℕ) → spec.Instance
+first_instance scripts t effects inside left deadline =
+    record (begun_by scripts t t.number effects left) { pages = first_page t effects inside deadline ∷ [] }
 
 -- the page of an answer to this one
 abbrev pub next_page : Ticket → (parent : ℕ) → List Effect → List TxName → (deadline : ℕ) → spec.Page
@@ -76,60 +82,114 @@ next_page t parent effects inside deadline = record {
   deadline = deadline;
 }
 
-abbrev pub OpensWith : Change → spec.Instance → Type 0
-OpensWith (Opens i) j = instance_of i ≡ j
-OpensWith _ j = ⊥
+-- the changes of a ticket's segment
+abbrev pub opening_by : Ticket → List Effect → List TxName → SendKind → (deadline : ℕ) → spec.Opening
+opening_by t effects left kind deadline = record {
+  number = t.number;
+  nonce = t.nonce;
+  script = t.script;
+  effects = effects;
+  left = left;
+  kind = kind;
+  deadline = deadline;
+}
 
--- a start showed this page
-pub record IsOpening (p : Prepared) (t : Ticket) (bytes : List ℕ) (effects : List Effect) (inside left : List TxName) (deadline : ℕ) : Type 0 where
-  pub reply : p.reply ≡ reply.Page bytes t.url
-  pub logged : p.logged ≡ t.number + 1
-  pub change : OpensWith p.change (first_instance t effects inside left deadline)
+abbrev pub extension_by : Ticket → (instance answered : ℕ) → List Effect → List TxName → SendKind → (deadline : ℕ) → spec.Extension
+extension_by t instance answered effects left kind deadline = record {
+  number = t.number;
+  nonce = t.nonce;
+  instance = instance;
+  page = answered;
+  answer = meaning t.answer;
+  effects = effects;
+  left = left;
+  kind = kind;
+  deadline = deadline;
+}
 
--- what is prepared for a start that is admitted
-abbrev pub StartsOn : spec.Book → Ticket → Segment → (instances life : ℕ) → Result Prepared Reply → Type 0
-StartsOn b t s instances life result =
-    (scripts : List Named) (fuel pages k : ℕ) (named : Named) → FitsStart scripts b t k named
-    → let rules = rules_with scripts fuel life instances pages in
-    Prepares rules b (settles rules b (length b.instances) (start_visit b (ticket_of t) k named) s) result
+abbrev pub ending_by : Ticket → (instance answered : ℕ) → List Effect → List TxName → spec.Ending
+ending_by t instance answered effects left = record {
+  number = t.number;
+  instance = instance;
+  page = answered;
+  answer = meaning t.answer;
+  effects = effects;
+  left = left;
+}
 
-abbrev pub ExtendsBy : Change → spec.Instance → (spec.Instance → spec.Instance) → Type 0
-ExtendsBy (Extends n s) i f = (n ≡ i.number) × (shown_with s i ≡ f i)
+abbrev pub finish_by : Ticket → (instance answered : ℕ) → List Effect → spec.Finish
+finish_by t instance answered effects = record {
+  number = t.number;
+  instance = instance;
+  page = answered;
+  answer = meaning t.answer;
+  effects = effects;
+}
+
+-- the instance that an opening begins with is this under each setup; an extension or ending makes this of an instance
+abbrev pub OpensWith : Option Change → (List Named → spec.Instance) → Type 0
+OpensWith (Some (Opens o)) f = (scripts : List Named) → begun_with scripts o ≡ f scripts
+OpensWith _ f = ⊥
+
+abbrev pub ExtendsBy : Option Change → spec.Instance → (spec.Instance → spec.Instance) → Type 0
+ExtendsBy (Some (Extends x)) i f = (x.instance ≡ i.number) × (shown_with x.show i ≡ f i)
 ExtendsBy _ i f = ⊥
 
-abbrev pub EndsBy : Change → spec.Instance → (spec.Instance → spec.Instance) → Type 0
-EndsBy (Ends n a) i f = (n ≡ i.number) × (ended_with a i ≡ f i)
+abbrev pub EndsBy : Option Change → spec.Instance → (spec.Instance → spec.Instance) → Type 0
+EndsBy (Some (Ends e)) i f = (e.instance ≡ i.number) × (ended_with e.after i ≡ f i)
 EndsBy _ i f = ⊥
 
--- an answer to a page of the instance showed this page, which makes this of the instance
-pub record IsExtension (p : Prepared) (t : Ticket) (i : spec.Instance) (bytes : List ℕ) (f : spec.Instance → spec.Instance) : Type 0 where
-  pub reply : p.reply ≡ reply.Page bytes t.url
+-- a segment's number is logged, and this was decided
+pub record IsLogged (p : Prepared) (t : Ticket) (d : Decision) : Type 0 where
+  pub decision : decision_of p ≡ d
   pub logged : p.logged ≡ t.number + 1
+
+-- a start showed this page
+pub record IsOpening (p : Prepared) (t : Ticket) (bytes : List ℕ) (effects : List Effect) (inside left : List TxName) (kind : SendKind) (deadline : ℕ) : Type 0 where
+  pub recorded : IsLogged p t (records (shown bytes t.url) (spec.opens (opening_by t effects left kind deadline)) inside)
+  pub change : OpensWith p.change (λ scripts. first_instance scripts t effects inside left deadline)
+
+-- an answer to a page of the instance showed this page, which makes this of the instance
+pub record IsExtension (p : Prepared) (t : Ticket) (i : spec.Instance) (answered : ℕ) (bytes : List ℕ) (effects : List Effect) (inside left : List TxName) (kind : SendKind) (deadline : ℕ) (f : spec.Instance → spec.Instance) : Type 0 where
+  pub recorded : IsLogged p t (records (shown bytes t.url) (spec.extends (extension_by t i.number answered effects left kind deadline)) inside)
   pub change : ExtendsBy p.change i f
 
 -- it ended with this page
-pub record IsEnding (p : Prepared) (t : Ticket) (i : spec.Instance) (bytes : List ℕ) (f : spec.Instance → spec.Instance) : Type 0 where
-  pub reply : p.reply ≡ reply.Ended bytes
-  pub logged : p.logged ≡ t.number + 1
+pub record IsEnding (p : Prepared) (t : Ticket) (i : spec.Instance) (answered : ℕ) (bytes : List ℕ) (effects : List Effect) (inside left : List TxName) (f : spec.Instance → spec.Instance) : Type 0 where
+  pub recorded : IsLogged p t (records (ended bytes) (spec.ends (ending_by t i.number answered effects left)) inside)
   pub change : EndsBy p.change i f
 
+-- it freed the instance with this page
+abbrev pub IsFinish : Prepared → Ticket → (instance answered : ℕ) → (bytes : List ℕ) → List Effect → (inside : List TxName) → Type 0
+IsFinish p t instance answered bytes effects inside =
+    IsLogged p t (records (finished bytes) (spec.finishes (finish_by t instance answered effects)) inside)
+
+-- what is prepared for a start that is admitted
+abbrev pub StartsOn : Book → Ticket → Segment → (instances life : ℕ) → Result Prepared Reply → Type 0
+StartsOn book t s instances life result =
+    (scripts : List Named) (length_now : ℕ) (down : Option Doubt) (fuel pages k : ℕ) (named : Named)
+    → let b = book_of scripts length_now down book in FitsStart scripts b t k named
+    → let rules = rules_with fuel life instances pages in
+    Prepares scripts rules b (settles rules b (length b.instances) (start_visit b (ticket_of t) k named) s) result
+
 -- what is prepared for an answer to a page that is admitted
-abbrev pub AnswersOn : spec.Book → Ticket → PageName → Segment → (pages life : ℕ) → Result Prepared Reply → Type 0
-AnswersOn b t n s pages life result =
-    (scripts : List Named) (fuel instances : ℕ) (at : Place) → instance_at n.instance b.instances ≡ Some at.instance → at.page.number ≡ n.page
+abbrev pub AnswersOn : Book → Ticket → PageName → Segment → (pages life : ℕ) → Result Prepared Reply → Type 0
+AnswersOn book t n s pages life result =
+    (scripts : List Named) (length_now : ℕ) (down : Option Doubt) (fuel instances : ℕ) (at : Place)
+    → let b = book_of scripts length_now down book in instance_at n.instance b.instances ≡ Some at.instance → at.page.number ≡ n.page
     → IsFor scripts t (page_visit b (ticket_of t) at)
-    → let rules = rules_with scripts fuel life instances pages in
-    Prepares rules b (settles rules b (length at.instance.pages) (page_visit b (ticket_of t) at) s) result
+    → let rules = rules_with fuel life instances pages in
+    Prepares scripts rules b (settles rules b (length at.instance.pages) (page_visit b (ticket_of t) at) s) result
 
 -- the effects are on the cells of the instance; on those of the ticket's instance, which a start's ticket has itself
-abbrev pub IsOnCells : spec.Book → (instance : ℕ) → List Effect → Type 0
-IsOnCells b n effects = (i : spec.Instance) → instance_at n b.instances ≡ Some i → AreOn (length i.cells) effects
+abbrev pub IsOnCells : Book → (instance : ℕ) → List Effect → Type 0
+IsOnCells b n effects = IfSome (cells_at n b) (λ cells. AreOn (length cells) effects)
 
-abbrev pub AreOnBy : spec.Book → Ticket → Destination → List Effect → Type 0
+abbrev pub AreOnBy : Book → Ticket → Destination → List Effect → Type 0
 AreOnBy b t (start name) effects = AreOn (length t.cells) effects
 AreOnBy b t (page name n) effects = IsOnCells b n.instance effects
 
-abbrev pub AreOnCells : spec.Book → Ticket → List Effect → Type 0
+abbrev pub AreOnCells : Book → Ticket → List Effect → Type 0
 AreOnCells b t effects = AreOnBy b t (target_of t.target) effects
 
 -- what a visit comes to whose new segment came to this
@@ -139,7 +199,8 @@ settled rules b t (resumes at) s = settles rules b (length at.instance.pages) (p
 settled rules b t (refused r) s = replies (refusal r)
 
 -- what is prepared, where the target is admitted and the ticket is for the visit
-abbrev pub IsPrepared : spec.Book → Ticket → Segment → (instances pages life : ℕ) → Result Prepared Reply → Type 0
-IsPrepared b t s instances pages life result =
-    (scripts : List Named) (fuel : ℕ) (a : Admission) → admit scripts b (target_of t.target) ≡ a → refusal_of a ≡ None → FitsAs scripts b t a
-    → let rules = rules_with scripts fuel life instances pages in Prepares rules b (settled rules b t a s) result
+abbrev pub IsPrepared : Book → Ticket → Segment → (instances pages life : ℕ) → Result Prepared Reply → Type 0
+IsPrepared book t s instances pages life result =
+    (scripts : List Named) (length_now : ℕ) (down : Option Doubt) (fuel : ℕ) (a : Admission)
+    → let b = book_of scripts length_now down book in admit b (target_of t.target) ≡ a → refusal_of a ≡ None → FitsAs scripts b t a
+    → let rules = rules_with fuel life instances pages in Prepares scripts rules b (settled rules b t a s) result

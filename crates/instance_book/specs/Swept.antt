@@ -1,17 +1,25 @@
--- What a shelf without a journal begins with, and what a sweep makes of its book.
-use Rattle.std.specs.Prelude.{ℕ, List, [], filter, Option, None, option_map}
+-- What a shelf begins with, and what a sweep makes of its book.
+use Rattle.std.specs.Prelude.{◌≡◌, ℕ, List, filter, Option, None, option_map}
 use Rattle.script_value.specs.Val.{Val}
+use Rattle.script_nodes.specs.Setup.{Named}
 use Rattle.replay_spec.specs.Book as spec
-use Rattle.replay_spec.specs.Book.{instance_at, is_live}
-
-abbrev pub empty_book : ℕ → spec.Book
-empty_book shelf =
-    record { shelf = shelf; clock = 0; drawn = 0; logged = 0; length = 0; out = []; down = None; instances = [] }
+use Rattle.replay_spec.specs.Book.{at_number, is_live}
+use Rattle.replay_spec.specs.Rules.{Rules, begun_length, empty_book}
+use Rattle.instance_book.specs.declared.book.Book.{Book}
+use Rattle.instance_book.specs.Views.{book_of}
 
 -- the book at this tick, without the instances whose pages are all expired
 abbrev pub swept : ℕ → spec.Book → spec.Book
 swept tick b = record b { clock = tick; instances = filter (is_live tick) b.instances }
 
--- the cells of the live instance of a number
+-- the cells of the live instance of a number; and as the program keeps them
 abbrev pub cells_in : ℕ → spec.Book → Option (List Val)
-cells_in n b = option_map (λ i. i.cells) (instance_at n b.instances)
+cells_in n b = option_map (λ i. i.cells) (spec.instance_at n b.instances)
+
+abbrev pub cells_at : ℕ → Book → Option (List Val)
+cells_at n b = option_map (λ i. i.item.cells) (at_number (λ i. i.number) n b.instances.things.items)
+
+-- Beside a journal that has the setup alone, the book is that of a shelf with nothing in it.
+abbrev pub IsEmpty : (shelf : ℕ) → Book → Type 0
+IsEmpty shelf b =
+    (scripts : List Named) (rules : Rules) → book_of scripts (begun_length rules.journal) None b ≡ empty_book rules scripts shelf

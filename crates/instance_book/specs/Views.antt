@@ -1,63 +1,77 @@
 -- What the program's book stands for in the definitions.
-use Rattle.std.specs.Prelude.{◌≡◌, ℕ, ◌<◌, List, map, Some, None, vec_len, vec_capacity}
+use Rattle.std.specs.Prelude.{◌≡◌, ℕ, List, [], map, get_or, Option, Some, None}
+use Rattle.script_value.specs.Val.{list, no_vals}
 use Rattle.script_value.specs.Views.{meaning}
 use Rattle.script_value.specs.declared.outcome.Reply.{Reply}
 use Rattle.script_value.specs.declared.outcome.Reply.TheVariants as reply
 use Rattle.script_value.specs.declared.value.Value.{Value}
+use Rattle.script_nodes.specs.Core.{lit}
+use Rattle.script_nodes.specs.Setup.{Named}
 use Rattle.page_names.specs.Views.{target_of}
 use Rattle.page_names.specs.declared.names.Target.{Target}
 use Rattle.replay_spec.specs.Book as spec
-use Rattle.replay_spec.specs.Book.{at_number}
+use Rattle.replay_spec.specs.Book.{at_number, Doubt}
 use Rattle.replay_spec.specs.Next as next
 use Rattle.replay_spec.specs.Step as step
+use Rattle.instance_book.specs.declared.numbered.Numbered.{Numbered}
+use Rattle.instance_book.specs.declared.in_order.InOrder.{InOrder}
 use Rattle.instance_book.specs.declared.page.KeptPage.{KeptPage}
-use Rattle.instance_book.specs.declared.page.Pages.{Pages}
 use Rattle.instance_book.specs.declared.instance.KeptInstance.{KeptInstance}
-use Rattle.instance_book.specs.declared.instance.Instances.{Instances}
 use Rattle.instance_book.specs.declared.book.Book.{Book}
 use Rattle.instance_book.specs.declared.ticket.Ticket.{Ticket}
+use Rattle.instance_book.specs.Orders.{numbers_of}
+use Rattle.instance_book.specs.Lists.{HasRoom}
 
-abbrev pub page_of : KeptPage → spec.Page
+abbrev pub page_of : Numbered KeptPage → spec.Page
 page_of p = record {
   number = p.number;
-  nonce = p.nonce;
-  parent = p.parent;
-  answer = meaning p.answer;
-  reads = p.reads;
-  inside = p.inside.items;
-  deadline = p.deadline;
+  nonce = p.item.nonce;
+  parent = p.item.parent;
+  answer = meaning p.item.answer;
+  reads = p.item.reads;
+  inside = p.item.inside.items;
+  deadline = p.item.deadline;
 }
 
-abbrev pub pages_of : Pages → List spec.Page
-pages_of ps = map page_of ps.items.items
+abbrev pub pages_of : InOrder KeptPage → List spec.Page
+pages_of ps = map page_of ps.things.items
 
-abbrev pub numbers_of : List KeptPage → List ℕ
-numbers_of ps = map (λ p. p.number) ps
+-- the script of a place of the setup, and one that does nothing where the setup has no such place
+abbrev pub no_script : Named
+no_script = record { name = []; text = []; script = record { web = []; cells = []; body = lit (list no_vals) } }
 
-abbrev pub instance_of : KeptInstance → spec.Instance
-instance_of i = record {
-  number = i.number;
-  script = i.script;
+abbrev pub script_in : List Named → ℕ → Named
+script_in scripts place = get_or scripts place no_script
+
+-- what is kept of an instance, under this number, where these are the setup's scripts
+abbrev pub instance_with : List Named → ℕ → KeptInstance → spec.Instance
+instance_with scripts n i = record {
+  number = n;
+  script = script_in scripts i.script;
   cells = i.cells;
   closed = i.closed;
-  revoked = i.revoked;
+  revoked = numbers_of i.revoked.things.items;
   pages = pages_of i.pages;
 }
 
-abbrev pub instances_of : Instances → List spec.Instance
-instances_of is = map instance_of is.items.items
+abbrev pub instance_of : List Named → Numbered KeptInstance → spec.Instance
+instance_of scripts i = instance_with scripts i.number i.item
 
--- a shelf in memory has no journal, so its length is 0 and it is never down
-abbrev pub book_of : Book → spec.Book
-book_of b = record {
+abbrev pub instances_of : List Named → InOrder KeptInstance → List spec.Instance
+instances_of scripts is = map (instance_of scripts) is.things.items
+
+-- the book under this setup, beside a journal of this length, with this in doubt
+abbrev pub book_of : List Named → (length : ℕ) → Option Doubt → Book → spec.Book
+book_of scripts length down b = record {
   shelf = b.shelf;
+  scripts = scripts;
   clock = b.clock;
   drawn = b.drawn;
   logged = b.logged;
-  length = 0;
+  length = length;
   out = b.out.items;
-  down = None;
-  instances = instances_of b.instances;
+  down = down;
+  instances = instances_of scripts b.instances;
 }
 
 abbrev pub ticket_of : Ticket → next.Ticket
@@ -68,15 +82,10 @@ abbrev pub ticket_for : Target → Value → (number nonce : ℕ) → next.Ticke
 ticket_for target answer number nonce =
     record { target = target_of target; answer = meaning answer; number = number; nonce = nonce }
 
--- there is room for one page more; for one instance more; for one page more in the instance of a number
-abbrev pub HasRoom : Pages → Type 0
-HasRoom ps = vec_len ps.items < vec_capacity ps.items
-
-abbrev pub HasPlace : Instances → Type 0
-HasPlace is = vec_len is.items < vec_capacity is.items
-
-abbrev pub HasRoomAt : ℕ → Instances → Type 0
-HasRoomAt n is = (i : KeptInstance) → at_number (λ j. j.number) n is.items.items ≡ Some i → HasRoom i.pages
+-- there is room for one page more in the instance of a number
+abbrev pub HasRoomAt : ℕ → InOrder KeptInstance → Type 0
+HasRoomAt n is =
+    (i : Numbered KeptInstance) → at_number (λ j. j.number) n is.things.items ≡ Some i → HasRoom i.item.pages
 
 abbrev pub reply_of : Reply → step.Reply
 reply_of (reply.Page bytes url) = step.shown bytes url

@@ -1,14 +1,17 @@
-ghost use Rattle.std.specs.Prelude.{◌≡◌, Some, None, option_map, IfSome};
-ghost use Rattle.script_nodes.specs.Setup.{place_named};
+ghost use Rattle.std.specs.Prelude.{◌≡◌, List, Some, option_map, slice_get, IfSome};
+ghost use Rattle.script_nodes.specs.Setup.{Named};
 ghost use Rattle.script_nodes.specs.Views.{named_of, scripts_of};
 ghost use Rattle.page_names.specs.Views.{name_of};
 ghost use Rattle.replay_spec.specs.Admission as spec;
 ghost use Rattle.replay_spec.specs.Names.{first_closed};
 ghost use Rattle.instance_book.specs.Views.{instance_of, page_of};
-ghost use Rattle.instance_book.specs.Admissions.{admission_of, admission_for, place_of, place_for};
+ghost use Rattle.instance_book.specs.Places.{IsPlaced};
+ghost use Rattle.instance_book.specs.Makes.{HasPlaces};
+ghost use Rattle.instance_book.specs.Admissions.{admission_of, admission_for, place_of, place_for, HasItsScript, ResumesItsScript};
 
 use crate::book::Book;
 use crate::instance::KeptInstance;
+use crate::numbered::Numbered;
 use crate::page::KeptPage;
 use expiry::expired;
 use page_names::{PageName, ScriptName, Target};
@@ -16,12 +19,12 @@ use script_nodes::{NamedScript, Setup};
 use script_value::{Refusal, TxName};
 use transactions::Closed;
 
-/// A page that stands in an instance of a script.
+/// A page that stands in an instance, with the instance's script.
 #[derive(Clone, Copy)]
 pub struct Place<'a> {
     pub script: &'a NamedScript,
-    pub instance: &'a KeptInstance,
-    pub page: &'a KeptPage,
+    pub instance: &'a Numbered<KeptInstance>,
+    pub page: &'a Numbered<KeptPage>,
 }
 
 /// What a target is admitted as.
@@ -50,19 +53,32 @@ fn first_closed(closed: &Closed, names: &[TxName]) -> Option<TxName>
 }
 
 // Why a page can't be answered at this clock.
-fn why_not(clock: u64, instance: &KeptInstance, page: &KeptPage) -> Option<Refusal>
-    ensures { result ≡ spec.why_not clock (instance_of instance.now) (page_of page.now) }
+fn why_not(
+    clock: u64,
+    instance: &Numbered<KeptInstance>,
+    page: &Numbered<KeptPage>,
+) -> Option<Refusal>
+    ensures { (scripts : List Named) → result ≡ spec.why_not clock (instance_of scripts instance.now) (page_of page.now) }
 {
-    if instance.revoked.has(page.number) {
+    if instance.item.revoked.has(page.number) {
         return Some(Refusal::Revoked);
     }
-    if let Some(name) = first_closed(&instance.closed, &page.inside) {
+    if let Some(name) = first_closed(&instance.item.closed, &page.item.inside) {
         return Some(Refusal::Closed(name));
     }
-    if expired(clock, page.deadline) {
-        return Some(Refusal::Expired(page.deadline));
+    if expired(clock, page.item.deadline) {
+        return Some(Refusal::Expired(page.item.deadline));
     }
     None
+}
+
+// The script of an instance, which is one of the setup.
+fn script_of<'a>(setup: &'a Setup, instance: &Numbered<KeptInstance>) -> Option<&'a NamedScript>
+    requires { IsPlaced (scripts_of setup.now) instance.now }
+    ensures script { option_map (λ s. named_of s.now) result ≡ slice_get (scripts_of setup.now) instance.now.item.script }
+    ensures its { option_map (λ s. named_of s.now) result ≡ Some (instance_of (scripts_of setup.now) instance.now).script }
+{
+    setup.get(instance.item.script)
 }
 
 // The page of this script's name, this shelf, instance and number, and this nonce.
@@ -72,14 +88,16 @@ fn place_at<'a>(
     name: &ScriptName,
     page: &PageName,
 ) -> Option<Place<'a>>
-    ensures { option_map place_of result ≡ place_for setup.now book.now name.now page.now }
+    requires { HasPlaces (scripts_of setup.now) book.now }
+    ensures place { option_map (place_of (scripts_of setup.now)) result ≡ place_for setup.now book.now name.now page.now }
+    ensures script { IfSome result (HasItsScript (scripts_of setup.now)) }
 {
-    let instance = book.instances.get(page.instance)?;
-    let script = setup.get(instance.script)?;
-    let shown = instance.pages.get(page.page)?;
+    let instance = book.instances.instance(page.instance)?;
+    let script = script_of(setup, instance)?;
+    let shown = instance.item.pages.page(page.page)?;
     if page.shelf == book.shelf
         && script.name.as_bytes() == name.as_bytes()
-        && shown.nonce == page.nonce
+        && shown.item.nonce == page.nonce
     {
         return Some(Place {
             script,
@@ -92,7 +110,8 @@ fn place_at<'a>(
 
 // What a start is admitted as.
 fn admission_of_start<'a>(setup: &'a Setup, name: &ScriptName) -> Admission<'a>
-    ensures { admission_of result ≡ spec.started (spec.script_named (name_of name.now) (scripts_of setup.now)) }
+    ensures admission { admission_of (scripts_of setup.now) result ≡ spec.started (spec.script_named (name_of name.now) (scripts_of setup.now)) }
+    ensures script { ResumesItsScript (scripts_of setup.now) result }
 {
     let Some(place) = setup.place(name) else {
         return Admission::Refused(Refusal::Unknown);
@@ -110,7 +129,9 @@ fn admission_of_page<'a>(
     name: &ScriptName,
     page: &PageName,
 ) -> Admission<'a>
-    ensures { admission_of result ≡ admission_for setup.now book.now (Target.Page name.now page.now) }
+    requires { HasPlaces (scripts_of setup.now) book.now }
+    ensures admission { admission_of (scripts_of setup.now) result ≡ admission_for setup.now book.now (Target.Page name.now page.now) }
+    ensures script { ResumesItsScript (scripts_of setup.now) result }
 {
     let Some(place) = place_at(book, setup, name, page) else {
         return Admission::Refused(Refusal::Unknown);
@@ -123,7 +144,9 @@ fn admission_of_page<'a>(
 
 /// What a target is admitted as.
 pub fn admission_to<'a>(book: &'a Book, setup: &'a Setup, target: &Target) -> Admission<'a>
-    ensures { admission_of result ≡ admission_for setup.now book.now target.now }
+    requires { HasPlaces (scripts_of setup.now) book.now }
+    ensures admission { admission_of (scripts_of setup.now) result ≡ admission_for setup.now book.now target.now }
+    ensures script { ResumesItsScript (scripts_of setup.now) result }
 {
     match target {
         Target::Start(name) => admission_of_start(setup, name),

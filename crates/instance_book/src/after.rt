@@ -1,9 +1,10 @@
 ghost use Rattle.std.specs.Prelude.{◌≡◌};
-ghost use Rattle.instance_book.specs.Views.{instance_of, page_of, HasRoom};
-ghost use Rattle.instance_book.specs.Changes.{renewed, ended_with, shown_with};
+ghost use Rattle.instance_book.specs.Lists.{HasRoom};
+ghost use Rattle.instance_book.specs.Changes.{renewed, Becomes, ended_with, shown_with, revoked_with};
 
+use crate::in_order::InOrder;
 use crate::instance::KeptInstance;
-use crate::numbers::Numbers;
+use crate::numbered::Numbered;
 use crate::page::KeptPage;
 use instance_cells::Cells;
 use transactions::Closed;
@@ -19,17 +20,17 @@ pub struct After {
 /// What a segment that showed a page makes of its instance.
 #[derive(Drop)]
 pub struct Show {
-    pub page: KeptPage,
+    pub page: Numbered<KeptPage>,
     /// The pages that are revoked, where the page forwards.
-    pub revoked: Option<Numbers>,
+    pub revoked: Option<InOrder<()>>,
     pub after: After,
 }
 
 impl KeptInstance {
     /// The instance behind a segment.
     pub fn end(&mut self, after: After)
-        ensures instance { instance_of self.new ≡ ended_with after (instance_of self.old) }
-        ensures number { self.new.number ≡ self.old.number }
+        ensures instance { Becomes (ended_with after) self.old self.new }
+        ensures script { self.new.script ≡ self.old.script }
         ensures pages { self.new.pages ≡ self.old.pages }
     {
         self.cells = after.cells;
@@ -39,9 +40,9 @@ impl KeptInstance {
     }
 
     // The instance where these pages are revoked, if the page forwards.
-    fn revoke(&mut self, revoked: Option<Numbers>)
-        ensures instance { instance_of self.new ≡ record (instance_of self.old) { revoked = renewed self.old.revoked revoked } }
-        ensures number { self.new.number ≡ self.old.number }
+    fn revoke(&mut self, revoked: Option<InOrder<()>>)
+        ensures instance { Becomes (revoked_with revoked) self.old self.new }
+        ensures script { self.new.script ≡ self.old.script }
         ensures pages { self.new.pages ≡ self.old.pages }
     {
         if let Some(revoked) = revoked {
@@ -52,8 +53,8 @@ impl KeptInstance {
     /// The instance behind a segment that showed a page.
     pub fn show(&mut self, show: Show)
         requires { HasRoom self.old.pages }
-        ensures instance { instance_of self.new ≡ shown_with show (instance_of self.old) }
-        ensures number { self.new.number ≡ self.old.number }
+        ensures instance { Becomes (shown_with show) self.old self.new }
+        ensures script { self.new.script ≡ self.old.script }
     {
         let Show {
             page,
@@ -62,6 +63,6 @@ impl KeptInstance {
         } = show;
         self.end(after);
         self.revoke(revoked);
-        self.pages.put(page);
+        self.pages.put_page(page);
     }
 }

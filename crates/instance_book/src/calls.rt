@@ -1,16 +1,19 @@
-ghost use Rattle.std.specs.Prelude.{◌≡◌, ◌<◌, ◌^◌, None, IfOk, IfErr, OnOk, OnErr, Contains, length, option_map, ◌-◌};
-ghost use Rattle.script_nodes.specs.Views.{named_of};
+ghost use Rattle.std.specs.Prelude.{◌≡◌, ◌<◌, ◌^◌, List, ℕ, Option, Some, None, slice_get, IfOk, IfErr, OnOk, OnErr, Contains, length, option_map, ◌-◌};
+ghost use Rattle.script_nodes.specs.Setup.{Named};
+ghost use Rattle.script_nodes.specs.Views.{named_of, scripts_of};
 ghost use Rattle.replay_spec.specs.Book as spec;
-ghost use Rattle.replay_spec.specs.Next.{cells_by};
+ghost use Rattle.replay_spec.specs.Rules.{Rules, empty_book};
+ghost use Rattle.replay_spec.specs.Next.{cells_by, start_visit, page_visit};
 ghost use Rattle.instance_book.specs.Views.{book_of, ticket_of, ticket_for};
-ghost use Rattle.instance_book.specs.Fits.{IsMadeToStart, IsMadeToAnswer};
-ghost use Rattle.instance_book.specs.Admissions.{place_of, admission_for, refusal_for, FitsIn};
-ghost use Rattle.instance_book.specs.Swept.{empty_book, swept, cells_in};
+ghost use Rattle.instance_book.specs.Makes.{Makes, StaysSame, HasPlaces, KeepsPlaces};
+ghost use Rattle.instance_book.specs.Fits.{IsFor, FitsStart};
+ghost use Rattle.instance_book.specs.Admissions.{place_of, HasItsScript, book_under, admission_for, refusal_for, FitsIn};
+ghost use Rattle.instance_book.specs.Swept.{swept, cells_in, cells_at, IsEmpty};
 
 use crate::admission::{Admission, Place, admission_to};
 use crate::book::Book;
 use crate::chain::Home;
-use crate::instance::Instances;
+use crate::in_order::InOrder;
 use crate::ticket::Ticket;
 use instance_cells::Cells;
 use page_names::Target;
@@ -21,7 +24,8 @@ use std::alloc::{AllocError, Global};
 impl Book {
     /// The book of a shelf with nothing in it; it takes no memory.
     pub fn empty(alloc: Global, shelf: u32) -> Book
-        ensures { book_of result ≡ empty_book shelf }
+        ensures book { IsEmpty shelf result }
+        ensures placed { (scripts : List Named) → HasPlaces scripts result }
     {
         Book {
             shelf,
@@ -29,20 +33,20 @@ impl Book {
             drawn: 0,
             logged: 0,
             out: Vec::new(alloc),
-            instances: Instances::new(alloc),
+            instances: InOrder::new(alloc),
         }
     }
 
     /// The number of the shelf.
     pub fn shelf(&self) -> u32
-        ensures { result ≡ (book_of self.now).shelf }
+        ensures { result ≡ self.now.shelf }
     {
         self.shelf
     }
 
     /// The clock, in seconds.
     pub fn clock(&self) -> u64
-        ensures clock { result ≡ (book_of self.now).clock }
+        ensures clock { result ≡ self.now.clock }
         ensures low { result < 2 ^ 62 }
     {
         self.clock
@@ -50,28 +54,29 @@ impl Book {
 
     /// The number that is drawn next.
     pub fn drawn(&self) -> u64
-        ensures { result ≡ (book_of self.now).drawn }
+        ensures { result ≡ self.now.drawn }
     {
         self.drawn
     }
 
     /// How many live instances there are.
     pub fn live(&self) -> u32
-        ensures { result ≡ length (book_of self.now).instances }
+        ensures { result ≡ length self.now.instances.things.items }
     {
         self.instances.len() as u32
     }
 
     /// The present cells of an instance, where there is a live one of this number. It takes no memory.
     pub fn cells(&self, instance: u64) -> Option<&Cells>
-        ensures { option_map (λ cells. cells.now) result ≡ cells_in instance (book_of self.now) }
+        ensures { option_map (λ cells. cells.now) result ≡ cells_at instance self.now }
     {
         let instance = self.instances.get(instance)?;
-        Some(&instance.cells)
+        Some(&instance.item.cells)
     }
 
     /// Whether a target is admitted, and else why not. It takes no memory.
     pub fn admit(&self, setup: &Setup, target: &Target) -> Result<(), Refusal>
+        requires { HasPlaces (scripts_of setup.now) self.now }
         ensures admitted { OnOk result (refusal_for setup.now self.now target.now ≡ None) }
         ensures refused { IfErr result (λ r. refusal_for setup.now self.now target.now ≡ Some r) }
     {
@@ -85,6 +90,7 @@ impl Book {
     fn start_ticket(
         &self,
         alloc: Global,
+        setup: &Setup,
         place: usize,
         script: &NamedScript,
         target: &Target,
@@ -92,9 +98,9 @@ impl Book {
         number: u64,
         nonce: u64,
     ) -> Result<Ticket, AllocError>
+        requires { slice_get (scripts_of setup.now) place ≡ Some (named_of script.now) }
         ensures ticket { IfOk result (λ t. ticket_of t ≡ ticket_for target.now answer number nonce) }
-        ensures run { IfOk result (IsMadeToStart (book_of self.now) place (named_of script.now)) }
-        ensures cells { IfOk result (λ t. t.cells ≡ (named_of script.now).script.cells) }
+        ensures fits { IfOk result (λ t. FitsStart (scripts_of setup.now) (book_under setup.now self.now) t place (named_of script.now)) }
     {
         let home = Home {
             name: script.name,
@@ -117,31 +123,33 @@ impl Book {
     fn page_ticket(
         &self,
         alloc: Global,
+        setup: &Setup,
         place: Place,
         target: &Target,
         answer: Value,
         number: u64,
         nonce: u64,
     ) -> Result<Ticket, AllocError>
+        requires { HasItsScript (scripts_of setup.now) place }
         ensures ticket { IfOk result (λ t. ticket_of t ≡ ticket_for target.now answer number nonce) }
-        ensures run { IfOk result (IsMadeToAnswer (book_of self.now) (place_of place.entry)) }
-        ensures cells { IfOk result (λ t. t.cells ≡ (place_of place.entry).instance.cells) }
+        ensures fits { IfOk result (λ t. IsFor (scripts_of setup.now) t (page_visit (book_under setup.now self.now) (ticket_of t) (place_of (scripts_of setup.now) place.entry))) }
+        ensures cells { IfOk result (λ t. t.cells ≡ place.entry.instance.now.item.cells) }
     {
         let home = Home {
             name: place.script.name,
             shelf: self.shelf,
             instance: place.instance.number,
         };
-        let from = home.past(alloc, &place.instance.pages, place.page)?;
+        let from = home.past(alloc, &place.instance.item.pages, place.page)?;
         Ok(Ticket {
             number,
             nonce,
-            script: place.instance.script,
+            script: place.instance.item.script,
             target: *target,
             url: home.url(alloc, number, nonce)?,
             from,
             answer,
-            cells: place.instance.cells.try_clone(alloc)?,
+            cells: place.instance.item.cells.try_clone(alloc)?,
         })
     }
 
@@ -155,16 +163,17 @@ impl Book {
         number: u64,
         nonce: u64,
     ) -> Result<Ticket, AllocError>
+        requires { HasPlaces (scripts_of setup.now) self.now }
         ensures ticket { IfOk result (λ t. ticket_of t ≡ ticket_for target.now answer number nonce) }
         ensures fits { IfOk result (FitsIn setup.now self.now target.now) }
         ensures cells { IfOk result (λ t. t.cells ≡ cells_by (admission_for setup.now self.now target.now)) }
     {
         match admission_to(self, setup, target) {
             Admission::Begins { place, script } => {
-                self.start_ticket(alloc, place, script, target, answer, number, nonce)
+                self.start_ticket(alloc, setup, place, script, target, answer, number, nonce)
             }
             Admission::Resumes(place) => {
-                self.page_ticket(alloc, place, target, answer, number, nonce)
+                self.page_ticket(alloc, setup, place, target, answer, number, nonce)
             }
             Admission::Refused(_) => Err(AllocError),
         }
@@ -182,12 +191,14 @@ impl Book {
         nonce: u64,
     ) -> Result<Ticket, AllocError>
         requires admitted { refusal_for setup.now self.old target.now ≡ None }
-        requires numbers { (book_of self.old).drawn < 2 ^ 62 }
-        ensures drawn { OnOk result (book_of self.new ≡ spec.draw (book_of self.old)) }
+        requires numbers { self.old.drawn < 2 ^ 62 }
+        requires placed { HasPlaces (scripts_of setup.now) self.old }
+        ensures drawn { OnOk result (Makes spec.draw self.old self.new) }
         ensures ticket { IfOk result (λ t. ticket_of t ≡ ticket_for target.now answer self.old.drawn nonce) }
         ensures fits { IfOk result (FitsIn setup.now self.old target.now) }
         ensures cells { IfOk result (λ t. t.cells ≡ cells_by (admission_for setup.now self.old target.now)) }
-        ensures err { OnErr result (book_of self.new ≡ book_of self.old) }
+        ensures err { OnErr result (StaysSame self.old self.new) }
+        ensures placed { KeepsPlaces self.old self.new }
     {
         let number = self.drawn;
         let ticket = self.made(alloc, setup, target, answer, number, nonce)?;
@@ -199,18 +210,19 @@ impl Book {
 
     /// The number is published, or given up. It takes no memory.
     pub fn spend(&mut self, number: u64)
-        ensures book { book_of self.new ≡ spec.spend number (book_of self.old) }
-        ensures room { self.new.instances ≡ self.old.instances }
+        ensures book { Makes (spec.spend number) self.old self.new }
+        ensures instances { self.new.instances ≡ self.old.instances }
     {
         self.out.retain(|other| *other != number);
     }
 
     /// Goes on to a tick, frees each instance whose pages are all expired then, and tells how many. It takes no memory.
     pub fn free_expired(&mut self, tick: u64) -> u32
-        requires later { (book_of self.old).clock < tick }
+        requires later { self.old.clock < tick }
         requires low { tick < 2 ^ 62 }
-        ensures book { book_of self.new ≡ swept tick (book_of self.old) }
-        ensures count { result ≡ length (book_of self.old).instances - length (book_of self.new).instances }
+        ensures book { Makes (swept tick) self.old self.new }
+        ensures count { result ≡ length self.old.instances.things.items - length self.new.instances.things.items }
+        ensures placed { KeepsPlaces self.old self.new }
     {
         let before = self.instances.len();
         self.clock = tick;

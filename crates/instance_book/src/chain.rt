@@ -4,12 +4,14 @@ ghost use Rattle.segments.specs.Views.{answer_of};
 ghost use Rattle.replay_spec.specs.Book as spec;
 ghost use Rattle.replay_spec.specs.Next as next;
 ghost use Rattle.instance_book.specs.Views.{page_of, pages_of};
-ghost use Rattle.instance_book.specs.Chains.{home_of, link_of, chain_in, past_of};
+ghost use Rattle.instance_book.specs.Chains.{home_of, link_of, chain_in, past_behind};
 
-use crate::page::{KeptPage, Pages};
+use crate::in_order::InOrder;
+use crate::numbered::Numbered;
+use crate::page::KeptPage;
 use page_names::{PageName, ScriptName, url_text};
-use script_value::Str;
 use segments::Answer;
+use script_value::Str;
 use std::alloc::{AllocError, Global};
 
 /// What the URLs of an instance's pages share.
@@ -35,14 +37,14 @@ impl Home {
     }
 
     // The answer behind which a page was shown, with the page's segment.
-    fn answered(&self, alloc: Global, page: &KeptPage) -> Result<Answer, AllocError>
+    fn answered(&self, alloc: Global, page: &Numbered<KeptPage>) -> Result<Answer, AllocError>
         ensures { IfOk result (λ a. answer_of a ≡ next.answered (home_of self.now) (page_of page.now)) }
     {
         Ok(Answer {
-            value: page.answer.try_clone(alloc)?,
+            value: page.item.answer.try_clone(alloc)?,
             number: page.number,
-            url: self.url(alloc, page.number, page.nonce)?,
-            reads: page.reads.try_clone(alloc)?,
+            url: self.url(alloc, page.number, page.item.nonce)?,
+            reads: page.item.reads.try_clone(alloc)?,
         })
     }
 
@@ -50,10 +52,10 @@ impl Home {
     pub fn past(
         &self,
         alloc: Global,
-        pages: &Pages,
-        page: &KeptPage,
+        pages: &InOrder<KeptPage>,
+        page: &Numbered<KeptPage>,
     ) -> Result<Vec<Answer>, AllocError>
-        ensures { IfOk result (λ past. map answer_of past.items ≡ past_of self.now pages.now page.now) }
+        ensures { IfOk result (λ past. map answer_of past.items ≡ past_behind self.now pages.now page.now) }
     {
         let mut links = chain_of(alloc, pages, page)?;
         let mut past = Vec::new(alloc);
@@ -65,19 +67,19 @@ impl Home {
 }
 
 // The parent of a page, where it has one among these.
-fn parent_of(pages: &Pages, parent: Option<u64>) -> Option<&KeptPage>
+fn parent_of(pages: &InOrder<KeptPage>, parent: Option<u64>) -> Option<&Numbered<KeptPage>>
     ensures { option_map link_of result ≡ spec.parent_of (pages_of pages.now) parent }
 {
     let number = parent?;
-    pages.get(number)
+    pages.page(number)
 }
 
 // The pages from this one to the root by their parents.
 fn chain_of<'a>(
     alloc: Global,
-    pages: &'a Pages,
-    page: &'a KeptPage,
-) -> Result<Vec<&'a KeptPage>, AllocError>
+    pages: &'a InOrder<KeptPage>,
+    page: &'a Numbered<KeptPage>,
+) -> Result<Vec<&'a Numbered<KeptPage>>, AllocError>
     ensures { IfOk result (λ links. chain_in pages.now page.now ≡ reverse (map link_of links.items)) }
 {
     let mut links = Vec::new(alloc);
@@ -87,7 +89,7 @@ fn chain_of<'a>(
             return Ok(links);
         };
         links.push(page)?;
-        next = parent_of(pages, page.parent);
+        next = parent_of(pages, page.item.parent);
     }
     Ok(links)
 }

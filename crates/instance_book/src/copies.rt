@@ -1,80 +1,85 @@
-ghost use Rattle.std.specs.Prelude.{◌≡◌, IfOk, map};
+ghost use Rattle.std.specs.Prelude.{◌≡◌, List, ℕ, Option, IfOk};
+ghost use Rattle.script_nodes.specs.Setup.{Named};
+ghost use Rattle.replay_spec.specs.Book.{Doubt};
+ghost use Rattle.instance_book.specs.Lists.{HasRoom};
 ghost use Rattle.instance_book.specs.Views.{page_of, pages_of, instance_of, instances_of, book_of};
-ghost use Rattle.instance_book.specs.Copies.{IsSameShow, IsSameChange, IsSame};
+ghost use Rattle.instance_book.specs.Places.{StayPlaced};
+ghost use Rattle.instance_book.specs.Makes.{KeepsPlaces};
+ghost use Rattle.instance_book.specs.Changes.{opening_of, ending_of, finish_of, begun_with};
+ghost use Rattle.instance_book.specs.Copies.{IsSameInstance, IsSameShow, IsSameExtension, IsSameChange, IsSame};
 
 use crate::after::{After, Show};
 use crate::book::Book;
-use crate::instance::{Instances, KeptInstance};
-use crate::numbers::Numbers;
-use crate::page::{KeptPage, Pages};
-use crate::prepared::{Change, Prepared};
+use crate::in_order::InOrder;
+use crate::instance::KeptInstance;
+use crate::numbered::Numbered;
+use crate::page::KeptPage;
+use crate::prepared::{Change, Ending, Extension, Finish, Opening, Prepared};
+use instance_cells::clone_effects;
 use std::alloc::{AllocError, Global};
 
-impl Numbers {
+impl Numbered<KeptPage> {
     /// A copy, equal to its source.
-    pub fn try_clone(&self, alloc: Global) -> Result<Numbers, AllocError>
-        ensures { IfOk result (λ copy. copy ≡ self.now) }
-    {
-        Ok(Numbers::new(self.as_slice().to_vec(alloc)?))
-    }
-}
-
-impl KeptPage {
-    /// A copy, equal to its source.
-    pub fn try_clone(&self, alloc: Global) -> Result<KeptPage, AllocError>
+    pub fn try_clone(&self, alloc: Global) -> Result<Numbered<KeptPage>, AllocError>
         ensures { IfOk result (λ copy. page_of copy ≡ page_of self.now) }
     {
-        Ok(KeptPage {
+        Ok(Numbered {
             number: self.number,
-            nonce: self.nonce,
-            parent: self.parent,
-            answer: self.answer.try_clone(alloc)?,
-            reads: self.reads.try_clone(alloc)?,
-            inside: self.inside.as_slice().to_vec(alloc)?,
-            deadline: self.deadline,
+            item: KeptPage {
+                nonce: self.item.nonce,
+                parent: self.item.parent,
+                answer: self.item.answer.try_clone(alloc)?,
+                reads: self.item.reads.try_clone(alloc)?,
+                inside: self.item.inside.as_slice().to_vec(alloc)?,
+                deadline: self.item.deadline,
+            },
         })
     }
 }
 
-impl Pages {
+impl InOrder<KeptPage> {
     /// A copy, equal to its source.
-    pub fn try_clone(&self, alloc: Global) -> Result<Pages, AllocError>
+    pub fn try_clone(&self, alloc: Global) -> Result<InOrder<KeptPage>, AllocError>
         ensures { IfOk result (λ copy. pages_of copy ≡ pages_of self.now) }
     {
-        let mut items = Vec::new(alloc);
-        for page in &self.items {
-            items.push(page.try_clone(alloc)?)?;
+        let mut things = Vec::new(alloc);
+        for page in &self.things {
+            things.push(page.try_clone(alloc)?)?;
         }
-        Ok(Pages { items })
+        Ok(InOrder { things })
     }
 }
 
 impl KeptInstance {
     /// A copy, equal to its source.
     pub fn try_clone(&self, alloc: Global) -> Result<KeptInstance, AllocError>
-        ensures { IfOk result (λ copy. instance_of copy ≡ instance_of self.now) }
+        ensures instance { IfOk result (IsSameInstance self.now) }
+        ensures script { IfOk result (λ copy. copy.script ≡ self.now.script) }
     {
         Ok(KeptInstance {
-            number: self.number,
             script: self.script,
             cells: self.cells.try_clone(alloc)?,
             closed: self.closed.try_clone(alloc)?,
-            revoked: self.revoked.try_clone(alloc)?,
+            revoked: self.revoked.numbers(alloc)?,
             pages: self.pages.try_clone(alloc)?,
         })
     }
 }
 
-impl Instances {
+impl InOrder<KeptInstance> {
     /// A copy, equal to its source.
-    pub fn try_clone(&self, alloc: Global) -> Result<Instances, AllocError>
-        ensures { IfOk result (λ copy. instances_of copy ≡ instances_of self.now) }
+    pub fn try_clone(&self, alloc: Global) -> Result<InOrder<KeptInstance>, AllocError>
+        ensures instances { IfOk result (λ copy. (scripts : List Named) → instances_of scripts copy ≡ instances_of scripts self.now) }
+        ensures placed { IfOk result (StayPlaced self.now) }
     {
-        let mut items = Vec::new(alloc);
-        for instance in &self.items {
-            items.push(instance.try_clone(alloc)?)?;
+        let mut things = Vec::new(alloc);
+        for instance in &self.things {
+            things.push(Numbered {
+                number: instance.number,
+                item: instance.item.try_clone(alloc)?,
+            })?;
         }
-        Ok(Instances { items })
+        Ok(InOrder { things })
     }
 }
 
@@ -100,7 +105,7 @@ impl Show {
         ensures { IfOk result (IsSameShow self.now) }
     {
         let revoked = match &self.revoked {
-            Some(revoked) => Some(revoked.try_clone(alloc)?),
+            Some(revoked) => Some(revoked.numbers(alloc)?),
             None => None,
         };
         Ok(Show {
@@ -111,25 +116,89 @@ impl Show {
     }
 }
 
-impl Change {
+impl Opening {
+    /// A copy, equal to its source, with room for its page.
+    pub fn try_clone(&self, alloc: Global) -> Result<Opening, AllocError>
+        ensures opening { IfOk result (λ copy. opening_of copy ≡ opening_of self.now) }
+        ensures page { IfOk result (λ copy. page_of copy.page ≡ page_of self.now.page) }
+        ensures begun { IfOk result (λ copy. (scripts : List Named) → begun_with scripts copy ≡ begun_with scripts self.now) }
+        ensures room { IfOk result (λ copy. HasRoom copy.instance.pages) }
+    {
+        let mut instance = self.instance.try_clone(alloc)?;
+        instance.pages.make_room()?;
+        Ok(Opening {
+            effects: clone_effects(alloc, &self.effects)?,
+            left: self.left.as_slice().to_vec(alloc)?,
+            kind: self.kind,
+            page: self.page.try_clone(alloc)?,
+            instance,
+        })
+    }
+}
+
+impl Extension {
     /// A copy, equal to its source.
+    pub fn try_clone(&self, alloc: Global) -> Result<Extension, AllocError>
+        ensures { IfOk result (IsSameExtension self.now) }
+    {
+        Ok(Extension {
+            instance: self.instance,
+            answered: self.answered,
+            effects: clone_effects(alloc, &self.effects)?,
+            left: self.left.as_slice().to_vec(alloc)?,
+            kind: self.kind,
+            show: self.show.try_clone(alloc)?,
+        })
+    }
+}
+
+impl Ending {
+    /// A copy, equal to its source.
+    pub fn try_clone(&self, alloc: Global) -> Result<Ending, AllocError>
+        ensures ending { IfOk result (λ copy. ending_of copy ≡ ending_of self.now) }
+        ensures inside { IfOk result (λ copy. copy.inside.items ≡ self.now.inside.items) }
+        ensures after { IfOk result (λ copy. copy.after ≡ self.now.after) }
+    {
+        Ok(Ending {
+            number: self.number,
+            instance: self.instance,
+            answered: self.answered,
+            answer: self.answer.try_clone(alloc)?,
+            effects: clone_effects(alloc, &self.effects)?,
+            left: self.left.as_slice().to_vec(alloc)?,
+            inside: self.inside.as_slice().to_vec(alloc)?,
+            after: self.after.try_clone(alloc)?,
+        })
+    }
+}
+
+impl Finish {
+    /// A copy, equal to its source.
+    pub fn try_clone(&self, alloc: Global) -> Result<Finish, AllocError>
+        ensures finish { IfOk result (λ copy. finish_of copy ≡ finish_of self.now) }
+        ensures inside { IfOk result (λ copy. copy.inside.items ≡ self.now.inside.items) }
+    {
+        Ok(Finish {
+            number: self.number,
+            instance: self.instance,
+            answered: self.answered,
+            answer: self.answer.try_clone(alloc)?,
+            effects: clone_effects(alloc, &self.effects)?,
+            inside: self.inside.as_slice().to_vec(alloc)?,
+        })
+    }
+}
+
+impl Change {
+    /// A copy, equal to its source: where there is room for the one, there is for the other.
     pub fn try_clone(&self, alloc: Global) -> Result<Change, AllocError>
         ensures { IfOk result (IsSameChange self.now) }
     {
         Ok(match self {
-            Change::Nothing => Change::Nothing,
-            Change::Opens(instance) => Change::Opens(instance.try_clone(alloc)?),
-            Change::Extends { instance, show } => Change::Extends {
-                instance: *instance,
-                show: show.try_clone(alloc)?,
-            },
-            Change::Ends { instance, after } => Change::Ends {
-                instance: *instance,
-                after: after.try_clone(alloc)?,
-            },
-            Change::Finishes { instance } => Change::Finishes {
-                instance: *instance,
-            },
+            Change::Opens(opening) => Change::Opens(opening.try_clone(alloc)?),
+            Change::Extends(extension) => Change::Extends(extension.try_clone(alloc)?),
+            Change::Ends(ending) => Change::Ends(ending.try_clone(alloc)?),
+            Change::Finishes(finish) => Change::Finishes(finish.try_clone(alloc)?),
         })
     }
 }
@@ -139,10 +208,14 @@ impl Prepared {
     pub fn try_clone(&self, alloc: Global) -> Result<Prepared, AllocError>
         ensures { IfOk result (IsSame self.now) }
     {
+        let change = match &self.change {
+            Some(change) => Some(change.try_clone(alloc)?),
+            None => None,
+        };
         Ok(Prepared {
             reply: self.reply.try_clone(alloc)?,
             logged: self.logged,
-            change: self.change.try_clone(alloc)?,
+            change,
         })
     }
 }
@@ -150,7 +223,8 @@ impl Prepared {
 impl Book {
     /// A copy, equal to its source.
     pub fn try_clone(&self, alloc: Global) -> Result<Book, AllocError>
-        ensures { IfOk result (λ copy. book_of copy ≡ book_of self.now) }
+        ensures book { IfOk result (λ copy. (scripts : List Named) (journal : ℕ) (down : Option Doubt) → book_of scripts journal down copy ≡ book_of scripts journal down self.now) }
+        ensures placed { IfOk result (KeepsPlaces self.now) }
     {
         let instances = self.instances.try_clone(alloc)?;
         let out = self.out.as_slice().to_vec(alloc)?;

@@ -1,25 +1,58 @@
-ghost use Rattle.std.specs.Prelude.{◌≡◌};
+ghost use Rattle.std.specs.Prelude.{◌≡◌, List, ℕ, Option, Some, Bool};
+ghost use Rattle.script_nodes.specs.Setup.{Named};
+ghost use Rattle.replay_spec.specs.Book.{Doubt};
 ghost use Rattle.instance_book.specs.Views.{book_of};
-ghost use Rattle.instance_book.specs.Changes.{changed_by, put_into, HasRoomFor};
+ghost use Rattle.instance_book.specs.Places.{ArePlaced};
+ghost use Rattle.instance_book.specs.Makes.{HasPlaces};
+ghost use Rattle.instance_book.specs.Changes.{begun_with, changed_by, put_into, HasRoomFor, IsPlacedBy};
 
 use crate::book::Book;
-use crate::prepared::{Change, Prepared};
+use crate::instance::KeptInstance;
+use crate::numbered::Numbered;
+use crate::prepared::{Change, Opening, Prepared};
 use script_value::Reply;
 
-impl Book {
-    ghost use Rattle.instance_book.specs.Views.{instances_of};
+impl Opening {
+    ghost use Rattle.instance_book.specs.Lists.{HasRoom};
+    ghost use Rattle.instance_book.specs.Views.{instance_of};
 
-    // The change, for which there is room.
-    fn change(&mut self, change: Change)
-        requires { HasRoomFor change self.old }
-        ensures { book_of self.new ≡ changed_by change (book_of self.old) }
+    // The instance that begins with its page.
+    fn begin(self) -> Numbered<KeptInstance>
+        requires { HasRoom self.instance.pages }
+        ensures instance { (scripts : List Named) → instance_of scripts result ≡ begun_with scripts self }
+        ensures script { result.item.script ≡ self.instance.script }
     {
+        let Opening {
+            effects: _,
+            left: _,
+            kind: _,
+            page,
+            mut instance,
+        } = self;
+        let number = page.number;
+        instance.pages.put_page(page);
+        Numbered {
+            number,
+            item: instance,
+        }
+    }
+}
+
+impl Book {
+    // The change, for which there is room.
+    fn change(&mut self, change: Option<Change>)
+        requires { HasRoomFor change self.old }
+        ensures book { (scripts : List Named) (journal : ℕ) (down : Option Doubt) → book_of scripts journal down self.new ≡ changed_by scripts change (book_of scripts journal down self.old) }
+        ensures placed { (scripts : List Named) → IsPlacedBy scripts change → HasPlaces scripts self.old → HasPlaces scripts self.new }
+    {
+        let Some(change) = change else {
+            return;
+        };
         match change {
-            Change::Nothing => (),
-            Change::Opens(instance) => self.instances.put(instance),
-            Change::Extends { instance, show } => self.instances.show(instance, show),
-            Change::Ends { instance, after } => self.instances.end(instance, after),
-            Change::Finishes { instance } => self.instances.remove(instance),
+            Change::Opens(opening) => self.instances.put_instance(opening.begin()),
+            Change::Extends(extension) => self.instances.show(extension.instance, extension.show),
+            Change::Ends(ending) => self.instances.end(ending.instance, ending.after),
+            Change::Finishes(finish) => self.instances.free(finish.instance),
         }
     }
 
@@ -28,11 +61,17 @@ impl Book {
     /// It asks that the book is as `prepare` left it, `spend` aside: that the room is there.
     pub fn install(&mut self, prepared: Prepared) -> Reply
         requires { HasRoomFor prepared.change self.old }
-        ensures book { book_of self.new ≡ put_into prepared (book_of self.old) }
+        ensures book { (scripts : List Named) (journal : ℕ) (down : Option Doubt) → book_of scripts journal down self.new ≡ put_into scripts prepared (book_of scripts journal down self.old) }
         ensures reply { result ≡ prepared.reply }
+        ensures placed { (scripts : List Named) → IsPlacedBy scripts prepared.change → HasPlaces scripts self.old → HasPlaces scripts self.new }
     {
-        self.change(prepared.change);
-        self.logged = self.logged.max(prepared.logged);
-        prepared.reply
+        let Prepared {
+            reply,
+            logged,
+            change,
+        } = prepared;
+        self.change(change);
+        self.logged = self.logged.max(logged);
+        reply
     }
 }

@@ -1,37 +1,30 @@
-ghost use Rattle.std.specs.Prelude.{◌≡◌, ◌<◌, ◌≤◌, ◌+◌, ◌^◌, ◌++◌, Ok, IfOk, IfErr, OnOk, map, length, Contains};
-ghost use Rattle.instance_cells.specs.Cells.{AreOn, commit, reads_of};
+ghost use Rattle.std.specs.Prelude.{◌≡◌, ◌<◌, ◌≤◌, ◌+◌, ◌^◌, ◌++◌, None, Ok, IfOk, IfErr, OnOk, map, length, Contains};
+ghost use Rattle.instance_cells.specs.Cells.{AreOn, reads_of};
 ghost use Rattle.instance_cells.specs.Views.{effect_of};
 ghost use Rattle.segments.specs.Views.{segment_of};
-ghost use Rattle.instance_book.specs.Views.{book_of, HasRoomAt};
+ghost use Rattle.instance_book.specs.Lists.{HasRoom};
+ghost use Rattle.instance_book.specs.Views.{HasRoomAt};
+ghost use Rattle.instance_book.specs.Makes.{StaysSame, KeepsPlaces};
 ghost use Rattle.instance_book.specs.Changes.{renewed, HasRoomFor};
 ghost use Rattle.instance_book.specs.Prepares.{StartsOn, AnswersOn, IsOnCells, AreOnCells, IsPrepared};
-ghost use Rattle.instance_book.specs.Segments.{Revokes, BeginsBy, IsLeftBy, GoesOnBy, Shows, EndsOn, OpensOn};
+ghost use Rattle.instance_book.specs.Segments.{Revokes, BeginsBy, IsLeftBy, GoesOnBy, Shows, EndsOn, FinishesOn, OpensOn};
 
 use crate::after::{After, Show};
 use crate::book::Book;
+use crate::in_order::InOrder;
 use crate::instance::KeptInstance;
-use crate::numbers::Numbers;
-use crate::page::{KeptPage, Pages};
-use crate::prepared::{Change, Prepared};
+use crate::numbered::Numbered;
+use crate::page::KeptPage;
+use crate::prepared::{Change, Ending, Extension, Finish, Opening, Prepared};
 use crate::ticket::Ticket;
 use expiry::{LONGEST_LIFE, deadline};
-use instance_cells::{Cells, Effect};
+use instance_cells::Effect;
 use page_names::{PageName, Target};
 use script_nodes::SendKind;
 use script_value::{Bytes, Items, Refusal, Reply, TxName, Value};
 use segments::{PlainEnd, Rerun};
 use std::alloc::{AllocError, Global};
 use transactions::Closed;
-
-// The cells behind these effects.
-fn cells_after(alloc: Global, cells: &Cells, effects: &[Effect]) -> Result<Cells, AllocError>
-    requires { AreOn (length cells.now) (map effect_of effects.now) }
-    ensures { IfOk result (λ after. after ≡ commit (map effect_of effects.now) cells.now) }
-{
-    let mut after = cells.try_clone(alloc)?;
-    after.commit(alloc, effects)?;
-    Ok(after)
-}
 
 // The closed transactions with these more.
 fn closed_with(closed: Closed, left: &[TxName]) -> Result<Closed, AllocError>
@@ -76,8 +69,8 @@ fn reads_in(alloc: Global, effects: &[Effect]) -> Result<Items, AllocError>
 fn revoked_after(
     alloc: Global,
     kind: SendKind,
-    pages: &Pages,
-) -> Result<Option<Numbers>, AllocError>
+    pages: &InOrder<KeptPage>,
+) -> Result<Option<InOrder<()>>, AllocError>
     ensures { IfOk result (Revokes kind pages.now) }
 {
     match kind {
@@ -98,47 +91,33 @@ fn shown(alloc: Global, page: Bytes, ticket: &Ticket) -> Result<Reply, AllocErro
 fn unchanged(reply: Reply) -> Prepared
     ensures reply { result.reply ≡ reply }
     ensures logged { result.logged ≡ 0 }
-    ensures change { result.change ≡ Change.Nothing }
+    ensures change { result.change ≡ None }
 {
     Prepared {
         reply,
         logged: 0,
-        change: Change::Nothing,
+        change: None,
     }
 }
 
-// The instance of a start that showed a page.
-fn opened(
+// The instance of a start, which has room for its page.
+fn begun(
     alloc: Global,
     ticket: &Ticket,
     effects: &[Effect],
-    entered: Vec<TxName>,
     left: &[TxName],
-    deadline: u64,
 ) -> Result<KeptInstance, AllocError>
     requires { AreOn (length ticket.now.cells) (map effect_of effects.now) }
-    ensures { IfOk result (BeginsBy ticket.now effects.now entered.items left.now deadline) }
+    ensures instance { IfOk result (BeginsBy ticket.now effects.now left.now) }
+    ensures room { IfOk result (λ instance. HasRoom instance.pages) }
+    ensures script { IfOk result (λ instance. instance.script ≡ ticket.now.script) }
 {
-    let cells = cells_after(alloc, &ticket.cells, effects)?;
-    let closed = closed_with(Closed::new(alloc), left)?;
-    let reads = reads_in(alloc, effects)?;
-    let mut pages = Pages::with_room(alloc)?;
-    pages.put(KeptPage {
-        number: ticket.number,
-        nonce: ticket.nonce,
-        parent: None,
-        answer: Value::List(Items::new(alloc)),
-        reads,
-        inside: entered,
-        deadline,
-    });
     Ok(KeptInstance {
-        number: ticket.number,
         script: ticket.script,
-        cells,
-        closed,
-        revoked: Numbers::new(Vec::new(alloc)),
-        pages,
+        cells: ticket.cells.committed(alloc, effects)?,
+        closed: closed_with(Closed::new(alloc), left)?,
+        revoked: InOrder::new(alloc),
+        pages: InOrder::with_room(alloc)?,
     })
 }
 
@@ -149,7 +128,7 @@ impl KeptInstance {
         ensures { IfOk result (IsLeftBy effects.now left.now self.now) }
     {
         Ok(After {
-            cells: cells_after(alloc, &self.cells, effects)?,
+            cells: self.cells.committed(alloc, effects)?,
             closed: closed_after(alloc, &self.closed, left)?,
         })
     }
@@ -162,60 +141,68 @@ impl KeptInstance {
         parent: u64,
         kind: SendKind,
         effects: &[Effect],
-        entered: Vec<TxName>,
+        inside: Vec<TxName>,
         left: &[TxName],
         deadline: u64,
     ) -> Result<Show, AllocError>
         requires { AreOn (length self.now.cells) (map effect_of effects.now) }
-        ensures { IfOk result (GoesOnBy ticket.now parent kind effects.now entered.items left.now deadline self.now) }
+        ensures { IfOk result (GoesOnBy ticket.now parent kind effects.now inside.items left.now deadline self.now) }
     {
         let after = self.after(alloc, effects, left)?;
         let revoked = revoked_after(alloc, kind, &self.pages)?;
         let reads = reads_in(alloc, effects)?;
         let answer = ticket.answer.try_clone(alloc)?;
         Ok(Show {
-            page: KeptPage {
+            page: Numbered {
                 number: ticket.number,
-                nonce: ticket.nonce,
-                parent: Some(parent),
-                answer,
-                reads,
-                inside: entered,
-                deadline,
+                item: KeptPage {
+                    nonce: ticket.nonce,
+                    parent: Some(parent),
+                    answer,
+                    reads,
+                    inside,
+                    deadline,
+                },
             },
             revoked,
             after,
         })
     }
+}
 
+impl Numbered<KeptInstance> {
     // An answer to a page of the instance showed a page.
     fn extension(
         &self,
         alloc: Global,
         ticket: &Ticket,
-        parent: u64,
+        answered: u64,
         page: Bytes,
         kind: SendKind,
-        effects: &[Effect],
-        entered: Vec<TxName>,
-        left: &[TxName],
+        effects: Vec<Effect>,
+        inside: Vec<TxName>,
+        left: Vec<TxName>,
         deadline: u64,
     ) -> Result<Prepared, AllocError>
-        requires on { AreOn (length self.now.cells) (map effect_of effects.now) }
+        requires on { AreOn (length self.now.item.cells) (map effect_of effects.items) }
         requires number { ticket.now.number < 2 ^ 63 }
-        ensures { IfOk result (Shows ticket.now parent page kind effects.now entered.items left.now deadline self.now) }
+        ensures { IfOk result (Shows ticket.now answered page kind effects.items inside.items left.items deadline self.now) }
     {
         let reply = shown(alloc, page, ticket)?;
-        let show = self.shows(
-            alloc, ticket, parent, kind, effects, entered, left, deadline,
+        let show = self.item.shows(
+            alloc, ticket, answered, kind, &effects, inside, &left, deadline,
         )?;
         Ok(Prepared {
             reply,
             logged: ticket.number + 1,
-            change: Change::Extends {
+            change: Some(Change::Extends(Extension {
                 instance: self.number,
+                answered,
+                effects,
+                left,
+                kind,
                 show,
-            },
+            })),
         })
     }
 
@@ -224,54 +211,108 @@ impl KeptInstance {
         &self,
         alloc: Global,
         ticket: &Ticket,
+        answered: u64,
         page: Bytes,
-        effects: &[Effect],
-        left: &[TxName],
+        effects: Vec<Effect>,
+        inside: Vec<TxName>,
+        left: Vec<TxName>,
     ) -> Result<Prepared, AllocError>
-        requires on { AreOn (length self.now.cells) (map effect_of effects.now) }
+        requires on { AreOn (length self.now.item.cells) (map effect_of effects.items) }
         requires number { ticket.now.number < 2 ^ 63 }
-        ensures { IfOk result (EndsOn ticket.now page effects.now left.now self.now) }
+        ensures { IfOk result (EndsOn ticket.now answered page effects.items inside.items left.items self.now) }
     {
-        let ended = self.after(alloc, effects, left)?;
+        let after = self.item.after(alloc, &effects, &left)?;
+        let answer = ticket.answer.try_clone(alloc)?;
         Ok(Prepared {
             reply: Reply::Ended(page),
             logged: ticket.number + 1,
-            change: Change::Ends {
+            change: Some(Change::Ends(Ending {
+                number: ticket.number,
                 instance: self.number,
-                after: ended,
-            },
+                answered,
+                answer,
+                effects,
+                left,
+                inside,
+                after,
+            })),
         })
     }
 }
 
+// An answer to a page freed its instance.
+fn finish(
+    alloc: Global,
+    ticket: &Ticket,
+    instance: u64,
+    answered: u64,
+    page: Bytes,
+    effects: Vec<Effect>,
+    inside: Vec<TxName>,
+) -> Result<Prepared, AllocError>
+    requires { ticket.now.number < 2 ^ 63 }
+    ensures { IfOk result (FinishesOn ticket.now instance answered page effects.items inside.items) }
+{
+    Ok(Prepared {
+        reply: Reply::Finished(page),
+        logged: ticket.number + 1,
+        change: Some(Change::Finishes(Finish {
+            number: ticket.number,
+            instance,
+            answered,
+            answer: ticket.answer.try_clone(alloc)?,
+            effects,
+            inside,
+        })),
+    })
+}
+
 impl Book {
     // A start showed a page.
-    fn prepare_opening(
+    fn opening(
         &mut self,
         alloc: Global,
         ticket: &Ticket,
         page: Bytes,
-        effects: &[Effect],
-        entered: Vec<TxName>,
-        left: &[TxName],
+        kind: SendKind,
+        effects: Vec<Effect>,
+        inside: Vec<TxName>,
+        left: Vec<TxName>,
         life: u64,
     ) -> Result<Prepared, AllocError>
-        requires on { AreOn (length ticket.now.cells) (map effect_of effects.now) }
+        requires on { AreOn (length ticket.now.cells) (map effect_of effects.items) }
         requires life { life ≤ LONGEST_LIFE }
         requires number { ticket.now.number < 2 ^ 63 }
-        requires few { length (book_of self.old).instances + 1 < 2 ^ 32 }
-        ensures book { book_of self.new ≡ book_of self.old }
+        requires few { length self.old.instances.things.items + 1 < 2 ^ 32 }
+        ensures book { StaysSame self.old self.new }
+        ensures placed { KeepsPlaces self.old self.new }
         ensures room { IfOk result (λ p. HasRoomFor p.change self.new) }
-        ensures opens { IfOk result (OpensOn ticket.now page effects.now entered.items left.now life self.old) }
+        ensures opens { IfOk result (OpensOn ticket.now page kind effects.items inside.items left.items life self.old) }
     {
         let reply = shown(alloc, page, ticket)?;
-        let deadline = deadline(self.clock, life);
-        let instance = opened(alloc, ticket, effects, entered, left, deadline)?;
+        let reads = reads_in(alloc, &effects)?;
+        let instance = begun(alloc, ticket, &effects, &left)?;
         self.instances.make_room()?;
         Ok(Prepared {
             reply,
             logged: ticket.number + 1,
-            change: Change::Opens(instance),
+            change: Some(Change::Opens(Opening {
+                effects,
+                left,
+                kind,
+                page: Numbered {
+                    number: ticket.number,
+                    item: KeptPage {
+                        nonce: ticket.nonce,
+                        parent: None,
+                        answer: Value::List(Items::new(alloc)),
+                        reads,
+                        inside,
+                        deadline: deadline(self.clock, life),
+                    },
+                },
+                instance,
+            })),
         })
     }
 
@@ -287,9 +328,10 @@ impl Book {
         requires on { AreOn (length ticket.now.cells) (map effect_of segment.effects.items) }
         requires life { life ≤ LONGEST_LIFE }
         requires number { ticket.now.number < 2 ^ 63 }
-        ensures book { book_of self.new ≡ book_of self.old }
+        ensures book { StaysSame self.old self.new }
+        ensures placed { KeepsPlaces self.old self.new }
         ensures room { IfOk result (λ p. HasRoomFor p.change self.new) }
-        ensures decided { StartsOn (book_of self.old) ticket.now (segment_of segment) instances life result }
+        ensures decided { StartsOn self.old ticket.now (segment_of segment) instances life result }
     {
         let Rerun {
             end,
@@ -299,12 +341,12 @@ impl Book {
             cost: _,
         } = segment;
         match end {
-            PlainEnd::Shown { page, kind: _ } => {
+            PlainEnd::Shown { page, kind } => {
                 let count = self.instances.len();
                 if count >= instances as usize {
                     return Err(Reply::ShelfFull(count as u64));
                 }
-                match self.prepare_opening(alloc, ticket, page, &effects, entered, &left, life) {
+                match self.opening(alloc, ticket, page, kind, effects, entered, left, life) {
                     Ok(prepared) => Ok(prepared),
                     Err(_) => Err(Reply::Memory),
                 }
@@ -322,7 +364,8 @@ impl Book {
         instance: u64,
         made: Result<Prepared, AllocError>,
     ) -> Result<Prepared, Reply>
-        ensures book { book_of self.new ≡ book_of self.old }
+        ensures book { StaysSame self.old self.new }
+        ensures placed { KeepsPlaces self.old self.new }
         ensures made { IfOk result (λ p. made ≡ Ok p) }
         ensures room { OnOk result (HasRoomAt instance self.new.instances) }
         ensures err { IfErr result (λ r. r ≡ Reply.Memory) }
@@ -346,12 +389,13 @@ impl Book {
         pages: u32,
         life: u64,
     ) -> Result<Prepared, Reply>
-        requires on { IsOnCells (book_of self.old) page.now.instance (map effect_of segment.effects.items) }
+        requires on { IsOnCells self.old page.now.instance (map effect_of segment.effects.items) }
         requires life { life ≤ LONGEST_LIFE }
         requires number { ticket.now.number < 2 ^ 63 }
-        ensures book { book_of self.new ≡ book_of self.old }
+        ensures book { StaysSame self.old self.new }
+        ensures placed { KeepsPlaces self.old self.new }
         ensures room { IfOk result (λ p. HasRoomFor p.change self.new) }
-        ensures decided { AnswersOn (book_of self.old) ticket.now page.now (segment_of segment) pages life result }
+        ensures decided { AnswersOn self.old ticket.now page.now (segment_of segment) pages life result }
     {
         let Some(instance) = self.instances.get(page.instance) else {
             return Ok(unchanged(Reply::Refused(Refusal::Unknown)));
@@ -365,29 +409,36 @@ impl Book {
         } = segment;
         match end {
             PlainEnd::Shown { page: bytes, kind } => {
-                let count = instance.pages.len();
+                let count = instance.item.pages.len();
                 if count >= pages as usize {
                     return Err(Reply::InstanceFull(count as u64));
                 }
                 let deadline = deadline(self.clock, life);
                 let made = instance.extension(
-                    alloc, ticket, page.page, bytes, kind, &effects, entered, &left, deadline,
+                    alloc, ticket, page.page, bytes, kind, effects, entered, left, deadline,
                 );
                 self.with_room(page.instance, made)
             }
             PlainEnd::Ended(bytes) => {
-                match instance.ending(alloc, ticket, bytes, &effects, &left) {
+                match instance.ending(alloc, ticket, page.page, bytes, effects, entered, left) {
                     Ok(prepared) => Ok(prepared),
                     Err(_) => Err(Reply::Memory),
                 }
             }
-            PlainEnd::Finished(bytes) => Ok(Prepared {
-                reply: Reply::Finished(bytes),
-                logged: ticket.number + 1,
-                change: Change::Finishes {
-                    instance: instance.number,
-                },
-            }),
+            PlainEnd::Finished(bytes) => {
+                match finish(
+                    alloc,
+                    ticket,
+                    page.instance,
+                    page.page,
+                    bytes,
+                    effects,
+                    entered,
+                ) {
+                    Ok(prepared) => Ok(prepared),
+                    Err(_) => Err(Reply::Memory),
+                }
+            }
             PlainEnd::Faulted(fault) => Ok(unchanged(Reply::Fault(fault))),
             PlainEnd::Fuel(cost) => Ok(unchanged(Reply::Fuel(cost))),
         }
@@ -396,8 +447,8 @@ impl Book {
     /// Makes the reply and the change of a visit, and room for the change; nothing that the book stands for changes.
     ///
     /// It asks for a number that is out, for a life in its range in seconds, and for effects on the cells of the visit's
-    /// instance. The segment is the one over the present cells of an admitted target: then what is prepared carries out what
-    /// the visit comes to, and a refusal is `ShelfFull`, `InstanceFull` or want of memory.
+    /// instance. The segment is the one over the present cells of an admitted target: then what is prepared is what the visit
+    /// comes to, and carries it out, and a refusal is `ShelfFull`, `InstanceFull` or want of memory.
     pub fn prepare(
         &mut self,
         alloc: Global,
@@ -407,12 +458,13 @@ impl Book {
         pages: u32,
         life: u64,
     ) -> Result<Prepared, Reply>
-        requires out { Contains (book_of self.old).out ticket.now.number }
+        requires out { Contains self.old.out.items ticket.now.number }
         requires life { life ≤ LONGEST_LIFE }
-        requires on { AreOnCells (book_of self.old) ticket.now (map effect_of segment.effects.items) }
-        ensures book { book_of self.new ≡ book_of self.old }
+        requires on { AreOnCells self.old ticket.now (map effect_of segment.effects.items) }
+        ensures book { StaysSame self.old self.new }
+        ensures placed { KeepsPlaces self.old self.new }
         ensures room { IfOk result (λ p. HasRoomFor p.change self.new) }
-        ensures decided { IsPrepared (book_of self.old) ticket.now (segment_of segment) instances pages life result }
+        ensures decided { IsPrepared self.old ticket.now (segment_of segment) instances pages life result }
     {
         let _out = &self.out;
         match &ticket.target {

@@ -1,26 +1,78 @@
 use crate::after::{After, Show};
 use crate::instance::KeptInstance;
-use script_value::Reply;
+use crate::numbered::Numbered;
+use crate::page::KeptPage;
+use instance_cells::Effect;
+use script_nodes::SendKind;
+use script_value::{Reply, TxName, Value};
 
-/// What a visit changes of the instances.
+/// A start showed a page.
 #[derive(Drop)]
-pub enum Change {
-    Nothing,
-    /// A start showed a page: a new instance.
-    Opens(KeptInstance),
-    /// An answer showed a page.
-    Extends { instance: u64, show: Show },
-    /// An answer ended with a last page.
-    Ends { instance: u64, after: After },
-    /// An answer freed its instance.
-    Finishes { instance: u64 },
+pub struct Opening {
+    pub effects: Vec<Effect>,
+    pub left: Vec<TxName>,
+    pub kind: SendKind,
+    /// The page, whose number is also that of its instance.
+    pub(crate) page: Numbered<KeptPage>,
+    /// The instance behind the segment, with room for the page.
+    pub(crate) instance: KeptInstance,
 }
 
-/// A visit whose reply and whose change of the book are made, and for which there is room.
+/// An answer to a page showed a page.
+#[derive(Drop)]
+pub struct Extension {
+    pub instance: u64,
+    /// The number of the page that was answered.
+    pub answered: u64,
+    pub effects: Vec<Effect>,
+    pub left: Vec<TxName>,
+    pub kind: SendKind,
+    /// The page, and what its segment makes of the instance.
+    pub(crate) show: Show,
+}
+
+/// An answer to a page ended with a last page.
+#[derive(Drop)]
+pub struct Ending {
+    pub number: u64,
+    pub instance: u64,
+    /// The number of the page that was answered.
+    pub answered: u64,
+    pub answer: Value,
+    pub effects: Vec<Effect>,
+    pub left: Vec<TxName>,
+    /// The transactions that were open where it ended.
+    pub inside: Vec<TxName>,
+    pub(crate) after: After,
+}
+
+/// An answer to a page freed its instance.
+#[derive(Drop)]
+pub struct Finish {
+    pub number: u64,
+    pub instance: u64,
+    /// The number of the page that was answered.
+    pub answered: u64,
+    pub answer: Value,
+    pub effects: Vec<Effect>,
+    /// The transactions that were open where it stopped.
+    pub inside: Vec<TxName>,
+}
+
+/// What a visit changes of the book, as a record of it says, and beside it what the book takes over.
+#[derive(Drop)]
+pub enum Change {
+    Opens(Opening),
+    Extends(Extension),
+    Ends(Ending),
+    Finishes(Finish),
+}
+
+/// A visit whose reply is made and, if it changes the book, its change, for which there is room.
 #[derive(Drop)]
 pub struct Prepared {
     pub(crate) reply: Reply,
     /// One more than its number, or 0 where the book stays.
     pub(crate) logged: u64,
-    pub(crate) change: Change,
+    pub(crate) change: Option<Change>,
 }

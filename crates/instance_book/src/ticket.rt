@@ -1,4 +1,4 @@
-ghost use Rattle.std.specs.Prelude.{◌≡◌, IfOk};
+ghost use Rattle.std.specs.Prelude.{IfOk};
 ghost use Rattle.segments.specs.Views.{tape_of};
 ghost use Rattle.replay_spec.specs.Tape.{present};
 
@@ -18,7 +18,8 @@ pub struct Ticket {
     pub target: Target,
     /// The URL that a page of the segment would have.
     pub url: Str,
-    /// The segments that showed its page and the page's ancestors, from the root on, with their recorded reads; none for a start.
+    /// What its segment goes on from: the segments that showed its page and the page's ancestors, from the root on, with what
+    /// they read; none for a start.
     pub from: Vec<Answer>,
     pub answer: Value,
     /// The cells of its instance at the take; for a start those that the script begins with.
@@ -26,11 +27,11 @@ pub struct Ticket {
 }
 
 impl Ticket {
-    ghost use Rattle.instance_book.specs.Fits.{tape_with, IsCopy};
+    ghost use Rattle.instance_book.specs.Fits.{IsTapeOf, IsCopy};
 
     /// The tape of the ticket's segment over these cells, whose cost may be at most the fuel. It takes no memory.
     pub fn tape<'t>(&'t self, cells: &'t Cells, fuel: u64) -> Tape<'t>
-        ensures { tape_of result ≡ tape_with self.now (present cells.now fuel) }
+        ensures { IsTapeOf self.now (present cells.now fuel) (tape_of result) }
     {
         Tape {
             past: &self.from,

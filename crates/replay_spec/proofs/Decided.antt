@@ -11,7 +11,7 @@ use Rattle.replay_spec.specs.Names.{Has}
 use Rattle.replay_spec.specs.Tape.{Reads, present, recorded, Answer, Tape, How, shows, finishes, ends, Outcome, paged}
 use Rattle.replay_spec.specs.Tape as tape
 use Rattle.replay_spec.specs.Eval.{Segment, run, unread}
-use Rattle.replay_spec.specs.Book.{Page, Instance, Change, Book, instance_at, page_at, chain}
+use Rattle.replay_spec.specs.Book.{Page, Change, Book, instance_at, page_at, chain}
 use Rattle.replay_spec.specs.Rules.{Rules}
 use Rattle.replay_spec.specs.Change.{page_by}
 use Rattle.replay_spec.specs.Admission.{or_else, Place, Admission, begins, resumes, refused, admit}
@@ -216,6 +216,6 @@ admitted_sound rules b t (resumes at) g h =
 admitted_sound rules b t (refused r) g h = tt
 
 -- so is what a publish records
-pub recorded_sound_of : (rules : Rules) (b : Book) (t : Ticket) (c : Change) (inside : List TxName) → IsSound b → Records rules b t c inside
+pub recorded_sound_of : {lawful : Type 0} (rules : Rules) (b : Book) (t : Ticket) (c : Change) (inside : List TxName) → IsSound b → Records lawful rules b t c inside
     → IsSoundChange b.scripts b.shelf b.instances c inside
 recorded_sound_of rules b t c inside g h = subst (IsSoundDecision b) h.decided (admitted_sound rules b t (admit b t.target) g (says b t.target))

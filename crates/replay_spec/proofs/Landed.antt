@@ -1,5 +1,5 @@
 -- What a change makes of orderly instances.
-use Rattle.std.proofs.Common.{◌++◌, ◌≡◌, ◌≢◌, ◌≤◌, ◌<◌, ◌==◌, ◌⊎◌, ℕ, suc, List, [], ◌∷◌, length, map, Option, Some, None, Bool, true, false, not, filter, refl, sym, ap, subst, ◌∙◌, inl, inr, ⊎_elim, slice_get, arith}
+use Rattle.std.proofs.Common.{◌≡◌, ◌≢◌, ◌==◌, ◌⊎◌, ℕ, List, [], ◌∷◌, length, map, Option, Some, None, Bool, false, not, filter, refl, sym, ap, subst, ◌∙◌, inl, inr, ⊎_elim, slice_get, arith}
 use Rattle.std.proofs.lemmas.Bool.{cases_eq}
 use Rattle.std.proofs.lemmas.Bool.Decides.{nat_tests}
 use Rattle.std.proofs.lemmas.Option.{same_Some}
@@ -10,13 +10,13 @@ use Rattle.instance_cells.specs.Cells.{Effect, cell_of, cell_at, left_by, landed
 use Rattle.script_nodes.specs.Setup.{Named}
 use Rattle.script_nodes.specs.declared.script.SendKind.{SendKind}
 use Rattle.script_nodes.specs.declared.script.SendKind.TheVariants.{Suspend, Forward}
-use Rattle.replay_spec.specs.Book.{Page, Instance, Opening, Extension, Change, opens, extends, ends, finishes, sweeps, is_live, instance_at, page_at, parent_of}
+use Rattle.replay_spec.specs.Book.{Page, Instance, Opening, Extension, Change, opens, extends, ends, finishes, sweeps, is_live, instance_at, page_at}
 use Rattle.replay_spec.specs.Change.{mend, put_page, put_instance, revoked_by, root_by, page_by, done, shown_by, fresh, opened_by, instances_by}
 use Rattle.replay_spec.specs.Admission.{is_one}
-use Rattle.replay_spec.specs.Invariant.{Apart, Lineage, PageAt, HasPage, AreOrderly, IsOrderlyChange, IsOf}
+use Rattle.replay_spec.specs.Invariant.{Apart, PagesApart, Lineage, PageAt, HasPage, AreOrderly, IsOrderlyChange, IsOf}
 use Rattle.replay_spec.proofs.Numbered.{put_found, put_other, put_length}
 use Rattle.replay_spec.proofs.Ancestors.{put_grown, ancestors_grown, lineage_grown}
-use Rattle.replay_spec.proofs.Found.{KeepsNumber, mend_other, mend_found, mend_apart, put_apart, keep_apart, keep_found}
+use Rattle.replay_spec.proofs.Found.{KeepsNumber, mend_other, mend_found, mend_apart, put_apart, put_pages_apart, keep_apart, keep_found}
 use Rattle.replay_spec.proofs.Stand.{Was, was_same, Since, since_same, orderly_less}
 
 pub none_by : {A : Type 0} (o : Option A) → ((x : A) → o ≡ Some x → ⊥) → o ≡ None
@@ -35,7 +35,7 @@ none_of : (n : ℕ) (ps : List Page) → page_at n ps ≡ None → is_one n (map
 none_of n [] none = refl
 none_of n (q ∷ ps) none = grind (arith, nat_tests, none_of n ps)
 
-none_newly : (kind : SendKind) (n : ℕ) (ps : List Page) (revoked : List ℕ) → page_at n ps ≡ None → is_one n revoked ≡ false → is_one n (revoked_by kind ps revoked) ≡ false
+pub none_newly : (kind : SendKind) (n : ℕ) (ps : List Page) (revoked : List ℕ) → page_at n ps ≡ None → is_one n revoked ≡ false → is_one n (revoked_by kind ps revoked) ≡ false
 none_newly Suspend n ps revoked none h = h
 none_newly Forward n ps revoked none h = none_of n ps none
 
@@ -45,6 +45,7 @@ module _ (u new : ℕ → Type 0) (is : List Instance) (s : AreOrderly u is) (he
     came : Was is k j ⊎ new k
     page : (m : ℕ) (p : Page) → page_at m j.pages ≡ Some p → PageAt is k m p ⊎ new m
     revoked : (m : ℕ) → u m → is_one m j.revoked ≡ false
+    apart : PagesApart j.pages
     sized : length j.cells ≡ length j.script.script.cells
     lineage : (m : ℕ) (p : Page) → page_at m j.pages ≡ Some p → Lineage j.pages p
 
@@ -55,6 +56,7 @@ module _ (u new : ℕ → Type 0) (is : List Instance) (s : AreOrderly u is) (he
   changed_well v js k apart cases fewer = (
     record {
       apart = apart;
+      pages_apart = λ l j found. ⊎_elim (λ c. c.1.apart) (λ old. s.pages_apart l j old) (cases l j found);
       no_instance = λ m x. none_by (instance_at m js) (λ j found. ⊎_elim
           (λ c. ⊎_elim (λ w. never (instance_at m is) w.instance (s.no_instance m (fewer m x).0) w.found) (fewer m x).1 c.1.came)
           (λ old. never (instance_at m is) j (s.no_instance m (fewer m x).0) old) (cases m j found));
@@ -96,6 +98,7 @@ module _ (u new : ℕ → Type 0) (is : List Instance) (s : AreOrderly u is) (he
     old : (m : ℕ) (q : Page) → page_at m i.pages ≡ Some q → PageAt is k m q
     no_page : (m : ℕ) → u m → page_at m i.pages ≡ None
     revoked : (m : ℕ) → u m → is_one m i.revoked ≡ false
+    apart : PagesApart i.pages
     sized : length i.cells ≡ length i.script.script.cells
     lineage : (m : ℕ) (q : Page) → page_at m i.pages ≡ Some q → Lineage i.pages q
 
@@ -105,6 +108,7 @@ module _ (u new : ℕ → Type 0) (is : List Instance) (s : AreOrderly u is) (he
     came = ⊎_elim (λ w. inl (record { instance = w.instance; found = w.found; script = w.script; grown = w.grown; longer = w.longer })) (λ n. inr n) r.came;
     page = λ m p shown. inl (r.old m p shown);
     revoked = r.revoked;
+    apart = r.apart;
     sized = cells_kept effects i.cells ∙ r.sized;
     lineage = r.lineage;
   }
@@ -118,6 +122,7 @@ module _ (u new : ℕ → Type 0) (is : List Instance) (s : AreOrderly u is) (he
         (λ n. inr n) r.came;
     page = λ m q found. ⊎_elim (λ is_new. inr (subst new is_new.0 mine)) (λ old. inl (r.old m q old)) (cases m q found);
     revoked = λ m x. none_newly kind m i.pages i.revoked (r.no_page m x) (r.revoked m x);
+    apart = put_pages_apart p i.pages r.apart none;
     sized = cells_kept effects i.cells ∙ r.sized;
     lineage = λ m q found. ⊎_elim (λ is_new. subst (Lineage (put_page p i.pages)) is_new.1 own)
         (λ old. lineage_grown i.pages (put_page p i.pages) (put_grown p i.pages none) (omega (arith, put_length (λ (x : Page). x.number) p i.pages none)) q (r.lineage m q old)) (cases m q found);
@@ -138,6 +143,7 @@ module _ (u new : ℕ → Type 0) (is : List Instance) (s : AreOrderly u is) (he
     old = λ m q found. record { instance = i; found = there; shown = found };
     no_page = λ m x. s.no_page m x k i there;
     revoked = λ m x. s.none_revoked m x k i there;
+    apart = s.pages_apart k i there;
     sized = s.sized k i there;
     lineage = λ m q found. s.lineage k i there m q found;
   }
@@ -149,6 +155,7 @@ module _ (u new : ℕ → Type 0) (is : List Instance) (s : AreOrderly u is) (he
     old = λ m q found. absurd (let no : ⊥ = cc in no);
     no_page = λ m x. refl;
     revoked = λ m x. refl;
+    apart = tt;
     sized = refl;
     lineage = λ m q found. absurd (let no : ⊥ = cc in no);
   }

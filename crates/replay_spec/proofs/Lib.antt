@@ -23,3 +23,16 @@ pub mod Steps
 pub mod Local
 pub mod Stays
 pub mod Refused
+pub mod Lands
+pub mod Numbers
+pub mod Differ
+pub mod Revoked
+pub mod Closing
+pub mod Freeing
+pub mod Answered
+pub mod Shown
+pub mod Tests
+pub mod Again
+pub mod Events
+pub mod Recovered
+pub mod Goes

@@ -1,5 +1,6 @@
--- What a visit comes to depends on the pages behind its own and its instance's cells alone, and what a start comes to on the shelf's
--- number; how it is decided and answered depends besides on the clock, the counts that limits are tested on, and the journal.
+-- What a visit comes to depends on the pages behind its own and its instance's cells alone, and what a start comes to on
+-- the shelf's number; how it is decided and answered depends besides on the clock, the counts that limits are tested on,
+-- and the journal.
 use Rattle.std.proofs.Common.{◌≡◌, ◌+◌, ◌^◌, ℕ, List, length, Option, Some, None, ap, ◌∙◌, sym, refl, arith}
 use Rattle.std.specs.Prelude.{nat_lt, ⊤}
 use Rattle.script_value.specs.declared.outcome.TxName.{TxName}

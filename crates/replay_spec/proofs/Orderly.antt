@@ -1,24 +1,24 @@
 -- Each lawful event keeps a book orderly.
-use Rattle.std.proofs.Common.{◌<◌, ◌≡◌, ◌≢◌, ◌≤◌, ◌==◌, ◌+◌, max, ℕ, List, [], ◌∷◌, ◌++◌, Option, Some, None, Bool, true, false, not, filter, refl, sym, ap, subst, ◌∙◌, inl, inr, ⊎_elim, arith}
+use Rattle.std.proofs.Common.{◌<◌, ◌≡◌, ◌≤◌, ◌==◌, ◌+◌, max, ℕ, List, [], ◌∷◌, ◌++◌, Option, Some, None, Bool, true, false, not, filter, refl, sym, ap, subst, ◌∙◌, inl, inr, ⊎_elim, arith}
 use Rattle.std.specs.Prelude.{⊤, if◌then◌else◌}
 use Rattle.script_value.specs.declared.outcome.TxName.{TxName}
 use Rattle.script_nodes.specs.Setup.{Named}
 use Rattle.replay_spec.specs.Tape.{present, How, shows, Outcome, paged}
 use Rattle.replay_spec.specs.Tape as tape
 use Rattle.replay_spec.specs.Eval.{Segment}
-use Rattle.replay_spec.specs.Book.{Change, opens, extends, ends, finishes, sweeps, Doubt, Book, instance_at, page_at, draw, spend, reopened, reopened_with}
-use Rattle.replay_spec.specs.Rules.{Journal, Rules}
+use Rattle.replay_spec.specs.Book.{Change, opens, extends, ends, finishes, sweeps, Doubt, Book, instance_at, page_at, draw, spend, reopened_with}
+use Rattle.replay_spec.specs.Rules.{Rules}
 use Rattle.replay_spec.specs.Change.{instances_by, logged_by, clock_by, land}
 use Rattle.replay_spec.specs.Admission.{or_else, Place, Admission, begins, resumes, refused, admit}
 use Rattle.replay_spec.specs.Next.{Ticket, Origin, starts, answers, Visit, url_for, comes_to, start_visit, page_visit}
-use Rattle.replay_spec.specs.Step.{Reply, Decision, replies, records, unless, too_long, full_journal, with_room, change_by, reply_by, full, stopped, decide, step}
+use Rattle.replay_spec.specs.Step.{Reply, Decision, replies, records, unless, too_long, full_journal, with_room, change_by, reply_by, full, stopped, decide}
 use Rattle.replay_spec.specs.Runs.{lands}
 use Rattle.replay_spec.specs.Invariant.{Among, AreDifferent, HasPage, IsOf, IsDoubted, Unused, AreOrderly, IsOrderlyChange, IsOrderlyDoubt, IsOrderly}
 use Rattle.replay_spec.specs.Laws.{IsLawful, Moment, then_book, book_after, AreLawful, Leads, OrderlyBooksStay, EachHasItsCells}
 use Rattle.replay_spec.proofs.Numbered.{number_of}
 use Rattle.replay_spec.proofs.Stand.{among_drawn, among_spent, Since, since_same, since_then, orderly_less, is_below, empty_orderly, Later}
 use Rattle.replay_spec.proofs.Landed.{land_well}
-use Rattle.replay_spec.proofs.Admitted.{StandsAt, Stands, Says, says}
+use Rattle.replay_spec.proofs.Admitted.{Stands, Says, says}
 use Rattle.replay_spec.proofs.Going.{doubting, Records, Goes, stays, draws, spends, publishes, fails, goes_to, fails_at, keeps, loses, goes}
 
 -- what a decision records answers a page that is there, and is of the number that is spent
@@ -78,7 +78,7 @@ decided_by rules b t (resumes at) h =
 decided_by rules b t (refused r) h = tt
 
 -- so is what a publish records
-pub recorded_orderly : (rules : Rules) (b : Book) (t : Ticket) (c : Change) (inside : List TxName) → Records rules b t c inside
+pub recorded_orderly : {lawful : Type 0} (rules : Rules) (b : Book) (t : Ticket) (c : Change) (inside : List TxName) → Records lawful rules b t c inside
     → IsOrderlyChange b.clock b.instances c × IsOf t.number c
 recorded_orderly rules b t c inside h = subst (IsOrderlyDecision b t.number) h.decided (decided_by rules b t (admit b t.target) (says b t.target))
 
@@ -252,19 +252,19 @@ kept rules scripts b doubt g down =
     landed b (reopened_with scripts (land rules doubt.change doubt.inside b)) doubt.change doubt.inside g (subst (IsOrderlyDoubt b.clock b.instances) down g.doubt)
     (is_doubted b doubt down) refl refl refl refl (kept_fewer rules scripts b doubt) (λ m h. absurd h) tt (omega arith)
 
-pub went : (rules : Rules) (b d : Book) (o : Option Change) → Goes rules b o d → IsOrderly b → Later b d
-went rules b d o stays g = same b g
-went rules b d o draws g = drawn b g
-went rules b d o (spends n out) g = spent b n g
-went rules b d o (publishes t c inside h) g = let fits = recorded_orderly rules b t c inside h in published rules b t.number c inside g h.out h.up fits.0 fits.1
-went rules b d o (fails count t c inside h) g = let fits = recorded_orderly rules b t c inside h in failed b count t.number c inside g h.out fits.0 fits.1
-went rules b d o (goes_to tick later up) g = swept rules b tick g later up
-went rules b d o (fails_at count tick later up) g = failed_at b count tick g later
-went rules b d o (keeps scripts doubt down) g = kept rules scripts b doubt g down
-went rules b d o (loses scripts) g = lost b scripts g
+pub went : {lawful : Type 0} (rules : Rules) (b d : Book) (o : Option Change) → Goes lawful rules b o d → lawful → IsOrderly b → Later b d
+went rules b d o stays l g = same b g
+went rules b d o draws l g = drawn b g
+went rules b d o (spends n out) l g = spent b n g
+went rules b d o (publishes t c inside h) l g = let fits = recorded_orderly rules b t c inside h in published rules b t.number c inside g (h.out l) h.up fits.0 fits.1
+went rules b d o (fails count t c inside h) l g = let fits = recorded_orderly rules b t c inside h in failed b count t.number c inside g (h.out l) fits.0 fits.1
+went rules b d o (goes_to tick later up) l g = swept rules b tick g later up
+went rules b d o (fails_at count tick later up) l g = failed_at b count tick g later
+went rules b d o (keeps scripts doubt down) l g = kept rules scripts b doubt g down
+went rules b d o (loses scripts) l g = lost b scripts g
 
 pub stepped : (m : Moment) (b : Book) → IsOrderly b → IsLawful m.event b → Later b (then_book m b)
-stepped m b g lawful = went m.rules b (then_book m b) (lands m.rules b m.event m.fate) (goes m.rules b m.nonce m.event m.fate lawful) g
+stepped m b g lawful = went m.rules b (then_book m b) (lands m.rules b m.event m.fate) (goes m.rules b m.nonce m.event m.fate) lawful g
 
 pub later_then : (b c d : Book) → Later b c → Later c d → Later b d
 later_then b c d one two = record {

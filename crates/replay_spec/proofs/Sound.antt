@@ -1,5 +1,5 @@
 -- What a sound change makes of sound instances.
-use Rattle.std.proofs.Common.{◌++◌, ◌≡◌, ◌≢◌, ◌≤◌, ◌==◌, ◌⊎◌, ℕ, suc, List, [], ◌∷◌, length, Option, Some, None, Bool, not, filter, refl, sym, ap, subst, ◌∙◌, inl, inr, ⊎_elim, slice_get, arith}
+use Rattle.std.proofs.Common.{◌++◌, ◌≡◌, ◌≢◌, ◌==◌, ◌⊎◌, ℕ, List, [], ◌∷◌, Option, Some, None, Bool, not, filter, refl, sym, ap, subst, ◌∙◌, inl, inr, ⊎_elim}
 use Rattle.std.proofs.lemmas.Bool.{cases_eq}
 use Rattle.std.proofs.lemmas.Option.{same_Some}
 use Rattle.script_value.specs.declared.outcome.TxName.{TxName}
@@ -7,11 +7,11 @@ use Rattle.instance_cells.specs.Cells.{Effect}
 use Rattle.script_nodes.specs.Setup.{Named}
 use Rattle.script_nodes.specs.declared.script.SendKind.{SendKind}
 use Rattle.replay_spec.specs.Names.{Has}
-use Rattle.replay_spec.specs.Book.{Page, Instance, Opening, Extension, Change, opens, extends, ends, finishes, sweeps, is_live, instance_at, page_at, parent_of}
+use Rattle.replay_spec.specs.Book.{Page, Instance, Opening, Extension, Change, opens, extends, ends, finishes, sweeps, is_live, instance_at, page_at}
 use Rattle.replay_spec.specs.Change.{mend, put_page, put_instance, root_by, page_by, done, shown_by, fresh, opened_by, instances_by}
-use Rattle.replay_spec.specs.Invariant.{AreAncestors, Lineage, Replays, PageAt, NamedIn, ClosedIn, Knows, AreOrderly, AreSound, Leaving, Child, Root, IsSoundChange, IsOf}
+use Rattle.replay_spec.specs.Invariant.{AreAncestors, Lineage, Replays, PageAt, NamedIn, ClosedIn, Knows, AreOrderly, AreSound, Leaving, Child, IsSoundChange, IsOf}
 use Rattle.replay_spec.proofs.Names.{has_front, has_parts}
-use Rattle.replay_spec.proofs.Numbered.{number_of, put_found, put_other, put_length}
+use Rattle.replay_spec.proofs.Numbered.{put_found, put_other}
 use Rattle.replay_spec.proofs.Ancestors.{put_grown, ancestors_grown, ancestors_one}
 use Rattle.replay_spec.proofs.Found.{KeepsNumber, mend_other, mend_found, keep_found}
 use Rattle.replay_spec.proofs.Stand.{SinceNamed}
@@ -26,8 +26,8 @@ module _ (u new : ℕ → Type 0) (shelf : ℕ) (is : List Instance) (g : AreOrd
   known : (t : TxName) (k : ℕ) → Knows is k t → u t.ticket → ⊥
   known t k h x = ⊎_elim (λ named. s.no_name t k named x) (λ shut. s.no_closed t k shut x) h
 
-  -- The instance of this number after a change: each page is of a transaction that stood in it or is new, and what it closed was
-  -- known there.
+  -- The instance of this number after a change: each page is of a transaction that stood in it or is new, and what it
+  -- closed was known there.
   record Renamed (k : ℕ) (j : Instance) : Type 0 where
     page : (m : ℕ) (p : Page) → page_at m j.pages ≡ Some p → PageAt is k m p ⊎ (new m × ((t : TxName) → Has p.inside t → NamedIn is k t ⊎ new t.ticket))
     closed : (t : TxName) → Has j.closed t → Knows is k t

@@ -79,6 +79,7 @@ named_then u v is js ks fewer first second = record {
 pub orderly_less : (u v : ℕ → Type 0) (is : List Instance) → ((n : ℕ) → v n → u n) → AreOrderly u is → AreOrderly v is
 orderly_less u v is fewer s = record {
   apart = s.apart;
+  pages_apart = s.pages_apart;
   no_instance = λ n x. s.no_instance n (fewer n x);
   no_page = λ n x. s.no_page n (fewer n x);
   none_revoked = λ n x. s.none_revoked n (fewer n x);
@@ -105,6 +106,7 @@ is_below m (sweeps tick) h = absurd h
 pub none_orderly : (unused : ℕ → Type 0) → AreOrderly unused []
 none_orderly unused = record {
   apart = tt;
+  pages_apart = λ k i found. absurd (let no : ⊥ = cc in no);
   no_instance = λ n u. refl;
   no_page = λ n u k i found. absurd (let no : ⊥ = cc in no);
   none_revoked = λ n u k i found. absurd (let no : ⊥ = cc in no);

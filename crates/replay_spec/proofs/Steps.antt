@@ -1,19 +1,20 @@
 -- Each lawful event keeps a book sound.
-use Rattle.std.proofs.Common.{◌≡◌, ℕ, List, [], ◌∷◌, ◌++◌, Option, Some, None, refl, sym, ap, subst, ◌∙◌, inl, inr}
+use Rattle.std.proofs.Common.{◌≡◌, ℕ, List, [], ◌∷◌, ◌++◌, Option, None, refl, sym, ap, subst, ◌∙◌}
 use Rattle.script_value.specs.declared.outcome.TxName.{TxName}
 use Rattle.script_nodes.specs.Setup.{Named}
-use Rattle.replay_spec.specs.Book.{Change, sweeps, Doubt, Book, draw, spend, reopened_with}
+use Rattle.replay_spec.specs.Book.{Change, sweeps, Book, draw, spend, reopened_with}
 use Rattle.replay_spec.specs.Rules.{Rules, empty_book}
 use Rattle.replay_spec.specs.Change.{instances_by, land}
-use Rattle.replay_spec.specs.Step.{step}
-use Rattle.replay_spec.specs.Runs.{lands}
-use Rattle.replay_spec.specs.Invariant.{AreSound, IsSoundChange, IsSoundDoubt, IsOf, Unused, IsSound, Replays}
-use Rattle.replay_spec.specs.Laws.{IsLawful, Moment, then_book, book_after, AreLawful, Leads, IsReached, SoundBooksStay, ReachedBooksAreSound, EachChainReplays}
+use Rattle.replay_spec.specs.Step.{Event, Fate}
+use Rattle.replay_spec.specs.Runs.{Shelf, after, lands}
+use Rattle.replay_spec.specs.Invariant.{AreSound, IsSoundChange, IsSoundDoubt, IsOf, Unused, IsSound}
+use Rattle.replay_spec.specs.Laws.{IsLawful, Moment, then_book, book_after, AreLawful, Leads, IsLawfulRun, IsReached, SoundBooksStay, ReachedBooksAreSound, EachChainReplays}
 use Rattle.replay_spec.proofs.Ancestors.{chain_is}
 use Rattle.replay_spec.proofs.Stand.{SinceNamed, named_same, named_then, sound_less, empty_sound, Later, Well}
 use Rattle.replay_spec.proofs.Sound.{land_named}
 use Rattle.replay_spec.proofs.Decided.{recorded_sound_of}
-use Rattle.replay_spec.proofs.Going.{doubting, Records, Goes, stays, draws, spends, publishes, fails, goes_to, fails_at, keeps, loses, goes}
+use Rattle.replay_spec.proofs.Going.{doubting, Goes, stays, draws, spends, publishes, fails, goes_to, fails_at, keeps, loses, goes}
+use Rattle.replay_spec.proofs.Goes.{run_leads}
 use Rattle.replay_spec.proofs.Orderly as orderly
 use Rattle.replay_spec.proofs.Orderly.{recorded_orderly, published_fewer, swept_fewer, kept_fewer, is_out, is_doubted, later_then}
 
@@ -57,27 +58,27 @@ landed b d c inside g later sound here is up fewer =
       named = subst (SinceNamed (Unused b) b.instances) (sym is) all.1;
     }
 
-went_on : (rules : Rules) (b d : Book) (o : Option Change) → Goes rules b o d → IsSound b → Later b d → Well b d
-went_on rules b d o stays g later = still b b g later refl refl g.doubt
-went_on rules b d o draws g later = still b (draw b) g later refl refl g.doubt
-went_on rules b d o (spends n out) g later = still b (spend n b) g later refl refl g.doubt
-went_on rules b d o (publishes t c inside h) g later =
+went_on : {lawful : Type 0} (rules : Rules) (b d : Book) (o : Option Change) → Goes lawful rules b o d → lawful → IsSound b → Later b d → Well b d
+went_on rules b d o stays l g later = still b b g later refl refl g.doubt
+went_on rules b d o draws l g later = still b (draw b) g later refl refl g.doubt
+went_on rules b d o (spends n out) l g later = still b (spend n b) g later refl refl g.doubt
+went_on rules b d o (publishes t c inside h) l g later =
     let fits = recorded_orderly rules b t c inside h in
-    landed b (land rules c inside (spend t.number b)) c inside g later (recorded_sound_of rules b t c inside g h) (is_out b t.number c h.out fits.1) refl h.up
+    landed b (land rules c inside (spend t.number b)) c inside g later (recorded_sound_of rules b t c inside g h) (is_out b t.number c (h.out l) fits.1) refl h.up
     (published_fewer rules b t.number c inside h.up fits.1)
-went_on rules b d o (fails count t c inside h) g later = still b (doubting count c inside (spend t.number b)) g later refl refl (recorded_sound_of rules b t c inside g h)
-went_on rules b d o (goes_to tick after up) g later = landed b (land rules (sweeps tick) [] b) (sweeps tick) [] g later tt (λ m e. absurd e) refl up (swept_fewer rules b tick up)
-went_on rules b d o (fails_at count tick after up) g later = still b (doubting count (sweeps tick) [] b) g later refl refl tt
-went_on rules b d o (keeps scripts doubt down) g later =
+went_on rules b d o (fails count t c inside h) l g later = still b (doubting count c inside (spend t.number b)) g later refl refl (recorded_sound_of rules b t c inside g h)
+went_on rules b d o (goes_to tick after up) l g later = landed b (land rules (sweeps tick) [] b) (sweeps tick) [] g later tt (λ m e. absurd e) refl up (swept_fewer rules b tick up)
+went_on rules b d o (fails_at count tick after up) l g later = still b (doubting count (sweeps tick) [] b) g later refl refl tt
+went_on rules b d o (keeps scripts doubt down) l g later =
     landed b (reopened_with scripts (land rules doubt.change doubt.inside b)) doubt.change doubt.inside g later
     (subst (IsSoundDoubt b.scripts b.shelf b.instances) down g.doubt) (is_doubted b doubt down) refl refl (kept_fewer rules scripts b doubt)
-went_on rules b d o (loses scripts) g later = lost b scripts g later
+went_on rules b d o (loses scripts) l g later = lost b scripts g later
 
-pub went : (rules : Rules) (b d : Book) (o : Option Change) → Goes rules b o d → IsSound b → Well b d
-went rules b d o h g = went_on rules b d o h g (orderly.went rules b d o h g.orderly)
+pub went : {lawful : Type 0} (rules : Rules) (b d : Book) (o : Option Change) → Goes lawful rules b o d → lawful → IsSound b → Well b d
+went rules b d o h l g = went_on rules b d o h l g (orderly.went rules b d o h l g.orderly)
 
 pub stepped : (m : Moment) (b : Book) → IsSound b → IsLawful m.event b → Well b (then_book m b)
-stepped m b g lawful = went m.rules b (then_book m b) (lands m.rules b m.event m.fate) (goes m.rules b m.nonce m.event m.fate lawful) g
+stepped m b g lawful = went m.rules b (then_book m b) (lands m.rules b m.event m.fate) (goes m.rules b m.nonce m.event m.fate) lawful g
 
 then_well : (b c d : Book) → Well b c → Well c d → Well b d
 then_well b c d one two = record {
@@ -116,15 +117,17 @@ leads_on b c d one two = record {
   there = after_more one.moments two.moments b ∙ (ap (λ (x : Book). book_after two.moments x) one.there ∙ two.there);
 }
 
+further : (shelf : ℕ) (b c : Book) → IsReached shelf b → Leads b c → IsReached shelf c
+further shelf b c h on = record { rules = h.rules; scripts = h.scripts; from = leads_on (empty_book h.rules h.scripts shelf) b c h.from on }
+
 pub reached : ReachedBooksAreSound
 reached shelf b h =
     let start = empty_book h.rules h.scripts shelf in
     let well = led start b (empty_sound h.rules h.scripts shelf) h.from in (
       (well.sound, well.later.shelf),
-      λ (c : Book) (on : Leads b c). (
-        record { rules = h.rules; scripts = h.scripts; from = leads_on start b c h.from on },
-        (orderly.led b c well.sound.orderly on).fewer,
-      ),
+      λ (c : Book) (on : Leads b c). (further shelf b c h on, (orderly.led b c well.sound.orderly on).fewer),
+      λ (source : ℕ → ℕ) (xs : List (Event × Fate)) (s : Shelf) (is : s.book ≡ b) (lawful : IsLawfulRun source xs s).
+          further shelf s.book (after source xs s).book (subst (IsReached shelf) (sym is) h) (run_leads source xs s lawful),
     )
 
 pub each_replays : EachChainReplays

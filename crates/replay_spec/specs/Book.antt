@@ -82,8 +82,8 @@ pub record Doubt : Type 0 where
   pub change : Change
   pub inside : List TxName
 
--- `scripts`: the setup, of which starts are; `drawn`: the next number; `logged`: one more than the greatest number in a record;
--- `length`: that of the journal; `out`: the numbers that were taken and not published
+-- `scripts`: the setup, of which starts are; `drawn`: the next number; `logged`: one more than the greatest number in a
+-- record; `length`: that of the journal; `out`: the numbers that were taken and not published
 pub record Book : Type 0 where
   pub shelf : ℕ
   pub scripts : List Named

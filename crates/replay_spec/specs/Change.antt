@@ -75,8 +75,8 @@ opened_by (Some s) o inside is = put_instance (shown_by o.effects o.left o.kind 
 abbrev pub without : ℕ → List Instance → List Instance
 without n is = filter (λ i. not (i.number == n)) is
 
--- the instances after a change under this setup, whose new page is inside these transactions; a tick frees those whose pages are
--- all expired
+-- the instances after a change under this setup, whose new page is inside these transactions; a tick frees those whose
+-- pages are all expired
 abbrev pub instances_by : List Named → Change → List TxName → List Instance → List Instance
 instances_by scripts (opens o) inside is = opened_by (slice_get scripts o.script) o inside is
 instances_by scripts (extends x) inside is = mend x.instance (shown_by x.effects x.left x.kind (page_by x inside)) is

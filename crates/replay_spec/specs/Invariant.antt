@@ -26,6 +26,11 @@ abbrev pub Apart : List Instance → Type 0
 Apart [] = ⊤
 Apart (i ∷ is) = (instance_at i.number is ≡ None) × Apart is
 
+-- and those of pages
+abbrev pub PagesApart : List Page → Type 0
+PagesApart [] = ⊤
+PagesApart (p ∷ ps) = (page_at p.number ps ≡ None) × PagesApart ps
+
 -- the ancestors of a page, the nearest first: each is the parent of the one before, and the last has none
 abbrev pub AreAncestors : List Page → Page → List Page → Type 0
 AreAncestors ps p [] = p.parent ≡ None
@@ -62,10 +67,11 @@ IsDoubted n (Some doubt) = IsOf n doubt.change
 abbrev pub Unused : Book → ℕ → Type 0
 Unused b n = Among n b.out ⊎ (IsDoubted n b.down ⊎ (b.logged ≤ n))
 
--- Instances are apart; an unused number names no instance, no page and no page that is revoked; the ancestors of each page stand; and
--- each instance has as many cells as its script.
+-- Instances are apart, and the pages of each; an unused number names no instance, no page and no page that is revoked; the
+-- ancestors of each page stand; and each instance has as many cells as its script.
 pub record AreOrderly (unused : ℕ → Type 0) (is : List Instance) : Type 0 where
   pub apart : Apart is
+  pub pages_apart : (k : ℕ) (i : Instance) → instance_at k is ≡ Some i → PagesApart i.pages
   pub no_instance : (n : ℕ) → unused n → instance_at n is ≡ None
   pub no_page : (n : ℕ) → unused n → (k : ℕ) (i : Instance) → instance_at k is ≡ Some i → page_at n i.pages ≡ None
   pub none_revoked : (n : ℕ) → unused n → (k : ℕ) (i : Instance) → instance_at k is ≡ Some i → is_one n i.revoked ≡ false
@@ -84,8 +90,8 @@ abbrev pub IsOrderlyDoubt : (clock : ℕ) → List Instance → Option Doubt →
 IsOrderlyDoubt clock is None = ⊤
 IsOrderlyDoubt clock is (Some doubt) = IsOrderlyChange clock is doubt.change
 
--- Numbers that are out or in doubt were drawn, and are different; those in records were drawn too; the instances are orderly, and so
--- is what is in doubt. Whatever the records of a journal tell, the book that they make is such a one.
+-- Numbers that are out or in doubt were drawn, and are different; those in records were drawn too; the instances are
+-- orderly, and so is what is in doubt. Whatever the records of a journal tell, the book that they make is such a one.
 pub record IsOrderly (b : Book) : Type 0 where
   pub below : (n : ℕ) → Among n b.out → n < b.drawn
   pub different : AreDifferent b.out
@@ -123,8 +129,8 @@ pub record ClosedIn (is : List Instance) (k : ℕ) (t : TxName) : Type 0 where
 abbrev pub Knows : List Instance → (k : ℕ) → TxName → Type 0
 Knows is k t = NamedIn is k t ⊎ ClosedIn is k t
 
--- A transaction's name, that of a page or a closed one, stands in one instance, and has no unused number. Each page is shown by its
--- script over its ancestors.
+-- A transaction's name, that of a page or a closed one, stands in one instance, and has no unused number. Each page is
+-- shown by its script over its ancestors.
 pub record AreSound (unused : ℕ → Type 0) (shelf : ℕ) (is : List Instance) : Type 0 where
   pub no_name : (t : TxName) (k : ℕ) → NamedIn is k t → unused t.ticket → ⊥
   pub no_closed : (t : TxName) (k : ℕ) → ClosedIn is k t → unused t.ticket → ⊥
@@ -132,7 +138,8 @@ pub record AreSound (unused : ℕ → Type 0) (shelf : ℕ) (is : List Instance)
   pub replays : (k : ℕ) (i : Instance) → instance_at k is ≡ Some i → (n : ℕ) (p : Page) → page_at n i.pages ≡ Some p
       → (h : Lineage i.pages p) → Replays i.script shelf i.number h.ancestors p
 
--- an answer to the page of this number in the instance of this number: it leaves some of the page's transactions, which are open
+-- an answer to the page of this number in the instance of this number: it leaves some of the page's transactions, which
+-- are open
 pub record Leaving (is : List Instance) (k n : ℕ) (left : List TxName) : Type 0 where
   pub instance : Instance
   pub page : Page

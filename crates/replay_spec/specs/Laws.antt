@@ -16,9 +16,9 @@ use Rattle.replay_spec.specs.Book.{Page, Instance, Extension, Change, opens, ext
 use Rattle.replay_spec.specs.Rules.{Rules, empty_book}
 use Rattle.replay_spec.specs.Change.{land}
 use Rattle.replay_spec.specs.Admission.{is_one, Place, place_at, begins, resumes, admit}
-use Rattle.replay_spec.specs.Next.{Ticket, comes_to, start_visit, page_visit}
+use Rattle.replay_spec.specs.Next.{Ticket, comes_to, page_visit}
 use Rattle.replay_spec.specs.Step.{Event, take, publish, sweep, crash, Fate, Reply, taken, shown, finished, ended, swept, disk_failed, refusal, memory, down, worn, Decision, replies, records, settles, decide, publish_comes, sweep_comes, step}
-use Rattle.replay_spec.specs.Runs.{Shelf, shelf_step, lands, with_change}
+use Rattle.replay_spec.specs.Runs.{Shelf, shelf_step, after, lands, with_change}
 use Rattle.replay_spec.specs.Invariant.{Among, AreDifferent, AreAncestors, Replays, PageAt, Unused, IsOrderly, IsSound}
 
 -- each of these segments is past: its reads were recorded
@@ -150,7 +150,8 @@ abbrev pub book_after : List Moment → Book → Book
 book_after [] b = b
 book_after (m ∷ ms) b = book_after ms (then_book m b)
 
--- Each of these events is lawful where it comes. The rules may change whenever a shelf is opened, and the setup at each crash.
+-- Each of these events is lawful where it comes. The rules may change whenever a shelf is opened, and the setup at each
+-- crash.
 abbrev pub AreLawful : List Moment → Book → Type 0
 AreLawful [] b = ⊤
 AreLawful (m ∷ ms) b = IsLawful m.event b × AreLawful ms (then_book m b)
@@ -161,14 +162,23 @@ pub record Leads (b c : Book) : Type 0 where
   pub lawful : AreLawful moments b
   pub there : book_after moments b ≡ c
 
+-- what the events of a shelf meet, whose source gives these nonces
+abbrev pub moments_of : (source : ℕ → ℕ) → List (Event × Fate) → Shelf → List Moment
+moments_of source [] s = []
+moments_of source (x ∷ xs) s =
+    record { rules = s.rules; nonce = source s.nonces; event = x.0; fate = x.1 } ∷ moments_of source xs (shelf_step source s x.0 x.1).1
+
+-- each publish of these spends a number that is out
+abbrev pub IsLawfulRun : (source : ℕ → ℕ) → List (Event × Fate) → Shelf → Type 0
+IsLawfulRun source xs s = AreLawful (moments_of source xs s) s.book
+
 -- lawful events lead to it from an empty book of this shelf
 pub record IsReached (shelf : ℕ) (b : Book) : Type 0 where
   pub rules : Rules
   pub scripts : List Named
   pub from : Leads (empty_book rules scripts shelf) b
 
--- Each lawful event keeps a book orderly, and a sound one sound, of its shelf, with fewer unused numbers. So each book that is reached is
--- sound, and each that is reached from a sound one.
+-- Each lawful event keeps a book orderly, of its shelf, with fewer unused numbers, and a sound one sound.
 abbrev pub OrderlyBooksStay : Type 0
 OrderlyBooksStay =
     ((rules : Rules) (scripts : List Named) (shelf : ℕ) → IsOrderly (empty_book rules scripts shelf))
@@ -179,11 +189,14 @@ SoundBooksStay =
     ((rules : Rules) (scripts : List Named) (shelf : ℕ) → IsSound (empty_book rules scripts shelf))
     × ((b c : Book) → IsSound b → Leads b c → IsSound c)
 
+-- So each book that is reached is sound, and of its shelf; what is reached from it has fewer unused numbers, and each run
+-- of a shelf reaches its last book.
 abbrev pub ReachedBooksAreSound : Type 0
 ReachedBooksAreSound =
     (shelf : ℕ) (b : Book) → IsReached shelf b
     → (IsSound b × (b.shelf ≡ shelf))
     × ((c : Book) → Leads b c → IsReached shelf c × ((n : ℕ) → Unused c n → Unused b n))
+    × ((source : ℕ → ℕ) (xs : List (Event × Fate)) (s : Shelf) → s.book ≡ b → IsLawfulRun source xs s → IsReached shelf (after source xs s).book)
 
 -- Each instance has as many cells as its script.
 abbrev pub EachHasItsCells : Type 0
@@ -230,9 +243,9 @@ pub record Doubts (b : Book) (d : Decision) (count : ℕ) (c : Book) : Type 0 wh
   pub decided : d ≡ records reply change inside
   pub left : c ≡ record b { down = Some (record { count = count; change = change; inside = inside }) }
 
--- What shows a page lands what was decided, and so does a sweep. What ends or finishes lands it, or leaves the book where nothing
--- was to be recorded. The disk's fault leaves in doubt just what was decided, with the count that it tells. All else leaves the
--- book.
+-- What shows a page lands what was decided, and so does a sweep. What ends or finishes lands it, or leaves the book where
+-- nothing was to be recorded. The disk's fault leaves in doubt just what was decided, with the count that it tells. All
+-- else leaves the book.
 abbrev pub Spares : Rules → Book → Decision → Reply → Book → Type 0
 Spares rules b d (shown bytes url) c = Lands rules b d (shown bytes url) c
 Spares rules b d (swept n) c = Lands rules b d (swept n) c
@@ -329,12 +342,16 @@ pub record NamesDiffer (b : Book) : Type 0 where
   pub pages : (k n : ℕ) (i : Instance) (p : Page) → instance_at k b.instances ≡ Some i → page_at n i.pages ≡ Some p → Distinct p.inside
   pub doubt : (d : Doubt) → b.down ≡ Some d → Distinct d.inside
 
--- The names in a book differ, where fuel is too little for the count of a segment's transactions to stand still.
+-- fuel that is too little for the count of a segment's transactions to stand still
+abbrev pub AreShort : List Moment → Type 0
+AreShort [] = ⊤
+AreShort (m ∷ ms) = (m.rules.fuel < 2 ^ 32 - 1) × AreShort ms
+
+-- Under such fuel the names in a book go on to differ.
 abbrev pub NamesStayDifferent : Type 0
 NamesStayDifferent =
-    (rules : Rules) → rules.fuel < 2 ^ 32 - 1
-    → ((scripts : List Named) (shelf : ℕ) → NamesDiffer (empty_book rules scripts shelf))
-    × ((b : Book) (nonce : ℕ) (event : Event) (fate : Fate) → IsSound b → NamesDiffer b → IsLawful event b → NamesDiffer (step rules b nonce event fate).1)
+    ((rules : Rules) (scripts : List Named) (shelf : ℕ) → NamesDiffer (empty_book rules scripts shelf))
+    × ((b : Book) (ms : List Moment) → IsSound b → NamesDiffer b → AreLawful ms b → AreShort ms → NamesDiffer (book_after ms b))
 
 -- Then a page is inside no closed transaction when it is shown, those included that its own segment left.
 abbrev pub ShownIsOpen : Type 0
@@ -342,16 +359,6 @@ ShownIsOpen =
     (rules : Rules) (b : Book) (t : Ticket) (at : Place) → IsSound b → NamesDiffer b → IsLawful (publish t) b → admit b t.target ≡ resumes at
     → let o = comes_to (page_visit b t at) (present at.instance.cells rules.fuel) in
     first_closed (at.instance.closed ++ o.left) o.entered ≡ None
-
--- what the events of a shelf meet, whose source gives these nonces
-abbrev pub moments_of : (source : ℕ → ℕ) → List (Event × Fate) → Shelf → List Moment
-moments_of source [] s = []
-moments_of source (x ∷ xs) s =
-    record { rules = s.rules; nonce = source s.nonces; event = x.0; fate = x.1 } ∷ moments_of source xs (shelf_step source s x.0 x.1).1
-
--- each publish of these spends a number that is out
-abbrev pub IsLawfulRun : (source : ℕ → ℕ) → List (Event × Fate) → Shelf → Type 0
-IsLawfulRun source xs s = AreLawful (moments_of source xs s) s.book
 
 -- the instance of this number has revoked the page of this number
 pub record RevokedIn (is : List Instance) (k n : ℕ) : Type 0 where
@@ -366,8 +373,8 @@ pub record Forwards (rules : Rules) (b : Book) (event : Event) (fate : Fate) (k 
   pub here : extension.instance ≡ k
   pub forward : extension.kind ≡ Forward
 
--- What revokes a page is a forward of its instance, and it revokes every page that is there, and not the one that it shows. A revoked
--- page stays revoked as long as its instance stands.
+-- What revokes a page is a forward of its instance, and it revokes every page that is there, and not the one that it
+-- shows. A revoked page stays revoked as long as its instance stands.
 abbrev pub AForwardRevokes : Type 0
 AForwardRevokes =
     (rules : Rules) (b : Book) (nonce : ℕ) (event : Event) (fate : Fate) → IsSound b → IsLawful event b → (k n : ℕ)
@@ -391,8 +398,8 @@ numbers_of (ends e ∷ cs) = e.number ∷ numbers_of cs
 numbers_of (finishes f ∷ cs) = f.number ∷ numbers_of cs
 numbers_of (sweeps tick ∷ cs) = numbers_of cs
 
--- No number is used twice, also over crashes: the segments that change a book have different numbers, and ones that were unused
--- before.
+-- No number is used twice, also over crashes: the segments that change a book have different numbers, and ones that were
+-- unused before.
 abbrev pub NoNumberTwice : Type 0
 NoNumberTwice =
     (ms : List Moment) (b : Book) → IsOrderly b → AreLawful ms b

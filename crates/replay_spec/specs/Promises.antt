@@ -1,18 +1,17 @@
 -- What holds of clocks, of pages that are shown and closed, of instances that are freed, and of what a visit is answered.
-use Rattle.std.specs.Prelude.{◌≡◌, ◌≢◌, ◌⊎◌, ◌≤◌, ◌<◌, ◌-◌, ◌^◌, ℕ, List, Option, Some, None, true, ⊤}
+use Rattle.std.specs.Prelude.{◌≡◌, ◌⊎◌, ◌≤◌, ◌<◌, ◌-◌, ◌^◌, ℕ, List, Some, None, true, ⊤}
 use Rattle.std.specs.List.{list_all}
 use Rattle.script_value.specs.declared.outcome.TxName.{TxName}
 use Rattle.page_names.specs.Names.{Destination, page, spelling}
 use Rattle.page_names.specs.declared.names.PageName.{PageName}
 use Rattle.script_value.specs.Val.{Val}
-use Rattle.script_nodes.specs.Setup.{Named}
 use Rattle.replay_spec.specs.Tape.{present, Outcome, paged, faulted}
 use Rattle.replay_spec.specs.Tape as tape
-use Rattle.replay_spec.specs.Book.{Instance, Finish, Change, finishes, sweeps, Book, instance_at, is_expired}
+use Rattle.replay_spec.specs.Book.{Instance, Finish, finishes, sweeps, Book, instance_at, is_expired}
 use Rattle.replay_spec.specs.Rules.{Rules}
 use Rattle.replay_spec.specs.Admission.{Place, place_at, Admission, begins, resumes, refused, admit}
 use Rattle.replay_spec.specs.Next.{Ticket, Visit, url_for, comes_to, start_visit, page_visit}
-use Rattle.replay_spec.specs.Step.{Event, take, publish, Fate, no_memory, Reply, taken, shown, fault, out_of_fuel, shelf_full, instance_full, disk_failed, down, oversize, journal_full, worn, memory, reply_by, step}
+use Rattle.replay_spec.specs.Step.{take, publish, Fate, no_memory, Reply, taken, shown, fault, out_of_fuel, shelf_full, instance_full, disk_failed, down, oversize, journal_full, worn, memory, reply_by, step}
 use Rattle.replay_spec.specs.Runs.{lands}
 use Rattle.replay_spec.specs.Invariant.{ClosedIn, IsOrderly, IsSound}
 use Rattle.replay_spec.specs.Laws.{IsLawful, Moment, then_book, Leads, Leaves, NamesDiffer}
@@ -36,8 +35,8 @@ pub record IsAdmitted (b : Book) (url : List ℕ) (t : Ticket) : Type 0 where
   pub number : at.page.number ≡ t.number
   pub nonce : at.page.nonce ≡ t.nonce
 
--- A page that is shown is admitted under its URL, at once, where it lives at all, and where fuel is too little for the count of a
--- segment's transactions to stand still.
+-- A page that is shown is admitted under its URL, at once, where it lives at all, and where fuel is too little for the
+-- count of a segment's transactions to stand still.
 abbrev pub AShownPageIsAdmitted : Type 0
 AShownPageIsAdmitted =
     (rules : Rules) (b : Book) (nonce : ℕ) (t : Ticket) (fate : Fate) → rules.fuel < 2 ^ 32 - 1 → 1 ≤ rules.life
@@ -48,7 +47,7 @@ AShownPageIsAdmitted =
 -- Nothing else closes a transaction in an instance than a segment that left it.
 abbrev pub NothingElseCloses : Type 0
 NothingElseCloses =
-    (b : Book) (m : Moment) → IsSound b → IsLawful m.event b → (k : ℕ) (t : TxName)
+    (b : Book) (m : Moment) → IsSound b → (k : ℕ) (t : TxName)
     → ClosedIn (then_book m b).instances k t → ClosedIn b.instances k t ⊎ Leaves t b m
 
 -- by the event this instance finishes; or time goes on to a tick at which all its pages are expired
@@ -65,7 +64,7 @@ pub record Expires (b : Book) (m : Moment) (i : Instance) : Type 0 where
 -- Nothing else frees an instance.
 abbrev pub NothingElseFrees : Type 0
 NothingElseFrees =
-    (b : Book) (m : Moment) → IsOrderly b → IsLawful m.event b → (k : ℕ) (i : Instance) → instance_at k b.instances ≡ Some i
+    (b : Book) (m : Moment) → IsOrderly b → (k : ℕ) (i : Instance) → instance_at k b.instances ≡ Some i
     → instance_at k (then_book m b).instances ≡ None → Finishes b m k ⊎ Expires b m i
 
 -- what a visit is answered that stops so
@@ -100,8 +99,8 @@ abbrev pub IsAdmission : Admission → Type 0
 IsAdmission (refused r) = ⊥
 IsAdmission _ = ⊤
 
--- A visit that is admitted at its take gets a ticket, and one that is admitted again at its publish is answered as its script stops
--- then: where it meets no limit and no fault of the disk, and but for want of memory.
+-- A visit that is admitted at its take gets a ticket, and one that is admitted again at its publish is answered as its
+-- script stops then: where it meets no limit and no fault of the disk, and but for want of memory.
 abbrev pub AVisitIsAnswered : Type 0
 AVisitIsAnswered =
     (rules : Rules) (b : Book) (nonce : ℕ) (fate : Fate)

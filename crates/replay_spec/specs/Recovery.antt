@@ -10,7 +10,7 @@ use Rattle.script_nodes.specs.declared.script.SendKind.{SendKind}
 use Rattle.script_nodes.specs.declared.script.SendKind.TheVariants.{Suspend, Forward}
 use Rattle.script_nodes.specs.Setup.{Named}
 use Rattle.replay_spec.specs.Names.{is_name}
-use Rattle.replay_spec.specs.Tape.{present, How, shows, Outcome, paged}
+use Rattle.replay_spec.specs.Tape.{present, shows, Outcome, paged}
 use Rattle.replay_spec.specs.Eval.{Segment}
 use Rattle.replay_spec.specs.Book.{Opening, Extension, Change, opens, extends, ends, finishes, sweeps, Book, instance_at, page_at, reopened}
 use Rattle.replay_spec.specs.Rules.{Rules, empty_book}
@@ -18,7 +18,8 @@ use Rattle.replay_spec.specs.Change.{logged_by, longer_by, land}
 use Rattle.replay_spec.specs.Admission.{◌>>=◌, when, is_one, Place}
 use Rattle.replay_spec.specs.Next.{Visit, comes_to, start_visit, page_visit}
 
--- the most fuel that a shelf may have: a record's script is run again with it, whatever the fuel was when the record was written
+-- the most fuel that a shelf may have: a record's script is run again with it, whatever the fuel was when the record was
+-- written
 abbrev pub most_fuel : ℕ
 most_fuel = 10000000
 
@@ -91,9 +92,9 @@ again kind effects left m = shows_so m.outcome kind effects left m
 abbrev pub ended_so : List Effect → (cells : List Val) → Option (List TxName)
 ended_so effects cells = when (are_on (length cells) effects && hold_over effects cells) []
 
--- The names that the page of a record is inside, as its script tells, which is run again over the cells that stand there. None where
--- the record can't be of this book: there is no such script, instance or page; the script does not show a page so; the effects do
--- not hold; or the tick is over.
+-- The names that the page of a record is inside, as its script tells, which is run again over the cells that stand there.
+-- None where the record can't be of this book: there is no such script, instance or page; the script does not show a page
+-- so; the effects do not hold; or the tick is over.
 abbrev pub remade : Book → Change → Option (List TxName)
 remade b (opens o) = do
   s ← slice_get b.scripts o.script

@@ -8,8 +8,8 @@ pub record Journal : Type 0 where
   pub begun : ℕ
   pub length_of : Book → Change → ℕ
 
--- The most that a segment may cost; how long a page can be answered; the most live instances of a shelf, and the most pages of an
--- instance; and the journal, if changes are recorded.
+-- The most that a segment may cost; how long a page can be answered; the most live instances of a shelf, and the most
+-- pages of an instance; and the journal, if changes are recorded.
 pub record Rules : Type 0 where
   pub fuel : ℕ
   pub life : ℕ

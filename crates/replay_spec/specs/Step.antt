@@ -24,8 +24,8 @@ pub data Event : Type 0 where
   sweep : (tick : ℕ) → Event
   crash : (scripts : List Named) → Event
 
--- what the model leaves open at an event: whether memory was there, whether the disk failed, and at a crash whether what was in
--- doubt is kept
+-- what the model leaves open at an event: whether memory was there, whether the disk failed, and at a crash whether what
+-- was in doubt is kept
 pub data Fate : Type 0 where
   plain no_memory : Fate
   disk_fault : (count : ℕ) → Fate
@@ -43,8 +43,8 @@ pub data Reply : Type 0 where
   worn memory : Reply
   swept live : (instances : ℕ) → Reply
 
--- what a publish or a sweep comes to where memory is there: a reply alone, or a change with its reply and with the names that a
--- new page is inside
+-- what a publish or a sweep comes to where memory is there: a reply alone, or a change with its reply and with the names
+-- that a new page is inside
 pub data Decision : Type 0 where
   replies : Reply → Decision
   records : Reply → Change → (inside : List TxName) → Decision

@@ -71,7 +71,8 @@ pub expired_alone : told rules (book (old one_page [] [] ∷ [])) (take (at 0 0 
 unfolding step
 expired_alone = refl
 
--- a publish: down, then the target, then a fault, then what is full, then the record's length, then the journal's, then the disk
+-- a publish: down, then the target, then a fault, then what is full, then the record's length, then the journal's, then
+-- the disk
 abbrev young : Named → Book
 young s = record (book (old s [] [] ∷ [])) { clock = 4 }
 

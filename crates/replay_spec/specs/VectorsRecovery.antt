@@ -1,19 +1,18 @@
 -- Rows of recovery that compute: what records make, which of them are passed over, and a setup that changes at a crash.
-use Rattle.std.specs.Prelude.{◌≡◌, ℕ, ◌+◌, pos, negsuc, List, [], ◌∷◌, ◌++◌, Option, Some, None, codes, refl}
-use Rattle.script_value.specs.Val.{Val, number, text}
+use Rattle.std.specs.Prelude.{◌≡◌, ℕ, ◌+◌, pos, negsuc, List, [], ◌∷◌, ◌++◌, Some, None, codes, refl}
+use Rattle.script_value.specs.Val.{number, text}
 use Rattle.script_value.specs.declared.outcome.TxName.{TxName}
 use Rattle.script_value.specs.declared.outcome.Refusal.TheVariants.{Unknown}
-use Rattle.page_names.specs.Names.{Destination, start, page}
+use Rattle.page_names.specs.Names.{start}
 use Rattle.instance_cells.specs.Cells.{Effect, read, set, add}
 use Rattle.script_nodes.specs.declared.script.SendKind.{SendKind}
 use Rattle.script_nodes.specs.declared.script.SendKind.TheVariants.{Suspend, Forward}
 use Rattle.script_nodes.specs.Setup.{Named}
-use Rattle.replay_spec.specs.Book.{Change, opens, extends, ends, finishes, sweeps, Book, reopened}
-use Rattle.replay_spec.specs.Runs.{Shelf, after, records_of}
+use Rattle.replay_spec.specs.Book.{Change, opens, extends, ends, finishes, sweeps, reopened}
+use Rattle.replay_spec.specs.Runs.{after, records_of}
 use Rattle.replay_spec.specs.Recovery.{Made, nothing_made, taken_in, records_after}
-use Rattle.replay_spec.specs.Next.{url_of}
-use Rattle.replay_spec.specs.Step.{Event, sweep, crash, Fate, plain, lost, disk_fault, kept, Reply, taken, shown, ended, refusal, disk_failed, live, step}
-use Rattle.replay_spec.specs.Samples.{name, rules, script, opened, counted, Answers, at, url, link_to, takes, publishing, publishes, get, nothing, says, link, hotel, shop, pay, transaction}
+use Rattle.replay_spec.specs.Step.{Event, sweep, crash, Fate, plain, lost, disk_fault, kept, taken, ended, refusal, disk_failed, live, step}
+use Rattle.replay_spec.specs.Samples.{name, rules, script, opened, counted, Answers, at, link_to, takes, publishing, get, nothing, says, link, hotel, shop, pay, transaction}
 
 -- a start of the script of this place, an answer to a page of instance 0 that ends, and one that shows a page
 abbrev opening : (number place : ℕ) → SendKind → List Effect → Change

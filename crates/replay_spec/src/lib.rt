@@ -3,7 +3,7 @@
 
 ghost use Rattle.replay_spec.specs.Laws.{EffectsHoldRunSame, AHeldRunIsNext, EffectsAreOnCells, RecordedIsPresent, MoreFuelIsTheSame, NamesFollow, OrderlyBooksStay, SoundBooksStay, ReachedBooksAreSound, EachHasItsCells, EachChainReplays, PagesStay, RefusedIsUnchanged, AStartOpensOrLeaves, ClosedIsClosed, NamesStayDifferent, ShownIsOpen, AForwardRevokes, NoNumberTwice, TicketsAreOut, ShadowsRise};
 ghost use Rattle.replay_spec.specs.Promises.{TheClockNeverFalls, AShownPageIsAdmitted, NothingElseCloses, NothingElseFrees, AVisitIsAnswered};
-ghost use Rattle.replay_spec.specs.Remade.{EffectsHold, JournalIsLast, EventsAreRemade, RecordsSuffice, RecordsMakeOrderlyBooks};
+ghost use Rattle.replay_spec.specs.Remade.{EffectsHold, JournalIsLast, CellsStayNamed, DecisionsAreRemade, EventsAreRemade, RecordsSuffice, RecordsMakeOrderlyBooks};
 
 // Of single runs of a script.
 
@@ -61,8 +61,8 @@ pub fn sound_books_stay()
     ensures { SoundBooksStay }
 {}
 
-/// Each book that lawful events lead to from an empty one is sound and of the same shelf. What is said of sound books
-/// holds of these, at each moment of each run, over crashes and under rules and setups that change.
+/// Each book that lawful events lead to from an empty one is sound and of the same shelf, with fewer unused numbers. What
+/// is said of sound books holds of these, in every run, over crashes and under rules and setups that change.
 pub fn reached_books_are_sound()
     ensures { ReachedBooksAreSound }
 {}
@@ -89,7 +89,24 @@ pub fn the_clock_never_falls()
     ensures { TheClockNeverFalls }
 {}
 
+/// No number is used twice, also over crashes.
+pub fn no_number_twice()
+    ensures { NoNumberTwice }
+{}
+
+/// The numbers that are out are those of the tickets that were taken and not published, each with the target, answer and
+/// nonce of its take.
+pub fn tickets_are_out()
+    ensures { TicketsAreOut }
+{}
+
 // Of what a visit does and what it is answered.
+
+/// A visit that is admitted at its take and again at its publish, and meets no limit and no fault of the disk, is
+/// answered as its script stops, or for want of memory.
+pub fn a_visit_is_answered()
+    ensures { AVisitIsAnswered }
+{}
 
 /// A take that is not answered with a ticket changes nothing, a publish that neither shows a page nor ends only spends
 /// its number, and a sweep that is refused changes nothing; a disk's fault leaves in doubt just what was decided.
@@ -102,9 +119,72 @@ pub fn a_start_opens_or_leaves()
     ensures { AStartOpensOrLeaves }
 {}
 
+/// A page that is shown is admitted under its URL, at once, where it lives at all.
+pub fn a_shown_page_is_admitted()
+    ensures { AShownPageIsAdmitted }
+{}
+
+/// After an event that left a transaction none leaves it, and each on a page inside it is refused without effect.
+pub fn closed_is_closed()
+    ensures { ClosedIsClosed }
+{}
+
+/// Nothing else closes a transaction than a segment that left it.
+pub fn nothing_else_closes()
+    ensures { NothingElseCloses }
+{}
+
+/// Nothing else frees an instance than its finish, or a sweep when all its pages are expired.
+pub fn nothing_else_frees()
+    ensures { NothingElseFrees }
+{}
+
+/// What revokes a page is a forward of its instance, and it revokes every page that is there, and not its own; a revoked
+/// page stays so.
+pub fn a_forward_revokes()
+    ensures { AForwardRevokes }
+{}
+
+/// The names that a page is inside are all different, where the fuel is too little for the count of a segment's
+/// transactions to stand still.
+pub fn names_stay_different()
+    ensures { NamesStayDifferent }
+{}
+
+/// A page is inside no closed transaction when it is shown, those included that its own segment left.
+pub fn shown_is_open()
+    ensures { ShownIsOpen }
+{}
+
 // Of the records that events leave.
 
-/// The journal is asked last.
+/// The journal is asked last: a publish is decided as without one, and then its record is measured.
 pub fn journal_is_last()
     ensures { JournalIsLast }
+{}
+
+/// Scripts of a book go on to name cells that they have, where each setup does that is given at a crash.
+pub fn cells_stay_named()
+    ensures { CellsStayNamed }
+{}
+
+/// What a publish records is made again from its record, whose script is run again.
+pub fn decisions_are_remade()
+    ensures { DecisionsAreRemade }
+{}
+
+/// Each event leaves one record, or none, of which recovery makes the book behind it.
+pub fn events_are_remade()
+    ensures { EventsAreRemade }
+{}
+
+/// The records that a run leaves suffice: the book that they make of the first is the last, as after a crash, and none is
+/// passed over.
+pub fn records_suffice()
+    ensures { RecordsSuffice }
+{}
+
+/// Whatever records tell, the book that they make of an empty one is orderly.
+pub fn records_make_orderly_books()
+    ensures { RecordsMakeOrderlyBooks }
 {}

@@ -1,39 +1,89 @@
-use Rattle.std.proofs.Common.{◌≡◌, ap, sym, subst, ℕ, ◌+◌, map, length, Some, IfOk, nat_le, false, arith}
+use Rattle.std.proofs.Common.{◌≡◌, ◌∙◌, ap, sym, subst, ℕ, ◌+◌, List, [], map, length, Some, None, IfOk, nat_le, true, false, arith, refl}
 use Rattle.std.proofs.lemmas.Bool.Decides.{nat_tests}
+use Rattle.std.specs.Option.{option_copied}
 use Rattle.instance_cells.specs.Views.{effect_of}
+use Rattle.script_nodes.specs.Setup.{Named}
 use Rattle.segments.specs.Views.{outcome_of, segment_of}
-use Rattle.replay_spec.specs.Book.{Instance, instance_at}
+use Rattle.replay_spec.specs.Book.{Instance, Page, at_number, instance_at}
 use Rattle.replay_spec.specs.Change.{done, shown_by}
-use Rattle.instance_book.specs.Views.{book_of, instance_of, instances_of}
-use Rattle.instance_book.specs.Prepares.{next_page, IsExtension, IsEnding}
-use Rattle.instance_book.proofs.Admitted.{number_is}
-use Rattle.instance_book.proofs.Lands.{extended, ended, room_made}
+use Rattle.instance_book.specs.declared.prepared.Prepared.{Prepared}
+use Rattle.instance_book.specs.Views.{book_of, page_of, instance_of, instances_of}
+use Rattle.instance_book.specs.Prepares.{next_page, IsExtension, IsEnding, IsFinish}
+use Rattle.instance_book.specs.Segments.{Shows, gone_on}
+use Rattle.replay_spec.proofs.Numbered.{number_of}
+use Rattle.instance_book.proofs.Seen.{instance_some, instance_none, length_seen}
+use Rattle.instance_book.proofs.Lands.{page_full, extended, ending_lands, finish_lands, ending_room, room_made, under}
 use Rattle.instance_book.proofs.book.Book.prepare_page.Goals as goal
+
+pub returns-in_default-clause-decided : goal.returns-in_default-clause-decided
+returns-in_default-clause-decided c scripts journal down fuel instances at found number fits =
+    let none = instance_none scripts c.args.page.now.instance c.args.self.now.instances.things.items (sym c.get.ensures ∙ ap option_copied c.in_default.is) in
+    absurd (cc (none, found))
+
+pub returns-then-count-pages-clause-decided : goal.returns-then-count-pages-clause-decided
+returns-then-count-pages-clause-decided c scripts journal down fuel instances at found number fits =
+    let b = book_of scripts journal down c.args.self.now in
+    let x = c.in-Some.instance.now in
+    let some = instance_some scripts c.args.page.now.instance c.args.self.now.instances.things.items x (sym c.in-Some.ensures) in
+    let same : instance_of scripts x ≡ at.instance = cc (some, found) in
+    let count : c.len-count.result ≡ length at.instance.pages = c.len-count.ensures ∙ (sym (length_seen page_of x.item.pages.things.items) ∙ ap (λ (i : Instance). length i.pages) same) in
+    let full : nat_le c.args.pages c.len-count.result ≡ true = grind (arith, nat_tests, c.if-count-pages.true) in
+    page_full scripts fuel c.args.life instances c.args.pages b c.args.ticket.now at (segment_of c.args.segment) c.in-Shown.kind c.in-Shown.bytes c.len-count.result (ap outcome_of c.in-Shown.is) count full
 
 pub returns-in-Shown-clause-room : goal.returns-in-Shown-clause-room
 returns-in-Shown-clause-room c =
-    let number : (instance_of c.in-Some.instance.now).number ≡ c.args.page.now.instance = number_is (λ (i : Instance). i.number) c.args.page.now.instance (instances_of c.args.self.now.instances) (instance_of c.in-Some.instance.now) (sym c.in-Some.ensures) in
-    room_made c.args.ticket.now (instance_of c.in-Some.instance.now) c.in-Shown.bytes _ c.args.page.now.instance c.with_room.new.self c.extension-made.result c.with_room.result number c.extension-made.ensures c.with_room.ensures.made c.with_room.ensures.room
+    let x = c.in-Some.instance.now in
+    let some = instance_some [] c.args.page.now.instance c.args.self.now.instances.things.items x (sym c.in-Some.ensures) in
+    let number : x.number ≡ c.args.page.now.instance = number_of (λ (i : Instance). i.number) c.args.page.now.instance (instances_of [] c.args.self.now.instances) (instance_of [] x) some in
+    let s = segment_of c.args.segment in
+    let t = c.args.ticket.now in
+    let answered = c.args.page.now.page in
+    let deadline = c.deadline-deadline.result in
+    let f : Instance → Instance = shown_by s.effects s.left c.in-Shown.kind (next_page t answered s.effects s.entered deadline) in
+    room_made t (instance_of [] x) answered c.in-Shown.bytes s.effects s.entered s.left c.in-Shown.kind deadline f c.args.page.now.instance c.with_room.new.self c.extension-made.result c.with_room.result number
+    (under (λ ss p. IsExtension p t (instance_of ss x) answered c.in-Shown.bytes s.effects s.entered s.left c.in-Shown.kind deadline f) c.extension-made.result [] c.extension-made.ensures) c.with_room.ensures.made c.with_room.ensures.room
 
 pub returns-in-Shown-clause-decided : goal.returns-in-Shown-clause-decided
-returns-in-Shown-clause-decided c scripts fuel instances at found number fits =
-    let i = instance_of c.in-Some.instance.now in
-    let b = book_of c.args.self.now in
-    let same : i ≡ at.instance = cc (c.in-Some.ensures, found) in
+returns-in-Shown-clause-decided c scripts journal down fuel instances at found number fits =
+    let b = book_of scripts journal down c.args.self.now in
+    let x = c.in-Some.instance.now in
+    let s = segment_of c.args.segment in
+    let some = instance_some scripts c.args.page.now.instance c.args.self.now.instances.things.items x (sym c.in-Some.ensures) in
+    let same : instance_of scripts x ≡ at.instance = cc (some, found) in
     let there : instance_at at.instance.number b.instances ≡ Some at.instance =
-    subst (λ (n : ℕ). instance_at n b.instances ≡ Some at.instance) (sym (number_is (λ (j : Instance). j.number) c.args.page.now.instance b.instances at.instance found)) found in
-    let full : nat_le c.args.pages (length i.pages) ≡ false = grind (arith, nat_tests, c.if-count-pages.false, c.len-count.ensures) in
-    let ext : IfOk c.extension-made.result (λ p. IsExtension p c.args.ticket.now i c.in-Shown.bytes (shown_by (map effect_of c.args.segment.effects.items) c.args.segment.left.items c.in-Shown.kind
-    (next_page c.args.ticket.now c.args.page.now.page (map effect_of c.args.segment.effects.items) c.args.segment.entered.items (b.clock + c.args.life)))) = rw (← c.deref.ensures.value, ← c.deref-in-Shown.ensures.value, ← c.deadline-deadline.ensures) c.extension-made.ensures in
-    extended scripts fuel c.args.life instances c.args.pages b c.args.ticket.now at (segment_of c.args.segment) c.in-Shown.kind c.in-Shown.bytes i c.args.page.now.page c.extension-made.result c.with_room.result
-    fits there same (sym number) (ap outcome_of c.in-Shown.is) full ext c.with_room.ensures.made c.with_room.ensures.err
+    subst (λ (n : ℕ). instance_at n b.instances ≡ Some at.instance) (sym (number_of (λ (j : Instance). j.number) c.args.page.now.instance b.instances at.instance found)) found in
+    let count : c.len-count.result ≡ length at.instance.pages = c.len-count.ensures ∙ (sym (length_seen page_of x.item.pages.things.items) ∙ ap (λ (i : Instance). length i.pages) same) in
+    let full : nat_le c.args.pages (length at.instance.pages) ≡ false = grind (arith, nat_tests, c.if-count-pages.false, count) in
+    let P : Instance → ℕ → ℕ → Prepared → Type 0 = λ i answered deadline p. IsExtension p c.args.ticket.now i answered c.in-Shown.bytes s.effects s.entered s.left c.in-Shown.kind deadline
+    (shown_by s.effects s.left c.in-Shown.kind (next_page c.args.ticket.now answered s.effects s.entered deadline)) in
+    let made : IfOk c.extension-made.result (P (instance_of scripts x) c.args.page.now.page c.deadline-deadline.result) = under (λ ss. P (instance_of ss x) c.args.page.now.page c.deadline-deadline.result) c.extension-made.result scripts c.extension-made.ensures in
+    let made2 : IfOk c.extension-made.result (P at.instance c.args.page.now.page c.deadline-deadline.result) = subst (λ (i : Instance). IfOk c.extension-made.result (P i c.args.page.now.page c.deadline-deadline.result)) same made in
+    let made3 : IfOk c.extension-made.result (P at.instance at.page.number c.deadline-deadline.result) = subst (λ (n : ℕ). IfOk c.extension-made.result (P at.instance n c.deadline-deadline.result)) (sym number) made2 in
+    let made4 : IfOk c.extension-made.result (P at.instance at.page.number (b.clock + c.args.life)) = subst (λ (d : ℕ). IfOk c.extension-made.result (P at.instance at.page.number d)) c.deadline-deadline.ensures made3 in
+    extended scripts fuel c.args.life instances c.args.pages b c.args.ticket.now at s c.in-Shown.kind c.in-Shown.bytes c.extension-made.result c.with_room.result
+    fits there (ap outcome_of c.in-Shown.is) full made4 c.with_room.ensures.made c.with_room.ensures.err
+
+pub returns-in-Ok-clause-room : goal.returns-in-Ok-clause-room
+returns-in-Ok-clause-room c = ending_room c.in-Ok.prepared.change _ _ c.args.self.now (c.in-Ok.ensures []).change
 
 pub returns-in-Ok-clause-decided : goal.returns-in-Ok-clause-decided
-returns-in-Ok-clause-decided c scripts fuel instances at found number fits =
-    let i = instance_of c.in-Some.instance.now in
-    let b = book_of c.args.self.now in
-    let same : i ≡ at.instance = cc (c.in-Some.ensures, found) in
+returns-in-Ok-clause-decided c scripts journal down fuel instances at found number fits =
+    let b = book_of scripts journal down c.args.self.now in
+    let x = c.in-Some.instance.now in
+    let s = segment_of c.args.segment in
+    let some = instance_some scripts c.args.page.now.instance c.args.self.now.instances.things.items x (sym c.in-Some.ensures) in
+    let same : instance_of scripts x ≡ at.instance = cc (some, found) in
     let there : instance_at at.instance.number b.instances ≡ Some at.instance =
-    subst (λ (n : ℕ). instance_at n b.instances ≡ Some at.instance) (sym (number_is (λ (j : Instance). j.number) c.args.page.now.instance b.instances at.instance found)) found in
-    let end : IsEnding c.in-Ok.prepared c.args.ticket.now i c.in-Ended.bytes (done (map effect_of c.args.segment.effects.items) c.args.segment.left.items) = rw (← c.deref-in-Ended.ensures.value, ← c.deref-in-Ended-2.ensures.value) c.in-Ok.ensures in
-    ended scripts fuel c.args.life instances c.args.pages b c.args.ticket.now at (segment_of c.args.segment) c.in-Ended.bytes i c.in-Ok.prepared there same (ap outcome_of c.in-Ended.is) end
+    subst (λ (n : ℕ). instance_at n b.instances ≡ Some at.instance) (sym (number_of (λ (j : Instance). j.number) c.args.page.now.instance b.instances at.instance found)) found in
+    let P : Instance → ℕ → Type 0 = λ i answered. IsEnding c.in-Ok.prepared c.args.ticket.now i answered c.in-Ended.bytes s.effects s.entered s.left (done s.effects s.left) in
+    let made : P at.instance at.page.number = subst (P at.instance) (sym number) (subst (λ (i : Instance). P i c.args.page.now.page) same (c.in-Ok.ensures scripts)) in
+    ending_lands scripts fuel c.args.life instances c.args.pages b c.args.ticket.now at s c.in-Ended.bytes c.in-Ok.prepared there (ap outcome_of c.in-Ended.is) made
+
+pub returns-in-Ok-finish-clause-decided : goal.returns-in-Ok-finish-clause-decided
+returns-in-Ok-finish-clause-decided c scripts journal down fuel instances at found number fits =
+    let b = book_of scripts journal down c.args.self.now in
+    let s = segment_of c.args.segment in
+    let its : at.instance.number ≡ c.args.page.now.instance = number_of (λ (j : Instance). j.number) c.args.page.now.instance b.instances at.instance found in
+    let P : ℕ → ℕ → Type 0 = λ n answered. IsFinish c.in-Ok-finish.prepared c.args.ticket.now n answered c.in-Finished.bytes s.effects s.entered in
+    let made : P at.instance.number at.page.number = subst (P at.instance.number) (sym number) (subst (λ (n : ℕ). P n c.args.page.now.page) (sym its) c.in-Ok-finish.ensures) in
+    finish_lands scripts fuel c.args.life instances c.args.pages b c.args.ticket.now at s c.in-Finished.bytes c.in-Ok-finish.prepared (ap outcome_of c.in-Finished.is) made

@@ -1,6 +1,6 @@
 use Rattle.std.proofs.Common.{◌≡◌, ◌∙◌, ap, subst, ℕ, ◌<◌, ◌+◌, List, ◌++◌, ◌∷◌, [], arith, Contains, inl, inr}
 use Rattle.std.proofs.lemmas.List.Elements.{Contains-push_cases}
-use Rattle.instance_book.proofs.Viewed.{done_if}
+use Rattle.instance_book.proofs.Lists.{done_if}
 use Rattle.instance_book.proofs.book.Book.ticket.Goals as goal
 
 pub invariant_of-self : goal.invariant_of-self

@@ -1,0 +1,212 @@
+-- Things in the order of their numbers, as the definitions see them.
+use Rattle.std.proofs.Common.{◌≡◌, ◌∙◌, ap, sym, subst, ℕ, zero, suc, ◌<◌, ◌≤◌, ◌+◌, ◌==◌, not, List, [], ◌∷◌, ◌++◌, length, get_or, set, take, map, filter, Option, Some, None, option_map, refl, arith, Bool, IfSome}
+use Rattle.std.specs.Borrow.{Bor}
+use Rattle.std.specs.Option.{option_copied}
+use Rattle.std.specs.List.{AllByRecursion}
+use Rattle.std.proofs.lemmas.Bool.Decides.{nat_tests}
+use Rattle.std.proofs.lemmas.List.{map-append}
+use Rattle.script_nodes.specs.Setup.{Named}
+use Rattle.replay_spec.specs.Book.{Page, Instance, Doubt, at_number, instance_at, page_at}
+use Rattle.replay_spec.specs.Change.{put_in_order, put_page, put_instance, mend, without}
+use Rattle.instance_book.specs.declared.numbered.Numbered.{Numbered}
+use Rattle.instance_book.specs.declared.page.KeptPage.{KeptPage}
+use Rattle.instance_book.specs.declared.instance.KeptInstance.{KeptInstance}
+use Rattle.instance_book.specs.Orders.{Rises, IsAt, numbers_of}
+use Rattle.instance_book.specs.declared.book.Book.{Book}
+use Rattle.instance_book.specs.Views.{page_of, instance_of, book_of}
+use Rattle.instance_book.specs.Swept.{cells_in, cells_at}
+use Rattle.instance_book.specs.Places.{IsPlaced}
+use Rattle.instance_book.proofs.Orders.{Ascends, rises, ascends}
+use Rattle.instance_book.proofs.Lists.{got, within, first_at}
+
+-- what stands behind a reference that may be none
+copied : {A B : Type 0} (f : A → B) (r : Option (Bor A)) → option_map (λ v. f v.now) r ≡ option_map f (option_copied r)
+copied f None = refl
+copied f (Some x) = refl
+
+module _ {T B : Type 0} (number_of : B → ℕ) (view : Numbered T → B) (same : (x : Numbered T) → number_of (view x) ≡ x.number) where
+  seen_at : (n : ℕ) (xs : List (Numbered T)) → at_number number_of n (map view xs) ≡ option_map view (at_number (λ thing. thing.number) n xs)
+  seen_at n [] = refl
+  seen_at n (x ∷ xs) = grind (arith, nat_tests, same x, seen_at n xs)
+
+  pub seen_put : (x : Numbered T) (xs : List (Numbered T)) → map view (put_in_order (λ thing. thing.number) x xs) ≡ put_in_order number_of (view x) (map view xs)
+  seen_put x [] = refl
+  seen_put x (y ∷ ys) = grind (arith, nat_tests, same x, same y, seen_put x ys)
+
+  pub found : (n : ℕ) (xs : List (Numbered T)) (r : Option (Bor (Numbered T))) → option_copied r ≡ at_number (λ thing. thing.number) n xs
+      → option_map (λ v. view v.now) r ≡ at_number number_of n (map view xs)
+  found n xs r h = copied view r ∙ (ap (option_map view) h ∙ sym (seen_at n xs))
+
+  pub seen_none : (n : ℕ) (xs : List (Numbered T)) → at_number (λ thing. thing.number) n xs ≡ None → at_number number_of n (map view xs) ≡ None
+  seen_none n xs h = seen_at n xs ∙ ap (option_map view) h
+
+  pub seen_some : (n : ℕ) (xs : List (Numbered T)) (x : Numbered T) → at_number (λ thing. thing.number) n xs ≡ Some x → at_number number_of n (map view xs) ≡ Some (view x)
+  seen_some n xs x h = seen_at n xs ∙ ap (option_map view) h
+
+  -- the numbers, and copies that rise as their sources do
+  numbers_seen : (xs : List (Numbered T)) → numbers_of xs ≡ map number_of (map view xs)
+  numbers_seen [] = refl
+  numbers_seen (x ∷ xs) = cc (same x, numbers_seen xs)
+
+  pub same_numbers : (xs ys : List (Numbered T)) → map view xs ≡ map view ys → numbers_of xs ≡ numbers_of ys
+  same_numbers xs ys e = numbers_seen xs ∙ (ap (map number_of) e ∙ sym (numbers_seen ys))
+
+-- pages
+pub page_seen : (n : ℕ) (xs : List (Numbered KeptPage)) (r : Option (Bor (Numbered KeptPage))) → option_copied r ≡ at_number (λ thing. thing.number) n xs
+    → option_map (λ p. page_of p.now) r ≡ page_at n (map page_of xs)
+page_seen n xs r h = found (λ (p : Page). p.number) page_of (λ x. refl) n xs r h
+
+pub page_put : (x : Numbered KeptPage) (xs : List (Numbered KeptPage)) → map page_of (put_in_order (λ thing. thing.number) x xs) ≡ put_page (page_of x) (map page_of xs)
+page_put x xs = seen_put (λ (p : Page). p.number) page_of (λ y. refl) x xs
+
+pub pages_numbered : (xs : List (Numbered KeptPage)) → numbers_of xs ≡ map (λ (p : Page). p.number) (map page_of xs)
+pages_numbered xs = numbers_seen (λ (p : Page). p.number) page_of (λ y. refl) xs
+
+pub rises_with_pages : (xs ys : List (Numbered KeptPage)) → map page_of xs ≡ map page_of ys → Rises (numbers_of ys) → Rises (numbers_of xs)
+rises_with_pages xs ys e rise = subst Rises (sym (same_numbers (λ (p : Page). p.number) page_of (λ y. refl) xs ys e)) rise
+
+-- instances, under a setup
+module _ (scripts : List Named) where
+  abbrev view : Numbered KeptInstance → Instance
+  view i = instance_of scripts i
+
+  pub instance_seen : (n : ℕ) (xs : List (Numbered KeptInstance)) (r : Option (Bor (Numbered KeptInstance))) → option_copied r ≡ at_number (λ thing. thing.number) n xs
+      → option_map (λ i. instance_of scripts i.now) r ≡ instance_at n (map (instance_of scripts) xs)
+  instance_seen n xs r h = found (λ (i : Instance). i.number) view (λ x. refl) n xs r h
+
+  pub instance_some : (n : ℕ) (xs : List (Numbered KeptInstance)) (x : Numbered KeptInstance) → at_number (λ thing. thing.number) n xs ≡ Some x → instance_at n (map (instance_of scripts) xs) ≡ Some (instance_of scripts x)
+  instance_some n xs x h = seen_some (λ (i : Instance). i.number) view (λ y. refl) n xs x h
+
+  pub instance_none : (n : ℕ) (xs : List (Numbered KeptInstance)) → at_number (λ thing. thing.number) n xs ≡ None → instance_at n (map (instance_of scripts) xs) ≡ None
+  instance_none n xs h = seen_none (λ (i : Instance). i.number) view (λ y. refl) n xs h
+
+  pub instance_put : (x : Numbered KeptInstance) (xs : List (Numbered KeptInstance)) → map (instance_of scripts) (put_in_order (λ thing. thing.number) x xs) ≡ put_instance (instance_of scripts x) (map (instance_of scripts) xs)
+  instance_put x xs = seen_put (λ (i : Instance). i.number) view (λ y. refl) x xs
+
+  pub seen_without : (n : ℕ) (xs : List (Numbered KeptInstance)) → map (instance_of scripts) (filter (λ thing. not (thing.number == n)) xs) ≡ without n (map (instance_of scripts) xs)
+  seen_without n [] = refl
+  seen_without n (x ∷ xs) = grind (arith, nat_tests, seen_without n xs)
+
+  pub seen_kept : (p : Instance → Bool) (xs : List (Numbered KeptInstance)) → map (instance_of scripts) (filter (λ x. p (instance_of scripts x)) xs) ≡ filter p (map (instance_of scripts) xs)
+  seen_kept p [] = refl
+  seen_kept p (x ∷ xs) = grind (arith, nat_tests, seen_kept p xs)
+
+  -- the one of a number is changed at its place, or nothing is
+  mended_at : (xs : List (Numbered KeptInstance)) (n place : ℕ) (f : Instance → Instance) (x y : Numbered KeptInstance) → Ascends (numbers_of xs) → IsAt (numbers_of xs) n place
+      → x ≡ get_or xs place x → y.number ≡ x.number → view y ≡ f (view x) → map view (set xs place y) ≡ mend n f (map view xs)
+  mended_at [] n place f x y a at is number seen = absurd (omega (arith, at.within))
+  mended_at (z ∷ zs) n zero f x y a at is number seen = grind (arith, nat_tests, at.here, is, number, seen)
+  mended_at (z ∷ zs) n (suc k) f x y a at is number seen =
+      let less : z.number < n = subst (λ m. z.number < m) at.here (rises (numbers_of (z ∷ zs)) a 0 (suc k) (omega arith) at.within) in
+      grind (arith, nat_tests, mended_at zs n k f x y a.1 (record { within = omega (arith, at.within); here = at.here }) is number seen)
+
+  pub mended : (xs : List (Numbered KeptInstance)) (n place : ℕ) (f : Instance → Instance) (x y : Numbered KeptInstance) → Rises (numbers_of xs) → IsAt (numbers_of xs) n place
+      → x ≡ get_or xs place x → y.number ≡ x.number → instance_of scripts y ≡ f (instance_of scripts x) → map (instance_of scripts) (set xs place y) ≡ mend n f (map (instance_of scripts) xs)
+  mended xs n place f x y rise at is number seen = mended_at xs n place f x y (ascends (numbers_of xs) rise) at is number seen
+
+  mend_none : (n : ℕ) (f : Instance → Instance) (is : List Instance) → instance_at n is ≡ None → mend n f is ≡ is
+  mend_none n f [] h = refl
+  mend_none n f (i ∷ is) h = grind (arith, nat_tests, h, mend_none n f is)
+
+  pub unmended : (xs : List (Numbered KeptInstance)) (n : ℕ) (f : Instance → Instance) → at_number (λ thing. thing.number) n xs ≡ None → map (instance_of scripts) xs ≡ mend n f (map (instance_of scripts) xs)
+  unmended xs n f h = sym (mend_none n f (map view xs) (seen_none (λ (i : Instance). i.number) view (λ x. refl) n xs h))
+
+  pub mend_nothing : (n : ℕ) (is : List Instance) → mend n (λ i. i) is ≡ is
+  mend_nothing n [] = refl
+  mend_nothing n (i ∷ is) = grind (arith, nat_tests, mend_nothing n is)
+
+  -- places
+  pub placed_put : (x : Numbered KeptInstance) (xs : List (Numbered KeptInstance)) → IsPlaced scripts x → AllByRecursion (IsPlaced scripts) xs → AllByRecursion (IsPlaced scripts) (put_in_order (λ thing. thing.number) x xs)
+  placed_put x [] p all = (p, tt)
+  placed_put x (y ∷ ys) p all = grind (arith, nat_tests, p, all.0, all.1, placed_put x ys p all.1)
+
+  pub placed_kept : (p : Numbered KeptInstance → Bool) (xs : List (Numbered KeptInstance)) → AllByRecursion (IsPlaced scripts) xs → AllByRecursion (IsPlaced scripts) (filter p xs)
+  placed_kept p [] all = tt
+  placed_kept p (x ∷ xs) all = grind (arith, all.0, all.1, placed_kept p xs all.1)
+
+  pub placed_set : (xs : List (Numbered KeptInstance)) (place : ℕ) (x y : Numbered KeptInstance) → x ≡ get_or xs place x → place < length xs → y.item.script ≡ x.item.script
+      → AllByRecursion (IsPlaced scripts) xs → AllByRecursion (IsPlaced scripts) (set xs place y)
+  placed_set [] place x y is h e all = absurd (omega arith)
+  placed_set (z ∷ zs) zero x y is h e all = (subst (λ k. k < length scripts) (sym (e ∙ ap (λ (i : Numbered KeptInstance). i.item.script) is)) all.0, all.1)
+  placed_set (z ∷ zs) (suc k) x y is h e all = (all.0, placed_set zs k x y is (omega arith) e all.1)
+
+  pub placed_at : (xs : List (Numbered KeptInstance)) (n : ℕ) (x : Numbered KeptInstance) → AllByRecursion (IsPlaced scripts) xs → at_number (λ thing. thing.number) n xs ≡ Some x → IsPlaced scripts x
+  placed_at [] n x all h = absurd (cc)
+  placed_at (y ∷ ys) n x all h = grind (arith, nat_tests, h, all.0, placed_at ys n x all.1)
+
+pub placed_found : (scripts : List Named) (n : ℕ) (xs : List (Numbered KeptInstance)) (r : Option (Bor (Numbered KeptInstance))) → option_copied r ≡ at_number (λ thing. thing.number) n xs
+    → AllByRecursion (IsPlaced scripts) xs → IfSome r (λ i. IsPlaced scripts i.now)
+placed_found scripts n xs None h all = tt
+placed_found scripts n xs (Some x) h all = placed_at scripts xs n x.now all (sym h)
+
+-- the cells that are kept are those of the book
+pub cells_seen : (scripts : List Named) (journal : ℕ) (down : Option Doubt) (n : ℕ) (b : Book) → cells_at n b ≡ cells_in n (book_of scripts journal down b)
+cells_seen scripts journal down n b = kept b.instances.things.items
+  where
+    kept : (xs : List (Numbered KeptInstance)) → option_map (λ i. i.item.cells) (at_number (λ i. i.number) n xs) ≡ option_map (λ i. i.cells) (instance_at n (map (instance_of scripts) xs))
+    kept [] = refl
+    kept (x ∷ xs) = grind (arith, nat_tests, kept xs)
+
+-- one copy more
+taken_more : {A : Type 0} (xs : List A) (i : ℕ) (x : A) → i < length xs → x ≡ get_or xs i x → take (i + 1) xs ≡ take i xs ++ x ∷ []
+taken_more [] i x h is = absurd (omega arith)
+taken_more (y ∷ ys) zero x h is = ap (λ z. z ∷ []) (sym is)
+taken_more (y ∷ ys) (suc i) x h is =
+    let next : suc i + 1 ≡ suc (i + 1) = omega arith in rw next (ap (λ zs. y ∷ zs) (taken_more ys i x (omega arith) is))
+
+pub copied_more : {A B : Type 0} (f : A → B) (xs ys : List A) (i : ℕ) (x y : A) → map f ys ≡ map f (take i xs) → i < length xs → x ≡ get_or xs i x → f y ≡ f x
+    → map f (ys ++ y ∷ []) ≡ map f (take (i + 1) xs)
+copied_more f xs ys i x y same h is e =
+    map-append f ys (y ∷ []) ∙ (ap (λ zs. zs ++ f y ∷ []) same ∙ (ap (λ z. map f (take i xs) ++ z ∷ []) e ∙ (sym (map-append f (take i xs) (x ∷ [])) ∙ ap (map f) (sym (taken_more xs i x h is)))))
+
+pub placed_by_scripts : (scripts : List Named) (xs ys : List (Numbered KeptInstance)) → map (λ i. i.item.script) xs ≡ map (λ i. i.item.script) ys → AllByRecursion (IsPlaced scripts) ys → AllByRecursion (IsPlaced scripts) xs
+placed_by_scripts scripts [] ys e all = tt
+placed_by_scripts scripts (x ∷ xs) [] e all = absurd (cc)
+placed_by_scripts scripts (x ∷ xs) (y ∷ ys) e all =
+    let first : x.item.script ≡ y.item.script = cc in
+    let rest : map (λ i. i.item.script) xs ≡ map (λ i. i.item.script) ys = cc in
+    (subst (λ k. k < length scripts) (sym first) all.0, placed_by_scripts scripts xs ys rest all.1)
+
+pub rises_with_instances : (xs ys : List (Numbered KeptInstance)) → map (instance_of []) xs ≡ map (instance_of []) ys → Rises (numbers_of ys) → Rises (numbers_of xs)
+rises_with_instances xs ys e rise = subst Rises (sym (same_numbers (λ (i : Instance). i.number) (instance_of []) (λ y. refl) xs ys e)) rise
+
+-- the order stays where a thing is changed in its place under its number
+numbers_set : {T : Type 0} (xs : List (Numbered T)) (place : ℕ) (x y : Numbered T) → x ≡ get_or xs place x → place < length xs → y.number ≡ x.number → numbers_of (set xs place y) ≡ numbers_of xs
+numbers_set [] place x y is h e = absurd (omega arith)
+numbers_set (z ∷ zs) zero x y is h e = ap (λ n. n ∷ numbers_of zs) (e ∙ ap (λ (i : Numbered _). i.number) is)
+numbers_set (z ∷ zs) (suc k) x y is h e = ap (λ ns. z.number ∷ ns) (numbers_set zs k x y is (omega arith) e)
+
+pub rises_set : {T : Type 0} (xs : List (Numbered T)) (n place : ℕ) (x y : Numbered T) → Rises (numbers_of xs) → IsAt (numbers_of xs) n place → x ≡ get_or xs place x → y.number ≡ x.number → Rises (numbers_of (set xs place y))
+rises_set xs n place x y rise at is e = subst Rises (sym (numbers_set xs place x y is (within xs n place at) e)) rise
+
+-- the first of a number where it was written
+pub first_set : {T : Type 0} (xs : List (Numbered T)) (n place : ℕ) (x y : Numbered T) → Rises (numbers_of xs) → IsAt (numbers_of xs) n place → x ≡ get_or xs place x → y.number ≡ x.number
+    → at_number (λ thing. thing.number) n (set xs place y) ≡ Some y
+first_set xs n place x y rise at is e = written xs place (ascends (numbers_of xs) rise) at is
+  where
+    written : (zs : List (Numbered _)) (k : ℕ) → Ascends (numbers_of zs) → IsAt (numbers_of zs) n k → x ≡ get_or zs k x → at_number (λ thing. thing.number) n (set zs k y) ≡ Some y
+    written [] k a here this = absurd (omega (arith, here.within))
+    written (z ∷ zs) zero a here this = grind (arith, nat_tests, here.here, this, e)
+    written (z ∷ zs) (suc k) a here this =
+        let less : z.number < n = subst (λ m. z.number < m) here.here (rises (numbers_of (z ∷ zs)) a 0 (suc k) (omega arith) here.within) in
+        grind (arith, nat_tests, written zs k a.1 (record { within = omega (arith, here.within); here = here.here }) this)
+
+-- how many there are
+pub length_seen : {T B : Type 0} (view : Numbered T → B) (xs : List (Numbered T)) → length (map view xs) ≡ length xs
+length_seen view [] = refl
+length_seen view (x ∷ xs) = ap suc (length_seen view xs)
+
+pub same_length : (xs ys : List (Numbered KeptInstance)) → map (instance_of []) xs ≡ map (instance_of []) ys → length xs ≡ length ys
+same_length xs ys e = sym (length_seen (instance_of []) xs) ∙ (ap (λ (is : List Instance). length is) e ∙ length_seen (instance_of []) ys)
+
+pub length_mend : (n : ℕ) (f : Instance → Instance) (is : List Instance) → length (mend n f is) ≡ length is
+length_mend n f [] = refl
+length_mend n f (i ∷ is) = grind (arith, nat_tests, length_mend n f is)
+
+pub length_put : (i : Instance) (is : List Instance) → length (put_instance i is) ≤ length is + 1
+length_put i [] = omega arith
+length_put i (j ∷ js) = grind (arith, nat_tests, length_put i js)
+
+pub length_kept : {A : Type 0} (p : A → Bool) (is : List A) → length (filter p is) ≤ length is
+length_kept p [] = omega arith
+length_kept p (i ∷ is) = grind (arith, nat_tests, length_kept p is)

@@ -1,0 +1,15 @@
+use Rattle.std.proofs.Common.{◌≡◌, ap, refl, length, nat_le, false, arith}
+use Rattle.std.proofs.lemmas.Bool.Decides.{nat_tests}
+use Rattle.segments.specs.Views.{outcome_of, segment_of}
+use Rattle.instance_book.specs.Views.{book_of, instance_of}
+use Rattle.instance_book.proofs.Seen.{length_seen}
+use Rattle.instance_book.proofs.Lands.{opening_lands}
+use Rattle.instance_book.proofs.book.Book.prepare_start.Goals as goal
+
+pub returns-in-Ok-clause-decided : goal.returns-in-Ok-clause-decided
+returns-in-Ok-clause-decided c scripts journal down fuel pages k named fits =
+    let b = book_of scripts journal down c.args.self.now in
+    let many = length_seen (instance_of scripts) c.args.self.now.instances.things.items in
+    let full : nat_le c.args.instances (length b.instances) ≡ false = grind (arith, nat_tests, many, c.if-count-instances.false, c.len-count.ensures) in
+    opening_lands scripts fuel c.args.life c.args.instances pages b c.args.ticket.now refl k named (segment_of c.args.segment) c.in-Shown.kind c.in-Shown.page c.in-Ok.prepared
+    fits (ap outcome_of c.in-Shown.is) full c.in-Ok.ensures.opens

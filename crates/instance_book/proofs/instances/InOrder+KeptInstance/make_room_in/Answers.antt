@@ -1,0 +1,34 @@
+use Rattle.std.proofs.Common.{◌≡◌, ◌∙◌, ap, subst, refl, map, List, Result, Ok, Err, OnOk}
+use Rattle.replay_spec.specs.Book.{Page, Instance}
+use Rattle.instance_book.specs.declared.numbered.Numbered.{Numbered}
+use Rattle.instance_book.specs.declared.page.KeptPage.{KeptPage}
+use Rattle.instance_book.specs.declared.instance.KeptInstance.{KeptInstance}
+use Rattle.instance_book.specs.Lists.{HasRoom}
+use Rattle.instance_book.specs.Views.{page_of, instance_of}
+use Rattle.instance_book.proofs.Seen.{rises_set, mended, mend_nothing, first_set}
+use Rattle.instance_book.proofs.instances.InOrder+KeptInstance.make_room_in.Goals as goal
+
+pub invariant_of-self : goal.invariant_of-self
+invariant_of-self c =
+    let x = c.index_mut.result.now in
+    let y : Numbered KeptInstance = record { number = x.number; item = record x.item { pages = c.make_room.new.self } } in
+    record { rising = rises_set c.args.self.now.things.items c.args.number c.in-Some.place x y c.args.self.now.rising c.in-Some.ensures.found c.index_mut.ensures.value refl }
+
+pub returns-in-Some-clause-instances : goal.returns-in-Some-clause-instances
+returns-in-Some-clause-instances c scripts =
+    let x = c.index_mut.result.now in
+    let y : Numbered KeptInstance = record { number = x.number; item = record x.item { pages = c.make_room.new.self } } in
+    let same : instance_of scripts y ≡ instance_of scripts x = ap (λ (ps : List (Numbered KeptPage)). record (instance_of scripts x) { pages = map page_of ps }) c.make_room.ensures.things in
+    mended scripts c.args.self.now.things.items c.args.number c.in-Some.place (λ i. i) x y c.args.self.now.rising c.in-Some.ensures.found c.index_mut.ensures.value refl same
+    ∙ mend_nothing scripts c.args.number (map (instance_of scripts) c.args.self.now.things.items)
+
+on_ok : {E P Q : Type 0} (r : Result (Unit {0}) E) → OnOk r P → (P → Q) → OnOk r Q
+on_ok (Ok x) p f = f p
+on_ok (Err e) p f = tt
+
+pub returns-in-Some-clause-room : goal.returns-in-Some-clause-room
+returns-in-Some-clause-room c =
+    let x = c.index_mut.result.now in
+    let y : Numbered KeptInstance = record { number = x.number; item = record x.item { pages = c.make_room.new.self } } in
+    let written = first_set c.args.self.now.things.items c.args.number c.in-Some.place x y c.args.self.now.rising c.in-Some.ensures.found c.index_mut.ensures.value refl in
+    on_ok c.make_room.result c.make_room.ensures.room (λ room i h. let same : y ≡ i = cc (written, h) in subst (λ (j : Numbered KeptInstance). HasRoom j.item.pages) same room)

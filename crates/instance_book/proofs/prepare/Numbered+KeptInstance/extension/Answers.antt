@@ -1,0 +1,38 @@
+use Rattle.std.proofs.Common.{◌≡◌, ◌∙◌, ap, map, refl}
+use Rattle.script_value.specs.declared.outcome.Reply.{Reply}
+use Rattle.instance_cells.specs.Views.{effect_of}
+use Rattle.replay_spec.specs.Book as spec
+use Rattle.replay_spec.specs.Step as step
+use Rattle.replay_spec.specs.Step.{Decision, records}
+use Rattle.instance_book.specs.Views.{reply_of, page_of}
+use Rattle.instance_book.specs.Prepares.{next_page}
+use Rattle.instance_book.specs.Segments.{GoesOnBy}
+use Rattle.instance_book.proofs.prepare.Numbered+KeptInstance.extension.Goals as goal
+
+pub returns : goal.returns
+returns c scripts =
+    let t = c.args.ticket.now in
+    let effects = map effect_of c.args.effects.items in
+    let goes : GoesOnBy t c.args.answered c.args.kind c.args.effects.items c.args.inside.items c.args.left.items c.args.deadline c.args.self.now.item c.in_ok-show.show =
+    rw (c.deref.ensures.value, c.deref-2.ensures.value) at c.in_ok-show.ensures in
+    let record_of : spec.Page → spec.Extension = λ p. record {
+      number = p.number;
+      nonce = p.nonce;
+      instance = c.args.self.now.number;
+      page = c.args.answered;
+      answer = p.answer;
+      effects = effects;
+      left = c.args.left.items;
+      kind = c.args.kind;
+      deadline = p.deadline;
+    } in
+    let shown = c.in_ok-show.show.page in
+    record {
+      recorded = record {
+        decision =
+            ap (λ (r : Reply). records (reply_of r) (spec.extends (record_of (page_of shown))) (page_of shown).inside) c.in_ok-reply.ensures
+            ∙ ap (λ (p : spec.Page). records (step.shown c.args.page t.url) (spec.extends (record_of p)) p.inside) goes.page;
+        logged = refl;
+      };
+      change = (refl, goes.instance scripts c.args.self.now.number);
+    }
