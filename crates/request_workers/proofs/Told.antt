@@ -1,5 +1,5 @@
 -- A link that was answered.
-use Rattle.std.proofs.Common.{◌≡◌, ◌∙◌, ℕ, List, Option, Some, Result, Ok, Err, OnOk, refl, sym, ap, subst, is_ok, option_map}
+use Rattle.std.proofs.Common.{◌≡◌, ◌∙◌, ℕ, List, Option, Some, Result, Ok, Err, OnOk, true, refl, sym, ap, subst, is_ok, option_map}
 use Rattle.std.specs.Io.KnownBytes.{Appends}
 use Rattle.web_outside.specs.Causes.{HasCause}
 use Rattle.web_outside.specs.View.{SourceView, SinkView, LinkView}
@@ -7,7 +7,8 @@ use Rattle.script_value.specs.Views.{meaning}
 use Rattle.page_names.specs.Views.{target_of}
 use Rattle.web_outside.specs.Pieces.{AppendsPart, HandsOn}
 use Rattle.http_forms.specs.Passes.{PassRules}
-use Rattle.http_forms.specs.Request.{refused}
+use Rattle.http_forms.specs.Request.{Visit, refused}
+use Rattle.http_forms.specs.declared.request.Request.{Request}
 use Rattle.http_forms.specs.Reply.{reply_text}
 use Rattle.http_forms.specs.declared.reply.Answer.{Answer}
 use Rattle.http_forms.specs.declared.reply.Answer.TheVariants as answers
@@ -16,11 +17,20 @@ use Rattle.request_workers.specs.declared.request.Incoming.TheVariants as incomi
 use Rattle.request_workers.specs.Requests.{Comes, Asks}
 use Rattle.request_workers.specs.Serving.{Answers, Serves, served_by}
 
+-- the visit that a request asks for
+abbrev asked_in : Request → Visit
+asked_in r = record {
+  destination = option_map target_of r.target;
+  answer = meaning r.answer;
+  length = r.length;
+  closes = r.closes;
+}
+
 -- the writing of an answer, and how it went
 pub record IsWritten {T E : Type 0} (answer : Answer) (old new : SinkView) (result : Result T E) : Type 0 where
-  pub ok : OnOk result (Appends old.written new.written (reply_text answer))
+  pub ok : OnOk result (Appends old.written new.written (reply_text answer true))
   pub handed_on : OnOk result (HandsOn new.written new.handed)
-  pub part : AppendsPart old.written new.written (reply_text answer)
+  pub part : AppendsPart old.written new.written (reply_text answer true)
   pub cause : HasCause old.faults new.faults result
 
 -- what came was answered, and the answer written: so the link was served
@@ -29,9 +39,9 @@ pub serves : {P T E : Type 0} (rules : PassRules P) (p q : P) (came : Incoming) 
     → IsWritten answer old.output new.output result
     → Serves rules p q old new (served_by answer (is_ok result))
 serves rules p q (incoming.Visit request) (answers.Reply reply) old new (Ok u) came answered written =
-    (record { destination = option_map target_of request.target; answer = meaning request.answer; asked = came; replied = answered }, record { written = written.ok; handed = written.handed_on })
+    (record { visit = asked_in request; asked = came; replied = answered }, record { written = written.ok; handed = written.handed_on })
 serves rules p q (incoming.Visit request) (answers.Reply reply) old new (Err e) came answered written =
-    (record { destination = option_map target_of request.target; answer = meaning request.answer; asked = came; replied = answered }, record { written = written.part; failed = written.cause.failed })
+    (record { visit = asked_in request; asked = came; replied = answered }, record { written = written.part; failed = written.cause.failed })
 serves rules p q (incoming.Refused reason) (answers.Refused told) old new (Ok u) came answered written =
     (record { asked = subst (λ x. Asks old.input.left new.input.left (refused x)) (sym answered.0) came; same = answered.1 }, record { written = written.ok; handed = written.handed_on })
 serves rules p q (incoming.Refused reason) (answers.Refused told) old new (Err e) came answered written =

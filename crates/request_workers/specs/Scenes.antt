@@ -1,5 +1,5 @@
 -- What is told on a link.
-use Rattle.std.specs.Prelude.{◌≡◌, ◌≤◌, ℕ, List, Option}
+use Rattle.std.specs.Prelude.{◌≡◌, ◌≤◌, true}
 use Rattle.std.specs.Io.KnownBytes.{Appends}
 use Rattle.web_outside.specs.Causes.{Rose}
 use Rattle.web_outside.specs.View.{LinkView}
@@ -11,14 +11,14 @@ use Rattle.http_forms.specs.declared.reply.Answer.{Answer}
 abbrev pub IsSilent : (old new : LinkView) → Type 0
 IsSilent old new = new.output ≡ old.output
 
--- the bytes of the answer were written and handed on
+-- the bytes of the answer, behind which the link closes, were written and handed on
 pub record Tells (answer : Answer) (old new : LinkView) : Type 0 where
-  pub written : Appends old.output.written new.output.written (reply_text answer)
+  pub written : Appends old.output.written new.output.written (reply_text answer true)
   pub handed : HandsOn new.output.written new.output.handed
 
 -- a front of them was written, and writing failed
 pub record TellsPart (answer : Answer) (old new : LinkView) : Type 0 where
-  pub written : AppendsPart old.output.written new.output.written (reply_text answer)
+  pub written : AppendsPart old.output.written new.output.written (reply_text answer true)
   pub failed : Rose old.output.faults new.output.faults
 
 -- no count fell

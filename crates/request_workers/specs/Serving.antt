@@ -11,7 +11,7 @@ use Rattle.script_value.specs.Views.{meaning}
 use Rattle.page_names.specs.Names.{Destination}
 use Rattle.page_names.specs.Views.{target_of}
 use Rattle.http_forms.specs.Passes.{PassRules}
-use Rattle.http_forms.specs.Request.{unfinished, refused, visits}
+use Rattle.http_forms.specs.Request.{Visit, unfinished, refused, visits}
 use Rattle.http_forms.specs.declared.refused.Refused.{Refused as Reason}
 use Rattle.http_forms.specs.declared.reply.Answer.{Answer}
 use Rattle.http_forms.specs.declared.reply.Answer.TheVariants as answers
@@ -30,10 +30,9 @@ Replies rules before (Some destination) answer reply after = rules.Visits before
 
 -- one visit was made, the one that the bytes read ask for
 pub record Visits {P : Type 0} (rules : PassRules P) (before after : P) (old new : LinkView) (reply : Reply) : Type 0 where
-  pub destination : Option Destination
-  pub answer : Val
-  pub asked : Asks old.input.left new.input.left (visits destination answer)
-  pub replied : Replies rules before destination answer reply after
+  pub visit : Visit
+  pub asked : Asks old.input.left new.input.left (visits visit)
+  pub replied : Replies rules before visit.destination visit.answer reply after
 
 -- the bytes read were refused, and no visit was made
 pub record Refuses {P : Type 0} (before after : P) (old new : LinkView) (reason : Reason) : Type 0 where

@@ -75,7 +75,7 @@ fn answer<A: Answering, G: Gate>(
     ensures answer { Answers (A.rules answering.now) pass.old incoming result pass.new }
 {
     match incoming {
-        Incoming::Visit(Request { target, answer }) => {
+        Incoming::Visit(Request { target, answer, .. }) => {
             let reply = visit(alloc, answering, pass, target, answer, gate);
             Some(Answer::Reply(reply))
         }
@@ -97,7 +97,7 @@ fn told(answer: Answer, whole: bool) -> Served
 }
 
 /// Serves one link: reads the bytes of one request and not one more, makes the visit that they ask for, and writes its
-/// reply; or writes why they are refused. An error is want of memory: then no visit was made, and nothing was written.
+/// reply, behind which the link closes; or writes why they are refused. An error is want of memory: then no visit was made, and nothing was written.
 pub fn serve_one<A: Answering, L: Link, G: Gate>(
     alloc: Global,
     answering: &A,
@@ -118,6 +118,6 @@ pub fn serve_one<A: Answering, L: Link, G: Gate>(
     let Some(answer) = answer(alloc, answering, pass, incoming, gate) else {
         return Ok(Served::Idle);
     };
-    let written = write_reply(&answer, link.output());
+    let written = write_reply(&answer, true, link.output());
     Ok(told(answer, written.is_ok()))
 }

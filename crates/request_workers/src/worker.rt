@@ -88,6 +88,8 @@ pub fn work<A: Answering, P: Porch, C: Clock, G: Gate>(
     ensures worked { Worked (A.rules answering.now) P.Link.view (C.shows clock.now) pass.old pass.new
         (P.view porch.old) (P.view porch.new) (count_of result) }
     ensures end { EndsBy result.end (P.view porch.old) (P.view porch.new) }
+    // Each link counts each thing once at most, so the counts of many workers have a sum.
+    ensures small { IsBelow (count_of result) 1000001 }
     ensures most { (P.view porch.new).most ≡ (P.view porch.old).most }
     ensures later { (P.view porch.old).faults ≤ (P.view porch.new).faults }
 {
