@@ -1,32 +1,6 @@
-use crate::texts::{data, datum, is_datum, symbol};
-use script_value::{Bytes, Items, Str, Value, depth, equal, read_number, size};
+use crate::texts::{data, is_datum, symbol};
+use script_value::{Bytes, Items, Str, Value, equal};
 use std::test::Fail;
-
-const NESTED: &str = r#"(a "bc" (1 #t ()))"#;
-
-const MEASURES: &[(&str, u32, u64)] = &[
-    ("-7", 0, 1),
-    ("#f", 0, 1),
-    (r#""""#, 0, 1),
-    (r#""süd""#, 0, 5),
-    ("abc", 0, 4),
-    ("()", 1, 1),
-    (NESTED, 3, 10),
-];
-
-#[test]
-fn values_have_their_depth_and_size(rt: HostRuntime) -> Result<(), Fail> {
-    let alloc = rt.alloc();
-    for (text, levels, cost) in MEASURES {
-        let value = datum(alloc, text)?;
-        assert_eq!(rt; depth(&value), *levels, "{text}");
-        if let Value::List(items) = &value {
-            assert_eq!(rt; items.depth(), *levels, "{text}");
-        }
-        assert_eq!(rt; size(&value), *cost, "{text}");
-    }
-    Ok(())
-}
 
 #[test]
 fn values_are_equal_to_their_copies_alone(rt: HostRuntime) -> Result<(), Fail> {
@@ -95,28 +69,4 @@ fn texts_are_kept(rt: HostRuntime) -> Result<(), Fail> {
     assert_eq!(rt; copy.len(), 4);
     assert!(rt; !copy.is_empty());
     Ok(())
-}
-
-const NUMBERS: &[(&str, Option<i64>)] = &[
-    ("9223372036854775807", Some(9_223_372_036_854_775_807)),
-    ("-9223372036854775808", Some(-9_223_372_036_854_775_808)),
-    ("9223372036854775808", None),
-    ("-9223372036854775809", None),
-    ("+5", Some(5)),
-    ("-0", Some(0)),
-    ("007", Some(7)),
-    ("", None),
-    ("-", None),
-    ("+-5", None),
-    (" 5", None),
-    ("5 ", None),
-    ("0x5", None),
-    ("5.0", None),
-];
-
-#[test]
-fn texts_are_numbers_in_their_range(rt: HostRuntime) {
-    for (text, number) in NUMBERS {
-        assert_eq!(rt; read_number(text), *number, "{text}");
-    }
 }

@@ -1,7 +1,3 @@
-ghost use Rattle.std.specs.Prelude.{◌≡◌, ◌<◌, length, map, true};
-ghost use Rattle.instance_cells.specs.Cells.{AreOn, cell_of};
-ghost use Rattle.instance_cells.specs.Views.{effect_of};
-
 use crate::texts::{data, is_datum};
 use instance_cells::{Cells, Effect, clone_effects};
 use script_value::{Fault, Value};
@@ -87,30 +83,9 @@ fn an_add_gives_the_sum_or_leaves_the_cell(rt: HostRuntime) -> Result<(), Fail> 
     Ok(())
 }
 
-// The cell that an effect reads or writes.
-fn cell_in(effect: &Effect) -> u8
-    ensures { result ≡ cell_of (effect_of effect.now) }
-{
-    match effect {
-        Effect::Read(cell, _) => *cell,
-        Effect::Set(cell, _) => *cell,
-        Effect::Add(cell, _) => *cell,
-    }
-}
-
-// Whether each effect is on one of the cells.
-fn are_on(cells: &Cells, effects: &[Effect]) -> bool
-    ensures { result ≡ true → AreOn (length cells.now) (map effect_of effects.now) }
-{
-    match effects {
-        [] => true,
-        [first, rest @ ..] => are_on(cells, rest) && (cell_in(first) as usize) < cells.len(),
-    }
-}
-
 // Whether the effects, all of them on cells, hold.
 fn hold(cells: &Cells, effects: &[Effect]) -> Result<bool, Fail> {
-    if !are_on(cells, effects) {
+    if !cells.are_on(effects) {
         return Err(Fail::from("no such cell"));
     }
     Ok(cells.holds(effects))
@@ -164,7 +139,7 @@ fn an_add_holds_over_other_numbers(rt: HostRuntime) -> Result<(), Fail> {
 fn behind_a_purchase(alloc: Global, text: &str) -> Result<Cells, Fail> {
     let mut cells = Cells::of(alloc, data(alloc, text)?.as_slice())?;
     let effects = purchase(alloc)?;
-    if !are_on(&cells, effects.as_slice()) {
+    if !cells.are_on(effects.as_slice()) {
         return Err(Fail::from("no such cell"));
     }
     cells.commit(alloc, effects.as_slice())?;
