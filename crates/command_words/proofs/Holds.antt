@@ -21,15 +21,17 @@ use Rattle.clap.specs.declared.error.kind.ErrorKind.TheVariants.{MissingRequired
 use Rattle.clap.proofs.OnLiterals.{clap_on_literals}
 use Rattle.clap.proofs.ValueTestLemmas.{accepts-Accepts}
 use Rattle.command_words.specs.App.{app, check_shape, play_shape, serve_shape}
-use Rattle.command_words.specs.Options.{Item, connections, fuel, instances, life, pages, port}
-use Rattle.command_words.specs.Plain.{AreInRange, Asked, CanServe, IsInRange, check, play, serve}
-use Rattle.command_words.specs.Reads.{HoldsAsked, HoldsChoices, HoldsFor, HoldsNumber, HoldsServing, asked_as, asked_from, choices_at, for_check, for_play, for_serve, number_at, serving_at}
+use Rattle.server_limits.specs.Limits.{most_connections, most_fuel, most_instances, most_life, most_pages}
+use Rattle.command_words.specs.Options.{Item, Kind, directory, flag, number, play_items, serve_items}
+use Rattle.command_words.specs.Plain.{AreInRange, CanServe, IsInRange}
+use Rattle.command_words.specs.Reads.{Holds, HoldsAs, HoldsAsked, HoldsFor, HoldsNumber, asked_as, asked_from, for_check, for_play, for_serve, number_at, options_at, service_at}
+use Rattle.command_words.specs.declared.Command.{Command}
+use Rattle.command_words.specs.declared.Command.TheVariants.{Check, Play, Serve}
 use Rattle.command_words.proofs.Found.{HasDefault}
-use Rattle.command_words.proofs.PlainWords.{Serves, play_serves, serve_default_connections, serve_serves}
 use Rattle.command_words.proofs.Rows.{filled_in, find_row, has_of, kept}
 use Rattle.command_words.proofs.Sound.{AllKnown, Level, Sound, find_all, good_row, level_sound, neither, sets_value, shows_help}
-use Rattle.command_words.proofs.Tables.{built_sub}
-use Rattle.command_words.proofs.Uses.{built_rule, value_fault}
+use Rattle.command_words.proofs.Tables.{IsIn, built_sub, has_default, play_in, serve_in}
+use Rattle.command_words.proofs.Uses.{Fits, built_rule, value_fault}
 
 -- ---- one value
 
@@ -83,25 +85,46 @@ default_row c before i text d = go (find_row i.name before) refl
     go None e = (_, filled_in c i.name before (built_rule i) text [] e (ap (λ n. bytes_eq n i.name) d.named.id ∙ d.own) (has_of (built_rule i).id before ∙ ap (λ n. is_some (find_row n before)) d.named.id ∙ ap is_some e) d.by_id d.defaults)
     go (Some r) e = (r, kept c i.name before r e)
 
-by_default : (s : Shape) (words : List Text) (i : Item) (text : Text) → Level s words → HasDefault s.rules i text → Value (built_rule i) (rows_after s.rules [] words) i.name
-by_default s words i text l d =
-    let row = default_row s.rules l.before i text d in
-    value_of s.rules (built_rule i) (rows_after s.rules [] words) i.name row.0 l.sound (ap (find_row i.name) l.filled ∙ row.1) d.by_id d.named.reading
+-- the rows have a value for each option of the table, where those without a default are given
+value_in : (s : Shape) (table : List Item) (words : List Text) (i : Item) → Level s words → IsIn s.rules table i
+    → (i.default ≡ None → is_some (find_row i.name (rows_after s.rules [] words)) ≡ true) → Value (built_rule i) (rows_after s.rules [] words) i.name
+value_in s table words i l in_table there = by_row (row_of i.default refl)
+  where
+    by_row : (r : Row) × (find_row i.name (rows_after s.rules [] words) ≡ Some r) → Value (built_rule i) (rows_after s.rules [] words) i.name
+    by_row row = value_of s.rules (built_rule i) (rows_after s.rules [] words) i.name row.0 l.sound row.1 in_table.by_id in_table.named.reading
 
-choices_in : (s : Shape) (words : List Text) → Level s words → Serves s.rules → HoldsChoices (rows_after s.rules [] words)
-choices_in s words l d = record {
-  fuel = number_in (built_rule fuel) _ _ 1 10000000 refl (by_default s words fuel _ l d.fuel);
-  life = number_in (built_rule life) _ _ 1 2147483648 refl (by_default s words life _ l d.life);
-  instances = number_in (built_rule instances) _ _ 1 4096 refl (by_default s words instances _ l d.instances);
-  pages = number_in (built_rule pages) _ _ 1 1024 refl (by_default s words pages _ l d.pages);
-}
+    some_row : (o : Option Row) → is_some o ≡ true → (r : Row) × (o ≡ Some r)
+    some_row None e = cc
+    some_row (Some r) e = (r, refl)
+
+    row_of : (o : Option Text) → i.default ≡ o → (r : Row) × (find_row i.name (rows_after s.rules [] words) ≡ Some r)
+    row_of None e = some_row (find_row i.name (rows_after s.rules [] words)) (there e)
+    row_of (Some text) e =
+        let row = default_row s.rules l.before i text (has_default s.rules table i text in_table e) in
+        (row.0, ap (find_row i.name) l.filled ∙ row.1)
+
+holds_as : (kind : Kind) (c : List Rule) (a : Rule) (rows : List Row) (id : Text) → Fits c kind id a → Value a rows id → HoldsAs kind rows id
+holds_as (number low high) c a rows id fits v = number_in a rows id low high fits.1 v
+holds_as directory c a rows id fits v = (v.text, v.one)
+holds_as flag c a rows id fits v = (v.text, v.one)
+
+holds_each : (s : Shape) (whole table : List Item) (words : List Text) → Level s words → Each (IsIn s.rules whole) table
+    → Each (λ i. i.default ≡ None → is_some (find_row i.name (rows_after s.rules [] words)) ≡ true) table → Holds table (rows_after s.rules [] words)
+holds_each s whole [] words l all there = tt
+holds_each s whole (i ∷ table) words l all there = (
+  holds_as i.kind s.rules (built_rule i) (rows_after s.rules [] words) i.name all.0.fits (value_in s whole words i l all.0 there.0),
+  holds_each s whole table words l all.1 there.1,
+)
 
 play_known : AllKnown (built_sub play_shape).rules
 unfolding clap_on_literals
 play_known = (record { does = sets_value refl refl; by_id = refl }, (record { does = sets_value refl refl; by_id = refl }, (record { does = sets_value refl refl; by_id = refl }, (record { does = sets_value refl refl; by_id = refl }, (record { does = shows_help refl; by_id = refl }, tt)))))
 
 play_holds : (words : List Text) → level_fault (built_sub play_shape) [] nothing_held words false [] ≡ [] → HoldsFor (codes "play") (rows_after (built_sub play_shape).rules [] words)
-play_holds words fine = for_play refl (choices_in (built_sub play_shape) words (level_sound (built_sub play_shape) words refl play_known fine) play_serves)
+play_holds words fine =
+    for_play refl
+    (holds_each (built_sub play_shape) play_items play_items words (level_sound (built_sub play_shape) words refl play_known fine) play_in
+    (λ e. cc, (λ e. cc, (λ e. cc, (λ e. cc, tt)))))
 
 -- ---- `serve`
 
@@ -121,29 +144,21 @@ port_given rows e = go (is_given (codes "port") rows) refl
     go true given = refl
     go false given = let missing = no_port rows given in cc
 
-given_row : {X : Type 0} (p : X → Bool) (o : Option X) → option_map_or p o false ≡ true → (x : X) × (o ≡ Some x)
+given_row : (p : Row → Bool) (o : Option Row) → option_map_or p o false ≡ true → is_some o ≡ true
 given_row p None e = cc
-given_row p (Some x) e = (x, refl)
+given_row p (Some x) e = refl
 
-port_in : (words : List Text) → Level (built_sub serve_shape) words → HoldsNumber 0 65535 (rows_after (built_sub serve_shape).rules [] words) (codes "port")
+port_row : (rows : List Row) → check_fault (built_sub serve_shape) rows false ≡ [] → is_some (find_row (codes "port") rows) ≡ true
 unfolding clap_on_literals
-port_in words l =
-    let rows = rows_after (built_sub serve_shape).rules [] words in
-    let row = given_row _ (find_row (codes "port") rows) (port_given rows l.checked) in
-    number_in (built_rule port) rows (codes "port") 0 65535 refl (value_of (built_sub serve_shape).rules (built_rule port) rows (codes "port") row.0 l.sound row.1 refl refl)
-
-connections_in : (s : Shape) (words : List Text) → Level s words → HasDefault s.rules connections (codes "10000") → HoldsNumber 1 1000000 (rows_after s.rules [] words) (codes "connections")
-connections_in s words l d = number_in (built_rule connections) _ _ 1 1000000 refl (by_default s words connections _ l d)
-
-serve_level : (words : List Text) → Level (built_sub serve_shape) words → HoldsServing (rows_after (built_sub serve_shape).rules [] words)
-serve_level words l = record {
-  choices = choices_in (built_sub serve_shape) words l serve_serves;
-  port = port_in words l;
-  connections = connections_in (built_sub serve_shape) words l serve_default_connections;
-}
+port_row rows e = given_row _ (find_row (codes "port") rows) (port_given rows e)
 
 serve_holds : (words : List Text) → level_fault (built_sub serve_shape) [] nothing_held words false [] ≡ [] → HoldsFor (codes "serve") (rows_after (built_sub serve_shape).rules [] words)
-serve_holds words fine = for_serve refl (serve_level words (level_sound (built_sub serve_shape) words refl serve_known fine))
+serve_holds words fine =
+    let l = level_sound (built_sub serve_shape) words refl serve_known fine in
+    let port = port_row (rows_after (built_sub serve_shape).rules [] words) l.checked in
+    for_serve refl
+    (holds_each (built_sub serve_shape) serve_items serve_items words l serve_in
+    (λ e. cc, (λ e. cc, (λ e. cc, (λ e. cc, (λ e. port, (λ e. cc, tt)))))))
 
 -- ---- the command
 
@@ -191,32 +206,32 @@ holds words fine =
 number_range : (low high : ℕ) (rows : List Row) (id : Text) → HoldsNumber low high rows id → (low ≤ number_at rows id) × (number_at rows id ≤ high)
 number_range low high rows id h = rw h.1 (h.2.2, h.2.3)
 
-choices_range : (rows : List Row) → HoldsChoices rows → AreInRange (choices_at rows)
-choices_range rows h = record {
-  fuel = number_range 1 10000000 rows (codes "fuel") h.fuel;
-  life = number_range 1 2147483648 rows (codes "life") h.life;
-  instances = number_range 1 4096 rows (codes "instances") h.instances;
-  pages = number_range 1 1024 rows (codes "pages") h.pages;
+options_range : (rows : List Row) → Holds play_items rows → AreInRange (options_at rows)
+options_range rows h = record {
+  fuel = number_range 1 most_fuel rows (codes "fuel") h.0;
+  life = number_range 1 most_life rows (codes "life") h.1.0;
+  instances = number_range 1 most_instances rows (codes "instances") h.1.1.0;
+  pages = number_range 1 most_pages rows (codes "pages") h.1.1.1.0;
 }
 
-serving_range : (rows : List Row) → HoldsServing rows → CanServe (serving_at rows)
-serving_range rows h = record {
-  choices = choices_range rows h.choices;
-  port = (number_range 0 65535 rows (codes "port") h.port).1;
-  connections = number_range 1 1000000 rows (codes "connections") h.connections;
+service_range : (rows : List Row) → Holds serve_items rows → CanServe (service_at rows)
+service_range rows h = record {
+  options = options_range rows (h.0, (h.1.0, (h.1.1.0, (h.1.1.1.0, tt))));
+  port = (number_range 0 65535 rows (codes "port") h.1.1.1.1.0).1;
+  connections = number_range 1 most_connections rows (codes "connections") h.1.1.1.1.1.0;
 }
 
-for_range : (name : Text) (rows : List Row) (asked : Asked) → HoldsFor name rows → asked_as name rows ≡ Some asked → IsInRange asked
-for_range name rows asked (for_check is) e = subst IsInRange (same_some (asked_as name rows) check asked (ap (λ n. asked_as n rows) is) e) tt
-for_range name rows asked (for_play is h) e = subst IsInRange (same_some (asked_as name rows) (play (choices_at rows)) asked (ap (λ n. asked_as n rows) is) e) (choices_range rows h)
-for_range name rows asked (for_serve is h) e = subst IsInRange (same_some (asked_as name rows) (serve (serving_at rows)) asked (ap (λ n. asked_as n rows) is) e) (serving_range rows h)
+for_range : (name : Text) (rows : List Row) (asked : Command) → HoldsFor name rows → asked_as name rows ≡ Some asked → IsInRange asked
+for_range name rows asked (for_check is) e = subst IsInRange (same_some (asked_as name rows) Check asked (ap (λ n. asked_as n rows) is) e) tt
+for_range name rows asked (for_play is h) e = subst IsInRange (same_some (asked_as name rows) (Play (options_at rows)) asked (ap (λ n. asked_as n rows) is) e) (options_range rows h)
+for_range name rows asked (for_serve is h) e = subst IsInRange (same_some (asked_as name rows) (Serve (service_at rows)) asked (ap (λ n. asked_as n rows) is) e) (service_range rows h)
 
-in_range : (o : Option (Text × List Row)) (asked : Asked) → HoldsAsked o → asked_from o ≡ Some asked → IsInRange asked
+in_range : (o : Option (Text × List Row)) (asked : Command) → HoldsAsked o → asked_from o ≡ Some asked → IsInRange asked
 in_range None asked held e = absurd held
 in_range (Some p) asked held e = for_range p.0 p.1 asked held e
 
-pub ranges : (words : List Text) (asked : Asked) → HoldsAsked (subcommand_of app words) → asked_from (subcommand_of app words) ≡ Some asked → IsInRange asked
+pub ranges : (words : List Text) (asked : Command) → HoldsAsked (subcommand_of app words) → asked_from (subcommand_of app words) ≡ Some asked → IsInRange asked
 ranges words asked held e = in_range (subcommand_of app words) asked held e
 
-pub same_asked : (o : Option Asked) (a b : Asked) → o ≡ Some a → o ≡ Some b → a ≡ b
+pub same_asked : (o : Option Command) (a b : Command) → o ≡ Some a → o ≡ Some b → a ≡ b
 same_asked o a b e f = cc

@@ -1,6 +1,6 @@
 -- Plain words are taken, and mean what they say.
-use Rattle.std.proofs.Common.{◌≡◌, ◌∙◌, ◌||◌, ◌&&◌, ◌<◌, Bool, cond, true, false, not, refl, sym, ap, subst, List, [], ◌∷◌, ◌++◌, Option, Some, None, is_some, map, codes, arith, inl, inr, unwrap_or, ltb-true, nat_lt}
-use Rattle.std.specs.List.{AllByRecursion as Each, fold, list_all, list_any}
+use Rattle.std.proofs.Common.{◌≡◌, ◌∙◌, ◌||◌, ◌&&◌, ◌<◌, Bool, cond, true, false, not, refl, sym, ap, subst, List, [], ◌∷◌, Option, Some, None, is_some, map, codes, arith, inl, inr, unwrap_or, ltb-true}
+use Rattle.std.specs.List.{AllByRecursion as Each, fold, list_any}
 use Rattle.std.specs.Str.{bytes_eq}
 use Rattle.std.specs.Str.Parse.{IsNumeral, digits_value, without_leading_plus}
 use Rattle.std.proofs.lemmas.Fmt.{decimal_is_IsNumeral}
@@ -14,23 +14,19 @@ use Rattle.clap.proofs.OnLiterals.{clap_on_literals}
 use Rattle.command_words.specs.App.{app, play_shape, serve_shape}
 use Rattle.command_words.specs.Options.{ArePlain, IsOneOf, IsPlainText, Item, Kind, Setting, directory, flag, given, number, number_of, play_items, serve_items, spelled, text_of}
 use Rattle.command_words.specs.Options.{connections, fuel, instances, life, pages, port}
-use Rattle.command_words.specs.Plain.{ArePlainFor, Asked, Choices, IsPlain, Serving, check, chosen, play, serve, serving_chosen}
-use Rattle.command_words.specs.Reads.{asked_as, asked_from, choices_at, number_at, serving_at, value_number}
+use Rattle.command_words.specs.Plain.{ArePlainFor, IsPlain, chosen, service_chosen}
+use Rattle.command_words.specs.Reads.{asked_from, number_at, options_at, service_at, value_number}
+use Rattle.command_words.specs.declared.Command.{Command}
+use Rattle.command_words.specs.declared.Command.TheVariants.{Check, Play, Serve}
+use Rattle.command_words.specs.declared.Options.{Options}
+use Rattle.command_words.specs.declared.Service.{Service}
 use Rattle.command_words.proofs.Rows.{find_row}
 use Rattle.command_words.proofs.Uses.{IsFor, Stands, built_rule, no_plus, setting_row, settings_go}
-use Rattle.command_words.proofs.Found.{HasDefault, IsNamed, Tells, Told, given_tells, tells, tells_one}
-use Rattle.command_words.proofs.Tables.{FitsIn, at_item, built_sub, play_fits, serve_fits}
-use Rattle.command_words.proofs.Levels.{default_kinds, enters_play, enters_serve, entering, level_goes}
+use Rattle.command_words.proofs.Found.{IsNamed, Tells, given_tells, tells, tells_one}
+use Rattle.command_words.proofs.Tables.{IsIn, at_item, built_sub, has_default, is_number, is_numeric, play_in, serve_in}
+use Rattle.command_words.proofs.Levels.{Enters, default_kinds, enters_play, enters_serve, entering, level_goes}
 
 -- ---- the numbers
-
-abbrev is_number : Kind → Bool
-is_number (number low high) = nat_lt high 18446744073709551616
-is_number _ = false
-
--- each option of this name in the table takes a number
-abbrev is_numeric : Text → List Item → Bool
-is_numeric name table = list_all (λ i. not (bytes_eq i.name name) || is_number i.kind) table
 
 item_is_number : (name : Text) (table : List Item) (i : Item) → is_numeric name table ≡ true → IsOneOf i table → bytes_eq i.name name ≡ true → is_number i.kind ≡ true
 item_is_number name [] i all one own = absurd one
@@ -75,212 +71,143 @@ number_is i table set numeric known fit default = ap (digits_value 10) (go (give
     go None e = default
     go (Some t) e = no_plus t (given_numeral i.name table set t numeric known fit e)
 
--- ---- the options of `play`, which each command but `check` has
+abbrev ends_with : List Rule → List Setting → List Row
+ends_with c set = fold with_default (map setting_row set) c
 
--- what a command's rules give for the options that have a default
-pub record Serves (c : List Rule) : Type 0 where
-  pub fuel : HasDefault c fuel (codes "100000")
-  pub life : HasDefault c life (codes "3600")
-  pub instances : HasDefault c instances (codes "256")
-  pub pages : HasDefault c pages (codes "64")
+-- what the rows tell of an option of the table
+text_told : (c : List Rule) (table : List Item) (i : Item) (set : List Setting) → IsIn c table i → Each (λ t. IsNamed t.item) set
+    → (i.default ≡ None → is_some (given i.name set) ≡ true) → Tells (ends_with c set) i.name (text_of i set)
+text_told c table i set in_table named there = by_default i.default refl
+  where
+    by_given : (o : Option Text) → given i.name set ≡ o → is_some o ≡ true → Tells (ends_with c set) i.name (unwrap_or o (unwrap_or i.default []))
+    by_given None e some = cc
+    by_given (Some t) e some = (given_tells c [] i.name t set refl named e).tells
 
--- and the rows before those of the options
-pub record Before (rows : List Row) : Type 0 where
-  pub fuel : find_row (codes "fuel") rows ≡ None
-  pub life : find_row (codes "life") rows ≡ None
-  pub instances : find_row (codes "instances") rows ≡ None
-  pub pages : find_row (codes "pages") rows ≡ None
+    by_default : (o : Option Text) → i.default ≡ o → Tells (ends_with c set) i.name (text_of i set)
+    by_default None e = by_given (given i.name set) refl (there e)
+    by_default (Some text) e = tells c [] i text set refl named (has_default c table i text in_table e) e
 
--- and the table that the settings are from
-pub record Numeric (table : List Item) : Type 0 where
-  pub fuel : is_numeric (codes "fuel") table ≡ true
-  pub life : is_numeric (codes "life") table ≡ true
-  pub instances : is_numeric (codes "instances") table ≡ true
-  pub pages : is_numeric (codes "pages") table ≡ true
-
-abbrev ends_with : List Rule → List Row → List Setting → List Row
-ends_with c before set = fold with_default (before ++ map setting_row set) c
-
-number_told : (rows : List Row) (i : Item) (set : List Setting) → Tells rows i.name (text_of i set) → value_number (text_of i set) ≡ number_of i set → number_at rows i.name ≡ number_of i set
-number_told rows i set t e = ap (λ o. value_number (unwrap_or o [])) (tells_one rows i.name _ t) ∙ e
-
-choices_same : (a b : Choices) → a.fuel ≡ b.fuel → a.life ≡ b.life → a.instances ≡ b.instances → a.pages ≡ b.pages → a ≡ b
-choices_same a b f l i p = λ at. record { fuel = f at; life = l at; instances = i at; pages = p at }
-
-choices_told : (c : List Rule) (before : List Row) (table : List Item) (set : List Setting) → Serves c → Before before → Numeric table → Each (λ s. IsNamed s.item) set → ArePlain table set
-    → choices_at (ends_with c before set) ≡ chosen set
-choices_told c before table set d b n named p =
-    choices_same (choices_at (ends_with c before set)) (chosen set)
-    (number_told _ fuel set (tells c before fuel (codes "100000") set b.fuel named d.fuel refl) (number_is fuel table set n.fuel p.known p.fit refl))
-    (number_told _ life set (tells c before life (codes "3600") set b.life named d.life refl) (number_is life table set n.life p.known p.fit refl))
-    (number_told _ instances set (tells c before instances (codes "256") set b.instances named d.instances refl) (number_is instances table set n.instances p.known p.fit refl))
-    (number_told _ pages set (tells c before pages (codes "64") set b.pages named d.pages refl) (number_is pages table set n.pages p.known p.fit refl))
+number_told : (c : List Rule) (table : List Item) (i : Item) (set : List Setting) → IsIn c table i → is_number i.kind ≡ true → ArePlain table set
+    → Each (λ t. IsNamed t.item) set → (i.default ≡ None → is_some (given i.name set) ≡ true) → number_at (ends_with c set) i.name ≡ number_of i set
+number_told c table i set in_table numbers p named there =
+    ap (λ o. value_number (unwrap_or o [])) (tells_one _ i.name _ (text_told c table i set in_table named there))
+    ∙ number_is i table set (in_table.numeric ∙ numbers) p.known p.fit in_table.unsigned
 
 -- ---- what the tables give of the settings
 
-each_fits : (shape : Shape) (table : List Item) (set : List Setting) → Each (FitsIn shape) table → Each (λ s. IsOneOf s.item table) set → Each (λ t. FitsIn shape t.item) set
-each_fits shape table [] fits known = tt
-each_fits shape table (t ∷ rest) fits known = (at_item (FitsIn shape) table t.item fits known.0, each_fits shape table rest fits known.1)
+each_in : (P : Item → Type 0) (table : List Item) (set : List Setting) → Each P table → Each (λ s. IsOneOf s.item table) set → Each (λ t. P t.item) set
+each_in P table [] all known = tt
+each_in P table (t ∷ rest) all known = (at_item P table t.item all known.0, each_in P table rest all known.1)
 
-each_for : (shape : Shape) (set : List Setting) → Each (λ t. FitsIn shape t.item) set → Each (IsFor (built_sub shape)) set
-each_for shape [] fits = tt
-each_for shape (t ∷ rest) fits = (fits.0.0, each_for shape rest fits.1)
-
-each_named : (shape : Shape) (set : List Setting) → Each (λ t. FitsIn shape t.item) set → Each (λ t. IsNamed t.item) set
-each_named shape [] fits = tt
-each_named shape (t ∷ rest) fits = (fits.0.1, each_named shape rest fits.1)
-
-each_id : (set : List Setting) → Each (λ t. IsNamed t.item) set → Each (λ t. (built_rule t.item).id ≡ t.item.name) set
-each_id [] named = tt
-each_id (t ∷ rest) named = (named.0.id, each_id rest named.1)
-
-each_new : (rows : List Row) (table : List Item) (set : List Setting) → Each (λ i. find_row i.name rows ≡ None) table → Each (λ s. IsOneOf s.item table) set → Each (λ t. find_row t.item.name rows ≡ None) set
-each_new rows table [] new known = tt
-each_new rows table (t ∷ rest) new known = (at_item (λ i. find_row i.name rows ≡ None) table t.item new known.0, each_new rows table rest new known.1)
+each_to : {A : Type 0} (P Q : A → Type 0) (xs : List A) → ((x : A) → P x → Q x) → Each P xs → Each Q xs
+each_to P Q [] to all = tt
+each_to P Q (x ∷ xs) to all = (to x all.0, each_to P Q xs to all.1)
 
 required_there : (s : Shape) (rows : List Row) → Each (λ a. (a.required && not (is_given a.id rows)) ≡ false) s.rules → list_any (λ a. a.required && not (is_given a.id rows)) s.rules ≡ false
 required_there s rows e = list_any_none (λ (a : Rule). a.required && not (is_given a.id rows)) s.rules (All-from_recursion (λ (a : Rule). (a.required && not (is_given a.id rows)) ≡ false) s.rules e)
-
--- ---- `play`
-
-play_default_fuel : HasDefault (built_sub play_shape).rules fuel (codes "100000")
-unfolding clap_on_literals
-play_default_fuel = record { named = record { id = refl; reading = refl }; own = refl; by_id = refl; defaults = refl }
-
-play_default_life : HasDefault (built_sub play_shape).rules life (codes "3600")
-unfolding clap_on_literals
-play_default_life = record { named = record { id = refl; reading = refl }; own = refl; by_id = refl; defaults = refl }
-
-play_default_instances : HasDefault (built_sub play_shape).rules instances (codes "256")
-unfolding clap_on_literals
-play_default_instances = record { named = record { id = refl; reading = refl }; own = refl; by_id = refl; defaults = refl }
-
-play_default_pages : HasDefault (built_sub play_shape).rules pages (codes "64")
-unfolding clap_on_literals
-play_default_pages = record { named = record { id = refl; reading = refl }; own = refl; by_id = refl; defaults = refl }
-
-pub play_serves : Serves (built_sub play_shape).rules
-play_serves = record { fuel = play_default_fuel; life = play_default_life; instances = play_default_instances; pages = play_default_pages }
-
-play_defaults : Each (λ a. default_kinds (is_empty a.defaults) a ≡ []) (built_sub play_shape).rules
-unfolding clap_on_literals
-play_defaults = (refl, (refl, (refl, (refl, (refl, tt)))))
-
-nothing_before : Before []
-nothing_before = record { fuel = refl; life = refl; instances = refl; pages = refl }
-
-play_numeric : Numeric play_items
-play_numeric = record { fuel = refl; life = refl; instances = refl; pages = refl }
-
-at_start : (s : Shape) → Stands s nothing_held []
-at_start s = record { fine = refl; got = refl }
 
 none_yet : (set : List Setting) → Each (λ t. find_row t.item.name [] ≡ None) set
 none_yet [] = tt
 none_yet (t ∷ rest) = (refl, none_yet rest)
 
+-- plain options of a command's table are taken, and leave these rows
+command_goes : (name word : Text) (s : Shape) (table : List Item) (set : List Setting) → Enters word (built_sub s) → Each (IsIn (built_sub s).rules table) table → ArePlain table set
+    → Each (λ a. default_kinds (is_empty a.defaults) a ≡ []) (built_sub s).rules → Stands (built_sub s) nothing_held [] → check_fault (built_sub s) (ends_with (built_sub s).rules set) false ≡ []
+    → (fault_of app (name ∷ word ∷ spelled set) ≡ []) × (subcommand_of app (name ∷ word ∷ spelled set) ≡ Some (word, ends_with (built_sub s).rules set))
+command_goes name word s table set enters all p defaults at_start checked =
+    let settings = each_in (IsIn (built_sub s).rules table) table set all p.known in
+    let goes = settings_go (built_sub s) 1 nothing_held [] set (each_to _ (IsFor (built_sub s)) set (λ t x. x.fits) settings)
+    (each_to _ (λ t. (built_rule t.item).id ≡ t.item.name) set (λ t x. x.named.id) settings) p.fit p.once (none_yet set) at_start in
+    let level = level_goes (built_sub s) (spelled set) (map setting_row set) goes defaults checked in
+    let whole = entering name word (built_sub s) (spelled set) enters level.0 in
+    (whole.0, whole.1 ∙ ap (λ rows. Some (word, rows)) level.1)
+
+each_named : (c : List Rule) (table : List Item) (set : List Setting) → Each (IsIn c table) table → ArePlain table set → Each (λ t. IsNamed t.item) set
+each_named c table set all p = each_to _ (λ t. IsNamed t.item) set (λ t x. x.named) (each_in (IsIn c table) table set all p.known)
+
+options_same : (a b : Options) → a.fuel ≡ b.fuel → a.life ≡ b.life → a.instances ≡ b.instances → a.pages ≡ b.pages → a ≡ b
+options_same a b f l i p = λ at. record { fuel = f at; life = l at; instances = i at; pages = p at }
+
+-- the options that `play` and `serve` share
+options_told : (c : List Rule) (table : List Item) (set : List Setting) → Each (IsIn c table) play_items → ArePlain table set → Each (λ t. IsNamed t.item) set
+    → options_at (ends_with c set) ≡ chosen set
+options_told c table set shared p named =
+    options_same (options_at (ends_with c set)) (chosen set)
+    (number_told c table fuel set shared.0 refl p named (λ e. cc))
+    (number_told c table life set shared.1.0 refl p named (λ e. cc))
+    (number_told c table instances set shared.1.1.0 refl p named (λ e. cc))
+    (number_told c table pages set shared.1.1.1.0 refl p named (λ e. cc))
+
+-- ---- `check`
+
+check_means : (name : Text) → (fault_of app (name ∷ codes "check" ∷ []) ≡ []) × (asked_from (subcommand_of app (name ∷ codes "check" ∷ [])) ≡ Some Check)
+unfolding clap_on_literals
+check_means name = (refl, refl)
+
+-- ---- `play`
+
+play_defaults : Each (λ a. default_kinds (is_empty a.defaults) a ≡ []) (built_sub play_shape).rules
+unfolding clap_on_literals
+play_defaults = (refl, (refl, (refl, (refl, (refl, tt)))))
+
 play_checked : (rows : List Row) → check_fault (built_sub play_shape) rows false ≡ []
 unfolding clap_on_literals
 play_checked rows = refl
 
-pub play_means : (name : Text) (set : List Setting) → ArePlain play_items set
-    → (fault_of app (name ∷ codes "play" ∷ spelled set) ≡ []) × (asked_from (subcommand_of app (name ∷ codes "play" ∷ spelled set)) ≡ Some (play (chosen set)))
+play_means : (name : Text) (set : List Setting) → ArePlain play_items set
+    → (fault_of app (name ∷ codes "play" ∷ spelled set) ≡ []) × (asked_from (subcommand_of app (name ∷ codes "play" ∷ spelled set)) ≡ Some (Play (chosen set)))
 play_means name set p =
-    let fits = each_fits play_shape play_items set play_fits p.known in
-    let named = each_named play_shape set fits in
-    let goes = settings_go (built_sub play_shape) 1 nothing_held [] set (each_for play_shape set fits) (each_id set named) p.fit p.once (none_yet set) (at_start (built_sub play_shape)) in
-    let level = level_goes (built_sub play_shape) (spelled set) (map setting_row set) goes play_defaults (play_checked (ends_with (built_sub play_shape).rules [] set)) in
-    let all = entering name (codes "play") (built_sub play_shape) (spelled set) enters_play level.0 in (
-      all.0,
-      ap asked_from all.1 ∙ ap (asked_as (codes "play")) level.1
-          ∙ ap (λ k. Some (play k)) (choices_told (built_sub play_shape).rules [] play_items set play_serves nothing_before play_numeric named p),
-    )
-
-pub check_means : (name : Text) → (fault_of app (name ∷ codes "check" ∷ []) ≡ []) × (asked_from (subcommand_of app (name ∷ codes "check" ∷ [])) ≡ Some check)
-unfolding clap_on_literals
-check_means name = (refl, refl)
+    let rules = (built_sub play_shape).rules in
+    let goes = command_goes name (codes "play") play_shape play_items set enters_play play_in p play_defaults (record { fine = refl; got = refl }) (play_checked (ends_with rules set)) in
+    (goes.0, ap asked_from goes.1 ∙ ap (λ o. Some (Play o)) (options_told rules play_items set play_in p (each_named rules play_items set play_in p)))
 
 -- ---- `serve`
-
-serve_default_fuel : HasDefault (built_sub serve_shape).rules fuel (codes "100000")
-unfolding clap_on_literals
-serve_default_fuel = record { named = record { id = refl; reading = refl }; own = refl; by_id = refl; defaults = refl }
-
-serve_default_life : HasDefault (built_sub serve_shape).rules life (codes "3600")
-unfolding clap_on_literals
-serve_default_life = record { named = record { id = refl; reading = refl }; own = refl; by_id = refl; defaults = refl }
-
-serve_default_instances : HasDefault (built_sub serve_shape).rules instances (codes "256")
-unfolding clap_on_literals
-serve_default_instances = record { named = record { id = refl; reading = refl }; own = refl; by_id = refl; defaults = refl }
-
-serve_default_pages : HasDefault (built_sub serve_shape).rules pages (codes "64")
-unfolding clap_on_literals
-serve_default_pages = record { named = record { id = refl; reading = refl }; own = refl; by_id = refl; defaults = refl }
-
-pub serve_default_connections : HasDefault (built_sub serve_shape).rules connections (codes "10000")
-unfolding clap_on_literals
-serve_default_connections = record { named = record { id = refl; reading = refl }; own = refl; by_id = refl; defaults = refl }
-
-pub serve_serves : Serves (built_sub serve_shape).rules
-serve_serves = record { fuel = serve_default_fuel; life = serve_default_life; instances = serve_default_instances; pages = serve_default_pages }
 
 serve_defaults : Each (λ a. default_kinds (is_empty a.defaults) a ≡ []) (built_sub serve_shape).rules
 unfolding clap_on_literals
 serve_defaults = (refl, (refl, (refl, (refl, (refl, (refl, (refl, tt)))))))
 
-serve_numeric : Numeric serve_items
-serve_numeric = record { fuel = refl; life = refl; instances = refl; pages = refl }
-
 -- the port is what is required
-pub serve_checked : (rows : List Row) → is_given (codes "port") rows ≡ true → check_fault (built_sub serve_shape) rows false ≡ []
+serve_checked : (rows : List Row) → is_given (codes "port") rows ≡ true → check_fault (built_sub serve_shape) rows false ≡ []
 unfolding clap_on_literals
 serve_checked rows e = simp e
 
-told_given : (rows : List Row) (name text : Text) → Told rows name text → is_given name rows ≡ true
-told_given rows name text t = rw (t.tells.is, t.source) refl
-
--- the port as it is written
-port_told : (set : List Setting) → Each (λ s. IsNamed s.item) set → ArePlain serve_items set → Told (ends_with (built_sub serve_shape).rules [] set) (codes "port") (text_of port set)
-port_told set named p = go (given (codes "port") set) refl (p.there.1.1.1.1.0 refl)
+port_given : (set : List Setting) → Each (λ t. IsNamed t.item) set → ArePlain serve_items set → is_given (codes "port") (ends_with (built_sub serve_shape).rules set) ≡ true
+port_given set named p = by_given (given (codes "port") set) refl (p.there.1.1.1.1.0 refl)
   where
-    go : (o : Option Text) → given (codes "port") set ≡ o → is_some o ≡ true → Told (ends_with (built_sub serve_shape).rules [] set) (codes "port") (unwrap_or o [])
-    go None e there = cc
-    go (Some t) e there = given_tells (built_sub serve_shape).rules [] (codes "port") t set refl named e
+    by_given : (o : Option Text) → given (codes "port") set ≡ o → is_some o ≡ true → is_given (codes "port") (ends_with (built_sub serve_shape).rules set) ≡ true
+    by_given None e some = cc
+    by_given (Some t) e some = let told = given_tells (built_sub serve_shape).rules [] (codes "port") t set refl named e in rw (told.tells.is, told.source) refl
 
-serving_same : (a b : Serving) → a.choices ≡ b.choices → a.port ≡ b.port → a.connections ≡ b.connections → a ≡ b
-serving_same a b c p n = λ at. record { choices = c at; port = p at; connections = n at }
+service_same : (a b : Service) → a.options ≡ b.options → a.port ≡ b.port → a.connections ≡ b.connections → a ≡ b
+service_same a b o p n = λ at. record { options = o at; port = p at; connections = n at }
 
-serving_told : (set : List Setting) → Each (λ s. IsNamed s.item) set → ArePlain serve_items set → serving_at (ends_with (built_sub serve_shape).rules [] set) ≡ serving_chosen set
-serving_told set named p =
-    serving_same (serving_at (ends_with (built_sub serve_shape).rules [] set)) (serving_chosen set)
-    (choices_told (built_sub serve_shape).rules [] serve_items set serve_serves nothing_before serve_numeric named p)
-    (number_told _ port set (port_told set named p).tells (number_is port serve_items set refl p.known p.fit refl))
-    (number_told _ connections set (tells (built_sub serve_shape).rules [] connections (codes "10000") set refl named serve_default_connections refl) (number_is connections serve_items set refl p.known p.fit refl))
-
-pub serve_means : (name : Text) (set : List Setting) → ArePlain serve_items set
-    → (fault_of app (name ∷ codes "serve" ∷ spelled set) ≡ []) × (asked_from (subcommand_of app (name ∷ codes "serve" ∷ spelled set)) ≡ Some (serve (serving_chosen set)))
+serve_means : (name : Text) (set : List Setting) → ArePlain serve_items set
+    → (fault_of app (name ∷ codes "serve" ∷ spelled set) ≡ []) × (asked_from (subcommand_of app (name ∷ codes "serve" ∷ spelled set)) ≡ Some (Serve (service_chosen set)))
 serve_means name set p =
-    let fits = each_fits serve_shape serve_items set serve_fits p.known in
-    let named = each_named serve_shape set fits in
-    let goes = settings_go (built_sub serve_shape) 1 nothing_held [] set (each_for serve_shape set fits) (each_id set named) p.fit p.once (none_yet set) (at_start (built_sub serve_shape)) in
-    let given = told_given _ (codes "port") _ (port_told set named p) in
-    let level = level_goes (built_sub serve_shape) (spelled set) (map setting_row set) goes serve_defaults (serve_checked (ends_with (built_sub serve_shape).rules [] set) given) in
-    let all = entering name (codes "serve") (built_sub serve_shape) (spelled set) enters_serve level.0 in (
-      all.0,
-      ap asked_from all.1 ∙ ap (asked_as (codes "serve")) level.1 ∙ ap (λ k. Some (serve k)) (serving_told set named p),
-    )
+    let rules = (built_sub serve_shape).rules in
+    let named = each_named rules serve_items set serve_in p in
+    let goes = command_goes name (codes "serve") serve_shape serve_items set enters_serve serve_in p serve_defaults (record { fine = refl; got = refl })
+    (serve_checked (ends_with rules set) (port_given set named p)) in
+    let shared : Each (IsIn rules serve_items) play_items = (serve_in.0, (serve_in.1.0, (serve_in.1.1.0, (serve_in.1.1.1.0, tt)))) in
+    let told = service_same (service_at (ends_with rules set)) (service_chosen set) (options_told rules serve_items set shared p named)
+    (number_told rules serve_items port set serve_in.1.1.1.1.0 refl p named p.there.1.1.1.1.0)
+    (number_told rules serve_items connections set serve_in.1.1.1.1.1.0 refl p named (λ e. cc)) in
+    (goes.0, ap asked_from goes.1 ∙ ap (λ v. Some (Serve v)) told)
 
 -- ---- all
 
-pub plain_means : (words : List Text) (asked : Asked) → IsPlain words asked → (fault_of app words ≡ []) × (asked_from (subcommand_of app words) ≡ Some asked)
-plain_means words asked p = subst (λ w. (fault_of app w ≡ []) × (asked_from (subcommand_of app w) ≡ Some asked)) (sym p.2) (go p.1 asked p.3)
+abbrev Means : List Text → Command → Type 0
+Means words asked = (fault_of app words ≡ []) × (asked_from (subcommand_of app words) ≡ Some asked)
+
+pub plain_means : (words : List Text) (asked : Command) → IsPlain words asked → Means words asked
+plain_means words asked p = subst (λ w. Means w asked) (sym p.2) (go p.1 asked p.3)
   where
-    go : (after : List Text) (asked : Asked) → ArePlainFor after asked → (fault_of app (p.0 ∷ after) ≡ []) × (asked_from (subcommand_of app (p.0 ∷ after)) ≡ Some asked)
-    go after check q = subst (λ a. (fault_of app (p.0 ∷ a) ≡ []) × (asked_from (subcommand_of app (p.0 ∷ a)) ≡ Some check)) (sym q) (check_means p.0)
-    go after (play c) q =
-        subst (λ a. (fault_of app (p.0 ∷ a) ≡ []) × (asked_from (subcommand_of app (p.0 ∷ a)) ≡ Some (play c))) (sym q.1)
-        (subst (λ k. (fault_of app (p.0 ∷ codes "play" ∷ spelled q.0) ≡ []) × (asked_from (subcommand_of app (p.0 ∷ codes "play" ∷ spelled q.0)) ≡ Some (play k))) (sym q.3) (play_means p.0 q.0 q.2))
-    go after (serve v) q =
-        subst (λ a. (fault_of app (p.0 ∷ a) ≡ []) × (asked_from (subcommand_of app (p.0 ∷ a)) ≡ Some (serve v))) (sym q.1)
-        (subst (λ k. (fault_of app (p.0 ∷ codes "serve" ∷ spelled q.0) ≡ []) × (asked_from (subcommand_of app (p.0 ∷ codes "serve" ∷ spelled q.0)) ≡ Some (serve k))) (sym q.3) (serve_means p.0 q.0 q.2))
+    go : (after : List Text) (asked : Command) → ArePlainFor after asked → Means (p.0 ∷ after) asked
+    go after Check q = subst (λ a. Means (p.0 ∷ a) Check) (sym q) (check_means p.0)
+    go after (Play o) q =
+        subst (λ a. Means (p.0 ∷ a) (Play o)) (sym q.1)
+        (subst (λ k. Means (p.0 ∷ codes "play" ∷ spelled q.0) (Play k)) (sym q.3) (play_means p.0 q.0 q.2))
+    go after (Serve v) q =
+        subst (λ a. Means (p.0 ∷ a) (Serve v)) (sym q.1)
+        (subst (λ k. Means (p.0 ∷ codes "serve" ∷ spelled q.0) (Serve k)) (sym q.3) (serve_means p.0 q.0 q.2))

@@ -4,6 +4,7 @@ use Rattle.std.specs.List.{AllByRecursion as Each}
 use Rattle.std.specs.Fmt.{decimal}
 use Rattle.std.specs.Str.{bytes_eq}
 use Rattle.std.specs.Str.Parse.{digits_value}
+use Rattle.server_limits.specs.Limits.{most_connections, most_fuel, most_instances, most_life, most_pages}
 
 abbrev pub Text : Type 0
 Text = List ℕ
@@ -21,22 +22,22 @@ pub record Item : Type 0 where
   pub default : Option Text
 
 abbrev pub fuel : Item
-fuel = record { name = codes "fuel"; kind = number 1 10000000; default = Some (codes "100000") }
+fuel = record { name = codes "fuel"; kind = number 1 most_fuel; default = Some (codes "100000") }
 
 abbrev pub life : Item
-life = record { name = codes "life"; kind = number 1 2147483648; default = Some (codes "3600") }
+life = record { name = codes "life"; kind = number 1 most_life; default = Some (codes "3600") }
 
 abbrev pub instances : Item
-instances = record { name = codes "instances"; kind = number 1 4096; default = Some (codes "256") }
+instances = record { name = codes "instances"; kind = number 1 most_instances; default = Some (codes "256") }
 
 abbrev pub pages : Item
-pages = record { name = codes "pages"; kind = number 1 1024; default = Some (codes "64") }
+pages = record { name = codes "pages"; kind = number 1 most_pages; default = Some (codes "64") }
 
 abbrev pub port : Item
 port = record { name = codes "port"; kind = number 0 65535; default = None }
 
 abbrev pub connections : Item
-connections = record { name = codes "connections"; kind = number 1 1000000; default = Some (codes "10000") }
+connections = record { name = codes "connections"; kind = number 1 most_connections; default = Some (codes "10000") }
 
 -- the options of `play`
 abbrev pub play_items : List Item

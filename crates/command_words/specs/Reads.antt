@@ -1,13 +1,17 @@
 -- What a parse found, as a command.
 use Rattle.std.specs.Prelude.{◌≡◌, ◌<◌, ℕ, List, [], codes, Option, Some, None, unwrap_or, option_and_then, if◌then◌else◌}
+use Rattle.std.specs.List.{AllByRecursion as Each}
 use Rattle.std.specs.Str.{bytes_eq}
 use Rattle.std.specs.Str.Parse.{digits_value, without_leading_plus}
 use Rattle.clap.specs.Values.{IsUnsignedIn}
 use Rattle.clap.specs.Walk.{Row, one_of, rows_of}
 use Rattle.clap.specs.Matches.{found_of}
 use Rattle.clap.specs.declared.parser.matches.ArgMatches.{ArgMatches}
-use Rattle.command_words.specs.Options.{Text}
-use Rattle.command_words.specs.Plain.{Asked, Choices, Serving, check, play, serve}
+use Rattle.command_words.specs.Options.{Item, Kind, Text, directory, flag, number, play_items, serve_items}
+use Rattle.command_words.specs.declared.Command.{Command}
+use Rattle.command_words.specs.declared.Command.TheVariants.{Check, Play, Serve}
+use Rattle.command_words.specs.declared.Options.{Options}
+use Rattle.command_words.specs.declared.Service.{Service}
 
 abbrev pub rows_in : ArgMatches → List Row
 rows_in m = rows_of (found_of m)
@@ -19,30 +23,30 @@ value_number text = digits_value 10 (without_leading_plus text)
 abbrev pub number_at : List Row → Text → ℕ
 number_at rows id = value_number (unwrap_or (one_of id rows) [])
 
-abbrev pub choices_at : List Row → Choices
-choices_at rows = record {
+abbrev pub options_at : List Row → Options
+options_at rows = record {
   fuel = number_at rows (codes "fuel");
   life = number_at rows (codes "life");
   instances = number_at rows (codes "instances");
   pages = number_at rows (codes "pages");
 }
 
-abbrev pub serving_at : List Row → Serving
-serving_at rows = record {
-  choices = choices_at rows;
+abbrev pub service_at : List Row → Service
+service_at rows = record {
+  options = options_at rows;
   port = number_at rows (codes "port");
   connections = number_at rows (codes "connections");
 }
 
 -- the command of this name, with the values in its rows
-abbrev pub asked_as : Text → List Row → Option Asked
+abbrev pub asked_as : Text → List Row → Option Command
 asked_as name rows =
-    if bytes_eq name (codes "check") then Some check
-    else (if bytes_eq name (codes "play") then Some (play (choices_at rows))
-    else (if bytes_eq name (codes "serve") then Some (serve (serving_at rows))
+    if bytes_eq name (codes "check") then Some Check
+    else (if bytes_eq name (codes "play") then Some (Play (options_at rows))
+    else (if bytes_eq name (codes "serve") then Some (Serve (service_at rows))
     else None))
 
-abbrev pub asked_from : Option (Text × List Row) → Option Asked
+abbrev pub asked_from : Option (Text × List Row) → Option Command
 asked_from = option_and_then (λ p. asked_as p.0 p.1)
 
 -- ---- what the rows hold
@@ -51,22 +55,21 @@ asked_from = option_and_then (λ p. asked_as p.0 p.1)
 abbrev pub HoldsNumber : ℕ → ℕ → List Row → Text → Type 0
 HoldsNumber low high rows id = (t : Text) × (one_of id rows ≡ Some t) × IsUnsignedIn low high t
 
-pub record HoldsChoices (rows : List Row) : Type 0 where
-  pub fuel : HoldsNumber 1 10000000 rows (codes "fuel")
-  pub life : HoldsNumber 1 2147483648 rows (codes "life")
-  pub instances : HoldsNumber 1 4096 rows (codes "instances")
-  pub pages : HoldsNumber 1 1024 rows (codes "pages")
+-- a value that the option takes
+abbrev pub HoldsAs : Kind → List Row → Text → Type 0
+HoldsAs (number low high) rows id = HoldsNumber low high rows id
+HoldsAs directory rows id = (t : Text) × (one_of id rows ≡ Some t)
+HoldsAs flag rows id = (t : Text) × (one_of id rows ≡ Some t)
 
-pub record HoldsServing (rows : List Row) : Type 0 where
-  pub choices : HoldsChoices rows
-  pub port : HoldsNumber 0 65535 rows (codes "port")
-  pub connections : HoldsNumber 1 1000000 rows (codes "connections")
+-- a value for each option of the table
+abbrev pub Holds : List Item → List Row → Type 0
+Holds table rows = Each (λ i. HoldsAs i.kind rows i.name) table
 
 -- the rows are of one of the commands, with each value that it needs
 pub data HoldsFor (name : Text) (rows : List Row) : Type 0 where
   for_check : name ≡ codes "check" → HoldsFor name rows
-  for_play : name ≡ codes "play" → HoldsChoices rows → HoldsFor name rows
-  for_serve : name ≡ codes "serve" → HoldsServing rows → HoldsFor name rows
+  for_play : name ≡ codes "play" → Holds play_items rows → HoldsFor name rows
+  for_serve : name ≡ codes "serve" → Holds serve_items rows → HoldsFor name rows
 
 abbrev pub HoldsAsked : Option (Text × List Row) → Type 0
 HoldsAsked None = ⊥
@@ -77,5 +80,5 @@ abbrev pub HoldsNoNumber : ℕ → List Row → Text → Type 0
 HoldsNoNumber bound rows id = (low high : ℕ) → high < bound → HoldsNumber low high rows id → ⊥
 
 -- rows that ask for something ask for just this
-abbrev pub AsksFor : Option (Text × List Row) → Asked → Type 0
+abbrev pub AsksFor : Option (Text × List Row) → Command → Type 0
 AsksFor rows asked = HoldsAsked rows → asked_from rows ≡ Some asked

@@ -8,26 +8,28 @@ ghost use Rattle.clap.specs.Faults.{fault_of};
 ghost use Rattle.clap.specs.Walk.{rule_of};
 ghost use Rattle.clap.specs.declared.builder.command.Command.TheViews.{out-Command as fields_of};
 ghost use Rattle.command_words.specs.App.{app, bare_top, play_shape, rule_for, serve_shape, texts, value_rule, with_rules};
-ghost use Rattle.command_words.specs.Options.{connections, fuel, instances, life, pages, play_items, port};
-ghost use Rattle.command_words.specs.Plain.{Asked, IsInRange, IsPlain, asked_by, choices_in, serving_in};
-ghost use Rattle.command_words.specs.Reads.{AsksFor, HoldsAsked, HoldsChoices, HoldsNoNumber, HoldsServing, asked_from, choices_at, number_at, rows_in, serving_at};
+ghost use Rattle.command_words.specs.Options.{connections, fuel, instances, life, pages, play_items, port, serve_items};
+ghost use Rattle.command_words.specs.Plain.{IsInRange, IsPlain};
+ghost use Rattle.command_words.specs.Reads.{AsksFor, Holds, HoldsAsked, HoldsNoNumber, asked_from, options_at, number_at, rows_in, service_at};
+ghost use Rattle.command_words.specs.declared.Command.{Command};
 
 use clap::builder::ValueParser;
 use clap::error::ErrorKind;
 use clap::{Arg, ArgAction, ArgMatches, value_parser};
+use server_limits::{MOST_CONNECTIONS, MOST_FUEL, MOST_INSTANCES, MOST_LIFE, MOST_PAGES};
 use std::alloc::{AllocError, Global};
 use thiserror::Error;
 
 /// What the options that `play` and `serve` share say, each in its range.
 #[derive(Clone, Copy, Debug, PartialEq, Eq)]
 pub struct Options {
-    /// The most that a segment may cost, 1 to 10,000,000.
+    /// The most that a segment may cost, 1 to `MOST_FUEL`.
     pub fuel: u64,
-    /// How long a page can be answered, 1 to 2,147,483,648 seconds.
+    /// How long a page can be answered, 1 to `MOST_LIFE` seconds.
     pub life: u64,
-    /// The most live instances of a shelf, 1 to 4,096.
+    /// The most live instances of a shelf, 1 to `MOST_INSTANCES`.
     pub instances: u32,
-    /// The most pages of an instance, 1 to 1,024.
+    /// The most pages of an instance, 1 to `MOST_PAGES`.
     pub pages: u32,
 }
 
@@ -38,7 +40,7 @@ pub struct Service {
     pub options: Options,
     /// The port to listen at, 0 to 65,535. At 0 the machine chooses one.
     pub port: u16,
-    /// The most links that are served, 1 to 1,000,000.
+    /// The most links that are served, 1 to `MOST_CONNECTIONS`.
     pub connections: u64,
 }
 
@@ -90,7 +92,12 @@ fn fuel_arg<'a>(alloc: Global) -> Arg<'a>
     ensures rule { rule_of result ≡ rule_for fuel }
     ensures local { result.global ≡ false }
 {
-    value_arg(alloc, "fuel", value_parser!(u64).range(1..=10_000_000)).default_value("100000")
+    value_arg(
+        alloc,
+        "fuel",
+        value_parser!(u64).range(1..=MOST_FUEL as i64),
+    )
+    .default_value("100000")
 }
 
 /// `--life SECONDS`
@@ -98,7 +105,12 @@ fn life_arg<'a>(alloc: Global) -> Arg<'a>
     ensures rule { rule_of result ≡ rule_for life }
     ensures local { result.global ≡ false }
 {
-    value_arg(alloc, "life", value_parser!(u64).range(1..=2_147_483_648)).default_value("3600")
+    value_arg(
+        alloc,
+        "life",
+        value_parser!(u64).range(1..=MOST_LIFE as i64),
+    )
+    .default_value("3600")
 }
 
 /// `--instances N`
@@ -106,7 +118,12 @@ fn instances_arg<'a>(alloc: Global) -> Arg<'a>
     ensures rule { rule_of result ≡ rule_for instances }
     ensures local { result.global ≡ false }
 {
-    value_arg(alloc, "instances", value_parser!(u64).range(1..=4096)).default_value("256")
+    value_arg(
+        alloc,
+        "instances",
+        value_parser!(u64).range(1..=MOST_INSTANCES as i64),
+    )
+    .default_value("256")
 }
 
 /// `--pages N`
@@ -114,7 +131,12 @@ fn pages_arg<'a>(alloc: Global) -> Arg<'a>
     ensures rule { rule_of result ≡ rule_for pages }
     ensures local { result.global ≡ false }
 {
-    value_arg(alloc, "pages", value_parser!(u64).range(1..=1024)).default_value("64")
+    value_arg(
+        alloc,
+        "pages",
+        value_parser!(u64).range(1..=MOST_PAGES as i64),
+    )
+    .default_value("64")
 }
 
 /// `--port N`
@@ -133,7 +155,7 @@ fn connections_arg<'a>(alloc: Global) -> Arg<'a>
     value_arg(
         alloc,
         "connections",
-        value_parser!(u64).range(1..=1_000_000),
+        value_parser!(u64).range(1..=MOST_CONNECTIONS as i64),
     )
     .default_value("10000")
 }
@@ -226,8 +248,8 @@ fn number(matches: &ArgMatches<'_>, id: &str) -> Result<u64, WordsFault>
 }
 
 fn options_of(alloc: Global, matches: &ArgMatches<'_>) -> Result<Options, WordsFault>
-    ensures value { IfOk result (λ o. choices_in o ≡ choices_at (rows_in matches.now)) }
-    ensures refused { result ≡ Err WordsFault.Usage → HoldsChoices (rows_in matches.now) → ⊥ }
+    ensures value { IfOk result (λ o. o ≡ options_at (rows_in matches.now)) }
+    ensures refused { result ≡ Err WordsFault.Usage → Holds play_items (rows_in matches.now) → ⊥ }
 {
     Ok(Options {
         fuel: number(matches, "fuel")?,
@@ -238,8 +260,8 @@ fn options_of(alloc: Global, matches: &ArgMatches<'_>) -> Result<Options, WordsF
 }
 
 fn service_of(alloc: Global, matches: &ArgMatches<'_>) -> Result<Service, WordsFault>
-    ensures value { IfOk result (λ s. serving_in s ≡ serving_at (rows_in matches.now)) }
-    ensures refused { result ≡ Err WordsFault.Usage → HoldsServing (rows_in matches.now) → ⊥ }
+    ensures value { IfOk result (λ s. s ≡ service_at (rows_in matches.now)) }
+    ensures refused { result ≡ Err WordsFault.Usage → Holds serve_items (rows_in matches.now) → ⊥ }
 {
     Ok(Service {
         options: options_of(alloc, matches)?,
@@ -249,7 +271,7 @@ fn service_of(alloc: Global, matches: &ArgMatches<'_>) -> Result<Service, WordsF
 }
 
 fn command_of(alloc: Global, matches: &ArgMatches<'_>) -> Result<Command, WordsFault>
-    ensures value { IfOk result (λ k. AsksFor (subcommand_rows_of matches.now) (asked_by k)) }
+    ensures value { IfOk result (λ k. AsksFor (subcommand_rows_of matches.now) k) }
     ensures refused { result ≡ Err WordsFault.Usage → HoldsAsked (subcommand_rows_of matches.now) → ⊥ }
 {
     let Some((name, inner)) = matches.subcommand() else {
@@ -267,10 +289,10 @@ fn command_of(alloc: Global, matches: &ArgMatches<'_>) -> Result<Command, WordsF
 pub fn read_words<'a>(alloc: Global, words: &'a [&'a str]) -> Result<Command, WordsFault>
     ensures usage { result ≡ Err WordsFault.Usage → fault_of app (texts words.entry.now) ≢ [] }
     ensures fine { IfOk result (λ k. fault_of app (texts words.entry.now) ≡ []) }
-    ensures found { IfOk result (λ k. asked_from (subcommand_of app (texts words.entry.now)) ≡ Some (asked_by k)) }
-    ensures in_range { IfOk result (λ k. IsInRange (asked_by k)) }
-    ensures complete { (asked : Asked) → IsPlain (texts words.entry.now) asked → result ≢ Err WordsFault.Usage }
-    ensures plain { (asked : Asked) → IsPlain (texts words.entry.now) asked → IfOk result (λ k. asked_by k ≡ asked) }
+    ensures found { IfOk result (λ k. asked_from (subcommand_of app (texts words.entry.now)) ≡ Some k) }
+    ensures in_range { IfOk result (λ k. IsInRange k) }
+    ensures complete { (asked : Command) → IsPlain (texts words.entry.now) asked → result ≢ Err WordsFault.Usage }
+    ensures plain { (asked : Command) → IsPlain (texts words.entry.now) asked → IfOk result (λ k. k ≡ asked) }
 {
     let matches = matches_of(alloc, words)?;
     command_of(alloc, &matches)

@@ -10,7 +10,7 @@ use Rattle.core_syntax.specs.declared.nodes.LayFault.TheVariants.{Memory, TooMan
 use Rattle.script_nodes.specs.declared.script.Node.{Node}
 use Rattle.script_nodes.specs.declared.script.Node.TheVariants as node
 use Rattle.script_nodes.specs.Core.{Core, Cores, bind, branch, seq, no_cores, cores_of, count, count_all, height, height_all}
-use Rattle.core_syntax.specs.Layout.{layout, layout_all, starts, value_from}
+use Rattle.script_nodes.specs.Layout.{layout, layout_all, starts, value_from}
 use Rattle.core_syntax.specs.Laid.{Lacks, Stands, StandAll, Lays, LaysAll}
 
 pub value_from-meaning : (v : Value) → value_from (meaning v) ≡ v

@@ -4,8 +4,8 @@ use Rattle.std.specs.Coded.{Coded, coded_list, code_by}
 use Rattle.script_nodes.specs.declared.script.Node.{Node}
 use Rattle.script_nodes.specs.Core.{Core}
 use Rattle.script_nodes.specs.Arena.{tree_at}
-use Rattle.core_syntax.specs.Layout.{layout}
-use Rattle.core_syntax.specs.Readings.{tree_at-layout}
+use Rattle.script_nodes.specs.Layout.{layout}
+use Rattle.script_nodes.specs.Readings.{tree_at-layout}
 
 abbrev pub core_code : Coded Node → Coded Core
 core_code c = code_by (List Node) (coded_list c) (layout 0) (λ nodes. tree_at nodes 0) tree_at-layout

@@ -1,11 +1,16 @@
 -- Nodes that were put behind others.
 use Rattle.std.specs.Prelude.{◌≡◌, ℕ, ◌+◌, ◌<◌, ◌≤◌, List, ◌++◌, length, Result, Ok, Err, ⊤}
 use Rattle.script_nodes.specs.declared.script.Node.{Node}
+use Rattle.script_nodes.specs.declared.script.Node.TheVariants as node
+use Rattle.core_syntax.specs.declared.heads.LastPage.{LastPage}
+use Rattle.core_syntax.specs.declared.heads.LastPage.TheVariants.{Finish, Back}
+use Rattle.core_syntax.specs.declared.heads.Store.{Store}
+use Rattle.core_syntax.specs.declared.heads.Store.TheVariants.{Shadow, Set, Add}
 use Rattle.core_syntax.specs.declared.nodes.LayFault.{LayFault}
 use Rattle.core_syntax.specs.declared.nodes.LayFault.TheVariants.{Memory, TooMany}
 use Rattle.core_syntax.specs.Limits.{most_nodes}
 use Rattle.script_nodes.specs.Core.{Core, Cores, count, count_all, height, height_all}
-use Rattle.core_syntax.specs.Layout.{layout, layout_all, starts}
+use Rattle.script_nodes.specs.Layout.{layout, layout_all, starts}
 
 -- so many more nodes are too many behind these, or they nest deeper than `left`
 abbrev pub Lacks : (before left more high : ℕ) → Type 0
@@ -40,3 +45,13 @@ abbrev pub LaysAll : Result (List ℕ) LayFault → (old new : List Node) → (l
 LaysAll (Ok numbers) old new left cs = StandAll old new left numbers cs
 LaysAll (Err Memory) old new left cs = ⊤
 LaysAll (Err TooMany) old new left cs = Lacks (length old) left (count_all cs) (height_all cs)
+
+-- the nodes that send a last page, and that write a cell
+abbrev pub last_node : LastPage → ℕ → Node
+last_node Finish b = node.Finish b
+last_node Back b = node.Back b
+
+abbrev pub store_node : Store → ℕ → ℕ → Node
+store_node Shadow c e = node.CellShadow c e
+store_node Set c e = node.InstSet c e
+store_node Add c e = node.InstAdd c e

@@ -6,12 +6,13 @@ pub mod Shapes
 pub mod Templates
 pub mod Forms
 pub mod Filling
+pub mod Rows
+pub mod RowCores
+pub mod RowsSeen
+pub mod ReaderSeen
 pub mod Definitions
 pub mod DefinitionsSeen
-pub mod Layout
 pub mod Trees
-pub mod Layouts
-pub mod Readings
 pub mod CoreCode
 pub mod TreeFalls
 pub mod Vectors
@@ -19,5 +20,4 @@ pub mod VectorsOfScripts
 pub mod Gives
 pub mod Views
 pub mod Laid
-pub mod Closed
 pub mod Expands

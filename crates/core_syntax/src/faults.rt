@@ -101,3 +101,13 @@ impl<T: Drop> From<AllocFailed<T>> for ReadFault {
         ReadFault::Memory
     }
 }
+
+impl From<SyntaxKind> for ReadFault {
+    ghost use Rattle.core_syntax.specs.declared.faults.ReadFault.TheVariants.{Syntax};
+
+    ghost from_gives = { λ k e. e ≡ Syntax k };
+
+    fn from(kind: SyntaxKind) -> ReadFault {
+        ReadFault::Syntax(kind)
+    }
+}

@@ -6,8 +6,7 @@ ghost use Rattle.script_nodes.specs.Core.{lit, bind, seq, cores_of};
 ghost use Rattle.script_nodes.specs.Core as core;
 ghost use Rattle.core_syntax.specs.Forms as spec;
 ghost use Rattle.core_syntax.specs.Trees.{nested, chosen, pair_of};
-ghost use Rattle.core_syntax.specs.Laid.{Puts, Lays, LaysAll};
-ghost use Rattle.core_syntax.specs.Layout.{last_node, store_node};
+ghost use Rattle.core_syntax.specs.Laid.{Puts, Lays, LaysAll, last_node, store_node};
 ghost use Rattle.script_nodes.specs.declared.script.Node.TheVariants as node;
 
 use crate::heads::{CellKind, LastPage, Store};

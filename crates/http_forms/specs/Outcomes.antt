@@ -8,7 +8,12 @@ use Rattle.http_forms.specs.declared.refused.RequestFault.TheVariants.{Memory, R
 use Rattle.http_forms.specs.declared.request.Request.{Request}
 
 abbrev pub visit_in : Request → Outcome
-visit_in r = visits (option_map target_of r.target) (meaning r.answer)
+visit_in r = visits (record {
+  destination = option_map target_of r.target;
+  answer = meaning r.answer;
+  length = r.length;
+  closes = r.closes;
+})
 
 -- the answer is an outcome of this kind, unless memory ran out
 abbrev pub Tells : Result (Option Request) RequestFault → (Outcome → Type 0) → Type 0

@@ -2,8 +2,8 @@ ghost use Rattle.std.specs.Prelude.{◌≡◌, ◌<◌, ◌≤◌, ◌+◌, ◌^
 ghost use Rattle.web_disk.specs.View.{View, NoNewImage, Elapses};
 ghost use Rattle.page_journal.specs.Records.{stored};
 ghost use Rattle.page_journal.specs.Scanned.{IsQuiet};
-ghost use Rattle.page_journal.specs.Settled.{HasFailed, IsSettled, IsReady, IsSound, view_of, bodies_in, length_of};
-ghost use Rattle.page_journal.specs.Taken.{TakesAll};
+ghost use Rattle.page_journal.specs.Settled.{HasFailed, IsSettled, IsReady, IsSound, view_of, bodies_in, length_of, is_broken};
+ghost use Rattle.page_journal.specs.Taken.{TakesAll, TakesFront};
 ghost use Rattle.std.specs.declared.alloc.Global.{Global};
 
 use crate::Journal;
@@ -46,6 +46,7 @@ fn read_body<D: Disk>(
     requires inside { IsTrue D.tells → place + size ≤ length (D.view disk.old).seen }
     requires room { size ≤ vec_capacity buffer.old }
     ensures bytes { IsTrue D.tells → OnOk result (buffer.new.items ≡ take size (drop place (D.view disk.old).seen)) }
+    ensures size { OnOk result (length buffer.new.items ≡ size) }
     ensures capacity { vec_capacity buffer.old ≤ vec_capacity buffer.new }
     ensures quiet { IsQuiet (D.view disk.old) (D.view disk.new) }
     ensures cause { OnErr result (HasFailed (D.view disk.old) (D.view disk.new)) }
@@ -63,8 +64,11 @@ impl<D: Disk> Journal<D> {
         requires sound { IsSound self.old }
         requires settled { IsTrue D.tells → IsSettled D.view self.old }
         ensures taken { IsTrue D.tells → OnOk result (TakesAll T.takes taker.old 8 (bodies_in D.view self.old) taker.new) }
+        ensures front { IsTrue D.tells → TakesFront T.takes taker.old (bodies_in D.view self.old) taker.new }
+        ensures handed { (bodies : List (List ℕ)) × TakesAll T.takes taker.old 8 bodies taker.new }
         ensures quiet { IsQuiet (view_of D.view self.old) (view_of D.view self.new) }
         ensures len { length_of self.new ≡ length_of self.old }
+        ensures whole { is_broken self.new ≡ is_broken self.old }
         ensures sound { IsSound self.new }
         ensures settled { IsTrue D.tells → IsSettled D.view self.new }
         ensures cause { OnErr result (HasFailed (view_of D.view self.old) (view_of D.view self.new)) }
@@ -97,6 +101,7 @@ impl<D: Disk> Journal<D> {
         ensures settled { IsTrue D.tells → IsSettled D.view self.new }
         ensures ready { OnOk result (IsReady D.view self.new len) }
         ensures len { length_of self.new ≡ length_of self.old }
+        ensures whole { is_broken self.new ≡ is_broken self.old }
         ensures seen { (view_of D.view self.new).seen ≡ (view_of D.view self.old).seen }
         ensures images { NoNewImage (view_of D.view self.old) (view_of D.view self.new) }
         ensures time { Elapses (view_of D.view self.old) (view_of D.view self.new) }
@@ -117,6 +122,13 @@ impl<D: Disk> Journal<D> {
         self.end + 1
     }
 
+    /// How often a call of the disk has failed, up to the type's end.
+    pub fn faults(&self) -> u64
+        ensures { result ≡ (view_of D.view self.now).faults }
+    {
+        self.disk.faults()
+    }
+
     /// Gives back the disk.
     pub fn close(self) -> D
         ensures { result ≡ self.disk }
@@ -125,6 +137,7 @@ impl<D: Disk> Journal<D> {
             disk,
             end: _,
             buffer: _,
+            broken: _,
         } = self;
         disk
     }

@@ -1,4 +1,4 @@
-ghost use Rattle.std.specs.Prelude.{◌≡◌, ◌⊎◌, ◌*◌, ◌<◌, ◌≤◌, ◌+◌, ◌^◌, ◌++◌, [], ◌∷◌, List, ℕ, length, IsTrue, IfOk, OnOk, OnErr, IsErrOf, vec_capacity};
+ghost use Rattle.std.specs.Prelude.{◌≡◌, ◌⊎◌, ◌*◌, ◌<◌, ◌≤◌, ◌+◌, ◌^◌, ◌++◌, [], ◌∷◌, List, ℕ, length, true, false, IsTrue, IfOk, OnOk, OnErr, IsErrOf, vec_capacity};
 ghost use Rattle.web_disk.specs.View.{View, Only, LeavesOnly};
 ghost use Rattle.page_journal.specs.declared.journal.AppendFault.TheVariants.{DiskFault as AppendDiskFault};
 ghost use Rattle.page_journal.specs.Holding.{MayHold};
@@ -39,6 +39,8 @@ pub struct Journal<D: Disk> {
     pub(crate) end: u64,
     // Its room is enough for the longest record.
     pub(crate) buffer: Vec<u8>,
+    // A call of the disk failed in an append, so what a crash leaves is open.
+    pub(crate) broken: bool,
 }
 
 // Puts a record, without its gate, and a closed gate into the buffer.
@@ -62,16 +64,20 @@ fn frame(buffer: &mut Vec<u8>, body: &[u8])
 }
 
 impl<D: Disk> Journal<D> {
-    ghost use Rattle.page_journal.specs.Settled.{HasFailed, IsSettled, IsReady, IsSound, view_of, bodies_in, length_of, length_with};
+    ghost use Rattle.page_journal.specs.Settled.{HasFailed, IsSettled, IsReady, IsSound, view_of, bodies_in, length_of, length_with, is_broken};
 
-    /// Adds a record, for which `room` was made since the last one. From `Ok` on each crash leaves it there; after `DiskFault` a crash leaves it or does not, and the disk is begun again. It takes no memory.
+    /// Adds a record, for which `room` was made since the last one. From `Ok` on each crash leaves it there; after `DiskFault` a crash leaves it or does not, and no record is added until the disk is begun again. It takes no memory.
     pub fn append(&mut self, body: &[u8]) -> Result<(), AppendFault>
         requires sound { IsSound self.old }
         requires settled { IsTrue D.tells → IsSettled D.view self.old }
+        requires whole { is_broken self.old ≡ false }
         requires ready { IsReady D.view self.old (length body.now) }
 
         ensures sound { IsSound self.new }
+        ensures whole { OnOk result (is_broken self.new ≡ false) }
+        ensures broken { IsErrOf result AppendFault.DiskFault → is_broken self.new ≡ true }
         ensures len { OnOk result (length_of self.new ≡ length_with self.old body.now) }
+        ensures same_len { OnErr result (length_of self.new ≡ length_of self.old) }
         ensures ok { IsTrue D.tells → OnOk result (IsSettled D.view self.new
             × (bodies_in D.view self.new ≡ bodies_in D.view self.old ++ body.now ∷ [])) }
 
@@ -83,6 +89,7 @@ impl<D: Disk> Journal<D> {
             2 ^ 30 < len → (result ≡ Err (AppendFault.Full len)) × (self.new ≡ self.old) }
         ensures only_full { length_with self.old body.now ≤ 2 ^ 30 → OnErr result (result ≡ Err AppendFault.DiskFault) }
         ensures cause { IsErrOf result AppendFault.DiskFault → HasFailed (view_of D.view self.old) (view_of D.view self.new) }
+        ensures later { (view_of D.view self.old).faults ≤ (view_of D.view self.new).faults }
     {
         let gate = self.end;
         let len = gate + 6 + body.len() as u64;
@@ -90,11 +97,13 @@ impl<D: Disk> Journal<D> {
             return Err(AppendFault::Full { len });
         }
         frame(&mut self.buffer, body);
+        self.broken = true;
         self.disk.write_at(gate + 1, &self.buffer)?;
         self.disk.sync()?;
         self.disk.write_at(gate, &[1])?;
         self.disk.sync()?;
         self.end = len - 1;
+        self.broken = false;
         Ok(())
     }
 }

@@ -1,6 +1,6 @@
-ghost use Rattle.std.specs.Prelude.{◌≡◌, ◌≢◌, ◌⊎◌, ◌<◌, ◌≤◌, ◌+◌, ◌^◌, [], List, ℕ, length, IsTrue, IfOk, OnOk, OnErr, IsErrOf};
+ghost use Rattle.std.specs.Prelude.{false, ◌≡◌, ◌≢◌, ◌⊎◌, ◌<◌, ◌≤◌, ◌+◌, ◌^◌, [], List, ℕ, length, IsTrue, IfOk, OnOk, OnErr, IsErrOf};
 ghost use Rattle.web_disk.specs.View.{View, Only, LeavesOnly, NoNewImage};
-ghost use Rattle.page_journal.specs.Holding.{MayHoldNowAndThroughout, IsBeforeOrWith};
+ghost use Rattle.page_journal.specs.Holding.{MayHoldNowAndThroughout, ClosedNowAndThroughout, IsBeforeOrWith};
 ghost use Rattle.page_journal.specs.Records.{Damaged, Intact, records, at_rest, stored};
 ghost use Rattle.page_journal.specs.Scanned.{NoLonger};
 ghost use Rattle.page_journal.specs.Opened.{IsOpened, IsFault};
@@ -64,6 +64,8 @@ pub fn recover<D: Disk>(alloc: Global, disk: &mut D, len: u64) -> Result<Opening
     ensures refused { IsTrue D.tells → IsFault (D.view disk.old) (D.view disk.new) result }
     ensures cause { IsErrOf result JournalFault.DiskFault → HasFailed (D.view disk.old) (D.view disk.new) }
     ensures any_moment { IsTrue D.tells → MayHoldNowAndThroughout (D.view disk.old) (D.view disk.new) }
+    ensures closed_stays { IsTrue D.tells → ClosedNowAndThroughout (D.view disk.old) (D.view disk.new) }
+    ensures later { (D.view disk.old).faults ≤ (D.view disk.new).faults }
 {
     disk.sync()?;
     match read_gates(disk, len)? {
@@ -87,6 +89,8 @@ pub fn recover_or_create<D: Disk>(alloc: Global, disk: &mut D) -> Result<Opening
     ensures refused { IsTrue D.tells → IsFault (D.view disk.old) (D.view disk.new) result }
     ensures cause { IsErrOf result JournalFault.DiskFault → HasFailed (D.view disk.old) (D.view disk.new) }
     ensures any_moment { IsTrue D.tells → MayHoldNowAndThroughout (D.view disk.old) (D.view disk.new) }
+    ensures closed_stays { IsTrue D.tells → ClosedNowAndThroughout (D.view disk.old) (D.view disk.new) }
+    ensures later { (D.view disk.old).faults ≤ (D.view disk.new).faults }
 {
     let len = disk.len()?;
     disk.room(len.max(9))?;
@@ -101,12 +105,13 @@ pub fn recover_or_create<D: Disk>(alloc: Global, disk: &mut D) -> Result<Opening
 }
 
 impl<D: Disk> Journal<D> {
-    ghost use Rattle.page_journal.specs.Settled.{IsSettled, IsSound, view_of, bodies_in};
+    ghost use Rattle.page_journal.specs.Settled.{IsSettled, IsSound, view_of, bodies_in, is_broken};
     ghost use Rattle.page_journal.specs.Opened.{IsIntactOrEmpty, disk_of, fault_of};
 
     /// Opens the journal of a disk: an empty disk gets one without records, and of any other the records are read and the end is mended. A disk that is refused is handed back.
     pub fn begin(alloc: Global, disk: D) -> Result<Journal<D>, (JournalFault, D)>
         ensures sound { IfOk result (λ journal. IsSound journal) }
+        ensures whole { IfOk result (λ journal. is_broken journal ≡ false) }
         ensures settled { IsTrue D.tells → IfOk result (λ journal. IsSettled D.view journal) }
         ensures records { IsTrue D.tells → IfOk result (λ journal. bodies_in D.view journal ≡ stored (D.view disk).seen) }
         ensures before_or_with { IsTrue D.tells → IfOk result (λ journal. IsBeforeOrWith (D.view disk) (bodies_in D.view journal)) }
@@ -114,6 +119,8 @@ impl<D: Disk> Journal<D> {
         ensures refused { IsTrue D.tells → IsFault (D.view disk) (D.view (disk_of result)) (fault_of result) }
         ensures cause { IsErrOf (fault_of result) JournalFault.DiskFault → HasFailed (D.view disk) (D.view (disk_of result)) }
         ensures any_moment { IsTrue D.tells → MayHoldNowAndThroughout (D.view disk) (D.view (disk_of result)) }
+        ensures closed_stays { IsTrue D.tells → ClosedNowAndThroughout (D.view disk) (D.view (disk_of result)) }
+        ensures later { (D.view disk).faults ≤ (D.view (disk_of result)).faults }
     {
         let mut disk = disk;
         match recover_or_create(alloc, &mut disk) {
@@ -121,6 +128,7 @@ impl<D: Disk> Journal<D> {
                 disk,
                 end: opening.end,
                 buffer: opening.buffer,
+                broken: false,
             }),
             Err(fault) => Err((fault, disk)),
         }

@@ -12,7 +12,12 @@ how_of (Shows kind) = spec.shows kind
 how_of Finishes = spec.finishes
 how_of Ends = spec.ends
 
--- the halt is this stop, unless memory ran out
+abbrev pub IsPaged : spec.Outcome → Type 0
+IsPaged (spec.paged how bytes) = ⊤
+IsPaged (spec.faulted k) = ⊥
+IsPaged (spec.out_of_fuel cost) = ⊥
+
+-- the halt is this stop, unless memory ran out for a page
 abbrev pub HaltsAs : Halt → spec.Outcome → Type 0
-HaltsAs Memory o = ⊤
+HaltsAs Memory o = IsPaged o
 HaltsAs (Stopped e) o = o ≡ outcome_of e

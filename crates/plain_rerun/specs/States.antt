@@ -10,6 +10,7 @@ use Rattle.instance_cells.specs.Cells.{Effect}
 use Rattle.instance_cells.specs.Trails.{start_of, effects_of}
 use Rattle.segments.specs.declared.ends.PlainEnd.{PlainEnd}
 use Rattle.segments.specs.Views.{answer_of, now_of, outcome_of}
+use Rattle.plain_rerun.specs.Halts.{IsPaged}
 use Rattle.plain_rerun.specs.declared.halt.Halt.{Halt}
 use Rattle.plain_rerun.specs.declared.halt.Halt.TheVariants.{Memory, Stopped}
 use Rattle.plain_rerun.specs.declared.progress.Source.{Source}
@@ -97,3 +98,14 @@ abbrev pub TellsStop : {X Y : Type 0} → Result X Halt → spec.End Y → Type 
 TellsStop (Ok x) end = ⊤
 TellsStop (Err Memory) end = IsGot end
 TellsStop (Err (Stopped o)) end = ⊤
+
+-- the run goes on with a value, or stops with a page
+abbrev pub IsGotOrPaged : {Y : Type 0} → spec.End Y → Type 0
+IsGotOrPaged (spec.got x state) = ⊤
+IsGotOrPaged (spec.stop o entered state) = IsPaged o
+
+-- memory ran out for a value or for a page: that there is no page is told whatever memory there is
+abbrev pub TellsNoPage : {X Y : Type 0} → Result X Halt → spec.End Y → Type 0
+TellsNoPage (Ok x) end = ⊤
+TellsNoPage (Err Memory) end = IsGotOrPaged end
+TellsNoPage (Err (Stopped o)) end = ⊤

@@ -9,7 +9,7 @@ ghost use Rattle.segments.specs.Views.{source_of, now_of, tape_of, outcome_of, s
 ghost use Rattle.replay_spec.specs.Tape as tape;
 ghost use Rattle.replay_spec.specs.Tape.{begin, begins, charge, send_page, enter, leave, shadow, read_cell, set_cell, add_cell};
 ghost use Rattle.replay_spec.specs.Eval.{copied, eval, segment_at};
-ghost use Rattle.plain_rerun.specs.States.{reads_left, effects_left, left_in, state_of, inside_of, found, Pops, Acts, Does, Ends, TellsStop};
+ghost use Rattle.plain_rerun.specs.States.{reads_left, effects_left, left_in, state_of, inside_of, found, Pops, Acts, Does, Ends, TellsStop, TellsNoPage};
 
 use crate::halt::{Halt, How, halt_at};
 use instance_cells::{AddFault, Effect, Trail};
@@ -249,6 +249,7 @@ impl<'t> Progress<'t> {
     /// A page is sent: the next answer, or the stop there.
     pub fn send(&mut self, alloc: Global, kind: SendKind, page: &Value) -> Result<Value, Halt>
         ensures gives { Acts meaning result self.old self.new (λ inside. send_page inside kind (meaning page.now)) }
+        ensures told { TellsNoPage result (send_page (inside_of self.old) kind (meaning page.now) (state_of self.old)) }
         ensures inside { inside_of self.new ≡ inside_of self.old }
     {
         let Some(next) = self.rest.next() else {

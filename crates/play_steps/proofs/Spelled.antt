@@ -1,5 +1,5 @@
 -- Lines are steps exactly where steps spell them.
-use Rattle.std.proofs.Common.{◌≡◌, ◌^◌, ◌<◌, ◌==◌, ◌⊎◌, inl, inr, ⊎_elim, not, ℕ, List, [], ◌∷◌, ◌++◌, map, length, true, Option, Some, None, ap, sym, ◌∙◌, refl, subst, arith, codes}
+use Rattle.std.proofs.Common.{◌≡◌, ◌^◌, ◌<◌, ◌==◌, ◌⊎◌, inl, inr, ⊎_elim, not, ℕ, List, [], ◌∷◌, ◌++◌, map, true, false, Bool, Option, Some, None, ap, sym, ◌∙◌, refl, subst, arith, codes}
 use Rattle.std.specs.Fmt.{decimal}
 use Rattle.std.specs.List.{list_all}
 use Rattle.std.specs.Char.{is_ascii_digit}
@@ -11,9 +11,9 @@ use Rattle.script_value.specs.Texts.{lacks}
 use Rattle.script_value.proofs.Options.{bound}
 use Rattle.script_value.proofs.Cuts.{behind_spelled, cut_spelled, cut_found, lacking}
 use Rattle.script_value.proofs.Numerals.{number_spelled, number_found, decimal_digits}
-use Rattle.play_steps.specs.Step.{Step, take, publish, get, tick, worker_of, is_target, is_target_byte, aim_of, take_of, publish_of, get_of, tick_of, first_of, step_of, steps_of, line_of, lines_of, IsStep, AreSteps}
-use Rattle.play_steps.specs.Laws.{LinesAreSteps}
-use Rattle.play_steps.proofs.Lines.{steps_cut, steps_uncut, steps_nil}
+use Rattle.play_steps.specs.Step.{Step, take, publish, get, tick, worker_of, is_target, is_target_byte, aim_of, take_of, publish_of, get_of, tick_of, first_of, step_of, first_step, steps_of, line_of, lines_in, lines_of, newlines, IsStep, AreSteps}
+use Rattle.play_steps.specs.Laws.{LinesAreSteps, LinesAreCounted}
+use Rattle.play_steps.proofs.Lines.{one_line, first_cut, cut_first, steps_first, steps_none, steps_nil}
 
 -- what is read is spelled so
 
@@ -115,50 +115,56 @@ lineless (publish worker) is = digits_lack worker (omega arith)
 lineless (get worker target) is = aim_lacks worker target is.0 is.1
 lineless (tick time) is = digits_lack time (omega arith)
 
+not_true : (b : Bool) → not b ≡ true → b ≡ false
+not_true false e = refl
+not_true true e = absurd (let no : ⊥ = cc in no)
+
+no_newline : (bytes : List ℕ) → lacks 10 bytes ≡ true → newlines bytes ≡ 0
+no_newline [] e = refl
+no_newline (b ∷ bytes) e =
+    let parts = and_parts (not (b == 10)) (lacks 10 bytes) e in
+    let other : (b == 10) ≡ false = not_true (b == 10) parts.0 in rw other (no_newline bytes parts.1)
+
+pub lines_are_counted : LinesAreCounted
+lines_are_counted s is = let none = no_newline (line_of s) (lineless s is) in omega (arith, none, one_line s)
+
 -- all lines
 
 lines_read : (steps : List Step) → AreSteps steps → steps_of (lines_of steps) ≡ map Some steps
 lines_read [] are = steps_nil
 lines_read (s ∷ steps) are =
     let cut = cut_found 10 (line_of s) (lines_of steps) (lineless s are.0) in
-    steps_cut (line_of s ++ 10 ∷ lines_of steps) (line_of s) (lines_of steps) cut
-    ∙ ap (λ o. o ∷ steps_of (lines_of steps)) (step_found s are.0) ∙ ap (λ os. Some s ∷ os) (lines_read steps are.1)
-
--- the steps of bytes that are not empty, by whether a newline stands in them
-data Front : List ℕ → Type 0 where
-  uncut : (bytes : List ℕ) → steps_of bytes ≡ None ∷ [] → Front bytes
-  cut : (bytes line after : List ℕ) → bytes ≡ line ++ 10 ∷ after → steps_of bytes ≡ step_of line ∷ steps_of after → Front bytes
-
-front_of : (bytes : List ℕ) → 0 < length bytes → Front bytes
-front_of bytes some = by_cut (cut_at 10 bytes) refl
-  where
-    by_cut : (o : Option (List ℕ × List ℕ)) → cut_at 10 bytes ≡ o → Front bytes
-    by_cut None e = uncut bytes (steps_uncut bytes e some)
-    by_cut (Some parts) e =
-        cut bytes parts.0 parts.1 (cut_spelled 10 bytes parts.0 parts.1 e) (steps_cut bytes parts.0 parts.1 e)
+    let bytes = line_of s ++ 10 ∷ lines_of steps in
+    steps_first bytes s (lines_of steps) (cut_first bytes (line_of s) (lines_of steps) s cut (step_found s are.0))
+    ∙ ap (λ os. Some s ∷ os) (lines_read steps are.1)
 
 heads : {A : Type 0} {x y : A} {xs ys : List A} → x ∷ xs ≡ y ∷ ys → (x ≡ y) × (xs ≡ ys)
 heads e = (cc, cc)
 
 lines_spelled : (steps : List Step) (bytes : List ℕ) → steps_of bytes ≡ map Some steps → (bytes ≡ lines_of steps) × AreSteps steps
 lines_spelled [] [] e = (refl, tt)
-lines_spelled [] (b ∷ bs) e = by_front (front_of (b ∷ bs) (omega arith)) e
+lines_spelled [] (b ∷ bs) e = by_first (first_step (b ∷ bs)) refl
   where
-    by_front : {bytes : List ℕ} → Front bytes → steps_of bytes ≡ [] → (b ∷ bs ≡ []) × Unit {0}
-    by_front (uncut bytes n) k = absurd (let h = sym n ∙ k in let no : ⊥ = cc in no)
-    by_front (cut bytes line after w n) k = absurd (let h = sym n ∙ k in let no : ⊥ = cc in no)
+    by_first : (o : Option (Step × List ℕ)) → first_step (b ∷ bs) ≡ o → (b ∷ bs ≡ []) × Unit {0}
+    by_first None k = absurd (let h = sym (steps_none (b ∷ bs) k (omega arith)) ∙ e in let no : ⊥ = cc in no)
+    by_first (Some p) k = absurd (let h = sym (steps_first (b ∷ bs) p.0 p.1 k) ∙ e in let no : ⊥ = cc in no)
 lines_spelled (s ∷ steps) [] e = absurd (let h = sym steps_nil ∙ e in let no : ⊥ = cc in no)
-lines_spelled (s ∷ steps) (b ∷ bs) e = by_front (front_of (b ∷ bs) (omega arith)) (lines_spelled steps) e
+lines_spelled (s ∷ steps) (b ∷ bs) e = by_first (first_step (b ∷ bs)) refl (lines_spelled steps)
   where
-    by_front : {bytes : List ℕ} → Front bytes
+    by_first : (o : Option (Step × List ℕ)) → first_step (b ∷ bs) ≡ o
         → ((more : List ℕ) → steps_of more ≡ map Some steps → (more ≡ lines_of steps) × AreSteps steps)
-        → steps_of bytes ≡ Some s ∷ map Some steps → (bytes ≡ line_of s ++ 10 ∷ lines_of steps) × (IsStep s × AreSteps steps)
-    by_front (uncut bytes n) go k = absurd (let h = heads (sym n ∙ k) in let f = h.0 in let no : ⊥ = cc in no)
-    by_front (cut bytes line after w n) go k =
-        let h = heads (sym n ∙ k) in
-        let one = step_spelled line s h.0 in
-        let later = go after h.1 in
-        (w ∙ ap (λ xs. xs ++ 10 ∷ after) one.0 ∙ ap (λ xs. line_of s ++ 10 ∷ xs) later.0, (one.1, later.1))
+        → (b ∷ bs ≡ line_of s ++ 10 ∷ lines_of steps) × (IsStep s × AreSteps steps)
+    by_first None k go =
+        absurd (let h = heads (sym (steps_none (b ∷ bs) k (omega arith)) ∙ e) in let f = h.0 in let no : ⊥ = cc in no)
+    by_first (Some p) k go =
+        let h = heads (sym (steps_first (b ∷ bs) p.0 p.1 k) ∙ e) in
+        let same : p.0 ≡ s = let f = h.0 in cc in
+        let first = first_cut (b ∷ bs) p.0 p.1 k in
+        let one = step_spelled first.0 s (first.2 ∙ ap Some same) in
+        let later = go p.1 h.1 in (
+          cut_spelled 10 (b ∷ bs) first.0 p.1 first.1 ∙ ap (λ xs. xs ++ 10 ∷ p.1) one.0 ∙ ap (λ xs. line_of s ++ 10 ∷ xs) later.0,
+          (one.1, later.1),
+        )
 
 pub lines_are_steps : LinesAreSteps
 lines_are_steps steps = (lines_read steps, lines_spelled steps)

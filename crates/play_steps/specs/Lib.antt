@@ -1,5 +1,6 @@
 pub mod Rules
 pub mod Step
+pub mod Reports
 pub mod Texts
 pub mod Transcript
 pub mod Views

@@ -1,5 +1,5 @@
 -- The steps, and the lines that spell them.
-use Rattle.std.specs.Prelude.{◌≡◌, ℕ, ◌^◌, ◌<◌, ◌==◌, ◌&&◌, not, Bool, true, List, [], ◌∷◌, ◌++◌, Option, Some, None, length, nat_le, codes, if◌then◌else◌}
+use Rattle.std.specs.Prelude.{◌≡◌, ℕ, ◌^◌, ◌+◌, ◌<◌, ◌==◌, zero, suc, ◌&&◌, not, Bool, true, List, [], ◌∷◌, ◌++◌, Option, Some, None, length, nat_le, codes, unwrap_or, option_map, if◌then◌else◌}
 use Rattle.std.specs.Fmt.{decimal}
 use Rattle.std.specs.List.{list_all}
 use Rattle.script_value.specs.Pieces.{◌>>=◌, cut_at, behind, number_below}
@@ -66,17 +66,43 @@ first_of None o = o
 unfoldable pub step_of : List ℕ → Option Step
 step_of line = first_of (take_of line) (first_of (publish_of line) (first_of (get_of line) (tick_of line)))
 
--- The steps of the lines, behind these bytes of the first. A last line that no newline ends is none.
-abbrev pub steps_from : List ℕ → List ℕ → List (Option Step)
-steps_from line [] = if not (length line == 0) then None ∷ [] else []
-steps_from line (b ∷ bytes) =
-    if b == 10 then step_of line ∷ steps_from [] bytes else steps_from (line ++ b ∷ []) bytes
+-- the step at the front, and the bytes behind its lines
+unfoldable pub first_step : List ℕ → Option (Step × List ℕ)
+first_step bytes = do
+  parts ← cut_at 10 bytes
+  step ← step_of parts.0
+  Some (step, parts.1)
 
--- the steps of the lines
+-- how many lines a step has
+abbrev pub lines_in : Step → ℕ
+lines_in (take worker target) = 1
+lines_in (publish worker) = 1
+lines_in (get worker target) = 1
+lines_in (tick time) = 1
+
+-- how many newlines there are
+abbrev pub newlines : List ℕ → ℕ
+newlines [] = 0
+newlines (b ∷ bytes) = if b == 10 then suc (newlines bytes) else newlines bytes
+
+-- this many steps of the bytes at most; where the front is no step, nothing behind it is read
+abbrev pub steps_within : ℕ → List ℕ → List (Option Step)
+steps_within count [] = []
+steps_within zero (b ∷ bytes) = []
+steps_within (suc count) (b ∷ bytes) =
+    unwrap_or (option_map (λ p. Some p.0 ∷ steps_within count p.1) (first_step (b ∷ bytes))) (None ∷ [])
+
+-- the steps of the bytes
 unfoldable pub steps_of : List ℕ → List (Option Step)
-steps_of bytes = steps_from [] bytes
+steps_of bytes = steps_within (length bytes) bytes
 
--- the line that spells a step, without its newline
+-- how many lines stand before what is behind these steps
+abbrev pub lines_before : List (Option Step) → ℕ
+lines_before [] = 0
+lines_before (None ∷ steps) = 0
+lines_before (Some step ∷ steps) = lines_in step + lines_before steps
+
+-- the lines that spell a step, without the last newline
 abbrev pub line_of : Step → List ℕ
 line_of (take worker target) = codes "take " ++ (decimal worker ++ 32 ∷ target)
 line_of (publish worker) = codes "publish " ++ decimal worker

@@ -1,9 +1,11 @@
--- What a step prints.
-use Rattle.std.specs.Prelude.{ℕ, List, ◌++◌, length, codes, Result, Ok, Err}
+-- What is printed of reports.
+use Rattle.std.specs.Prelude.{ℕ, List, [], ◌∷◌, ◌++◌, length, codes}
 use Rattle.std.specs.Fmt.{decimal}
 use Rattle.script_value.specs.declared.outcome.Reply.{Reply}
 use Rattle.reply_words.specs.Words.{Told, page, word, status_number, told}
 use Rattle.reply_words.specs.declared.status.ReplyStatus.{ReplyStatus}
+use Rattle.play_steps.specs.declared.report.Report.{Report}
+use Rattle.play_steps.specs.declared.report.Report.TheVariants.{Taken, Replied, Swept, Unswept}
 
 -- a reply with a status and a word
 abbrev pub line_text : ℕ → ReplyStatus → List ℕ → List ℕ
@@ -27,18 +29,20 @@ reply_text worker reply = told_text worker (told reply)
 abbrev pub taken_text : ℕ → ℕ → List ℕ
 taken_text worker number = decimal worker ++ codes " taken " ++ decimal number ++ codes "\n"
 
--- a number that was taken, or the refusal
-unfoldable pub take_text : ℕ → Result ℕ Reply → List ℕ
-take_text worker (Ok number) = taken_text worker number
-take_text worker (Err refused) = reply_text worker refused
-
 abbrev pub swept_text : ℕ → ℕ → List ℕ
 swept_text shelf count = codes "shelf " ++ decimal shelf ++ codes " swept " ++ decimal count ++ codes "\n"
 
-abbrev pub shelf_text : ℕ → Reply → List ℕ
-shelf_text shelf refused = codes "shelf " ++ reply_text shelf refused
+abbrev pub unswept_text : ℕ → Reply → List ℕ
+unswept_text shelf reply = codes "shelf " ++ reply_text shelf reply
 
--- the line of a shelf that was swept, with the number of instances that went, or of one that was not
-unfoldable pub sweep_text : ℕ → Result ℕ Reply → List ℕ
-sweep_text shelf (Ok count) = swept_text shelf count
-sweep_text shelf (Err refused) = shelf_text shelf refused
+-- a number that was taken, a reply, and the line of a shelf that was swept, with the number of instances that went, or was not
+unfoldable pub report_text : Report → List ℕ
+report_text (Taken worker number) = taken_text worker number
+report_text (Replied worker reply) = reply_text worker reply
+report_text (Swept shelf count) = swept_text shelf count
+report_text (Unswept shelf reply) = unswept_text shelf reply
+
+-- reports, one behind another
+abbrev pub print : List Report → List ℕ
+print [] = []
+print (r ∷ reports) = report_text r ++ print reports

@@ -5,10 +5,11 @@ use Rattle.script_value.specs.declared.outcome.Fault.TheVariants as faults
 use Rattle.script_value.specs.declared.outcome.Refusal.TheVariants as refusals
 use Rattle.script_value.specs.declared.outcome.Reply.{Reply}
 use Rattle.script_value.specs.declared.outcome.Reply.TheVariants as replies
-use Rattle.play_steps.specs.Rules.{StageRules}
-use Rattle.play_steps.specs.Step.{take, publish, get, tick, aim_of, take_of, publish_of, get_of, tick_of, step_of, steps_of, lines_of}
-use Rattle.play_steps.specs.Texts.{reply_text, take_text, sweep_text}
-use Rattle.play_steps.specs.Transcript.{Run, done, bad_line, transcript}
+use Rattle.play_steps.specs.Reports.{take_report, sweep_report}
+use Rattle.play_steps.specs.Rules.{StageRules, Call, answered, event}
+use Rattle.play_steps.specs.Step.{take, publish, get, tick, aim_of, take_of, publish_of, get_of, tick_of, step_of, first_step, steps_of, lines_of}
+use Rattle.play_steps.specs.Texts.{reply_text, report_text, print}
+use Rattle.play_steps.specs.Transcript.{Run, End, done, bad_line, text_of, transcript}
 
 -- lines, each ended by a newline
 abbrev pub lines : List (List ℕ) → List ℕ
@@ -67,10 +68,11 @@ pub spelled :
 unfolding digits
 spelled = refl
 
--- a last line that no newline ends is no step, nor is an empty line
+-- a last line that no newline ends is no step, nor is an empty line; behind what is no step nothing is read
 pub an_open_line :
-    steps_of (codes "publish 1\n\npublish 2\npublish 3") ≡ Some (publish 1) ∷ None ∷ Some (publish 2) ∷ None ∷ []
-unfolding steps_of step_of take_of publish_of get_of tick_of aim_of
+    map steps_of (codes "publish 1\npublish 2" ∷ codes "publish 1\n\npublish 2\n" ∷ [])
+    ≡ (Some (publish 1) ∷ None ∷ []) ∷ (Some (publish 1) ∷ None ∷ []) ∷ []
+unfolding steps_of first_step step_of take_of publish_of get_of tick_of aim_of
 an_open_line = refl
 
 pub no_lines : steps_of [] ≡ []
@@ -113,9 +115,9 @@ not_served = refl
 
 -- a number that was taken, a shelf that was swept, and the replies in their places
 pub other_texts :
-    (take_text 4 (Ok 120) ∷ take_text 4 (Err replies.Worn) ∷ sweep_text 10 (Ok 0) ∷ sweep_text 10 (Err (replies.Down 3)) ∷ [])
+    map report_text (take_report 4 (Ok 120) ∷ take_report 4 (Err replies.Worn) ∷ sweep_report 10 (Ok 0) ∷ sweep_report 10 (Err (replies.Down 3)) ∷ [])
     ≡ codes "4 taken 120\n" ∷ codes "4 503 worn\n" ∷ codes "shelf 10 swept 0\n" ∷ codes "shelf 10 503 down\n" ∷ []
-unfolding take_text sweep_text reply_text digits
+unfolding report_text reply_text digits
 other_texts = refl
 
 -- A small stage of two shelves: the number that is drawn next, and the workers that hold a ticket.
@@ -136,18 +138,33 @@ pub data Luck : Type 0 where
   good : Luck
   bad : Luck
 
-abbrev desk_take : Desk → ℕ → List ℕ → Luck → Result ℕ Reply × Desk
-desk_take d w target good = (Ok d.next, record { next = d.next + 1; holders = w ∷ d.holders })
-desk_take d w target bad = (Err replies.Worn, d)
+abbrev taken : Desk → ℕ → Luck → Result ℕ Reply × Desk
+taken d w good = (Ok d.next, record { next = d.next + 1; holders = w ∷ d.holders })
+taken d w bad = (Err replies.Worn, d)
 
-abbrev desk_publish : Desk → ℕ → Luck → Reply × Desk
-desk_publish d w good = (replies.Ended (codes "hi"), record { next = d.next; holders = without w d.holders })
-desk_publish d w bad = (replies.Memory, record { next = d.next; holders = without w d.holders })
+abbrev shown : Desk → ℕ → Luck → Reply × Desk
+shown d w good = (replies.Ended (codes "hi"), record { next = d.next; holders = without w d.holders })
+shown d w bad = (replies.Memory, record { next = d.next; holders = without w d.holders })
 
 -- a sweep counts as a number that was drawn
-abbrev desk_sweep : Desk → ℕ → ℕ → Luck → Result ℕ Reply × Desk
-desk_sweep d shelf time good = (Ok time, record { next = d.next + 1; holders = d.holders })
-desk_sweep d shelf time bad = (Err (replies.Down 1), d)
+abbrev swept : Desk → ℕ → Luck → Result ℕ Reply × Desk
+swept d time good = (Ok time, record { next = d.next + 1; holders = d.holders })
+swept d time bad = (Err (replies.Down 1), d)
+
+-- a target that begins with `#` names nothing
+abbrev names_nothing : List ℕ → Bool
+names_nothing [] = false
+names_nothing (b ∷ bytes) = b == 35
+
+abbrev desk_take : Desk → ℕ → List ℕ → Call Desk Luck (Result ℕ Reply)
+desk_take d w target =
+    if names_nothing target then answered (Err (replies.Refused refusals.Unknown)) else event (λ luck. taken d w luck)
+
+abbrev desk_publish : Desk → ℕ → Call Desk Luck Reply
+desk_publish d w = event (λ luck. shown d w luck)
+
+abbrev desk_sweep : Desk → ℕ → ℕ → Call Desk Luck (Result ℕ Reply)
+desk_sweep d shelf time = event (λ luck. swept d time luck)
 
 abbrev desk : StageRules
 desk = record {
@@ -164,43 +181,32 @@ desk = record {
 abbrev at : ℕ → List ℕ → Desk
 at next holders = record { next = next; holders = holders }
 
-abbrev of_lines : List (List ℕ) → List Luck → Run desk
-of_lines ls fates = transcript desk (at 0 []) 1 (steps_of (lines ls)) fates
+-- what a run prints, how it ends, the state that it leaves and the fates that are left
+abbrev seen : Run desk → List ℕ × End × Desk × List Luck
+seen run = (text_of run, run.end, run.state, run.fates)
+
+abbrev of_lines : List (List ℕ) → List Luck → List ℕ × End × Desk × List Luck
+of_lines ls fates = seen (transcript desk (at 0 []) 1 (steps_of (lines ls)) fates)
 
 -- two workers take and publish in another order, and one of them never does
 pub two_workers :
     of_lines (codes "take 0 /a" ∷ codes "take 1 /a" ∷ codes "take 2 /b" ∷ codes "publish 1" ∷ codes "publish 0" ∷ []) []
-    ≡ record {
-      text = lines (codes "0 taken 0" ∷ codes "1 taken 1" ∷ codes "2 taken 2" ∷ codes "1 200 2" ∷ codes "hi" ∷ codes "0 200 2" ∷ codes "hi" ∷ []);
-      end = done;
-      state = at 3 (2 ∷ []);
-      fates = [];
-    }
-unfolding transcript steps_of step_of take_of publish_of get_of tick_of aim_of take_text reply_text digits
+    ≡ (lines (codes "0 taken 0" ∷ codes "1 taken 1" ∷ codes "2 taken 2" ∷ codes "1 200 2" ∷ codes "hi" ∷ codes "0 200 2" ∷ codes "hi" ∷ []), done, at 3 (2 ∷ []), [])
+unfolding transcript steps_of first_step step_of take_of publish_of get_of tick_of aim_of report_text reply_text digits
 two_workers = refl
 
 -- Fates are one an event: of a get whose take is refused one is used, and of another two. What is left is left.
 pub fates_of_gets :
     of_lines (codes "get 0 /a" ∷ codes "get 0 /a" ∷ codes "get 0 /a" ∷ []) (bad ∷ good ∷ bad ∷ good ∷ good ∷ bad ∷ [])
-    ≡ record {
-      text = lines (codes "0 503 worn" ∷ codes "0 503 memory" ∷ codes "0 200 2" ∷ codes "hi" ∷ []);
-      end = done;
-      state = at 2 [];
-      fates = bad ∷ [];
-    }
-unfolding transcript steps_of step_of take_of publish_of get_of tick_of aim_of take_text reply_text digits
+    ≡ (lines (codes "0 503 worn" ∷ codes "0 503 memory" ∷ codes "0 200 2" ∷ codes "hi" ∷ []), done, at 2 [], bad ∷ [])
+unfolding transcript steps_of first_step step_of take_of publish_of get_of tick_of aim_of report_text reply_text digits
 fates_of_gets = refl
 
 -- a tick sweeps the shelves in their order, also behind one that is not swept; a fate that is not listed is plain
 pub a_tick :
     of_lines (codes "tick 7" ∷ codes "tick 8" ∷ []) (bad ∷ good ∷ good ∷ [])
-    ≡ record {
-      text = lines (codes "shelf 0 503 down" ∷ codes "shelf 1 swept 7" ∷ codes "shelf 0 swept 8" ∷ codes "shelf 1 swept 8" ∷ []);
-      end = done;
-      state = at 3 [];
-      fates = [];
-    }
-unfolding transcript steps_of step_of take_of publish_of get_of tick_of aim_of sweep_text reply_text digits
+    ≡ (lines (codes "shelf 0 503 down" ∷ codes "shelf 1 swept 7" ∷ codes "shelf 0 swept 8" ∷ codes "shelf 1 swept 8" ∷ []), done, at 3 [], [])
+unfolding transcript steps_of first_step step_of take_of publish_of get_of tick_of aim_of report_text reply_text digits
 a_tick = refl
 
 -- a publish needs a ticket, and a take or a get needs that the worker holds none; a refused take gives none
@@ -208,27 +214,24 @@ pub not_fitting :
     map (λ ls. of_lines ls (bad ∷ []))
     ((codes "publish 0" ∷ []) ∷ (codes "take 0 /a" ∷ codes "publish 0" ∷ []) ∷ (codes "get 0 /a" ∷ codes "take 1 /" ∷ codes "publish 0" ∷ [])
     ∷ (codes "take 1 /" ∷ codes "take 1 /" ∷ codes "tick 0" ∷ codes "take 1 /" ∷ []) ∷ (codes "tick 0" ∷ codes "take 1 /" ∷ codes "get 1 /" ∷ []) ∷ [])
-    ≡ record { text = []; end = bad_line 1; state = at 0 []; fates = bad ∷ [] }
-    ∷ record { text = codes "0 503 worn\n"; end = bad_line 2; state = at 0 []; fates = [] }
-    ∷ record { text = lines (codes "0 503 worn" ∷ codes "1 taken 0" ∷ []); end = bad_line 3; state = at 1 (1 ∷ []); fates = [] }
-    ∷ record {
-      text = lines (codes "1 503 worn" ∷ codes "1 taken 0" ∷ codes "shelf 0 swept 0" ∷ codes "shelf 1 swept 0" ∷ []);
-      end = bad_line 4;
-      state = at 3 (1 ∷ []);
-      fates = [];
-    }
-    ∷ record {
-      text = lines (codes "shelf 0 503 down" ∷ codes "shelf 1 swept 0" ∷ codes "1 taken 1" ∷ []);
-      end = bad_line 3;
-      state = at 2 (1 ∷ []);
-      fates = [];
-    } ∷ []
-unfolding transcript steps_of step_of take_of publish_of get_of tick_of aim_of take_text sweep_text reply_text digits
+    ≡ ([], bad_line 1, at 0 [], bad ∷ [])
+    ∷ (codes "0 503 worn\n", bad_line 2, at 0 [], [])
+    ∷ (lines (codes "0 503 worn" ∷ codes "1 taken 0" ∷ []), bad_line 3, at 1 (1 ∷ []), [])
+    ∷ (lines (codes "1 503 worn" ∷ codes "1 taken 0" ∷ codes "shelf 0 swept 0" ∷ codes "shelf 1 swept 0" ∷ []), bad_line 4, at 3 (1 ∷ []), [])
+    ∷ (lines (codes "shelf 0 503 down" ∷ codes "shelf 1 swept 0" ∷ codes "1 taken 1" ∷ []), bad_line 3, at 2 (1 ∷ []), []) ∷ []
+unfolding transcript steps_of first_step step_of take_of publish_of get_of tick_of aim_of report_text reply_text digits
 not_fitting = refl
 
 -- a line that is no step ends the run: the replies before it stand, and nothing behind it is played
 pub a_bad_line :
     of_lines (codes "get 0 /a" ∷ codes "get 16 /a" ∷ codes "get 0 /a" ∷ []) (good ∷ good ∷ bad ∷ [])
-    ≡ record { text = lines (codes "0 200 2" ∷ codes "hi" ∷ []); end = bad_line 2; state = at 1 []; fates = bad ∷ [] }
-unfolding transcript steps_of step_of take_of publish_of get_of tick_of aim_of take_text reply_text digits
+    ≡ (lines (codes "0 200 2" ∷ codes "hi" ∷ []), bad_line 2, at 1 [], bad ∷ [])
+unfolding transcript steps_of first_step step_of take_of publish_of get_of tick_of aim_of report_text reply_text digits
 a_bad_line = refl
+
+-- a take that names nothing is answered without an event: the fates are there for those behind it
+pub no_event :
+    of_lines (codes "take 0 #a" ∷ codes "get 0 #a" ∷ codes "get 0 /a" ∷ []) (bad ∷ good ∷ [])
+    ≡ (lines (codes "0 404 unknown" ∷ codes "0 404 unknown" ∷ codes "0 503 worn" ∷ []), done, at 0 [], good ∷ [])
+unfolding transcript steps_of first_step step_of take_of publish_of get_of tick_of aim_of report_text reply_text digits
+no_event = refl

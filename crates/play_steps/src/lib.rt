@@ -1,16 +1,19 @@
-//! The steps of a run, one a line, over whatever stage performs them.
+//! The steps of a run over whatever stage performs them.
 #![tactic(auto)]
 
-ghost use Rattle.play_steps.specs.Laws.{RepliesGoOn, LinesAreSteps};
+ghost use Rattle.play_steps.specs.Laws.{RepliesGoOn, LinesAreSteps, LinesAreCounted};
 
-mod perform;
-mod reply;
+mod performing;
+mod report;
 mod run;
 mod stage;
 mod step;
 
+pub use performing::{fits, perform};
+pub use report::{Report, print};
 pub use run::{PlayEnd, play};
 pub use stage::Stage;
+pub use step::{Step, read_step};
 
 /// Over any stage, a run of steps and then of others is the run of the first, and then that of the
 /// others over what the first leave. Where the first end at a line, it is theirs alone.
@@ -21,4 +24,9 @@ pub fn replies_go_on<T: Stage>()
 /// Lines are steps exactly where they are spelled as these steps are, each ended by a newline.
 pub fn lines_are_steps()
     ensures { LinesAreSteps }
+{}
+
+/// A step has as many lines as newlines stand in what spells it.
+pub fn lines_are_counted()
+    ensures { LinesAreCounted }
 {}

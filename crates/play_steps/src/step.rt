@@ -19,6 +19,17 @@ pub enum Step<'a> {
     Tick { time: u64 },
 }
 
+impl Step<'_> {
+    /// How many lines it has.
+    pub fn lines(&self) -> u64
+        ensures { result ≡ spec.lines_in (meaning self.now) }
+    {
+        match self {
+            Step::Take { .. } | Step::Publish { .. } | Step::Get { .. } | Step::Tick { .. } => 1,
+        }
+    }
+}
+
 // The number of a worker.
 fn worker_of(digits: &[u8]) -> Option<u32>
     ensures spelled { result ≡ spec.worker_of digits.now }
@@ -108,10 +119,9 @@ fn tick_of(line: &[u8]) -> Option<Step>
     Some(Step::Tick { time })
 }
 
-/// The step that a line is: `take W TARGET`, `publish W` or `get W TARGET` of a worker from 0 to 15,
-/// or `tick T` of a time below 2^62, in seconds.
+// The step that a line is.
 #[tactic(auto, unfolding(crate::specs::Step::step_of))]
-pub fn parse(line: &[u8]) -> Option<Step>
+fn parse(line: &[u8]) -> Option<Step>
     ensures spelled { option_map meaning result ≡ spec.step_of line.now }
     ensures range { IfSome result (λ step. spec.IsStep (meaning step)) }
 {
@@ -125,4 +135,17 @@ pub fn parse(line: &[u8]) -> Option<Step>
         return Some(step);
     }
     tick_of(line)
+}
+
+/// The step at the front of these bytes, and the bytes behind its lines. A step is a line:
+/// `take W TARGET`, `publish W` or `get W TARGET` of a worker from 0 to 15, or `tick T` of a time
+/// below 2^62, in seconds.
+#[tactic(auto, unfolding(crate::specs::Step::first_step))]
+pub fn read_step(bytes: &[u8]) -> Option<(Step<'_>, &[u8])>
+    ensures spelled { option_map (λ found. (meaning found.0, found.1.now)) result ≡ spec.first_step bytes.now }
+    ensures range { IfSome result (λ found. spec.IsStep (meaning found.0)) }
+{
+    let (line, rest) = cut_at(b'\n', bytes)?;
+    let step = parse(line)?;
+    Some((step, rest))
 }

@@ -3,8 +3,9 @@ use Rattle.std.proofs.Common.{◌≡◌, ℕ, zero, suc, ◌+◌, ◌<◌, ◌�
 use Rattle.std.specs.List.{AllByRecursion}
 use Rattle.script_nodes.specs.declared.script.Node.{Node}
 use Rattle.script_nodes.specs.declared.script.Node.TheVariants as node
-use Rattle.script_nodes.specs.Core.{Core, OnCells, AllOnCells, cores_of}
-use Rattle.script_nodes.specs.Arena.{Arena, IsScript, IsOnCells, IsBehind, parts, shape, shape_at, tree_within, tree_at}
+use Rattle.script_nodes.specs.Core.{Core}
+use Rattle.script_nodes.specs.Arena.{Arena, IsScript, IsBehind, parts, shape, shape_at, tree_within, tree_at}
+use Rattle.script_nodes.proofs.Scripts.{has_nodes, parts_behind}
 
 abbrev Same : (ℕ → Core) → (ℕ → Core) → ℕ → Type 0
 Same f g p = f p ≡ g p
@@ -17,7 +18,7 @@ all_last : (P : ℕ → Type 0) (ps : List ℕ) (q : ℕ) → AllByRecursion P (
 all_last P [] q h = h.0
 all_last P (p ∷ ps) q h = all_last P ps q h.1
 
-pub all_weaker : (P Q : ℕ → Type 0) (ps : List ℕ) → ((p : ℕ) → P p → Q p) → AllByRecursion P ps → AllByRecursion Q ps
+all_weaker : (P Q : ℕ → Type 0) (ps : List ℕ) → ((p : ℕ) → P p → Q p) → AllByRecursion P ps → AllByRecursion Q ps
 all_weaker P Q [] f h = tt
 all_weaker P Q (p ∷ ps) f h = (f p h.0, all_weaker P Q ps f h.1)
 
@@ -81,45 +82,4 @@ step nodes s (suc bound) n x l e =
 pub tree_at_node : (a : Arena) → IsScript a → (n : ℕ) (x : Node) → slice_get a.nodes n ≡ Some x
     → tree_at a.nodes n ≡ shape (tree_at a.nodes) x
 unfolding tree_at
-tree_at_node a s n x e = step a.nodes (record { nonempty = s.nonempty; behind = s.behind }) (length a.nodes) n x refl e
-
--- where each node's cell is there, so is each of its tree
-all_on : (web cells : ℕ) (f : ℕ → Core) → ((p : ℕ) → OnCells web cells (f p)) → (ps : List ℕ) → AllOnCells web cells (cores_of (map f ps))
-all_on web cells f h [] = tt
-all_on web cells f h (p ∷ ps) = (h p, all_on web cells f h ps)
-
-shape_on : (web cells : ℕ) (f : ℕ → Core) → ((p : ℕ) → OnCells web cells (f p)) → (x : Node) → IsOnCells web cells x → OnCells web cells (shape f x)
-shape_on web cells f h (node.Lit v) o = tt
-shape_on web cells f h (node.Var k) o = tt
-shape_on web cells f h (node.Let ps b) o = (all_on web cells f h ps, h b)
-shape_on web cells f h (node.Seq ps) o = all_on web cells f h ps
-shape_on web cells f h (node.If t a b) o = (h t, h a, h b)
-shape_on web cells f h (node.And ps) o = all_on web cells f h ps
-shape_on web cells f h (node.Or ps) o = all_on web cells f h ps
-shape_on web cells f h (node.For n b) o = (h n, h b)
-shape_on web cells f h (node.Prim op ps) o = all_on web cells f h ps
-shape_on web cells f h (node.Send kind b) o = h b
-shape_on web cells f h (node.Finish b) o = h b
-shape_on web cells f h (node.Back b) o = h b
-shape_on web cells f h (node.Isolate b) o = h b
-shape_on web cells f h (node.CellRef c) o = o
-shape_on web cells f h (node.CellShadow c e) o = (o, h e)
-shape_on web cells f h (node.InstRef c) o = o
-shape_on web cells f h (node.InstSet c e) o = (o, h e)
-shape_on web cells f h (node.InstAdd c e) o = (o, h e)
-
-shape_at_on : (web cells : ℕ) (f : ℕ → Core) → ((p : ℕ) → OnCells web cells (f p)) → (x : Option Node)
-    → ((y : Node) → x ≡ Some y → IsOnCells web cells y) → OnCells web cells (shape_at f x)
-shape_at_on web cells f h None o = tt
-shape_at_on web cells f h (Some x) o = shape_on web cells f h x (o x refl)
-
-within_on : (web cells bound : ℕ) (nodes : List Node) → ((n : ℕ) (x : Node) → slice_get nodes n ≡ Some x → IsOnCells web cells x)
-    → (n : ℕ) → OnCells web cells (tree_within bound nodes n)
-unfolding tree_within
-within_on web cells zero nodes o n = tt
-within_on web cells (suc bound) nodes o n =
-    shape_at_on web cells (tree_within bound nodes) (within_on web cells bound nodes o) (slice_get nodes n) (o n)
-
-pub tree_on_cells : (a : Arena) → IsScript a → (n : ℕ) → OnCells (length a.web) (length a.cells) (tree_at a.nodes n)
-unfolding tree_at
-tree_on_cells a s n = within_on (length a.web) (length a.cells) (length a.nodes) a.nodes s.on_cells n
+tree_at_node a s n x e = step a.nodes (record { nonempty = has_nodes a s; behind = parts_behind a s }) (length a.nodes) n x refl e

@@ -1,6 +1,5 @@
 -- A script as a list of nodes, each before its parts, and the tree that it stands for.
-use Rattle.std.specs.Prelude.{◌≡◌, ℕ, zero, suc, ◌<◌, List, [], ◌∷◌, ◌++◌, map, length, Option, Some, None, slice_get, false, IsTrue, ⊤, refl}
-use Rattle.std.specs.List.{AllByRecursion}
+use Rattle.std.specs.Prelude.{◌≡◌, ℕ, zero, suc, ◌<◌, List, [], ◌∷◌, ◌++◌, map, length, take, drop, Option, Some, None, slice_get, false, IsTrue, ⊤, refl}
 use Rattle.std.specs.Coded.{Coded, coded_list, coded×, code_by}
 use Rattle.script_value.specs.Val.{Val, truth}
 use Rattle.script_value.specs.ValCode.{val_code}
@@ -8,7 +7,9 @@ use Rattle.script_value.specs.Views.{meaning}
 use Rattle.prim_ops.specs.Table.{takes}
 use Rattle.script_nodes.specs.declared.script.Node.{Node}
 use Rattle.script_nodes.specs.declared.script.Node.TheVariants as node
-use Rattle.script_nodes.specs.Core.{Core, lit, var, bind, branch, repeat, prim, seq, and_all, or_any, send, finish, back, isolate, cell_ref, cell_shadow, inst_ref, inst_set, inst_add, cores_of}
+use Rattle.script_nodes.specs.Core.{Core, lit, var, bind, branch, repeat, prim, seq, and_all, or_any, send, finish, back, isolate, cell_ref, cell_shadow, inst_ref, inst_set, inst_add, cores_of, count}
+use Rattle.script_nodes.specs.Closed.{IsClosed}
+use Rattle.script_nodes.specs.Layout.{layout}
 use Rattle.script_nodes.specs.Setup.{Script}
 
 -- the nodes in pre-order, and what the web cells and the instance cells begin with
@@ -65,13 +66,6 @@ IsOnCells web cells _ = ⊤
 abbrev pub IsBehind : ℕ → ℕ → ℕ → Type 0
 IsBehind n end p = (n < p) × (p < end)
 
--- at least one node, each part behind its node, each operation with its operands, and each cell that is named there
-pub record IsScript (a : Arena) : Type 0 where
-  pub nonempty : 0 < length a.nodes
-  pub behind : (n : ℕ) (x : Node) → slice_get a.nodes n ≡ Some x → AllByRecursion (IsBehind n (length a.nodes)) (parts x)
-  pub full : (n : ℕ) (x : Node) → slice_get a.nodes n ≡ Some x → IsFull x
-  pub on_cells : (n : ℕ) (x : Node) → slice_get a.nodes n ≡ Some x → IsOnCells (length a.web) (length a.cells) x
-
 -- the tree of a node, where the trees of its parts are given
 abbrev pub shape : (ℕ → Core) → Node → Core
 shape part (node.Lit v) = lit (meaning v)
@@ -109,3 +103,12 @@ tree_at nodes n = tree_within (length nodes) nodes n
 -- what a script means: its cells, and the tree of its first node
 abbrev pub script_of : Arena → Script
 script_of a = record { web = a.web; cells = a.cells; body = tree_at a.nodes 0 }
+
+-- the nodes from a number on are those of the tree there, in pre-order
+abbrev pub IsLaidAt : List Node → ℕ → Type 0
+IsLaidAt nodes n = take (count (tree_at nodes n)) (drop n nodes) ≡ layout n (tree_at nodes n)
+
+-- the nodes are their tree's in pre-order; the tree is closed over no variable, with these cells
+pub record IsScript (a : Arena) : Type 0 where
+  pub numbered : a.nodes ≡ layout 0 (tree_at a.nodes 0)
+  pub closed : IsClosed (length a.web) (length a.cells) 0 false (tree_at a.nodes 0)

@@ -1,7 +1,9 @@
-ghost use Rattle.std.specs.Prelude.{◌≡◌, ◌<◌, ◌+◌, ℕ, List, [], ◌∷◌, ◌++◌, length, OnOk, IfOk, Some, slice_get, IfSome, option_map, option_copied};
+ghost use Rattle.std.specs.Prelude.{◌≡◌, ◌<◌, ◌+◌, ℕ, List, [], ◌∷◌, ◌++◌, length, OnOk, IfOk, Some, slice_get, IfSome, option_map, option_copied, false};
 ghost use Rattle.script_value.specs.Views.{meaning};
-ghost use Rattle.script_nodes.specs.Arena.{IsScript, IsBehind, IsFull, IsOnCells, parts, script_of, shape, tree_at};
+ghost use Rattle.script_nodes.specs.Arena.{IsScript, IsBehind, IsFull, IsLaidAt, IsOnCells, parts, script_of, shape, tree_at};
+ghost use Rattle.script_nodes.specs.Closed.{IsClosed};
 ghost use Rattle.script_nodes.specs.Core.{OnCells};
+ghost use Rattle.script_nodes.specs.Layout.{layout};
 ghost use Rattle.std.specs.List.{AllByRecursion};
 
 use script_value::{Items, Op, Value};
@@ -261,12 +263,14 @@ impl Script {
         self.nodes.len()
     }
 
-    /// The number of the node that a run begins with; each cell that its tree names is there.
-    #[tactic(auto, using(crate::proofs::Trees::tree_on_cells))]
+    /// The number of the node that a run begins with: all nodes are those of its tree, which is closed.
+    #[tactic(auto, using(crate::proofs::Scripts::has_nodes, crate::proofs::Scripts::script_on_cells))]
     pub fn root(&self) -> u32
         ensures root { result ≡ 0 }
         ensures within { 0 < length self.now.nodes }
         ensures script { IsScript self.now }
+        ensures numbered { self.now.nodes ≡ layout 0 (script_of self.now).body }
+        ensures closed { IsClosed (length self.now.web) (length self.now.cells) 0 false (script_of self.now).body }
         ensures cells { OnCells (length self.now.web) (length self.now.cells) (script_of self.now).body }
     {
         let _nodes = &self.nodes;
@@ -274,13 +278,13 @@ impl Script {
     }
 
     /// The node of a number.
-    #[tactic(auto, using(crate::proofs::Trees::tree_at_node))]
     pub fn node(&self, number: u32) -> &Node
         requires { number < length self.now.nodes }
         ensures node { slice_get self.now.nodes number ≡ Some result.now }
         ensures behind { AllByRecursion (IsBehind number (length self.now.nodes)) (parts result.now) }
         ensures full { IsFull result.now }
         ensures cells { IsOnCells (length self.now.web) (length self.now.cells) result.now }
+        ensures laid { IsLaidAt self.now.nodes number }
         ensures tree { tree_at self.now.nodes number ≡ shape (tree_at self.now.nodes) result.now }
     {
         &self.nodes[number as usize]

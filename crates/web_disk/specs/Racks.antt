@@ -1,6 +1,7 @@
 -- What contracts see of a rack in memory.
 use Rattle.std.specs.Prelude.{◌≡◌, ℕ, ◌+◌, ◌-◌, ◌^◌, min, Bool, true, false, ◌||◌, not, List, slice_get, option_map, Option, Some, None, Result, Ok, Err}
 use Rattle.web_outside.specs.Views.{is_listed}
+use Rattle.web_disk.specs.View.{RackView}
 use Rattle.web_disk.specs.Disks.{memory_view, IsAnew, LeftBy}
 use Rattle.web_disk.specs.declared.wreck.Wreck.{Wreck}
 use Rattle.web_disk.specs.declared.memory.MemoryDisk.{MemoryDisk}
@@ -47,6 +48,10 @@ may_hold rack number image = held (place_of rack number) image
 -- the disk of this number is out
 abbrev pub is_lent : MemoryRack → ℕ → Bool
 is_lent rack number = is_empty (place_of rack number)
+
+-- a rack in memory tells its disks
+abbrev pub rack_view : MemoryRack → RackView
+rack_view rack = record { holds = may_hold rack; out = is_lent rack; faults = rack.faults }
 
 -- what is read of the disk of this number, if it is there
 abbrev pub bytes_at : MemoryRack → ℕ → Option (List ℕ)

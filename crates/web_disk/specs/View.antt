@@ -1,5 +1,5 @@
 -- What contracts see of a disk, and what its calls do to that.
-use Rattle.std.specs.Prelude.{◌≡◌, ◌⊎◌, ℕ, ◌+◌, ◌<◌, ◌≤◌, List, ◌++◌, length, take, drop, slice_get, Some, OnErr, Result}
+use Rattle.std.specs.Prelude.{◌≡◌, ◌⊎◌, ℕ, Bool, ◌+◌, ◌<◌, ◌≤◌, List, ◌++◌, length, take, drop, slice_get, Some, OnErr, Result}
 use Rattle.web_outside.specs.Causes.{Rose}
 
 -- what contracts see of a disk
@@ -18,6 +18,15 @@ pub record View : Type 1 where
   pub ready : ℕ
   pub end : ℕ
   pub left : ℕ
+
+-- what contracts see of a rack
+pub record RackView : Type 1 where
+  -- what the disk of a number may hold when it is taken
+  pub holds : ℕ → List ℕ → Type 0
+  -- whether the disk of a number was taken and not given back
+  pub out : ℕ → Bool
+  -- how often a call failed, of the rack or of a disk that was given back
+  pub faults : ℕ
 
 -- each image has this byte at this place
 abbrev pub IsSure : (List ℕ → Type 0) → ℕ → ℕ → Type 0

@@ -2,7 +2,7 @@ ghost use Rattle.std.specs.Prelude.{◌≡◌, ◌≢◌, ◌≤◌, ◌<◌, �
 ghost use Rattle.web_outside.specs.Causes.{Rose};
 ghost use Rattle.web_disk.specs.View.{AreAmong};
 ghost use Rattle.web_disk.specs.Disks.{memory_view};
-ghost use Rattle.web_disk.specs.Racks.{place_of, disk_in, emptied, may_hold, is_lent, bytes_at, take_fails, faults_after_take, IsTakenFrom, SameRules};
+ghost use Rattle.web_disk.specs.Racks.{place_of, disk_in, emptied, may_hold, is_lent, rack_view, bytes_at, take_fails, faults_after_take, IsTakenFrom, SameRules};
 
 use crate::{Disk, MemoryDisk, Rack, RackFault, Wreck};
 use std::alloc::{AllocError, Global};
@@ -80,6 +80,7 @@ impl MemoryRack {
     // Puts a disk into the place of this number, if there is one.
     fn put_back(&mut self, number: u32, disk: MemoryDisk)
         ensures there { place_of self.old number ≢ None → place_of self.new number ≡ Some (Some disk) }
+        ensures home { is_lent self.new number ≡ false }
         ensures others { (n : ℕ) → n ≢ number → place_of self.new n ≡ place_of self.old n }
         ensures wreck { self.new.wreck ≡ self.old.wreck }
         ensures failing { self.new.failing.items ≡ self.old.failing.items }
@@ -96,11 +97,7 @@ impl MemoryRack {
 impl Rack<MemoryDisk> for MemoryRack {
     ghost tells = { true };
 
-    ghost holds = { λ rack number. may_hold rack number };
-
-    ghost is_out = { λ rack number. is_lent rack number };
-
-    ghost fault_count = { λ rack. rack.faults };
+    ghost view = { λ rack. rack_view rack };
 
     fn faults(&self) -> u64 {
         self.faults
@@ -147,6 +144,7 @@ impl Rack<MemoryDisk> for MemoryRack {
     fn give(&mut self, number: u32, disk: MemoryDisk)
         ensures images { is_lent self.old number ≡ true → AreAmong (may_hold self.new number) (memory_view disk).images }
         ensures there { is_lent self.old number ≡ true → place_of self.new number ≡ Some (Some disk) }
+        ensures home { is_lent self.new number ≡ false }
         ensures others { (n : ℕ) → n ≢ number → AreAmong (may_hold self.new n) (may_hold self.old n) }
         ensures others_out { (n : ℕ) → n ≢ number → is_lent self.new n ≡ is_lent self.old n }
         ensures faults { self.new.faults ≡ min (self.old.faults + (memory_view disk).faults) (2 ^ 64 - 1) }

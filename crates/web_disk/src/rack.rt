@@ -1,6 +1,6 @@
-ghost use Rattle.std.specs.Prelude.{◌≡◌, ◌≢◌, ◌≤◌, ◌+◌, ◌-◌, ◌^◌, Bool, true, IsTrue, List, ℕ, min, IfOk, OnOk, OnErr, IsErrOf};
+ghost use Rattle.std.specs.Prelude.{◌≡◌, ◌≢◌, ◌≤◌, ◌+◌, ◌-◌, ◌^◌, Bool, true, false, IsTrue, List, ℕ, min, IfOk, OnOk, OnErr, IsErrOf};
 ghost use Rattle.web_outside.specs.Causes.{Rose};
-ghost use Rattle.web_disk.specs.View.{View, AreAmong};
+ghost use Rattle.web_disk.specs.View.{View, RackView, AreAmong};
 ghost use Rattle.web_disk.specs.declared.rack.RackFault.TheVariants.{Failed as RackFailed, Memory as RackMemory};
 
 use crate::Disk;
@@ -40,35 +40,30 @@ pub trait Rack<D: Disk> {
     /// Whether it tells what its disks may hold. A directory of files cannot.
     ghost tells: { Bool };
 
-    /// What the disk of this number may hold when it is taken.
-    ghost holds: { Self → ℕ → List ℕ → Type 0 };
-
-    /// Whether the disk of this number was taken and not given back.
-    ghost is_out: { Self → ℕ → Bool };
-
-    /// How often a call failed, of the rack or of a disk that was given back.
-    ghost fault_count: { Self → ℕ };
+    /// What contracts see of it.
+    ghost view: { Self → RackView };
 
     /// How often a call failed, up to the type's end.
     fn faults(&self) -> u64
-        ensures { result ≡ fault_count self.now };
+        ensures { result ≡ (view self.now).faults };
 
     /// Takes the disk of this number out of the directory.
     fn take(&mut self, alloc: Global, directory: &str, number: u32) -> Result<D, RackFault>
-        ensures images { IsTrue tells → IfOk result (λ disk. AreAmong (D.view disk).images (holds self.old number)) }
+        ensures images { IsTrue tells → IfOk result (λ disk. AreAmong (D.view disk).images ((view self.old).holds number)) }
         ensures fresh { IfOk result (λ disk. (D.view disk).faults ≡ 0) }
-        ensures out { OnOk result (is_out self.new number ≡ true) }
-        ensures others { (n : ℕ) → n ≢ number → AreAmong (holds self.new n) (holds self.old n) }
-        ensures others_out { (n : ℕ) → n ≢ number → is_out self.new n ≡ is_out self.old n }
-        ensures err { OnErr result ((n : ℕ) → AreAmong (holds self.new n) (holds self.old n)) }
-        ensures err_out { OnErr result ((n : ℕ) → is_out self.new n ≡ is_out self.old n) }
-        ensures failed { IsErrOf result RackFault.Failed → Rose (fault_count self.old) (fault_count self.new) }
-        ensures later { fault_count self.old ≤ fault_count self.new };
+        ensures out { OnOk result ((view self.new).out number ≡ true) }
+        ensures others { (n : ℕ) → n ≢ number → AreAmong ((view self.new).holds n) ((view self.old).holds n) }
+        ensures others_out { (n : ℕ) → n ≢ number → (view self.new).out n ≡ (view self.old).out n }
+        ensures err { OnErr result ((n : ℕ) → AreAmong ((view self.new).holds n) ((view self.old).holds n)) }
+        ensures err_out { OnErr result ((n : ℕ) → (view self.new).out n ≡ (view self.old).out n) }
+        ensures failed { IsErrOf result RackFault.Failed → Rose (view self.old).faults (view self.new).faults }
+        ensures later { (view self.old).faults ≤ (view self.new).faults };
 
     /// Gives back the disk of this number. The faults of the disk since it was taken count as the rack's.
     fn give(&mut self, number: u32, disk: D)
-        ensures images { IsTrue tells → is_out self.old number ≡ true → AreAmong (holds self.new number) (D.view disk).images }
-        ensures others { (n : ℕ) → n ≢ number → AreAmong (holds self.new n) (holds self.old n) }
-        ensures others_out { (n : ℕ) → n ≢ number → is_out self.new n ≡ is_out self.old n }
-        ensures faults { fault_count self.new ≡ min (fault_count self.old + (D.view disk).faults) (2 ^ 64 - 1) };
+        ensures images { IsTrue tells → (view self.old).out number ≡ true → AreAmong ((view self.new).holds number) (D.view disk).images }
+        ensures others { (n : ℕ) → n ≢ number → AreAmong ((view self.new).holds n) ((view self.old).holds n) }
+        ensures home { (view self.new).out number ≡ false }
+        ensures others_out { (n : ℕ) → n ≢ number → (view self.new).out n ≡ (view self.old).out n }
+        ensures faults { (view self.new).faults ≡ min ((view self.old).faults + (D.view disk).faults) (2 ^ 64 - 1) };
 }

@@ -1,4 +1,6 @@
-ghost use Rattle.std.specs.Prelude.{◌≡◌, ℕ, Option, Some, IfSome};
+ghost use Rattle.std.specs.Prelude.{◌≡◌, ℕ, Option, Some, None, IfSome};
+
+use std::sync::atomic::{AtomicU64, Ordering};
 
 /// A clock in seconds.
 pub trait Clock {
@@ -37,5 +39,33 @@ impl Clock for SetClock {
 
     fn now(&self) -> u64 {
         self.seconds
+    }
+}
+
+/// A clock in memory that goes on by itself: each reading is so many seconds behind the one before. Since readings share it,
+/// no clause knows what it shows.
+#[derive(Drop)]
+pub struct TickingClock {
+    next: AtomicU64,
+    step: u64,
+}
+
+impl TickingClock {
+    /// A clock whose first reading is `first`, and each later one `step` seconds behind the one before.
+    pub fn new(first: u64, step: u64) -> TickingClock
+        ensures { result.step ≡ step }
+    {
+        TickingClock {
+            next: AtomicU64::new(first),
+            step,
+        }
+    }
+}
+
+impl Clock for TickingClock {
+    ghost shows = { λ _. None };
+
+    fn now(&self) -> u64 {
+        self.next.fetch_add(self.step, Ordering::SeqCst)
     }
 }

@@ -1,5 +1,6 @@
 ghost use Rattle.std.specs.Prelude.{◌≡◌, refl};
 ghost use Rattle.std.specs.Borrow.{sem, Lends};
+ghost use Rattle.web_outside.specs.View.{LinkView};
 
 use crate::{Sink, Source, TextSink, TextSource};
 
@@ -11,11 +12,8 @@ pub trait Link {
     /// Where the bytes go.
     type Output: Sink;
 
-    /// The source, as it stands.
-    ghost input: { Self → Self.Input };
-
-    /// The sink, as it stands.
-    ghost output: { Self → Self.Output };
+    /// What contracts see of it.
+    ghost view: { Self → LinkView };
 
     /// The link with another source.
     ghost with_input: { Self → Self.Input → Self };
@@ -26,24 +24,20 @@ pub trait Link {
     /// The source.
     fn input(&mut self) -> &mut Self::Input
         ensures* writes_back { sem 𝓛 (Lends Self.row Self.Input.row self.entry result (with_input self.old)) }
-        ensures value { result.now ≡ input self.old };
+        ensures value { Self.Input.view result.now ≡ (view self.old).input };
 
     /// The sink.
     fn output(&mut self) -> &mut Self::Output
         ensures* writes_back { sem 𝓛 (Lends Self.row Self.Output.row self.entry result (with_output self.old)) }
-        ensures value { result.now ≡ output self.old };
+        ensures value { Self.Output.view result.now ≡ (view self.old).output };
 
-    /// The source that was put in is the link's.
-    ghost input_set: { (link : Self) (half : Self.Input) → input (with_input link half) ≡ half };
+    /// The source that was put in is the link's, and the sink stays.
+    ghost input_set: { (link : Self) (half : Self.Input)
+        → view (with_input link half) ≡ record (view link) { input = Self.Input.view half } };
 
-    /// Another source leaves the sink as it is.
-    ghost output_kept: { (link : Self) (half : Self.Input) → output (with_input link half) ≡ output link };
-
-    /// The sink that was put in is the link's.
-    ghost output_set: { (link : Self) (half : Self.Output) → output (with_output link half) ≡ half };
-
-    /// Another sink leaves the source as it is.
-    ghost input_kept: { (link : Self) (half : Self.Output) → input (with_output link half) ≡ input link };
+    /// The sink that was put in is the link's, and the source stays.
+    ghost output_set: { (link : Self) (half : Self.Output)
+        → view (with_output link half) ≡ record (view link) { output = Self.Output.view half } };
 }
 
 /// A link in memory.
@@ -56,13 +50,13 @@ pub struct TextLink {
 }
 
 impl Link for TextLink {
+    ghost use Rattle.web_outside.specs.Lists.{link_view};
+
     type Input = TextSource;
 
     type Output = TextSink;
 
-    ghost input = { λ link. link.input };
-
-    ghost output = { λ link. link.output };
+    ghost view = { λ link. link_view link };
 
     ghost with_input = { λ link half. record link { input = half } };
 
@@ -78,9 +72,5 @@ impl Link for TextLink {
 
     ghost input_set = { λ _ _. refl };
 
-    ghost output_kept = { λ _ _. refl };
-
     ghost output_set = { λ _ _. refl };
-
-    ghost input_kept = { λ _ _. refl };
 }

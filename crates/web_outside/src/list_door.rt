@@ -6,9 +6,10 @@ use crate::{CONNECTION_LIMIT, Door, DoorFault, ListPorch, Porch};
 use std::alloc::Global;
 use std::mem;
 
-/// A door in memory: it gives its porches to the workers, and keeps those that are closed.
+/// A door in memory: at its one port it gives its porches to the workers, and keeps those that are closed.
 #[derive(Drop)]
 pub struct ListDoor {
+    port: u16,
     porches: Vec<ListPorch>,
     closed: Vec<ListPorch>,
     // The numbers of the listenings that fail, the first being 0.
@@ -18,8 +19,9 @@ pub struct ListDoor {
 }
 
 impl ListDoor {
-    /// The porches, one for each worker; the listenings of these numbers fail, the first being 0.
-    pub fn new(alloc: Global, porches: Vec<ListPorch>, failing: Vec<u64>) -> ListDoor
+    /// The porches, one for each worker, at this port; the listenings of these numbers fail, the first being 0.
+    pub fn new(alloc: Global, port: u16, porches: Vec<ListPorch>, failing: Vec<u64>) -> ListDoor
+        ensures port { result.port ≡ port }
         ensures porches { result.porches.items ≡ porches.items }
         ensures closed { result.closed.items ≡ [] }
         ensures failing { result.failing.items ≡ failing.items }
@@ -27,6 +29,7 @@ impl ListDoor {
         ensures faults { result.faults ≡ 0 }
     {
         ListDoor {
+            port,
             porches,
             closed: Vec::new(alloc),
             failing,
@@ -43,14 +46,14 @@ impl ListDoor {
     }
 }
 
-ghost use Rattle.web_outside.specs.Lists.{IsOpened, tells_coming, tells_all, all_coming, all_failing, all_faults, listen_fails, faults_after_listen};
+ghost use Rattle.web_outside.specs.Lists.{IsOpened, porch_view, door_view, links_at, all_coming, all_failing, all_faults, listen_fails, faults_after_listen, SameDoor};
 
 // Begins each porch anew.
 fn open_all(porches: &mut [ListPorch], connections: u64)
     requires { connections ≤ CONNECTION_LIMIT }
     ensures opened { All (IsOpened connections) porches.new }
     ensures coming { all_coming porches.new ≡ all_coming porches.old }
-    ensures told { map tells_coming porches.new ≡ map Some (all_coming porches.old) }
+    ensures told { map (λ porch. (porch_view porch).coming) porches.new ≡ map Some (all_coming porches.old) }
     ensures failing { all_failing porches.new ≡ all_failing porches.old }
 {
     if let Some((first, rest)) = porches.split_first_mut() {
@@ -72,17 +75,13 @@ fn faults_of(porches: &[ListPorch]) -> u64
 impl Door for ListDoor {
     type Porch = ListPorch;
 
-    ghost links = { λ door. Some (all_coming door.porches.items) };
-
-    ghost closed = { λ door. Some door.closed.items };
-
-    ghost fault_count = { λ door. door.faults };
+    ghost view = { λ door. door_view door };
 
     fn faults(&self) -> u64 {
         self.faults
     }
 
-    // It fails exactly where it is listed, and where there is not one porch for each worker.
+    // It fails exactly where it is listed, at another port, and where there is not one porch for each worker.
     fn listen(
         &mut self,
         alloc: Global,
@@ -92,25 +91,27 @@ impl Door for ListDoor {
     ) -> Result<Vec<ListPorch>, DoorFault>
         requires { connections ≤ CONNECTION_LIMIT }
         ensures count { IfOk result (λ porches. vec_len porches ≡ workers) }
-        ensures told { IfOk result (λ porches. GiveLists tells_coming porches.items (tells_all self.old)) }
+        ensures told { IfOk result (λ porches. GiveLists porch_view porches.items (links_at self.old port)) }
         ensures coming { IfOk result (λ porches. all_coming porches.items ≡ all_coming self.old.porches.items) }
         ensures opened { IfOk result (λ porches. All (IsOpened connections) porches.items) }
         ensures failing { IfOk result (λ porches. all_failing porches.items ≡ all_failing self.old.porches.items) }
         ensures emptied { IfOk result (λ _. self.new.porches.items ≡ []) }
         ensures err { OnErr result (self.new.porches.items ≡ self.old.porches.items) }
-        ensures fails { listen_fails self.old workers ≡ true → IsErrOf result DoorFault.Failed }
-        ensures fails_only { IsErrOf result DoorFault.Failed → listen_fails self.old workers ≡ true }
+        ensures fails { listen_fails self.old port workers ≡ true → IsErrOf result DoorFault.Failed }
+        ensures fails_only { IsErrOf result DoorFault.Failed → listen_fails self.old port workers ≡ true }
         ensures failed { IsErrOf result DoorFault.Failed → Rose self.old.faults self.new.faults }
         ensures later { self.old.faults ≤ self.new.faults }
         ensures faults { self.new.faults ≡ faults_after_listen result self.old.faults }
         ensures listens { self.new.listens ≡ min (self.old.listens + 1) (2 ^ 64 - 1) }
         ensures closed { self.new.closed.items ≡ self.old.closed.items }
-        ensures rules { self.new.failing.items ≡ self.old.failing.items }
+        ensures rules { SameDoor self.old self.new }
     {
-        let _ = port;
         let number = self.listens;
         self.listens = number.saturating_add(1);
-        if self.failing.contains(&number) || self.porches.len() != workers as usize {
+        if self.failing.contains(&number)
+            || port != self.port
+            || self.porches.len() != workers as usize
+        {
             self.faults = self.faults.saturating_add(1);
             return Err(DoorFault::Failed);
         }
@@ -121,10 +122,10 @@ impl Door for ListDoor {
 
     fn close(&mut self, porches: Vec<ListPorch>)
         ensures closed { self.new.closed.items ≡ porches.items }
-        ensures faults { self.new.faults ≡ counts_with (λ porch. porch.faults) porches.items self.old.faults }
+        ensures faults { self.new.faults ≡ counts_with porch_view porches.items self.old.faults }
         ensures porches { self.new.porches.items ≡ self.old.porches.items }
         ensures listens { self.new.listens ≡ self.old.listens }
-        ensures rules { self.new.failing.items ≡ self.old.failing.items }
+        ensures rules { SameDoor self.old self.new }
     {
         self.faults = self.faults.saturating_add(faults_of(&porches));
         self.closed = porches;

@@ -79,21 +79,11 @@ impl ListPorch {
 
 impl Porch for ListPorch {
     ghost use Rattle.web_outside.specs.Views.{is_listed, CountsFault};
-    ghost use Rattle.web_outside.specs.Lists.{porch_coming, porch_served, porch_ended, SamePorch};
+    ghost use Rattle.web_outside.specs.Lists.{porch_view, porch_coming, porch_served, porch_ended, SamePorch};
 
     type Link = TextLink;
 
-    ghost coming = { λ porch. Some porch.coming.items };
-
-    ghost served = { λ porch. Some porch.served.items };
-
-    ghost given = { λ porch. porch.given };
-
-    ghost most = { λ porch. porch.most };
-
-    ghost is_lent = { λ porch. porch.lent };
-
-    ghost fault_count = { λ porch. porch.faults };
+    ghost view = { λ porch. porch_view porch };
 
     fn faults(&self) -> u64 {
         self.faults

@@ -1,5 +1,6 @@
 ghost use Rattle.std.specs.Prelude.{◌≡◌, ◌≤◌, ◌+◌, ◌-◌, ◌^◌, ℕ, List, Option, Some, true, min, replicate, vec_len, IfOk, IfSome, IsErrOf};
 ghost use Rattle.web_outside.specs.Causes.{Rose};
+ghost use Rattle.web_outside.specs.View.{SeedsView};
 ghost use Rattle.web_outside.specs.declared.seeds.SeedFault.TheVariants.{Failed as SeedFailed, Memory as SeedMemory};
 
 use crate::nonces::counters;
@@ -44,22 +45,19 @@ impl<T: Drop> From<AllocFailed<T>> for SeedFault {
 
 /// Where sources of nonces are drawn from.
 pub trait Seeds<N: Nonces> {
-    /// The sources that the next draw of so many gives, where it tells them.
-    ghost gives: { Self → ℕ → Option (List N) };
-
-    /// How often a call failed.
-    ghost fault_count: { Self → ℕ };
+    /// What contracts see of them.
+    ghost view: { Self → SeedsView N };
 
     /// How often a call failed, up to the type's end.
     fn faults(&self) -> u64
-        ensures { result ≡ fault_count self.now };
+        ensures { result ≡ (view self.now).faults };
 
     /// Draws so many sources of nonces.
     fn draw(&mut self, alloc: Global, count: u32) -> Result<Vec<N>, SeedFault>
         ensures count { IfOk result (λ sources. vec_len sources ≡ count) }
-        ensures told { IfOk result (λ sources. IfSome (gives self.old count) (λ told. sources.items ≡ told)) }
-        ensures failed { IsErrOf result SeedFault.Failed → Rose (fault_count self.old) (fault_count self.new) }
-        ensures later { fault_count self.old ≤ fault_count self.new };
+        ensures told { IfOk result (λ sources. IfSome ((view self.old).gives count) (λ told. sources.items ≡ told)) }
+        ensures failed { IsErrOf result SeedFault.Failed → Rose (view self.old).faults (view self.new).faults }
+        ensures later { (view self.old).faults ≤ (view self.new).faults };
 }
 
 /// Seeds in memory: each source that they give counts from 0 on.
@@ -89,11 +87,9 @@ impl ListSeeds {
 impl Seeds<Counting> for ListSeeds {
     ghost use Rattle.web_outside.specs.Views.{is_listed};
     ghost use Rattle.web_outside.specs.Counted.{from_zero};
-    ghost use Rattle.web_outside.specs.Lists.{faults_after_draw};
+    ghost use Rattle.web_outside.specs.Lists.{faults_after_draw, seeds_view};
 
-    ghost gives = { λ _ count. Some (replicate count from_zero) };
-
-    ghost fault_count = { λ seeds. seeds.faults };
+    ghost view = { λ seeds. seeds_view seeds };
 
     fn faults(&self) -> u64 {
         self.faults

@@ -1,14 +1,15 @@
 use Rattle.std.proofs.Common.{arith}
+use Rattle.server_limits.specs.Limits.{most_fuel, most_instances, most_life, most_pages}
 use Rattle.command_words.proofs.options_of.Goals as goal
 
 pub returns-in_err-number-clause-refused : goal.returns-in_err-number-clause-refused
-returns-in_err-number-clause-refused c = λ usage held. c.in_err-number.ensures.refused 1 10000000 (omega arith) held.fuel
+returns-in_err-number-clause-refused c = λ usage held. c.in_err-number.ensures.refused 1 most_fuel (omega arith) held.0
 
 pub returns-in_err-number-2-clause-refused : goal.returns-in_err-number-2-clause-refused
-returns-in_err-number-2-clause-refused c = λ usage held. c.in_err-number-2.ensures.refused 1 2147483648 (omega arith) held.life
+returns-in_err-number-2-clause-refused c = λ usage held. c.in_err-number-2.ensures.refused 1 most_life (omega arith) held.1.0
 
 pub returns-in_err-short_number-clause-refused : goal.returns-in_err-short_number-clause-refused
-returns-in_err-short_number-clause-refused c = λ usage held. c.in_err-short_number.ensures.refused 1 4096 (omega arith) held.instances
+returns-in_err-short_number-clause-refused c = λ usage held. c.in_err-short_number.ensures.refused 1 most_instances (omega arith) held.1.1.0
 
 pub returns-in_err-short_number-2-clause-refused : goal.returns-in_err-short_number-2-clause-refused
-returns-in_err-short_number-2-clause-refused c = λ usage held. c.in_err-short_number-2.ensures.refused 1 1024 (omega arith) held.pages
+returns-in_err-short_number-2-clause-refused c = λ usage held. c.in_err-short_number-2.ensures.refused 1 most_pages (omega arith) held.1.1.1.0

@@ -8,10 +8,10 @@ abbrev pub invariant-loop-rest : goal.invariant-loop-rest
 invariant-loop-rest g l =
     let rules = g.T.Stage.rules in
     record {
-      reached : Reached rules (steps_of l.text) (scene rules (g.O.Sink.written l.initial.sink) (g.T.Stage.state l.initial.stage))
-          (scene rules (g.O.Sink.written l.sink) (g.T.Stage.state l.stage)) l.number (steps_of l.rest);
+      reached : Reached rules (steps_of l.text) (scene rules (g.O.Sink.view l.initial.sink).written (g.T.Stage.state l.initial.stage))
+          (scene rules (g.O.Sink.view l.sink).written (g.T.Stage.state l.stage)) l.number (steps_of l.rest);
       numbered : l.number + length l.rest ≤ length l.text + 1;
-      later : g.O.Sink.fault_count l.initial.sink ≤ g.O.Sink.fault_count l.sink;
+      later : (g.O.Sink.view l.initial.sink).faults ≤ (g.O.Sink.view l.sink).faults;
     }
 
 abbrev pub decreases-loop-rest : goal.decreases-loop-rest

@@ -1,0 +1,22 @@
+//! Answers rows, one a line: a word that says what is asked, and a text. Each row is written back with its answer.
+#![tactic(auto)]
+
+mod read;
+mod rows;
+mod runs;
+mod syntax;
+mod text;
+mod values;
+
+use std::io;
+use std::io::{BufRead, BufReader, BufWriter, Write};
+
+fn main(rt: HostRuntime) -> io::Result<()> {
+    let alloc = rt.alloc();
+    let mut output = BufWriter::new(alloc, io::writer(&rt))?;
+    for line in BufReader::new(alloc, rt.reader())?.lines(alloc) {
+        let answered = rows::answered(alloc, line?.as_str())?;
+        output.write_all(answered.as_bytes())?;
+    }
+    output.flush()
+}

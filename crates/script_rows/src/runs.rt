@@ -1,0 +1,225 @@
+use crate::read::data;
+use crate::syntax::script_of;
+use instance_cells::{Cells, Effect};
+use plain_rerun::rerun;
+use script_nodes::{Script, SendKind};
+use script_value::{Items, Str, TxName, Value};
+use segments::{Answer, Now, PlainEnd, Reads, Rerun, Tape, clone_answers};
+use std::alloc::{AllocError, Global};
+
+/// What a segment of these runs may cost, where a row says nothing of it.
+const FUEL: u64 = 100_000;
+
+// The URL `/NUMBER`.
+fn url(alloc: Global, number: u64) -> Result<Str, AllocError> {
+    Ok(Str::new(format!(in alloc; "/{number}")?))
+}
+
+// A segment that ran behind an answer, and read this.
+fn ran_behind(
+    alloc: Global,
+    number: u64,
+    value: Value,
+    reads: Items,
+) -> Result<Answer, AllocError> {
+    Ok(Answer {
+        value,
+        number,
+        url: url(alloc, number)?,
+        reads,
+    })
+}
+
+// The tape of these segments and an answer, over these cells.
+fn tape<'t>(
+    past: &'t [Answer],
+    answer: &'t Value,
+    url: &'t Str,
+    cells: &'t Cells,
+    fuel: u64,
+) -> Tape<'t> {
+    Tape {
+        past,
+        answer,
+        newest: Now {
+            number: past.len() as u64,
+            url,
+            reads: Reads::Present { cells, fuel },
+        },
+    }
+}
+
+// What a script comes to behind these segments and an answer, over what its instance cells begin with.
+fn run_behind(
+    alloc: Global,
+    script: &Script,
+    past: &[Answer],
+    answer: &Value,
+    fuel: u64,
+) -> Result<Rerun, AllocError> {
+    let url = url(alloc, past.len() as u64)?;
+    let cells = Cells::of(alloc, script.instance_defaults().as_slice())?;
+    rerun(alloc, script, &tape(past, answer, &url, &cells, fuel))
+}
+
+// What a script comes to over these answers; its segments have the numbers 0, 1 and so on, and those before the last read nothing.
+fn run_over(
+    alloc: Global,
+    script: &Script,
+    answers: Vec<Value>,
+    fuel: u64,
+) -> Result<Rerun, AllocError> {
+    let mut past = Vec::new(alloc);
+    let mut last = Value::Truth(false);
+    for value in answers {
+        let number = past.len() as u64;
+        past.push(ran_behind(alloc, number, last, Items::new(alloc))?)?;
+        last = value;
+    }
+    run_behind(alloc, script, past.as_slice(), &last, fuel)
+}
+
+// The fuel that stands first in a row, and the rest of it.
+fn fuel_of(row: &str) -> (u64, &str) {
+    match row.split_once(' ') {
+        Some((first, rest)) => match first.parse() {
+            Ok(fuel) => (fuel, rest),
+            Err(_) => (FUEL, row),
+        },
+        None => (FUEL, row),
+    }
+}
+
+// What the script of a row comes to over the answers behind `<-`, or the first fault of either.
+fn ran(alloc: Global, row: &str) -> Result<Result<Rerun, String>, AllocError> {
+    let (fuel, row) = fuel_of(row);
+    let (text, answers) = row.split_once(" <- ").unwrap_or((row, ""));
+    let script = match script_of(alloc, text)? {
+        Ok(script) => script,
+        Err(fault) => return Ok(Err(fault)),
+    };
+    match data(alloc, answers.as_bytes())? {
+        Ok(answers) => Ok(Ok(run_over(alloc, &script, answers, fuel)?)),
+        Err(fault) => Ok(Err(fault)),
+    }
+}
+
+// How a run stopped.
+fn end_told(alloc: Global, end: &PlainEnd) -> Result<String, AllocError> {
+    let (word, page) = match end {
+        PlainEnd::Shown { page, kind } => match kind {
+            SendKind::Suspend => ("shown", page),
+            SendKind::Forward => ("forwarded", page),
+        },
+        PlainEnd::Finished(page) => ("finished", page),
+        PlainEnd::Ended(page) => ("ended", page),
+        PlainEnd::Faulted(fault) => return format!(in alloc; "{fault:?}"),
+        PlainEnd::Fuel(cost) => return format!(in alloc; "fuel {cost}"),
+    };
+    let page = str::from_utf8(page.as_slice()).unwrap_or("no text");
+    format!(in alloc; "{word} {page}")
+}
+
+/// How a run stops.
+pub fn end_of(alloc: Global, row: &str) -> Result<String, AllocError> {
+    match ran(alloc, row)? {
+        Ok(run) => end_told(alloc, &run.end),
+        Err(fault) => Ok(fault),
+    }
+}
+
+/// How a run stops, and what its last segment costs.
+pub fn cost_of(alloc: Global, row: &str) -> Result<String, AllocError> {
+    match ran(alloc, row)? {
+        Ok(run) => {
+            let end = end_told(alloc, &run.end)?;
+            let cost = run.cost;
+            format!(in alloc; "{end}, {cost}")
+        }
+        Err(fault) => Ok(fault),
+    }
+}
+
+// An effect on a number.
+fn effect_told(alloc: Global, effect: &Effect) -> Result<String, AllocError> {
+    match effect {
+        Effect::Read(cell, Value::Int(n)) => format!(in alloc; ", read {cell} {n}"),
+        Effect::Set(cell, Value::Int(n)) => format!(in alloc; ", set {cell} {n}"),
+        Effect::Add(cell, n) => format!(in alloc; ", add {cell} {n}"),
+        _ => format!(in alloc; ", no number"),
+    }
+}
+
+// How a run stopped, and the effects of its last segment.
+fn with_effects(alloc: Global, run: &Rerun) -> Result<String, AllocError> {
+    let mut told = end_told(alloc, &run.end)?;
+    for effect in run.effects.as_slice() {
+        told.push_str(effect_told(alloc, effect)?.as_str())?;
+    }
+    Ok(told)
+}
+
+/// How a run stops, and the effects of its last segment.
+pub fn effects_of(alloc: Global, row: &str) -> Result<String, AllocError> {
+    match ran(alloc, row)? {
+        Ok(run) => with_effects(alloc, &run),
+        Err(fault) => Ok(fault),
+    }
+}
+
+// Names of transactions.
+fn names_told(alloc: Global, names: &[TxName]) -> Result<String, AllocError> {
+    let mut told = String::new(alloc);
+    for name in names {
+        let ticket = name.ticket;
+        let entry = name.entry;
+        told.push_str(format!(in alloc; " {ticket}.{entry}")?.as_str())?;
+    }
+    Ok(told)
+}
+
+/// The transactions that are open where a run stops, and those that its last segment left.
+pub fn names_of(alloc: Global, row: &str) -> Result<String, AllocError> {
+    match ran(alloc, row)? {
+        Ok(run) => {
+            let entered = names_told(alloc, run.entered.as_slice())?;
+            let left = names_told(alloc, run.left.as_slice())?;
+            format!(in alloc; "open{entered}, left{left}")
+        }
+        Err(fault) => Ok(fault),
+    }
+}
+
+/// Whether the value of an expression is the datum behind `<-`, or how the script stops.
+pub fn value_told(alloc: Global, row: &str) -> Result<String, AllocError> {
+    let (expression, value) = row.split_once(" <- ").unwrap_or((row, ""));
+    let text = format!(in alloc; "(if (equal? {expression} '{value}) \"same\" \"other\")")?;
+    end_of(alloc, text.as_str())
+}
+
+// A run whose first segment read these values, and copies of the past and of the run.
+fn over_reads(alloc: Global, script: &Script, reads: Vec<Value>) -> Result<String, AllocError> {
+    let first = Value::Truth(false);
+    let mut past = Vec::new(alloc);
+    past.push(ran_behind(alloc, 0, first, Items::from_vec(reads))?)?;
+    let run = run_behind(alloc, script, past.as_slice(), &Value::Int(0), FUEL)?;
+    let past = clone_answers(alloc, past.as_slice())?;
+    let again = run_behind(alloc, script, past.as_slice(), &Value::Int(0), FUEL)?;
+    let copy = again.try_clone(alloc)?;
+    let told = with_effects(alloc, &run)?;
+    let copied = with_effects(alloc, &copy)?;
+    format!(in alloc; "{told}; {copied}")
+}
+
+/// How a script stops behind a first segment that read the values behind `<-`; the same of copies.
+pub fn recorded(alloc: Global, row: &str) -> Result<String, AllocError> {
+    let (text, reads) = row.split_once(" <- ").unwrap_or((row, ""));
+    let script = match script_of(alloc, text)? {
+        Ok(script) => script,
+        Err(fault) => return Ok(fault),
+    };
+    match data(alloc, reads.as_bytes())? {
+        Ok(reads) => over_reads(alloc, &script, reads),
+        Err(fault) => Ok(fault),
+    }
+}

@@ -1,0 +1,15 @@
+use Rattle.std.proofs.Common.{rules, ◌≡◌, [], ◌∷◌}
+use Rattle.script_nodes.specs.Views.{scripts_of}
+use Rattle.server_command.proofs.serial.SerialAnswering.tick.Goals as goal
+
+pub returns-clause-own : goal.returns-clause-own
+returns-clause-own g c = c.sweep.ensures.in_order (scripts_of c.args.self.now.setup.now) c.requires.own
+
+pub returns-clause-tick : goal.returns-clause-tick
+returns-clause-tick g c = λ given has.
+    let items : c.push.new.self.items ≡ c.sweep.result ∷ [] = search rules in
+    let done = c.sweep.ensures.event (scripts_of c.args.self.now.setup.now) (g.N.Nonces.nonce c.args.self.now.source) given has in
+    record { later = _; stream = done.1; how = (c.sweep.result, items, done.0) }
+
+pub returns-in_err-answers-clause-tick : goal.returns-in_err-answers-clause-tick
+returns-in_err-answers-clause-tick g c = λ given has. record { later = given; stream = has; how = search rules }

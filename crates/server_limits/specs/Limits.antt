@@ -1,0 +1,42 @@
+-- The limits of a server's options.
+use Rattle.std.specs.Prelude.{ℕ, ◌≤◌}
+
+abbrev pub most_shelves : ℕ
+most_shelves = 16
+
+abbrev pub most_fuel : ℕ
+most_fuel = 10000000
+
+abbrev pub most_life : ℕ
+most_life = 2147483648
+
+abbrev pub most_instances : ℕ
+most_instances = 4096
+
+abbrev pub most_pages : ℕ
+most_pages = 1024
+
+abbrev pub most_connections : ℕ
+most_connections = 1000000
+
+abbrev pub IsWithin : (low high n : ℕ) → Type 0
+IsWithin low high n = (low ≤ n) × (n ≤ high)
+
+-- the ranges of the options
+abbrev pub IsFuel : ℕ → Type 0
+IsFuel n = IsWithin 1 most_fuel n
+
+abbrev pub IsLife : ℕ → Type 0
+IsLife n = IsWithin 1 most_life n
+
+abbrev pub AreInstances : ℕ → Type 0
+AreInstances n = IsWithin 1 most_instances n
+
+abbrev pub ArePages : ℕ → Type 0
+ArePages n = IsWithin 1 most_pages n
+
+abbrev pub AreShelves : ℕ → Type 0
+AreShelves n = IsWithin 1 most_shelves n
+
+abbrev pub AreConnections : ℕ → Type 0
+AreConnections n = IsWithin 1 most_connections n
