@@ -1,8 +1,7 @@
 -- Copies of what is prepared.
-use Rattle.std.specs.Prelude.{◌≡◌, ℕ, List, Option}
+use Rattle.std.specs.Prelude.{◌≡◌, ℕ, List}
 use Rattle.script_nodes.specs.Setup.{Named}
 use Rattle.replay_spec.specs.Book as spec
-use Rattle.instance_book.specs.declared.in_order.InOrder.{InOrder}
 use Rattle.instance_book.specs.declared.instance.KeptInstance.{KeptInstance}
 use Rattle.instance_book.specs.declared.after.Show.{Show}
 use Rattle.instance_book.specs.declared.prepared.Opening.{Opening}
@@ -10,7 +9,7 @@ use Rattle.instance_book.specs.declared.prepared.Extension.{Extension}
 use Rattle.instance_book.specs.declared.prepared.Prepared.{Prepared}
 use Rattle.instance_book.specs.declared.prepared.Change.{Change}
 use Rattle.instance_book.specs.declared.book.Book.{Book}
-use Rattle.instance_book.specs.Views.{page_of, pages_of, instance_with}
+use Rattle.instance_book.specs.Views.{page_of, instance_with}
 use Rattle.instance_book.specs.Changes.{shown_with, extension_of, begun_with, change_of, inside_of, decision_of, instances_after, HasRoomWith, HasRoomFor, OpensPlaced, IsPlacedBy, instances_with}
 
 -- the same instance under each number and setup

@@ -6,7 +6,7 @@ use Rattle.segments.specs.Views.{answer_of}
 use Rattle.segments.specs.declared.tape.Answer as kept
 use Rattle.replay_spec.specs.Tape.{Reads, Answer, Tape, tape_behind}
 use Rattle.replay_spec.specs.Book as spec
-use Rattle.replay_spec.specs.Admission.{Place, Admission, begins, resumes, refused}
+use Rattle.replay_spec.specs.Admission.{Admission, begins, resumes, refused}
 use Rattle.replay_spec.specs.Next.{Visit, url_for, home_of, answered, start_visit, page_visit}
 use Rattle.instance_book.specs.declared.ticket.Ticket.{Ticket}
 use Rattle.instance_book.specs.Views.{ticket_of}

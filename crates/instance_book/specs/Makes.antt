@@ -1,5 +1,5 @@
 -- What a call makes of a book, and of a list of instances.
-use Rattle.std.specs.Prelude.{◌≡◌, ℕ, List, length, map, Option, option_map, IfSome}
+use Rattle.std.specs.Prelude.{◌≡◌, ℕ, List, length, Option, option_map, IfSome}
 use Rattle.std.specs.Borrow.{Bor}
 use Rattle.script_nodes.specs.Setup.{Named}
 use Rattle.replay_spec.specs.Book as spec

@@ -1,5 +1,5 @@
 -- The places of instances' scripts in the setup.
-use Rattle.std.specs.Prelude.{ℕ, ◌<◌, List, length}
+use Rattle.std.specs.Prelude.{◌<◌, List, length}
 use Rattle.std.specs.List.{AllByRecursion}
 use Rattle.script_nodes.specs.Setup.{Named}
 use Rattle.instance_book.specs.declared.numbered.Numbered.{Numbered}

@@ -1,5 +1,5 @@
 -- What the program's book stands for in the definitions.
-use Rattle.std.specs.Prelude.{◌≡◌, ℕ, List, [], map, get_or, Option, Some, None}
+use Rattle.std.specs.Prelude.{◌≡◌, ℕ, List, [], map, get_or, Option, Some}
 use Rattle.script_value.specs.Val.{list, no_vals}
 use Rattle.script_value.specs.Views.{meaning}
 use Rattle.script_value.specs.declared.outcome.Reply.{Reply}

@@ -10,8 +10,8 @@ use crate::in_order::InOrder;
 use crate::numbered::Numbered;
 use crate::page::KeptPage;
 use page_names::{PageName, ScriptName, url_text};
-use segments::Answer;
 use script_value::Str;
+use segments::Answer;
 use std::alloc::{AllocError, Global};
 
 /// What the URLs of an instance's pages share.

@@ -12,10 +12,10 @@ use crate::second::segment_now;
 use crate::shelf::Shelf;
 use instance_book::{Book, Prepared, Ticket};
 use page_names::Target;
-use segments::Rerun;
-use script_nodes::Setup;
 use replay_spec::orderly_books_stay;
+use script_nodes::Setup;
 use script_value::{Reply, Value};
+use segments::Rerun;
 use std::alloc::Global;
 use web_outside::Nonces;
 
