@@ -35,12 +35,11 @@ pub happens : (scripts : List Named) (s new : Shelf Counting) (event : Event) (r
     → HasGiven in_64_bits s.book.drawn (counted s.nonces) → s.book.drawn < 2 ^ 64 → new.book.drawn ≡ drawn_by reply s.book.drawn
     → Happens scripts s new event reply
 happens scripts s new event reply done given low drawn =
-    let it = done in_64_bits s.book.drawn given in
     let first : in_64_bits s.book.drawn ≡ s.book.drawn = omega (arith, low) in
     record {
       is = same_source counting in_64_bits (shelf_of scripts s.book.drawn s) event (fate_by reply) (sym first)
-          ∙ (it.0 ∙ ap (λ n. (reply, shelf_of scripts n new)) (sym drawn));
-      stream = subst (λ n. HasGiven in_64_bits n (counted new.nonces)) (sym drawn) it.1;
+          ∙ (done.step in_64_bits s.book.drawn given ∙ ap (λ n. (reply, shelf_of scripts n new)) (sym drawn));
+      stream = subst (λ n. HasGiven in_64_bits n (counted new.nonces)) (sym drawn) (done.nonces in_64_bits s.book.drawn given);
     }
 
 -- the book behind an event
@@ -53,7 +52,7 @@ pub behind_event : (scripts : List Named) (s new : Shelf Counting) (event : Even
     → HasGiven in_64_bits s.book.drawn (counted s.nonces)
     → step (shelf_of scripts s.book.drawn s).rules (book_in scripts s) (in_64_bits s.book.drawn) event (fate_by reply) ≡ (reply, book_in scripts new)
 behind_event scripts s new event reply done given =
-    ap (λ (x : spec.Reply × runs.Shelf). (x.0, x.1.book)) (done in_64_bits s.book.drawn given).0
+    ap (λ (x : spec.Reply × runs.Shelf). (x.0, x.1.book)) (done.step in_64_bits s.book.drawn given)
 
 -- no reply of the program's own is a number
 pub none_drawn : (r : Reply) (k : ℕ) → drawn_by (reply_of r) k ≡ k

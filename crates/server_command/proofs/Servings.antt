@@ -12,6 +12,7 @@ use Rattle.command_words.specs.declared.Service.{Service}
 use Rattle.replay_spec.specs.Rules.{Rules}
 use Rattle.request_workers.specs.Counting.{Count, nothing, both}
 use Rattle.request_workers.specs.Tallies.{count_of}
+use Rattle.request_workers.specs.Working.{EndsBy}
 use Rattle.request_workers.specs.declared.tally.Tally.{Tally}
 use Rattle.request_workers.specs.declared.tally.WorkEnd.{WorkEnd}
 use Rattle.request_workers.specs.declared.tally.WorkEnd.TheVariants as ends
@@ -22,7 +23,7 @@ use Rattle.server_command.specs.declared.program.Status.{Status}
 use Rattle.server_command.specs.declared.program.Status.TheVariants as status
 use Rattle.server_command.specs.Command.{TellsFaultLine}
 use Rattle.server_command.specs.Output.{Answers, Sinks, rules_for, served, sinks}
-use Rattle.server_command.specs.Serving.{Faults, LeavesInput, Outside, Served, Serves, WorksAt, WorksFirst, end_with, worker_of}
+use Rattle.server_command.specs.Serving.{Faults, LeavesInput, Outside, Served, Serves, Views, WorksAt, WorksFirst, end_with, worker_of}
 use Rattle.server_command.proofs.Endings.{tells}
 
 -- the one item of a list
@@ -72,12 +73,12 @@ pub not_less : {P L : Type 0} (view : P → PorchView L) (porches : List P) (fir
 not_less view porches first count rose before low is = omega (arith, before, low, is)
 
 -- a porch that failed is a fault of the door that closed it
-pub porch_rose : {P L : Type 0} (view : P → PorchView L) (old new : List P) (before after : P) (count rose : ℕ) → old ≡ before ∷ [] → new ≡ after ∷ []
-    → All (λ p. (view p).faults ≡ 0) old → Rose (view before).faults (view after).faults → rose ≡ counts_with view new count → Rose count rose
-porch_rose view old new before after count rose had has fresh failed is =
-    let none = All-head (λ p. (view p).faults ≡ 0) before [] (subst (All (λ p. (view p).faults ≡ 0)) had fresh) in
-    let one = is ∙ ap (λ ps. counts_with view ps count) has in
-    omega (arith, none, failed, one)
+pub porch_rose : {P L N : Type 0} (v : Views P L N) (rules : Rules) (scripts : List Named) (source : N) (old new : List P) (tally : Tally) (first count rose : ℕ)
+    → WorksFirst v rules scripts source old new (worker_of tally) → tally.end ≡ ends.Failed → first ≤ count → rose ≡ counts_with v.porch new count → Rose first rose
+porch_rose v rules scripts source old new tally first count rose w failed before is =
+    let porch : Rose (v.porch w.before).faults (v.porch w.after).faults = subst (λ e. EndsBy e (v.porch w.before) (v.porch w.after)) failed w.works.ended in
+    let one = is ∙ ap (λ ps. counts_with v.porch ps count) w.has in
+    omega (arith, before, porch, one)
 
 -- the line of a setup's fault
 pub tells_fault_line : (line : List ℕ) (e : Fault) (old new : Option (List ℕ)) (before after : ℕ) → line ≡ fault_line e → AppendsUnlessFault old new line before after

@@ -62,7 +62,7 @@ pub fn ran(
     if outside.stuck {
         sink.stick();
     }
-    let mut door = ListDoor::new(alloc, Vec::new(alloc), Vec::new(alloc));
+    let mut door = ListDoor::new(alloc, 0, Vec::new(alloc), Vec::new(alloc));
     let mut seeds = ListSeeds::new(Vec::new(alloc));
     let clock = SetClock::new(0);
     let status = command(

@@ -5,7 +5,8 @@ use server_command::command;
 use std::alloc::Global;
 use std::test::Fail;
 use web_outside::{
-    ListDoor, ListPorch, ListSeeds, OpenGate, SetClock, TextLink, TextSink, TextSource,
+    Clock, Gate, ListDoor, ListPorch, ListSeeds, NotingGate, OpenGate, SetClock, TextLink,
+    TextSink, TextSource, TickingClock,
 };
 
 const SERVE: &[&str] = &["hovgyelit", "serve", "--port", "0"];
@@ -20,9 +21,10 @@ const ALL: (&str, &str) = (
 const TEN_PAGE: &str =
     "HTTP/1.1 200 OK\r\nContent-Type: text/html; charset=utf-8\r\nContent-Length: 12\r\nConnection: close\r\n\r\n<p>12345</p>";
 
-// How a serving is treated: what its links send, and which calls fail.
+// How a serving is treated: at which port its links come in, what they send, and which calls fail.
 #[derive(Clone, Copy)]
 struct Street<'a> {
+    port: u16,
     links: &'a [&'a str],
     greatest: usize,
     listens: &'a [u64],
@@ -32,6 +34,7 @@ struct Street<'a> {
 }
 
 const QUIET: Street<'static> = Street {
+    port: 0,
     links: &[],
     greatest: 4096,
     listens: &[],
@@ -66,17 +69,28 @@ fn door_of(alloc: Global, street: &Street) -> Result<ListDoor, Fail> {
     }
     let mut porches = Vec::new(alloc);
     porches.push(ListPorch::new(alloc, links, street.nexts.to_vec(alloc)?)?)?;
-    Ok(ListDoor::new(alloc, porches, street.listens.to_vec(alloc)?))
+    Ok(ListDoor::new(
+        alloc,
+        street.port,
+        porches,
+        street.listens.to_vec(alloc)?,
+    ))
 }
 
-// What serving this input comes to.
-fn served(rt: &HostRuntime, words: &[&str], input: &str, street: &Street) -> Result<Ending, Fail> {
+// What serving this input comes to, at this clock and through this gate.
+fn served_at<C: Clock, G: Gate>(
+    rt: &HostRuntime,
+    words: &[&str],
+    input: &str,
+    street: &Street,
+    clock: &C,
+    gate: &G,
+) -> Result<Ending, Fail> {
     let alloc = rt.alloc();
     let mut source = TextSource::new(input.as_bytes().to_vec(alloc)?, Vec::new(alloc), 4096);
     let mut sink = TextSink::new(alloc, street.room, Vec::new(alloc))?;
     let mut door = door_of(alloc, street)?;
     let mut seeds = ListSeeds::new(street.draws.to_vec(alloc)?);
-    let clock = SetClock::new(0);
     let status = command(
         rt,
         alloc,
@@ -84,9 +98,9 @@ fn served(rt: &HostRuntime, words: &[&str], input: &str, street: &Street) -> Res
         &mut source,
         &mut sink,
         &mut door,
-        &clock,
+        clock,
         &mut seeds,
-        &OpenGate,
+        gate,
     );
     let mut links = Vec::new(alloc);
     for porch in door.closed() {
@@ -99,6 +113,11 @@ fn served(rt: &HostRuntime, words: &[&str], input: &str, street: &Street) -> Res
         text: String::from_str(alloc, str::from_utf8(sink.bytes())?)?,
         links,
     })
+}
+
+// What serving this input comes to.
+fn served(rt: &HostRuntime, words: &[&str], input: &str, street: &Street) -> Result<Ending, Fail> {
+    served_at(rt, words, input, street, &SetClock::new(0), &OpenGate)
 }
 
 // What stands on the link of this number, the first being 0.
@@ -157,6 +176,7 @@ fn no_more_links_are_served_than_the_words_say(rt: HostRuntime) -> Result<(), Fa
             "GET /servlets/ten HTTP/1.0\r\n\r\n",
             "GET /servlets/ten HTTP/1.0\r\n\r\n",
         ],
+        port: 80,
         ..QUIET
     };
     let words = &["hovgyelit", "serve", "--connections", "1", "--port", "80"];
@@ -198,5 +218,43 @@ fn a_failing_door_and_failing_seeds_are_told(rt: HostRuntime) -> Result<(), Fail
     let full = Street { room: 0, ..QUIET };
     let outcome = served(&rt, SERVE, &setup, &full)?;
     assert_eq!(rt; outcome.status, 6);
+    Ok(())
+}
+
+#[test]
+fn each_visit_passes_the_gate_once_with_its_number(rt: HostRuntime) -> Result<(), Fail> {
+    let alloc = rt.alloc();
+    let setup = setup_of(alloc, &[TEN])?;
+    let street = Street {
+        links: &[
+            "GET /servlets/ten HTTP/1.0\r\n\r\n",
+            "GET /servlets/none HTTP/1.0\r\n\r\n",
+            "GET /servlets/ten HTTP/1.0\r\n\r\n",
+        ],
+        ..QUIET
+    };
+    let gate = NotingGate::new(alloc, 8)?;
+    served_at(&rt, SERVE, &setup, &street, &SetClock::new(0), &gate)?;
+    let noted = gate.noted(alloc)?;
+    assert_eq!(rt; noted.as_slice(), [0, 1].as_slice());
+    Ok(())
+}
+
+#[test]
+fn the_clock_is_read_before_each_link(rt: HostRuntime) -> Result<(), Fail> {
+    let setup = setup_of(rt.alloc(), &[ALL])?;
+    let street = Street {
+        links: &[
+            "GET /servlets/all HTTP/1.0\r\n\r\n",
+            "GET /servlets/all;0*0*0*0000000000000000?n=1 HTTP/1.0\r\n\r\n",
+        ],
+        ..QUIET
+    };
+    let words = &["hovgyelit", "serve", "--port", "0", "--life", "10"];
+    let outcome = served(&rt, words, &setup, &street)?;
+    assert!(rt; told_on(&outcome, 1).ends_with("\r\n\r\n<p>1</p>"));
+    let clock = TickingClock::new(0, 20);
+    let outcome = served_at(&rt, words, &setup, &street, &clock, &OpenGate)?;
+    assert!(rt; told_on(&outcome, 1).starts_with("HTTP/1.1 404 "));
     Ok(())
 }

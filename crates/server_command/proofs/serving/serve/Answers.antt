@@ -1,7 +1,5 @@
 use Rattle.std.proofs.Common.{◌≡◌, ◌≤◌, ◌<◌, ◌∙◌, ℕ, List, inr, subst, sym, arith}
 use Rattle.script_nodes.specs.Views.{scripts_of}
-use Rattle.web_outside.specs.Doors.{counts_with}
-use Rattle.web_outside.specs.View.{PorchView}
 use Rattle.request_workers.specs.Tallies.{count_of}
 use Rattle.request_workers.specs.declared.tally.WorkEnd.TheVariants as ends
 use Rattle.server_command.specs.Serving.{Served, outside, views}
@@ -18,7 +16,9 @@ returns-in-Done-clause-served g c =
     subst (λ e. Served o c.args.service.now (scripts_of c.args.setup.now) e (count_of c.work_first-tally.result)) c.in-Done.is served
 
 pub returns-in-Done-clause-door_later : goal.returns-in-Done-clause-door_later
-returns-in-Done-clause-door_later g c = ?
+returns-in-Done-clause-door_later g c =
+    not_less g.A.Porch.Porch.view c.work_first-tally.new.porches.items (g.A.Door.view c.args.door.now).faults (g.A.Door.view c.listen.new.self).faults
+    (g.A.Door.view c.close.new.self).faults c.in-Ok.ensures.later (omega (arith, c.faults-count.ensures, c.faults-count.type_inv)) c.close.ensures.faults
 
 pub returns-clause-served : goal.returns-clause-served
 returns-clause-served g c =
@@ -30,7 +30,12 @@ returns-clause-served g c =
     inr (count_of c.work_first-tally.result, subst (λ e. Served o c.args.service.now (scripts_of c.args.setup.now) e (count_of c.work_first-tally.result)) c.in-Failed.is served)
 
 pub returns-clause-door : goal.returns-clause-door
-returns-clause-door g c = ?
+returns-clause-door g c = λ e.
+    porch_rose (views g.A.Porch.Link.Link.view g.A.Porch.Porch.view g.N.Nonces.nonce (g.C.Clock.shows c.args.clock.now)) _ _ _ _ _ c.work_first-tally.result
+    (g.A.Door.view c.args.door.now).faults (g.A.Door.view c.listen.new.self).faults (g.A.Door.view c.close.new.self).faults
+    c.work_first-tally.ensures.works c.in-Failed.is c.in-Ok.ensures.later c.close.ensures.faults
 
 pub returns-clause-door_later : goal.returns-clause-door_later
-returns-clause-door_later g c = ?
+returns-clause-door_later g c =
+    not_less g.A.Porch.Porch.view c.work_first-tally.new.porches.items (g.A.Door.view c.args.door.now).faults (g.A.Door.view c.listen.new.self).faults
+    (g.A.Door.view c.close.new.self).faults c.in-Ok.ensures.later (omega (arith, c.faults-count.ensures, c.faults-count.type_inv)) c.close.ensures.faults

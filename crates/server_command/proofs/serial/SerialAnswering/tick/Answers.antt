@@ -8,8 +8,9 @@ returns-clause-own g c = c.sweep.ensures.in_order (scripts_of c.args.self.now.se
 pub returns-clause-tick : goal.returns-clause-tick
 returns-clause-tick g c = λ given has.
     let items : c.push.new.self.items ≡ c.sweep.result ∷ [] = search rules in
-    let done = c.sweep.ensures.event (scripts_of c.args.self.now.setup.now) (g.N.Nonces.nonce c.args.self.now.source) given has in
-    record { later = _; stream = done.1; how = (c.sweep.result, items, done.0) }
+    let source = g.N.Nonces.nonce c.args.self.now.source in
+    let swept = c.sweep.ensures.event (scripts_of c.args.self.now.setup.now) in
+    record { later = _; stream = swept.nonces source given has; how = (c.sweep.result, items, swept.step source given has) }
 
 pub returns-in_err-answers-clause-tick : goal.returns-in_err-answers-clause-tick
 returns-in_err-answers-clause-tick g c = λ given has. record { later = given; stream = has; how = search rules }
