@@ -53,4 +53,3 @@ of_among (m ∷ ms) n (inr h) = Contains-append_right (m ∷ []) ms n (of_among 
 pub among_other : (n m : ℕ) (ms : List ℕ) → n ≢ m → Among n ms → Among n (filter (λ k. not (k == m)) ms)
 among_other n m [] other h = absurd h
 among_other n m (k ∷ ms) other h = grind (arith, nat_tests, other, h, among_other n m ms)
-
