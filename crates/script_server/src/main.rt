@@ -106,8 +106,8 @@ where
 // Says that memory ran out before the command began, and answers the status of that.
 fn out_of_memory<O: Sink>(output: &mut O) -> u8
     ensures status { result ≡ 10 }
-    ensures line { PrintsTo (sinks_of O.written O.fault_count output.old output.new) (codes "error 10 memory\n") }
-    ensures handed { HandsAllOn O.written O.handed O.fault_count output.old output.new }
+    ensures line { PrintsTo (sinks_of (O.view output.old) (O.view output.new)) (codes "error 10 memory\n") }
+    ensures handed { HandsAllOn (O.view output.old) (O.view output.new) }
 {
     write_or_drop(output, b"error 10 memory\n");
     OUT_OF_MEMORY

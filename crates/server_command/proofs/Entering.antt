@@ -1,5 +1,5 @@
 -- Steps of a desk, entered in a ledger.
-use Rattle.std.proofs.Common.{◌≡◌, ◌∙◌, ap, sym, subst, refl, ℕ, zero, suc, true, false, List, map, [], ◌∷◌, ◌++◌, length, append-nil, slice_get, slice_set, Option, Some, None, arith}
+use Rattle.std.proofs.Common.{◌≡◌, ◌∙◌, ap, sym, subst, refl, ℕ, zero, suc, true, false, List, map, [], ◌∷◌, ◌++◌, length, slice_get, slice_set, Option, Some, None, arith}
 use Rattle.std.specs.Prelude.{nat_lt, option_and_then}
 use Rattle.std.proofs.lemmas.Bool.Decides.{nat_tests}
 use Rattle.std.proofs.lemmas.List.{length-set}
@@ -16,7 +16,7 @@ use Rattle.server_command.specs.Desk.{Desk, counting, told, desk_take, desk_publ
 use Rattle.play_steps.specs.Rules.{Call, answered, event}
 use Rattle.server_command.specs.Ledger.{Entry, Ledger, ledger_of, entered, first_reply, holding, taken_in, take_on, take_at, ledger_take, publish_on, publish_held, ledger_publish, swept_in, ledger_sweep}
 use Rattle.server_command.specs.Laws.{AreRuns, AreLawfulRuns}
-use Rattle.server_command.proofs.ShelfRuns.{entry_of, no_runs, no_lawful, one_run, one_lawful}
+use Rattle.server_command.proofs.ShelfRuns.{entry_of, one_run, one_lawful}
 use Rattle.server_command.proofs.Held.{AreOut, take_orderly, publish_orderly, publish_lawful, sweep_orderly}
 
 -- a desk's event answers as the ledger's, given these replies, which enters these events

@@ -1,5 +1,5 @@
 -- The events of a shelf in memory.
-use Rattle.std.proofs.Common.{◌≡◌, ◌∙◌, ap, sym, subst, refl, ℕ, ◌+◌, ◌<◌, ◌%◌, ◌^◌, List, Option, Some, None, Result, Ok, Err, arith}
+use Rattle.std.proofs.Common.{◌≡◌, ◌∙◌, ap, sym, subst, refl, ℕ, ◌<◌, ◌^◌, List, Result, Ok, Err, arith}
 use Rattle.script_value.specs.Val.{Val}
 use Rattle.script_value.specs.declared.outcome.Reply.{Reply}
 use Rattle.script_nodes.specs.Setup.{Named}

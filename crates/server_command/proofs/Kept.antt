@@ -1,9 +1,8 @@
 -- What the events of a shelf keep: its number, and which numbers are out.
-use Rattle.std.proofs.Common.{◌≡◌, ◌≢◌, inl, inr, refl, ℕ, ◌==◌, not, true, false, Bool, List, [], ◌∷◌, ◌++◌, filter, Contains, arith, if◌then◌else◌}
+use Rattle.std.proofs.Common.{◌≡◌, ◌≢◌, inl, inr, refl, ℕ, ◌==◌, not, true, false, Bool, List, [], ◌∷◌, filter, Contains, arith, if◌then◌else◌}
 use Rattle.std.proofs.lemmas.Bool.Decides.{nat_tests}
 use Rattle.std.specs.Prelude.{nat_le}
 use Rattle.std.proofs.lemmas.List.Elements.{Contains-append_left, Contains-append_right}
-use Rattle.script_value.specs.declared.outcome.Reply.{Reply}
 use Rattle.replay_spec.specs.Book.{Book, spend}
 use Rattle.replay_spec.specs.Rules.{Rules}
 use Rattle.replay_spec.specs.Next as next
@@ -53,4 +52,3 @@ of_among (m ∷ ms) n (inr h) = Contains-append_right (m ∷ []) ms n (of_among 
 pub among_other : (n m : ℕ) (ms : List ℕ) → n ≢ m → Among n ms → Among n (filter (λ k. not (k == m)) ms)
 among_other n m [] other h = absurd h
 among_other n m (k ∷ ms) other h = grind (arith, nat_tests, other, h, among_other n m ms)
-

@@ -1,9 +1,8 @@
 -- Tickets that are open.
-use Rattle.std.proofs.Common.{◌≡◌, ◌≢◌, ◌∙◌, ap, sym, subst, refl, ℕ, ◌==◌, not, List, [], ◌∷◌, ◌++◌, filter, None, Contains}
+use Rattle.std.proofs.Common.{◌≡◌, ◌≢◌, ◌∙◌, ap, sym, subst, refl, ℕ, ◌==◌, not, List, [], ◌∷◌, ◌++◌, filter, Contains}
 use Rattle.page_names.specs.Views.{target_of}
 use Rattle.replay_spec.specs.Book.{Book}
 use Rattle.replay_spec.specs.Admission.{admit}
-use Rattle.replay_spec.specs.Invariant.{IsOrderly}
 use Rattle.replay_spec.specs.Laws.{Moment, then_book, book_after, AreLawful, IsLawful, Leads}
 use Rattle.replay_spec.proofs.Stand.{among_of}
 use Rattle.instance_book.specs.Fits.{FitsAs}

@@ -1,7 +1,6 @@
 -- What a serving came to, by what its calls say.
 use Rattle.std.proofs.Common.{◌≡◌, ◌≤◌, ◌<◌, ◌^◌, ◌∷◌, ◌∙◌, [], inl, ap, subst, sym, ℕ, List, length, slice_set, Option, IfSome, refl, arith}
 use Rattle.std.specs.Prelude.{All, Err, slice_index_or}
-use Rattle.std.proofs.lemmas.List.Elements.{All-head}
 use Rattle.web_outside.specs.Doors.{GiveLists, HaveNone, counts_with}
 use Rattle.web_outside.specs.View.{PorchView}
 use Rattle.web_outside.specs.Causes.{Rose}

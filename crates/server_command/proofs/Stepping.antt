@@ -1,5 +1,5 @@
 -- What the calls of a shelf are as steps of a desk.
-use Rattle.std.proofs.Common.{◌≡◌, ◌∙◌, ap, sym, subst, refl, ℕ, ◌<◌, ◌==◌, ◌^◌, zero, suc, List, [], ◌∷◌, length, map, slice_get, slice_set, Bool, true, false, Option, Some, None, option_map, Result, Ok, Err, arith}
+use Rattle.std.proofs.Common.{◌≡◌, ◌∙◌, ap, sym, refl, ℕ, ◌<◌, ◌==◌, ◌^◌, zero, suc, List, [], ◌∷◌, length, map, slice_get, slice_set, Bool, true, false, Option, Some, None, option_map, Result, Ok, Err, arith}
 use Rattle.std.specs.Prelude.{is_some, IfSome}
 use Rattle.std.proofs.lemmas.List.{map-set}
 use Rattle.std.proofs.lemmas.Option.{slice_get-map}
@@ -11,7 +11,6 @@ use Rattle.script_value.specs.declared.outcome.Refusal.TheVariants.{Unknown}
 use Rattle.script_nodes.specs.Views.{scripts_of}
 use Rattle.script_nodes.specs.declared.setup.Setup.{Setup}
 use Rattle.page_names.specs.Names.{Destination, start, page, destination_of}
-use Rattle.page_names.specs.Views.{target_of}
 use Rattle.replay_spec.specs.Book.{Book, Doubt, draw}
 use Rattle.replay_spec.specs.Admission.{or_else, when, admit, refusal_of}
 use Rattle.replay_spec.specs.Next as next
@@ -22,7 +21,7 @@ use Rattle.replay_spec.specs.Laws as laws
 use Rattle.instance_book.specs.Views.{ticket_of, reply_of}
 use Rattle.instance_book.specs.declared.ticket.Ticket.{Ticket}
 use Rattle.shelf.specs.Views.{shelf_of, fate_by, swept_of}
-use Rattle.play_steps.specs.Rules.{Call, answered, event}
+use Rattle.play_steps.specs.Rules.{answered, event}
 use Rattle.server_command.specs.declared.staff.Staff.{Staff}
 use Rattle.server_command.specs.Target.{answer_to, path_and_query, shelf_for}
 use Rattle.server_command.specs.Desk as desk

@@ -2,15 +2,12 @@
 use Rattle.std.proofs.Common.{◌≡◌, ◌∙◌, ap, sym, subst, refl, ℕ, ◌+◌, zero, suc, Bool, true, false, List, map, [], ◌∷◌, ◌++◌, length, append_assoc, append-nil, Option, Some, None, Result, Ok, Err, if◌then◌else◌}
 use Rattle.std.proofs.lemmas.List.{map-append}
 use Rattle.script_value.specs.declared.outcome.Reply as outcome
-use Rattle.replay_spec.specs.Rules.{Rules}
 use Rattle.replay_spec.specs.Step.{Fate, Reply}
-use Rattle.replay_spec.specs.Runs.{Shelf}
 use Rattle.play_steps.specs.Step.{Step, take, publish, get, tick, lines_in}
 use Rattle.play_steps.specs.Reports.{take_report, sweep_report}
 use Rattle.play_steps.specs.Rules.{Call, answered, event}
 use Rattle.play_steps.specs.declared.report.Report.{Report}
 use Rattle.play_steps.specs.declared.report.Report.TheVariants.{Replied}
-use Rattle.script_nodes.specs.Setup.{Named}
 use Rattle.play_steps.specs.Transcript.{Run, End, done, bad_line, went, stopped, behind, goes_on, first_fate, later_fates, fits, called, published, got, swept, performed, text_of, transcript}
 use Rattle.server_command.specs.Desk.{Desk, desk_rules, desk_take, desk_publish, desk_sweep}
 use Rattle.server_command.specs.Ledger.{Entry, Ledger, ledger_of, ledger_rules, ledger_take, ledger_publish, ledger_sweep}

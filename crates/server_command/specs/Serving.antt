@@ -1,5 +1,5 @@
 -- What serving a setup over HTTP comes to.
-use Rattle.std.specs.Prelude.{⊤, ◌≡◌, ◌==◌, ◌⊎◌, ◌++◌, ◌∷◌, [], ℕ, List, length, Option, Some, All, IfSome, Result, Ok, Err, codes, if◌then◌else◌}
+use Rattle.std.specs.Prelude.{◌≡◌, ◌==◌, ◌⊎◌, ◌++◌, ◌∷◌, [], ℕ, List, length, Option, All, IfSome, Result, Ok, Err, codes, if◌then◌else◌}
 use Rattle.std.specs.Fmt.{decimal}
 use Rattle.web_outside.specs.Causes.{Rose}
 use Rattle.web_outside.specs.Doors.{GiveLists, HaveNone}

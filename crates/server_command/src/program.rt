@@ -312,7 +312,7 @@ fn serve_setup<O: Sink, A: Door, C: Clock, N: Nonces + Drop, S: Seeds<N>, G: Gat
 ) -> Status
     requires { CanServe service.now }
     ensures outputs { let o = outside (views A.Porch.Link.view A.Porch.view N.nonce (C.shows clock.now))
-            (A.view door.old) (A.view door.new) (S.view seeds.old) in
+        (A.view door.old) (A.view door.new) (S.view seeds.old) in
         LeavesServing (serves_over o) service.now (scripts_of setup.now) result
         (sinks_of (O.view output.old) (O.view output.new))
         (faults_of (A.view door.old).faults (A.view door.new).faults)
@@ -350,7 +350,7 @@ fn serve_input<O: Sink, A: Door, C: Clock, N: Nonces + Drop, S: Seeds<N>, G: Gat
 ) -> Status
     requires { CanServe service.now }
     ensures outputs { let o = outside (views A.Porch.Link.view A.Porch.view N.nonce (C.shows clock.now))
-            (A.view door.old) (A.view door.new) (S.view seeds.old) in
+        (A.view door.old) (A.view door.new) (S.view seeds.old) in
         LeavesInput (serves_over o) service.now input.now result
         (sinks_of (O.view output.old) (O.view output.new))
         (faults_of (A.view door.old).faults (A.view door.new).faults)
@@ -390,7 +390,7 @@ fn run_service<I: Source, O: Sink, A: Door, C: Clock, N: Nonces + Drop, S: Seeds
 ) -> Status
     requires { CanServe service.now }
     ensures comes { let o = outside (views A.Porch.Link.view A.Porch.view N.nonce (C.shows clock.now))
-            (A.view door.old) (A.view door.new) (S.view seeds.old) in
+        (A.view door.old) (A.view door.new) (S.view seeds.old) in
         (words : List (List ℕ)) → ComesServing (serves_over o) service.now result
         (met_of words (I.view input.old) (I.view input.new)
         (sinks_of (O.view output.old) (O.view output.new))
@@ -421,7 +421,7 @@ fn run<I: Source, O: Sink, A: Door, C: Clock, N: Nonces + Drop, S: Seeds<N>, G: 
     gate: &G,
 ) -> Status
     ensures explained { let o = outside (views A.Porch.Link.view A.Porch.view N.nonce (C.shows clock.now))
-            (A.view door.old) (A.view door.new) (S.view seeds.old) in
+        (A.view door.old) (A.view door.new) (S.view seeds.old) in
         Explained (serves_over o) result
         (met_of (texts words.now) (I.view input.old) (I.view input.new)
         (sinks_of (O.view output.old) (O.view output.new))
@@ -469,7 +469,7 @@ pub fn command<R, I: Source, O: Sink, A: Door, C: Clock, N: Nonces + Drop, S: Se
     // How it ended, and what was written, by the fates of its visits; the status is the one that is due to the words and the
     // input by these fates, but for faults of the input and the output and for want of memory.
     ensures ended { let o = outside (views A.Porch.Link.view A.Porch.view N.nonce (C.shows clock.now))
-            (A.view door.old) (A.view door.new) (S.view seeds.old) in
+        (A.view door.old) (A.view door.new) (S.view seeds.old) in
         Ends (serves_over o) result
         (met_of (texts words.now) (I.view input.old) (I.view input.new)
         (sinks_of (O.view output.old) (O.view output.new))

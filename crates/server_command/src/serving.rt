@@ -74,7 +74,7 @@ pub fn serve<A: Door, C: Clock, N: Nonces + Drop, S: Seeds<N>, G: Gate>(
 ) -> Result<Tally, ServeFault>
     requires { CanServe service.now }
     ensures served { let o = outside (views A.Porch.Link.view A.Porch.view N.nonce (C.shows clock.now))
-            (A.view door.old) (A.view door.new) (S.view seeds.old) in
+        (A.view door.old) (A.view door.new) (S.view seeds.old) in
         ServesBy (serves_over o) service.now (scripts_of setup.now) result }
     ensures key { IsErrOf result ServeFault.Key → Rose (S.view seeds.old).faults (S.view seeds.new).faults }
     ensures door { IsErrOf result ServeFault.Door → Rose (A.view door.old).faults (A.view door.new).faults }

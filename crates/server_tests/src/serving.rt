@@ -69,12 +69,7 @@ fn door_of(alloc: Global, street: &Street) -> Result<ListDoor, Fail> {
     }
     let mut porches = Vec::new(alloc);
     porches.push(ListPorch::new(alloc, links, street.nexts.to_vec(alloc)?)?)?;
-    Ok(ListDoor::new(
-        alloc,
-        street.port,
-        porches,
-        street.listens.to_vec(alloc)?,
-    ))
+    Ok(ListDoor::new(alloc, street.port, porches, street.listens.to_vec(alloc)?))
 }
 
 // What serving this input comes to, at this clock and through this gate.

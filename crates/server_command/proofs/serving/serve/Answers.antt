@@ -1,7 +1,6 @@
-use Rattle.std.proofs.Common.{◌≡◌, ◌≤◌, ◌<◌, ◌∙◌, ℕ, List, inr, subst, sym, arith}
+use Rattle.std.proofs.Common.{inr, subst, arith}
 use Rattle.script_nodes.specs.Views.{scripts_of}
 use Rattle.request_workers.specs.Tallies.{count_of}
-use Rattle.request_workers.specs.declared.tally.WorkEnd.TheVariants as ends
 use Rattle.server_command.specs.Serving.{Served, outside, views}
 use Rattle.server_command.proofs.Servings.{not_less, porch_rose, served_by}
 use Rattle.server_command.proofs.serving.serve.Goals as goal

@@ -1,6 +1,5 @@
-use Rattle.std.proofs.Common.{◌≡◌, ◌∙◌, ◌∷◌, [], ap, subst, ℕ, ◌%◌, ◌^◌, List, Option, Some, map, option_map, slice_get, length, arith}
+use Rattle.std.proofs.Common.{◌≡◌, ◌∙◌, ◌∷◌, [], ap, subst, ℕ, List, Option, Some, map, option_map, slice_get, length, arith}
 use Rattle.script_nodes.specs.Views.{scripts_of}
-use Rattle.replay_spec.specs.Next as next
 use Rattle.replay_spec.specs.Runs.{Shelf, empty_shelf}
 use Rattle.instance_book.specs.Views.{ticket_of}
 use Rattle.instance_book.specs.declared.ticket.Ticket.{Ticket}
