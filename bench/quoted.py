@@ -1,7 +1,8 @@
 #!/usr/bin/env python3
 """Looks whether the documents are true to the crates: each line that docs/DEFINITIONS.md quotes stands in a definition of
-the files named above it, each law of docs/PROOFS.md is a function of replay_spec and the other way round, and each call
-that PROOFS names is in its crate. Ends with 1 where something is not. No part of the gate."""
+the files named above it, and each name in its text in some crate; each law of docs/PROOFS.md is a function of replay_spec
+and the other way round, and each call that PROOFS names is in its crate. And that each edit which has to be refused finds
+the text that it changes, once. Ends with 1 where something is not. No part of the gate."""
 
 import glob
 import os
@@ -47,6 +48,14 @@ def quotes():
             wrong(f"docs/DEFINITIONS.md:{number}: no definition has this line: {line}")
 
 
+def words():
+    files = [*glob.glob(f"{TOP}/crates/*/specs/**/*.antt", recursive=True), *glob.glob(f"{TOP}/crates/*/src/**/*.rt", recursive=True)]
+    there = set(re.findall(r"\w+", "\n".join(map(text_of, files))))
+    prose = re.sub(r"```.*?```", "", text_of("docs/DEFINITIONS.md"), flags=re.S)
+    for name in set(re.findall(r"`(\w+)`", prose)) - there:
+        wrong(f"docs/DEFINITIONS.md: no crate has {name}")
+
+
 def part(text, begin, end):
     at = text.index(begin)
     return text[at : text.index(end, at)]
@@ -69,7 +78,26 @@ def names():
                 wrong(f"docs/PROOFS.md: {crate} has no {name}")
 
 
+def edits():
+    for path in sorted(glob.glob(f"{TOP}/edits/*/*.edit") + glob.glob(f"{TOP}/crates/*/must-fail/*.edit")):
+        name = os.path.relpath(path, TOP)
+        crate, texts, file, old = name.split("/")[1], {}, None, None
+        for line in text_of(path).split("\n"):
+            key, _, value = line.partition(": ")
+            if key == "file":
+                file = value.strip()
+                texts.setdefault(file, text_of(f"crates/{crate}/{file}"))
+            elif key == "old":
+                old = value
+            elif key.rstrip(":") == "new" and old is not None:
+                if texts[file].count(old) != 1:
+                    wrong(f"{name}: {file} has {texts[file].count(old)} times: {old}")
+                texts[file] = texts[file].replace(old, value)
+
+
 quotes()
+words()
 names()
+edits()
 print(f"{faults} wrong")
 sys.exit(1 if faults else 0)

@@ -2,7 +2,6 @@
 use Rattle.std.proofs.Common.{◌≡◌, ℕ, ◌+◌, ◌≤◌, ◌||◌, ◌&&◌, Bool, true, false, not, List, [], ◌∷◌, ◌++◌, Option, Some, None, is_some, Result, Ok, Err, ◌<◌, length, refl, sym, ap, ◌∙◌, arith}
 use Rattle.std.specs.Prelude.{codes, ⊤, if◌then◌else◌}
 use Rattle.script_value.specs.Val.{Val, Vals, number, truth, text, symbol, list, no_vals, val, weight, weight_all}
-use Rattle.script_value.specs.declared.outcome.Op.{Op}
 use Rattle.prim_ops.specs.Table.{takes}
 use Rattle.core_syntax.specs.declared.faults.SyntaxKind.{SyntaxKind}
 use Rattle.core_syntax.specs.declared.faults.SyntaxKind.TheVariants.{Shape, Unbound, Duplicate, Arity, NoElse, NestedSend, Effect}
@@ -13,8 +12,8 @@ use Rattle.core_syntax.specs.declared.heads.Head.TheVariants as head
 use Rattle.script_nodes.specs.declared.script.SendKind.{SendKind}
 use Rattle.script_nodes.specs.Core.{Core, var, send, isolate}
 use Rattle.core_syntax.specs.Heads.{head_of}
-use Rattle.core_syntax.specs.Names.{◌>>=◌, or_fault, place_of, CellNames, cell_number, is_taken, are_taken, repeats, free_at_once, free_in_turn}
-use Rattle.core_syntax.specs.Shapes.{on, count_of, is_empty, is_word, bound_name, symbol_in, names_of, single_name, parameter, names_before, are_clauses, ends_in_else}
+use Rattle.core_syntax.specs.Names.{◌>>=◌, or_fault, place_of, CellNames, cell_number, is_taken, are_taken, repeats, free_at_once}
+use Rattle.core_syntax.specs.Shapes.{on, count_of, is_empty, is_word, bound_name, symbol_in, names_of, parameter, names_before, are_clauses, ends_in_else}
 use Rattle.core_syntax.specs.Templates.{is_template}
 use Rattle.core_syntax.specs.declared.faults.ReadFault.{ReadFault}
 use Rattle.core_syntax.specs.declared.faults.ReadFault.TheVariants.{Syntax}
@@ -295,7 +294,7 @@ variable_row cells scope p None = refl
 variable_row cells scope p (Some k) = refl
 
 -- what the table says of a form is what it says of its row
-core_by_row : (cells : CellNames) (scope : List (List ℕ)) (p : Bool) (v : Val) → spec.core_of cells scope p v ≡ row_of cells scope p v >>= core_in_row cells scope p
+pub core_by_row : (cells : CellNames) (scope : List (List ℕ)) (p : Bool) (v : Val) → spec.core_of cells scope p v ≡ row_of cells scope p v >>= core_in_row cells scope p
 core_by_row cells scope p (symbol x) = variable_row cells scope p (place_of x scope)
 core_by_row cells scope p (list (val (symbol s) vs)) = form_row cells scope p (head_of s) (symbol s) vs
 core_by_row cells scope p _ = refl

@@ -1,5 +1,5 @@
 -- The row of the table that a form is, with its parts: what is seen of it before an expression in it is read.
-use Rattle.std.specs.Prelude.{ℕ, ◌+◌, Bool, true, false, not, ◌&&◌, ◌||◌, List, ◌∷◌, Option, Some, None, is_some, Result, Ok, Err, codes, ⊤, if◌then◌else◌}
+use Rattle.std.specs.Prelude.{ℕ, ◌+◌, Bool, true, false, not, ◌&&◌, ◌||◌, List, Option, Some, None, is_some, Result, Ok, Err, codes, ⊤, if◌then◌else◌}
 use Rattle.script_value.specs.Val.{Val, Vals, symbol, list, no_vals, val, weight, weight_all}
 use Rattle.script_value.specs.declared.outcome.Op.{Op}
 use Rattle.prim_ops.specs.Table.{takes}

@@ -1,6 +1,6 @@
 -- What contracts see of rows, and of a reader.
-use Rattle.std.specs.Prelude.{ℕ, List, Bool, Result, Ok, Err}
-use Rattle.script_value.specs.Val.{Val, Vals}
+use Rattle.std.specs.Prelude.{Result, Ok, Err}
+use Rattle.script_value.specs.Val.{Vals}
 use Rattle.script_value.specs.Views.{meaning, meanings}
 use Rattle.core_syntax.specs.declared.faults.SyntaxKind.{SyntaxKind}
 use Rattle.core_syntax.specs.declared.rows.Row.{Row as RowOf}

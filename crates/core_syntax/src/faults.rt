@@ -72,13 +72,11 @@ impl<T: Drop> From<AllocFailed<T>> for ExpandFault {
 }
 
 /// Why data gave no tree.
-#[derive(Clone, Copy, Debug, PartialEq, Eq, Error)]
+#[derive(Clone, Copy)]
 pub enum ReadFault {
     /// Memory ran out.
-    #[error("memory ran out")]
     Memory,
     /// The data are not as the table of forms says.
-    #[error("{0}")]
     Syntax(SyntaxKind),
 }
 

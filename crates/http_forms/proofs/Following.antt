@@ -1,12 +1,12 @@
 -- How many bytes decide.
-use Rattle.std.proofs.Common.{◌≡◌, ◌≤◌, ◌<◌, ◌+◌, ◌-◌, ◌++◌, ℕ, List, [], Bool, true, false, length, take, drop, nat_le, Some, None, Result, Ok, Err, arith, refl, sym, ap, ◌∙◌, subst, length-append, append-nil, append_assoc}
+use Rattle.std.proofs.Common.{◌≡◌, ◌≤◌, ◌<◌, ◌+◌, ◌-◌, ◌++◌, ℕ, List, [], Bool, true, false, length, take, drop, nat_le, Some, None, Result, Ok, Err, arith, refl, sym, ap, ◌∙◌, subst, length-append, append-nil}
 use Rattle.std.proofs.lemmas.Bool.Decides.{nat_tests}
 use Rattle.std.proofs.lemmas.List.{take-append-le, length-drop, nil_from_length}
 use Rattle.httparse.specs.Spans.{IsWithin}
 use Rattle.http_forms.specs.Head.{head_end, without_blank}
 use Rattle.http_forms.specs.Judged.{asked_of}
 use Rattle.http_forms.specs.Rows.{Asked, Judges}
-use Rattle.http_forms.specs.Request.{Outcome, unfinished, refused, without_head, visit_of, with_head, DecidesAt, Decides}
+use Rattle.http_forms.specs.Request.{unfinished, refused, visit_of, with_head, DecidesAt, Decides}
 use Rattle.http_forms.specs.Progress.{IsDecided, IsDecidedAt, HasHead, Suffices, lines_in}
 use Rattle.http_forms.specs.declared.progress.ReadHead.{ReadHead}
 use Rattle.http_forms.specs.declared.refused.Refused.{Refused}

@@ -1,12 +1,11 @@
 -- A request is the first of the bytes.
-use Rattle.std.proofs.Common.{◌≡◌, ◌≤◌, ◌<◌, ◌+◌, ◌-◌, ◌++◌, ℕ, List, Bool, true, false, length, take, drop, nat_le, nat_lt, Option, Some, None, Result, Ok, Err, arith, refl, sym, ap, ◌∙◌, subst}
+use Rattle.std.proofs.Common.{◌≡◌, ◌≤◌, ◌+◌, ℕ, List, Bool, true, false, length, take, drop, nat_le, nat_lt, Option, Some, None, Ok, Err, arith, refl, sym, ap, ◌∙◌, subst}
 use Rattle.std.proofs.lemmas.Bool.Decides.{nat_tests}
 use Rattle.std.proofs.lemmas.List.{take-append-drop, length-take-le, length-drop, drop-take, take-append-le, take_all}
 use Rattle.http_forms.specs.Head.{head_end}
 use Rattle.http_forms.specs.Laws.{RequestsAreFronts}
 use Rattle.http_forms.specs.Rows.{Asked, Judges}
-use Rattle.http_forms.specs.Request.{Visit, Outcome, unfinished, refused, visits, without_head, visit_of, with_head, DecidesAt, Decides}
-use Rattle.http_forms.specs.declared.refused.Refused.{Refused}
+use Rattle.http_forms.specs.Request.{Visit, unfinished, refused, visits, without_head, visit_of, with_head, DecidesAt, Decides}
 use Rattle.http_forms.specs.declared.refused.Refused.TheVariants.{Head, BadRequest}
 use Rattle.http_forms.proofs.Ends.{head_inside, head_stays, head_later}
 

@@ -1,5 +1,5 @@
 -- Fields of a head, taken one by one, and blanks at the ends of a text.
-use Rattle.std.proofs.Common.{◌≡◌, ◌≤◌, ◌<◌, ◌+◌, Option, Some, None, nat_lt, ◌*◌, ◌-◌, ◌||◌, ◌++◌, ◌∷◌, ℕ, suc, List, [], Bool, true, false, length, take, drop, map, get_or, arith, refl, sym, ap, ◌∙◌, subst, append-nil, zero}
+use Rattle.std.proofs.Common.{◌≡◌, ◌≤◌, ◌<◌, ◌+◌, Some, None, nat_lt, ◌*◌, ◌-◌, ◌||◌, ◌++◌, ◌∷◌, ℕ, suc, List, [], Bool, true, false, length, take, drop, map, get_or, arith, refl, sym, ap, ◌∙◌, subst, append-nil, zero}
 use Rattle.std.specs.Prelude.{if◌then◌else◌}
 use Rattle.std.specs.Char.{digit_value}
 use Rattle.std.specs.Int.{IsInRange}

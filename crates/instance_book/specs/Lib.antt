@@ -11,4 +11,3 @@ pub mod Swept
 pub mod Prepares
 pub mod Segments
 pub mod Copies
-pub mod Stands

@@ -1,11 +1,10 @@
-ghost use Rattle.std.specs.Prelude.{◌≡◌, List, ℕ, Option, IfOk};
-ghost use Rattle.script_nodes.specs.Setup.{Named};
-ghost use Rattle.replay_spec.specs.Book.{Doubt};
-ghost use Rattle.instance_book.specs.Orders.{numbers_of};
-ghost use Rattle.instance_book.specs.Views.{page_of, pages_of, instance_of, instances_of, book_of};
+ghost use Rattle.std.specs.Prelude.{◌≡◌, IfOk};
+ghost use Rattle.instance_book.specs.Lists.{HasRoom};
+ghost use Rattle.instance_book.specs.Views.{page_of, pages_of};
 ghost use Rattle.instance_book.specs.Places.{StayPlaced};
-ghost use Rattle.instance_book.specs.Makes.{KeepsPlaces};
-ghost use Rattle.instance_book.specs.Copies.{IsSameInstance, IsSameShow, IsSameChange, IsSame};
+ghost use Rattle.instance_book.specs.Makes.{AllBecome, StaysSame, KeepsPlaces};
+ghost use Rattle.instance_book.specs.Changes.{opening_of, ending_of, finish_of};
+ghost use Rattle.instance_book.specs.Copies.{IsSameInstance, BeginsAlike, IsSameShow, IsSameExtension, IsSameChange, IsSame};
 
 use crate::after::{After, Show};
 use crate::book::Book;
@@ -68,7 +67,7 @@ impl KeptInstance {
 impl InOrder<KeptInstance> {
     /// A copy, equal to its source.
     pub fn try_clone(&self, alloc: Global) -> Result<InOrder<KeptInstance>, AllocError>
-        ensures instances { IfOk result (λ copy. (scripts : List Named) → instances_of scripts copy ≡ instances_of scripts self.now) }
+        ensures instances { IfOk result (AllBecome (λ is. is) self.now) }
         ensures placed { IfOk result (StayPlaced self.now) }
     {
         let mut things = Vec::new(alloc);
@@ -115,10 +114,114 @@ impl Show {
     }
 }
 
+impl Opening {
+    /// A copy, equal to its source, with room for its page.
+    pub fn try_clone(&self, alloc: Global) -> Result<Opening, AllocError>
+        ensures opening { IfOk result (λ copy. opening_of copy ≡ opening_of self.now) }
+        ensures page { IfOk result (λ copy. page_of copy.page ≡ page_of self.now.page) }
+        ensures begun { IfOk result (BeginsAlike self.now) }
+        ensures room { IfOk result (λ copy. HasRoom copy.instance.pages) }
+    {
+        let mut instance = self.instance.try_clone(alloc)?;
+        instance.pages.make_room()?;
+        Ok(Opening {
+            effects: clone_effects(alloc, &self.effects)?,
+            left: self.left.as_slice().to_vec(alloc)?,
+            kind: self.kind,
+            page: self.page.try_clone(alloc)?,
+            instance,
+        })
+    }
+}
+
+impl Extension {
+    /// A copy, equal to its source.
+    pub fn try_clone(&self, alloc: Global) -> Result<Extension, AllocError>
+        ensures { IfOk result (IsSameExtension self.now) }
+    {
+        Ok(Extension {
+            instance: self.instance,
+            answered: self.answered,
+            effects: clone_effects(alloc, &self.effects)?,
+            left: self.left.as_slice().to_vec(alloc)?,
+            kind: self.kind,
+            show: self.show.try_clone(alloc)?,
+        })
+    }
+}
+
+impl Ending {
+    /// A copy, equal to its source.
+    pub fn try_clone(&self, alloc: Global) -> Result<Ending, AllocError>
+        ensures ending { IfOk result (λ copy. ending_of copy ≡ ending_of self.now) }
+        ensures inside { IfOk result (λ copy. copy.inside.items ≡ self.now.inside.items) }
+        ensures after { IfOk result (λ copy. copy.after ≡ self.now.after) }
+    {
+        Ok(Ending {
+            number: self.number,
+            instance: self.instance,
+            answered: self.answered,
+            answer: self.answer.try_clone(alloc)?,
+            effects: clone_effects(alloc, &self.effects)?,
+            left: self.left.as_slice().to_vec(alloc)?,
+            inside: self.inside.as_slice().to_vec(alloc)?,
+            after: self.after.try_clone(alloc)?,
+        })
+    }
+}
+
+impl Finish {
+    /// A copy, equal to its source.
+    pub fn try_clone(&self, alloc: Global) -> Result<Finish, AllocError>
+        ensures finish { IfOk result (λ copy. finish_of copy ≡ finish_of self.now) }
+        ensures inside { IfOk result (λ copy. copy.inside.items ≡ self.now.inside.items) }
+    {
+        Ok(Finish {
+            number: self.number,
+            instance: self.instance,
+            answered: self.answered,
+            answer: self.answer.try_clone(alloc)?,
+            effects: clone_effects(alloc, &self.effects)?,
+            inside: self.inside.as_slice().to_vec(alloc)?,
+        })
+    }
+}
+
+impl Change {
+    /// A copy, equal to its source: where there is room for the one, there is for the other.
+    pub fn try_clone(&self, alloc: Global) -> Result<Change, AllocError>
+        ensures { IfOk result (IsSameChange self.now) }
+    {
+        Ok(match self {
+            Change::Opens(opening) => Change::Opens(opening.try_clone(alloc)?),
+            Change::Extends(extension) => Change::Extends(extension.try_clone(alloc)?),
+            Change::Ends(ending) => Change::Ends(ending.try_clone(alloc)?),
+            Change::Finishes(finish) => Change::Finishes(finish.try_clone(alloc)?),
+        })
+    }
+}
+
+impl Prepared {
+    /// A copy, equal to its source: where there is room for the one, there is for the other.
+    pub fn try_clone(&self, alloc: Global) -> Result<Prepared, AllocError>
+        ensures { IfOk result (IsSame self.now) }
+    {
+        let change = match &self.change {
+            Some(change) => Some(change.try_clone(alloc)?),
+            None => None,
+        };
+        Ok(Prepared {
+            reply: self.reply.try_clone(alloc)?,
+            logged: self.logged,
+            change,
+        })
+    }
+}
+
 impl Book {
     /// A copy, equal to its source.
     pub fn try_clone(&self, alloc: Global) -> Result<Book, AllocError>
-        ensures book { IfOk result (λ copy. (scripts : List Named) (journal : ℕ) (down : Option Doubt) → book_of scripts journal down copy ≡ book_of scripts journal down self.now) }
+        ensures book { IfOk result (StaysSame self.now) }
         ensures placed { IfOk result (KeepsPlaces self.now) }
     {
         let instances = self.instances.try_clone(alloc)?;

@@ -1,8 +1,6 @@
 //! The instances of a shelf with their pages and cells: what a target is admitted as, and what each visit makes of the book.
 #![tactic(auto)]
 
-ghost use Rattle.instance_book.specs.Stands.{AdmittedStand};
-
 mod admission;
 mod after;
 mod book;
@@ -24,8 +22,3 @@ mod ticket;
 pub use book::Book;
 pub use prepared::{Change, Ending, Extension, Finish, Opening, Prepared};
 pub use ticket::Ticket;
-
-/// A page that is admitted stands in its instance, and a start that is admitted is of a script of the setup.
-pub fn admitted_stand()
-    ensures { AdmittedStand }
-{}

@@ -1,5 +1,5 @@
 -- A link that was answered.
-use Rattle.std.proofs.Common.{◌≡◌, ◌∙◌, ℕ, List, Option, Some, Result, Ok, Err, OnOk, true, refl, sym, ap, subst, is_ok, option_map}
+use Rattle.std.proofs.Common.{◌≡◌, ◌∙◌, Some, Result, Ok, Err, OnOk, true, refl, sym, ap, subst, is_ok, option_map}
 use Rattle.std.specs.Io.KnownBytes.{Appends}
 use Rattle.web_outside.specs.Causes.{HasCause}
 use Rattle.web_outside.specs.View.{SourceView, SinkView, LinkView}

@@ -8,8 +8,8 @@ use Rattle.page_names.specs.declared.names.PageName.{PageName}
 use Rattle.replay_spec.specs.Book.{Book, instance_at}
 use Rattle.replay_spec.specs.Admission.{◌>>=◌, Place, place_at, unless_why, why_not, found, started, script_named, refusal_of, admit}
 use Rattle.replay_spec.specs.Next.{start_visit, page_visit}
-use Rattle.replay_spec.specs.Invariant.{IsSound}
-use Rattle.replay_spec.specs.Laws.{Leads, PagesStay}
+use Rattle.replay_spec.specs.Invariant.{IsOrderly}
+use Rattle.replay_spec.specs.Laws.{Leads, OrderlyBooksStay, PagesStay}
 use Rattle.instance_book.specs.declared.ticket.Ticket.{Ticket}
 use Rattle.instance_book.specs.Views.{ticket_of}
 use Rattle.instance_book.specs.Fits.{IsFor, FitsAs}
@@ -46,19 +46,23 @@ unbound : {A B : Type 0} (o : Option A) (f : A → Option B) (y : B) → o ≡ N
 unbound None f y e h = cc
 unbound (Some x) f y e h = cc
 
-nothing_stands : (scripts : List Named) (c : Book) (name : List ℕ) (n : PageName) (y : Place) → instance_at n.instance c.instances ≡ None → place_at scripts c name n ≡ Some y → ⊥
-nothing_stands scripts c name n y gone h = unbound (instance_at n.instance c.instances) _ y gone h
+nothing_stands : (c : Book) (name : List ℕ) (n : PageName) (y : Place) → instance_at n.instance c.instances ≡ None → place_at c name n ≡ Some y → ⊥
+nothing_stands c name n y gone h = unbound (instance_at n.instance c.instances) _ y gone h
 
-goes : PagesStay → (scripts : List Named) (b c : Book) → IsSound scripts b → Leads scripts b c → c.shelf ≡ b.shelf → (t : Ticket) (d : Destination)
-    → refusal_of (admit scripts b d) ≡ None → FitsAs scripts b t (admit scripts b d) → FitsAs scripts c t (admit scripts c d)
-goes stay scripts b c sound leads shelf t (start name) admitted fits = start_goes scripts b c t (script_named name scripts) shelf fits
-goes stay scripts b c sound leads shelf t (page name n) admitted fits =
-    let x = stood scripts b t (place_at scripts b name n) admitted fits in
-    page_goes scripts c t (place_at scripts c name n) (λ y here. elim (stay scripts b c sound leads name n x.0 x.1.0) [
-      | inl gone ↦ absurd (nothing_stands scripts c name n y gone here)
+-- under the setup of the first book
+goes : PagesStay → (b c : Book) → IsOrderly b → Leads b c → c.shelf ≡ b.shelf → c.scripts ≡ b.scripts → (t : Ticket) (d : Destination)
+    → refusal_of (admit b d) ≡ None → FitsAs b.scripts b t (admit b d) → FitsAs b.scripts c t (admit c d)
+goes stay b c orderly leads shelf setup t (start name) admitted fits =
+    subst (λ (ss : List Named). FitsAs b.scripts c t (started (script_named name ss))) (sym setup) (start_goes b.scripts b c t (script_named name b.scripts) shelf fits)
+goes stay b c orderly leads shelf setup t (page name n) admitted fits =
+    let x = stood b.scripts b t (place_at b name n) admitted fits in
+    page_goes b.scripts c t (place_at c name n) (λ y here. elim (stay b c orderly leads name n x.0 x.1.0) [
+      | inl gone ↦ absurd (nothing_stands c name n y gone here)
       | inr same ↦ let there : same.0 ≡ y = cc (same.1.0, here) in
-          subst (λ (z : Place). IsFor scripts t (page_visit c (ticket_of t) z)) there (subst (IsFor scripts t) (same.1.1.visit (ticket_of t)) x.1.1)
+          subst (λ (z : Place). IsFor b.scripts t (page_visit c (ticket_of t) z)) there (subst (IsFor b.scripts t) (same.1.1.visit (ticket_of t)) x.1.1)
     ])
 
-pub tickets_go_on_to_fit : PagesStay → TicketsGoOnToFit
-tickets_go_on_to_fit stay scripts b c sound leads shelf t admitted fits = goes stay scripts b c sound leads shelf t (target_of t.target) admitted fits
+pub tickets_go_on_to_fit : OrderlyBooksStay → PagesStay → TicketsGoOnToFit
+tickets_go_on_to_fit law stay b c orderly leads setup t admitted fits =
+    let shelf = (law.1 b c orderly leads).1 in
+    subst (λ (ss : List Named). FitsAs ss c t (admit c (target_of t.target))) (sym setup) (goes stay b c orderly leads shelf setup t (target_of t.target) admitted fits)

@@ -1,12 +1,12 @@
 -- What the events of a shelf without a journal come to.
-use Rattle.std.proofs.Common.{◌≡◌, ◌∙◌, ap, sym, subst, refl, ℕ, ◌-◌, ◌^◌, ◌==◌, max, nat_le, Bool, true, false, List, [], length, Option, Some, None, Result, Ok, Err, IfSome, arith}
+use Rattle.std.proofs.Common.{◌≡◌, ◌∙◌, ap, sym, subst, refl, ℕ, ◌+◌, ◌-◌, ◌^◌, ◌==◌, max, nat_le, Bool, true, false, List, [], ◌∷◌, length, Option, Some, None, Result, Ok, Err, IfSome, arith}
 use Rattle.script_value.specs.Val.{Val}
 use Rattle.script_value.specs.declared.outcome.Refusal.{Refusal}
 use Rattle.script_value.specs.declared.outcome.TxName.{TxName}
 use Rattle.script_value.specs.declared.outcome.Reply.{Reply}
 use Rattle.script_value.specs.declared.outcome.Reply.TheVariants as reply
 use Rattle.script_nodes.specs.Setup.{Named}
-use Rattle.page_names.specs.Names.{Destination}
+use Rattle.page_names.specs.Names.{Destination, start, page}
 use Rattle.replay_spec.specs.Tape as tape
 use Rattle.replay_spec.specs.Tape.{How, shows, finishes, ends, Outcome, paged, faulted, out_of_fuel}
 use Rattle.replay_spec.specs.Eval.{Segment}
@@ -24,7 +24,15 @@ use Rattle.instance_book.specs.Views.{ticket_of, reply_of}
 use Rattle.instance_book.specs.Swept.{swept}
 use Rattle.instance_book.specs.Changes.{put_into}
 use Rattle.instance_book.specs.Prepares.{rules_with, IsRecord, Prepares, settled}
-use Rattle.shelf.specs.Views.{fate_by, IsSegmentOf}
+use Rattle.replay_spec.specs.Runs.{drawn_by, shelf_step}
+use Rattle.replay_spec.specs.Runs as runs
+use Rattle.replay_spec.specs.Invariant.{IsOrderly}
+use Rattle.replay_spec.specs.Laws.{IsLawful, OrderlyBooksStay}
+use Rattle.instance_book.specs.Makes.{HasPlaces}
+use Rattle.instance_book.specs.Fits.{FitsAs}
+use Rattle.shelf.specs.declared.rules.Rules as limits_of
+use Rattle.shelf.specs.declared.shelf.Shelf.{Shelf}
+use Rattle.shelf.specs.Views.{rules_of, book_in, shelf_of, fate_by, IsInOrder, IsEvent, IsSegmentOf}
 use Rattle.shelf.specs.Events.{Decides, TellsReply}
 
 -- a decision's reply is never want of memory
@@ -46,7 +54,7 @@ plain_when true r h = h
 
 module _ (scripts : List Named) (fuel life instances pages : ℕ) where
   abbrev rules : Rules
-  rules = rules_with scripts fuel life instances pages
+  rules = rules_with fuel life instances pages
 
   plain_full : (how : How) (origin : Origin) (count : ℕ) → IsPlainIf (full rules how origin count)
   plain_full (shows kind) (starts k) count = plain_when (nat_le instances count) (step.shelf_full count) refl
@@ -83,17 +91,17 @@ module _ (scripts : List Named) (fuel life instances pages : ℕ) where
   plain_outcome b (records r c inside) h = h
 
   -- a publish that was prepared
-  pub published : (b : Book) (nonce : ℕ) (t : next.Ticket) (p : Prepared) → b.down ≡ None → Prepares rules b (publish_comes rules b t) (Ok p)
-      → step.step rules b nonce (step.publish t) (fate_by (reply_of p.reply)) ≡ (reply_of p.reply, put_into p (spend t.number b))
+  pub published : (b : Book) (nonce : ℕ) (t : next.Ticket) (p : Prepared) → b.down ≡ None → Prepares scripts rules b (publish_comes rules b t) (Ok p)
+      → step.step rules b nonce (step.publish t) (fate_by (reply_of p.reply)) ≡ (reply_of p.reply, put_into scripts p (spend t.number b))
   unfolding step.step
   published b nonce t p up h =
-      let decided : publish_comes rules b t ≡ decide rules b t (admit scripts b t.target) = rw up refl in
-      let is_plain : IsPlain (publish_comes rules b t) = subst IsPlain (sym decided) (plain_decision b t (admit scripts b t.target)) in
-      let fate : fate_by (reply_of p.reply) ≡ plain = ap (λ (x : step.Reply × Book). fate_by x.0) (sym (h t.number)) ∙ plain_outcome (spend t.number b) (publish_comes rules b t) is_plain in
-      rw fate (h t.number)
+      let decided : publish_comes rules b t ≡ decide rules b t (admit b t.target) = rw up refl in
+      let is_plain : IsPlain (publish_comes rules b t) = subst IsPlain (sym decided) (plain_decision b t (admit b t.target)) in
+      let fate : fate_by (reply_of p.reply) ≡ plain = ap (λ (x : step.Reply × Book). fate_by x.0) (sym (h.lands t.number)) ∙ plain_outcome (spend t.number b) (publish_comes rules b t) is_plain in
+      rw fate (h.lands t.number)
 
   -- one that was refused, or found no memory
-  pub answered : (b : Book) (nonce : ℕ) (t : next.Ticket) (r : Reply) → Decides rules b (publish_comes rules b t) (Err r)
+  pub answered : (b : Book) (nonce : ℕ) (t : next.Ticket) (r : Reply) → Decides scripts rules b (publish_comes rules b t) (Err r)
       → step.step rules b nonce (step.publish t) (fate_by (reply_of r)) ≡ (reply_of r, spend t.number b)
   unfolding step.step
   answered b nonce t (reply.Page bytes url) h = rw h refl
@@ -120,7 +128,7 @@ module _ (scripts : List Named) (fuel life instances pages : ℕ) where
       sym (ap (λ (x : step.Reply × Book). x.1) here)
 
   -- want of memory may stand where it need not
-  pub decides : (b : Book) (d : Decision) (r : Result Prepared Reply) → Prepares rules b d r → Decides rules b d r
+  pub decides : (b : Book) (d : Decision) (r : Result Prepared Reply) → Prepares scripts rules b d r → Decides scripts rules b d r
   decides b d (Ok p) h = h
   decides b d (Err (reply.Page bytes url)) h = h
   decides b d (Err (reply.Finished bytes)) h = h
@@ -138,8 +146,8 @@ module _ (scripts : List Named) (fuel life instances pages : ℕ) where
   decides b d (Err reply.Memory) h = tt
 
   -- what changes nothing is told
-  pub told_prepared : (b : Book) (d : Decision) (p : Prepared) → Prepares rules b d (Ok p) → TellsReply d (reply_of p.reply)
-  told_prepared b (replies x) p h = sym (ap (λ (y : step.Reply × Book). y.0) (h 0))
+  pub told_prepared : (b : Book) (d : Decision) (p : Prepared) → Prepares scripts rules b d (Ok p) → TellsReply d (reply_of p.reply)
+  told_prepared b (replies x) p h = sym (ap (λ (y : step.Reply × Book). y.0) (h.lands 0))
   told_prepared b (records x c inside) p h = tt
 
   told_wanting : (d : Decision) (r : step.Reply) → IsRecord d → TellsReply d r
@@ -149,7 +157,7 @@ module _ (scripts : List Named) (fuel life instances pages : ℕ) where
   told_as : (d : Decision) (x : step.Reply) → d ≡ replies x → TellsReply d x
   told_as d x h = subst (λ (e : Decision). TellsReply e x) (sym h) refl
 
-  pub told_answered : (b : Book) (d : Decision) (r : Reply) → Prepares rules b d (Err r) → TellsReply d (reply_of r)
+  pub told_answered : (b : Book) (d : Decision) (r : Reply) → Prepares scripts rules b d (Err r) → TellsReply d (reply_of r)
   told_answered b d (reply.Page bytes url) h = told_as d _ h
   told_answered b d (reply.Finished bytes) h = told_as d _ h
   told_answered b d (reply.Ended bytes) h = told_as d _ h
@@ -172,8 +180,8 @@ module _ (scripts : List Named) (fuel life instances pages : ℕ) where
   decided_by b t (refused r) s h = refl
 
   pub prepares_by : (b : Book) (t : Ticket) (a : Admission) (s : Segment) (result : Result Prepared Reply) → IsSegmentOf fuel b t a s
-      → Prepares rules b (settled rules b t a s) result → Prepares rules b (decide rules b (ticket_of t) a) result
-  prepares_by b t a s result h is = subst (λ (d : Decision). Prepares rules b d result) (decided_by b t a s h) is
+      → Prepares scripts rules b (settled rules b t a s) result → Prepares scripts rules b (decide rules b (ticket_of t) a) result
+  prepares_by b t a s result h is = subst (λ (d : Decision). Prepares scripts rules b d result) (decided_by b t a s h) is
 
   -- a tick at or below the clock, and a later one
   pub swept_early : (b : Book) (nonce tick : ℕ) → nat_le tick b.clock ≡ true → step.step rules b nonce (step.sweep tick) plain ≡ (step.swept 0, b)
@@ -185,9 +193,9 @@ module _ (scripts : List Named) (fuel life instances pages : ℕ) where
   unfolding step.step
   swept_late b nonce tick count after up h is many =
       let logged : max b.logged 0 ≡ b.logged = grind arith in
-      let decided : step.sweep_comes rules b tick ≡ records (step.swept (step.freed rules tick b)) (sweeps tick) [] = rw up refl in
+      let decided : step.sweep_comes rules b tick ≡ records (step.swept (step.freed tick b)) (sweeps tick) [] = rw up refl in
       let landed : land rules (sweeps tick) [] b ≡ after = ap (λ (n : ℕ). record (swept tick b) { logged = n }) logged ∙ sym is in
-      let told : step.freed rules tick b ≡ count = sym (many ∙ ap (λ (c : Book). length b.instances - length c.instances) is) in
+      let told : step.freed tick b ≡ count = sym (many ∙ ap (λ (c : Book). length b.instances - length c.instances) is) in
       rw h (ap (carried_out rules b) decided
       ∙ (ap (λ (n : ℕ). (step.swept n, land rules (sweeps tick) [] b)) told ∙ ap (λ (c : Book). (step.swept count, c)) landed))
 
@@ -197,12 +205,12 @@ module _ (scripts : List Named) (fuel life instances pages : ℕ) where
   unfolding step.step
   worn b nonce target answer up h = rw (up, h) refl
 
-  pub refused_take : (b : Book) (nonce : ℕ) (target : Destination) (answer : Val) (r : Refusal) → b.down ≡ None → (b.drawn == 2 ^ 62) ≡ false → refusal_of (admit scripts b target) ≡ Some r
+  pub refused_take : (b : Book) (nonce : ℕ) (target : Destination) (answer : Val) (r : Refusal) → b.down ≡ None → (b.drawn == 2 ^ 62) ≡ false → refusal_of (admit b target) ≡ Some r
       → step.step rules b nonce (step.take target answer) plain ≡ (step.refusal r, b)
   unfolding step.step
   refused_take b nonce target answer r up h k = rw (up, h, k) refl
 
-  pub taken : (b : Book) (nonce : ℕ) (target : Destination) (answer : Val) → b.down ≡ None → (b.drawn == 2 ^ 62) ≡ false → refusal_of (admit scripts b target) ≡ None
+  pub taken : (b : Book) (nonce : ℕ) (target : Destination) (answer : Val) → b.down ≡ None → (b.drawn == 2 ^ 62) ≡ false → refusal_of (admit b target) ≡ None
       → step.step rules b nonce (step.take target answer) plain ≡ (step.taken b.drawn nonce, draw b)
   unfolding step.step
   taken b nonce target answer up h k = rw (up, h, k) refl
@@ -219,3 +227,69 @@ refused_ok (Some r) result p x h e = absurd (cc)
 pub refused_err : (o : Option Refusal) (result : Result Prepared Reply) (x : Reply) → IfSome o (λ r. result ≡ Err (reply.Refused r)) → result ≡ Err x → IfSome o (λ r. x ≡ reply.Refused r)
 refused_err None result x h e = tt
 refused_err (Some r) result x h e = cc
+
+-- a step of the book is one of the shelf
+pub follows : (source : ℕ → ℕ) (s : runs.Shelf) (event : step.Event) (r : step.Reply) (after : Book) → step.step s.rules s.book (source s.nonces) event (fate_by r) ≡ (r, after)
+    → shelf_step source s event (fate_by r) ≡ (r, record s { book = after; nonces = drawn_by r s.nonces })
+follows source s event r after e = ap (λ (x : step.Reply × Book). (x.0, record s { book = x.1; nonces = drawn_by x.0 s.nonces })) e
+
+-- an orderly book stays so
+pub orderly_behind : OrderlyBooksStay → (rules : Rules) (b : Book) (nonce : ℕ) (event : step.Event) (fate : step.Fate) (r : step.Reply) (after : Book) → IsOrderly b → IsLawful event b
+    → step.step rules b nonce event fate ≡ (r, after) → IsOrderly after
+orderly_behind law rules b nonce event fate r after orderly lawful e =
+    (law.1 b after orderly (record {
+      moments = record { rules = rules; nonce = nonce; event = event; fate = fate } ∷ [];
+      lawful = (lawful, tt);
+      there = ap (λ (x : step.Reply × Book). x.1) e;
+    })).0
+
+-- a reply of the program that is no ticket draws no nonce
+pub quiet : (r : Reply) (given : ℕ) → drawn_by (reply_of r) given ≡ given
+quiet (reply.Page bytes url) given = refl
+quiet (reply.Finished bytes) given = refl
+quiet (reply.Ended bytes) given = refl
+quiet (reply.Refused r) given = refl
+quiet (reply.Fault f) given = refl
+quiet (reply.Fuel cost) given = refl
+quiet (reply.ShelfFull count) given = refl
+quiet (reply.InstanceFull count) given = refl
+quiet (reply.Oversize n) given = refl
+quiet (reply.JournalFull n) given = refl
+quiet (reply.DiskFault count) given = refl
+quiet (reply.Down count) given = refl
+quiet reply.Worn given = refl
+quiet reply.Memory given = refl
+
+-- an event whose reply is no ticket
+pub quiet_event : {N : Type 0} (coming : N → ℕ → ℕ) (ss : List Named) (old new : Shelf N) (event : step.Event) (r : step.Reply) (after : Book)
+    → new.rules ≡ old.rules → new.nonces ≡ old.nonces → book_in ss new ≡ after → ((given : ℕ) → drawn_by r given ≡ given)
+    → ((nonce : ℕ) → step.step (rules_of old.rules) (book_in ss old) nonce event (fate_by r) ≡ (r, after)) → IsEvent coming ss old new event r
+quiet_event coming ss old new event r after limits source_stays is none stepped = record {
+  step = λ source given has.
+      let same : record (shelf_of ss given old) { book = after; nonces = drawn_by r given } ≡ shelf_of ss (drawn_by r given) new =
+      ap (λ (b : Book). record (shelf_of ss given old) { book = b; nonces = drawn_by r given }) (sym is) ∙ ap (λ (l : limits_of.Rules). record (shelf_of ss (drawn_by r given) new) { rules = rules_of l }) (sym limits) in
+      follows source (shelf_of ss given old) event r after (stepped (source given)) ∙ ap (λ (x : runs.Shelf). (r, x)) same;
+  nonces = λ source given has k. ap (λ (n : _). coming n k) source_stays ∙ (has k ∙ ap (λ (m : ℕ). source (m + k)) (sym (none given)));
+}
+
+-- a shelf in order stays so
+pub order_behind : {N : Type 0} → OrderlyBooksStay → (ss : List Named) (old new : Shelf N) (event : step.Event) (nonce : ℕ) (fate : step.Fate) (r : step.Reply) (after : Book) → IsInOrder ss old → IsLawful event (book_in ss old)
+    → (HasPlaces ss old.book → HasPlaces ss new.book) → book_in ss new ≡ after → step.step (rules_of old.rules) (book_in ss old) nonce event fate ≡ (r, after) → IsInOrder ss new
+order_behind law ss old new event nonce fate r after order lawful places is stepped = record {
+  placed = places order.placed;
+  orderly = subst IsOrderly (sym is) (orderly_behind law (rules_of old.rules) (book_in ss old) nonce event fate r after order.orderly lawful stepped);
+}
+
+-- a ticket fits the book behind its take
+same_admission : (b : Book) (d : Destination) → admit (draw b) d ≡ admit b d
+same_admission b (start name) = refl
+same_admission b (page name n) = refl
+
+still_fits : (ss : List Named) (b : Book) (t : Ticket) (a : Admission) → FitsAs ss b t a → FitsAs ss (draw b) t a
+still_fits ss b t (begins k s) fits = record { run = fits.run; place = fits.place; cells = fits.cells }
+still_fits ss b t (resumes at) fits = fits
+still_fits ss b t (refused r) fits = tt
+
+pub fits_drawn : (ss : List Named) (b after : Book) (t : Ticket) (d : Destination) → after ≡ draw b → FitsAs ss b t (admit b d) → FitsAs ss after t (admit after d)
+fits_drawn ss b after t d e fits =
+    subst (λ (c : Book). FitsAs ss c t (admit c d)) (sym e) (subst (FitsAs ss (draw b) t) (sym (same_admission b d)) (still_fits ss b t (admit b d) fits))

@@ -1,10 +1,11 @@
 -- The events that the calls of a shelf are.
-use Rattle.std.specs.Prelude.{◌≡◌, ℕ, List, Option, Some, Result, Err, IfSome, ⊤}
+use Rattle.std.specs.Prelude.{◌≡◌, ℕ, List, Option, Some, None, Result, Err, IfSome, ⊤}
 use Rattle.script_value.specs.Views.{meaning}
 use Rattle.script_value.specs.declared.value.Value.{Value}
 use Rattle.script_value.specs.declared.outcome.Reply.{Reply}
 use Rattle.script_value.specs.declared.outcome.Reply.TheVariants as reply
 use Rattle.script_nodes.specs.Setup.{Named}
+use Rattle.script_nodes.specs.Views.{scripts_of}
 use Rattle.script_nodes.specs.declared.setup.Setup.{Setup}
 use Rattle.page_names.specs.Views.{target_of}
 use Rattle.page_names.specs.declared.names.Target.{Target}
@@ -13,62 +14,79 @@ use Rattle.replay_spec.specs.Book as spec
 use Rattle.replay_spec.specs.Rules as spec_rules
 use Rattle.replay_spec.specs.Step as step
 use Rattle.replay_spec.specs.Step.{Decision, replies, records, take, publish, sweep, no_take, publish_comes}
-use Rattle.instance_book.specs.declared.book.Book.{Book}
 use Rattle.instance_book.specs.declared.ticket.Ticket.{Ticket}
 use Rattle.instance_book.specs.declared.prepared.Prepared.{Prepared}
-use Rattle.instance_book.specs.Views.{book_of, ticket_of, ticket_for, reply_of}
+use Rattle.instance_book.specs.Views.{ticket_of, ticket_for, reply_of}
 use Rattle.instance_book.specs.Prepares.{Prepares}
-use Rattle.shelf.specs.declared.rules.Rules.{Rules}
 use Rattle.shelf.specs.declared.shelf.Shelf.{Shelf}
-use Rattle.shelf.specs.Views.{rules_of, rules_over, taken_of, swept_of, IsStep, HoldNow}
+use Rattle.shelf.specs.Views.{rules_of, book_in, refusal_now, taken_of, swept_of, IsEvent, HoldNow}
 
--- a take, under the next nonce, is one event
-abbrev pub IsTake : {N : Type 0} → Setup → (old new : Shelf N) → (nonce : ℕ) → Target → Value → Result Ticket Reply → Type 0
-IsTake setup old new nonce target answer result =
-    IsStep (rules_of setup old.rules) (book_of old.book) nonce (take (target_of target) (meaning answer)) (taken_of result) (book_of new.book)
+-- a take is one event
+abbrev pub IsTake : {N : Type 0} → (coming : N → ℕ → ℕ) → Setup → (old new : Shelf N) → Target → Value → Result Ticket Reply → Type 0
+IsTake coming setup old new target answer result =
+    IsEvent coming (scripts_of setup) old new (take (target_of target) (meaning answer)) (taken_of result)
 
 -- its ticket has the next number and nonce
-abbrev pub IsTicketOf : Book → (nonce : ℕ) → Target → Value → Ticket → Type 0
-IsTicketOf b nonce target answer t = ticket_of t ≡ ticket_for target answer b.drawn nonce
+abbrev pub IsTicketOf : {N : Type 0} → (coming : N → ℕ → ℕ) → Setup → Shelf N → Target → Value → Ticket → Type 0
+IsTicketOf coming setup s target answer t =
+    ticket_of t ≡ ticket_for target answer (book_in (scripts_of setup) s).drawn (coming s.nonces 0)
 
 -- what stands against a take is its answer
-abbrev pub TellsWhyNot : Setup → Rules → Book → Target → Result Ticket Reply → Type 0
-TellsWhyNot setup rules b target result =
-    IfSome (no_take (rules_of setup rules) (book_of b) (target_of target)) (λ r. taken_of result ≡ r)
+abbrev pub TellsWhyNot : {N : Type 0} → Setup → Shelf N → Target → Result Ticket Reply → Type 0
+TellsWhyNot setup s target result = IfSome (no_take (book_in (scripts_of setup) s) (target_of target)) (λ r. taken_of result ≡ r)
 
--- a publish is one event, which draws no nonce
-abbrev pub IsPublish : Setup → Rules → Book → Ticket → Reply → Book → Type 0
-IsPublish setup rules b ticket result after =
-    (nonce : ℕ) → IsStep (rules_of setup rules) (book_of b) nonce (publish (ticket_of ticket)) (reply_of result) (book_of after)
+-- a publish is one event
+abbrev pub IsPublish : {N : Type 0} → (coming : N → ℕ → ℕ) → Setup → (old new : Shelf N) → Ticket → Reply → Type 0
+IsPublish coming setup old new ticket result =
+    IsEvent coming (scripts_of setup) old new (publish (ticket_of ticket)) (reply_of result)
 
 -- what it comes to
-abbrev pub decision_of : Setup → Rules → Book → Ticket → Decision
-decision_of setup rules b t = publish_comes (rules_of setup rules) (book_of b) (ticket_of t)
+abbrev pub decision_of : {N : Type 0} → Setup → Shelf N → Ticket → Decision
+decision_of setup s t = publish_comes (rules_of s.rules) (book_in (scripts_of setup) s) (ticket_of t)
 
 -- what is prepared for it, or its refusal; want of memory may stand for any
-abbrev pub Decides : spec_rules.Rules → spec.Book → Decision → Result Prepared Reply → Type 0
-Decides rules b d (Err reply.Memory) = ⊤
-Decides rules b d result = Prepares rules b d result
+abbrev pub Decides : List Named → spec_rules.Rules → spec.Book → Decision → Result Prepared Reply → Type 0
+Decides scripts rules b d (Err reply.Memory) = ⊤
+Decides scripts rules b d result = Prepares scripts rules b d result
 
-abbrev pub IsDecided : Setup → Rules → Book → Ticket → Result Prepared Reply → Type 0
-IsDecided setup rules b t result = Decides (rules_of setup rules) (book_of b) (decision_of setup rules b t) result
+abbrev pub IsDecided : {N : Type 0} → Setup → Shelf N → Ticket → Result Prepared Reply → Type 0
+IsDecided setup s t result =
+    Decides (scripts_of setup) (rules_of s.rules) (book_in (scripts_of setup) s) (decision_of setup s t) result
 
 -- where no second run is due, want of memory is told only of what changes the book
-abbrev pub IsDecidedIfHeld : Setup → Rules → Book → Ticket → Option Rerun → Result Prepared Reply → Type 0
-IsDecidedIfHeld setup rules b t segment result =
-    (r : Rerun) → segment ≡ Some r → HoldNow b t r → Prepares (rules_of setup rules) (book_of b) (decision_of setup rules b t) result
+abbrev pub IsDecidedIfHeld : {N : Type 0} → Setup → Shelf N → Ticket → Option Rerun → Result Prepared Reply → Type 0
+IsDecidedIfHeld setup s t segment result =
+    (r : Rerun) → segment ≡ Some r → HoldNow (book_in (scripts_of setup) s) t r
+    → Prepares (scripts_of setup) (rules_of s.rules) (book_in (scripts_of setup) s) (decision_of setup s t) result
 
 -- a decision that changes nothing is told
 abbrev pub TellsReply : Decision → step.Reply → Type 0
 TellsReply (replies x) r = r ≡ x
 TellsReply (records x c inside) r = ⊤
 
-abbrev pub IsToldIfHeld : Setup → Rules → Book → Ticket → Option Rerun → Reply → Type 0
-IsToldIfHeld setup rules b t segment result =
-    (r : Rerun) → segment ≡ Some r → HoldNow b t r → TellsReply (decision_of setup rules b t) (reply_of result)
+abbrev pub IsToldIfHeld : {N : Type 0} → Setup → Shelf N → Ticket → Option Rerun → Reply → Type 0
+IsToldIfHeld setup s t segment result =
+    (r : Rerun) → segment ≡ Some r → HoldNow (book_in (scripts_of setup) s) t r → TellsReply (decision_of setup s t) (reply_of result)
 
--- a sweep is one event, whatever the scripts
-abbrev pub IsSweep : Rules → Book → (tick : ℕ) → Result ℕ Reply → Book → Type 0
-IsSweep rules b tick result after =
-    (scripts : List Named) (nonce : ℕ)
-    → IsStep (rules_over scripts rules) (book_of b) nonce (sweep tick) (swept_of result) (book_of after)
+-- a target that is not admitted is told so
+abbrev pub TellsRefusal : {N : Type 0} → Setup → Shelf N → Target → Reply → Type 0
+TellsRefusal setup s target result = IfSome (refusal_now setup s target) (λ r. result ≡ reply.Refused r)
+
+abbrev pub IsRefused : {N : Type 0} → Setup → Shelf N → Target → Result Prepared Reply → Type 0
+IsRefused setup s target result = IfSome (refusal_now setup s target) (λ r. result ≡ Err (reply.Refused r))
+
+abbrev pub WantsMemory : {N : Type 0} → Setup → Shelf N → Ticket → Option Rerun → Result Prepared Reply → Type 0
+WantsMemory setup s t segment result = segment ≡ None → refusal_now setup s t.target ≡ None → result ≡ Err reply.Memory
+
+-- want of memory changes nothing else than that the number is spent
+abbrev pub SpendsOnly : {N : Type 0} → Setup → (old new : Shelf N) → Ticket → Reply → Type 0
+SpendsOnly setup old new t result =
+    result ≡ reply.Memory → book_in (scripts_of setup) new ≡ spec.spend t.number (book_in (scripts_of setup) old)
+
+-- where there was no memory for the run of an admitted target, that is the answer
+abbrev pub WantsIfNone : {N : Type 0} → Setup → Shelf N → Ticket → Option Rerun → Reply → Type 0
+WantsIfNone setup s t segment result = segment ≡ None → refusal_now setup s t.target ≡ None → result ≡ reply.Memory
+
+-- a sweep is one event, whatever the setup
+abbrev pub IsSweep : {N : Type 0} → (coming : N → ℕ → ℕ) → (old new : Shelf N) → (tick : ℕ) → Result ℕ Reply → Type 0
+IsSweep coming old new tick result = (scripts : List Named) → IsEvent coming scripts old new (sweep tick) (swept_of result)

@@ -1,17 +1,17 @@
 -- A ticket that fits goes on to fit.
-use Rattle.std.specs.Prelude.{◌≡◌, List, None}
-use Rattle.script_nodes.specs.Setup.{Named}
+use Rattle.std.specs.Prelude.{◌≡◌, None}
 use Rattle.page_names.specs.Views.{target_of}
 use Rattle.replay_spec.specs.Book.{Book}
 use Rattle.replay_spec.specs.Admission.{admit, refusal_of}
-use Rattle.replay_spec.specs.Invariant.{IsSound}
+use Rattle.replay_spec.specs.Invariant.{IsOrderly}
 use Rattle.replay_spec.specs.Laws.{Leads}
 use Rattle.instance_book.specs.declared.ticket.Ticket.{Ticket}
 use Rattle.instance_book.specs.Fits.{FitsAs}
 
--- A ticket of an admitted target that fits a sound book fits each book of the shelf that lawful events lead to.
+-- A ticket of an admitted target that fits an orderly book fits each book of the same setup that lawful events lead to, crashes
+-- among them.
 abbrev pub TicketsGoOnToFit : Type 0
 TicketsGoOnToFit =
-    (scripts : List Named) (b c : Book) → IsSound scripts b → Leads scripts b c → c.shelf ≡ b.shelf → (t : Ticket)
-    → refusal_of (admit scripts b (target_of t.target)) ≡ None → FitsAs scripts b t (admit scripts b (target_of t.target))
-    → FitsAs scripts c t (admit scripts c (target_of t.target))
+    (b c : Book) → IsOrderly b → Leads b c → c.scripts ≡ b.scripts → (t : Ticket)
+    → refusal_of (admit b (target_of t.target)) ≡ None → FitsAs b.scripts b t (admit b (target_of t.target))
+    → FitsAs c.scripts c t (admit c (target_of t.target))

@@ -1,39 +1,74 @@
--- What the program's shelf stands for in the definitions, and the events of its calls.
-use Rattle.std.specs.Prelude.{◌≡◌, ℕ, ◌+◌, List, map, length, Option, Some, None, slice_get, Result, Ok, Err, ⊤}
+-- What the program's shelf stands for in the definitions.
+use Rattle.std.specs.Prelude.{◌≡◌, ℕ, ◌+◌, List, map, length, Option, Some, None, IfSome, Contains, slice_get, Result, Ok, Err, ⊤}
 use Rattle.script_value.specs.declared.outcome.Reply.{Reply}
+use Rattle.script_value.specs.declared.outcome.Refusal.{Refusal}
 use Rattle.script_nodes.specs.Setup.{Named}
 use Rattle.script_nodes.specs.Views.{scripts_of}
 use Rattle.script_nodes.specs.declared.setup.Setup.{Setup}
 use Rattle.page_names.specs.Names.{Destination, start, page}
 use Rattle.page_names.specs.Views.{target_of}
+use Rattle.page_names.specs.declared.names.Target.{Target}
 use Rattle.instance_cells.specs.Cells.{Effect, Holds}
 use Rattle.instance_cells.specs.Views.{effect_of}
 use Rattle.segments.specs.declared.ends.Rerun.{Rerun}
 use Rattle.segments.specs.Views.{segment_of}
-use Rattle.replay_spec.specs.Tape.{present}
+use Rattle.replay_spec.specs.Tape.{Answer, present}
 use Rattle.replay_spec.specs.Eval.{Segment, run}
 use Rattle.replay_spec.specs.Book as spec
 use Rattle.replay_spec.specs.Book.{Book, instance_at}
 use Rattle.replay_spec.specs.Rules as spec_rules
-use Rattle.replay_spec.specs.Rules.{first_cells}
-use Rattle.replay_spec.specs.Admission.{Admission, begins, resumes, refused}
+use Rattle.replay_spec.specs.Admission.{Admission, begins, resumes, refused, refusal_of, admit}
 use Rattle.replay_spec.specs.Next.{comes_to, start_visit, page_visit}
 use Rattle.replay_spec.specs.Step as step
-use Rattle.replay_spec.specs.Runs.{drawn_by}
+use Rattle.replay_spec.specs.Runs as runs
+use Rattle.replay_spec.specs.Runs.{drawn_by, shelf_step}
+use Rattle.replay_spec.specs.Invariant.{IsOrderly}
 use Rattle.instance_book.specs.declared.ticket.Ticket.{Ticket}
 use Rattle.instance_book.specs.Views.{book_of, ticket_of, reply_of}
-use Rattle.instance_book.specs.declared.book.Book as RustBook
-use Rattle.instance_book.specs.Admissions.{admission_for}
-use Rattle.instance_book.specs.Fits.{tape_with, FitsAs}
+use Rattle.instance_book.specs.Makes.{HasPlaces}
+use Rattle.instance_book.specs.Swept.{cells_in}
+use Rattle.instance_book.specs.Fits.{GoesOnFrom, tape_with, FitsAs}
 use Rattle.instance_book.specs.Prepares.{rules_with}
 use Rattle.shelf.specs.declared.rules.Rules.{Rules}
+use Rattle.shelf.specs.declared.shelf.Shelf.{Shelf}
 
--- what the events of a shelf run under
-abbrev pub rules_over : List Named → Rules → spec_rules.Rules
-rules_over scripts r = rules_with scripts r.fuel r.life r.instances r.pages
+-- what the events of a shelf run under: it keeps no journal
+abbrev pub rules_of : Rules → spec_rules.Rules
+rules_of r = rules_with r.fuel r.life r.instances r.pages
 
-abbrev pub rules_of : Setup → Rules → spec_rules.Rules
-rules_of setup r = rules_over (scripts_of setup) r
+-- The book of the shelf under this setup: of a shelf without a journal the length is 0, and nothing is in doubt.
+abbrev pub book_in : {N : Type 0} → List Named → Shelf N → Book
+book_in scripts s = book_of scripts 0 None s.book
+
+-- the shelf, whose source has given so many nonces
+abbrev pub shelf_of : {N : Type 0} → List Named → (given : ℕ) → Shelf N → runs.Shelf
+shelf_of scripts given s = record { rules = rules_of s.rules; book = book_in scripts s; nonces = given }
+
+-- behind so many nonces of this source these are to come
+abbrev pub HasGiven : (source : ℕ → ℕ) → (given : ℕ) → (coming : ℕ → ℕ) → Type 0
+HasGiven source given coming = (k : ℕ) → coming k ≡ source (given + k)
+
+-- each instance is of a script of the setup, and the book is orderly
+pub record IsInOrder {N : Type 0} (scripts : List Named) (s : Shelf N) : Type 0 where
+  pub placed : HasPlaces scripts s.book
+  pub orderly : IsOrderly (book_in scripts s)
+
+-- under each setup; one that was in order goes on to be; and a copy of a shelf
+abbrev pub IsAlwaysInOrder : {N : Type 0} → Shelf N → Type 0
+IsAlwaysInOrder s = (scripts : List Named) → IsInOrder scripts s
+
+abbrev pub StaysInOrder : {N : Type 0} → (old new : Shelf N) → Type 0
+StaysInOrder old new = (scripts : List Named) → IsInOrder scripts old → IsInOrder scripts new
+
+abbrev pub HasSameBook : {N : Type 0} → (s copy : Shelf N) → Type 0
+HasSameBook s copy = (scripts : List Named) → book_in scripts copy ≡ book_in scripts s
+
+abbrev pub HasSameNonces : {N : Type 0} → (coming : N → ℕ → ℕ) → (s copy : Shelf N) → Type 0
+HasSameNonces coming s copy = (k : ℕ) → coming copy.nonces k ≡ coming s.nonces k
+
+-- a shelf with nothing in it, of this number
+abbrev pub IsEmpty : {N : Type 0} → Rules → Shelf N → Type 0
+IsEmpty rules s = (scripts : List Named) → shelf_of scripts 0 s ≡ runs.empty_shelf (rules_of rules) scripts rules.number
 
 -- what a take and a sweep answer
 abbrev pub taken_of : Result Ticket Reply → step.Reply
@@ -49,36 +84,57 @@ abbrev pub fate_by : step.Reply → step.Fate
 fate_by step.memory = step.no_memory
 fate_by _ = step.plain
 
--- the event takes the one book to the other, with this reply, where this is the next nonce
-abbrev pub IsStep : spec_rules.Rules → Book → (nonce : ℕ) → step.Event → step.Reply → Book → Type 0
-IsStep rules b nonce event reply next = step.step rules b nonce event (fate_by reply) ≡ (reply, next)
+-- the event takes the one shelf to the other, with this reply, where this is the source of its nonces
+abbrev pub IsStep : (source : ℕ → ℕ) → runs.Shelf → step.Event → step.Reply → runs.Shelf → Type 0
+IsStep source s event reply next = shelf_step source s event (fate_by reply) ≡ (reply, next)
 
--- the source has given a nonce where the reply is `taken`, and else none
-abbrev pub Draws : (old new : ℕ → ℕ) → step.Reply → Type 0
-Draws old new reply = (k : ℕ) → new k ≡ old (k + drawn_by reply 0)
+-- The event takes the shelf on, whatever its source is and has given, and the source goes on with it.
+pub record IsEvent {N : Type 0} (coming : N → ℕ → ℕ) (scripts : List Named) (old new : Shelf N) (event : step.Event) (reply : step.Reply) : Type 0 where
+  pub step : (source : ℕ → ℕ) (given : ℕ) → HasGiven source given (coming old.nonces)
+      → IsStep source (shelf_of scripts given old) event reply (shelf_of scripts (drawn_by reply given) new)
+  pub nonces : (source : ℕ → ℕ) (given : ℕ) → HasGiven source given (coming old.nonces) → HasGiven source (drawn_by reply given) (coming new.nonces)
 
--- each instance has as many cells as its script
-abbrev pub HaveTheirCells : List Named → Book → Type 0
-HaveTheirCells scripts b =
-    (k : ℕ) (i : spec.Instance) → instance_at k b.instances ≡ Some i → length i.cells ≡ length (first_cells scripts i.script)
+-- what a target is admitted as, and why it is not
+abbrev pub admission_now : {N : Type 0} → Setup → Shelf N → Target → Admission
+admission_now setup s target = admit (book_in (scripts_of setup) s) (target_of target)
 
--- what the ticket's run comes to over its own cells
+abbrev pub refusal_now : {N : Type 0} → Setup → Shelf N → Target → Option Refusal
+refusal_now setup s target = refusal_of (admission_now setup s target)
+
+-- where the ticket's target is admitted now, the ticket is for the visit of it
+abbrev pub FitsNow : {N : Type 0} → Setup → Shelf N → Ticket → Type 0
+FitsNow setup s t = FitsAs (scripts_of setup) (book_in (scripts_of setup) s) t (admission_now setup s t.target)
+
+-- its number is out
+abbrev pub IsOut : {N : Type 0} → Setup → Shelf N → Ticket → Type 0
+IsOut setup s t = Contains (book_in (scripts_of setup) s).out t.number
+
+-- what the ticket's run comes to over its own cells, behind the past that it goes on from
 abbrev pub IsRunOf : List Named → (fuel : ℕ) → Ticket → Rerun → Type 0
 IsRunOf scripts fuel t r =
-    (named : Named) → slice_get scripts t.script ≡ Some named → segment_of r ≡ run named.script (tape_with t (present t.cells fuel))
+    (named : Named) (past : List Answer) → slice_get scripts t.script ≡ Some named → GoesOnFrom t.from.items past
+    → segment_of r ≡ run named.script (tape_with t past (present t.cells fuel))
 
 -- the run, where there was memory for it
 abbrev pub IsRunIfAny : List Named → (fuel : ℕ) → Ticket → Option Rerun → Type 0
 IsRunIfAny scripts fuel t None = ⊤
 IsRunIfAny scripts fuel t (Some r) = IsRunOf scripts fuel t r
 
+abbrev pub IsRunFor : {N : Type 0} → Setup → Shelf N → Ticket → Option Rerun → Type 0
+IsRunFor setup s t segment = IsRunIfAny (scripts_of setup) s.rules.fuel t segment
+
 -- no second run is due: a start's cells are its own, and the effects hold over the cells of an answered page's instance
 abbrev pub HoldIn : Book → Destination → List Effect → Type 0
 HoldIn b (start name) effects = ⊤
-HoldIn b (page name n) effects = (i : spec.Instance) → instance_at n.instance b.instances ≡ Some i → Holds effects i.cells
+HoldIn b (page name n) effects = IfSome (cells_in n.instance b) (λ cells. Holds effects cells)
 
-abbrev pub HoldNow : RustBook.Book → Ticket → Rerun → Type 0
-HoldNow b t r = HoldIn (book_of b) (target_of t.target) (map effect_of r.effects.items)
+abbrev pub HoldNow : Book → Ticket → Rerun → Type 0
+HoldNow b t r = HoldIn b (target_of t.target) (map effect_of r.effects.items)
+
+-- each instance has as many cells as its script
+abbrev pub HaveTheirCells : Book → Type 0
+HaveTheirCells b =
+    (k : ℕ) (i : spec.Instance) → instance_at k b.instances ≡ Some i → length i.cells ≡ length i.script.script.cells
 
 -- what the new segment of an admitted visit comes to over the cells of now
 abbrev pub IsSegmentOf : (fuel : ℕ) → Book → Ticket → Admission → Segment → Type 0
@@ -87,9 +143,5 @@ IsSegmentOf fuel b t (resumes at) s = s ≡ comes_to (page_visit b (ticket_of t)
 IsSegmentOf fuel b t (refused r) s = ⊤
 
 -- the same of the program's values
-abbrev pub IsSegmentNow : Setup → (fuel : ℕ) → RustBook.Book → Ticket → Rerun → Type 0
-IsSegmentNow setup fuel b t r = IsSegmentOf fuel (book_of b) t (admission_for setup b t.target) (segment_of r)
-
--- where the ticket's target is admitted now, the ticket is for the visit of it
-abbrev pub FitsNow : Setup → RustBook.Book → Ticket → Type 0
-FitsNow setup b t = FitsAs (scripts_of setup) (book_of b) t (admission_for setup b t.target)
+abbrev pub IsSegmentNow : (fuel : ℕ) → Book → Ticket → Rerun → Type 0
+IsSegmentNow fuel b t r = IsSegmentOf fuel b t (admit b (target_of t.target)) (segment_of r)

@@ -1,24 +1,21 @@
-ghost use Rattle.std.specs.Prelude.{◌≡◌, ◌<◌, ◌^◌, List, IfOk, IfSome, Err, Contains};
-ghost use Rattle.script_nodes.specs.Setup.{Named};
+ghost use Rattle.std.specs.Prelude.{◌≡◌, ◌<◌, ◌^◌, IfOk, IsOk};
 ghost use Rattle.script_nodes.specs.Views.{scripts_of};
-ghost use Rattle.replay_spec.specs.Book.{spend};
-ghost use Rattle.replay_spec.specs.Next.{cells_by};
-ghost use Rattle.replay_spec.specs.Rules.{empty_book};
-ghost use Rattle.instance_book.specs.Views.{book_of};
-ghost use Rattle.instance_book.specs.Admissions.{admission_for, refusal_for};
+ghost use Rattle.instance_book.specs.Makes.{StaysSame, KeepsPlaces};
+ghost use Rattle.instance_book.specs.Admissions.{HasCellsBy};
 ghost use Rattle.instance_book.specs.Changes.{HasRoomFor};
 ghost use Rattle.shelf.specs.Ranges.{AreInRange};
-ghost use Rattle.shelf.specs.Views.{rules_over, taken_of, Draws, HaveTheirCells, IsRunIfAny, FitsNow};
-ghost use Rattle.shelf.specs.Events.{IsTake, IsTicketOf, TellsWhyNot, IsDecided, IsDecidedIfHeld, IsPublish, IsToldIfHeld, IsSweep};
+ghost use Rattle.shelf.specs.Views.{IsInOrder, IsAlwaysInOrder, StaysInOrder, IsEmpty, admission_now, FitsNow, IsOut, IsRunFor};
+ghost use Rattle.shelf.specs.Events.{IsTake, IsTicketOf, TellsWhyNot, IsDecided, IsDecidedIfHeld, IsRefused, WantsMemory, IsPublish, TellsRefusal, IsToldIfHeld, WantsIfNone, SpendsOnly, IsSweep};
 
 use crate::rules::Rules;
 use crate::second::segment_now;
 use crate::shelf::Shelf;
 use instance_book::{Book, Prepared, Ticket};
 use page_names::Target;
-use segments::Rerun;
+use replay_spec::orderly_books_stay;
 use script_nodes::Setup;
 use script_value::{Reply, Value};
+use segments::Rerun;
 use std::alloc::Global;
 use web_outside::Nonces;
 
@@ -29,10 +26,12 @@ impl<N: Nonces + Drop> Shelf<N> {
     /// An empty shelf of these limits, which are in their ranges; it takes no memory.
     pub fn begin(alloc: Global, nonces: N, rules: Rules) -> Shelf<N>
         requires { AreInRange rules }
-        ensures book { (scripts : List Named) → book_of result.book ≡ empty_book (rules_over scripts rules) rules.number }
+        ensures shelf { IsEmpty rules result }
+        ensures in_order { IsAlwaysInOrder result }
         ensures nonces { result.nonces ≡ nonces }
         ensures rules { result.rules ≡ rules }
     {
+        orderly_books_stay();
         Shelf {
             book: Book::empty(alloc, rules.number),
             nonces,
@@ -72,15 +71,17 @@ impl<N: Nonces + Drop> Shelf<N> {
         target: &Target,
         answer: Value,
     ) -> Result<Ticket, Reply>
-        ensures step { IsTake setup.now self.old self.new (N.nonce self.old.nonces 0) target.now answer result }
-        ensures nonces { Draws (N.nonce self.old.nonces) (N.nonce self.new.nonces) (taken_of result) }
-        ensures refused { TellsWhyNot setup.now self.old.rules self.old.book target.now result }
-        ensures ticket { IfOk result (IsTicketOf self.old.book (N.nonce self.old.nonces 0) target.now answer) }
-        ensures fits { IfOk result (λ t. FitsNow setup.now self.new.book t) }
-        ensures cells { IfOk result (λ t. t.cells ≡ cells_by (admission_for setup.now self.old.book target.now)) }
-        ensures out { IfOk result (λ t. Contains (book_of self.new.book).out t.number) }
+        requires { IsInOrder (scripts_of setup.now) self.old }
+        ensures event { IsTake N.nonce setup.now self.old self.new target.now answer result }
+        ensures in_order { IsInOrder (scripts_of setup.now) self.new }
+        ensures refused { TellsWhyNot setup.now self.old target.now result }
+        ensures ticket { IfOk result (IsTicketOf N.nonce setup.now self.old target.now answer) }
+        ensures fits { IfOk result (FitsNow setup.now self.new) }
+        ensures cells { IfOk result (HasCellsBy (admission_now setup.now self.old target.now)) }
+        ensures out { IfOk result (IsOut setup.now self.new) }
         ensures rules { self.new.rules ≡ self.old.rules }
     {
+        orderly_books_stay();
         if self.book.drawn() == NUMBERS {
             return Err(Reply::Worn);
         }
@@ -106,15 +107,17 @@ impl<N: Nonces + Drop> Shelf<N> {
         ticket: &Ticket,
         segment: Option<Rerun>,
     ) -> Result<Prepared, Reply>
-        requires out { Contains (book_of self.old.book).out ticket.now.number }
-        requires fits { FitsNow setup.now self.old.book ticket.now }
-        requires segment { IsRunIfAny (scripts_of setup.now) self.old.rules.fuel ticket.now segment }
-        requires cells { HaveTheirCells (scripts_of setup.now) (book_of self.old.book) }
-        ensures book { book_of self.new.book ≡ book_of self.old.book }
+        requires in_order { IsInOrder (scripts_of setup.now) self.old }
+        requires out { IsOut setup.now self.old ticket.now }
+        requires fits { FitsNow setup.now self.old ticket.now }
+        requires segment { IsRunFor setup.now self.old ticket.now segment }
+        ensures book { StaysSame self.old.book self.new.book }
+        ensures placed { KeepsPlaces self.old.book self.new.book }
         ensures room { IfOk result (λ p. HasRoomFor p.change self.new.book) }
-        ensures decided { IsDecided setup.now self.old.rules self.old.book ticket.now result }
-        ensures held { IsDecidedIfHeld setup.now self.old.rules self.old.book ticket.now segment result }
-        ensures refused { IfSome (refusal_for setup.now self.old.book ticket.now.target) (λ r. result ≡ Err (Reply.Refused r)) }
+        ensures decided { IsDecided setup.now self.old ticket.now result }
+        ensures held { IsDecidedIfHeld setup.now self.old ticket.now segment result }
+        ensures refused { IsRefused setup.now self.old ticket.now.target result }
+        ensures none { WantsMemory setup.now self.old ticket.now segment result }
         ensures nonces { self.new.nonces ≡ self.old.nonces }
         ensures rules { self.new.rules ≡ self.old.rules }
     {
@@ -146,8 +149,8 @@ impl<N: Nonces + Drop> Shelf<N> {
     /// A target that is not admitted is told whatever memory there is, and so is, where no second run is due, any reply that
     /// changes nothing. Want of memory changes nothing else than that the number is spent.
     ///
-    /// It asks for a number that is out; for a ticket that is, where its target is admitted now, for the visit of it; for the
-    /// segment of its run over its own cells; and for instances with as many cells as their scripts.
+    /// It asks for a number that is out; for a ticket that is, where its target is admitted now, for the visit of it; and for the
+    /// segment of its run over its own cells.
     pub fn publish(
         &mut self,
         alloc: Global,
@@ -155,17 +158,20 @@ impl<N: Nonces + Drop> Shelf<N> {
         ticket: Ticket,
         segment: Option<Rerun>,
     ) -> Reply
-        requires out { Contains (book_of self.old.book).out ticket.number }
-        requires fits { FitsNow setup.now self.old.book ticket }
-        requires segment { IsRunIfAny (scripts_of setup.now) self.old.rules.fuel ticket segment }
-        requires cells { HaveTheirCells (scripts_of setup.now) (book_of self.old.book) }
-        ensures step { IsPublish setup.now self.old.rules self.old.book ticket result self.new.book }
-        ensures refused { IfSome (refusal_for setup.now self.old.book ticket.target) (λ r. result ≡ Reply.Refused r) }
-        ensures held { IsToldIfHeld setup.now self.old.rules self.old.book ticket segment result }
-        ensures memory { result ≡ Reply.Memory → book_of self.new.book ≡ spend ticket.number (book_of self.old.book) }
+        requires in_order { IsInOrder (scripts_of setup.now) self.old }
+        requires out { IsOut setup.now self.old ticket }
+        requires fits { FitsNow setup.now self.old ticket }
+        requires segment { IsRunFor setup.now self.old ticket segment }
+        ensures event { IsPublish N.nonce setup.now self.old self.new ticket result }
+        ensures in_order { IsInOrder (scripts_of setup.now) self.new }
+        ensures refused { TellsRefusal setup.now self.old ticket.target result }
+        ensures none { WantsIfNone setup.now self.old ticket segment result }
+        ensures held { IsToldIfHeld setup.now self.old ticket segment result }
+        ensures memory { SpendsOnly setup.now self.old self.new ticket result }
         ensures nonces { self.new.nonces ≡ self.old.nonces }
         ensures rules { self.new.rules ≡ self.old.rules }
     {
+        orderly_books_stay();
         let prepared = self.prepared(alloc, setup, &ticket, segment);
         self.book.spend(ticket.number);
         match prepared {
@@ -178,10 +184,13 @@ impl<N: Nonces + Drop> Shelf<N> {
     /// It tells how many instances were freed, and takes no memory.
     pub fn sweep(&mut self, tick: u64) -> Result<u32, Reply>
         requires { tick < 2 ^ 62 }
-        ensures step { IsSweep self.old.rules self.old.book tick result self.new.book }
+        ensures ok { IsOk result }
+        ensures event { IsSweep N.nonce self.old self.new tick result }
+        ensures in_order { StaysInOrder self.old self.new }
         ensures nonces { self.new.nonces ≡ self.old.nonces }
         ensures rules { self.new.rules ≡ self.old.rules }
     {
+        orderly_books_stay();
         if tick <= self.book.clock() {
             return Ok(0);
         }

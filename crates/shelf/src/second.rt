@@ -1,12 +1,11 @@
 ghost use Rattle.std.specs.Prelude.{◌≡◌, IfOk, Ok, None, map};
 ghost use Rattle.script_nodes.specs.Views.{scripts_of};
 ghost use Rattle.instance_cells.specs.Views.{effect_of};
-ghost use Rattle.instance_book.specs.Views.{book_of};
-ghost use Rattle.instance_book.specs.Admissions.{refusal_for};
+ghost use Rattle.instance_book.specs.Admissions.{book_under, refusal_for, FitsIn};
 ghost use Rattle.instance_book.specs.Prepares.{AreOnCells};
-ghost use Rattle.shelf.specs.Views.{HaveTheirCells, IsRunOf, IsSegmentNow, FitsNow, HoldNow};
+ghost use Rattle.shelf.specs.Views.{HaveTheirCells, IsRunOf, IsSegmentNow, HoldNow};
 
-use instance_book::{Book, Ticket, admitted_stand};
+use instance_book::{Book, Ticket};
 use page_names::Target;
 use plain_rerun::rerun;
 use replay_spec::{effects_are_on_cells, effects_hold_run_same};
@@ -24,13 +23,13 @@ pub fn segment_now(
     first: Rerun,
     fuel: u64,
 ) -> Result<Rerun, AllocError>
-    requires fits { FitsNow setup.now book.now ticket.now }
+    requires fits { FitsIn setup.now book.now ticket.now.target ticket.now }
     requires admitted { refusal_for setup.now book.now ticket.now.target ≡ None }
     requires segment { IsRunOf (scripts_of setup.now) fuel ticket.now first }
-    requires cells { HaveTheirCells (scripts_of setup.now) (book_of book.now) }
-    ensures segment { IfOk result (λ r. IsSegmentNow setup.now fuel book.now ticket.now r) }
-    ensures first { HoldNow book.now ticket.now first → result ≡ Ok first }
-    ensures on { IfOk result (λ r. AreOnCells (book_of book.now) ticket.now (map effect_of r.effects.items)) }
+    requires cells { HaveTheirCells (book_under setup.now book.now) }
+    ensures segment { IfOk result (IsSegmentNow fuel (book_under setup.now book.now) ticket.now) }
+    ensures first { HoldNow (book_under setup.now book.now) ticket.now first → result ≡ Ok first }
+    ensures on { IfOk result (λ r. AreOnCells book.now ticket.now (map effect_of r.effects.items)) }
 {
     let Some(named) = setup.get(ticket.script) else {
         return Err(AllocError);
@@ -38,7 +37,6 @@ pub fn segment_now(
     // A script's root tells that the cells that its nodes name are there.
     let _root = named.script.root();
     effects_are_on_cells();
-    admitted_stand();
     let Target::Page(_, page) = &ticket.target else {
         return Ok(first);
     };

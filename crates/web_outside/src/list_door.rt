@@ -1,4 +1,4 @@
-ghost use Rattle.std.specs.Prelude.{◌≡◌, ◌≤◌, ◌+◌, ◌-◌, ◌^◌, [], All, true, Some, map, min, sum_by, vec_len, IfOk, IfSome, OnErr, IsErrOf};
+ghost use Rattle.std.specs.Prelude.{◌≡◌, ◌≤◌, ◌+◌, ◌-◌, ◌^◌, [], All, Some, is_err, map, min, sum_by, vec_len, IfOk, IfSome, OnErr, IsErrOf};
 ghost use Rattle.web_outside.specs.Causes.{Rose};
 ghost use Rattle.web_outside.specs.Doors.{GiveLists, counts_with};
 
@@ -97,8 +97,8 @@ impl Door for ListDoor {
         ensures failing { IfOk result (λ porches. all_failing porches.items ≡ all_failing self.old.porches.items) }
         ensures emptied { IfOk result (λ _. self.new.porches.items ≡ []) }
         ensures err { OnErr result (self.new.porches.items ≡ self.old.porches.items) }
-        ensures fails { listen_fails self.old port workers ≡ true → IsErrOf result DoorFault.Failed }
-        ensures fails_only { IsErrOf result DoorFault.Failed → listen_fails self.old port workers ≡ true }
+        ensures fails { is_err result ≡ listen_fails self.old port workers }
+        ensures no_memory { IsErrOf result DoorFault.Memory → ⊥ }
         ensures failed { IsErrOf result DoorFault.Failed → Rose self.old.faults self.new.faults }
         ensures later { self.old.faults ≤ self.new.faults }
         ensures faults { self.new.faults ≡ faults_after_listen result self.old.faults }

@@ -1,4 +1,4 @@
-use Rattle.std.proofs.Common.{sym, ◌∙◌, subst, take, length, ◌+◌, drop, length-drop, arith}
+use Rattle.std.proofs.Common.{sym, ◌∙◌, ◌+◌, length-drop, arith}
 use Rattle.std.proofs.lemmas.List.{take_rest}
 use Rattle.http_forms.proofs.Values.{close_first, close_later, close_last}
 use Rattle.http_forms.proofs.fields.has_close.Goals as goal

@@ -1,4 +1,4 @@
-use Rattle.std.proofs.Common.{codes, refl, sym, ◌∙◌, ap, ◌||◌, Bool}
+use Rattle.std.proofs.Common.{codes, refl, ◌∙◌, ap, ◌||◌, Bool}
 use Rattle.http_forms.proofs.Values.{says_one, says_same}
 use Rattle.http_forms.proofs.fields.says_close.Goals as goal
 use Rattle.http_forms.proofs.fields.says_close.Goals.{then-same_letters, else-same_letters}

@@ -1,6 +1,5 @@
-use Rattle.std.proofs.Common.{◌≡◌, ◌≤◌, ◌++◌, length, take, Ok, sym, subst, arith}
+use Rattle.std.proofs.Common.{sym, arith}
 use Rattle.std.proofs.lemmas.List.{length-take-le}
-use Rattle.http_forms.specs.Progress.{HasHead}
 use Rattle.http_forms.proofs.Ends.{head_inside}
 use Rattle.http_forms.proofs.Following.{head_more, refused_head, refused_stays}
 use Rattle.http_forms.proofs.progress.headed.Goals as goal

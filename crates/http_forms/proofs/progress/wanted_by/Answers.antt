@@ -1,4 +1,4 @@
-use Rattle.std.proofs.Common.{◌+◌, ◌<◌, ◌≤◌, length, ℕ, subst, sym, ◌∙◌}
+use Rattle.std.proofs.Common.{◌<◌, length, ℕ, subst, sym, ◌∙◌}
 use Rattle.http_forms.specs.Progress.{KnowsBy, HasHead, Suffices}
 use Rattle.http_forms.proofs.Following.{sized, decided_here, short_of, enough_of, enough_refused}
 use Rattle.http_forms.proofs.progress.wanted_by.Goals as goal

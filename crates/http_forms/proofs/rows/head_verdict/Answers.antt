@@ -1,4 +1,4 @@
-use Rattle.std.proofs.Common.{Some, None, refl, ap, length}
+use Rattle.std.proofs.Common.{Some, None, refl}
 use Rattle.httparse.specs.Spans.{IsRequestOf}
 use Rattle.http_forms.proofs.Verdicts.{cut_short, whole_head, verdict_of, none_fits}
 use Rattle.http_forms.proofs.rows.head_verdict.Goals as goal

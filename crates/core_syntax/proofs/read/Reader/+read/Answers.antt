@@ -1,10 +1,9 @@
-use Rattle.std.proofs.Common.{ap, arith, sym, ◌∙◌, map, refl, take, drop, length, ◌-◌}
+use Rattle.std.proofs.Common.{ap, arith, sym, ◌∙◌, map, refl}
 use Rattle.std.proofs.lemmas.Result.{err_from_is_err_and}
 use Rattle.core_syntax.specs.Trees.{pair_of}
 use Rattle.script_nodes.proofs.Places.{map_behind}
 use Rattle.core_syntax.proofs.Choices.{choices_next, clause_stops, gives_same}
-use Rattle.script_value.specs.Val.{weight, list, val, no_vals, vals_of}
-use Rattle.core_syntax.specs.Forms.{core_of}
+use Rattle.script_value.specs.Val.{weight}
 use Rattle.script_value.specs.Views.{meaning, meanings}
 use Rattle.core_syntax.proofs.Filling.{splice_filled, part_stops, part_given, gives_too, unquote_is, joined_is, list_is, item_added, item_counted, item_stops, items_end, items_given}
 use Rattle.core_syntax.specs.Filling.{trees_of, has_no_tree, items_filled}

@@ -1,16 +1,13 @@
-use Rattle.std.proofs.Common.{◌≡◌, ◌∙◌, ap, sym, subst, ℕ, ◌+◌, List, [], map, length, Some, None, IfOk, nat_le, true, false, arith, refl}
+use Rattle.std.proofs.Common.{◌≡◌, ◌∙◌, ap, sym, subst, ℕ, ◌+◌, [], length, Some, IfOk, nat_le, true, false, arith}
 use Rattle.std.proofs.lemmas.Bool.Decides.{nat_tests}
 use Rattle.std.specs.Option.{option_copied}
-use Rattle.instance_cells.specs.Views.{effect_of}
-use Rattle.script_nodes.specs.Setup.{Named}
 use Rattle.segments.specs.Views.{outcome_of, segment_of}
-use Rattle.replay_spec.specs.Book.{Instance, Page, at_number, instance_at}
+use Rattle.replay_spec.specs.Book.{Instance, instance_at}
 use Rattle.replay_spec.specs.Change.{done, shown_by}
 use Rattle.instance_book.specs.declared.prepared.Prepared.{Prepared}
 use Rattle.instance_book.specs.Views.{book_of, page_of, instance_of, instances_of}
 use Rattle.instance_book.specs.Prepares.{next_page, IsExtension, IsEnding, IsFinish}
-use Rattle.instance_book.specs.Segments.{Shows, gone_on}
-use Rattle.instance_book.proofs.Admitted.{number_is}
+use Rattle.replay_spec.proofs.Numbered.{number_of}
 use Rattle.instance_book.proofs.Seen.{instance_some, instance_none, length_seen}
 use Rattle.instance_book.proofs.Lands.{page_full, extended, ending_lands, finish_lands, ending_room, room_made, under}
 use Rattle.instance_book.proofs.book.Book.prepare_page.Goals as goal
@@ -34,7 +31,7 @@ pub returns-in-Shown-clause-room : goal.returns-in-Shown-clause-room
 returns-in-Shown-clause-room c =
     let x = c.in-Some.instance.now in
     let some = instance_some [] c.args.page.now.instance c.args.self.now.instances.things.items x (sym c.in-Some.ensures) in
-    let number : x.number ≡ c.args.page.now.instance = number_is (λ (i : Instance). i.number) c.args.page.now.instance (instances_of [] c.args.self.now.instances) (instance_of [] x) some in
+    let number : x.number ≡ c.args.page.now.instance = number_of (λ (i : Instance). i.number) c.args.page.now.instance (instances_of [] c.args.self.now.instances) (instance_of [] x) some in
     let s = segment_of c.args.segment in
     let t = c.args.ticket.now in
     let answered = c.args.page.now.page in
@@ -51,7 +48,7 @@ returns-in-Shown-clause-decided c scripts journal down fuel instances at found n
     let some = instance_some scripts c.args.page.now.instance c.args.self.now.instances.things.items x (sym c.in-Some.ensures) in
     let same : instance_of scripts x ≡ at.instance = cc (some, found) in
     let there : instance_at at.instance.number b.instances ≡ Some at.instance =
-    subst (λ (n : ℕ). instance_at n b.instances ≡ Some at.instance) (sym (number_is (λ (j : Instance). j.number) c.args.page.now.instance b.instances at.instance found)) found in
+    subst (λ (n : ℕ). instance_at n b.instances ≡ Some at.instance) (sym (number_of (λ (j : Instance). j.number) c.args.page.now.instance b.instances at.instance found)) found in
     let count : c.len-count.result ≡ length at.instance.pages = c.len-count.ensures ∙ (sym (length_seen page_of x.item.pages.things.items) ∙ ap (λ (i : Instance). length i.pages) same) in
     let full : nat_le c.args.pages (length at.instance.pages) ≡ false = grind (arith, nat_tests, c.if-count-pages.false, count) in
     let P : Instance → ℕ → ℕ → Prepared → Type 0 = λ i answered deadline p. IsExtension p c.args.ticket.now i answered c.in-Shown.bytes s.effects s.entered s.left c.in-Shown.kind deadline
@@ -74,7 +71,7 @@ returns-in-Ok-clause-decided c scripts journal down fuel instances at found numb
     let some = instance_some scripts c.args.page.now.instance c.args.self.now.instances.things.items x (sym c.in-Some.ensures) in
     let same : instance_of scripts x ≡ at.instance = cc (some, found) in
     let there : instance_at at.instance.number b.instances ≡ Some at.instance =
-    subst (λ (n : ℕ). instance_at n b.instances ≡ Some at.instance) (sym (number_is (λ (j : Instance). j.number) c.args.page.now.instance b.instances at.instance found)) found in
+    subst (λ (n : ℕ). instance_at n b.instances ≡ Some at.instance) (sym (number_of (λ (j : Instance). j.number) c.args.page.now.instance b.instances at.instance found)) found in
     let P : Instance → ℕ → Type 0 = λ i answered. IsEnding c.in-Ok.prepared c.args.ticket.now i answered c.in-Ended.bytes s.effects s.entered s.left (done s.effects s.left) in
     let made : P at.instance at.page.number = subst (P at.instance) (sym number) (subst (λ (i : Instance). P i c.args.page.now.page) same (c.in-Ok.ensures scripts)) in
     ending_lands scripts fuel c.args.life instances c.args.pages b c.args.ticket.now at s c.in-Ended.bytes c.in-Ok.prepared there (ap outcome_of c.in-Ended.is) made
@@ -83,7 +80,7 @@ pub returns-in-Ok-finish-clause-decided : goal.returns-in-Ok-finish-clause-decid
 returns-in-Ok-finish-clause-decided c scripts journal down fuel instances at found number fits =
     let b = book_of scripts journal down c.args.self.now in
     let s = segment_of c.args.segment in
-    let its : at.instance.number ≡ c.args.page.now.instance = number_is (λ (j : Instance). j.number) c.args.page.now.instance b.instances at.instance found in
+    let its : at.instance.number ≡ c.args.page.now.instance = number_of (λ (j : Instance). j.number) c.args.page.now.instance b.instances at.instance found in
     let P : ℕ → ℕ → Type 0 = λ n answered. IsFinish c.in-Ok-finish.prepared c.args.ticket.now n answered c.in-Finished.bytes s.effects s.entered in
     let made : P at.instance.number at.page.number = subst (P at.instance.number) (sym number) (subst (λ (n : ℕ). P n c.args.page.now.page) (sym its) c.in-Ok-finish.ensures) in
     finish_lands scripts fuel c.args.life instances c.args.pages b c.args.ticket.now at s c.in-Finished.bytes c.in-Ok-finish.prepared (ap outcome_of c.in-Finished.is) made

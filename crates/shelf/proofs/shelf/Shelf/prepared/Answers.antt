@@ -1,9 +1,9 @@
-use Rattle.std.proofs.Common.{refl}
+use Rattle.std.proofs.Common.{refl, None}
 use Rattle.script_nodes.specs.Views.{scripts_of}
 use Rattle.page_names.specs.Views.{target_of}
 use Rattle.segments.specs.Views.{segment_of}
 use Rattle.replay_spec.specs.Admission.{admit}
-use Rattle.instance_book.specs.Views.{book_of}
+use Rattle.shelf.specs.Views.{book_in}
 use Rattle.shelf.specs.Events.{decision_of}
 use Rattle.shelf.proofs.Steps.{prepares_by, decides}
 use Rattle.shelf.proofs.shelf.Shelf.prepared.Goals as goal
@@ -12,17 +12,17 @@ pub returns-in-Ok-clause-decided : goal.returns-in-Ok-clause-decided
 returns-in-Ok-clause-decided g c =
     let scripts = scripts_of c.args.setup.now in
     let r = c.args.self.now.rules in
-    let b = book_of c.args.self.now.book in
-    let a = admit scripts b (target_of c.args.ticket.now.target) in
-    decides scripts r.fuel r.life r.instances r.pages b (decision_of c.args.setup.now r c.args.self.now.book c.args.ticket.now) c.prepare.result
+    let b = book_in scripts c.args.self.now in
+    let a = admit b (target_of c.args.ticket.now.target) in
+    decides scripts r.fuel r.life r.instances r.pages b (decision_of c.args.setup.now c.args.self.now c.args.ticket.now) c.prepare.result
     (prepares_by scripts r.fuel r.life r.instances r.pages b c.args.ticket.now a (segment_of c.in-Ok.segment) c.prepare.result c.in-Ok.ensures.segment
-    (c.prepare.ensures.decided scripts r.fuel a refl c.in_default.ensures.admitted c.requires.fits))
+    (c.prepare.ensures.decided scripts 0 None r.fuel a refl c.in_default.ensures.admitted c.requires.fits))
 
 pub returns-in-Ok-clause-held : goal.returns-in-Ok-clause-held
 returns-in-Ok-clause-held g c first is held =
     let scripts = scripts_of c.args.setup.now in
     let r = c.args.self.now.rules in
-    let b = book_of c.args.self.now.book in
-    let a = admit scripts b (target_of c.args.ticket.now.target) in
+    let b = book_in scripts c.args.self.now in
+    let a = admit b (target_of c.args.ticket.now.target) in
     prepares_by scripts r.fuel r.life r.instances r.pages b c.args.ticket.now a (segment_of c.in-Ok.segment) c.prepare.result c.in-Ok.ensures.segment
-    (c.prepare.ensures.decided scripts r.fuel a refl c.in_default.ensures.admitted c.requires.fits)
+    (c.prepare.ensures.decided scripts 0 None r.fuel a refl c.in_default.ensures.admitted c.requires.fits)
