@@ -15,9 +15,9 @@ work=$(mktemp -d "${TMPDIR:-/tmp}/hovgyelit-bench.XXXXXX") || exit 1
 trap 'rm -rf "$work"' EXIT
 trap 'exit 1' HUP INT TERM
 
-# The setup of an example, up to `steps`.
+# The setup of an example, with the line `steps`.
 setup_of() {
-    sed '/^steps$/q' "$here/examples/$1.play"
+    setup_with "$1" "$(cat "$here/examples/$1.scm")"
 }
 
 # A setup of one script of this name and text.
@@ -58,9 +58,9 @@ shop() {
                 round = (j - turn) / 32
                 first = round * 17
                 if (turn == 0) print "get 0 /servlets/shop"
-                else if (turn < 16) printf "take %d %s\n", turn, page("shop", first, first, "")
+                else if (turn < 16) printf "take %d %s\n", turn, page("shop", first, first, "?name=Ann")
                 else if (turn < 31) printf "publish %d\n", 31 - turn
-                else printf "get 0 %s\n", page("shop", first, first, "")
+                else printf "get 0 %s\n", page("shop", first, first, "?name=Bo")
             }
         }'
 }
@@ -238,7 +238,7 @@ bytes_of_an_instance() {
 }
 
 # The program is built, if need be, before anything is timed.
-"$here/hovgyelit" play <"$here/examples/sum.play" >/dev/null || exit 1
+"$here/hovgyelit" check -- "$here/examples/sum.scm" >/dev/null || exit 1
 
 twice sum 10000 20000
 twice shop 5305 10625

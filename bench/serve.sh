@@ -34,13 +34,13 @@ rate_of() {
     echo $((requests * 1000 / (took + 1)))
 }
 
-# The program is built, if need be, before it is started by itself.
-"$here/hovgyelit" check <"$here/examples/sum.setup" >/dev/null || exit 1
+# The program is built, if need be, before anything is waited for.
+"$here/hovgyelit" check -- "$here/examples/sum.scm" >/dev/null || exit 1
 
 requests=${1:-1000}
 visits=7
-"$here/crates/script_server/out/script_server" serve --port 0 --connections "$((requests + visits))" \
-    <"$here/examples/sum.setup" >"$work/counts" 2>"$work/where" &
+"$here/hovgyelit" serve --port 0 --connections "$((requests + visits))" -- "$here/examples/sum.scm" \
+    >"$work/counts" 2>"$work/where" &
 server=$!
 host=$(address_in "$work/where") || exit 1
 
@@ -57,14 +57,14 @@ action_in() {
 page /servlets/sum >"$work/first"
 first=$(action_in "$work/first")
 [ -n "$first" ] || fail "the start shows no form: $(cat "$work/first")"
-page "$first" number=3 >"$work/second"
+page "$first" n=3 >"$work/second"
 second=$(action_in "$work/second")
-page "$second" number=4 | grep -q '3 and 4 are 7' || fail "3 and 4 are not 7"
+page "$second" n=4 | grep -q '3 and 4 are 7' || fail "3 and 4 are not 7"
 # Back to the first page, and on with another number, as a second window would.
-page "$first" number=10 >"$work/other"
+page "$first" n=10 >"$work/other"
 other=$(action_in "$work/other")
-page "$other" number=4 | grep -q '10 and 4 are 14' || fail "10 and 4 are not 14"
-page "$second" number=1 | grep -q '3 and 1 are 4' || fail "3 and 1 are not 4"
+page "$other" n=4 | grep -q '10 and 4 are 14' || fail "10 and 4 are not 14"
+page "$second" n=1 | grep -q '3 and 1 are 4' || fail "3 and 1 are not 4"
 [ "$(curl -s --max-time 10 -o /dev/null -w '%{http_code}' "http://$host/servlets/other")" = 404 ] || fail "an unknown script is not 404"
 echo "a start, answers, back and a second window: as they should be"
 

@@ -25,41 +25,11 @@ use Rattle.core_syntax.specs.Shapes.{count_of, is_empty, is_word, begins, on, sy
 use Rattle.core_syntax.specs.Templates.{is_splice, has_splice, is_template, is_plain}
 use Rattle.core_syntax.specs.Forms as spec
 use Rattle.script_nodes.specs.Closed.{IsClosed, AreClosed, cores_length}
-
-abbrev pub Holds : {A : Type 0} → (A → Type 0) → Result A SyntaxKind → Type 0
-Holds P (Ok x) = P x
-Holds P (Err k) = ⊤
+use Rattle.core_syntax.proofs.Holds.{Holds, then_holds, made_holds, any_holds, if_holds, only_if, either}
 
 abbrev HoldsOf : {A : Type 0} → (A → Type 0) → Option A → Type 0
 HoldsOf P (Some x) = P x
 HoldsOf P None = ⊤
-
-then_holds : {A B : Type 0} (P : A → Type 0) (Q : B → Type 0) (r : Result A SyntaxKind) (f : A → Result B SyntaxKind)
-    → Holds P r → ((x : A) → P x → Holds Q (f x)) → Holds Q (r >>= f)
-then_holds P Q (Ok x) f h g = g x h
-then_holds P Q (Err k) f h g = tt
-
-made_holds : {A : Type 0} (P : A → Type 0) (Q : Core → Type 0) (r : Result A SyntaxKind) (f : A → Core)
-    → Holds P r → ((x : A) → P x → Q (f x)) → Holds Q (spec.made f r)
-made_holds P Q (Ok x) f h g = g x h
-made_holds P Q (Err k) f h g = tt
-
-any_holds : {A : Type 0} (r : Result A SyntaxKind) → Holds (λ _. ⊤) r
-any_holds (Ok x) = tt
-any_holds (Err k) = tt
-
--- a test that lets through
-if_holds : {A : Type 0} (Q : A → Type 0) (b : Bool) (k : SyntaxKind) (r : Result A SyntaxKind) → (b ≡ false → Holds Q r) → Holds Q (if b then Err k else r)
-if_holds Q true k r h = tt
-if_holds Q false k r h = h refl
-
-only_if : {A : Type 0} (Q : A → Type 0) (b : Bool) (k : SyntaxKind) (r : Result A SyntaxKind) → (b ≡ true → Holds Q r) → Holds Q (if b then r else Err k)
-only_if Q true k r h = h refl
-only_if Q false k r h = tt
-
-either : {A : Type 0} (Q : A → Type 0) (b : Bool) (r q : Result A SyntaxKind) → Holds Q r → Holds Q q → Holds Q (if b then r else q)
-either Q true r q h k = h
-either Q false r q h k = k
 
 abbrev Closed : CellNames → List (List ℕ) → Bool → Core → Type 0
 Closed cells scope p c = IsClosed (length cells.web) (length cells.instance) (length scope) p c

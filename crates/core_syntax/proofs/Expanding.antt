@@ -1,7 +1,8 @@
 -- From one expression to a script.
-use Rattle.std.proofs.Common.{◌≡◌, ℕ, ◌+◌, ◌<◌, ◌≤◌, true, false, List, [], ◌∷◌, length, Result, Ok, Err, refl, sym, subst, ap, ◌∙◌, arith, inl, inr}
+use Rattle.std.proofs.Common.{◌≡◌, ℕ, ◌+◌, ◌<◌, ◌≤◌, Bool, true, false, List, [], ◌∷◌, length, Result, Ok, Err, refl, sym, subst, ap, ◌∙◌, arith, inl, inr}
 use Rattle.std.proofs.lemmas.Bool.{cases_lt}
 use Rattle.std.proofs.lemmas.Bool.Decides.{nat_tests}
+use Rattle.std.specs.Prelude.{codes}
 use Rattle.script_value.specs.Val.{Val}
 use Rattle.script_nodes.specs.declared.script.Node.{Node}
 use Rattle.core_syntax.specs.declared.faults.SyntaxKind.{SyntaxKind}
@@ -13,9 +14,13 @@ use Rattle.script_nodes.specs.Readings.{tree_at-layout}
 use Rattle.core_syntax.specs.Laid.{Lacks, Stands}
 use Rattle.script_nodes.specs.Closed.{IsClosed}
 use Rattle.core_syntax.specs.Expands.{IsLevel}
-use Rattle.core_syntax.specs.Definitions.{Defined, is_too_many, limited, at_form, begins_well, expanded}
+use Rattle.core_syntax.specs.Definitions.{Defined, nothing_defined, definable, definition_of, is_too_many, limited, at_form, begins_well, expanded, expanded_from, told}
 use Rattle.core_syntax.specs.Forms.{core_of}
-use Rattle.core_syntax.proofs.Closed.{Holds, closed_core}
+use Rattle.core_syntax.specs.Rows.{row_of}
+use Rattle.core_syntax.specs.Shapes.{is_headed}
+use Rattle.core_syntax.proofs.ByRow.{core_by_row}
+use Rattle.core_syntax.proofs.Holds.{Holds}
+use Rattle.core_syntax.proofs.Closed.{closed_core}
 use Rattle.script_nodes.proofs.Scripts.{script_laid}
 
 within_limits : (c : Core) → count c ≤ 16384 → height c ≤ 1024 → is_too_many c ≡ false
@@ -67,8 +72,22 @@ too_many d v c number left old e o f h =
 pub expression_stops : (d : Defined) (v : Val) (k : SyntaxKind) (number : ℕ) → core_of d.names [] false v ≡ Err k → at_form number (limited d (core_of d.names [] false v)) ≡ Err (k, number)
 expression_stops d v k number e = rw e refl
 
-pub begins_badly : (vs : List Val) → begins_well vs ≡ false → expanded vs ≡ Err (Shape, 0)
+first_fault : {A : Type 0} (r : Result A SyntaxKind) (k : SyntaxKind) → told r ≡ Err k → r ≡ Err k
+first_fault (Ok x) k e = absurd (let no : ⊥ = cc in no)
+first_fault (Err j) k e = cc
+
+bad_first : (v : Val) (vs : List Val) (k : SyntaxKind) (b : Bool) → is_headed (codes "define") v ≡ b → begins_well (v ∷ vs) ≡ Err k
+    → expanded_from 0 nothing_defined (v ∷ vs) ≡ Err (k, 0)
+bad_first v vs k true e h =
+    let f : definable (definition_of v) nothing_defined ≡ Err k = first_fault (definable (definition_of v) nothing_defined) k (rw e at h) in
+    rw (e, f) refl
+bad_first v [] k false e h =
+    let f : row_of nothing_defined.names [] false v ≡ Err k = first_fault (row_of nothing_defined.names [] false v) k (rw e at h) in
+    let g : core_of nothing_defined.names [] false v ≡ Err k = core_by_row nothing_defined.names [] false v ∙ rw f refl in
+    rw (e, g) refl
+bad_first v (w ∷ vs) k false e h = let s : Shape ≡ k = (let i = rw e at h in cc) in rw (e, s) refl
+
+pub begins_badly : (vs : List Val) (k : SyntaxKind) → begins_well vs ≡ Err k → expanded vs ≡ Err (k, 0)
 unfolding expanded
-begins_badly [] e = refl
-begins_badly (v ∷ []) e = absurd (let no : ⊥ = cc in no)
-begins_badly (v ∷ (w ∷ vs)) e = rw e refl
+begins_badly [] k e = let s : Shape ≡ k = cc in rw s refl
+begins_badly (v ∷ vs) k e = bad_first v vs k (is_headed (codes "define") v) refl e

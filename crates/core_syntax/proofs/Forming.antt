@@ -7,7 +7,7 @@ use Rattle.script_value.specs.declared.value.Value.{Value}
 use Rattle.core_syntax.specs.declared.faults.SyntaxKind.TheVariants.{Shape, Duplicate, TooMany}
 use Rattle.core_syntax.specs.declared.heads.CellKind.{CellKind}
 use Rattle.core_syntax.specs.declared.heads.CellKind.TheVariants.{Web, Instance}
-use Rattle.core_syntax.specs.Names.{is_taken}
+use Rattle.core_syntax.specs.Names.{◌>>=◌, is_taken}
 use Rattle.core_syntax.specs.Shapes.{is_headed}
 use Rattle.core_syntax.specs.Expands.{IsLevel}
 use Rattle.core_syntax.specs.Definitions.{Definition, Defined, nothing_defined, with_cell, defined, definition_of, expanded, expanded_from}
@@ -50,12 +50,13 @@ level_cell Instance name v s l =
     let b = length-append s.names.instance (name ∷ []) in
     let p = l.0 in let q = l.1 in ((omega arith, omega arith), omega arith)
 
-tested : (a b : Bool) (s t u : Defined) → Next s u → (if a then Err Duplicate else if b then Err TooMany else Ok u) ≡ Ok t → Next s t
-tested true b s t u n e = absurd (let no : ⊥ = cc in no)
-tested false true s t u n e = absurd (let no : ⊥ = cc in no)
-tested false false s t u n e = let f : u ≡ t = cc in rw (← f) n
+tested : (a b : Bool) (x : Definition) (s t : Defined) → Next s (with_cell x s)
+    → (if a then Err Duplicate else if b then Err TooMany else Ok x) >>= (λ x. Ok (with_cell x s)) ≡ Ok t → Next s t
+tested true b x s t n e = absurd (let no : ⊥ = cc in no)
+tested false true x s t n e = absurd (let no : ⊥ = cc in no)
+tested false false x s t n e = let f : with_cell x s ≡ t = cc in rw (← f) n
 
 pub level_next : (o : Option Definition) (s t : Defined) → IsLevel s → defined o s ≡ Ok t → Next s t
 level_next None s t l e = absurd (let no : ⊥ = cc in no)
 level_next (Some x) s t l e =
-    tested (is_taken s.names x.name) (nat_lt 63 (length s.names.web + length s.names.instance)) s t (with_cell x s) (level_cell x.kind x.name x.value s l) e
+    tested (is_taken s.names x.name) (nat_lt 63 (length s.names.web + length s.names.instance)) x s t (level_cell x.kind x.name x.value s l) e

@@ -3,7 +3,9 @@ pub mod Parts
 pub mod Words
 pub mod Choices
 pub mod Lays
+pub mod Holds
 pub mod Closed
+pub mod ByRow
 pub mod Expanding
 pub mod Forming
 pub mod Filling

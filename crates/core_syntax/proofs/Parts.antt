@@ -36,29 +36,9 @@ split_off (x ∷ xs) d e h =
     let l : length (x ∷ xs) - 1 ≡ length xs = omega arith in
     rw (l, e) (ap (λ ys. x ∷ ys) (sym (take_all (length xs) xs (omega arith))))
 
--- lists of which the items are given
-pub exactly_one : (xs : List Value) (a : Value) → a ≡ get_or xs 0 a → 1 ≤ length xs → length xs < 2 → xs ≡ a ∷ []
-exactly_one [] a e l m = absurd (omega arith)
-exactly_one (x ∷ []) a e l m = rw e refl
-exactly_one (x ∷ (y ∷ xs)) a e l m = absurd (omega arith)
-
+-- a list of which the items are given
 pub exactly_two : (xs : List Value) (a b : Value) → a ≡ get_or xs 0 a → b ≡ get_or xs 1 b → 2 ≤ length xs → length xs < 3 → xs ≡ a ∷ (b ∷ [])
 exactly_two [] a b e f l m = absurd (omega arith)
 exactly_two (x ∷ []) a b e f l m = absurd (omega arith)
 exactly_two (x ∷ (y ∷ [])) a b e f l m = rw (e, f) refl
 exactly_two (x ∷ (y ∷ (z ∷ xs))) a b e f l m = absurd (omega arith)
-
-pub exactly_three : (xs : List Value) (a b c : Value) → a ≡ get_or xs 0 a → b ≡ get_or xs 1 b → c ≡ get_or xs 2 c → 3 ≤ length xs → length xs < 4
-    → xs ≡ a ∷ (b ∷ (c ∷ []))
-exactly_three [] a b c e f g l m = absurd (omega arith)
-exactly_three (x ∷ []) a b c e f g l m = absurd (omega arith)
-exactly_three (x ∷ (y ∷ [])) a b c e f g l m = absurd (omega arith)
-exactly_three (x ∷ (y ∷ (z ∷ []))) a b c e f g l m = rw (e, f, g) refl
-exactly_three (x ∷ (y ∷ (z ∷ (w ∷ xs)))) a b c e f g l m = absurd (omega arith)
-
-pub two_and_more : (xs : List Value) (a b : Value) → a ≡ get_or xs 0 a → b ≡ get_or xs 1 b → 2 ≤ length xs → xs ≡ a ∷ (b ∷ take (length xs - 2) (drop 2 xs))
-two_and_more [] a b e f l = absurd (omega arith)
-two_and_more (x ∷ []) a b e f l = absurd (omega arith)
-two_and_more (x ∷ (y ∷ xs)) a b e f l =
-    let n : length (x ∷ (y ∷ xs)) - 2 ≡ length xs = omega arith in
-    rw (n, e, f) (ap (λ ys. x ∷ (y ∷ ys)) (sym (take_all (length xs) xs (omega arith))))

@@ -10,7 +10,7 @@ use Rattle.std.proofs.lemmas.Slice.Eq.{bytes_eq-Decides}
 use Rattle.std.proofs.lemmas.Bool.{cases_Bool, false_from_ne_true, false≢true}
 use Rattle.std.proofs.Math.Bool.{or-true}
 use Rattle.core_syntax.specs.declared.names.Named.{Named}
-use Rattle.core_syntax.specs.Names.{place_of, has_name, repeats, CellNames, is_taken, are_taken}
+use Rattle.core_syntax.specs.Names.{place_of, has_name, repeats}
 use Rattle.core_syntax.specs.Scope.{texts, IsLinked, place_at, HasNewest, HasPlaces, PutsPlace}
 
 reverse_behind : (names : List Named) (n : Named) → reverse (names ++ n ∷ []) ≡ n ∷ reverse names
@@ -98,10 +98,6 @@ repeats_front : (inner outer : List (List ℕ)) → repeats outer ≡ true → r
 repeats_front [] outer h = h
 repeats_front (x ∷ inner) outer h = rw (repeats_front inner outer h) (or-true (has_name x (inner ++ outer)))
 
-taken_front : (cells : CellNames) (inner outer : List (List ℕ)) → are_taken cells outer ≡ true → are_taken cells (inner ++ outer) ≡ true
-taken_front cells [] outer h = h
-taken_front cells (x ∷ inner) outer h = rw (taken_front cells inner outer h) (or-true (is_taken cells x))
-
 texts_at : (names : List Named) (i : ℕ) (n : Named) → i < length names → n ≡ get_or names i n
     → texts (reverse names) ≡ texts (reverse (drop (i + 1) names)) ++ n.name.now ∷ texts (reverse (take i names))
 texts_at names i n h p =
@@ -120,12 +116,3 @@ pub repeats_none : (names : List Named) (i : ℕ) (n : Named) → i < length nam
 repeats_none names i n h p linked has none =
     let link = linked_at names i n h p linked in
     rw (reverse_more names i n h p, ← link, has) none
-
-pub taken_found : (cells : CellNames) (names : List Named) (i : ℕ) (n : Named) → i < length names → n ≡ get_or names i n → is_taken cells n.name.now ≡ true
-    → are_taken cells (texts (reverse names)) ≡ true
-taken_found cells names i n h p has =
-    rw (texts_at names i n h p) (taken_front cells (texts (reverse (drop (i + 1) names))) (n.name.now ∷ texts (reverse (take i names))) (rw has refl))
-
-pub taken_none : (cells : CellNames) (names : List Named) (i : ℕ) (n : Named) → i < length names → n ≡ get_or names i n → is_taken cells n.name.now ≡ false
-    → are_taken cells (texts (reverse (take i names))) ≡ false → are_taken cells (texts (reverse (take (i + 1) names))) ≡ false
-taken_none cells names i n h p has none = rw (reverse_more names i n h p, has) none

@@ -1,5 +1,5 @@
 -- A whole script: definitions of cells, and then one expression.
-use Rattle.std.specs.Prelude.{ℕ, ◌+◌, ◌||◌, Bool, List, [], ◌∷◌, ◌++◌, length, Option, Some, None, Result, Ok, Err, nat_le, nat_lt, codes, true, false, if◌then◌else◌}
+use Rattle.std.specs.Prelude.{ℕ, ◌+◌, ◌||◌, Bool, List, [], ◌∷◌, ◌++◌, length, Option, Some, None, Result, Ok, Err, nat_le, nat_lt, codes, true, false, ⊤, if◌then◌else◌}
 use Rattle.script_value.specs.Val.{Val, number, truth, text, symbol, list, no_vals, val}
 use Rattle.core_syntax.specs.declared.faults.SyntaxKind.{SyntaxKind}
 use Rattle.core_syntax.specs.declared.faults.SyntaxKind.TheVariants.{Shape, Duplicate, TooMany}
@@ -8,9 +8,10 @@ use Rattle.core_syntax.specs.declared.heads.CellKind.TheVariants.{Web, Instance}
 use Rattle.core_syntax.specs.Limits.{most_cells, most_levels, most_nodes}
 use Rattle.script_nodes.specs.Core.{Core, count, height}
 use Rattle.script_nodes.specs.Setup.{Script}
-use Rattle.core_syntax.specs.Names.{CellNames, with_name, is_taken}
+use Rattle.core_syntax.specs.Names.{◌>>=◌, CellNames, with_name, is_taken}
 use Rattle.core_syntax.specs.Shapes.{is_word, is_headed, symbol_in, on}
 use Rattle.core_syntax.specs.Forms.{core_of}
+use Rattle.core_syntax.specs.Rows.{row_of}
 
 -- a cell with its name and what it begins with
 pub record Definition : Type 0 where
@@ -69,12 +70,16 @@ nothing_defined = record { names = record { web = []; instance = [] }; web = [];
 abbrev pub with_cell : Definition → Defined → Defined
 with_cell x d = with_value x.kind x.value (record d { names = with_name x.kind x.name d.names })
 
+-- a cell that may stand behind these
+abbrev pub definable : Option Definition → Defined → Result Definition SyntaxKind
+definable None d = Err Shape
+definable (Some x) d =
+    if is_taken d.names x.name then Err Duplicate else
+    if nat_le most_cells (length d.names.web + length d.names.instance) then Err TooMany else Ok x
+
 -- one more cell, where there is room for it
 abbrev pub defined : Option Definition → Defined → Result Defined SyntaxKind
-defined None d = Err Shape
-defined (Some x) d =
-    if is_taken d.names x.name then Err Duplicate else
-    if nat_le most_cells (length d.names.web + length d.names.instance) then Err TooMany else Ok (with_cell x d)
+defined o d = definable o d >>= (λ x. Ok (with_cell x d))
 
 -- too many nodes, or one that is nested too deep
 abbrev pub is_too_many : Core → Bool
@@ -114,7 +119,17 @@ abbrev is_none_left : List Val → Bool
 is_none_left [] = true
 is_none_left (v ∷ vs) = false
 
--- whether there is one form, or the first of several is headed by `define`
-abbrev pub begins_well : List Val → Bool
-begins_well [] = false
-begins_well (v ∷ vs) = is_none_left vs || is_headed (codes "define") v
+abbrev pub told : {A : Type 0} → Result A SyntaxKind → Result ⊤ SyntaxKind
+told (Ok x) = Ok tt
+told (Err k) = Err k
+
+-- what the first form tells before memory is taken: a cell, or a row where it is the last
+abbrev pub first_seen : Val → (is_last : Bool) → Result ⊤ SyntaxKind
+first_seen v is_last =
+    if is_headed (codes "define") v then told (definable (definition_of v) nothing_defined) else
+    if is_last then told (row_of nothing_defined.names [] false v) else Err Shape
+
+-- whether there is a form, and what the first tells
+abbrev pub begins_well : List Val → Result ⊤ SyntaxKind
+begins_well [] = Err Shape
+begins_well (v ∷ vs) = first_seen v (is_none_left vs)

@@ -286,11 +286,3 @@ body_of cells scope in_page body = made sequence (cores_from cells scope in_page
 -- a part of a list that is joined: what an unquote-splicing gives, or another item alone
 abbrev pub part_of : CellNames → List (List ℕ) → Bool → Val → Result Core SyntaxKind
 part_of cells scope in_page v = if is_splice v then expression_in cells scope in_page v else made alone (filled cells scope in_page v)
-
--- the form of this name and these parts
-abbrev pub named_form : CellNames → List (List ℕ) → Bool → List ℕ → Vals → Result Core SyntaxKind
-named_form cells scope in_page name parts = form_of cells scope in_page (head_of name) (val (symbol name) parts)
-
--- the row of this head with these parts, whichever word stands for the head
-abbrev pub row_of : CellNames → List (List ℕ) → Bool → Head → Vals → Result Core SyntaxKind
-row_of cells scope in_page h parts = form_of cells scope in_page (Some h) (val (symbol []) parts)

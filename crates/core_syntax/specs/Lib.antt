@@ -6,6 +6,10 @@ pub mod Shapes
 pub mod Templates
 pub mod Forms
 pub mod Filling
+pub mod Rows
+pub mod RowCores
+pub mod RowsSeen
+pub mod ReaderSeen
 pub mod Definitions
 pub mod DefinitionsSeen
 pub mod Trees

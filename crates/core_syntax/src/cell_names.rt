@@ -2,9 +2,8 @@ ghost use Rattle.std.specs.Prelude.{◌≡◌, ◌<◌, ◌≤◌, ◌+◌, [], 
 ghost use Rattle.std.specs.Str.{bytes_eq};
 ghost use Rattle.core_syntax.specs.Limits.{most_cells};
 ghost use Rattle.core_syntax.specs.Names.{cell_number, is_taken, place_in, with_name};
-ghost use Rattle.core_syntax.specs.Gives.{Reads};
 
-use crate::faults::{ReadFault, SyntaxKind};
+use crate::faults::SyntaxKind;
 use crate::heads::{CellKind, head_of};
 use script_value::Str;
 use std::alloc::{AllocError, Global};
@@ -43,15 +42,15 @@ impl<'a> CellNames<'a> {
     }
 
     /// The number of the cell of a name among those of its kind.
-    pub fn number(&self, kind: CellKind, name: &Str) -> Result<u8, ReadFault>
-        ensures { Reads result (cell_number kind self.now name.now) }
+    pub fn number(&self, kind: CellKind, name: &Str) -> Result<u8, SyntaxKind>
+        ensures { result ≡ cell_number kind self.now name.now }
     {
         let place = match kind {
             CellKind::Web => place_among(&self.web, name),
             CellKind::Instance => place_among(&self.instance, name),
         };
         match place {
-            None => Err(ReadFault::Syntax(SyntaxKind::Unbound)),
+            None => Err(SyntaxKind::Unbound),
             Some(place) => Ok(place as u8),
         }
     }

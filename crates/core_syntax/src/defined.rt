@@ -1,8 +1,8 @@
 //! The cells of a script.
 
-ghost use Rattle.std.specs.Prelude.{◌≡◌, ◌≤◌, ◌+◌, Some, length};
+ghost use Rattle.std.specs.Prelude.{◌≡◌, ◌≤◌, ◌+◌, Some, Err, IsOk, length};
 ghost use Rattle.script_value.specs.Views.{meaning};
-ghost use Rattle.core_syntax.specs.Definitions.{defined, definition_of, nothing_defined};
+ghost use Rattle.core_syntax.specs.Definitions.{definable, defined, definition_of, nothing_defined};
 
 use crate::cell_names::CellNames;
 use crate::definitions::{Definition, definition_of};
@@ -24,6 +24,7 @@ pub struct Defined<'a> {
 
 impl<'a> Defined<'a> {
     ghost use Rattle.core_syntax.specs.DefinitionsSeen.{Defines, cells_of, definition};
+    ghost use Rattle.core_syntax.specs.RowsSeen.{seen};
 
     /// No cells.
     pub fn new(alloc: Global) -> Defined<'a>
@@ -36,25 +37,34 @@ impl<'a> Defined<'a> {
         }
     }
 
-    /// Puts the cell that a form defines behind the others.
-    pub fn define(&mut self, alloc: Global, form: &'a Value) -> Result<(), ReadFault>
-        ensures { Defines self.new result (defined (definition_of (meaning form.now)) (cells_of self.old)) }
+    /// The cell that a form defines, where it may stand behind the others.
+    pub fn checked(&self, form: &'a Value) -> Result<Definition<'a>, SyntaxKind>
+        ensures { seen definition result ≡ definable (definition_of (meaning form.now)) (cells_of self.now) }
     {
         match definition_of(form) {
-            None => Err(ReadFault::Syntax(SyntaxKind::Shape)),
-            Some(cell) => self.add(alloc, cell),
+            None => Err(SyntaxKind::Shape),
+            Some(cell) => self.admitted(cell),
         }
     }
 
-    fn add(&mut self, alloc: Global, cell: Definition<'a>) -> Result<(), ReadFault>
-        ensures { Defines self.new result (defined (Some (definition cell.entry)) (cells_of self.old)) }
+    fn admitted(&self, cell: Definition<'a>) -> Result<Definition<'a>, SyntaxKind>
+        ensures { seen definition result ≡ definable (Some (definition cell.entry)) (cells_of self.now) }
     {
         if self.names.is_taken(cell.name) {
-            return Err(ReadFault::Syntax(SyntaxKind::Duplicate));
+            return Err(SyntaxKind::Duplicate);
         }
         if self.names.len() >= CELL_LIMIT {
-            return Err(ReadFault::Syntax(SyntaxKind::TooMany));
+            return Err(SyntaxKind::TooMany);
         }
+        Ok(cell)
+    }
+
+    /// Puts the cell that a form defines behind the others. Why there is none is told whatever memory there is.
+    pub fn define(&mut self, alloc: Global, form: &'a Value) -> Result<(), ReadFault>
+        ensures cells { Defines self.new result (defined (definition_of (meaning form.now)) (cells_of self.old)) }
+        ensures memory { result ≡ Err ReadFault.Memory → IsOk (definable (definition_of (meaning form.now)) (cells_of self.old)) }
+    {
+        let cell = self.checked(form)?;
         let value = cell.value.try_clone(alloc)?;
         self.names.push(cell.kind, cell.name)?;
         match cell.kind {

@@ -72,13 +72,11 @@ impl<T: Drop> From<AllocFailed<T>> for ExpandFault {
 }
 
 /// Why data gave no tree.
-#[derive(Clone, Copy, Debug, PartialEq, Eq, Error)]
+#[derive(Clone, Copy)]
 pub enum ReadFault {
     /// Memory ran out.
-    #[error("memory ran out")]
     Memory,
     /// The data are not as the table of forms says.
-    #[error("{0}")]
     Syntax(SyntaxKind),
 }
 
@@ -99,5 +97,15 @@ impl<T: Drop> From<AllocFailed<T>> for ReadFault {
 
     fn from(_e: AllocFailed<T>) -> ReadFault {
         ReadFault::Memory
+    }
+}
+
+impl From<SyntaxKind> for ReadFault {
+    ghost use Rattle.core_syntax.specs.declared.faults.ReadFault.TheVariants.{Syntax};
+
+    ghost from_gives = { λ k e. e ≡ Syntax k };
+
+    fn from(kind: SyntaxKind) -> ReadFault {
+        ReadFault::Syntax(kind)
     }
 }

@@ -1,6 +1,6 @@
-ghost use Rattle.std.specs.Prelude.{◌≡◌, [], IsTrue, map};
+ghost use Rattle.std.specs.Prelude.{◌≡◌, [], Err, IsOk, map};
 ghost use Rattle.script_value.specs.Views.{meaning};
-ghost use Rattle.core_syntax.specs.Definitions.{begins_well, expanded, expression_at};
+ghost use Rattle.core_syntax.specs.Definitions.{begins_well, expanded, expression_at, first_seen};
 ghost use Rattle.core_syntax.specs.DefinitionsSeen.{cells_of};
 ghost use Rattle.core_syntax.specs.Expands.{Expands, ExpandsFault, IsLevel};
 
@@ -9,7 +9,8 @@ use crate::faults::{ExpandFault, ReadFault, SyntaxError, SyntaxKind};
 use crate::layout::lay;
 use crate::names::Names;
 use crate::nodes::{LayFault, Nodes};
-use crate::read::read;
+use crate::read::Reader;
+use crate::rows::row_of;
 use crate::shapes::is_headed;
 use script_nodes::Script;
 use script_value::Value;
@@ -21,23 +22,39 @@ const DEPTH_LIMIT: u32 = 1_024;
 /// The script that data are: definitions of cells, and then one expression.
 pub fn expand(alloc: Global, forms: &[Value]) -> Result<Script, ExpandFault>
     ensures table { Expands result (expanded (map meaning forms.now)) }
-    // That there is no expression, or that the first of several forms is no definition, is told whatever memory there is.
-    ensures memory { result ≡ Err ExpandFault.Memory → IsTrue (begins_well (map meaning forms.now)) }
+    // What the first form tells before an expression in it is read is told whatever memory there is.
+    ensures memory { result ≡ Err ExpandFault.Memory → IsOk (begins_well (map meaning forms.now)) }
 {
-    if !begins_well(forms) {
-        return Err(at(0, SyntaxKind::Shape));
+    if let Err(kind) = begins_well(alloc, forms) {
+        return Err(at(0, kind));
     }
     expand_forms(alloc, forms)
 }
 
-/// Whether there is one form, or the first of several is headed by `define`.
-fn begins_well(forms: &[Value]) -> bool
+fn begins_well(alloc: Global, forms: &[Value]) -> Result<(), SyntaxKind>
     ensures { result ≡ begins_well (map meaning forms.now) }
 {
     match forms {
-        [] => false,
-        [first, others @ ..] => others.is_empty() || is_headed("define", first),
+        [] => Err(SyntaxKind::Shape),
+        [first] => first_seen(alloc, first, true),
+        [first, _second, ..] => first_seen(alloc, first, false),
     }
+}
+
+/// What the first form tells: a cell, or a row where it is the last.
+fn first_seen(alloc: Global, first: &Value, is_last: bool) -> Result<(), SyntaxKind>
+    ensures { result ≡ first_seen (meaning first.now) is_last }
+{
+    let defined = Defined::new(alloc);
+    if is_headed("define", first) {
+        defined.checked(first)?;
+        return Ok(());
+    }
+    if !is_last {
+        return Err(SyntaxKind::Shape);
+    }
+    row_of(&defined.names, &Names::new(alloc), false, first)?;
+    Ok(())
 }
 
 fn expand_forms(alloc: Global, forms: &[Value]) -> Result<Script, ExpandFault>
@@ -71,8 +88,13 @@ fn expand_expression<'a>(
     requires { IsLevel (cells_of defined) }
     ensures { Expands result (expression_at number (cells_of defined.entry) (meaning form.now) []) }
 {
-    let mut scope = Names::new(alloc);
-    let tree = match read(alloc, &defined.names, &mut scope, false, form) {
+    let Defined {
+        names,
+        web,
+        instance,
+    } = defined;
+    let mut reader = Reader::new(alloc, &names);
+    let tree = match reader.read(false, form) {
         Ok(tree) => tree,
         Err(fault) => return Err(at_number(number, fault)),
     };
@@ -80,7 +102,7 @@ fn expand_expression<'a>(
     match lay(alloc, &mut nodes, DEPTH_LIMIT, &tree) {
         Err(LayFault::Memory) => Err(ExpandFault::Memory),
         Err(LayFault::TooMany) => Err(at(number, SyntaxKind::TooMany)),
-        Ok(_) => Ok(Script::from_parts(nodes.into_vec(), defined.web, defined.instance)),
+        Ok(_) => Ok(Script::from_parts(nodes.into_vec(), web, instance)),
     }
 }
 

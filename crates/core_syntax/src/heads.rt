@@ -5,7 +5,7 @@ use script_nodes::SendKind;
 use script_value::Op;
 
 /// The kinds of cells.
-#[derive(Clone, Copy, Debug, PartialEq, Eq)]
+#[derive(Clone, Copy)]
 pub enum CellKind {
     /// Cells of the visitor's page, bound by shadows.
     Web,
@@ -14,7 +14,7 @@ pub enum CellKind {
 }
 
 /// What a form does to the cell that it names.
-#[derive(Clone, Copy, Debug, PartialEq, Eq)]
+#[derive(Clone, Copy)]
 pub enum Store {
     /// `web-cell-shadow`
     Shadow,
@@ -25,7 +25,7 @@ pub enum Store {
 }
 
 /// How a page is sent that waits for no answer.
-#[derive(Clone, Copy, Debug, PartialEq, Eq)]
+#[derive(Clone, Copy)]
 pub enum LastPage {
     /// `send/finish`
     Finish,
@@ -34,7 +34,7 @@ pub enum LastPage {
 }
 
 /// What a name at the head of a list says.
-#[derive(Clone, Copy, Debug, PartialEq, Eq)]
+#[derive(Clone, Copy)]
 pub enum Head {
     Quote,
     Quasiquote,

@@ -12,6 +12,7 @@ mod layout;
 mod names;
 mod nodes;
 mod read;
+mod rows;
 mod shapes;
 mod templates;
 mod tree;

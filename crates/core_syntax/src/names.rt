@@ -1,8 +1,7 @@
 ghost use Rattle.std.specs.Prelude.{◌≡◌, [], ◌∷◌, ◌++◌, length, OnOk, IsSome, drop};
-ghost use Rattle.core_syntax.specs.Names.{place_of, repeats, are_taken};
+ghost use Rattle.core_syntax.specs.Names.{place_of, repeats};
 ghost use Rattle.core_syntax.specs.Scope.{place_at, PutsPlace};
 
-use crate::cell_names::CellNames;
 use script_value::Str;
 use std::alloc::{AllocError, Global};
 use std::collections::BTreeMap;
@@ -102,18 +101,6 @@ impl<'a> Names<'a> {
     {
         for named in &self.names {
             if named.earlier.is_some() {
-                return true;
-            }
-        }
-        false
-    }
-
-    /// Whether one of these is the name of a form, an operation or a cell.
-    pub fn are_taken(&self, cells: &CellNames<'_>) -> bool
-        ensures { result ≡ are_taken cells.now self.now }
-    {
-        for named in &self.names {
-            if cells.is_taken(named.name) {
                 return true;
             }
         }

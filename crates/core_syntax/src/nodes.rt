@@ -8,16 +8,13 @@ use script_nodes::Node;
 use std::alloc::{AllocError, AllocFailed, Global};
 use std::marker::Model;
 use std::mem;
-use thiserror::Error;
 
 /// Why a tree was not laid out.
-#[derive(Clone, Copy, Debug, PartialEq, Eq, Error)]
+#[derive(Clone, Copy)]
 pub enum LayFault {
     /// Memory ran out.
-    #[error("memory ran out")]
     Memory,
     /// A node was too many, or nested too deep.
-    #[error("a node is too many, or nests too deep")]
     TooMany,
 }
 

@@ -1,17 +1,14 @@
 //! Parts of data.
 
-ghost use Rattle.std.specs.Prelude.{◌≡◌, [], ◌∷◌, Some, option_map};
+ghost use Rattle.std.specs.Prelude.{◌≡◌, [], IfOk, option_map};
 ghost use Rattle.script_value.specs.Val.{list};
 ghost use Rattle.script_value.specs.Views.{meaning, meanings};
-ghost use Rattle.core_syntax.specs.declared.faults.SyntaxKind.TheVariants.{Shape};
-ghost use Rattle.core_syntax.specs.Gives.{Reads};
-ghost use Rattle.core_syntax.specs.Names.{or_fault};
-ghost use Rattle.core_syntax.specs.Shapes.{on, symbol_in, is_word, begins, is_headed, bound_name, names_of, single_name, parameter, names_before, is_clause, are_clauses, ends_in_else};
+ghost use Rattle.core_syntax.specs.RowCores.{names_in};
+ghost use Rattle.core_syntax.specs.Shapes.{symbol_in, is_word, begins, is_headed, bound_name, is_clause, are_clauses, ends_in_else};
 
-use crate::faults::{ReadFault, SyntaxKind};
 use crate::names::Names;
 use script_value::{Str, Value};
-use std::alloc::Global;
+use std::alloc::{AllocError, Global};
 
 /// Whether this is the symbol of these characters.
 pub fn is_word(word: &str, value: &Value) -> bool
@@ -64,88 +61,17 @@ fn name_of_two(items: &[Value]) -> Option<&Str>
     }
 }
 
-/// The names of bindings, the last innermost, in front of a body.
-pub fn names_of<'a>(
-    alloc: Global,
-    bindings: &'a [Value],
-    body: &[Value],
-) -> Result<Names<'a>, ReadFault>
-    ensures { Reads result (names_before (meanings body.now) (names_of (meanings bindings.now) [])) }
-{
-    match body {
-        [] => Err(ReadFault::Syntax(SyntaxKind::Shape)),
-        [_first, ..] => names_in(alloc, bindings),
-    }
-}
-
-fn names_in<'a>(alloc: Global, bindings: &'a [Value]) -> Result<Names<'a>, ReadFault>
-    ensures { Reads result (or_fault Shape (names_of (meanings bindings.now) [])) }
+/// The names of bindings, the last innermost.
+pub fn names_in<'a>(alloc: Global, bindings: &'a [Value]) -> Result<Names<'a>, AllocError>
+    ensures { IfOk result (λ names. names ≡ names_in (meanings bindings.now) []) }
 {
     let mut names = Names::new(alloc);
     for binding in bindings {
-        match bound_name(binding) {
-            Some(name) => names.push(name)?,
-            None => return Err(ReadFault::Syntax(SyntaxKind::Shape)),
+        if let Some(name) = bound_name(binding) {
+            names.push(name)?;
         }
     }
     Ok(names)
-}
-
-/// The name of the only binding, in front of a body.
-pub fn single_name<'a>(
-    alloc: Global,
-    bindings: &'a [Value],
-    body: &[Value],
-) -> Result<Names<'a>, ReadFault>
-    ensures { Reads result (names_before (meanings body.now) (single_name (meanings bindings.now))) }
-{
-    match body {
-        [] => Err(ReadFault::Syntax(SyntaxKind::Shape)),
-        [_first, ..] => name_of_one_binding(alloc, bindings),
-    }
-}
-
-fn name_of_one_binding<'a>(alloc: Global, bindings: &'a [Value]) -> Result<Names<'a>, ReadFault>
-    ensures { Reads result (or_fault Shape (single_name (meanings bindings.now))) }
-{
-    match bindings {
-        [binding] => one_name(alloc, bound_name(binding)),
-        [] => Err(ReadFault::Syntax(SyntaxKind::Shape)),
-        [_binding, _other, ..] => Err(ReadFault::Syntax(SyntaxKind::Shape)),
-    }
-}
-
-/// The only parameter of a function, in front of its body.
-pub fn parameter<'a>(
-    alloc: Global,
-    parameters: &'a Value,
-    body: &[Value],
-) -> Result<Names<'a>, ReadFault>
-    ensures { Reads result (names_before (meanings body.now) (parameter (meaning parameters.now))) }
-{
-    match body {
-        [] => Err(ReadFault::Syntax(SyntaxKind::Shape)),
-        [_first, ..] => name_of_parameter(alloc, parameters),
-    }
-}
-
-fn name_of_parameter<'a>(alloc: Global, parameters: &'a Value) -> Result<Names<'a>, ReadFault>
-    ensures { Reads result (or_fault Shape (parameter (meaning parameters.now))) }
-{
-    match parameters {
-        Value::List(items) => name_of_one(alloc, items.as_slice()),
-        _ => Err(ReadFault::Syntax(SyntaxKind::Shape)),
-    }
-}
-
-fn name_of_one<'a>(alloc: Global, items: &'a [Value]) -> Result<Names<'a>, ReadFault>
-    ensures { Reads result (or_fault Shape (parameter (list (meanings items.now)))) }
-{
-    match items {
-        [name] => one_name(alloc, symbol_in(name)),
-        [] => Err(ReadFault::Syntax(SyntaxKind::Shape)),
-        [_name, _other, ..] => Err(ReadFault::Syntax(SyntaxKind::Shape)),
-    }
 }
 
 /// The characters of a symbol.
@@ -155,19 +81,6 @@ pub fn symbol_in(value: &Value) -> Option<&Str>
     match value {
         Value::Symbol(name) => Some(name),
         _ => None,
-    }
-}
-
-fn one_name<'a>(alloc: Global, name: Option<&'a Str>) -> Result<Names<'a>, ReadFault>
-    ensures { Reads result (or_fault Shape (on (option_map (λ x. x.now) name.entry) (λ x. Some (x ∷ [])))) }
-{
-    match name {
-        None => Err(ReadFault::Syntax(SyntaxKind::Shape)),
-        Some(name) => {
-            let mut names = Names::new(alloc);
-            names.push(name)?;
-            Ok(names)
-        }
     }
 }
 

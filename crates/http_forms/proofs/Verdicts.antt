@@ -1,32 +1,40 @@
 -- The verdict on a head.
-use Rattle.std.proofs.Common.{◌≡◌, ◌≤◌, ◌+◌, ◌-◌, ◌^◌, ◌++◌, ◌∷◌, ℕ, List, [], Bool, true, false, Option, Some, None, Result, Ok, Err, length, drop, min, arith, refl, sym, ap, ◌∙◌, subst, append-nil, append_assoc, length-append, nat_lt, cond}
+use Rattle.std.proofs.Common.{◌≡◌, ◌≤◌, ◌+◌, ◌-◌, ◌^◌, ◌++◌, ◌∷◌, ℕ, List, [], Bool, true, false, Option, Some, None, Result, Ok, Err, codes, length, map, take, drop, min, arith, refl, sym, ap, ◌∙◌, subst, append-nil, append_assoc, length-append, nat_lt, cond}
 use Rattle.std.proofs.lemmas.List.{drop_all}
 use Rattle.std.proofs.lemmas.List.Sums.{sum_by-append}
-use Rattle.httparse.specs.declared.borrowed.Request.{Request}
+use Rattle.httparse.specs.declared.spans.HeaderSpan.{HeaderSpan}
+use Rattle.httparse.specs.declared.spans.RequestSpans.{RequestSpans}
 use Rattle.std.proofs.lemmas.Bool.Decides.{nat_tests}
 use Rattle.std.specs.List.{count_by, flat_map}
-use Rattle.httparse.specs.Borrowed.{HoldsRequest, HoldsSomeRequest}
 use Rattle.httparse.specs.Grammar.{LineEnd, crlf, lf, Field, RequestHead, ReadsRequest, HasNoRequest, print_request, print_end, print_field, print_section, print_blank, print_version}
-use Rattle.httparse.specs.Spans.{RequestOverflows}
+use Rattle.httparse.specs.Spans.{IsRequestAt, IsRequestOf, RequestOverflows, header_bytes, span_bytes}
 use Rattle.httparse.proofs.GrammarLemmas.{request_unique, print_request-append}
 use Rattle.http_forms.specs.Head.{is_line_feed, field_lines}
-use Rattle.http_forms.specs.Rows.{body_verdict, length_verdict, IsParsed}
+use Rattle.http_forms.specs.Rows.{Asked, body_verdict, length_verdict, lacks_host, closes_by, fields_verdict, head_verdict, IsParsed}
+use Rattle.http_forms.specs.Fields.{values_of, is_none, announced}
 use Rattle.http_forms.specs.Found.{capped}
 use Rattle.http_forms.specs.declared.refused.Refused.{Refused}
 
-same_number : (method target : List ℕ) (types : List (List ℕ)) (n : ℕ) → body_verdict method target types (Some (min n (2 ^ 32 - 1))) ≡ body_verdict method target types (Some n)
-same_number method target types n = by_size n (nat_lt 65536 n) refl
+same_number : (method target : List ℕ) (types : List (List ℕ)) (closes : Bool) (n : ℕ) → body_verdict method target types closes (Some (min n (2 ^ 32 - 1))) ≡ body_verdict method target types closes (Some n)
+same_number method target types closes n = by_size n (nat_lt 65536 n) refl
   where
-    by_size : (n : ℕ) (b : Bool) → nat_lt 65536 n ≡ b → body_verdict method target types (Some (min n (2 ^ 32 - 1))) ≡ body_verdict method target types (Some n)
+    by_size : (n : ℕ) (b : Bool) → nat_lt 65536 n ≡ b → body_verdict method target types closes (Some (min n (2 ^ 32 - 1))) ≡ body_verdict method target types closes (Some n)
     by_size n true e = (let f : nat_lt 65536 (min n (2 ^ 32 - 1)) ≡ true = grind (arith, nat_tests, e) in rw (e, f) refl)
-    by_size n false e = (let f : min n (2 ^ 32 - 1) ≡ n = grind (arith, nat_tests, e) in ap (λ (k : ℕ). body_verdict method target types (Some k)) f)
+    by_size n false e = (let f : min n (2 ^ 32 - 1) ≡ n = grind (arith, nat_tests, e) in ap (λ (k : ℕ). body_verdict method target types closes (Some k)) f)
 
 -- a length above 2^32 - 1 is too large, as that number is
-pub capped_verdict : (method target : List ℕ) (types : List (List ℕ)) (o : Option ℕ) (r : Result (Option ℕ) Refused) → Ok o ≡ capped r
-    → body_verdict method target types o ≡ length_verdict method target types r
-capped_verdict method target types o (Ok None) h = (let e : o ≡ None = cc in ap (body_verdict method target types) e)
-capped_verdict method target types o (Ok (Some n)) h = (let e : o ≡ Some (min n (2 ^ 32 - 1)) = cc in ap (body_verdict method target types) e ∙ same_number method target types n)
-capped_verdict method target types o (Err r) h = absurd (cc)
+pub capped_verdict : (method target : List ℕ) (types : List (List ℕ)) (closes : Bool) (o : Option ℕ) (r : Result (Option ℕ) Refused) → Ok o ≡ capped r
+    → body_verdict method target types closes o ≡ length_verdict method target types closes r
+capped_verdict method target types closes o (Ok None) h = (let e : o ≡ None = cc in ap (body_verdict method target types closes) e)
+capped_verdict method target types closes o (Ok (Some n)) h = (let e : o ≡ Some (min n (2 ^ 32 - 1)) = cc in ap (body_verdict method target types closes) e ∙ same_number method target types closes n)
+capped_verdict method target types closes o (Err r) h = absurd (cc)
+
+-- fields with a Host where it is due and without a Transfer-Encoding
+pub fields_pass : (minor : ℕ) (method target : List ℕ) (fields : List (List ℕ × List ℕ)) (verdict : Result Asked Refused)
+    → lacks_host minor fields ≡ false → is_none (values_of (codes "Transfer-Encoding") fields) ≡ true
+    → verdict ≡ length_verdict method target (values_of (codes "Content-Type") fields) (closes_by minor fields) (announced (values_of (codes "Content-Length") fields))
+    → verdict ≡ fields_verdict minor method target fields
+fields_pass minor method target fields verdict host plain is = is ∙ sym (rw (host, plain) refl)
 
 feeds : List ℕ → ℕ
 feeds bytes = count_by is_line_feed bytes
@@ -77,13 +85,24 @@ lines_of h bytes reads =
 -- ---- what `httparse` answers
 
 -- a head that ends before the bytes do is not the whole of them
-pub cut_short : (bytes : List ℕ) (r : Request) (len : ℕ) → HoldsSomeRequest bytes r len → (len ≡ length bytes → ⊥) → IsParsed bytes None
-cut_short bytes r len (k, holds) differs h reads =
-    let ends : drop len bytes ≡ [] = (request_unique bytes k h (drop len bytes) [] holds.reads reads).1 in
-    differs (omega (arith, holds.len_is, ap length holds.reads.1, length-append (print_request k) (drop len bytes), ap length ends))
+pub cut_short : (bytes : List ℕ) (headers : List HeaderSpan) (r : RequestSpans) → IsRequestOf bytes headers r → (r.len ≡ length bytes → ⊥) → IsParsed bytes None
+cut_short bytes headers r (k, at) differs h reads =
+    let ends : drop r.len bytes ≡ [] = (request_unique bytes k h (drop r.len bytes) [] at.reads reads).1 in
+    differs (omega (arith, at.len, ap length at.reads.1, length-append (print_request k) (drop r.len bytes), ap length ends))
 
-pub whole_head : (bytes : List ℕ) (r : Request) (len : ℕ) (h : RequestHead) → HoldsRequest bytes len r h → len ≡ length bytes → ReadsRequest bytes h []
-whole_head bytes r len h holds same = subst (ReadsRequest bytes h) (drop_all len bytes (omega arith)) holds.reads
+pub whole_head : (bytes : List ℕ) (headers : List HeaderSpan) (r : RequestSpans) (h : RequestHead) → IsRequestAt bytes headers r h → r.len ≡ length bytes → ReadsRequest bytes h []
+whole_head bytes headers r h at same = subst (ReadsRequest bytes h) (drop_all r.len bytes (omega arith)) at.reads
+
+-- what the spans of a head say of it
+pub verdict_of : (lines : List ℕ) (headers : List HeaderSpan) (r : RequestSpans) (h : RequestHead) (method : List ℕ) (verdict : Result Asked Refused)
+    → IsRequestAt lines headers r h → method ≡ span_bytes lines r.method
+    → verdict ≡ fields_verdict r.version method (span_bytes lines r.path) (map (header_bytes lines) (take r.headers headers)) → verdict ≡ head_verdict (Some h)
+verdict_of lines headers r h method verdict at is said =
+    let a : method ≡ h.method = is ∙ at.method in
+    said ∙ (ap (λ (n : ℕ). fields_verdict n method (span_bytes lines r.path) (map (header_bytes lines) (take r.headers headers))) at.version
+    ∙ (ap (λ (m : List ℕ). fields_verdict h.minor m (span_bytes lines r.path) (map (header_bytes lines) (take r.headers headers))) a
+    ∙ (ap (λ (t : List ℕ). fields_verdict h.minor h.method t (map (header_bytes lines) (take r.headers headers))) at.path
+    ∙ ap (fields_verdict h.minor h.method h.target) at.fields)))
 
 pub none_partial : (bytes : List ℕ) → HasNoRequest bytes → IsParsed bytes None
 none_partial bytes none h reads = none h [] reads

@@ -1,6 +1,6 @@
 -- What the fields of a head say.
-use Rattle.std.specs.Prelude.{ℕ, ◌&&◌, Bool, true, false, List, [], ◌∷◌, length, nat_lt, Option, Some, None, Result, Ok, Err, codes, if◌then◌else◌}
-use Rattle.std.specs.List.{list_all}
+use Rattle.std.specs.Prelude.{ℕ, ◌==◌, ◌&&◌, Bool, true, false, List, [], ◌∷◌, length, map, nat_lt, Option, Some, None, Result, Ok, Err, codes, if◌then◌else◌}
+use Rattle.std.specs.List.{list_all, list_any, slice_split}
 use Rattle.std.specs.Char.{is_ascii_digit}
 use Rattle.std.specs.Str.{str_eq_ignore_ascii_case}
 use Rattle.std.specs.Str.Parse.{digits_value}
@@ -43,3 +43,17 @@ media_type value = trim_ows (split_once 59 value).0
 abbrev pub is_form : List (List ℕ) → Bool
 is_form (value ∷ []) = str_eq_ignore_ascii_case (media_type value) (codes "application/x-www-form-urlencoded")
 is_form _ = false
+
+abbrev pub is_comma : ℕ → Bool
+is_comma b = b == 44
+
+-- the options of a value of Connection: what stands between its commas, without the spaces and tabs around it
+abbrev pub options : List ℕ → List (List ℕ)
+options value = map trim_ows (slice_split is_comma value)
+
+abbrev pub is_close : List ℕ → Bool
+is_close option = str_eq_ignore_ascii_case option (codes "close")
+
+-- one of these values of Connection has the option `close`, in any case
+abbrev pub say_close : List (List ℕ) → Bool
+say_close values = list_any (λ value. list_any is_close (options value)) values

@@ -1,6 +1,6 @@
 -- What holds of the bytes of every link.
-use Rattle.std.specs.Prelude.{◌≡◌, ◌<◌, ◌++◌, ℕ, Bool, true, false, List, length}
-use Rattle.http_forms.specs.Request.{Outcome, unfinished, Decides}
+use Rattle.std.specs.Prelude.{◌≡◌, ◌<◌, ◌≤◌, ◌++◌, ℕ, Bool, true, false, List, length, take}
+use Rattle.http_forms.specs.Request.{Visit, Outcome, unfinished, visits, Decides}
 
 -- the bytes of a link come to one thing
 abbrev pub OutcomesAreOne : Type 0
@@ -15,3 +15,9 @@ RequestsStandAlone =
 -- where a link ended behind some bytes, these are a request or refused
 abbrev pub EndedLinksAreDecided : Type 0
 EndedLinksAreDecided = (bytes : List ℕ) → 0 < length bytes → Decides bytes true unfinished → ⊥
+
+-- A request has no more bytes than were read, and is just the first of them: the next request of the link may begin behind it.
+abbrev pub RequestsAreFronts : Type 0
+RequestsAreFronts =
+    (bytes : List ℕ) (ended : Bool) (v : Visit) → Decides bytes ended (visits v)
+    → (v.length ≤ length bytes) × Decides (take v.length bytes) false (visits v)

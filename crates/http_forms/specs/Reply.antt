@@ -1,5 +1,5 @@
 -- The bytes of a reply.
-use Rattle.std.specs.Prelude.{ℕ, List, [], ◌++◌, length, codes}
+use Rattle.std.specs.Prelude.{ℕ, Bool, true, false, List, [], ◌++◌, length, codes}
 use Rattle.std.specs.Fmt.{decimal}
 use Rattle.reply_words.specs.Words.{Told, page, word, told}
 use Rattle.reply_words.specs.declared.status.ReplyStatus.{ReplyStatus}
@@ -71,28 +71,33 @@ length_line count = codes "Content-Length: " ++ (decimal count ++ codes "\r\n")
 abbrev pub first_lines : Status → (media_type : List ℕ) → List ℕ
 first_lines code media_type = status_line code ++ (type_line media_type ++ allow code)
 
--- the length of the body, the last line and the body
-abbrev pub length_and_body : List ℕ → List ℕ
-length_and_body body = length_line (length body) ++ (codes "Connection: close\r\n\r\n" ++ body)
+-- the last line and the empty one: whether the connection is closed behind the body
+abbrev pub last_lines : (closes : Bool) → List ℕ
+last_lines true = codes "Connection: close\r\n\r\n"
+last_lines false = codes "Connection: keep-alive\r\n\r\n"
 
--- a message: its status, the media type of its body, and the body, behind which the connection is closed
-abbrev pub message : Status → (media_type body : List ℕ) → List ℕ
-message code media_type body = first_lines code media_type ++ length_and_body body
+-- the length of the body, the last lines and the body
+abbrev pub length_and_body : (closes : Bool) → List ℕ → List ℕ
+length_and_body closes body = length_line (length body) ++ (last_lines closes ++ body)
+
+-- a message: its status, the media type of its body, and the body
+abbrev pub message : Status → (closes : Bool) → (media_type body : List ℕ) → List ℕ
+message code closes media_type body = first_lines code media_type ++ length_and_body closes body
 
 -- a page is sent as HTML
-abbrev pub page_message : List ℕ → List ℕ
-page_message bytes = message status.Ok (codes "text/html") bytes
+abbrev pub page_message : (closes : Bool) → List ℕ → List ℕ
+page_message closes bytes = message status.Ok closes (codes "text/html") bytes
 
 -- a word, behind which stands a newline, is sent as plain text
-abbrev pub word_message : Status → List ℕ → List ℕ
-word_message code bytes = message code (codes "text/plain") (bytes ++ codes "\n")
+abbrev pub word_message : Status → (closes : Bool) → List ℕ → List ℕ
+word_message code closes bytes = message code closes (codes "text/plain") (bytes ++ codes "\n")
 
 -- what a reply says, as it is sent
-abbrev pub told_message : Told → List ℕ
-told_message (page bytes) = page_message bytes
-told_message (word code bytes) = word_message (status_of code) bytes
+abbrev pub told_message : (closes : Bool) → Told → List ℕ
+told_message closes (page bytes) = page_message closes bytes
+told_message closes (word code bytes) = word_message (status_of code) closes bytes
 
--- the bytes of an answer
-unfoldable pub reply_text : Answer → List ℕ
-reply_text (answer.Reply reply) = told_message (told reply)
-reply_text (answer.Refused reason) = word_message (refused_status reason) (refused_word reason)
+-- the bytes of an answer, which say whether the connection is closed behind them
+unfoldable pub reply_text : Answer → (closes : Bool) → List ℕ
+reply_text (answer.Reply reply) closes = told_message closes (told reply)
+reply_text (answer.Refused reason) closes = word_message (refused_status reason) closes (refused_word reason)

@@ -11,8 +11,8 @@ use Rattle.script_value.specs.declared.outcome.Refusal.TheVariants.{Expired}
 use Rattle.page_names.specs.Names.{page, named_by, destination_of}
 use Rattle.http_forms.specs.Head.{head_end, field_lines, without_blank}
 use Rattle.http_forms.specs.Answers.{answer_of, binding_of}
-use Rattle.http_forms.specs.Rows.{Asked, head_verdict}
-use Rattle.http_forms.specs.Request.{unfinished, refused, visits, within_limit, without_head, with_head}
+use Rattle.http_forms.specs.Rows.{Asked, closes_by, head_verdict}
+use Rattle.http_forms.specs.Request.{unfinished, refused, visits, without_head, with_head}
 use Rattle.http_forms.specs.Reply.{reply_text}
 use Rattle.http_forms.specs.declared.refused.Refused.TheVariants.{BadRequest, Head, Chunked, Method, Length, TooLarge, MediaType}
 use Rattle.http_forms.specs.declared.reply.Answer.TheVariants.{Reply, Refused}
@@ -73,15 +73,20 @@ unfolding httparse_on_literals
 answered_bytes = refl
 
 abbrev asked : Asked
-asked = record { target = codes "/servlets/all;0*0*0*0000000000000000?n=1"; posts = true; length = 3 }
+asked = record { target = codes "/servlets/all;0*0*0*0000000000000000?n=1"; posts = true; length = 3; closes = false }
 
 pub answered_verdict : head_verdict (Some answered) ≡ Ok asked
 unfolding httparse_on_literals
 answered_verdict = refl
 
 -- what stands behind the body is not read
-pub answered_request : with_head (Ok asked) (codes "n=2&n=3") false
-    ≡ visits (Some (page (codes "all") (record { shelf = 0; instance = 0; page = 0; nonce = 0 }))) (answer_of (codes "n=1") (codes "n=2"))
+pub answered_request : with_head 40 (Ok asked) (codes "n=2&n=3") false
+    ≡ visits (record {
+      destination = Some (page (codes "all") (record { shelf = 0; instance = 0; page = 0; nonce = 0 }));
+      answer = answer_of (codes "n=1") (codes "n=2");
+      length = 43;
+      closes = false;
+    })
 unfolding form_urlencoded_on_literals destination_of named_by
 answered_request = refl
 
@@ -91,10 +96,10 @@ pub pairs_in_order : answer_of (codes "a=b&&a=c") (codes "d&a=e=f")
 unfolding form_urlencoded_on_literals
 pairs_in_order = refl
 
-pub body_short : with_head (Ok asked) (codes "n=") false ≡ unfinished
+pub body_short : with_head 40 (Ok asked) (codes "n=") false ≡ unfinished
 body_short = refl
 
-pub body_cut : with_head (Ok asked) (codes "n=") true ≡ refused BadRequest
+pub body_cut : with_head 40 (Ok asked) (codes "n=") true ≡ refused BadRequest
 body_cut = refl
 
 pub nothing_at_all : without_head 0 true ≡ unfinished
@@ -109,8 +114,17 @@ head_open = refl
 pub head_long : without_head 16384 true ≡ refused Head
 head_long = refl
 
-pub longest_head : within_limit (Some 16384) ≡ Some 16384
-longest_head = refl
+-- a request closes at version 1.0, and where one of its options is `close`
+pub closes_at_0 : closes_by 0 [] ≡ true
+closes_at_0 = refl
+
+pub closes_not : closes_by 1 ((codes "connection", codes "closed, keep-alive") ∷ (codes "Conn", codes "close") ∷ []) ≡ false
+unfolding httparse_on_literals
+closes_not = refl
+
+pub closes_by_option : closes_by 1 ((codes "connection", codes "a,\t Close ") ∷ (codes "Connection", codes "b") ∷ []) ≡ true
+unfolding httparse_on_literals
+closes_by_option = refl
 
 -- of two causes the earlier row is answered
 pub no_grammar : head_verdict None ≡ Err BadRequest
@@ -153,30 +167,30 @@ unfolding httparse_on_literals
 two_types = refl
 
 -- a body of no bytes needs no media type, and one of a GET never does
-pub empty_body : head_verdict (Some (head (codes "POST") (codes "/") 1 (host ∷ sized (codes "000") ∷ []))) ≡ Ok (record { target = codes "/"; posts = true; length = 0 })
+pub empty_body : head_verdict (Some (head (codes "POST") (codes "/") 1 (host ∷ sized (codes "000") ∷ []))) ≡ Ok (record { target = codes "/"; posts = true; length = 0; closes = false })
 unfolding httparse_on_literals
 empty_body = refl
 
-pub get_with_body : head_verdict (Some (head (codes "GET") (codes "/") 0 (sized (codes "65536") ∷ []))) ≡ Ok (record { target = codes "/"; posts = false; length = 65536 })
+pub get_with_body : head_verdict (Some (head (codes "GET") (codes "/") 0 (sized (codes "65536") ∷ []))) ≡ Ok (record { target = codes "/"; posts = false; length = 65536; closes = true })
 unfolding httparse_on_literals
 get_with_body = refl
 
-pub a_page : reply_text (Reply (Ended (codes "<p>12</p>")))
+pub a_page : reply_text (Reply (Ended (codes "<p>12</p>"))) true
     ≡ codes "HTTP/1.1 200 OK\r\nContent-Type: text/html; charset=utf-8\r\nContent-Length: 9\r\nConnection: close\r\n\r\n<p>12</p>"
 unfolding reply_text digits
 a_page = refl
 
-pub a_fault : reply_text (Reply (Fault Binding))
+pub a_fault : reply_text (Reply (Fault Binding)) true
     ≡ codes "HTTP/1.1 500 Internal Server Error\r\nContent-Type: text/plain; charset=utf-8\r\nContent-Length: 8\r\nConnection: close\r\n\r\nbinding\n"
 unfolding reply_text digits
 a_fault = refl
 
-pub an_old_page : reply_text (Reply (NotAdmitted (Expired 7)))
-    ≡ codes "HTTP/1.1 410 Gone\r\nContent-Type: text/plain; charset=utf-8\r\nContent-Length: 8\r\nConnection: close\r\n\r\nexpired\n"
+pub an_old_page : reply_text (Reply (NotAdmitted (Expired 7))) false
+    ≡ codes "HTTP/1.1 410 Gone\r\nContent-Type: text/plain; charset=utf-8\r\nContent-Length: 8\r\nConnection: keep-alive\r\n\r\nexpired\n"
 unfolding reply_text digits
 an_old_page = refl
 
-pub a_method : reply_text (Refused Method)
+pub a_method : reply_text (Refused Method) true
     ≡ codes "HTTP/1.1 405 Method Not Allowed\r\nContent-Type: text/plain; charset=utf-8\r\nAllow: GET, POST\r\nContent-Length: 7\r\nConnection: close\r\n\r\nmethod\n"
 unfolding reply_text digits
 a_method = refl

@@ -2,6 +2,7 @@
 use Rattle.std.specs.Prelude.{ℕ, List, Option, Result, OnOk}
 use Rattle.std.specs.Io.KnownBytes.{Appends}
 use Rattle.web_outside.specs.Causes.{HasCause}
+use Rattle.web_outside.specs.View.{SinkView}
 use Rattle.web_outside.specs.Pieces.{AppendsPart}
 use Rattle.web_outside.specs.declared.Failed.{Failed}
 
@@ -13,5 +14,5 @@ pub record WritesText (old new : Option (List ℕ)) (before after : ℕ) (text :
   pub cause : HasCause before after result
 
 -- the same of a sink
-abbrev pub Writes : {S : Type 0} → (written : S → Option (List ℕ)) → (faults : S → ℕ) → (old new : S) → List ℕ → Result (Unit {0}) Failed → Type 0
-Writes written faults old new text result = WritesText (written old) (written new) (faults old) (faults new) text result
+abbrev pub Writes : (old new : SinkView) → List ℕ → Result (Unit {0}) Failed → Type 0
+Writes old new text result = WritesText old.written new.written old.faults new.faults text result

@@ -1,16 +1,16 @@
-ghost use Rattle.std.specs.Prelude.{◌≡◌, ◌-◌, ◌^◌, ◌++◌, ◌∷◌, [], ℕ, List, min, true, map};
+ghost use Rattle.std.specs.Prelude.{◌≡◌, ◌<◌, ◌-◌, ◌^◌, ◌++◌, ◌∷◌, [], ℕ, List, All, codes, length, IfSome, min, true, map};
 ghost use Rattle.std.specs.Char.{is_ascii_digit};
-ghost use Rattle.std.specs.List.{list_all};
+ghost use Rattle.std.specs.List.{list_all, list_any, position};
 ghost use Rattle.std.specs.Str.Parse.{digits_value};
 ghost use Rattle.std.specs.Str.{str_eq_ignore_ascii_case};
-ghost use Rattle.httparse.specs.Borrowed.{header_parts};
+ghost use Rattle.httparse.specs.Spans.{IsHeaderWithin, header_bytes};
 ghost use Rattle.httparse.specs.Grammar.{is_ows, skip_ows, trim_ows};
 ghost use Rattle.http_forms.specs.Fields as spec;
 ghost use Rattle.http_forms.specs.Found.{IsFound, capped};
 
 use crate::answer::split_once;
 use crate::refused::Refused;
-use httparse::Header;
+use httparse::spans::HeaderSpan;
 use script_value::are_digits;
 
 /// How often a field stands in a head, with its value where it stands once.
@@ -30,7 +30,8 @@ fn same_letters(left: &[u8], right: &[u8]) -> bool
 
 // What was found with one value more.
 fn with_one<'a>(found: Found<'a>, value: &'a [u8]) -> Found<'a>
-    ensures { (values : List (List ℕ)) → IsFound values found.entry → IsFound (values ++ value.now ∷ []) result }
+    ensures { (values : List (List ℕ)) → IsFound values found.entry →
+        IsFound (values ++ value.now ∷ []) result }
 {
     match found {
         Found::Absent => Found::Once(value),
@@ -38,14 +39,15 @@ fn with_one<'a>(found: Found<'a>, value: &'a [u8]) -> Found<'a>
     }
 }
 
-/// The fields of this name, in any case.
-pub(crate) fn find<'a>(headers: &[Header<'a>], name: &str) -> Found<'a>
-    ensures { IsFound (spec.values_of name.now (map header_parts headers.now)) result }
+/// The fields of this name, in any case, among those that stand in the lines.
+pub(crate) fn find<'a>(lines: &'a [u8], headers: &[HeaderSpan], name: &str) -> Found<'a>
+    requires { All (IsHeaderWithin (length lines.now)) headers.now }
+    ensures { IsFound (spec.values_of name.now (map (header_bytes lines.now) headers.now)) result }
 {
     let mut found = Found::Absent;
     for header in headers {
-        if same_letters(header.name.as_bytes(), name.as_bytes()) {
-            found = with_one(found, header.value);
+        if same_letters(header.name.of(lines), name.as_bytes()) {
+            found = with_one(found, header.value.of(lines));
         }
     }
     found
@@ -66,7 +68,8 @@ fn number(digits: &[u8]) -> u32
 
 /// The length that the fields Content-Length give the body, if there are any. One above `u32::MAX` counts as that.
 pub(crate) fn announced(found: Found<'_>) -> Result<Option<u32>, Refused>
-    ensures { (values : List (List ℕ)) → IsFound values found.entry → result ≡ capped (spec.announced values) }
+    ensures { (values : List (List ℕ)) → IsFound values found.entry →
+        result ≡ capped (spec.announced values) }
 {
     match found {
         Found::Absent => Ok(None),
@@ -129,4 +132,54 @@ pub(crate) fn is_form(found: Found<'_>) -> bool
         ),
         Found::Absent | Found::Often => false,
     }
+}
+
+// Whether the option is `close`.
+fn is_close(option: &[u8]) -> bool
+    ensures { result ≡ spec.is_close (trim_ows option.now) }
+{
+    same_letters(trim_blanks(option), b"close")
+}
+
+// The place of the first comma.
+fn first_comma(bytes: &[u8]) -> Option<usize>
+    ensures is { result ≡ position spec.is_comma bytes.now }
+    ensures inside { IfSome result (λ i. i < length bytes.now) }
+{
+    bytes.iter().position(|b| *b == b',')
+}
+
+// Whether one of the options between the commas is `close`.
+fn has_close(value: &[u8]) -> bool
+    ensures { result ≡ list_any spec.is_close (spec.options value.now) }
+{
+    let mut rest = value;
+    loop {
+        match first_comma(rest) {
+            Some(i) => {
+                if is_close(&rest[..i]) {
+                    return true;
+                }
+                rest = &rest[i + 1..];
+            }
+            None => return is_close(rest),
+        }
+    }
+}
+
+/// Whether a field Connection says that the connection closes.
+///
+/// Source: RFC 9110, section 7.6.1, and RFC 9112, section 9.6.
+pub(crate) fn says_close(lines: &[u8], headers: &[HeaderSpan]) -> bool
+    requires { All (IsHeaderWithin (length lines.now)) headers.now }
+    ensures { result ≡ spec.say_close
+        (spec.values_of (codes "Connection") (map (header_bytes lines.now) headers.now)) }
+{
+    let mut says = false;
+    for header in headers {
+        if same_letters(header.name.of(lines), b"Connection") {
+            says |= has_close(header.value.of(lines));
+        }
+    }
+    says
 }

@@ -1,4 +1,4 @@
-ghost use Rattle.http_forms.specs.Laws.{OutcomesAreOne, RequestsStandAlone, EndedLinksAreDecided};
+ghost use Rattle.http_forms.specs.Laws.{OutcomesAreOne, RequestsStandAlone, RequestsAreFronts, EndedLinksAreDecided};
 
 /// Whatever bytes a link gives, they come to one thing.
 pub fn outcomes_are_one()
@@ -9,6 +9,11 @@ pub fn outcomes_are_one()
 /// request is the front of another one, and no byte behind a request changes it.
 pub fn requests_stand_alone()
     ensures { RequestsStandAlone }
+{}
+
+/// A request has no more bytes than were read, and is just the first of them, so the next one of the link may begin behind it.
+pub fn requests_are_fronts()
+    ensures { RequestsAreFronts }
 {}
 
 /// Bytes behind which a link ended are a request or refused.

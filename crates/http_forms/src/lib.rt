@@ -16,7 +16,9 @@ mod status;
 pub use answer::{answer_of, path_and_query};
 pub use answering::Answering;
 pub use head::{HeadScanner, head_end};
-pub use laws::{ended_links_are_decided, outcomes_are_one, requests_stand_alone};
+pub use laws::{
+    ended_links_are_decided, outcomes_are_one, requests_are_fronts, requests_stand_alone,
+};
 pub use progress::RequestScanner;
 pub use refused::{Refused, RequestFault};
 pub use reply::{Answer, write_reply};

@@ -50,7 +50,8 @@ fn write_three<O: Sink>(
     second: &[u8],
     third: &[u8],
 ) -> Result<(), Failed>
-    ensures { Writes O.written O.fault_count sink.old sink.new (first.now ++ (second.now ++ third.now)) result }
+    ensures { Writes (O.view sink.old) (O.view sink.new)
+        (first.now ++ (second.now ++ third.now)) result }
 {
     write_all(sink, first)?;
     write_all(sink, second)?;
@@ -59,7 +60,8 @@ fn write_three<O: Sink>(
 
 // Writes the lines up to the length.
 fn write_front<O: Sink>(sink: &mut O, status: Status, media_type: &str) -> Result<(), Failed>
-    ensures { Writes O.written O.fault_count sink.old sink.new (spec.first_lines status media_type.now) result }
+    ensures { Writes (O.view sink.old) (O.view sink.new)
+        (spec.first_lines status media_type.now) result }
 {
     write_three(sink, b"HTTP/1.1 ", status.text().as_bytes(), b"\r\n")?;
     write_three(
@@ -71,75 +73,94 @@ fn write_front<O: Sink>(sink: &mut O, status: Status, media_type: &str) -> Resul
     write_all(sink, allow(status).as_bytes())
 }
 
-// Writes the length of a body in two pieces, the last line, and the body.
-fn write_body<O: Sink>(sink: &mut O, body: &[u8], end: &[u8]) -> Result<(), Failed>
+// The last line and the empty one.
+fn last_lines(closes: bool) -> &'static str
+    ensures { result.now ≡ spec.last_lines closes }
+{
+    if closes {
+        "Connection: close\r\n\r\n"
+    } else {
+        "Connection: keep-alive\r\n\r\n"
+    }
+}
+
+// Writes the length of a body in two pieces, the last lines, and the body.
+fn write_body<O: Sink>(sink: &mut O, closes: bool, body: &[u8], end: &[u8]) -> Result<(), Failed>
     requires { length body.now + length end.now < 2 ^ 64 }
-    ensures { Writes O.written O.fault_count sink.old sink.new (spec.length_and_body (body.now ++ end.now)) result }
+    ensures { Writes (O.view sink.old) (O.view sink.new)
+        (spec.length_and_body closes (body.now ++ end.now)) result }
 {
     let mut digits = Buffer::new();
     let length = digits.format(body.len() + end.len());
     write_three(sink, b"Content-Length: ", length.as_bytes(), b"\r\n")?;
-    write_three(sink, b"Connection: close\r\n\r\n", body, end)
+    write_three(sink, last_lines(closes).as_bytes(), body, end)
 }
 
 // Writes a message whose body is in two pieces.
 fn write_message<O: Sink>(
     sink: &mut O,
     status: Status,
+    closes: bool,
     media_type: &str,
     body: &[u8],
     end: &[u8],
 ) -> Result<(), Failed>
     requires { length body.now + length end.now < 2 ^ 64 }
-    ensures { Writes O.written O.fault_count sink.old sink.new (spec.message status media_type.now (body.now ++ end.now)) result }
+    ensures { Writes (O.view sink.old) (O.view sink.new)
+        (spec.message status closes media_type.now (body.now ++ end.now)) result }
 {
     write_front(sink, status, media_type)?;
-    write_body(sink, body, end)
+    write_body(sink, closes, body, end)
 }
 
 // Writes a page, as HTML.
-fn write_page<O: Sink>(sink: &mut O, page: &[u8]) -> Result<(), Failed>
-    ensures { Writes O.written O.fault_count sink.old sink.new (spec.page_message page.now) result }
+fn write_page<O: Sink>(sink: &mut O, closes: bool, page: &[u8]) -> Result<(), Failed>
+    ensures { Writes (O.view sink.old) (O.view sink.new)
+        (spec.page_message closes page.now) result }
 {
-    write_message(sink, Status::Ok, "text/html", page, b"")
+    write_message(sink, Status::Ok, closes, "text/html", page, b"")
 }
 
 // Writes a word and a newline, as plain text.
-fn write_word<O: Sink>(sink: &mut O, status: Status, word: &str) -> Result<(), Failed>
-    ensures { Writes O.written O.fault_count sink.old sink.new
-        (spec.word_message status word.now) result }
+fn write_word<O: Sink>(sink: &mut O, status: Status, closes: bool, word: &str) -> Result<(), Failed>
+    ensures { Writes (O.view sink.old) (O.view sink.new)
+        (spec.word_message status closes word.now) result }
 {
-    write_message(sink, status, "text/plain", word.as_bytes(), b"\n")
+    write_message(sink, status, closes, "text/plain", word.as_bytes(), b"\n")
 }
 
 // Writes what the reply of a visit says.
-fn write_told<O: Sink>(sink: &mut O, reply: &Reply) -> Result<(), Failed>
-    ensures { Writes O.written O.fault_count sink.old sink.new
-        (spec.told_message (told reply.now)) result }
+fn write_told<O: Sink>(sink: &mut O, closes: bool, reply: &Reply) -> Result<(), Failed>
+    ensures { Writes (O.view sink.old) (O.view sink.new)
+        (spec.told_message closes (told reply.now)) result }
 {
     match Told::of(reply) {
-        Told::Page(page) => write_page(sink, page),
-        Told::Word(status, word) => write_word(sink, Status::from(status), word),
+        Told::Page(page) => write_page(sink, closes, page),
+        Told::Word(status, word) => write_word(sink, Status::from(status), closes, word),
     }
 }
 
 #[tactic(auto, unfolding(crate::specs::Reply::reply_text))]
-fn write_answer<O: Sink>(sink: &mut O, answer: &Answer) -> Result<(), Failed>
-    ensures { Writes O.written O.fault_count sink.old sink.new (spec.reply_text answer.now) result }
+fn write_answer<O: Sink>(sink: &mut O, closes: bool, answer: &Answer) -> Result<(), Failed>
+    ensures { Writes (O.view sink.old) (O.view sink.new)
+        (spec.reply_text answer.now closes) result }
 {
     match answer {
-        Answer::Reply(reply) => write_told(sink, reply),
-        Answer::Refused(refused) => write_word(sink, refused.status(), refused.word()),
+        Answer::Reply(reply) => write_told(sink, closes, reply),
+        Answer::Refused(refused) => write_word(sink, refused.status(), closes, refused.word()),
     }
 }
 
-/// Writes the answer, whole or as far as the sink takes it, and hands it on. It takes no memory.
-pub fn write_reply<O: Sink>(answer: &Answer, sink: &mut O) -> Result<(), Failed>
-    ensures ok { OnOk result (Appends (O.written sink.old) (O.written sink.new) (spec.reply_text answer.now)) }
-    ensures handed { OnOk result (HandsOn (O.written sink.new) (O.handed sink.new)) }
-    ensures part { AppendsPart (O.written sink.old) (O.written sink.new) (spec.reply_text answer.now) }
-    ensures cause { HasCause (O.fault_count sink.old) (O.fault_count sink.new) result }
+/// Writes the answer, whole or as far as the sink takes it, and hands it on. It says whether the connection is closed behind
+/// it. It takes no memory.
+pub fn write_reply<O: Sink>(answer: &Answer, closes: bool, sink: &mut O) -> Result<(), Failed>
+    ensures ok { OnOk result (Appends (O.view sink.old).written (O.view sink.new).written
+        (spec.reply_text answer.now closes)) }
+    ensures handed { OnOk result (HandsOn (O.view sink.new).written (O.view sink.new).handed) }
+    ensures part { AppendsPart (O.view sink.old).written (O.view sink.new).written
+        (spec.reply_text answer.now closes) }
+    ensures cause { HasCause (O.view sink.old).faults (O.view sink.new).faults result }
 {
-    write_answer(sink, answer)?;
+    write_answer(sink, closes, answer)?;
     sink.flush()
 }

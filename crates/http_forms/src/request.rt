@@ -1,25 +1,31 @@
-ghost use Rattle.std.specs.Prelude.{◌≡◌, IfOk, IfSome, ◌≤◌, length};
+ghost use Rattle.std.specs.Prelude.{◌≡◌, ◌≤◌, IfOk, length};
+ghost use Rattle.httparse.specs.Spans.{IsWithin};
 ghost use Rattle.http_forms.specs.Judged.{asked_of};
-ghost use Rattle.http_forms.specs.Head.{head_end};
+ghost use Rattle.http_forms.specs.Outcomes.{visit_in, Is, Tells};
+ghost use Rattle.http_forms.specs.Progress.{HasHead, Knows};
 ghost use Rattle.http_forms.specs.Request as spec;
 ghost use Rattle.http_forms.specs.Request.{Decides};
-ghost use Rattle.http_forms.specs.Outcomes.{visit_in, Is, Tells};
 
 use crate::answer::{answer_of, path_and_query};
-use crate::head::{MOST_HEAD, head_end};
+use crate::head::{MOST_HEAD, without_blank};
+use crate::progress::{Progress, ReadHead, RequestScanner};
 use crate::refused::{Refused, RequestFault};
-use crate::rows::{Asked, judge};
+use crate::rows::Asked;
 use page_names::{Target, parse_target};
 use script_value::Value;
 use std::alloc::{AllocError, Global};
 
-/// What a request asks for: what its path names, and its bindings.
+/// What a request asks for: what its path names, and its bindings; and how it stands among the bytes of its link.
 #[derive(Drop)]
 pub struct Request {
     /// What the path names, if it names anything.
     pub target: Option<Target>,
     /// The pairs of the query and of the body of a POST, in order.
     pub answer: Value,
+    /// How many bytes the request has, its head and its body.
+    pub length: usize,
+    /// Whether the connection closes behind it: its version is 1.0, or it says so.
+    pub closes: bool,
 }
 
 impl Request {
@@ -30,17 +36,10 @@ impl Request {
         Ok(Request {
             target: self.target,
             answer: self.answer.try_clone(alloc)?,
+            length: self.length,
+            closes: self.closes,
         })
     }
-}
-
-// The end of a head that is not too long.
-fn end_within(bytes: &[u8]) -> Option<usize>
-    ensures end { result ≡ spec.within_limit (head_end bytes.now) }
-    ensures inside { IfSome result (λ n. n ≤ length bytes.now) }
-{
-    let end = head_end(bytes)?;
-    if end <= MOST_HEAD { Some(end) } else { None }
 }
 
 // What so many bytes without the end of a head come to.
@@ -56,17 +55,70 @@ fn without_head(count: usize, ended: bool) -> Result<Option<Request>, RequestFau
     Ok(None)
 }
 
-// The request of a head that is not refused, with its whole body.
-fn request_for(alloc: Global, asked: &Asked<'_>, body: &[u8]) -> Result<Request, AllocError>
-    ensures { IfOk result (λ r. visit_in r ≡ spec.visit_of (asked_of asked.now) body.now) }
+// The request of so many bytes, by the lines of its head, what they ask for, and its whole body.
+fn request_for(
+    alloc: Global,
+    lines: &[u8],
+    asked: Asked,
+    count: usize,
+    body: &[u8],
+) -> Result<Request, AllocError>
+    requires { IsWithin (length lines.now) asked.target }
+    ensures { IfOk result (λ r.
+        visit_in r ≡ spec.visit_of count (asked_of lines.now asked) body.now) }
 {
-    let (path, query) = path_and_query(asked.target.as_bytes());
+    let (path, query) = path_and_query(asked.target.of(lines));
     let form: &[u8] = if asked.posts { body } else { &[] };
     let answer = answer_of(alloc, query, form)?;
     Ok(Request {
         target: parse_target(path),
         answer,
+        length: count,
+        closes: asked.closes,
     })
+}
+
+// What a head and the bytes behind it come to.
+fn with_head(
+    alloc: Global,
+    head: ReadHead,
+    bytes: &[u8],
+    ended: bool,
+) -> Result<Option<Request>, RequestFault>
+    requires { HasHead head bytes.now }
+    ensures { Tells result (Decides bytes.now ended) }
+{
+    let (front, behind) = bytes.split_at(head.end);
+    let size = head.asked.length as usize;
+    if size <= behind.len() {
+        let lines = without_blank(front);
+        let request = request_for(alloc, lines, head.asked, head.end + size, &behind[..size])?;
+        return Ok(Some(request));
+    }
+    if ended {
+        return Err(RequestFault::Refused(Refused::BadRequest));
+    }
+    Ok(None)
+}
+
+impl RequestScanner {
+    /// The request that the bytes are which were shown last, `ended` where the link has no more of them. `None` where it is
+    /// unfinished, so that more bytes are to be read.
+    pub fn request(
+        &self,
+        alloc: Global,
+        bytes: &[u8],
+        ended: bool,
+    ) -> Result<Option<Request>, RequestFault>
+        requires { Knows self.now bytes.now }
+        ensures { Tells result (Decides bytes.now ended) }
+    {
+        match self.progress {
+            Progress::Head(_) => without_head(bytes.len(), ended),
+            Progress::Body(head) => with_head(alloc, head, bytes, ended),
+            Progress::Refused(reason) => Err(RequestFault::Refused(reason)),
+        }
+    }
 }
 
 /// The request that the bytes read from a link are, `ended` where the link has no more of them. `None` where it is
@@ -79,17 +131,7 @@ fn request_for(alloc: Global, asked: &Asked<'_>, body: &[u8]) -> Result<Request,
 pub fn request_of(alloc: Global, bytes: &[u8], ended: bool) -> Result<Option<Request>, RequestFault>
     ensures { Tells result (Decides bytes.now ended) }
 {
-    let Some(end) = end_within(bytes) else {
-        return without_head(bytes.len(), ended);
-    };
-    let (head, behind) = bytes.split_at(end);
-    let asked = judge(head)?;
-    let length = asked.length as usize;
-    if length <= behind.len() {
-        return Ok(Some(request_for(alloc, &asked, &behind[..length])?));
-    }
-    if ended {
-        return Err(RequestFault::Refused(Refused::BadRequest));
-    }
-    Ok(None)
+    let mut scanner = RequestScanner::new();
+    let _ = scanner.wanted(bytes);
+    scanner.request(alloc, bytes, ended)
 }

@@ -1,17 +1,17 @@
-ghost use Rattle.std.specs.Prelude.{◌≡◌, ◌≤◌, ℕ, List, Some, map};
-ghost use Rattle.httparse.specs.Borrowed.{header_parts, HoldsRequest};
-ghost use Rattle.httparse.specs.Grammar.{RequestHead};
+ghost use Rattle.std.specs.Prelude.{◌≡◌, ◌≤◌, ℕ, List, All, IfOk, OnOk, bytes_eq, length, map};
+ghost use Rattle.httparse.specs.Spans.{IsWithin, IsHeaderWithin, header_bytes, span_bytes};
 ghost use Rattle.http_forms.specs.Fields as fields;
-ghost use Rattle.http_forms.specs.Head.{field_lines};
+ghost use Rattle.http_forms.specs.Head.{field_lines, without_blank};
 ghost use Rattle.http_forms.specs.Found.{IsFound};
 ghost use Rattle.http_forms.specs.Rows as spec;
-ghost use Rattle.http_forms.specs.Judged.{judged_of, JudgesBody, JudgesHeld, Measures};
+ghost use Rattle.http_forms.specs.Judged.{judged_of, JudgesBody, Measures};
 ghost use Rattle.http_forms.specs.Rows.{Reads, Judges};
 
-use crate::fields::{Found, announced, find, is_form};
-use crate::head::{field_lines, without_blank};
+use crate::fields::{Found, announced, find, is_form, says_close};
+use crate::head::{MOST_HEAD, field_lines, without_blank};
 use crate::refused::Refused;
-use httparse::{EMPTY_HEADER, Header, Request, Status};
+use httparse::Status;
+use httparse::spans::{EMPTY_HEADER_SPAN, HeaderSpan, Span, parse_request};
 
 /// The most field lines of a head.
 const MOST_FIELDS: usize = 64;
@@ -20,36 +20,49 @@ const MOST_FIELDS: usize = 64;
 const MOST_BODY: u32 = 65_536;
 
 /// What a head asks for that is not refused.
-#[derive(Clone, Copy)]
-pub(crate) struct Asked<'b> {
-    pub(crate) target: &'b str,
+#[derive(Clone, Copy, Debug, PartialEq, Eq)]
+pub(crate) struct Asked {
+    /// Where the target stands in the lines of the head.
+    pub(crate) target: Span,
     pub(crate) posts: bool,
     pub(crate) length: u32,
+    pub(crate) closes: bool,
 }
 
 fn is_one(found: Found<'_>) -> bool
-    ensures { (values : List (List ℕ)) → IsFound values found.entry → result ≡ fields.is_one values }
+    ensures { (values : List (List ℕ)) → IsFound values found.entry →
+        result ≡ fields.is_one values }
 {
     matches!(found, Found::Once(_))
 }
 
 fn is_none(found: Found<'_>) -> bool
-    ensures { (values : List (List ℕ)) → IsFound values found.entry → result ≡ fields.is_none values }
+    ensures { (values : List (List ℕ)) → IsFound values found.entry →
+        result ≡ fields.is_none values }
 {
     matches!(found, Found::Absent)
 }
 
-// The rows on the method, the length and the media type.
-fn body_verdict<'b>(
-    method: &str,
-    target: &'b str,
-    types: Found<'_>,
-    announced: Option<u32>,
-) -> Result<Asked<'b>, Refused>
-    ensures { JudgesBody method.now target.now types.entry announced result }
+// Whether both are the same.
+fn are_same(left: &[u8], right: &[u8]) -> bool
+    ensures { result ≡ bytes_eq left.now right.now }
 {
-    let posts = method == "POST";
-    if method != "GET" && !posts {
+    left == right
+}
+
+// The rows on the method, the length and the media type.
+fn body_verdict(
+    method: &[u8],
+    target: Span,
+    types: Found<'_>,
+    closes: bool,
+    announced: Option<u32>,
+) -> Result<Asked, Refused>
+    ensures judges { JudgesBody method.now target types.entry closes announced result }
+    ensures target { IfOk result (λ asked. asked.target ≡ target) }
+{
+    let posts = are_same(method, b"POST");
+    if !are_same(method, b"GET") && !posts {
         return Err(Refused::Method);
     }
     if posts && announced.is_none() {
@@ -66,53 +79,73 @@ fn body_verdict<'b>(
         target,
         posts,
         length,
+        closes,
     })
+}
+
+// Whether a head of version 1.1 has not exactly one Host.
+fn lacks_host(minor: u8, lines: &[u8], headers: &[HeaderSpan]) -> bool
+    requires { All (IsHeaderWithin (length lines.now)) headers.now }
+    ensures { result ≡ spec.lacks_host minor (map (header_bytes lines.now) headers.now) }
+{
+    minor == 1 && !is_one(find(lines, headers, "Host"))
+}
+
+// Whether the connection closes behind the request.
+fn closes_by(minor: u8, lines: &[u8], headers: &[HeaderSpan]) -> bool
+    requires { All (IsHeaderWithin (length lines.now)) headers.now }
+    ensures { result ≡ spec.closes_by minor (map (header_bytes lines.now) headers.now) }
+{
+    minor == 0 || says_close(lines, headers)
 }
 
 // The rows on the fields, and then those on the body.
 #[tactic(auto, using(crate::proofs::Verdicts::capped_verdict))]
-fn fields_verdict<'b>(
+fn fields_verdict(
     minor: u8,
-    method: &str,
-    target: &'b str,
-    headers: &[Header<'_>],
-) -> Result<Asked<'b>, Refused>
-    ensures { judged_of result ≡ spec.fields_verdict minor method.now target.now (map header_parts headers.now) }
+    method: &[u8],
+    target: Span,
+    lines: &[u8],
+    headers: &[HeaderSpan],
+) -> Result<Asked, Refused>
+    requires { All (IsHeaderWithin (length lines.now)) headers.now }
+    ensures judges { judged_of lines.now result ≡ spec.fields_verdict minor method.now
+        (span_bytes lines.now target)
+        (map (header_bytes lines.now) headers.now) }
+    ensures target { IfOk result (λ asked. asked.target ≡ target) }
 {
-    if minor == 1 && !is_one(find(headers, "Host")) {
+    if lacks_host(minor, lines, headers) {
         return Err(Refused::BadRequest);
     }
-    if !is_none(find(headers, "Transfer-Encoding")) {
+    if !is_none(find(lines, headers, "Transfer-Encoding")) {
         return Err(Refused::Chunked);
     }
-    let announced = announced(find(headers, "Content-Length"))?;
-    body_verdict(method, target, find(headers, "Content-Type"), announced)
-}
-
-fn parsed_verdict<'b>(request: &Request<'_, 'b>) -> Result<Asked<'b>, Refused>
-    ensures { JudgesHeld request.now result }
-{
-    match (request.method, request.path, request.version) {
-        (Some(method), Some(target), Some(minor)) => {
-            fields_verdict(minor, method, target, request.headers)
-        }
-        _ => Err(Refused::BadRequest),
-    }
+    let announced = announced(find(lines, headers, "Content-Length"))?;
+    let types = find(lines, headers, "Content-Type");
+    let closes = closes_by(minor, lines, headers);
+    body_verdict(method, target, types, closes, announced)
 }
 
 // The verdict on a head without empty lines before it.
-fn head_verdict(bytes: &[u8]) -> Result<Asked<'_>, Refused>
-    requires { field_lines bytes.now ≤ 64 }
-    ensures { Reads bytes.now (judged_of result) }
+fn head_verdict(lines: &[u8]) -> Result<Asked, Refused>
+    requires { field_lines lines.now ≤ 64 }
+    ensures reads { Reads lines.now (judged_of lines.now result) }
+    ensures within { IfOk result (λ asked. IsWithin (length lines.now) asked.target) }
 {
-    let mut room = [EMPTY_HEADER; MOST_FIELDS];
-    let mut request = Request::new(&mut room);
-    match request.parse(bytes) {
-        Ok(Status::Complete(len)) => {
-            if len != bytes.len() {
+    let mut room = [EMPTY_HEADER_SPAN; MOST_FIELDS];
+    match parse_request(lines, &mut room) {
+        Ok(Status::Complete(head)) => {
+            if head.len != lines.len() {
                 return Err(Refused::BadRequest);
             }
-            parsed_verdict(&request)
+            let method = head.method.of(lines);
+            fields_verdict(
+                head.version,
+                method,
+                head.path,
+                lines,
+                &room[..head.headers],
+            )
         }
         Ok(Status::Partial) => Err(Refused::BadRequest),
         Err(_) => Err(Refused::BadRequest),
@@ -120,11 +153,14 @@ fn head_verdict(bytes: &[u8]) -> Result<Asked<'_>, Refused>
 }
 
 /// What a whole head asks for, or the first row that refuses it.
-pub(crate) fn judge(head: &[u8]) -> Result<Asked<'_>, Refused>
-    ensures { Judges head.now (judged_of result) }
+pub(crate) fn judge(head: &[u8]) -> Result<Asked, Refused>
+    ensures judges { Judges head.now (judged_of (without_blank head.now) result) }
+    ensures within { IfOk result (λ asked.
+        IsWithin (length (without_blank head.now)) asked.target) }
+    ensures short { OnOk result (length head.now ≤ 16384) }
 {
     let lines = without_blank(head);
-    if field_lines(lines) > MOST_FIELDS {
+    if head.len() > MOST_HEAD || field_lines(lines) > MOST_FIELDS {
         return Err(Refused::Head);
     }
     head_verdict(lines)

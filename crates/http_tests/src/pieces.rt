@@ -1,5 +1,5 @@
 use crate::texts::outcome_text;
-use http_forms::{RequestScanner, head_end, request_of};
+use http_forms::{RequestScanner, head_end};
 use std::alloc::Global;
 use std::test::Fail;
 
@@ -9,16 +9,14 @@ fn asked(alloc: Global, bytes: &[u8], greatest: usize) -> Result<String, Fail> {
     let mut scanner = RequestScanner::new();
     let mut read = Vec::new(alloc);
     let mut left = bytes;
+    let mut wanted = scanner.wanted(&read);
     for _ in 0..bytes.len() {
-        let wanted = scanner.wanted(&read);
-        if wanted == 0 || left.is_empty() {
-            break;
-        }
         let (piece, behind) = left.split_at(wanted.min(greatest).min(left.len()));
         read.extend_from_slice(piece)?;
         left = behind;
+        wanted = scanner.wanted(&read);
     }
-    let told = outcome_text(alloc, request_of(alloc, &read, false))?;
+    let told = outcome_text(alloc, scanner.request(alloc, &read, false))?;
     let count = read.len();
     Ok(format!(in alloc; "{count}: {told}")?)
 }

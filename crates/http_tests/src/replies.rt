@@ -4,10 +4,10 @@ use std::alloc::Global;
 use std::test::Fail;
 use web_outside::{Sink, TextSink};
 
-// What is written of an answer with room for so many bytes, where these writes fail.
-fn sent(alloc: Global, answer: &Answer, room: usize, failing: &[u64]) -> Result<String, Fail> {
-    let mut sink = TextSink::new(alloc, room, failing.to_vec(alloc)?)?;
-    let whole = write_reply(answer, &mut sink).is_ok();
+// What is written of an answer, behind which the connection closes or not.
+fn sent(alloc: Global, answer: &Answer, closes: bool) -> Result<String, Fail> {
+    let mut sink = TextSink::new(alloc, 1_000, Vec::new(alloc))?;
+    let whole = write_reply(answer, closes, &mut sink).is_ok();
     let text = str::from_utf8(sink.bytes())?;
     let faults = sink.faults();
     let handed = sink.handed().len() == sink.bytes().len();
@@ -32,11 +32,13 @@ fn a_page_is_sent_as_html(rt: HostRuntime) -> Result<(), Fail> {
     ];
     for reply in &pages {
         let answer = Answer::Reply(reply.try_clone(alloc)?).try_clone(alloc)?;
-        let told = sent(alloc, &answer, 1_000, &[])?;
-        assert_eq!(rt;
-            told.as_str(),
-            "true 0 true HTTP/1.1 200 OK\r\nContent-Type: text/html; charset=utf-8\r\nContent-Length: 12\r\nConnection: close\r\n\r\n<p>12345</p>"
-        );
+        for (closes, word) in [(true, "close"), (false, "keep-alive")] {
+            let told = sent(alloc, &answer, closes)?;
+            let wanted = format!(in alloc;
+                "true 0 true HTTP/1.1 200 OK\r\nContent-Type: text/html; charset=utf-8\r\nContent-Length: 12\r\nConnection: {word}\r\n\r\n<p>12345</p>"
+            )?;
+            assert_eq!(rt; told.as_str(), wanted.as_str());
+        }
     }
     Ok(())
 }
@@ -123,7 +125,7 @@ fn what_is_no_page_is_sent_as_its_word(rt: HostRuntime) -> Result<(), Fail> {
     let alloc = rt.alloc();
     for (reply, status, word) in words() {
         let answer = Answer::Reply(reply);
-        let told = sent(alloc, &answer, 1_000, &[])?;
+        let told = sent(alloc, &answer, true)?;
         let wanted = refusal_text(alloc, status, "", word)?;
         assert_eq!(rt; told.as_str(), wanted.as_str());
     }
@@ -148,7 +150,7 @@ fn what_is_no_page_is_sent_as_its_word(rt: HostRuntime) -> Result<(), Fail> {
         ),
     ];
     for (refused, status, allow, word) in refusals {
-        let told = sent(alloc, &Answer::Refused(refused), 1_000, &[])?;
+        let told = sent(alloc, &Answer::Refused(refused), true)?;
         let wanted = refusal_text(alloc, status, allow, word)?;
         assert_eq!(rt; told.as_str(), wanted.as_str());
     }
@@ -161,7 +163,7 @@ fn tried(alloc: Global, room: usize, failing: &[u64], stuck: bool) -> Result<(bo
     if stuck {
         sink.stick();
     }
-    let whole = write_reply(&Answer::Refused(Refused::Head), &mut sink).is_ok();
+    let whole = write_reply(&Answer::Refused(Refused::Head), true, &mut sink).is_ok();
     Ok((whole, Bytes::new(sink.bytes().to_vec(alloc)?)))
 }
 

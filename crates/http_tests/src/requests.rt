@@ -295,6 +295,8 @@ fn a_query_and_a_body_are_one_answer(rt: HostRuntime) -> Result<(), Fail> {
         let request = Request {
             target: parse_target(path),
             answer: answer_of(alloc, query, body)?,
+            length: 0,
+            closes: true,
         };
         let told = request_text(alloc, &request.try_clone(alloc)?)?;
         assert_eq!(rt; told.as_str(), *wanted);
@@ -303,15 +305,65 @@ fn a_query_and_a_body_are_one_answer(rt: HostRuntime) -> Result<(), Fail> {
 }
 
 #[test]
-fn a_head_tells_the_length_of_its_body(rt: HostRuntime) {
+fn a_head_tells_the_length_of_its_body(rt: HostRuntime) -> Result<(), Fail> {
     assert_eq!(rt;
         body_length(b"GET / HTTP/1.0\nContent-Length: 65536\n\n"),
         Ok(65_536)
     );
     assert_eq!(rt; body_length(b"GET / HTTP/1.0\n\n"), Ok(0));
+    let longest = long_head(rt.alloc(), 16_384)?;
+    assert_eq!(rt; body_length(&longest), Ok(0));
+    let longer = long_head(rt.alloc(), 16_385)?;
+    assert_eq!(rt; body_length(&longer), Err(Refused::Head));
     assert_eq!(rt; body_length(b"GET / HTTP/1.0\n"), Err(Refused::BadRequest));
     assert_eq!(rt;
         body_length(b"GET / HTTP/1.0\n\n\n"),
         Err(Refused::BadRequest)
     );
+    Ok(())
+}
+
+// Requests, how many bytes they have, and whether the connection closes behind them.
+const CLOSINGS: &[(&[u8], usize, bool)] = &[
+    (b"GET / HTTP/1.0\n\nGET", 16, true),
+    (b"\r\nGET / HTTP/1.1\nHost: h\n\n", 26, false),
+    (b"GET / HTTP/1.1\nHost: h\nConnection: close\n\n", 42, true),
+    (
+        b"GET / HTTP/1.1\nHost: h\nconnection: keep-alive ,\tClose ,x\n\n",
+        58,
+        true,
+    ),
+    (
+        b"GET / HTTP/1.1\nHost: h\nConnection: closed\n\n",
+        43,
+        false,
+    ),
+    (
+        b"GET / HTTP/1.1\nHost: h\nConnection: a\nConnection: ,,close\n\n",
+        58,
+        true,
+    ),
+    (
+        b"GET / HTTP/1.1\nHost: h\nX: close\nConnection:\n\n",
+        45,
+        false,
+    ),
+    (
+        b"POST / HTTP/1.1\nHost: h\nContent-Length: 3\nContent-Type: application/x-www-form-urlencoded\n\nn=1&",
+        94,
+        false,
+    ),
+];
+
+#[test]
+fn a_request_tells_its_length_and_whether_it_closes(rt: HostRuntime) -> Result<(), Fail> {
+    let alloc = rt.alloc();
+    for (bytes, length, closes) in CLOSINGS {
+        let Ok(Some(request)) = request_of(alloc, bytes, false) else {
+            return Err(Fail::from("no request"));
+        };
+        assert_eq!(rt; request.length, *length, "{bytes:?}");
+        assert_eq!(rt; request.closes, *closes, "{bytes:?}");
+    }
+    Ok(())
 }

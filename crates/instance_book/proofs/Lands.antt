@@ -1,5 +1,5 @@
 -- What a prepared visit makes of a book is what the definitions make of it.
-use Rattle.std.proofs.Common.{◌≡◌, ◌∙◌, ap, sym, subst, ℕ, zero, suc, ◌+◌, ◌<◌, max, nat_le, List, [], ◌∷◌, length, slice_get, get_or, Option, Some, None, Result, Ok, Err, IfOk, IfErr, OnOk, refl, arith, true, false}
+use Rattle.std.proofs.Common.{◌≡◌, ◌∙◌, ap, sym, subst, ℕ, zero, suc, ◌+◌, ◌<◌, max, nat_le, List, [], ◌∷◌, length, slice_get, Option, Some, None, Result, Ok, Err, IfOk, IfErr, OnOk, refl, arith, true, false}
 use Rattle.std.proofs.lemmas.Bool.Decides.{nat_tests}
 use Rattle.std.proofs.lemmas.Option.{get_or_from_slice_get}
 use Rattle.script_value.specs.declared.outcome.Reply.{Reply}
@@ -14,7 +14,7 @@ use Rattle.replay_spec.specs.Eval.{Segment}
 use Rattle.replay_spec.specs.Book as spec
 use Rattle.replay_spec.specs.Book.{Instance, Book, instance_at, spend}
 use Rattle.replay_spec.specs.Rules.{Rules}
-use Rattle.replay_spec.specs.Change.{put_instance, mend, without, shown_by, done, fresh, root_by, opened_by}
+use Rattle.replay_spec.specs.Change.{put_instance, mend, without, shown_by, done, fresh, opened_by}
 use Rattle.replay_spec.specs.Admission.{Place}
 use Rattle.replay_spec.specs.Next.{start_visit, page_visit, url_for}
 use Rattle.replay_spec.specs.Step as step

@@ -1,5 +1,5 @@
 -- Things in the order of their numbers.
-use Rattle.std.proofs.Common.{◌≡◌, ◌∙◌, ap, sym, subst, ℕ, zero, suc, ◌<◌, ◌≤◌, ◌==◌, not, take, List, [], ◌∷◌, length, get_or, set, map, filter, Some, None, Result, Ok, Err, IsOk, is_ok, slice_get, refl, arith, Bool, true, if◌then◌else◌, IfNone}
+use Rattle.std.proofs.Common.{◌≡◌, ◌∙◌, ap, sym, subst, ℕ, zero, suc, ◌<◌, ◌≤◌, ◌==◌, not, take, List, [], ◌∷◌, length, get_or, set, filter, Some, None, Result, Ok, Err, IsOk, is_ok, slice_get, refl, arith, Bool, if◌then◌else◌, IfNone}
 use Rattle.std.specs.Result.{result_ok}
 use Rattle.std.specs.List.{AllByRecursion, insert, remove}
 use Rattle.std.proofs.lemmas.Bool.Decides.{nat_tests}

@@ -17,7 +17,7 @@ use Rattle.instance_book.specs.Views.{page_of, instance_of, book_of}
 use Rattle.instance_book.specs.Swept.{cells_in, cells_at}
 use Rattle.instance_book.specs.Places.{IsPlaced}
 use Rattle.instance_book.proofs.Orders.{Ascends, rises, ascends}
-use Rattle.instance_book.proofs.Lists.{got, within, first_at}
+use Rattle.instance_book.proofs.Lists.{within}
 
 -- what stands behind a reference that may be none
 copied : {A B : Type 0} (f : A → B) (r : Option (Bor A)) → option_map (λ v. f v.now) r ≡ option_map f (option_copied r)

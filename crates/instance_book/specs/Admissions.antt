@@ -1,8 +1,10 @@
 -- What the program's admissions stand for in the definitions.
-use Rattle.std.specs.Prelude.{◌≡◌, ℕ, List, Option, Some, None, slice_get, ⊤}
+use Rattle.std.specs.Prelude.{◌≡◌, ℕ, List, Option, Some, None, option_map, slice_get, ⊤}
+use Rattle.std.specs.Borrow.{Bor}
 use Rattle.script_value.specs.declared.outcome.Refusal.{Refusal}
 use Rattle.script_nodes.specs.Setup.{Named}
 use Rattle.script_nodes.specs.Views.{named_of, scripts_of}
+use Rattle.script_nodes.specs.declared.setup.NamedScript.{NamedScript}
 use Rattle.script_nodes.specs.declared.setup.Setup.{Setup}
 use Rattle.page_names.specs.Views.{name_of, target_of}
 use Rattle.page_names.specs.declared.names.PageName.{PageName}
@@ -10,13 +12,17 @@ use Rattle.page_names.specs.declared.names.ScriptName.{ScriptName}
 use Rattle.page_names.specs.declared.names.Target.{Target}
 use Rattle.replay_spec.specs.Book as book
 use Rattle.replay_spec.specs.Admission as spec
+use Rattle.replay_spec.specs.Next as next
+use Rattle.instance_book.specs.declared.numbered.Numbered.{Numbered}
+use Rattle.instance_book.specs.declared.page.KeptPage.{KeptPage}
+use Rattle.instance_book.specs.declared.instance.KeptInstance.{KeptInstance}
 use Rattle.instance_book.specs.declared.book.Book.{Book}
 use Rattle.instance_book.specs.declared.admission.Place.{Place}
 use Rattle.instance_book.specs.declared.admission.Admission.{Admission}
 use Rattle.instance_book.specs.declared.admission.Admission.TheVariants.{Begins, Resumes, Refused}
 use Rattle.instance_book.specs.declared.ticket.Ticket.{Ticket}
-use Rattle.instance_book.specs.Views.{page_of, instance_of, book_of}
-use Rattle.instance_book.specs.Fits.{FitsAs}
+use Rattle.instance_book.specs.Views.{page_of, instance_of, book_of, ticket_of}
+use Rattle.instance_book.specs.Fits.{IsFor, FitsStart, FitsAs}
 
 abbrev pub place_of : List Named → Place → spec.Place
 place_of scripts p = record { instance = instance_of scripts p.instance.now; page = page_of p.page.now }
@@ -30,6 +36,14 @@ admission_of scripts (Refused r) = spec.refused r
 abbrev pub HasItsScript : List Named → Place → Type 0
 HasItsScript scripts p = slice_get scripts p.instance.now.item.script ≡ Some (named_of p.script.now)
 
+-- why the page of this instance can't be answered
+abbrev pub IsWhyNot : (clock : ℕ) → Numbered KeptInstance → Numbered KeptPage → Option Refusal → Type 0
+IsWhyNot clock i p r = (scripts : List Named) → r ≡ spec.why_not clock (instance_of scripts i) (page_of p)
+
+-- the script that stands there
+abbrev pub named_if : Option (Bor NamedScript) → Option Named
+named_if s = option_map (λ n. named_of n.now) s
+
 -- the book under this setup; admission looks at neither a journal nor a doubt
 abbrev pub book_under : Setup → Book → book.Book
 book_under setup b = book_of (scripts_of setup) 0 None b
@@ -38,12 +52,35 @@ book_under setup b = book_of (scripts_of setup) 0 None b
 abbrev pub place_for : Setup → Book → ScriptName → PageName → Option spec.Place
 place_for setup b name page = spec.place_at (book_under setup b) (name_of name) page
 
+abbrev pub IsPlaceAt : Setup → Book → ScriptName → PageName → Option Place → Type 0
+IsPlaceAt setup b name page p = option_map (place_of (scripts_of setup)) p ≡ place_for setup b name page
+
 -- what a target is admitted as in the book, and why it is not
 abbrev pub admission_for : Setup → Book → Target → spec.Admission
 admission_for setup b target = spec.admit (book_under setup b) (target_of target)
 
 abbrev pub refusal_for : Setup → Book → Target → Option Refusal
 refusal_for setup b target = spec.refusal_of (admission_for setup b target)
+
+abbrev pub IsAdmittedAs : Setup → Book → Target → Admission → Type 0
+IsAdmittedAs setup b target a = admission_of (scripts_of setup) a ≡ admission_for setup b target
+
+-- what a start of this script is admitted as, in each book
+abbrev pub IsStartOf : Setup → ScriptName → Admission → Type 0
+IsStartOf setup name a =
+    admission_of (scripts_of setup) a ≡ spec.started (spec.script_named (name_of name) (scripts_of setup))
+
+-- the ticket has the cells that its segment begins with
+abbrev pub HasCellsBy : spec.Admission → Ticket → Type 0
+HasCellsBy a t = t.cells ≡ next.cells_by a
+
+-- the ticket is for a start of the script of this place, or for an answer to the page of this place
+abbrev pub FitsStartIn : Setup → Book → (place : ℕ) → Named → Ticket → Type 0
+FitsStartIn setup b place s t = FitsStart (scripts_of setup) (book_under setup b) t place s
+
+abbrev pub FitsPlace : Setup → Book → Place → Ticket → Type 0
+FitsPlace setup b place t =
+    IsFor (scripts_of setup) t (next.page_visit (book_under setup b) (ticket_of t) (place_of (scripts_of setup) place))
 
 -- where the target is admitted in the book, the ticket is for the visit
 abbrev pub FitsIn : Setup → Book → Target → Ticket → Type 0

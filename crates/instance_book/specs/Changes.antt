@@ -1,5 +1,5 @@
 -- What a prepared visit makes of the book.
-use Rattle.std.specs.Prelude.{◌≡◌, ◌+◌, ◌^◌, ◌<◌, ℕ, max, List, [], ◌∷◌, map, length, Option, Some, None, ⊤}
+use Rattle.std.specs.Prelude.{◌≡◌, ◌+◌, ◌^◌, ◌<◌, ℕ, max, List, map, length, Option, Some, None, ⊤}
 use Rattle.script_value.specs.Views.{meaning}
 use Rattle.script_value.specs.declared.outcome.TxName.{TxName}
 use Rattle.script_nodes.specs.Setup.{Named}
@@ -8,6 +8,7 @@ use Rattle.replay_spec.specs.Book as spec
 use Rattle.replay_spec.specs.Change.{put_page, put_instance, mend, without}
 use Rattle.replay_spec.specs.Step as step
 use Rattle.replay_spec.specs.Step.{Decision, replies, records}
+use Rattle.instance_book.specs.declared.numbered.Numbered.{Numbered}
 use Rattle.instance_book.specs.declared.in_order.InOrder.{InOrder}
 use Rattle.instance_book.specs.declared.instance.KeptInstance.{KeptInstance}
 use Rattle.instance_book.specs.declared.after.After.{After}
@@ -22,7 +23,8 @@ use Rattle.instance_book.specs.declared.prepared.Prepared.{Prepared}
 use Rattle.instance_book.specs.declared.book.Book.{Book}
 use Rattle.instance_book.specs.Orders.{numbers_of}
 use Rattle.instance_book.specs.Lists.{HasRoom}
-use Rattle.instance_book.specs.Views.{page_of, script_in, instance_with, reply_of, HasRoomAt}
+use Rattle.instance_book.specs.Views.{page_of, instance_with, instance_of, reply_of, HasRoomAt}
+use Rattle.instance_book.specs.Makes.{HasPlaces}
 
 -- the one that came anew, or else what there is
 abbrev pub renewed : {A : Type 0} → A → Option A → A
@@ -118,6 +120,9 @@ abbrev pub begun_with : List Named → Opening → spec.Instance
 begun_with scripts o =
     let i = instance_with scripts o.page.number o.instance in record i { pages = put_page (page_of o.page) i.pages }
 
+abbrev pub BeginsWith : Opening → Numbered KeptInstance → Type 0
+BeginsWith o i = (scripts : List Named) → instance_of scripts i ≡ begun_with scripts o
+
 abbrev pub instances_with : List Named → Change → List spec.Instance → List spec.Instance
 instances_with scripts (Opens o) is = put_instance (begun_with scripts o) is
 instances_with scripts (Extends x) is = mend x.instance (shown_with x.show) is
@@ -160,3 +165,7 @@ OpensPlaced scripts _ = ⊤
 abbrev pub IsPlacedBy : List Named → Option Change → Type 0
 IsPlacedBy scripts None = ⊤
 IsPlacedBy scripts (Some c) = OpensPlaced scripts c
+
+-- where the change's new instance is of a script of the setup too, each goes on to be
+abbrev pub KeepsPlacesBy : Option Change → (old new : Book) → Type 0
+KeepsPlacesBy c old new = (scripts : List Named) → IsPlacedBy scripts c → HasPlaces scripts old → HasPlaces scripts new

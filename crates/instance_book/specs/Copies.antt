@@ -1,16 +1,16 @@
 -- Copies of what is prepared.
-use Rattle.std.specs.Prelude.{◌≡◌, ℕ, List, Option}
+use Rattle.std.specs.Prelude.{◌≡◌, ℕ, List}
 use Rattle.script_nodes.specs.Setup.{Named}
 use Rattle.replay_spec.specs.Book as spec
-use Rattle.instance_book.specs.declared.in_order.InOrder.{InOrder}
 use Rattle.instance_book.specs.declared.instance.KeptInstance.{KeptInstance}
 use Rattle.instance_book.specs.declared.after.Show.{Show}
+use Rattle.instance_book.specs.declared.prepared.Opening.{Opening}
 use Rattle.instance_book.specs.declared.prepared.Extension.{Extension}
 use Rattle.instance_book.specs.declared.prepared.Prepared.{Prepared}
 use Rattle.instance_book.specs.declared.prepared.Change.{Change}
 use Rattle.instance_book.specs.declared.book.Book.{Book}
-use Rattle.instance_book.specs.Views.{page_of, pages_of, instance_with}
-use Rattle.instance_book.specs.Changes.{shown_with, extension_of, change_of, inside_of, decision_of, instances_after, HasRoomWith, HasRoomFor, OpensPlaced, IsPlacedBy, instances_with}
+use Rattle.instance_book.specs.Views.{page_of, instance_with}
+use Rattle.instance_book.specs.Changes.{shown_with, extension_of, begun_with, change_of, inside_of, decision_of, instances_after, HasRoomWith, HasRoomFor, OpensPlaced, IsPlacedBy, instances_with}
 
 -- the same instance under each number and setup
 abbrev pub IsSameInstance : (i copy : KeptInstance) → Type 0
@@ -20,6 +20,10 @@ IsSameInstance i copy = (scripts : List Named) (n : ℕ) → instance_with scrip
 pub record IsSameShow (s copy : Show) : Type 0 where
   pub page : page_of copy.page ≡ page_of s.page
   pub made : (i : spec.Instance) → shown_with copy i ≡ shown_with s i
+
+-- the instance that begins is the same
+abbrev pub BeginsAlike : (o copy : Opening) → Type 0
+BeginsAlike o copy = (scripts : List Named) → begun_with scripts copy ≡ begun_with scripts o
 
 -- the same record, and the same is made of each instance
 pub record IsSameExtension (x copy : Extension) : Type 0 where

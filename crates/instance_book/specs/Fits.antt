@@ -3,17 +3,17 @@ use Rattle.std.specs.Prelude.{◌≡◌, ℕ, List, map, Some, slice_get, ⊤}
 use Rattle.script_value.specs.Views.{meaning}
 use Rattle.script_nodes.specs.Setup.{Named}
 use Rattle.segments.specs.Views.{answer_of}
-use Rattle.segments.specs.declared.tape.Answer as recorded
+use Rattle.segments.specs.declared.tape.Answer as kept
 use Rattle.replay_spec.specs.Tape.{Reads, Answer, Tape, tape_behind}
 use Rattle.replay_spec.specs.Book as spec
-use Rattle.replay_spec.specs.Admission.{Place, Admission, begins, resumes, refused}
+use Rattle.replay_spec.specs.Admission.{Admission, begins, resumes, refused}
 use Rattle.replay_spec.specs.Next.{Visit, url_for, home_of, answered, start_visit, page_visit}
 use Rattle.instance_book.specs.declared.ticket.Ticket.{Ticket}
 use Rattle.instance_book.specs.Views.{ticket_of}
 
 -- What a ticket goes on from is this past: the answers behind which it runs, each with the segment that ran behind it. It is
 -- kept as the answers, with what their segments read.
-abbrev pub GoesOnFrom : List recorded.Answer → List Answer → Type 0
+abbrev pub GoesOnFrom : List kept.Answer → List Answer → Type 0
 GoesOnFrom from past = map answer_of from ≡ past
 
 -- the ticket's segment, whose reads come from there, behind its answer; and its tape behind this past

@@ -1,19 +1,47 @@
--- What a call makes of a book.
-use Rattle.std.specs.Prelude.{◌≡◌, ℕ, List, Option}
+-- What a call makes of a book, and of a list of instances.
+use Rattle.std.specs.Prelude.{◌≡◌, ℕ, List, length, Option, option_map, IfSome}
+use Rattle.std.specs.Borrow.{Bor}
 use Rattle.script_nodes.specs.Setup.{Named}
 use Rattle.replay_spec.specs.Book as spec
+use Rattle.replay_spec.specs.Change.{put_instance}
+use Rattle.instance_book.specs.declared.numbered.Numbered.{Numbered}
+use Rattle.instance_book.specs.declared.in_order.InOrder.{InOrder}
+use Rattle.instance_book.specs.declared.instance.KeptInstance.{KeptInstance}
 use Rattle.instance_book.specs.declared.book.Book.{Book}
-use Rattle.instance_book.specs.Views.{book_of}
-use Rattle.instance_book.specs.Places.{ArePlaced, StayPlaced}
+use Rattle.instance_book.specs.Views.{instance_of, instances_of, book_of}
+use Rattle.instance_book.specs.Places.{IsPlaced, ArePlaced, StayPlaced}
 
--- whatever the setup, the length of the journal and what is in doubt, of the one book this was made
+-- whatever the setup, of the one list this was made
+abbrev pub AllBecome : (List spec.Instance → List spec.Instance) → (old new : InOrder KeptInstance) → Type 0
+AllBecome f old new = (scripts : List Named) → instances_of scripts new ≡ f (instances_of scripts old)
+
+abbrev pub PutsInstance : Numbered KeptInstance → (old new : InOrder KeptInstance) → Type 0
+PutsInstance i old new =
+    (scripts : List Named) → instances_of scripts new ≡ put_instance (instance_of scripts i) (instances_of scripts old)
+
+-- the instance of a number, which is of a script of the setup where each is
+abbrev pub IsInstanceAt : ℕ → InOrder KeptInstance → Option (Bor (Numbered KeptInstance)) → Type 0
+IsInstanceAt n is i =
+    (scripts : List Named) → option_map (λ x. instance_of scripts x.now) i ≡ spec.instance_at n (instances_of scripts is)
+
+abbrev pub IsPlacedAmong : InOrder KeptInstance → Option (Bor (Numbered KeptInstance)) → Type 0
+IsPlacedAmong is i = (scripts : List Named) → ArePlaced scripts is → IfSome i (λ x. IsPlaced scripts x.now)
+
+-- Whatever the setup, the length of the journal and what is in doubt, of the one book this was made, under that setup.
+abbrev pub MakesUnder : (List Named → spec.Book → spec.Book) → (old new : Book) → Type 0
+MakesUnder f old new =
+    (scripts : List Named) (journal : ℕ) (down : Option spec.Doubt)
+    → book_of scripts journal down new ≡ f scripts (book_of scripts journal down old)
+
 abbrev pub Makes : (spec.Book → spec.Book) → (old new : Book) → Type 0
-Makes f old new =
-    (scripts : List Named) (length : ℕ) (down : Option spec.Doubt)
-    → book_of scripts length down new ≡ f (book_of scripts length down old)
+Makes f old new = MakesUnder (λ scripts. f) old new
 
 abbrev pub StaysSame : (old new : Book) → Type 0
 StaysSame old new = Makes (λ b. b) old new
+
+-- how many instances there are
+abbrev pub count_of : Book → ℕ
+count_of b = length b.instances.things.items
 
 -- each instance is of a script of the setup; and goes on to be
 abbrev pub HasPlaces : List Named → Book → Type 0

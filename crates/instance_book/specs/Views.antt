@@ -1,5 +1,5 @@
 -- What the program's book stands for in the definitions.
-use Rattle.std.specs.Prelude.{◌≡◌, ℕ, List, [], map, get_or, Option, Some, None}
+use Rattle.std.specs.Prelude.{◌≡◌, ℕ, List, [], map, get_or, Option, Some}
 use Rattle.script_value.specs.Val.{list, no_vals}
 use Rattle.script_value.specs.Views.{meaning}
 use Rattle.script_value.specs.declared.outcome.Reply.{Reply}
@@ -81,6 +81,9 @@ ticket_of t = record { target = target_of t.target; answer = meaning t.answer; n
 abbrev pub ticket_for : Target → Value → (number nonce : ℕ) → next.Ticket
 ticket_for target answer number nonce =
     record { target = target_of target; answer = meaning answer; number = number; nonce = nonce }
+
+abbrev pub IsTicketFor : Target → Value → (number nonce : ℕ) → Ticket → Type 0
+IsTicketFor target answer number nonce t = ticket_of t ≡ ticket_for target answer number nonce
 
 -- there is room for one page more in the instance of a number
 abbrev pub HasRoomAt : ℕ → InOrder KeptInstance → Type 0

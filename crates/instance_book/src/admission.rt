@@ -7,7 +7,7 @@ ghost use Rattle.replay_spec.specs.Names.{first_closed};
 ghost use Rattle.instance_book.specs.Views.{instance_of, page_of};
 ghost use Rattle.instance_book.specs.Places.{IsPlaced};
 ghost use Rattle.instance_book.specs.Makes.{HasPlaces};
-ghost use Rattle.instance_book.specs.Admissions.{admission_of, admission_for, place_of, place_for, HasItsScript, ResumesItsScript};
+ghost use Rattle.instance_book.specs.Admissions.{IsWhyNot, named_if, IsPlaceAt, IsStartOf, IsAdmittedAs, HasItsScript, ResumesItsScript};
 
 use crate::book::Book;
 use crate::instance::KeptInstance;
@@ -58,7 +58,7 @@ fn why_not(
     instance: &Numbered<KeptInstance>,
     page: &Numbered<KeptPage>,
 ) -> Option<Refusal>
-    ensures { (scripts : List Named) → result ≡ spec.why_not clock (instance_of scripts instance.now) (page_of page.now) }
+    ensures { IsWhyNot clock instance.now page.now result }
 {
     if instance.item.revoked.has(page.number) {
         return Some(Refusal::Revoked);
@@ -75,8 +75,8 @@ fn why_not(
 // The script of an instance, which is one of the setup.
 fn script_of<'a>(setup: &'a Setup, instance: &Numbered<KeptInstance>) -> Option<&'a NamedScript>
     requires { IsPlaced (scripts_of setup.now) instance.now }
-    ensures script { option_map (λ s. named_of s.now) result ≡ slice_get (scripts_of setup.now) instance.now.item.script }
-    ensures its { option_map (λ s. named_of s.now) result ≡ Some (instance_of (scripts_of setup.now) instance.now).script }
+    ensures script { named_if result ≡ slice_get (scripts_of setup.now) instance.now.item.script }
+    ensures its { named_if result ≡ Some (instance_of (scripts_of setup.now) instance.now).script }
 {
     setup.get(instance.item.script)
 }
@@ -89,7 +89,7 @@ fn place_at<'a>(
     page: &PageName,
 ) -> Option<Place<'a>>
     requires { HasPlaces (scripts_of setup.now) book.now }
-    ensures place { option_map (place_of (scripts_of setup.now)) result ≡ place_for setup.now book.now name.now page.now }
+    ensures place { IsPlaceAt setup.now book.now name.now page.now result }
     ensures script { IfSome result (HasItsScript (scripts_of setup.now)) }
 {
     let instance = book.instances.instance(page.instance)?;
@@ -110,7 +110,7 @@ fn place_at<'a>(
 
 // What a start is admitted as.
 fn admission_of_start<'a>(setup: &'a Setup, name: &ScriptName) -> Admission<'a>
-    ensures admission { admission_of (scripts_of setup.now) result ≡ spec.started (spec.script_named (name_of name.now) (scripts_of setup.now)) }
+    ensures admission { IsStartOf setup.now name.now result }
     ensures script { ResumesItsScript (scripts_of setup.now) result }
 {
     let Some(place) = setup.place(name) else {
@@ -130,7 +130,7 @@ fn admission_of_page<'a>(
     page: &PageName,
 ) -> Admission<'a>
     requires { HasPlaces (scripts_of setup.now) book.now }
-    ensures admission { admission_of (scripts_of setup.now) result ≡ admission_for setup.now book.now (Target.Page name.now page.now) }
+    ensures admission { IsAdmittedAs setup.now book.now (Target.Page name.now page.now) result }
     ensures script { ResumesItsScript (scripts_of setup.now) result }
 {
     let Some(place) = place_at(book, setup, name, page) else {
@@ -145,7 +145,7 @@ fn admission_of_page<'a>(
 /// What a target is admitted as.
 pub fn admission_to<'a>(book: &'a Book, setup: &'a Setup, target: &Target) -> Admission<'a>
     requires { HasPlaces (scripts_of setup.now) book.now }
-    ensures admission { admission_of (scripts_of setup.now) result ≡ admission_for setup.now book.now target.now }
+    ensures admission { IsAdmittedAs setup.now book.now target.now result }
     ensures script { ResumesItsScript (scripts_of setup.now) result }
 {
     match target {

@@ -2,13 +2,10 @@ ghost use Rattle.std.specs.Prelude.{◌≡◌, ◌<◌, ◌^◌, List, ℕ, Opti
 ghost use Rattle.script_nodes.specs.Setup.{Named};
 ghost use Rattle.script_nodes.specs.Views.{named_of, scripts_of};
 ghost use Rattle.replay_spec.specs.Book as spec;
-ghost use Rattle.replay_spec.specs.Rules.{Rules, empty_book};
-ghost use Rattle.replay_spec.specs.Next.{cells_by, start_visit, page_visit};
-ghost use Rattle.instance_book.specs.Views.{book_of, ticket_of, ticket_for};
-ghost use Rattle.instance_book.specs.Makes.{Makes, StaysSame, HasPlaces, KeepsPlaces};
-ghost use Rattle.instance_book.specs.Fits.{IsFor, FitsStart};
-ghost use Rattle.instance_book.specs.Admissions.{place_of, HasItsScript, book_under, admission_for, refusal_for, FitsIn};
-ghost use Rattle.instance_book.specs.Swept.{swept, cells_in, cells_at, IsEmpty};
+ghost use Rattle.instance_book.specs.Views.{IsTicketFor};
+ghost use Rattle.instance_book.specs.Makes.{count_of, Makes, StaysSame, HasPlaces, KeepsPlaces};
+ghost use Rattle.instance_book.specs.Admissions.{HasItsScript, HasCellsBy, FitsStartIn, FitsPlace, admission_for, refusal_for, FitsIn};
+ghost use Rattle.instance_book.specs.Swept.{swept, cells_at, IsEmpty};
 
 use crate::admission::{Admission, Place, admission_to};
 use crate::book::Book;
@@ -61,7 +58,7 @@ impl Book {
 
     /// How many live instances there are.
     pub fn live(&self) -> u32
-        ensures { result ≡ length self.now.instances.things.items }
+        ensures { result ≡ count_of self.now }
     {
         self.instances.len() as u32
     }
@@ -99,8 +96,8 @@ impl Book {
         nonce: u64,
     ) -> Result<Ticket, AllocError>
         requires { slice_get (scripts_of setup.now) place ≡ Some (named_of script.now) }
-        ensures ticket { IfOk result (λ t. ticket_of t ≡ ticket_for target.now answer number nonce) }
-        ensures fits { IfOk result (λ t. FitsStart (scripts_of setup.now) (book_under setup.now self.now) t place (named_of script.now)) }
+        ensures ticket { IfOk result (IsTicketFor target.now answer number nonce) }
+        ensures fits { IfOk result (FitsStartIn setup.now self.now place (named_of script.now)) }
     {
         let home = Home {
             name: script.name,
@@ -131,8 +128,8 @@ impl Book {
         nonce: u64,
     ) -> Result<Ticket, AllocError>
         requires { HasItsScript (scripts_of setup.now) place }
-        ensures ticket { IfOk result (λ t. ticket_of t ≡ ticket_for target.now answer number nonce) }
-        ensures fits { IfOk result (λ t. IsFor (scripts_of setup.now) t (page_visit (book_under setup.now self.now) (ticket_of t) (place_of (scripts_of setup.now) place.entry))) }
+        ensures ticket { IfOk result (IsTicketFor target.now answer number nonce) }
+        ensures fits { IfOk result (FitsPlace setup.now self.now place.entry) }
         ensures cells { IfOk result (λ t. t.cells ≡ place.entry.instance.now.item.cells) }
     {
         let home = Home {
@@ -164,9 +161,9 @@ impl Book {
         nonce: u64,
     ) -> Result<Ticket, AllocError>
         requires { HasPlaces (scripts_of setup.now) self.now }
-        ensures ticket { IfOk result (λ t. ticket_of t ≡ ticket_for target.now answer number nonce) }
+        ensures ticket { IfOk result (IsTicketFor target.now answer number nonce) }
         ensures fits { IfOk result (FitsIn setup.now self.now target.now) }
-        ensures cells { IfOk result (λ t. t.cells ≡ cells_by (admission_for setup.now self.now target.now)) }
+        ensures cells { IfOk result (HasCellsBy (admission_for setup.now self.now target.now)) }
     {
         match admission_to(self, setup, target) {
             Admission::Begins { place, script } => {
@@ -194,9 +191,9 @@ impl Book {
         requires numbers { self.old.drawn < 2 ^ 62 }
         requires placed { HasPlaces (scripts_of setup.now) self.old }
         ensures drawn { OnOk result (Makes spec.draw self.old self.new) }
-        ensures ticket { IfOk result (λ t. ticket_of t ≡ ticket_for target.now answer self.old.drawn nonce) }
+        ensures ticket { IfOk result (IsTicketFor target.now answer self.old.drawn nonce) }
         ensures fits { IfOk result (FitsIn setup.now self.old target.now) }
-        ensures cells { IfOk result (λ t. t.cells ≡ cells_by (admission_for setup.now self.old target.now)) }
+        ensures cells { IfOk result (HasCellsBy (admission_for setup.now self.old target.now)) }
         ensures err { OnErr result (StaysSame self.old self.new) }
         ensures placed { KeepsPlaces self.old self.new }
     {
@@ -221,7 +218,7 @@ impl Book {
         requires later { self.old.clock < tick }
         requires low { tick < 2 ^ 62 }
         ensures book { Makes (swept tick) self.old self.new }
-        ensures count { result ≡ length self.old.instances.things.items - length self.new.instances.things.items }
+        ensures count { result ≡ count_of self.old - count_of self.new }
         ensures placed { KeepsPlaces self.old self.new }
     {
         let before = self.instances.len();

@@ -4,14 +4,14 @@ ghost use Rattle.segments.specs.Views.{answer_of};
 ghost use Rattle.replay_spec.specs.Book as spec;
 ghost use Rattle.replay_spec.specs.Next as next;
 ghost use Rattle.instance_book.specs.Views.{page_of, pages_of};
-ghost use Rattle.instance_book.specs.Chains.{home_of, link_of, chain_in, past_behind};
+ghost use Rattle.instance_book.specs.Chains.{home_of, link_of, IsAnswered, IsPastBehind, IsChain};
 
 use crate::in_order::InOrder;
 use crate::numbered::Numbered;
 use crate::page::KeptPage;
 use page_names::{PageName, ScriptName, url_text};
-use segments::Answer;
 use script_value::Str;
+use segments::Answer;
 use std::alloc::{AllocError, Global};
 
 /// What the URLs of an instance's pages share.
@@ -38,7 +38,7 @@ impl Home {
 
     // The answer behind which a page was shown, with the page's segment.
     fn answered(&self, alloc: Global, page: &Numbered<KeptPage>) -> Result<Answer, AllocError>
-        ensures { IfOk result (λ a. answer_of a ≡ next.answered (home_of self.now) (page_of page.now)) }
+        ensures { IfOk result (IsAnswered self.now page.now) }
     {
         Ok(Answer {
             value: page.item.answer.try_clone(alloc)?,
@@ -55,7 +55,7 @@ impl Home {
         pages: &InOrder<KeptPage>,
         page: &Numbered<KeptPage>,
     ) -> Result<Vec<Answer>, AllocError>
-        ensures { IfOk result (λ past. map answer_of past.items ≡ past_behind self.now pages.now page.now) }
+        ensures { IfOk result (λ past. IsPastBehind self.now pages.now page.now past.items) }
     {
         let mut links = chain_of(alloc, pages, page)?;
         let mut past = Vec::new(alloc);
@@ -80,7 +80,7 @@ fn chain_of<'a>(
     pages: &'a InOrder<KeptPage>,
     page: &'a Numbered<KeptPage>,
 ) -> Result<Vec<&'a Numbered<KeptPage>>, AllocError>
-    ensures { IfOk result (λ links. chain_in pages.now page.now ≡ reverse (map link_of links.items)) }
+    ensures { IfOk result (λ links. IsChain pages.now page.now links.items) }
 {
     let mut links = Vec::new(alloc);
     let mut next = Some(page);

@@ -1,12 +1,10 @@
-ghost use Rattle.std.specs.Prelude.{◌≡◌, List, ℕ, Option, IfOk};
-ghost use Rattle.script_nodes.specs.Setup.{Named};
-ghost use Rattle.replay_spec.specs.Book.{Doubt};
+ghost use Rattle.std.specs.Prelude.{◌≡◌, IfOk};
 ghost use Rattle.instance_book.specs.Lists.{HasRoom};
-ghost use Rattle.instance_book.specs.Views.{page_of, pages_of, instance_of, instances_of, book_of};
+ghost use Rattle.instance_book.specs.Views.{page_of, pages_of};
 ghost use Rattle.instance_book.specs.Places.{StayPlaced};
-ghost use Rattle.instance_book.specs.Makes.{KeepsPlaces};
-ghost use Rattle.instance_book.specs.Changes.{opening_of, ending_of, finish_of, begun_with};
-ghost use Rattle.instance_book.specs.Copies.{IsSameInstance, IsSameShow, IsSameExtension, IsSameChange, IsSame};
+ghost use Rattle.instance_book.specs.Makes.{AllBecome, StaysSame, KeepsPlaces};
+ghost use Rattle.instance_book.specs.Changes.{opening_of, ending_of, finish_of};
+ghost use Rattle.instance_book.specs.Copies.{IsSameInstance, BeginsAlike, IsSameShow, IsSameExtension, IsSameChange, IsSame};
 
 use crate::after::{After, Show};
 use crate::book::Book;
@@ -69,7 +67,7 @@ impl KeptInstance {
 impl InOrder<KeptInstance> {
     /// A copy, equal to its source.
     pub fn try_clone(&self, alloc: Global) -> Result<InOrder<KeptInstance>, AllocError>
-        ensures instances { IfOk result (λ copy. (scripts : List Named) → instances_of scripts copy ≡ instances_of scripts self.now) }
+        ensures instances { IfOk result (AllBecome (λ is. is) self.now) }
         ensures placed { IfOk result (StayPlaced self.now) }
     {
         let mut things = Vec::new(alloc);
@@ -121,7 +119,7 @@ impl Opening {
     pub fn try_clone(&self, alloc: Global) -> Result<Opening, AllocError>
         ensures opening { IfOk result (λ copy. opening_of copy ≡ opening_of self.now) }
         ensures page { IfOk result (λ copy. page_of copy.page ≡ page_of self.now.page) }
-        ensures begun { IfOk result (λ copy. (scripts : List Named) → begun_with scripts copy ≡ begun_with scripts self.now) }
+        ensures begun { IfOk result (BeginsAlike self.now) }
         ensures room { IfOk result (λ copy. HasRoom copy.instance.pages) }
     {
         let mut instance = self.instance.try_clone(alloc)?;
@@ -223,7 +221,7 @@ impl Prepared {
 impl Book {
     /// A copy, equal to its source.
     pub fn try_clone(&self, alloc: Global) -> Result<Book, AllocError>
-        ensures book { IfOk result (λ copy. (scripts : List Named) (journal : ℕ) (down : Option Doubt) → book_of scripts journal down copy ≡ book_of scripts journal down self.now) }
+        ensures book { IfOk result (StaysSame self.now) }
         ensures placed { IfOk result (KeepsPlaces self.now) }
     {
         let instances = self.instances.try_clone(alloc)?;

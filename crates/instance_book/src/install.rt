@@ -1,10 +1,6 @@
-ghost use Rattle.std.specs.Prelude.{◌≡◌, List, ℕ, Option, Some, Bool};
-ghost use Rattle.script_nodes.specs.Setup.{Named};
-ghost use Rattle.replay_spec.specs.Book.{Doubt};
-ghost use Rattle.instance_book.specs.Views.{book_of};
-ghost use Rattle.instance_book.specs.Places.{ArePlaced};
-ghost use Rattle.instance_book.specs.Makes.{HasPlaces};
-ghost use Rattle.instance_book.specs.Changes.{begun_with, changed_by, put_into, HasRoomFor, IsPlacedBy};
+ghost use Rattle.std.specs.Prelude.{◌≡◌};
+ghost use Rattle.instance_book.specs.Makes.{MakesUnder};
+ghost use Rattle.instance_book.specs.Changes.{changed_by, put_into, HasRoomFor, KeepsPlacesBy};
 
 use crate::book::Book;
 use crate::instance::KeptInstance;
@@ -14,12 +10,12 @@ use script_value::Reply;
 
 impl Opening {
     ghost use Rattle.instance_book.specs.Lists.{HasRoom};
-    ghost use Rattle.instance_book.specs.Views.{instance_of};
+    ghost use Rattle.instance_book.specs.Changes.{BeginsWith};
 
     // The instance that begins with its page.
     fn begin(self) -> Numbered<KeptInstance>
         requires { HasRoom self.instance.pages }
-        ensures instance { (scripts : List Named) → instance_of scripts result ≡ begun_with scripts self }
+        ensures instance { BeginsWith self result }
         ensures script { result.item.script ≡ self.instance.script }
     {
         let Opening {
@@ -42,8 +38,8 @@ impl Book {
     // The change, for which there is room.
     fn change(&mut self, change: Option<Change>)
         requires { HasRoomFor change self.old }
-        ensures book { (scripts : List Named) (journal : ℕ) (down : Option Doubt) → book_of scripts journal down self.new ≡ changed_by scripts change (book_of scripts journal down self.old) }
-        ensures placed { (scripts : List Named) → IsPlacedBy scripts change → HasPlaces scripts self.old → HasPlaces scripts self.new }
+        ensures book { MakesUnder (λ scripts. changed_by scripts change) self.old self.new }
+        ensures placed { KeepsPlacesBy change self.old self.new }
     {
         let Some(change) = change else {
             return;
@@ -61,9 +57,9 @@ impl Book {
     /// It asks that the book is as `prepare` left it, `spend` aside: that the room is there.
     pub fn install(&mut self, prepared: Prepared) -> Reply
         requires { HasRoomFor prepared.change self.old }
-        ensures book { (scripts : List Named) (journal : ℕ) (down : Option Doubt) → book_of scripts journal down self.new ≡ put_into scripts prepared (book_of scripts journal down self.old) }
+        ensures book { MakesUnder (λ scripts. put_into scripts prepared) self.old self.new }
         ensures reply { result ≡ prepared.reply }
-        ensures placed { (scripts : List Named) → IsPlacedBy scripts prepared.change → HasPlaces scripts self.old → HasPlaces scripts self.new }
+        ensures placed { KeepsPlacesBy prepared.change self.old self.new }
     {
         let Prepared {
             reply,

@@ -1,7 +1,5 @@
-ghost use Rattle.std.specs.Prelude.{◌≡◌, ◌==◌, not, filter, [], length, IfOk, IfSome, IfNone, OnOk};
+ghost use Rattle.std.specs.Prelude.{◌≡◌, [], length, IfOk, IfSome, IfNone, OnOk};
 ghost use Rattle.std.specs.Option.{option_copied};
-ghost use Rattle.replay_spec.specs.Book.{at_number};
-ghost use Rattle.replay_spec.specs.Change.{put_in_order};
 ghost use Rattle.replay_spec.specs.Admission.{is_one};
 ghost use Rattle.instance_book.specs.Orders.{Rises, IsAt, Finds, numbers_of};
 
@@ -19,7 +17,7 @@ fn search<T: Drop>(things: &[Numbered<T>], number: u64) -> Result<usize, usize>
 }
 
 impl<T: Drop> InOrder<T> {
-    ghost use Rattle.instance_book.specs.Lists.{HasRoom, HasNone};
+    ghost use Rattle.instance_book.specs.Lists.{HasRoom, HasNone, HasNumbersOf, thing_at, things_with, things_without};
 
     /// Nothing; it takes no memory.
     pub fn new(alloc: Global) -> InOrder<T>
@@ -49,7 +47,7 @@ impl<T: Drop> InOrder<T> {
 
     /// The thing of a number.
     pub fn get(&self, number: u64) -> Option<&Numbered<T>>
-        ensures { option_copied result ≡ at_number (λ thing. thing.number) number self.now.things.items }
+        ensures { option_copied result ≡ thing_at number self.now }
     {
         match search(&self.things, number) {
             Ok(place) => Some(&self.things[place]),
@@ -83,7 +81,7 @@ impl<T: Drop> InOrder<T> {
     /// One thing more, in the place of the one of its number; it takes no memory.
     pub fn put(&mut self, thing: Numbered<T>)
         requires { HasRoom self.old }
-        ensures { self.new.things.items ≡ put_in_order (λ thing. thing.number) thing self.old.things.items }
+        ensures { self.new.things.items ≡ things_with thing self.old }
     {
         match search(&self.things, thing.number) {
             Ok(place) => drop(mem::replace(&mut self.things[place], thing)),
@@ -93,7 +91,7 @@ impl<T: Drop> InOrder<T> {
 
     /// All things but the one of a number.
     pub fn remove(&mut self, number: u64)
-        ensures { self.new.things.items ≡ filter (λ thing. not (thing.number == number)) self.old.things.items }
+        ensures { self.new.things.items ≡ things_without number self.old }
     {
         match search(&self.things, number) {
             Ok(place) => drop(self.things.remove(place)),
@@ -103,7 +101,7 @@ impl<T: Drop> InOrder<T> {
 
     /// The numbers alone.
     pub fn numbers(&self, alloc: Global) -> Result<InOrder<()>, AllocError>
-        ensures { IfOk result (λ list. numbers_of list.things.items ≡ numbers_of self.now.things.items) }
+        ensures { IfOk result (HasNumbersOf self.now) }
     {
         let mut things = Vec::new(alloc);
         for thing in &self.things {

@@ -8,7 +8,8 @@ use Rattle.prim_ops.specs.Lists.{list_of}
 use Rattle.script_nodes.specs.Core.{Core, repeat}
 use Rattle.replay_spec.specs.Tape.{Run, State, Outcome, faulted, got, stop, answer, charge}
 use Rattle.replay_spec.specs.Eval.{eval, turns, for_each}
-use Rattle.plain_rerun.specs.Parts.{count_of, turns_at}
+use Rattle.plain_rerun.specs.Parts.{turns_at}
+use Rattle.segment_progress.specs.Counts.{count_of}
 
 one_more : (n i : ℕ) (done : List Val) (body : List Val → Run Val) (env : List Val) (s t : State) (v : Val)
     → body (env ++ number (pos i) ∷ []) s ≡ got v t

@@ -70,12 +70,6 @@ first_turns n body env inside = turns n 0 [] (λ e. eval body e inside) env
 abbrev pub turns_at : Val → Core → List Val → List TxName → Run Val
 turns_at count b env inside = for_each inside (as_number count) (λ e. eval b e inside) env
 
--- how many turns a number says
-abbrev pub count_of : Result ℤ Fault → Result ℕ Fault
-count_of (Ok (pos n)) = Ok n
-count_of (Ok (negsuc n)) = Err WrongType
-count_of (Err k) = Err k
-
 -- these parts stand behind a node, and in the script
 abbrev pub AreBehind : Arena → ℕ → List ℕ → Type 0
 AreBehind a n ps = AllByRecursion (IsBehind n (length a.nodes)) ps

@@ -3,9 +3,9 @@ use Rattle.std.specs.Prelude.{List, Result}
 use Rattle.script_value.specs.Val.{Val}
 use Rattle.script_value.specs.declared.outcome.TxName.{TxName}
 use Rattle.replay_spec.specs.Tape as spec
-use Rattle.plain_rerun.specs.declared.halt.Halt.{Halt}
+use Rattle.segment_progress.specs.declared.halt.Halt.{Halt}
 use Rattle.plain_rerun.specs.declared.engine.Engine.{Engine}
-use Rattle.plain_rerun.specs.States.{inside_of, state_of, Gives}
+use Rattle.segment_progress.specs.States.{inside_of, state_of, Gives}
 
 -- a call took the engine as this action takes its state, with the variables and inside the transactions that it had
 abbrev pub Runs : {X Y : Type 0} → (X → Y) → Result X Halt → (old new : Engine) → (List Val → List TxName → spec.Run Y) → Type 0

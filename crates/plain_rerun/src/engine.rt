@@ -1,54 +1,21 @@
-ghost use Rattle.std.specs.Prelude.{◌≡◌, ◌<◌, ◌^◌, [], ◌∷◌, ◌++◌, length, IfOk, OnOk, IsTrue, IsErr};
+ghost use Rattle.std.specs.Prelude.{◌≡◌, ◌<◌, ◌^◌, [], ◌∷◌, ◌++◌, length, IfOk, OnOk, IsTrue};
 ghost use Rattle.script_value.specs.Views.{meaning};
-ghost use Rattle.prim_ops.specs.Table.{takes, value_of};
+ghost use Rattle.prim_ops.specs.Table.{takes};
 ghost use Rattle.script_nodes.specs.Core.{send, isolate, inst_set, inst_add};
 ghost use Rattle.script_nodes.specs.Arena.{script_of};
 ghost use Rattle.segments.specs.Views.{segment_of, tape_of};
-ghost use Rattle.replay_spec.specs.Tape.{answer, as_number};
 ghost use Rattle.replay_spec.specs.Eval.{eval, eval_into, value_at, copied, run};
-ghost use Rattle.plain_rerun.specs.Halts.{how_of};
-ghost use Rattle.plain_rerun.specs.Parts.{tree, trees, let_at, if_at, for_at, prim_at, shadow_at, joined, stops_at, first_turns, turns_at, count_of, AreBehind};
-ghost use Rattle.plain_rerun.specs.States.{state_of, inside_of, Gives, TellsStop};
+ghost use Rattle.segment_progress.specs.Halts.{how_of};
+ghost use Rattle.plain_rerun.specs.Parts.{tree, trees, let_at, if_at, for_at, prim_at, shadow_at, joined, stops_at, first_turns, turns_at, AreBehind};
+ghost use Rattle.segment_progress.specs.States.{state_of, inside_of, Gives, TellsStop};
 ghost use Rattle.plain_rerun.specs.Runs.{Runs};
-ghost use Rattle.plain_rerun.specs.declared.progress.Progress.{Progress as Steps};
 
-use crate::goes_on::{GoesOn, is_false};
-use crate::halt::{Halt, How, halt_at};
-use crate::progress::Progress;
-use prim_ops::{ApplyFault, apply};
+use crate::goes_on::GoesOn;
 use script_nodes::{Node, Numbers, Script, SendKind};
-use script_value::{Fault, Items, Op, Value};
-use segments::{PlainEnd, Rerun, Tape};
+use script_value::{Items, Op, Value};
+use segment_progress::{Halt, How, Progress, applied, halt_at, is_false, turn_count};
+use segments::{Rerun, Tape};
 use std::alloc::{AllocError, Global};
-
-// How many turns a value says; WrongType where it is no number, or one that is negative.
-fn turn_count(count: Value) -> Result<u64, Fault>
-    ensures count { result ≡ count_of (as_number (meaning count)) }
-    ensures low { IfOk result (λ n. n < 2 ^ 63) }
-{
-    match count {
-        Value::Int(count) => {
-            if count < 0 {
-                return Err(Fault::WrongType);
-            }
-            Ok(count as u64)
-        }
-        _ => Err(Fault::WrongType),
-    }
-}
-
-// The value of an operation, or the stop at its fault, which takes no memory.
-fn applied(alloc: Global, op: Op, operands: Items) -> Result<Value, Halt>
-    requires { IsTrue (takes op (length operands)) }
-    ensures gives { (p : Steps) → Gives meaning result p (answer (inside_of p) (value_of op operands) (state_of p)) }
-    ensures told { (p : Steps) → TellsStop result (answer (inside_of p) (value_of op operands) (state_of p)) }
-{
-    match apply(alloc, op, operands) {
-        Ok(value) => Ok(value),
-        Err(ApplyFault::Fault(fault)) => Err(Halt::Stopped(PlainEnd::Faulted(fault))),
-        Err(ApplyFault::Memory) => Err(Halt::Memory),
-    }
-}
 
 // A run of a script: the values of the variables in scope, and how far the tape was used.
 #[derive(Drop)]

@@ -1,10 +1,10 @@
 ghost use Rattle.std.specs.Prelude.{◌≡◌};
 ghost use Rattle.script_value.specs.Val.{truth};
 ghost use Rattle.script_value.specs.Views.{meaning};
-ghost use Rattle.prim_ops.specs.Table.{is_false};
 ghost use Rattle.plain_rerun.specs.Parts.{passes, starts};
 
 use script_value::Value;
+use segment_progress::is_false;
 
 /// Which values of parts let the next part go on: the last that was reached is the value of all.
 #[derive(Clone, Copy)]
@@ -15,16 +15,6 @@ pub enum GoesOn {
     WhileTrue,
     /// #f alone, as in a disjunction.
     WhileFalse,
-}
-
-/// Whether a value is #f, the only one that is false.
-pub fn is_false(value: &Value) -> bool
-    ensures { result ≡ is_false (meaning value.now) }
-{
-    match value {
-        Value::Truth(truth) => !*truth,
-        _ => false,
-    }
 }
 
 impl GoesOn {

@@ -3,8 +3,6 @@
 
 mod engine;
 mod goes_on;
-mod halt;
-mod progress;
 
 pub use engine::rerun;
 pub use segments::{Answer, Now, PlainEnd, Reads, Rerun, Tape};

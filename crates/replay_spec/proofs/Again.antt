@@ -16,7 +16,7 @@ use Rattle.replay_spec.specs.Rules.{Rules}
 use Rattle.replay_spec.specs.Admission.{◌>>=◌, when, or_else, Place, Admission, begins, resumes, refused, admit}
 use Rattle.replay_spec.specs.Next.{Ticket, starts, Visit, url_for, home_of, answered, newest, tape_for, comes_to, start_visit, page_visit}
 use Rattle.replay_spec.specs.Step.{Reply, Decision, replies, records, unless, down_by, too_long, full_journal, with_room, opening, extension, ending, finish, reply_by, full, stopped, decide}
-use Rattle.replay_spec.specs.Recovery.{most_fuel, are_effects, are_names, is_kind, are_on, hold_over, page_of_numbers, again, shows_so, ended_so, remade}
+use Rattle.replay_spec.specs.Recovery.{are_effects, are_names, is_kind, are_on, hold_over, page_of_numbers, again, shows_so, ended_so, remade}
 use Rattle.replay_spec.specs.Invariant.{IsOrderly}
 use Rattle.replay_spec.specs.Laws.{IsInFuel}
 use Rattle.replay_spec.specs.Remade.{IsRemade, NamesItsCells, NameTheirCells, DecisionsAreRemade}
@@ -28,6 +28,7 @@ use Rattle.replay_spec.proofs.Tests.{effects_self, names_self, kind_self, holds_
 use Rattle.replay_spec.proofs.Admitted.{Stands, Says, says}
 use Rattle.replay_spec.proofs.Going.{Records}
 use Rattle.replay_spec.proofs.Orderly.{stands_there}
+use Rattle.server_limits.specs.Limits.{most_fuel}
 
 -- with more fuel a visit that stops with a page comes to the same
 same_with_more : (v : Visit) (fuel : ℕ) (cs : List Val) (how : How) (bytes : List ℕ) → fuel ≤ most_fuel → (comes_to v (present cs fuel)).outcome ≡ paged how bytes

@@ -11,7 +11,7 @@ use Rattle.replay_spec.specs.Change.{mend, root_by, page_by, done, shown_by, fre
 use Rattle.replay_spec.specs.Admission.{is_one}
 use Rattle.replay_spec.specs.Step.{Event, take, publish, sweep, crash, Fate, swept, Decision, publish_comes, sweep_comes, fate_of, settle, take_by, step}
 use Rattle.replay_spec.specs.Runs.{lands, with_change}
-use Rattle.replay_spec.specs.Recovery.{most_fuel, remade, Made, number_in, is_repeated, with_number, taken_in, counted, redone, redo, records_after}
+use Rattle.replay_spec.specs.Recovery.{remade, Made, number_in, is_repeated, with_number, taken_in, counted, redone, redo, records_after}
 use Rattle.replay_spec.specs.Invariant.{Among, IsOf, Unused, Apart, IsOrderly, IsSound}
 use Rattle.replay_spec.specs.Laws.{Moment, then_book, book_after, changes_of}
 use Rattle.replay_spec.specs.Remade.{IsRemade, IsRemadeDoubt, NamesItsCells, NameTheirCells, AreUsed, made_of, IsRemadeBy, GivesNamed, CellsStayNamed, EventsAreRemade, KeepsSetup, AreTakenIn, RecordsSuffice}
@@ -24,6 +24,7 @@ use Rattle.replay_spec.proofs.Numbers.{Uses, uses}
 use Rattle.replay_spec.proofs.Differ.{put_from, mend_from}
 use Rattle.replay_spec.proofs.Steps.{stepped}
 use Rattle.replay_spec.proofs.Again.{recorded_remade, swept_remade}
+use Rattle.server_limits.specs.Limits.{most_fuel}
 
 -- a record needs no more of a book than its shelf, setup, clock and instances
 moved_remade : (b : Book) (drawn : ℕ) (out : List ℕ) (down : Option Doubt) (c : Change) → remade (record b { drawn = drawn; out = out; down = down }) c ≡ remade b c

@@ -17,11 +17,7 @@ use Rattle.replay_spec.specs.Rules.{Rules, empty_book}
 use Rattle.replay_spec.specs.Change.{logged_by, longer_by, land}
 use Rattle.replay_spec.specs.Admission.{◌>>=◌, when, is_one, Place}
 use Rattle.replay_spec.specs.Next.{Visit, comes_to, start_visit, page_visit}
-
--- the most fuel that a shelf may have: a record's script is run again with it, whatever the fuel was when the record was
--- written
-abbrev pub most_fuel : ℕ
-most_fuel = 10000000
+use Rattle.server_limits.specs.Limits.{most_fuel}
 
 -- the same effects, names and kind, as tests
 abbrev pub is_effect : Effect → Effect → Bool
@@ -92,7 +88,8 @@ again kind effects left m = shows_so m.outcome kind effects left m
 abbrev pub ended_so : List Effect → (cells : List Val) → Option (List TxName)
 ended_so effects cells = when (are_on (length cells) effects && hold_over effects cells) []
 
--- The names that the page of a record is inside, as its script tells, which is run again over the cells that stand there.
+-- The names that the page of a record is inside, as its script tells, which is run again over the cells that stand there, with the
+-- most fuel that a shelf may have, whatever the fuel was when the record was written.
 -- None where the record can't be of this book: there is no such script, instance or page; the script does not show a page
 -- so; the effects do not hold; or the tick is over.
 abbrev pub remade : Book → Change → Option (List TxName)

@@ -13,9 +13,10 @@ use Rattle.replay_spec.specs.Admission.{or_else}
 use Rattle.replay_spec.specs.Next.{Ticket}
 use Rattle.replay_spec.specs.Step.{Event, crash, Fate, Reply, Decision, replies, records, unless, too_long, full_journal, publish_comes, step}
 use Rattle.replay_spec.specs.Runs.{lands}
-use Rattle.replay_spec.specs.Recovery.{most_fuel, remade, Made, nothing_made, taken_in, redo, records_after}
+use Rattle.replay_spec.specs.Recovery.{remade, Made, nothing_made, taken_in, redo, records_after}
 use Rattle.replay_spec.specs.Invariant.{Among, Unused, AreOrderly, IsOrderly, IsSound}
 use Rattle.replay_spec.specs.Laws.{ArePast, run_behind, IsLawful, Moment, then_book, book_after, AreLawful, changes_of}
+use Rattle.server_limits.specs.Limits.{most_fuel}
 
 -- The effects of a run hold over the cells that it ran over.
 abbrev pub EffectsHold : Type 0

@@ -1,5 +1,6 @@
-ghost use Rattle.std.specs.Prelude.{◌≡◌, ◌≤◌, ◌<◌, [], IsErrOf};
+ghost use Rattle.std.specs.Prelude.{◌≡◌, ◌≤◌, ◌<◌, [], ℕ, List, length, IfOk, IsErrOf};
 ghost use Rattle.web_outside.specs.Causes.{Rose};
+ghost use Rattle.http_forms.specs.Progress.{Follows, Knows};
 ghost use Rattle.request_workers.specs.Bytes.{ReadsPiece, ReadsAll};
 ghost use Rattle.request_workers.specs.declared.read.ReadStop.TheVariants.{Failed as ReadFailed, Memory as ReadMemory};
 
@@ -38,33 +39,62 @@ impl<T: Drop> From<AllocFailed<T>> for ReadStop {
     }
 }
 
-// Reads at most so many bytes behind those that are there, none only at the end. Gives how many.
+// Reads at most as many bytes as the piece holds behind those that are there, none only at the end. Gives how many.
+fn read_into<S: Source>(
+    source: &mut S,
+    bytes: &mut Vec<u8>,
+    piece: &mut [u8],
+) -> Result<usize, ReadStop>
+    requires { 0 < length piece.old }
+    ensures read { ReadsPiece (S.view source.old).left
+        (S.view source.new).left bytes.old.items bytes.new.items (length piece.old) result }
+    ensures failed { IsErrOf result ReadStop.Failed →
+        Rose (S.view source.old).faults (S.view source.new).faults }
+    ensures later { (S.view source.old).faults ≤ (S.view source.new).faults }
+{
+    let count = source.read(piece)?;
+    bytes.extend_from_slice(&piece[..count])?;
+    Ok(count)
+}
+
+// The same of so many bytes. A head is read byte by byte, since none behind it may be taken.
 fn read_piece<S: Source>(
     source: &mut S,
     bytes: &mut Vec<u8>,
     wanted: usize,
 ) -> Result<usize, ReadStop>
     requires { 0 < wanted }
-    ensures read { ReadsPiece (S.left source.old) (S.left source.new) bytes.old.items bytes.new.items wanted result }
-    ensures failed { IsErrOf result ReadStop.Failed → Rose (S.fault_count source.old) (S.fault_count source.new) }
-    ensures later { S.fault_count source.old ≤ S.fault_count source.new }
+    ensures read { ReadsPiece (S.view source.old).left
+        (S.view source.new).left bytes.old.items bytes.new.items wanted result }
+    ensures failed { IsErrOf result ReadStop.Failed →
+        Rose (S.view source.old).faults (S.view source.new).faults }
+    ensures later { (S.view source.old).faults ≤ (S.view source.new).faults }
 {
+    if wanted == 1 {
+        let mut byte = [0u8; 1];
+        return read_into(source, bytes, &mut byte);
+    }
     let mut piece = [0u8; 4096];
     let size = wanted.min(piece.len());
-    let count = source.read(&mut piece[..size])?;
-    bytes.extend_from_slice(&piece[..count])?;
-    Ok(count)
+    read_into(source, bytes, &mut piece[..size])
 }
 
 /// Reads the bytes of one request, or as many as say that they are none, and not one more. Says whether the link ended
 /// behind them.
-pub(crate) fn read_bytes<S: Source>(source: &mut S, bytes: &mut Vec<u8>) -> Result<bool, ReadStop>
-    requires { bytes.old.items ≡ [] }
-    ensures read { ReadsAll (S.left source.old) (S.left source.new) bytes.new.items result }
-    ensures failed { IsErrOf result ReadStop.Failed → Rose (S.fault_count source.old) (S.fault_count source.new) }
-    ensures later { S.fault_count source.old ≤ S.fault_count source.new }
+pub(crate) fn read_bytes<S: Source>(
+    source: &mut S,
+    scanner: &mut RequestScanner,
+    bytes: &mut Vec<u8>,
+) -> Result<bool, ReadStop>
+    requires none { bytes.old.items ≡ [] }
+    requires begins { (bytes : List ℕ) → Follows scanner.old bytes }
+    ensures read { ReadsAll (S.view source.old).left
+        (S.view source.new).left bytes.new.items result }
+    ensures knows { IfOk result (λ _. Knows scanner.new bytes.new.items) }
+    ensures failed { IsErrOf result ReadStop.Failed →
+        Rose (S.view source.old).faults (S.view source.new).faults }
+    ensures later { (S.view source.old).faults ≤ (S.view source.new).faults }
 {
-    let mut scanner = RequestScanner::new();
     let mut wanted = scanner.wanted(bytes);
     while wanted > 0 {
         if read_piece(source, bytes, wanted)? == 0 {

@@ -1,10 +1,11 @@
 ghost use Rattle.std.specs.Prelude.{◌≡◌, ◌≤◌, IsErrOf};
 ghost use Rattle.web_outside.specs.Causes.{Rose};
+ghost use Rattle.http_forms.specs.Progress.{Knows};
 ghost use Rattle.http_forms.specs.Request.{Decides};
 ghost use Rattle.request_workers.specs.Requests.{Comes, Gives};
 
 use crate::read::{ReadStop, read_bytes};
-use http_forms::{Refused, Request, RequestFault, request_of};
+use http_forms::{Refused, Request, RequestFault, RequestScanner};
 use std::alloc::Global;
 use web_outside::Source;
 
@@ -20,10 +21,16 @@ pub(crate) enum Incoming {
 }
 
 // What the bytes of a link are.
-fn judge(alloc: Global, bytes: &[u8], ended: bool) -> Result<Incoming, ReadStop>
+fn judge(
+    alloc: Global,
+    scanner: &RequestScanner,
+    bytes: &[u8],
+    ended: bool,
+) -> Result<Incoming, ReadStop>
+    requires { Knows scanner.now bytes.now }
     ensures { Gives result (Decides bytes.now ended) }
 {
-    match request_of(alloc, bytes, ended) {
+    match scanner.request(alloc, bytes, ended) {
         Ok(Some(request)) => Ok(Incoming::Visit(request)),
         Ok(None) => Ok(Incoming::Nothing),
         Err(RequestFault::Refused(reason)) => Ok(Incoming::Refused(reason)),
@@ -33,11 +40,13 @@ fn judge(alloc: Global, bytes: &[u8], ended: bool) -> Result<Incoming, ReadStop>
 
 /// Reads the bytes of one request, and not one too many.
 pub(crate) fn read_request<S: Source>(alloc: Global, source: &mut S) -> Result<Incoming, ReadStop>
-    ensures came { Comes (S.left source.old) (S.left source.new) result }
-    ensures failed { IsErrOf result ReadStop.Failed → Rose (S.fault_count source.old) (S.fault_count source.new) }
-    ensures later { S.fault_count source.old ≤ S.fault_count source.new }
+    ensures came { Comes (S.view source.old).left (S.view source.new).left result }
+    ensures failed { IsErrOf result ReadStop.Failed →
+        Rose (S.view source.old).faults (S.view source.new).faults }
+    ensures later { (S.view source.old).faults ≤ (S.view source.new).faults }
 {
     let mut bytes = Vec::new(alloc);
-    let ended = read_bytes(source, &mut bytes)?;
-    judge(alloc, &bytes, ended)
+    let mut scanner = RequestScanner::new();
+    let ended = read_bytes(source, &mut scanner, &mut bytes)?;
+    judge(alloc, &scanner, &bytes, ended)
 }

@@ -1,7 +1,7 @@
 ghost use Rattle.std.specs.Prelude.{◌≡◌, ◌≤◌, ℕ, option_map, IfOk};
 ghost use Rattle.script_value.specs.Views.{meaning};
 ghost use Rattle.page_names.specs.Views.{target_of};
-ghost use Rattle.request_workers.specs.Scenes.{seen, IsLater};
+ghost use Rattle.request_workers.specs.Scenes.{IsLater};
 ghost use Rattle.request_workers.specs.Serving.{Replies, Answers, ServesOrDrops, served_by};
 
 use crate::read::ReadStop;
@@ -54,7 +54,8 @@ fn visit<A: Answering, G: Gate>(
 ) -> Reply
     requires { (A.rules answering.now).IsOwn pass.old }
     ensures own { (A.rules answering.now).IsOwn pass.new }
-    ensures reply { Replies (A.rules answering.now) pass.old (option_map target_of target) (meaning answer) result pass.new }
+    ensures reply { Replies (A.rules answering.now) pass.old (option_map target_of target)
+        (meaning answer) result pass.new }
 {
     match target {
         Some(target) => answering.visit(alloc, pass, &target, answer, gate),
@@ -75,7 +76,7 @@ fn answer<A: Answering, G: Gate>(
     ensures answer { Answers (A.rules answering.now) pass.old incoming result pass.new }
 {
     match incoming {
-        Incoming::Visit(Request { target, answer }) => {
+        Incoming::Visit(Request { target, answer, .. }) => {
             let reply = visit(alloc, answering, pass, target, answer, gate);
             Some(Answer::Reply(reply))
         }
@@ -97,7 +98,8 @@ fn told(answer: Answer, whole: bool) -> Served
 }
 
 /// Serves one link: reads the bytes of one request and not one more, makes the visit that they ask for, and writes its
-/// reply; or writes why they are refused. An error is want of memory: then no visit was made, and nothing was written.
+/// reply, behind which the link closes; or writes why they are refused. An error is want of memory: then no visit was
+/// made, and nothing was written.
 pub fn serve_one<A: Answering, L: Link, G: Gate>(
     alloc: Global,
     answering: &A,
@@ -107,10 +109,9 @@ pub fn serve_one<A: Answering, L: Link, G: Gate>(
 ) -> Result<Served, AllocError>
     requires { (A.rules answering.now).IsOwn pass.old }
     ensures own { (A.rules answering.now).IsOwn pass.new }
-    ensures served { let look = seen L.input L.output L.Input.left L.Input.fault_count L.Output.written L.Output.handed L.Output.fault_count in
-        ServesOrDrops (A.rules answering.now) pass.old pass.new (look link.old) (look link.new) result }
-    ensures later { let look = seen L.input L.output L.Input.left L.Input.fault_count L.Output.written L.Output.handed L.Output.fault_count in
-        IsLater (look link.old) (look link.new) }
+    ensures served { ServesOrDrops (A.rules answering.now) pass.old pass.new (L.view link.old)
+        (L.view link.new) result }
+    ensures later { IsLater (L.view link.old) (L.view link.new) }
 {
     let incoming = match read_request(alloc, link.input()) {
         Ok(incoming) => incoming,
@@ -120,6 +121,6 @@ pub fn serve_one<A: Answering, L: Link, G: Gate>(
     let Some(answer) = answer(alloc, answering, pass, incoming, gate) else {
         return Ok(Served::Idle);
     };
-    let written = write_reply(&answer, link.output());
+    let written = write_reply(&answer, true, link.output());
     Ok(told(answer, written.is_ok()))
 }

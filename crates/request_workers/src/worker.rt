@@ -1,5 +1,4 @@
 ghost use Rattle.std.specs.Prelude.{◌≡◌, ◌≤◌, ◌+◌, ◌-◌, ◌^◌, ℕ, List, Option};
-ghost use Rattle.request_workers.specs.Scenes.{seen};
 ghost use Rattle.request_workers.specs.Counting.{link_count, nothing};
 ghost use Rattle.request_workers.specs.Tallies.{count_of, IsBelow};
 ghost use Rattle.request_workers.specs.Working.{Turns, Takes, EndsTurn, given_by, Worked, EndsBy};
@@ -31,8 +30,8 @@ fn serve_next<A: Answering, L: Link, C: Clock, G: Gate>(
 ) -> Result<Served, AllocError>
     requires { (A.rules answering.now).IsOwn pass.old }
     ensures own { (A.rules answering.now).IsOwn pass.new }
-    ensures turn { let look = seen L.input L.output L.Input.left L.Input.fault_count L.Output.written L.Output.handed L.Output.fault_count in
-        Turns (A.rules answering.now) look (C.shows clock.now) pass.old pass.new link.old link.new (link_count result) }
+    ensures turn { Turns (A.rules answering.now) L.view (C.shows clock.now) pass.old pass.new
+        link.old link.new (link_count result) }
 {
     let tick = clock.now().min(LAST_TICK);
     answering.tick(alloc, pass, tick)?;
@@ -52,17 +51,15 @@ fn take_turn<A: Answering, P: Porch, C: Clock, G: Gate>(
     requires own { (A.rules answering.now).IsOwn pass.old }
     requires counts { IsBelow (count_of tally.old) (2 ^ 62) }
     ensures own { (A.rules answering.now).IsOwn pass.new }
-    ensures turn { let look = seen P.Link.input P.Link.output P.Link.Input.left P.Link.Input.fault_count
-        P.Link.Output.written P.Link.Output.handed P.Link.Output.fault_count in
-        Takes (A.rules answering.now) look (C.shows clock.now) result pass.old pass.new
-        (P.coming porch.old) (P.coming porch.new) (P.served porch.old) (P.served porch.new)
-        (count_of tally.old) (count_of tally.new) }
-    ensures end { EndsTurn result (P.given porch.new) (P.most porch.new) (P.coming porch.new) (P.fault_count porch.old) (P.fault_count porch.new) }
-    ensures given { P.given porch.new ≡ given_by result (P.given porch.old) }
-    ensures bound { result ≡ Turn.Served → P.given porch.new ≤ P.most porch.new }
-    ensures most { P.most porch.new ≡ P.most porch.old }
-    ensures limit { P.most porch.new ≤ CONNECTION_LIMIT }
-    ensures later { P.fault_count porch.old ≤ P.fault_count porch.new }
+    ensures turn { Takes (A.rules answering.now) P.Link.view
+        (C.shows clock.now) result pass.old pass.new
+        (P.view porch.old) (P.view porch.new) (count_of tally.old) (count_of tally.new) }
+    ensures end { EndsTurn result (P.view porch.old) (P.view porch.new) }
+    ensures given { (P.view porch.new).given ≡ given_by result (P.view porch.old).given }
+    ensures bound { result ≡ Turn.Served → (P.view porch.new).given ≤ (P.view porch.new).most }
+    ensures most { (P.view porch.new).most ≡ (P.view porch.old).most }
+    ensures limit { (P.view porch.new).most ≤ CONNECTION_LIMIT }
+    ensures later { (P.view porch.old).faults ≤ (P.view porch.new).faults }
 {
     match porch.next() {
         Ok(Some(link)) => {
@@ -89,14 +86,14 @@ pub fn work<A: Answering, P: Porch, C: Clock, G: Gate>(
 ) -> Tally
     requires { (A.rules answering.now).IsOwn pass.old }
     ensures own { (A.rules answering.now).IsOwn pass.new }
-    ensures worked { let look = seen P.Link.input P.Link.output P.Link.Input.left P.Link.Input.fault_count
-        P.Link.Output.written P.Link.Output.handed P.Link.Output.fault_count in
-        Worked (A.rules answering.now) look (C.shows clock.now) pass.old pass.new
-        (P.coming porch.old) (P.coming porch.new) (P.served porch.old) (P.served porch.new)
-        (P.given porch.old) (P.given porch.new) (count_of result) }
-    ensures end { EndsBy result.end (P.given porch.new) (P.most porch.new) (P.coming porch.new) (P.fault_count porch.old) (P.fault_count porch.new) }
-    ensures most { P.most porch.new ≡ P.most porch.old }
-    ensures later { P.fault_count porch.old ≤ P.fault_count porch.new }
+    ensures worked { Worked (A.rules answering.now) P.Link.view
+        (C.shows clock.now) pass.old pass.new
+        (P.view porch.old) (P.view porch.new) (count_of result) }
+    ensures end { EndsBy result.end (P.view porch.old) (P.view porch.new) }
+    // Each link counts each thing once at most, so the counts of many workers have a sum.
+    ensures small { IsBelow (count_of result) 1000001 }
+    ensures most { (P.view porch.new).most ≡ (P.view porch.old).most }
+    ensures later { (P.view porch.old).faults ≤ (P.view porch.new).faults }
 {
     let mut tally = Tally::nothing();
     loop {

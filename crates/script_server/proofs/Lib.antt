@@ -1,14 +1,1 @@
-pub mod Tries
-pub mod Places
-pub mod Endings
-pub mod Causes
-pub mod Kept
-pub mod Fitting
-pub mod Stepping
-pub mod Serials
-pub mod Playing
-pub mod Servings
-pub mod ShelfRuns
-pub mod Orderly
-pub mod Entering
-pub mod Transcribed
+pub mod KeptBytes

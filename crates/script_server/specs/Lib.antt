@@ -1,13 +1,4 @@
-pub mod Target
-pub mod Desk
-pub mod Ledger
-pub mod Laws
-pub mod Vectors
-pub mod Staff
-pub mod Serial
-pub mod Output
-pub mod Serving
-pub mod Command
+pub mod Buffers
 pub mod Stream
 pub mod Streams
 pub mod Sockets

@@ -1,6 +1,6 @@
 // The real input and output, which count their own faults.
-ghost use Rattle.std.specs.Prelude.{◌≡◌, None};
-ghost use Rattle.std.proofs.Common.{refl};
+ghost use Rattle.std.specs.Prelude.{◌≡◌};
+ghost use Rattle.script_server.specs.Sockets.{reading_view, writing_view};
 
 use std::io::{ErrorKind, Read, Write};
 use web_outside::{Failed, Sink, Source};
@@ -20,9 +20,7 @@ pub struct Writing<W> {
 }
 
 impl<R: Read> Source for Reading<R> {
-    ghost left = { λ s. R.remaining s.inner };
-
-    ghost fault_count = { λ s. s.count };
+    ghost view = { reading_view R.remaining };
 
     fn faults(&self) -> u64 {
         self.count
@@ -42,11 +40,7 @@ impl<R: Read> Source for Reading<R> {
 }
 
 impl<W: Write> Sink for Writing<W> {
-    ghost written = { λ s. W.contents s.inner };
-
-    ghost handed = { λ _. None };
-
-    ghost fault_count = { λ s. s.count };
+    ghost view = { writing_view W.contents };
 
     fn faults(&self) -> u64 {
         self.count

@@ -1,18 +1,20 @@
 // The real door: one listener for all workers.
-ghost use Rattle.std.specs.Prelude.{◌≡◌, ◌≤◌, ◌-◌, ◌^◌, None, All, min, sum_by, vec_len, IfOk};
-ghost use Rattle.web_outside.specs.Doors.{counts_with};
+ghost use Rattle.std.specs.Prelude.{◌≡◌, ◌≤◌, ◌+◌, ◌-◌, ◌^◌, None, All, min, sum_by, vec_len, IfOk};
 ghost use Rattle.script_server.specs.Sockets.{IsOpened};
 
+use crate::line::Patience;
 use crate::porch::SocketPorch;
 use std::alloc::Global;
 use std::io;
 use std::net::{Ipv4Addr, Net, TcpListener, TcpStream};
+use std::time::Clock;
 use web_outside::{CONNECTION_LIMIT, Door, DoorFault, Porch};
 
 /// Listens at a port of this machine's own address, 127.0.0.1, and says where on the standard error.
 #[derive(Drop)]
 pub struct SocketDoor<'r, R> {
     pub rt: &'r R,
+    pub patience: Patience,
     pub faults: u64,
 }
 
@@ -27,34 +29,42 @@ where
     Ok(listener)
 }
 
-// A porch for each worker, all of one listener.
-fn porches_of(
-    alloc: Global,
-    listener: &TcpListener,
-    workers: u32,
-    connections: u64,
-) -> Result<Vec<SocketPorch>, DoorFault>
-    requires { connections ≤ CONNECTION_LIMIT }
-    ensures count { IfOk result (λ porches. vec_len porches ≡ workers) }
-    ensures opened { IfOk result (λ porches. All (IsOpened connections) porches.items) }
+impl<'r, R> SocketDoor<'r, R>
+where
+    R: Net<Listener = TcpListener, Stream = TcpStream> + Eprint + Clock,
 {
-    let mut porches = Vec::new(alloc);
-    for _ in 0..workers {
-        let Ok(listener) = listener.try_clone() else {
-            return Err(DoorFault::Failed);
-        };
-        if porches
-            .push(SocketPorch::new(listener, connections))
-            .is_err()
-        {
-            return Err(DoorFault::Memory);
+    // A porch for each worker, all of one listener.
+    fn porches_of(
+        &self,
+        alloc: Global,
+        listener: &TcpListener,
+        workers: u32,
+        connections: u64,
+    ) -> Result<Vec<SocketPorch<'r, R>>, DoorFault>
+        requires { connections ≤ CONNECTION_LIMIT }
+        ensures count { IfOk result (λ porches. vec_len porches ≡ workers) }
+        ensures opened { IfOk result (λ porches. All (IsOpened connections) porches.items) }
+    {
+        let mut porches = Vec::new(alloc);
+        for _ in 0..workers {
+            let listener = match listener.try_clone() {
+                Ok(listener) => listener,
+                Err(fault) => {
+                    let _ = eprintln!(self.rt; "cannot share the listener: {fault}");
+                    return Err(DoorFault::Failed);
+                }
+            };
+            let porch = SocketPorch::new(self.rt, alloc, listener, self.patience, connections);
+            if porches.push(porch).is_err() {
+                return Err(DoorFault::Memory);
+            }
         }
+        Ok(porches)
     }
-    Ok(porches)
 }
 
 // The faults of the porches, up to the type's end.
-fn faults_of(porches: &[SocketPorch]) -> u64
+fn faults_of<R: Clock + Eprint>(porches: &[SocketPorch<'_, R>]) -> u64
     ensures { result ≡ min (sum_by (λ porch. porch.faults) porches.now) (2 ^ 64 - 1) }
 {
     match porches {
@@ -63,17 +73,13 @@ fn faults_of(porches: &[SocketPorch]) -> u64
     }
 }
 
-impl<R> Door for SocketDoor<'_, R>
+impl<'r, R> Door for SocketDoor<'r, R>
 where
-    R: Net<Listener = TcpListener, Stream = TcpStream> + Eprint,
+    R: Net<Listener = TcpListener, Stream = TcpStream> + Eprint + Clock,
 {
-    type Porch = SocketPorch;
+    type Porch = SocketPorch<'r, R>;
 
-    ghost links = { λ _. None };
-
-    ghost closed = { λ _. None };
-
-    ghost fault_count = { λ door. door.faults };
+    ghost view = { λ door. record { links = λ _. None; closed = None; faults = door.faults } };
 
     fn faults(&self) -> u64 {
         self.faults
@@ -85,10 +91,13 @@ where
         port: u16,
         workers: u32,
         connections: u64,
-    ) -> Result<Vec<SocketPorch>, DoorFault> {
+    ) -> Result<Vec<SocketPorch<'r, R>>, DoorFault> {
         let porches = match listener_at(self.rt, port) {
-            Ok(listener) => porches_of(alloc, &listener, workers, connections),
-            Err(_) => Err(DoorFault::Failed),
+            Ok(listener) => self.porches_of(alloc, &listener, workers, connections),
+            Err(fault) => {
+                let _ = eprintln!(self.rt; "cannot listen on port {port}: {fault}");
+                Err(DoorFault::Failed)
+            }
         };
         if let Err(DoorFault::Failed) = porches {
             self.faults = self.faults.saturating_add(1);
@@ -96,8 +105,8 @@ where
         porches
     }
 
-    fn close(&mut self, porches: Vec<SocketPorch>)
-        ensures { self.new.faults ≡ counts_with (λ porch. porch.faults) porches.items self.old.faults }
+    fn close(&mut self, porches: Vec<SocketPorch<'r, R>>)
+        ensures { self.new.faults ≡ min (self.old.faults + sum_by (λ porch. porch.faults) porches.entry.items) (2 ^ 64 - 1) }
     {
         self.faults = self.faults.saturating_add(faults_of(&porches));
     }

@@ -1,106 +1,81 @@
 // A connection as a link.
 ghost use Rattle.std.specs.Prelude.{refl};
+ghost use Rattle.script_server.specs.Sockets.{link_view};
 
 use crate::adapters::{Reading, Writing};
 use crate::buffers::{ReadAhead, Together};
-use std::io::{self, ErrorKind, Read};
-use std::net::{Shutdown, TcpListener, TcpStream};
-use std::time::Duration;
-use web_outside::{Failed, Link};
+use crate::line::{Heard, Line, Patience, Told};
+use std::alloc::Global;
+use std::io;
+use std::net::TcpStream;
+use std::rc::Rc;
+use std::time::Clock;
+use web_outside::Link;
 
-// How long a read or a write may take, in seconds.
-const PATIENCE: u64 = 30;
+/// What a link reads from.
+pub type Hearing<C> = ReadAhead<Reading<Heard<C>>>;
 
-// What still comes at the end of a link is read and dropped so often, and each time for at most so many milliseconds.
-const LAST_READS: u32 = 10;
+/// What a link writes to.
+pub type Telling<C> = Together<Writing<Told<C>>>;
 
-const LAST_WAIT: u64 = 100;
-
-/// A connection. Its halves are two handles of one socket.
+/// A connection. Its halves are one line.
 #[derive(Drop)]
-pub struct SocketLink {
-    input: ReadAhead<Reading<TcpStream>>,
-    output: Together<Writing<TcpStream>>,
-    socket: TcpStream,
+pub struct SocketLink<C> {
+    input: Hearing<C>,
+    output: Telling<C>,
+    line: Rc<Line<C>>,
 }
 
-impl Link for SocketLink {
-    type Input = ReadAhead<Reading<TcpStream>>;
+impl<C: Clock + Drop> Link for SocketLink<C> {
+    type Input = Hearing<C>;
 
-    type Output = Together<Writing<TcpStream>>;
+    type Output = Telling<C>;
 
-    ghost input = { λ link. link.input };
-
-    ghost output = { λ link. link.output };
+    ghost view = { link_view };
 
     ghost with_input = { λ link half. record link { input = half } };
 
     ghost with_output = { λ link half. record link { output = half } };
 
-    fn input(&mut self) -> &mut ReadAhead<Reading<TcpStream>> {
+    fn input(&mut self) -> &mut Hearing<C> {
         &mut self.input
     }
 
-    fn output(&mut self) -> &mut Together<Writing<TcpStream>> {
+    fn output(&mut self) -> &mut Telling<C> {
         &mut self.output
     }
 
     ghost input_set = { λ _ _. refl };
 
-    ghost output_kept = { λ _ _. refl };
-
     ghost output_set = { λ _ _. refl };
-
-    ghost input_kept = { λ _ _. refl };
 }
 
-// A link over a socket, which waits for the other side no longer than it should.
-fn link_over(socket: TcpStream) -> io::Result<SocketLink> {
-    socket.set_nodelay(true)?;
-    socket.set_read_timeout(Some(Duration::from_secs(PATIENCE)))?;
-    socket.set_write_timeout(Some(Duration::from_secs(PATIENCE)))?;
-    let input = Reading {
-        inner: socket.try_clone()?,
-        count: 0,
-    };
-    let output = Writing {
-        inner: socket.try_clone()?,
-        count: 0,
-    };
-    Ok(SocketLink {
-        input: ReadAhead::new(input),
-        output: Together::new(output),
-        socket,
-    })
-}
-
-/// The next link. A connection that is over before it is one is passed over.
-pub fn accept(listener: &TcpListener) -> Result<SocketLink, Failed> {
-    'tries: for _ in 0..u64::MAX {
-        match listener.accept() {
-            Ok((socket, _)) => {
-                if let Ok(link) = link_over(socket) {
-                    return Ok(link);
-                }
-            }
-            Err(fault) if fault.kind() == ErrorKind::Interrupted => {}
-            Err(fault) if fault.kind() == ErrorKind::ConnectionAborted => {}
-            Err(_) => break 'tries,
-        }
+impl<C: Clock + Drop> SocketLink<C> {
+    /// A link over a socket that was accepted just now.
+    pub fn new(
+        clock: C,
+        alloc: Global,
+        socket: TcpStream,
+        patience: Patience,
+    ) -> io::Result<SocketLink<C>> {
+        let line = Rc::new(alloc, Line::new(clock, socket, patience)?)?;
+        let input = Reading {
+            inner: Heard::new(line.clone()?),
+            count: 0,
+        };
+        let output = Writing {
+            inner: Told::new(line.clone()?),
+            count: 0,
+        };
+        Ok(SocketLink {
+            input: ReadAhead::new(input),
+            output: Together::new(output),
+            line,
+        })
     }
-    Err(Failed)
-}
 
-/// Ends a link so that what was written reaches the other side even if that is still sending.
-pub fn close_gently(link: &SocketLink) -> io::Result<()> {
-    let socket = &link.socket;
-    socket.shutdown(Shutdown::Write)?;
-    socket.set_read_timeout(Some(Duration::from_millis(LAST_WAIT)))?;
-    let mut rest = [0u8; 16_384];
-    for _ in 0..LAST_READS {
-        if (&mut &link.socket).read(&mut rest)? == 0 {
-            break;
-        }
+    /// Ends the link so that what was written reaches the other side even if that is still sending.
+    pub fn close_gently(&self) -> io::Result<()> {
+        self.line.close_gently()
     }
-    Ok(())
 }

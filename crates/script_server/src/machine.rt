@@ -39,6 +39,15 @@ pub struct StreamNonces {
     words: ChaCha20Rng,
 }
 
+impl StreamNonces {
+    /// The nonces of the words of a generator, from its next word on.
+    pub fn new(words: ChaCha20Rng) -> StreamNonces
+        ensures { result.words ≡ words }
+    {
+        StreamNonces { words }
+    }
+}
+
 impl Nonces for StreamNonces {
     ghost nonce = { λ s k. stream_nonce s.words k };
 
@@ -50,7 +59,7 @@ impl Nonces for StreamNonces {
 
     fn again(&self) -> StreamNonces {
         match self.words.clone() {
-            Ok(words) => StreamNonces { words },
+            Ok(words) => StreamNonces::new(words),
             Err(_) => unreachable!(),
         }
     }
@@ -86,9 +95,7 @@ fn sources_of(alloc: Global, key: [u8; 32], count: u32) -> Result<Vec<StreamNonc
 }
 
 impl<R: Files> Seeds<StreamNonces> for MachineSeeds<'_, R> {
-    ghost gives = { λ _ _. None };
-
-    ghost fault_count = { λ s. s.faults };
+    ghost view = { λ s. record { gives = λ _. None; faults = s.faults } };
 
     fn faults(&self) -> u64 {
         self.faults

@@ -3,38 +3,37 @@
 
 ghost use Rattle.std.specs.Prelude.{◌≡◌, codes};
 ghost use Rattle.web_outside.specs.Pieces.{HandsAllOn};
-ghost use Rattle.script_server.specs.Output.{sinks_of, PrintsTo};
+ghost use Rattle.server_command.specs.Output.{sinks_of, PrintsTo};
 
 mod adapters;
-mod answer;
 mod buffers;
-mod command;
-mod desk;
 mod door;
+mod line;
 mod link;
 mod machine;
 mod porch;
-mod serial;
-mod serving;
-mod staff;
 #[cfg(test)]
 mod tests;
 
 use adapters::{Reading, Writing};
-use command::command;
 use door::SocketDoor;
+use line::Patience;
 use machine::{MachineClock, MachineSeeds};
+use server_command::command;
 use std::alloc::AllocError;
 use std::fs::Files;
 use std::io::ErrorKind;
 use std::net::{Net, TcpListener, TcpStream};
 use std::process::ExitCode;
 use std::rt::Env;
-use std::time::Clock;
+use std::time::{Clock, Duration};
 use std::{env, io};
 use web_outside::{OpenGate, Sink, write_or_drop};
 
 const OUT_OF_MEMORY: u8 = 10;
+
+// How long a link may take to the end of its head, and again from there on, in seconds.
+const PATIENCE: u64 = 30;
 
 // The process's words; none where one of them is no text, since no command has such a word.
 fn words_of<R: Env + AllocGlobal>(rt: &R) -> Result<Vec<String>, AllocError> {
@@ -81,7 +80,14 @@ where
             return out_of_memory(&mut output);
         }
     }
-    let mut door = SocketDoor { rt, faults: 0 };
+    let mut door = SocketDoor {
+        rt,
+        patience: Patience {
+            head: Duration::from_secs(PATIENCE),
+            rest: Duration::from_secs(PATIENCE),
+        },
+        faults: 0,
+    };
     let clock = MachineClock { rt };
     let mut seeds = MachineSeeds { rt, faults: 0 };
     command(
@@ -100,8 +106,8 @@ where
 // Says that memory ran out before the command began, and answers the status of that.
 fn out_of_memory<O: Sink>(output: &mut O) -> u8
     ensures status { result ≡ 10 }
-    ensures line { PrintsTo (sinks_of O.written O.fault_count output.old output.new) (codes "error 10 memory\n") }
-    ensures handed { HandsAllOn O.written O.handed O.fault_count output.old output.new }
+    ensures line { PrintsTo (sinks_of (O.view output.old) (O.view output.new)) (codes "error 10 memory\n") }
+    ensures handed { HandsAllOn (O.view output.old) (O.view output.new) }
 {
     write_or_drop(output, b"error 10 memory\n");
     OUT_OF_MEMORY

@@ -5,14 +5,14 @@ use Rattle.script_nodes.specs.Core.{OnCells}
 use Rattle.script_nodes.specs.Setup.{Named, Script}
 use Rattle.page_names.specs.Names.{start, page}
 use Rattle.page_names.specs.declared.names.PageName.{PageName}
-use Rattle.instance_cells.specs.Cells.{Effect, Holds, AreOn}
+use Rattle.instance_cells.specs.Cells.{Holds, AreOn}
 use Rattle.replay_spec.specs.Tape.{Reads, recorded, present, Answer, Tape}
 use Rattle.replay_spec.specs.Eval.{Segment, run}
-use Rattle.replay_spec.specs.Book.{Page, Instance, Book, instance_at}
+use Rattle.replay_spec.specs.Book.{Page, Instance, Book}
 use Rattle.replay_spec.specs.Admission.{Admission, begins, resumes, refused, refusal_of, admit}
 use Rattle.replay_spec.specs.Next.{Home, Visit, home_of, answered, tape_for, start_visit, page_visit}
 use Rattle.replay_spec.specs.Laws.{ArePast, EffectsHoldRunSame, EffectsAreOnCells}
-use Rattle.replay_spec.proofs.Admitted.{page_stands, start_named, start_is_no_page, page_is_no_start}
+use Rattle.replay_spec.proofs.Admitted.{page_stands, start_is_no_page, page_is_no_start}
 use Rattle.instance_book.specs.declared.ticket.Ticket.{Ticket}
 use Rattle.instance_book.specs.Views.{ticket_of}
 use Rattle.instance_book.specs.Swept.{cells_in}

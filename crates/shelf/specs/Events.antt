@@ -27,8 +27,9 @@ IsTake coming setup old new target answer result =
     IsEvent coming (scripts_of setup) old new (take (target_of target) (meaning answer)) (taken_of result)
 
 -- its ticket has the next number and nonce
-abbrev pub IsTicketOf : {N : Type 0} → Setup → Shelf N → (nonce : ℕ) → Target → Value → Ticket → Type 0
-IsTicketOf setup s nonce target answer t = ticket_of t ≡ ticket_for target answer (book_in (scripts_of setup) s).drawn nonce
+abbrev pub IsTicketOf : {N : Type 0} → (coming : N → ℕ → ℕ) → Setup → Shelf N → Target → Value → Ticket → Type 0
+IsTicketOf coming setup s target answer t =
+    ticket_of t ≡ ticket_for target answer (book_in (scripts_of setup) s).drawn (coming s.nonces 0)
 
 -- what stands against a take is its answer
 abbrev pub TellsWhyNot : {N : Type 0} → Setup → Shelf N → Target → Result Ticket Reply → Type 0
@@ -66,6 +67,21 @@ TellsReply (records x c inside) r = ⊤
 abbrev pub IsToldIfHeld : {N : Type 0} → Setup → Shelf N → Ticket → Option Rerun → Reply → Type 0
 IsToldIfHeld setup s t segment result =
     (r : Rerun) → segment ≡ Some r → HoldNow (book_in (scripts_of setup) s) t r → TellsReply (decision_of setup s t) (reply_of result)
+
+-- a target that is not admitted is told so
+abbrev pub TellsRefusal : {N : Type 0} → Setup → Shelf N → Target → Reply → Type 0
+TellsRefusal setup s target result = IfSome (refusal_now setup s target) (λ r. result ≡ reply.Refused r)
+
+abbrev pub IsRefused : {N : Type 0} → Setup → Shelf N → Target → Result Prepared Reply → Type 0
+IsRefused setup s target result = IfSome (refusal_now setup s target) (λ r. result ≡ Err (reply.Refused r))
+
+abbrev pub WantsMemory : {N : Type 0} → Setup → Shelf N → Ticket → Option Rerun → Result Prepared Reply → Type 0
+WantsMemory setup s t segment result = segment ≡ None → refusal_now setup s t.target ≡ None → result ≡ Err reply.Memory
+
+-- want of memory changes nothing else than that the number is spent
+abbrev pub SpendsOnly : {N : Type 0} → Setup → (old new : Shelf N) → Ticket → Reply → Type 0
+SpendsOnly setup old new t result =
+    result ≡ reply.Memory → book_in (scripts_of setup) new ≡ spec.spend t.number (book_in (scripts_of setup) old)
 
 -- where there was no memory for the run of an admitted target, that is the answer
 abbrev pub WantsIfNone : {N : Type 0} → Setup → Shelf N → Ticket → Option Rerun → Reply → Type 0

@@ -1,5 +1,5 @@
 -- What the program's shelf stands for in the definitions.
-use Rattle.std.specs.Prelude.{◌≡◌, ℕ, ◌+◌, List, map, length, Option, Some, None, IfSome, slice_get, Result, Ok, Err, ⊤}
+use Rattle.std.specs.Prelude.{◌≡◌, ℕ, ◌+◌, List, map, length, Option, Some, None, IfSome, Contains, slice_get, Result, Ok, Err, ⊤}
 use Rattle.script_value.specs.declared.outcome.Reply.{Reply}
 use Rattle.script_value.specs.declared.outcome.Refusal.{Refusal}
 use Rattle.script_nodes.specs.Setup.{Named}
@@ -53,6 +53,23 @@ pub record IsInOrder {N : Type 0} (scripts : List Named) (s : Shelf N) : Type 0 
   pub placed : HasPlaces scripts s.book
   pub orderly : IsOrderly (book_in scripts s)
 
+-- under each setup; one that was in order goes on to be; and a copy of a shelf
+abbrev pub IsAlwaysInOrder : {N : Type 0} → Shelf N → Type 0
+IsAlwaysInOrder s = (scripts : List Named) → IsInOrder scripts s
+
+abbrev pub StaysInOrder : {N : Type 0} → (old new : Shelf N) → Type 0
+StaysInOrder old new = (scripts : List Named) → IsInOrder scripts old → IsInOrder scripts new
+
+abbrev pub HasSameBook : {N : Type 0} → (s copy : Shelf N) → Type 0
+HasSameBook s copy = (scripts : List Named) → book_in scripts copy ≡ book_in scripts s
+
+abbrev pub HasSameNonces : {N : Type 0} → (coming : N → ℕ → ℕ) → (s copy : Shelf N) → Type 0
+HasSameNonces coming s copy = (k : ℕ) → coming copy.nonces k ≡ coming s.nonces k
+
+-- a shelf with nothing in it, of this number
+abbrev pub IsEmpty : {N : Type 0} → Rules → Shelf N → Type 0
+IsEmpty rules s = (scripts : List Named) → shelf_of scripts 0 s ≡ runs.empty_shelf (rules_of rules) scripts rules.number
+
 -- what a take and a sweep answer
 abbrev pub taken_of : Result Ticket Reply → step.Reply
 taken_of (Ok t) = step.taken t.number t.nonce
@@ -88,6 +105,10 @@ refusal_now setup s target = refusal_of (admission_now setup s target)
 abbrev pub FitsNow : {N : Type 0} → Setup → Shelf N → Ticket → Type 0
 FitsNow setup s t = FitsAs (scripts_of setup) (book_in (scripts_of setup) s) t (admission_now setup s t.target)
 
+-- its number is out
+abbrev pub IsOut : {N : Type 0} → Setup → Shelf N → Ticket → Type 0
+IsOut setup s t = Contains (book_in (scripts_of setup) s).out t.number
+
 -- what the ticket's run comes to over its own cells, behind the past that it goes on from
 abbrev pub IsRunOf : List Named → (fuel : ℕ) → Ticket → Rerun → Type 0
 IsRunOf scripts fuel t r =
@@ -98,6 +119,9 @@ IsRunOf scripts fuel t r =
 abbrev pub IsRunIfAny : List Named → (fuel : ℕ) → Ticket → Option Rerun → Type 0
 IsRunIfAny scripts fuel t None = ⊤
 IsRunIfAny scripts fuel t (Some r) = IsRunOf scripts fuel t r
+
+abbrev pub IsRunFor : {N : Type 0} → Setup → Shelf N → Ticket → Option Rerun → Type 0
+IsRunFor setup s t segment = IsRunIfAny (scripts_of setup) s.rules.fuel t segment
 
 -- no second run is due: a start's cells are its own, and the effects hold over the cells of an answered page's instance
 abbrev pub HoldIn : Book → Destination → List Effect → Type 0

@@ -1,24 +1,21 @@
-ghost use Rattle.std.specs.Prelude.{◌≡◌, ◌<◌, ◌^◌, List, IfOk, IsOk, IfSome, Err, Contains};
-ghost use Rattle.script_nodes.specs.Setup.{Named};
+ghost use Rattle.std.specs.Prelude.{◌≡◌, ◌<◌, ◌^◌, IfOk, IsOk};
 ghost use Rattle.script_nodes.specs.Views.{scripts_of};
-ghost use Rattle.replay_spec.specs.Book.{spend};
-ghost use Rattle.replay_spec.specs.Next.{cells_by};
-ghost use Rattle.replay_spec.specs.Runs.{empty_shelf};
 ghost use Rattle.instance_book.specs.Makes.{StaysSame, KeepsPlaces};
+ghost use Rattle.instance_book.specs.Admissions.{HasCellsBy};
 ghost use Rattle.instance_book.specs.Changes.{HasRoomFor};
 ghost use Rattle.shelf.specs.Ranges.{AreInRange};
-ghost use Rattle.shelf.specs.Views.{rules_of, book_in, shelf_of, IsInOrder, admission_now, refusal_now, FitsNow, IsRunIfAny};
-ghost use Rattle.shelf.specs.Events.{IsTake, IsTicketOf, TellsWhyNot, IsDecided, IsDecidedIfHeld, IsPublish, IsToldIfHeld, WantsIfNone, IsSweep};
+ghost use Rattle.shelf.specs.Views.{IsInOrder, IsAlwaysInOrder, StaysInOrder, IsEmpty, admission_now, FitsNow, IsOut, IsRunFor};
+ghost use Rattle.shelf.specs.Events.{IsTake, IsTicketOf, TellsWhyNot, IsDecided, IsDecidedIfHeld, IsRefused, WantsMemory, IsPublish, TellsRefusal, IsToldIfHeld, WantsIfNone, SpendsOnly, IsSweep};
 
 use crate::rules::Rules;
 use crate::second::segment_now;
 use crate::shelf::Shelf;
 use instance_book::{Book, Prepared, Ticket};
 use page_names::Target;
-use segments::Rerun;
-use script_nodes::Setup;
 use replay_spec::orderly_books_stay;
+use script_nodes::Setup;
 use script_value::{Reply, Value};
+use segments::Rerun;
 use std::alloc::Global;
 use web_outside::Nonces;
 
@@ -29,8 +26,8 @@ impl<N: Nonces + Drop> Shelf<N> {
     /// An empty shelf of these limits, which are in their ranges; it takes no memory.
     pub fn begin(alloc: Global, nonces: N, rules: Rules) -> Shelf<N>
         requires { AreInRange rules }
-        ensures shelf { (scripts : List Named) → shelf_of scripts 0 result ≡ empty_shelf (rules_of rules) scripts rules.number }
-        ensures in_order { (scripts : List Named) → IsInOrder scripts result }
+        ensures shelf { IsEmpty rules result }
+        ensures in_order { IsAlwaysInOrder result }
         ensures nonces { result.nonces ≡ nonces }
         ensures rules { result.rules ≡ rules }
     {
@@ -78,10 +75,10 @@ impl<N: Nonces + Drop> Shelf<N> {
         ensures event { IsTake N.nonce setup.now self.old self.new target.now answer result }
         ensures in_order { IsInOrder (scripts_of setup.now) self.new }
         ensures refused { TellsWhyNot setup.now self.old target.now result }
-        ensures ticket { IfOk result (IsTicketOf setup.now self.old (N.nonce self.old.nonces 0) target.now answer) }
+        ensures ticket { IfOk result (IsTicketOf N.nonce setup.now self.old target.now answer) }
         ensures fits { IfOk result (FitsNow setup.now self.new) }
-        ensures cells { IfOk result (λ t. t.cells ≡ cells_by (admission_now setup.now self.old target.now)) }
-        ensures out { IfOk result (λ t. Contains (book_in (scripts_of setup.now) self.new).out t.number) }
+        ensures cells { IfOk result (HasCellsBy (admission_now setup.now self.old target.now)) }
+        ensures out { IfOk result (IsOut setup.now self.new) }
         ensures rules { self.new.rules ≡ self.old.rules }
     {
         orderly_books_stay();
@@ -111,16 +108,16 @@ impl<N: Nonces + Drop> Shelf<N> {
         segment: Option<Rerun>,
     ) -> Result<Prepared, Reply>
         requires in_order { IsInOrder (scripts_of setup.now) self.old }
-        requires out { Contains (book_in (scripts_of setup.now) self.old).out ticket.now.number }
+        requires out { IsOut setup.now self.old ticket.now }
         requires fits { FitsNow setup.now self.old ticket.now }
-        requires segment { IsRunIfAny (scripts_of setup.now) self.old.rules.fuel ticket.now segment }
+        requires segment { IsRunFor setup.now self.old ticket.now segment }
         ensures book { StaysSame self.old.book self.new.book }
         ensures placed { KeepsPlaces self.old.book self.new.book }
         ensures room { IfOk result (λ p. HasRoomFor p.change self.new.book) }
         ensures decided { IsDecided setup.now self.old ticket.now result }
         ensures held { IsDecidedIfHeld setup.now self.old ticket.now segment result }
-        ensures refused { IfSome (refusal_now setup.now self.old ticket.now.target) (λ r. result ≡ Err (Reply.Refused r)) }
-        ensures none { segment ≡ None → refusal_now setup.now self.old ticket.now.target ≡ None → result ≡ Err Reply.Memory }
+        ensures refused { IsRefused setup.now self.old ticket.now.target result }
+        ensures none { WantsMemory setup.now self.old ticket.now segment result }
         ensures nonces { self.new.nonces ≡ self.old.nonces }
         ensures rules { self.new.rules ≡ self.old.rules }
     {
@@ -162,15 +159,15 @@ impl<N: Nonces + Drop> Shelf<N> {
         segment: Option<Rerun>,
     ) -> Reply
         requires in_order { IsInOrder (scripts_of setup.now) self.old }
-        requires out { Contains (book_in (scripts_of setup.now) self.old).out ticket.number }
+        requires out { IsOut setup.now self.old ticket }
         requires fits { FitsNow setup.now self.old ticket }
-        requires segment { IsRunIfAny (scripts_of setup.now) self.old.rules.fuel ticket segment }
+        requires segment { IsRunFor setup.now self.old ticket segment }
         ensures event { IsPublish N.nonce setup.now self.old self.new ticket result }
         ensures in_order { IsInOrder (scripts_of setup.now) self.new }
-        ensures refused { IfSome (refusal_now setup.now self.old ticket.target) (λ r. result ≡ Reply.Refused r) }
+        ensures refused { TellsRefusal setup.now self.old ticket.target result }
         ensures none { WantsIfNone setup.now self.old ticket segment result }
         ensures held { IsToldIfHeld setup.now self.old ticket segment result }
-        ensures memory { result ≡ Reply.Memory → book_in (scripts_of setup.now) self.new ≡ spend ticket.number (book_in (scripts_of setup.now) self.old) }
+        ensures memory { SpendsOnly setup.now self.old self.new ticket result }
         ensures nonces { self.new.nonces ≡ self.old.nonces }
         ensures rules { self.new.rules ≡ self.old.rules }
     {
@@ -189,7 +186,7 @@ impl<N: Nonces + Drop> Shelf<N> {
         requires { tick < 2 ^ 62 }
         ensures ok { IsOk result }
         ensures event { IsSweep N.nonce self.old self.new tick result }
-        ensures in_order { (scripts : List Named) → IsInOrder scripts self.old → IsInOrder scripts self.new }
+        ensures in_order { StaysInOrder self.old self.new }
         ensures nonces { self.new.nonces ≡ self.old.nonces }
         ensures rules { self.new.rules ≡ self.old.rules }
     {

@@ -3,8 +3,8 @@ use request_workers::{Tally, WorkEnd, work};
 use std::alloc::Global;
 use std::test::Fail;
 use web_outside::{
-    Door, DoorFault, ListDoor, ListPorch, ListSeeds, Nonces, OpenGate, Porch, SeedFault, Seeds,
-    SetClock, Sink, TextLink, TextSink, TextSource,
+    Door, DoorFault, ListDoor, ListPorch, ListSeeds, Nonces, NotingGate, Porch, SeedFault, Seeds,
+    Sink, TextLink, TextSink, TextSource, TickingClock,
 };
 
 const START: &[u8] = b"GET /servlets/ten HTTP/1.0\r\n\r\n";
@@ -54,16 +54,27 @@ fn a_worker_serves_its_links_and_counts(rt: HostRuntime) -> Result<(), Fail> {
         let porch = ListPorch::new(alloc, links(alloc)?, failing.to_vec(alloc)?)?;
         let mut porches = Vec::new(alloc);
         porches.push(porch)?;
-        let mut door = ListDoor::new(alloc, porches, Vec::new(alloc));
-        let Ok(mut porches) = door.listen(alloc, 0, 1, (*connections).min(10)) else {
+        let mut door = ListDoor::new(alloc, 80, porches, Vec::new(alloc));
+        let Ok(mut porches) = door.listen(alloc, 80, 1, (*connections).min(10)) else {
             return Err(Fail::from("no door"));
         };
         let mut asked = Asked::nothing(alloc, *room);
         for porch in porches.iter_mut() {
-            let clock = SetClock::new(7);
-            let counted = work(alloc, &Counter, &mut asked, porch, &clock, &OpenGate);
+            let clock = TickingClock::new(7, 3);
+            let gate = NotingGate::new(alloc, 10)?;
+            let counted = work(alloc, &Counter, &mut asked, porch, &clock, &gate);
             assert_eq!(rt; counted, *wanted);
+            // The clock is read anew for each link, and each visit passes the gate.
             assert_eq!(rt; asked.ticks.len(), porch.served().len());
+            for (tick, wanted) in asked.ticks.iter().zip((0..10).map(|link| 7 + 3 * link)) {
+                assert_eq!(rt; *tick, wanted);
+            }
+            let noted = gate.noted(alloc)?;
+            assert_eq!(rt; gate.count(), asked.visits);
+            assert_eq!(rt; noted.len() as u64, asked.visits);
+            for (number, wanted) in noted.iter().zip(0..10) {
+                assert_eq!(rt; *number, wanted);
+            }
         }
         door.close(porches);
         let faults = if wanted.end == WorkEnd::Failed { 1 } else { 0 };
@@ -75,11 +86,12 @@ fn a_worker_serves_its_links_and_counts(rt: HostRuntime) -> Result<(), Fail> {
 #[test]
 fn a_door_and_seeds_fail_where_they_are_told_to(rt: HostRuntime) -> Result<(), Fail> {
     let alloc = rt.alloc();
-    let mut door = ListDoor::new(alloc, Vec::new(alloc), [0].as_slice().to_vec(alloc)?);
-    assert!(rt; matches!(door.listen(alloc, 0, 0, 1), Err(DoorFault::Failed)));
-    assert!(rt; matches!(door.listen(alloc, 0, 1, 1), Err(DoorFault::Failed)));
-    assert!(rt; door.listen(alloc, 0, 0, 1).is_ok());
-    assert_eq!(rt; door.faults(), 2);
+    let mut door = ListDoor::new(alloc, 80, Vec::new(alloc), [0].as_slice().to_vec(alloc)?);
+    assert!(rt; matches!(door.listen(alloc, 80, 0, 1), Err(DoorFault::Failed)));
+    assert!(rt; matches!(door.listen(alloc, 80, 1, 1), Err(DoorFault::Failed)));
+    assert!(rt; matches!(door.listen(alloc, 81, 0, 1), Err(DoorFault::Failed)));
+    assert!(rt; door.listen(alloc, 80, 0, 1).is_ok());
+    assert_eq!(rt; door.faults(), 3);
     let mut seeds = ListSeeds::new([0].as_slice().to_vec(alloc)?);
     assert!(rt; matches!(seeds.draw(alloc, 2), Err(SeedFault::Failed)));
     let Ok(mut sources) = seeds.draw(alloc, 2) else {

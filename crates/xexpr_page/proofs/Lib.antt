@@ -3,3 +3,4 @@ pub mod Grammar
 pub mod Inside
 pub mod Nested
 pub mod Closed
+pub mod Shaped

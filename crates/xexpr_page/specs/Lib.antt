@@ -5,3 +5,4 @@ pub mod Laws
 pub mod Nesting
 pub mod Tags
 pub mod Vectors
+pub mod Told

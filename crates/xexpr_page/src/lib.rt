@@ -6,6 +6,8 @@ mod fault;
 mod laws;
 mod names;
 mod page;
+mod parts;
+mod shape;
 
 pub use fault::RenderFault;
 pub use laws::{attributes_stay_inside, markup_closes_its_elements, texts_stay_inside};

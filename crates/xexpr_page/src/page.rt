@@ -1,24 +1,29 @@
-ghost use Rattle.std.specs.Prelude.{◌≡◌, ◌≤◌, ◌++◌, List, ℕ, option_map, Some, None, OnOk, IfOk, if◌then◌else◌};
-ghost use Rattle.script_value.specs.Val.{list, val, depth_all};
+ghost use Rattle.std.specs.Prelude.{◌≡◌, ◌++◌, List, ℕ, Some, OnOk, IfOk};
+ghost use Rattle.script_value.specs.Val.{list};
 ghost use Rattle.script_value.specs.Views.{meaning, meanings};
 ghost use Rattle.xexpr_page.specs.Page as spec;
 ghost use Rattle.xexpr_page.specs.Markup.{start_tag, end_tag};
 ghost use Rattle.xexpr_page.specs.Page.{page_of, element_of, children_of, Gives, Pushes};
 ghost use Rattle.xexpr_page.specs.Renders.{Renders};
 ghost use Rattle.xexpr_page.specs.Nesting.{IsMarkup};
+ghost use Rattle.xexpr_page.specs.Told.{TellsNoPage};
 
 use crate::escape::{push_attribute_text, push_text};
 use crate::fault::RenderFault;
 use crate::names::{is_attribute, is_element, is_entity, is_void};
+use crate::parts::{attributes_in, split_attributes};
+use crate::shape::is_page;
 use script_value::{Bytes, Str, Value};
 use std::alloc::{AllocError, Global};
 
 /// The bytes of the page that a value is.
 ///
-/// Where the value is no page, the answer is `NotPage`, and where memory runs out, `Memory`.
+/// Where the value is no page, the answer is `NotPage`, whatever memory there is, and where memory runs out for a page, `Memory`.
 pub fn render(alloc: Global, value: &Value) -> Result<Bytes, RenderFault>
     // The answer is the page of the value, or that there is none, unless memory ran out.
     ensures page { Gives result (page_of (meaning value.now)) }
+    // Memory runs out for a page alone.
+    ensures told { TellsNoPage result (page_of (meaning value.now)) }
     // What is shown are bytes that the grammar of pages gives the value.
     ensures shown { IfOk result (λ bytes. Renders (meaning value.now) bytes) }
     // Where that grammar gives the value bytes, they are shown, unless memory ran out.
@@ -26,6 +31,9 @@ pub fn render(alloc: Global, value: &Value) -> Result<Bytes, RenderFault>
     // What is shown is well formed: each element that is opened is closed by its own end tag, inside the element around it.
     ensures well_formed { IfOk result (λ bytes. IsMarkup bytes) }
 {
+    if !is_page(value) {
+        return Err(RenderFault::NotPage);
+    }
     let mut page = Vec::new(alloc);
     push_page(&mut page, value)?;
     Ok(Bytes::new(page))
@@ -127,50 +135,6 @@ fn push_void(page: &mut Vec<u8>, name: &Str, parts: &[Value]) -> Result<(), Rend
             None => Err(RenderFault::NotPage),
         },
         [_, _, ..] => Err(RenderFault::NotPage),
-    }
-}
-
-// The attributes that a value behind an element's name is.
-fn attributes_in(value: &Value) -> Option<&[Value]>
-    ensures { option_map (λ items. meanings items.now) result ≡ spec.attributes_in (meaning value.now) }
-{
-    match value {
-        Value::List(items) => {
-            let items = items.as_slice();
-            if are_attributes(items) {
-                Some(items)
-            } else {
-                None
-            }
-        }
-        _ => None,
-    }
-}
-
-// Whether these items are attributes: none, or a list first.
-fn are_attributes(items: &[Value]) -> bool
-    ensures { spec.AreAttributes (meanings items.now) result }
-{
-    match items {
-        [] => true,
-        [first, ..] => match first {
-            Value::List(_) => true,
-            Value::Int(_) | Value::Truth(_) | Value::Text(_) | Value::Symbol(_) => false,
-        },
-    }
-}
-
-// The attributes and the children among the parts behind an element's name.
-fn split_attributes(parts: &[Value]) -> (&[Value], &[Value])
-    ensures split { spec.AreSplit (meanings parts.now) (meanings result.0.now) (meanings result.1.now) }
-    ensures within { depth_all (meanings result.1.now) ≤ depth_all (meanings parts.now) }
-{
-    match parts {
-        [] => (&[], &[]),
-        [first, children @ ..] => match attributes_in(first) {
-            Some(attributes) => (attributes, children),
-            None => (&[], parts),
-        },
     }
 }
 

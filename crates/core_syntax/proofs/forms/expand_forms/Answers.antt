@@ -19,7 +19,7 @@ pub loop-place-preserved : goal.loop-place-preserved
 loop-place-preserved c =
     let s = cells_of c.loop-place.defined in
     let t = cells_of c.define.new.self in
-    let level = level_next (definition_of (meaning c.index-forms-place.result)) s t c.loop-place.invariant.0 c.in-Ok.ensures in
+    let level = level_next (definition_of (meaning c.index-forms-place.result)) s t c.loop-place.invariant.0 c.in-Ok.ensures.cells in
     let next = next_form c.loop-place.place s t c.args.forms.now c.loop-place.place c.index-forms-place.result
-    c.loop-place-test.true c.index-forms-place.is (sym c.is_headed.ensures ∙ c.if-not-is_headed.false) c.in-Ok.ensures in
+    c.loop-place-test.true c.index-forms-place.is (sym c.is_headed.ensures ∙ c.if-not-is_headed.false) c.in-Ok.ensures.cells in
     (level.0, level.1 ∙ ap (λ k. k + 1) c.loop-place.invariant.1, c.loop-place.invariant.2 ∙ next)

@@ -6,4 +6,4 @@ use Rattle.http_forms.proofs.reply.write_page.Goals as goal
 
 pub returns : goal.returns
 returns g c =
-    writes_as _ _ _ _ (page_message c.args.page.now) _ _ (ap (message Ok (codes "text/html")) (append-nil c.args.page.now)) c.write_message.ensures
+    writes_as _ _ _ _ (page_message c.args.closes c.args.page.now) _ _ (ap (message Ok c.args.closes (codes "text/html")) (append-nil c.args.page.now)) c.write_message.ensures

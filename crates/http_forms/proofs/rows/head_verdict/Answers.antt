@@ -1,27 +1,25 @@
-use Rattle.std.proofs.Common.{Some, None, refl, ap, length}
-use Rattle.httparse.specs.Borrowed.{HoldsSomeRequest}
-use Rattle.http_forms.proofs.Verdicts.{cut_short, whole_head, none_fits}
+use Rattle.std.proofs.Common.{Some, None, refl}
+use Rattle.httparse.specs.Spans.{IsRequestOf}
+use Rattle.http_forms.proofs.Verdicts.{cut_short, whole_head, verdict_of, none_fits}
 use Rattle.http_forms.proofs.rows.head_verdict.Goals as goal
 
-pub returns-then-len-bytes : goal.returns-then-len-bytes
-returns-then-len-bytes c = record {
-  parsed = None;
-  grammar = cut_short c.args.bytes.now c.parse.new.self c.in-Ok-Complete.len (rw c.in-Ok-Complete.field-0-is at c.in-Ok-Complete.ensures.complete) c.if-len-bytes.true;
-  is = refl;
-}
+pub returns-then-head-lines-clause-reads : goal.returns-then-head-lines-clause-reads
+returns-then-head-lines-clause-reads c =
+    let at : IsRequestOf c.args.lines.now c.parse_request.new.headers c.in-Ok-Complete.head = rw c.in-Ok-Complete.field-0-is at c.in-Ok-Complete.ensures.complete in
+    record { parsed = None; grammar = cut_short c.args.lines.now _ c.in-Ok-Complete.head at c.if-head-lines.true; is = refl }
 
-pub returns-else-len-bytes : goal.returns-else-len-bytes
-returns-else-len-bytes c =
-    let held : HoldsSomeRequest c.args.bytes.now c.parse.new.self c.in-Ok-Complete.len = rw c.in-Ok-Complete.field-0-is at c.in-Ok-Complete.ensures.complete in
+pub returns-else-head-lines-clause-reads : goal.returns-else-head-lines-clause-reads
+returns-else-head-lines-clause-reads c =
+    let at : IsRequestOf c.args.lines.now c.parse_request.new.headers c.in-Ok-Complete.head = rw c.in-Ok-Complete.field-0-is at c.in-Ok-Complete.ensures.complete in
     record {
-      parsed = Some held.0;
-      grammar = whole_head c.args.bytes.now c.parse.new.self c.in-Ok-Complete.len held.0 held.1 c.if-len-bytes.false;
-      is = c.parsed_verdict.ensures c.args.bytes.now c.in-Ok-Complete.len held.0 held.1;
+      parsed = Some at.0;
+      grammar = whole_head c.args.lines.now _ c.in-Ok-Complete.head at.0 at.1 c.if-head-lines.false;
+      is = verdict_of c.args.lines.now _ c.in-Ok-Complete.head at.0 _ _ at.1 c.of-method.ensures c.fields_verdict.ensures.judges;
     }
 
-pub returns-in-Err : goal.returns-in-Err
-returns-in-Err c = record {
+pub returns-in-Err-clause-reads : goal.returns-in-Err-clause-reads
+returns-in-Err-clause-reads c = record {
   parsed = None;
-  grammar = none_fits c.args.bytes.now _ (ap length c.new-request.ensures.room) c.requires c.in-Err.ensures.no_room;
+  grammar = none_fits c.args.lines.now _ refl c.requires c.in-Err.ensures.no_room;
   is = refl;
 }

@@ -1,5 +1,9 @@
-use Rattle.http_forms.specs.Progress.{Follows}
+use Rattle.std.proofs.Common.{List, ℕ, ◌++◌}
+use Rattle.http_forms.specs.Progress.{Follows, Knows}
 use Rattle.http_tests.proofs.pieces.asked.Given as goal
 
 abbrev pub invariant-loop : goal.invariant-loop
-invariant-loop l = Follows l.scanner l.read.items
+invariant-loop l = record {
+  knows : Knows l.scanner l.read.items;
+  follows : (more : List ℕ) → Follows l.scanner (l.read.items ++ more);
+}

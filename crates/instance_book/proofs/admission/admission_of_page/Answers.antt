@@ -1,5 +1,4 @@
-use Rattle.std.proofs.Common.{◌∙◌, ap, sym, Option}
-use Rattle.script_value.specs.declared.outcome.Refusal.{Refusal}
+use Rattle.std.proofs.Common.{◌∙◌, ap, Option}
 use Rattle.script_nodes.specs.Views.{scripts_of}
 use Rattle.replay_spec.specs.Admission.{Place, unless_why, found}
 use Rattle.instance_book.specs.Admissions.{place_of}

@@ -6,8 +6,8 @@ use Rattle.request_workers.proofs.read.read_bytes.Goals as goal
 pub loop-wanted-init : goal.loop-wanted-init
 loop-wanted-init g c =
     let says = c.wanted-wanted.ensures in
-    came_first _ _ c.deref.result.now _ _ _ c.requires c.deref.ensures.value
-    (record { goes_on = says.goes_on; decided = says.decided; short = says.short })
+    came_first _ _ c.deref.result.now _ _ _ c.requires.none c.deref.ensures.value
+    (record { goes_on = says.goes_on; knows = says.knows; decided = says.decided; short = says.short })
 
 pub returns-in_err-read_piece-clause-read : goal.returns-in_err-read_piece-clause-read
 returns-in_err-read_piece-clause-read g c =
@@ -26,7 +26,7 @@ loop-wanted-preserved g c =
     let says = c.wanted-wanted-in-loop-wanted.ensures in
     came_more _ _ _ _ _ c.deref-in-loop-wanted.result.now _ _ _ _ _ _ _ _ c.loop-wanted.invariant c.in_ok-read_piece.ensures.read
     c.deref-in-loop-wanted.ensures.value
-    (record { goes_on = says.goes_on; decided = says.decided; short = says.short })
+    (record { goes_on = says.goes_on; knows = says.knows; decided = says.decided; short = says.short })
     c.in_ok-read_piece.ensures.later
 
 pub returns-clause-read : goal.returns-clause-read

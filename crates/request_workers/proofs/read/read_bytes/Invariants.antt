@@ -3,8 +3,8 @@ use Rattle.request_workers.proofs.Reading.{Came}
 use Rattle.request_workers.proofs.read.read_bytes.Given as goal
 
 abbrev pub invariant-loop-wanted : goal.invariant-loop-wanted
-invariant-loop-wanted g l = Came (g.S.Source.left l.fn.source) (g.S.Source.left l.source) l.bytes.items l.scanner l.wanted
-    (g.S.Source.fault_count l.fn.source) (g.S.Source.fault_count l.source)
+invariant-loop-wanted g l = Came (g.S.Source.view l.fn.source).left (g.S.Source.view l.source).left l.bytes.items l.scanner l.wanted
+    (g.S.Source.view l.fn.source).faults (g.S.Source.view l.source).faults
 
 abbrev pub decreases-loop-wanted : goal.decreases-loop-wanted
 decreases-loop-wanted g l = 81920 - length l.bytes.items

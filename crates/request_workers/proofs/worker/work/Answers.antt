@@ -10,8 +10,8 @@ loop-tally-init g c =
     let zero = c.nothing-tally.ensures in
     record {
       own = c.requires;
-      worked = begin _ _ _ _ _ _ _ _ zero;
-      counted = none_below _ (g.P.Porch.given c.args.porch.now) zero;
+      worked = begin _ _ _ _ _ _ zero;
+      counted = none_below _ (g.P.Porch.view c.args.porch.now).given zero;
       small = none_below _ 1000000 zero;
       same = refl;
       later = omega arith;
@@ -23,14 +23,14 @@ loop-tally-preserved g c =
     let turn = c.in-Served.ensures in
     let (link, back, one, loses, gains, turns, is) = turn.turn in
     let small = turn_small _ _ _ _ _ _ _ _ turns.served in
-    let given : g.P.Porch.given c.take_turn.new.porch ≡ g.P.Porch.given c.loop-tally.porch + 1 = turn.given in
-    let counted : IsBelow (count_of c.take_turn.new.tally) (g.P.Porch.given c.take_turn.new.porch + 1) =
-    subst (λ w. IsBelow w (g.P.Porch.given c.take_turn.new.porch + 1)) (sym is)
+    let given : (g.P.Porch.view c.take_turn.new.porch).given ≡ (g.P.Porch.view c.loop-tally.porch).given + 1 = turn.given in
+    let counted : IsBelow (count_of c.take_turn.new.tally) ((g.P.Porch.view c.take_turn.new.porch).given + 1) =
+    subst (λ w. IsBelow w ((g.P.Porch.view c.take_turn.new.porch).given + 1)) (sym is)
     (subst (λ n. IsBelow (both (count_of c.loop-tally.tally) one) (n + 1)) (sym given) (below_both _ _ _ before.counted small)) in
     record {
       own = turn.own;
-      worked = subst (Worked _ _ _ _ _ _ _ _ _ _ _) (sym is)
-          (then_one _ _ _ _ _ _ _ _ _ _ _ _ _ _ _ _ _ _ _ before.worked loses gains given turns);
+      worked = subst (Worked _ _ _ _ _ _ _) (sym is)
+          (then_one _ _ _ _ _ _ _ _ _ _ _ _ _ before.worked loses gains given turns);
       counted = counted;
       small = below_more _ _ _ (let b = turn.bound refl in let l = turn.limit in omega arith) counted;
       same = turn.most ∙ before.same;

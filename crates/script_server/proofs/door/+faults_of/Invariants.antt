@@ -2,4 +2,4 @@ use Rattle.std.proofs.Common.{length}
 use Rattle.script_server.proofs.door.+faults_of.Given as goal
 
 abbrev pub decreases-faults_of : goal.decreases-faults_of
-decreases-faults_of l = length l.porches.now
+decreases-faults_of g l = length l.porches.now

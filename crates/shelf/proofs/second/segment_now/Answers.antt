@@ -7,7 +7,7 @@ use Rattle.instance_cells.specs.Cells.{AreOn, Holds}
 use Rattle.instance_cells.specs.Views.{effect_of}
 use Rattle.instance_cells.specs.declared.effect.Effect as rust
 use Rattle.segments.specs.Views.{segment_of}
-use Rattle.replay_spec.specs.Tape.{present, Tape}
+use Rattle.replay_spec.specs.Tape.{Tape}
 use Rattle.replay_spec.specs.Eval.{run}
 use Rattle.replay_spec.specs.Admission.{admit}
 use Rattle.instance_book.specs.Admissions.{book_under}

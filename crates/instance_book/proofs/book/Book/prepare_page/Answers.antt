@@ -1,15 +1,12 @@
-use Rattle.std.proofs.Common.{◌≡◌, ◌∙◌, ap, sym, subst, ℕ, ◌+◌, List, [], map, length, Some, None, IfOk, nat_le, true, false, arith, refl}
+use Rattle.std.proofs.Common.{◌≡◌, ◌∙◌, ap, sym, subst, ℕ, ◌+◌, [], length, Some, IfOk, nat_le, true, false, arith}
 use Rattle.std.proofs.lemmas.Bool.Decides.{nat_tests}
 use Rattle.std.specs.Option.{option_copied}
-use Rattle.instance_cells.specs.Views.{effect_of}
-use Rattle.script_nodes.specs.Setup.{Named}
 use Rattle.segments.specs.Views.{outcome_of, segment_of}
-use Rattle.replay_spec.specs.Book.{Instance, Page, at_number, instance_at}
+use Rattle.replay_spec.specs.Book.{Instance, instance_at}
 use Rattle.replay_spec.specs.Change.{done, shown_by}
 use Rattle.instance_book.specs.declared.prepared.Prepared.{Prepared}
 use Rattle.instance_book.specs.Views.{book_of, page_of, instance_of, instances_of}
 use Rattle.instance_book.specs.Prepares.{next_page, IsExtension, IsEnding, IsFinish}
-use Rattle.instance_book.specs.Segments.{Shows, gone_on}
 use Rattle.replay_spec.proofs.Numbered.{number_of}
 use Rattle.instance_book.proofs.Seen.{instance_some, instance_none, length_seen}
 use Rattle.instance_book.proofs.Lands.{page_full, extended, ending_lands, finish_lands, ending_room, room_made, under}

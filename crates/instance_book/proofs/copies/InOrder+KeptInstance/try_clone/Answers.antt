@@ -1,4 +1,4 @@
-use Rattle.std.proofs.Common.{◌≡◌, ◌∙◌, ◌++◌, ◌∷◌, ◌<◌, ap, map, sym, subst, length, get_or, ◌≤◌, List, [], arith}
+use Rattle.std.proofs.Common.{◌≡◌, ◌∙◌, ◌++◌, ◌∷◌, ◌<◌, ap, map, subst, length, get_or, ◌≤◌, List, []}
 use Rattle.instance_book.specs.Views.{instance_of}
 use Rattle.instance_book.specs.declared.numbered.Numbered.{Numbered}
 use Rattle.instance_book.specs.declared.instance.KeptInstance.{KeptInstance}

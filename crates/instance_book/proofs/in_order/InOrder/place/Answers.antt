@@ -1,4 +1,4 @@
-use Rattle.std.proofs.Common.{◌≡◌, ◌∙◌, sym, subst, List, None, IfNone}
+use Rattle.std.proofs.Common.{◌≡◌, subst, List, None, IfNone}
 use Rattle.std.specs.Result.{result_ok}
 use Rattle.replay_spec.specs.Book.{at_number}
 use Rattle.instance_book.specs.declared.numbered.Numbered.{Numbered}

@@ -4,7 +4,7 @@ use Rattle.replay_spec.specs.Book.{Page, Instance}
 use Rattle.replay_spec.specs.Change.{put_page, done, revoked_by}
 use Rattle.instance_book.specs.declared.numbered.Numbered.{Numbered}
 use Rattle.instance_book.specs.declared.page.KeptPage.{KeptPage}
-use Rattle.instance_book.specs.Views.{page_of, pages_of, instance_with}
+use Rattle.instance_book.specs.Views.{page_of, instance_with}
 use Rattle.instance_book.specs.Changes.{renewed_by}
 use Rattle.instance_book.specs.Prepares.{next_page}
 use Rattle.instance_book.proofs.instance.KeptInstance.shows.Goals as goal

@@ -1,4 +1,4 @@
-use Rattle.std.proofs.Common.{◌≡◌, ◌∙◌, ap, map, refl}
+use Rattle.std.proofs.Common.{refl}
 use Rattle.instance_book.proofs.prepare.Numbered+KeptInstance.ending.Goals as goal
 
 pub returns : goal.returns

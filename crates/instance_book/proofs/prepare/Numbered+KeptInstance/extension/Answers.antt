@@ -1,11 +1,10 @@
-use Rattle.std.proofs.Common.{◌≡◌, ◌∙◌, ap, map, refl}
+use Rattle.std.proofs.Common.{◌∙◌, ap, map, refl}
 use Rattle.script_value.specs.declared.outcome.Reply.{Reply}
 use Rattle.instance_cells.specs.Views.{effect_of}
 use Rattle.replay_spec.specs.Book as spec
 use Rattle.replay_spec.specs.Step as step
 use Rattle.replay_spec.specs.Step.{Decision, records}
 use Rattle.instance_book.specs.Views.{reply_of, page_of}
-use Rattle.instance_book.specs.Prepares.{next_page}
 use Rattle.instance_book.specs.Segments.{GoesOnBy}
 use Rattle.instance_book.proofs.prepare.Numbered+KeptInstance.extension.Goals as goal
 

@@ -1,4 +1,4 @@
-use Rattle.std.proofs.Common.{◌≡◌, ◌∙◌, ap, map, List}
+use Rattle.std.proofs.Common.{◌∙◌, ap, map, List}
 use Rattle.replay_spec.specs.Book.{Page, Instance}
 use Rattle.replay_spec.specs.Change.{put_page}
 use Rattle.instance_book.specs.declared.numbered.Numbered.{Numbered}

@@ -3,7 +3,7 @@ use Rattle.std.proofs.lemmas.Grind.{common_steps}
 use Rattle.script_value.specs.Val.{Val, number}
 use Rattle.script_value.specs.Views.{meaning}
 use Rattle.replay_spec.specs.Tape.{End}
-use Rattle.plain_rerun.specs.States.{Gives, inside_of, state_of}
+use Rattle.segment_progress.specs.States.{Gives, inside_of, state_of}
 use Rattle.plain_rerun.specs.Parts.{tree}
 use Rattle.plain_rerun.proofs.Turns.{repeat_goes, turn_kept}
 use Rattle.plain_rerun.proofs.engine.Engine.+visit.Goals as goal

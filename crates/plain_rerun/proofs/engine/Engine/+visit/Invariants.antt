@@ -2,7 +2,7 @@ use Rattle.std.proofs.Common.{◌≡◌, ◌+◌, ◌-◌, ◌*◌, drop, length
 use Rattle.script_value.specs.Views.{meaning}
 use Rattle.replay_spec.specs.Eval.{eval, eval_into, eval_while, turns}
 use Rattle.plain_rerun.specs.Parts.{tree, trees, passes, AreBehind}
-use Rattle.plain_rerun.specs.States.{state_of, inside_of}
+use Rattle.segment_progress.specs.States.{state_of, inside_of}
 use Rattle.plain_rerun.proofs.engine.Engine.+visit.Given as goal
 
 abbrev pub decreases-visit : goal.decreases-visit

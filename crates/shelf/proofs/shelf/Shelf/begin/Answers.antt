@@ -1,6 +1,5 @@
 use Rattle.std.proofs.Common.{ap, sym, subst}
 use Rattle.replay_spec.specs.Book.{Book}
-use Rattle.replay_spec.specs.Runs as runs
 use Rattle.replay_spec.specs.Invariant.{IsOrderly}
 use Rattle.shelf.specs.Views.{rules_of}
 use Rattle.shelf.proofs.shelf.Shelf.begin.Goals as goal

@@ -9,7 +9,6 @@ use Rattle.replay_spec.specs.Book.{Book, draw}
 use Rattle.replay_spec.specs.Admission.{admit}
 use Rattle.replay_spec.specs.Next as next
 use Rattle.replay_spec.specs.Step as step
-use Rattle.replay_spec.specs.Runs as runs
 use Rattle.replay_spec.specs.Invariant.{IsOrderly}
 use Rattle.instance_book.specs.Views.{book_of}
 use Rattle.instance_book.specs.Fits.{FitsAs}

@@ -1,0 +1,243 @@
+"""Clients that a server on a port of this machine has to outlast: each behaves badly in one way, and while it still holds
+its link a visitor comes and has to be served in time. hostile.sh starts the server; the scripts are `shop` and `long`."""
+
+import socket
+import struct
+import sys
+import time
+
+PORT = int(sys.argv[1])
+ONLY = sys.argv[2:]
+
+# What a link may take up to the end of its head, and then for its body and its reply; and what a visitor may wait beside.
+HEAD = BODY = 30
+SLACK = 5
+
+START = b"GET /servlets/shop HTTP/1.1\r\nHost: localhost\r\n\r\n"
+LONG = START.replace(b"shop", b"long")
+FORM = b"Content-Type: application/x-www-form-urlencoded\r\n"
+
+
+def link(timeout=2 * (HEAD + BODY)):
+    return socket.create_connection(("127.0.0.1", PORT), timeout)
+
+
+def read(sock):
+    """All that comes up to the end of the link; none of it counts where the other side resets the link."""
+    parts = []
+    try:
+        while part := sock.recv(65536):
+            parts.append(part)
+    except ConnectionResetError:
+        pass
+    return b"".join(parts)
+
+
+def post(length, body):
+    return b"POST /servlets/shop HTTP/1.1\r\nHost: localhost\r\n%sContent-Length: %d\r\n\r\n%s" % (FORM, length, body)
+
+
+def silent():
+    return link(), HEAD, b""
+
+
+def ended_at_once():
+    sock = link()
+    sock.shutdown(socket.SHUT_WR)
+    return sock, 0, b""
+
+
+def half_a_head():
+    sock = link()
+    sock.sendall(START[:20])
+    return sock, HEAD, b""
+
+
+def half_a_head_and_its_end():
+    sock = link()
+    sock.sendall(START[:20])
+    sock.shutdown(socket.SHUT_WR)
+    return sock, 0, b"400"
+
+
+def byte_by_byte():
+    """A byte every half a second, until the link is given up: the head is never whole in time."""
+    sock = link()
+    began = time.monotonic()
+    visit = Visit()
+    try:
+        for byte in START + 100 * b"x":
+            sock.sendall(bytes([byte]) if byte != 10 else b" ")
+            time.sleep(0.5)
+    except (BrokenPipeError, ConnectionResetError):
+        pass
+    return sock, HEAD, b"", began, visit
+
+
+def a_head_too_long():
+    sock = link()
+    sock.sendall(START[:-2] + b"X: " + 17_000 * b"x" + b"\r\n\r\n")
+    return sock, 0, b"431"
+
+
+def too_many_lines():
+    sock = link()
+    sock.sendall(START[:-2] + 65 * b"X: x\r\n" + b"\r\n")
+    return sock, 0, b"431"
+
+
+def a_body_too_long():
+    """It goes on sending while it is refused, and gets the refusal nevertheless."""
+    sock = link()
+    sock.sendall(post(1_000_000, 100_000 * b"x"))
+    return sock, 0, b"413"
+
+
+def a_body_shorter_than_told():
+    sock = link()
+    sock.sendall(post(100, b"name=Ann"))
+    return sock, BODY, b""
+
+
+def a_shorter_body_and_its_end():
+    sock = link()
+    sock.sendall(post(100, b"name=Ann"))
+    sock.shutdown(socket.SHUT_WR)
+    return sock, 0, b"400"
+
+
+def a_body_longer_than_told():
+    sock = link()
+    sock.sendall(post(8, b"name=Ann&name=Bo" + 5000 * b"x"))
+    return sock, 0, b"200"
+
+
+def a_body_byte_by_byte():
+    sock = link()
+    began = time.monotonic()
+    sock.sendall(post(1000, b""))
+    visit = Visit()
+    try:
+        for _ in range(200):
+            sock.sendall(b"x")
+            time.sleep(0.5)
+    except (BrokenPipeError, ConnectionResetError):
+        pass
+    return sock, BODY, b"", began, visit
+
+
+def two_requests():
+    sock = link()
+    sock.sendall(START + START)
+    return sock, 0, b"200"
+
+
+def a_reply_that_is_not_read():
+    sock = socket.socket()
+    sock.setsockopt(socket.SOL_SOCKET, socket.SO_RCVBUF, 4096)
+    sock.settimeout(2 * (HEAD + BODY))
+    sock.connect(("127.0.0.1", PORT))
+    sock.sendall(LONG)
+    return sock, BODY, None
+
+
+def a_reset_in_the_reply():
+    sock = link()
+    sock.sendall(LONG)
+    sock.recv(1000)
+    sock.setsockopt(socket.SOL_SOCKET, socket.SO_LINGER, struct.pack("ii", 1, 0))
+    sock.close()
+    return None, 0, None
+
+
+def many_links():
+    """Two hundred at once, that ask each for a page, and end behind it."""
+    socks = []
+    for _ in range(200):
+        socks.append(link())
+        socks[-1].sendall(START)
+    for sock in socks:
+        if not read(sock).startswith(b"HTTP/1.1 200 "):
+            raise AssertionError("not all of them were answered")
+        sock.close()
+    return None, 0, None
+
+
+def a_link_kept_open():
+    """It does not end the link: the server waits for that for a moment."""
+    sock = link()
+    sock.sendall(START)
+    return sock, 1, b"200"
+
+
+class Visit:
+    """A visitor, who asks at once and reads the reply later. How long the server took is told by when the reply came."""
+
+    def __init__(self):
+        self.began = time.monotonic()
+        self.sock = link()
+        self.sock.sendall(START)
+
+    def took(self):
+        reply = read(self.sock)
+        self.sock.close()
+        if not reply.startswith(b"HTTP/1.1 200 "):
+            raise AssertionError(f"the visitor got {reply[:40]}")
+        return time.monotonic() - self.began
+
+
+def tried(client):
+    """Runs one client and a visitor behind it, and says how both fared."""
+    began = time.monotonic()
+    sock, most, wanted, *rest = client()
+    began, visit = rest or (began, Visit())
+    took = visit.took()
+    if took > most + SLACK:
+        raise AssertionError(f"the visitor waited {took:.1f} s")
+    if sock and wanted is not None:
+        reply = read(sock)
+        if reply[:13] != (b"HTTP/1.1 %s " % wanted if wanted else b""):
+            raise AssertionError(f"the client got {reply[:40]}")
+        if time.monotonic() - began > most + SLACK:
+            raise AssertionError(f"the client held its link for {time.monotonic() - began:.1f} s")
+    if sock:
+        sock.close()
+    answer = "no reply" if not wanted else wanted.decode()
+    print(f"{client.__name__.replace('_', ' '):28} {answer:9} the visitor behind it was served after {took:4.1f} s", flush=True)
+
+
+CLIENTS = [
+    silent,
+    ended_at_once,
+    half_a_head,
+    half_a_head_and_its_end,
+    byte_by_byte,
+    a_head_too_long,
+    too_many_lines,
+    a_body_too_long,
+    a_body_shorter_than_told,
+    a_shorter_body_and_its_end,
+    a_body_longer_than_told,
+    a_body_byte_by_byte,
+    two_requests,
+    a_reply_that_is_not_read,
+    a_reset_in_the_reply,
+    a_link_kept_open,
+    many_links,
+]
+
+
+def main():
+    bad = 0
+    for client in CLIENTS:
+        if ONLY and client.__name__ not in ONLY:
+            continue
+        try:
+            tried(client)
+        except (AssertionError, OSError) as why:
+            bad += 1
+            print(f"{client.__name__.replace('_', ' '):28} WRONG: {why}", flush=True)
+    sys.exit(1 if bad else 0)
+
+
+main()

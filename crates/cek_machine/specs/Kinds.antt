@@ -1,0 +1,64 @@
+-- Which frames of the program stand on their nodes.
+use Rattle.std.specs.Prelude.{ℕ, ◌<◌, length, ⊤}
+use Rattle.script_nodes.specs.declared.script.Node.{Node}
+use Rattle.script_nodes.specs.declared.script.Node.TheVariants as node
+use Rattle.script_nodes.specs.Arena.{Arena, parts}
+use Rattle.machine_spec.specs.Machine.{node_at, bindings_in}
+use Rattle.cek_machine.specs.declared.frame.Frame.{Frame}
+use Rattle.cek_machine.specs.declared.frame.Frame.TheVariants as frame
+
+-- a sequence, a conjunction or a disjunction
+abbrev pub IsRow : Node → Type 0
+IsRow (node.Seq ps) = ⊤
+IsRow (node.And ps) = ⊤
+IsRow (node.Or ps) = ⊤
+IsRow _ = ⊥
+
+abbrev pub IsLet : Node → Type 0
+IsLet (node.Let bindings body) = ⊤
+IsLet _ = ⊥
+
+abbrev pub IsPrim : Node → Type 0
+IsPrim (node.Prim o ps) = ⊤
+IsPrim _ = ⊥
+
+abbrev pub IsIf : Node → Type 0
+IsIf (node.If test a b) = ⊤
+IsIf _ = ⊥
+
+abbrev pub IsFor : Node → Type 0
+IsFor (node.For count body) = ⊤
+IsFor _ = ⊥
+
+abbrev pub IsStore : Node → Type 0
+IsStore (node.CellShadow c e) = ⊤
+IsStore (node.InstSet c e) = ⊤
+IsStore (node.InstAdd c e) = ⊤
+IsStore _ = ⊥
+
+-- the node of a number is there and of this kind
+abbrev pub IsNodeAt : Arena → (Node → Type 0) → (node : ℕ) → Type 0
+IsNodeAt a IsKind n = (n < length a.nodes) × IsKind (node_at a n)
+
+-- and this part of it is there
+abbrev pub IsRowAt : Arena → (node part : ℕ) → Type 0
+IsRowAt a n k = IsNodeAt a IsRow n × (k < length (parts (node_at a n)))
+
+abbrev pub IsPrimAt : Arena → (node part : ℕ) → Type 0
+IsPrimAt a n k = IsNodeAt a IsPrim n × (k < length (parts (node_at a n)))
+
+abbrev pub IsLetAt : Arena → (node part : ℕ) → Type 0
+IsLetAt a n k = IsNodeAt a IsLet n × (k < length (bindings_in (node_at a n)))
+
+-- a frame stands on a node of its kind, in a part that is there
+abbrev pub Stands : Arena → Frame → Type 0
+Stands a (frame.Binding n done) = IsLetAt a n (length done)
+Stands a (frame.Operand n done) = IsPrimAt a n (length done)
+Stands a (frame.Seq n k) = IsRowAt a n k
+Stands a (frame.And n k) = IsRowAt a n k
+Stands a (frame.Or n k) = IsRowAt a n k
+Stands a (frame.If n k) = IsNodeAt a IsIf n
+Stands a (frame.Count n) = IsNodeAt a IsFor n
+Stands a (frame.Turn n turns done) = IsNodeAt a IsFor n
+Stands a (frame.Store n) = IsNodeAt a IsStore n
+Stands a _ = ⊤

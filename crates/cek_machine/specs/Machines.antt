@@ -1,0 +1,52 @@
+-- The machine of the program, and a step of it.
+use Rattle.std.specs.Prelude.{◌≡◌, ℕ, ◌+◌, ◌-◌, ◌*◌, ◌^◌, ◌<◌, [], Option, Some, None, unwrap_or}
+use Rattle.segments.specs.declared.ends.PlainEnd.{PlainEnd}
+use Rattle.segments.specs.Views.{outcome_of}
+use Rattle.segment_progress.specs.States.{state_of}
+use Rattle.script_nodes.specs.Arena.{Arena, IsScript}
+use Rattle.replay_spec.specs.Tape.{Now, Reads, bound}
+use Rattle.machine_spec.specs.Laws.{started}
+use Rattle.machine_spec.specs.Machine as spec
+use Rattle.machine_spec.specs.Machine.{inside_of, goes, stopped, step, steps}
+use Rattle.cek_machine.specs.declared.machine.Machine.{Machine}
+use Rattle.machine_spec.specs.Fits.{FitsAt}
+use Rattle.machine_spec.specs.Dues.{InSegment, owed}
+use Rattle.cek_machine.specs.Spots.{point, frames_of, control_of, Sound}
+
+abbrev pub machine_of : Machine → spec.Machine
+machine_of m = record { point = point m.control m.spot; state = state_of m.spot.progress }
+
+-- it fits its script, and what it is inside is its frames'
+abbrev pub IsReady : Machine → Type 0
+IsReady m = Sound m.spot × (IsScript m.script.now × FitsAt m.script.now (control_of m.control) m.spot.env (frames_of m.spot))
+
+-- its segment runs over present cells, with no answer left, and within its fuel
+abbrev pub IsWithin : Machine → Type 0
+IsWithin m = (fuel : ℕ) × ((fuel < 2 ^ 63) × InSegment fuel (state_of m.spot.progress))
+
+-- the fuel that bounds a segment
+abbrev pub most_cost : Reads → ℕ
+most_cost reads = unwrap_or (bound reads) 0
+
+-- the most steps that are left
+abbrev pub steps_left : spec.Machine → ℕ
+steps_left m = owed m.point + 2 * (most_cost m.state.segment.reads - m.state.cost)
+
+-- what is kept of a machine
+abbrev pub kept_of : Machine → spec.Suspended
+kept_of m = record { env = m.spot.env; frames = frames_of m.spot; shadows = (state_of m.spot.progress).shadows }
+
+-- it went on, or stopped so
+abbrev pub Steps : Option PlainEnd → (a : Arena) → (old new : Machine) → Type 0
+Steps None a old new = step a (machine_of old) ≡ goes (machine_of new)
+Steps (Some end) a old new = step a (machine_of old) ≡ stopped (outcome_of end) (inside_of (frames_of new.spot)) (kept_of new) (state_of new.spot.progress)
+
+-- a machine at the start of a segment
+abbrev pub start_of : Arena → Now → spec.Machine
+start_of a now = started a (record { first = now; later = [] })
+
+-- these steps were taken, and the last of them is this stop
+abbrev pub Runs : PlainEnd → (a : Arena) → (old new : Machine) → (before count : ℕ) → Type 0
+Runs end a old new before count =
+    (k : ℕ) × ((count ≡ before + k + 1) × ((mid : spec.Machine) × ((steps a k (machine_of old) ≡ goes mid)
+    × (step a mid ≡ stopped (outcome_of end) (inside_of (frames_of new.spot)) (kept_of new) (state_of new.spot.progress)))))

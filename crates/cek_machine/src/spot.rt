@@ -1,0 +1,205 @@
+ghost use Rattle.std.specs.Prelude.{◌≡◌, ◌<◌, ◌≤◌, ◌+◌, ◌-◌, ◌^◌, ◌∷◌, ◌++◌, [], length, suc, OnOk, IsTrue};
+ghost use Rattle.script_value.specs.Views.{meaning};
+ghost use Rattle.prim_ops.specs.Table.{takes};
+ghost use Rattle.replay_spec.specs.Tape.{send_page, shadow, set_cell, add_cell};
+ghost use Rattle.replay_spec.specs.Eval.{value_at, copied};
+ghost use Rattle.script_nodes.specs.declared.script.Node.TheVariants as variant;
+ghost use Rattle.machine_spec.specs.Machine.{inside_of, given, visits, next_part, next_operand, next_binding, visited};
+ghost use Rattle.cek_machine.specs.Spots.{Moves, Sound, SoundUnder, IsFlat, frame_of};
+
+use crate::frame::{Control, Frame};
+use script_nodes::SendKind;
+use script_value::{Items, Op, Value};
+use segment_progress::{Halt, Progress, applied};
+use std::alloc::Global;
+
+/// Where a machine is, its control aside.
+#[derive(Drop)]
+pub struct Spot<'t> {
+    pub env: Items,
+    pub frames: Vec<Frame>,
+    pub progress: Progress<'t>,
+}
+
+impl<'t> Spot<'t> {
+    /// A value that a node names is copied, and given.
+    pub fn copy_of(&mut self, alloc: Global, value: &Value) -> Result<Control, Halt>
+        requires { Sound self.old }
+        ensures gives { Moves result self.old self.new (λ env fs. given (copied (inside_of fs) (meaning value.now)) env fs) }
+        ensures sound { OnOk result (Sound self.new) }
+    {
+        let value = self.progress.copy_of(alloc, Some(value))?;
+        Ok(Control::Give(value))
+    }
+
+    /// A variable's value is copied, and given.
+    pub fn variable(&mut self, alloc: Global, place: usize) -> Result<Control, Halt>
+        requires { Sound self.old }
+        ensures gives { Moves result self.old self.new (λ env fs. given (copied (inside_of fs) (value_at env place)) env fs) }
+        ensures sound { OnOk result (Sound self.new) }
+    {
+        let value = self.progress.copy_of(alloc, self.env.get(place))?;
+        Ok(Control::Give(value))
+    }
+
+    /// The value of a web cell is copied, and given.
+    pub fn web_cell(&mut self, alloc: Global, node: u32, cell: u8) -> Result<Control, Halt>
+        requires { Sound self.old }
+        ensures gives { Moves result self.old self.new (visited node (variant.CellRef cell)) }
+        ensures sound { OnOk result (Sound self.new) }
+    {
+        let value = self.progress.web_cell(alloc, cell)?;
+        Ok(Control::Give(value))
+    }
+
+    /// The value of an instance cell is copied, and given.
+    pub fn instance_cell(&mut self, alloc: Global, node: u32, cell: u8) -> Result<Control, Halt>
+        requires { Sound self.old }
+        ensures gives { Moves result self.old self.new (visited node (variant.InstRef cell)) }
+        ensures sound { OnOk result (Sound self.new) }
+    {
+        let value = self.progress.instance_cell(alloc, cell)?;
+        Ok(Control::Give(value))
+    }
+
+    /// A part is worked on in this frame.
+    #[tactic(auto, using(crate::proofs::Stacks::stack_push))]
+    pub fn work(&mut self, frame: Frame, part: u32) -> Result<Control, Halt>
+        requires sound { Sound self.old }
+        requires flat { IsFlat frame }
+        ensures gives { Moves result self.old self.new (λ env fs. visits part env (frame_of frame ∷ fs)) }
+        ensures sound { OnOk result (Sound self.new) }
+    {
+        self.frames.push(frame)?;
+        Ok(Control::Visit(part))
+    }
+
+    /// The first of the parts that are left is worked on in this frame; behind them the value of the last is given.
+    pub fn next_part(&mut self, frame: Frame, left: &[u32], value: Value) -> Result<Control, Halt>
+        requires sound { Sound self.old }
+        requires flat { IsFlat frame }
+        ensures gives { Moves result self.old self.new (λ env fs. next_part (frame_of frame) left.now (meaning value) env fs) }
+        ensures sound { OnOk result (Sound self.new) }
+    {
+        match left {
+            [] => Ok(Control::Give(value)),
+            [part, ..] => self.work(frame, *part),
+        }
+    }
+
+    /// The first of the operands that are left is worked on; behind them the value of the operation is given.
+    pub fn next_operand(
+        &mut self,
+        alloc: Global,
+        node: u32,
+        op: Op,
+        left: &[u32],
+        done: Items,
+    ) -> Result<Control, Halt>
+        requires sound { Sound self.old }
+        requires full { IsTrue (takes op (length done + length left.now)) }
+        ensures gives { Moves result self.old self.new (λ env fs. next_operand node op left.now done env fs) }
+        ensures sound { OnOk result (Sound self.new) }
+    {
+        match left {
+            [] => {
+                let value = applied(alloc, op, done)?;
+                Ok(Control::Give(value))
+            }
+            [part, ..] => self.work(Frame::Operand { node, done }, *part),
+        }
+    }
+
+    /// The first of the bindings that are left is worked on; behind them the body, under their values.
+    pub fn next_binding(
+        &mut self,
+        node: u32,
+        left: &[u32],
+        body: u32,
+        done: Items,
+    ) -> Result<Control, Halt>
+        requires sound { Sound self.old }
+        ensures gives { Moves result self.old self.new (λ env fs. next_binding node left.now body done env fs) }
+        ensures sound { OnOk result (Sound self.new) }
+    {
+        match left {
+            [] => {
+                let bound = done.len();
+                self.env.append(done)?;
+                self.work(Frame::Body { node, bound }, body)
+            }
+            [part, ..] => self.work(Frame::Binding { node, done }, *part),
+        }
+    }
+
+    /// A page is sent: the answer to it, or the stop there.
+    pub fn send(&mut self, alloc: Global, kind: SendKind, page: &Value) -> Result<Control, Halt>
+        requires { Sound self.old }
+        ensures gives { Moves result self.old self.new (λ env fs. given (send_page (inside_of fs) kind (meaning page.now)) env fs) }
+        ensures sound { OnOk result (Sound self.new) }
+    {
+        let value = self.progress.send(alloc, kind, page)?;
+        Ok(Control::Give(value))
+    }
+
+    /// The page of a send is worked on, under the URL.
+    #[tactic(auto, using(crate::proofs::Stacks::stack_push))]
+    pub fn page(
+        &mut self,
+        alloc: Global,
+        node: u32,
+        kind: SendKind,
+        body: u32,
+    ) -> Result<Control, Halt>
+        requires { Sound self.old }
+        ensures gives { Moves result self.old self.new (visited node (variant.Send kind body)) }
+        ensures sound { OnOk result (Sound self.new) }
+    {
+        self.progress.charge(1)?;
+        let url = self.progress.url(alloc)?;
+        self.env.push(url)?;
+        self.work(Frame::Page { node, kind }, body)
+    }
+
+    /// A transaction is entered, and its part is worked on.
+    #[tactic(auto, using(crate::proofs::Stacks::stack_push))]
+    pub fn isolate(&mut self, node: u32, body: u32) -> Result<Control, Halt>
+        requires { Sound self.old }
+        ensures gives { Moves result self.old self.new (visited node (variant.Isolate body)) }
+        ensures sound { OnOk result (Sound self.new) }
+    {
+        let name = self.progress.enter()?;
+        self.frames.push(Frame::Isolate { node, name })?;
+        Ok(Control::Visit(body))
+    }
+
+    /// A web cell is bound to a value.
+    pub fn shadow(&mut self, cell: u8, value: Value) -> Result<Control, Halt>
+        requires { Sound self.old }
+        ensures gives { Moves result self.old self.new (λ env fs. given (shadow cell (meaning value)) env fs) }
+        ensures sound { OnOk result (Sound self.new) }
+    {
+        let value = self.progress.shadow(cell, value)?;
+        Ok(Control::Give(value))
+    }
+
+    /// An instance cell is set to a value.
+    pub fn set_cell(&mut self, alloc: Global, cell: u8, value: Value) -> Result<Control, Halt>
+        requires { Sound self.old }
+        ensures gives { Moves result self.old self.new (λ env fs. given (set_cell cell (meaning value)) env fs) }
+        ensures sound { OnOk result (Sound self.new) }
+    {
+        let value = self.progress.set_cell(alloc, cell, value)?;
+        Ok(Control::Give(value))
+    }
+
+    /// A value is added to an instance cell.
+    pub fn add_cell(&mut self, alloc: Global, cell: u8, value: &Value) -> Result<Control, Halt>
+        requires { Sound self.old }
+        ensures gives { Moves result self.old self.new (λ env fs. given (add_cell (inside_of fs) cell (meaning value.now)) env fs) }
+        ensures sound { OnOk result (Sound self.new) }
+    {
+        let value = self.progress.add_cell(alloc, cell, value)?;
+        Ok(Control::Give(value))
+    }
+}

@@ -1,5 +1,0 @@
-use Rattle.script_server.proofs.Endings.{early}
-use Rattle.script_server.proofs.command.run_input.Goals as goal
-
-pub returns-in-Err-Memory-clause-outputs : goal.returns-in-Err-Memory-clause-outputs
-returns-in-Err-Memory-clause-outputs g c = early _ _ _ _ _ _ _ c.no_memory.ensures.status c.no_memory.ensures.line

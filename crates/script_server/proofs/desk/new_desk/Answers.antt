@@ -1,7 +1,0 @@
-use Rattle.std.proofs.Common.{◌∙◌, ap}
-use Rattle.script_nodes.specs.Views.{scripts_of}
-use Rattle.script_server.specs.Desk.{first_desk}
-use Rattle.script_server.proofs.desk.new_desk.Goals as goal
-
-pub returns : goal.returns
-returns c = c.new_staff.ensures.desk c.rules_of.ensures.number ∙ ap first_desk (c.rules_of.ensures.rules (scripts_of c.args.setup.now))

@@ -1,0 +1,10 @@
+//! How far a run has used its tape, what its segment did so far, and why it halts.
+#![tactic(auto)]
+
+mod halt;
+mod progress;
+mod values;
+
+pub use halt::{Halt, How, halt_at};
+pub use progress::{Next, Progress, Rest, Source};
+pub use values::{applied, is_false, turn_count};

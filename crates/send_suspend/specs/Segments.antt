@@ -1,0 +1,77 @@
+-- What a segment that goes on from a stored state comes to.
+use Rattle.std.specs.Prelude.{◌≡◌, ℕ, List, length, map, ⊤}
+use Rattle.script_value.specs.Val.{Val}
+use Rattle.script_nodes.specs.Arena.{Arena, script_of}
+use Rattle.instance_cells.specs.Cells.{reads_of}
+use Rattle.instance_cells.specs.Views.{effect_of}
+use Rattle.segments.specs.declared.ends.PlainEnd.{PlainEnd}
+use Rattle.segments.specs.Views as plain
+use Rattle.replay_spec.specs.Tape as spec
+use Rattle.replay_spec.specs.Tape.{Answer, Reads, recorded, present, State, Tape}
+use Rattle.replay_spec.specs.Eval as eval
+use Rattle.replay_spec.specs.Laws.{reading, longer}
+use Rattle.machine_spec.specs.Machine as machine
+use Rattle.machine_spec.specs.Machine.{inside_of}
+use Rattle.machine_spec.specs.Fits.{Fits}
+use Rattle.machine_spec.specs.Laws.{started, resumed, alone, IsStateOf}
+use Rattle.cek_machine.specs.declared.frame.Suspended.{Suspended}
+use Rattle.cek_machine.specs.Spots.{suspended_of}
+use Rattle.send_suspend.specs.declared.segment.Origin.{Origin}
+use Rattle.send_suspend.specs.declared.segment.Origin.TheVariants.{Start, Page}
+use Rattle.send_suspend.specs.declared.segment.Outcome.{Outcome}
+use Rattle.send_suspend.specs.declared.segment.Outcome.TheVariants.{Shown, Finished, Ended, Faulted, Fuel}
+use Rattle.send_suspend.specs.declared.segment.Segment.{Segment}
+
+abbrev pub outcome_of : Outcome → spec.Outcome
+outcome_of (Shown page kind state) = spec.paged (spec.shows kind) page
+outcome_of (Finished page) = spec.paged spec.finishes page
+outcome_of (Ended page) = spec.paged spec.ends page
+outcome_of (Faulted k) = spec.faulted k
+outcome_of (Fuel cost) = spec.out_of_fuel cost
+
+-- this holds of what is kept, where it waits for an answer
+abbrev pub Keeps : Outcome → (machine.Suspended → Type 0) → Type 0
+Keeps (Shown page kind state) P = P (suspended_of state)
+Keeps _ P = ⊤
+
+-- the stop of a machine, with this state where it waits for an answer
+abbrev pub Ends : Outcome → PlainEnd → Suspended → Type 0
+Ends o end state = (outcome_of o ≡ plain.outcome_of end) × Keeps o (λ d. d ≡ suspended_of state)
+
+-- the answer behind which a segment over present cells runs
+abbrev pub newest : (value : Val) → (number : ℕ) → (url : List ℕ) → (cells : List Val) → (fuel : ℕ) → Answer
+newest value number url cells fuel = record { value = value; segment = record { number = number; url = url; reads = present cells fuel } }
+
+-- the state of a page fits its script
+abbrev pub FitsFrom : Arena → Origin → Type 0
+FitsFrom a Start = ⊤
+FitsFrom a (Page d) = Fits a (suspended_of d)
+
+abbrev pub frames_in : Origin → ℕ
+frames_in Start = 0
+frames_in (Page d) = length d.frames.items
+
+-- the machine that begins there
+abbrev pub begun : Origin → Arena → Answer → machine.Machine
+begun Start a x = started a (alone x.segment x.segment.reads)
+begun (Page d) a x = resumed a (suspended_of d) x
+
+-- It is what the last segment of a run comes to; a page is inside the transactions of its state's frames.
+abbrev pub IsLast : Segment → eval.Segment → Type 0
+IsLast r s =
+    (outcome_of r.outcome ≡ s.outcome) × ((map effect_of r.effects.items ≡ s.effects) × ((r.left.items ≡ s.left) × ((r.cost ≡ s.cost)
+    × Keeps r.outcome (λ d. inside_of d.frames ≡ s.entered))))
+
+-- It is the last segment of the script, run from its start over this tape. Where it waits for an answer, its state is that of
+-- this tape, and of the tape with what was read recorded.
+abbrev pub IsLastOver : Arena → Segment → (tape : Reads → Tape) → (now : Reads) → Type 0
+IsLastOver a r tape now =
+    IsLast r (eval.run (script_of a) (tape now))
+    × (Keeps r.outcome (λ d. IsStateOf a (tape now) d)
+    × Keeps r.outcome (λ d. IsStateOf a (tape (recorded (reads_of (map effect_of r.effects.items)))) d))
+
+-- From the start it is the script over the one segment. From the state of a tape it is the script over the tape with this answer
+-- and segment behind it.
+abbrev pub Replays : Origin → Arena → Answer → Segment → Type 0
+Replays Start a x r = IsLastOver a r (λ reads. alone x.segment reads) x.segment.reads
+Replays (Page d) a x r = (t : Tape) → IsStateOf a t (suspended_of d) → IsLastOver a r (λ reads. longer (reading reads x) t) x.segment.reads

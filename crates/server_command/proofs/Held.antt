@@ -1,0 +1,182 @@
+-- What workers hold is out, and each publish of a desk's run is lawful.
+use Rattle.std.proofs.Common.{◌≡◌, ◌≢◌, ◌⊎◌, ◌∙◌, ap, sym, subst, refl, inl, inr, ⊎_elim, ℕ, ◌+◌, ◌<◌, zero, suc, ◌==◌, List, [], ◌∷◌, ◌++◌, length, slice_get, slice_set, Option, Some, None, not, filter, arith}
+use Rattle.std.proofs.lemmas.List.{length-set}
+use Rattle.script_value.specs.Val.{Val}
+use Rattle.page_names.specs.Names.{Destination}
+use Rattle.script_nodes.specs.Setup.{Named}
+use Rattle.replay_spec.specs.Book.{Book, draw}
+use Rattle.replay_spec.specs.Rules.{Rules}
+use Rattle.replay_spec.specs.Next.{Ticket}
+use Rattle.replay_spec.specs.Step.{publish, sweep, Fate, Reply, taken}
+use Rattle.replay_spec.specs.Runs.{Shelf, shelf_step}
+use Rattle.replay_spec.specs.Invariant.{Among}
+use Rattle.replay_spec.specs.Laws.{Takes, IsLawful}
+use Rattle.replay_spec.proofs.Stand.{among_drawn, among_spent}
+use Rattle.server_command.specs.Target.{shelf_for}
+use Rattle.server_command.specs.Desk.{Desk, counting, first_desk, taken_by}
+use Rattle.server_command.proofs.Kept.{published, swept, of_among, among_other}
+use Rattle.server_command.proofs.Places.{at_set, none_there, same_Some}
+
+-- The numbers that are out were drawn. What workers hold is out on its shelf, and of one shelf they hold different numbers.
+pub record AreOut (n : ℕ) (ss : List Shelf) (held : List (Option Ticket)) : Type 0 where
+  pub count : length ss ≡ n
+  pub below : (k : ℕ) (s : Shelf) → slice_get ss k ≡ Some s → (m : ℕ) → Among m s.book.out → m < s.book.drawn
+  pub out : (w : ℕ) (t : Ticket) → slice_get held w ≡ Some (Some t) → (s : Shelf) → slice_get ss (shelf_for n w t.target) ≡ Some s
+      → Among t.number s.book.out
+  pub apart : (v w : ℕ) (t u : Ticket) → slice_get held v ≡ Some (Some t) → slice_get held w ≡ Some (Some u)
+      → shelf_for n v t.target ≡ shelf_for n w u.target → t.number ≡ u.number → v ≡ w
+
+pub first_orderly : (rules : Rules) (scripts : List Named) → AreOut 1 (first_desk rules scripts).shelves (first_desk rules scripts).held
+first_orderly rules scripts = record {
+  count = refl;
+  below = nothing_out;
+  out = λ w t h s e. absurd (none_there 16 w t h);
+  apart = λ v w t u h g same e. absurd (none_there 16 v t h);
+}
+  where
+    nothing_out : (k : ℕ) (s : Shelf) → slice_get (first_desk rules scripts).shelves k ≡ Some s → (m : ℕ) → Among m s.book.out → m < s.book.drawn
+    nothing_out zero s e m h = absurd (subst (λ (x : Shelf). Among m x.book.out) (sym (same_Some _ s e)) h)
+    nothing_out (suc k) s e m h = absurd (let no : None ≡ Some s = e in cc)
+
+-- a place that is this one
+moved : (ss : List Shelf) (j k : ℕ) (s : Shelf) → j ≡ k → slice_get ss k ≡ Some s → slice_get ss j ≡ Some s
+moved ss j k s e here = subst (λ i. slice_get ss i ≡ Some s) (sym e) here
+
+-- a shelf on which the same numbers are out
+pub orderly_same : (n : ℕ) (ss : List Shelf) (held : List (Option Ticket)) (k : ℕ) (s new : Shelf) → slice_get ss k ≡ Some s
+    → new.book.out ≡ s.book.out → new.book.drawn ≡ s.book.drawn → AreOut n ss held → AreOut n (slice_set ss k new) held
+orderly_same n ss held k s new here out drawn o = record {
+  count = length-set ss k new ∙ o.count;
+  below = λ j x e m h. elim (at_set ss k j new x e) [
+    | inl p ↦
+        (let was : Among m s.book.out = subst (Among m) (ap (λ (y : Shelf). y.book.out) (sym p.1) ∙ out) h in
+        omega (arith, o.below k s here m was, ap (λ (y : Shelf). y.book.drawn) p.1, drawn))
+    | inr p ↦ o.below j x p.1 m h
+  ];
+  out = λ w t h x e. elim (at_set ss k (shelf_for n w t.target) new x e) [
+    | inl p ↦ subst (Among t.number) (sym out ∙ ap (λ (y : Shelf). y.book.out) p.1) (o.out w t h s (moved ss (shelf_for n w t.target) k s p.0 here))
+    | inr p ↦ o.out w t h x p.1
+  ];
+  apart = o.apart;
+}
+
+-- a ticket that is published is held no more, and its number is not out
+pub orderly_spent : (n : ℕ) (ss : List Shelf) (held : List (Option Ticket)) (k worker : ℕ) (s new : Shelf) (t : Ticket) → slice_get ss k ≡ Some s
+    → k ≡ shelf_for n worker t.target → slice_get held worker ≡ Some (Some t)
+    → new.book.out ≡ filter (λ m. not (m == t.number)) s.book.out → new.book.drawn ≡ s.book.drawn → AreOut n ss held
+    → AreOut n (slice_set ss k new) (slice_set held worker None)
+orderly_spent n ss held k worker s new t here place holds out drawn o = record {
+  count = length-set ss k new ∙ o.count;
+  below = λ j x e m h. elim (at_set ss k j new x e) [
+    | inl p ↦
+        (let was : Among m (filter (λ i. not (i == t.number)) s.book.out) = subst (Among m) (ap (λ (y : Shelf). y.book.out) (sym p.1) ∙ out) h in
+        omega (arith, o.below k s here m (among_spent m t.number s.book.out was).0, ap (λ (y : Shelf). y.book.drawn) p.1, drawn))
+    | inr p ↦ o.below j x p.1 m h
+  ];
+  out = λ w u h x e. elim (at_set ss k (shelf_for n w u.target) new x e) [
+    | inl p ↦
+        (let was = old w u h in
+        let other : u.number ≢ t.number = λ same. was.0 (o.apart w worker u t was.1 holds (p.0 ∙ place) same) in
+        subst (Among u.number) (sym out ∙ ap (λ (y : Shelf). y.book.out) p.1)
+        (among_other u.number t.number s.book.out other (o.out w u was.1 s (moved ss (shelf_for n w u.target) k s p.0 here))))
+    | inr p ↦ o.out w u (old w u h).1 x p.1
+  ];
+  apart = λ v w x u g h same e. o.apart v w x u (old v x g).1 (old w u h).1 same e;
+}
+  where
+    old : (w : ℕ) (u : Ticket) → slice_get (slice_set held worker None) w ≡ Some (Some u) → (w ≢ worker) × (slice_get held w ≡ Some (Some u))
+    old w u h = elim (at_set held worker w None (Some u) h) [ inl p ↦ absurd (let no : None ≡ Some u = p.1 in cc) | inr p ↦ p ]
+
+among_more : (n m : ℕ) (ms : List ℕ) → Among n ms → Among n (ms ++ m ∷ [])
+among_more n m [] h = absurd h
+among_more n m (k ∷ ms) (inl e) = inl e
+among_more n m (k ∷ ms) (inr h) = inr (among_more n m ms h)
+
+among_last : (n : ℕ) (ms : List ℕ) → Among n (ms ++ n ∷ [])
+among_last n [] = inl refl
+among_last n (k ∷ ms) = inr (among_last n ms)
+
+-- a ticket that is taken has the number that was drawn
+pub orderly_taken : (n : ℕ) (ss : List Shelf) (held : List (Option Ticket)) (k worker : ℕ) (s new : Shelf) (t : Ticket) → slice_get ss k ≡ Some s
+    → k ≡ shelf_for n worker t.target → t.number ≡ s.book.drawn → new.book ≡ draw s.book → AreOut n ss held
+    → AreOut n (slice_set ss k new) (slice_set held worker (Some t))
+orderly_taken n ss held k worker s new t here place number is o = record {
+  count = length-set ss k new ∙ o.count;
+  below = λ j x e m h. elim (at_set ss k j new x e) [
+    | inl p ↦
+        (let was : Among m (s.book.out ++ s.book.drawn ∷ []) = subst (Among m) (ap (λ (y : Shelf). y.book.out) (sym p.1) ∙ out) h in
+        let more : x.book.drawn ≡ s.book.drawn + 1 = ap (λ (y : Shelf). y.book.drawn) (sym p.1) ∙ ap (λ (b : Book). b.drawn) is in
+        ⊎_elim (λ there. omega (arith, o.below k s here m there, more)) (λ last. omega (arith, last, more)) (among_drawn m s.book.drawn s.book.out was))
+    | inr p ↦ o.below j x p.1 m h
+  ];
+  out = λ w u h x e. elim (at_set ss k (shelf_for n w u.target) new x e) [
+    | inl p ↦ subst (Among u.number) (sym out ∙ ap (λ (y : Shelf). y.book.out) p.1) (is_out w u h p.0)
+    | inr p ↦ elim (case w u h) [
+      | inl q ↦ absurd (p.0 (mine w u q))
+      | inr q ↦ o.out w u q.1 x p.1
+    ]
+  ];
+  apart = λ v w x u g h same e. elim (case v x g) [
+    | inl p ↦ elim (case w u h) [
+      | inl q ↦ p.0 ∙ sym q.0
+      | inr q ↦ absurd (fresh w u q.1 (sym same ∙ mine v x p) (sym e ∙ drawn_by v x p))
+    ]
+    | inr p ↦ elim (case w u h) [
+      | inl q ↦ absurd (fresh v x p.1 (same ∙ mine w u q) (e ∙ drawn_by w u q))
+      | inr q ↦ o.apart v w x u p.1 q.1 same e
+    ]
+  ];
+}
+  where
+    out : new.book.out ≡ s.book.out ++ s.book.drawn ∷ []
+    out = ap (λ (b : Book). b.out) is
+
+    case : (w : ℕ) (u : Ticket) → slice_get (slice_set held worker (Some t)) w ≡ Some (Some u)
+        → ((w ≡ worker) × (Some t ≡ Some u)) ⊎ ((w ≢ worker) × (slice_get held w ≡ Some (Some u)))
+    case w u h = at_set held worker w (Some t) (Some u) h
+
+    mine : (w : ℕ) (u : Ticket) → (w ≡ worker) × (Some t ≡ Some u) → shelf_for n w u.target ≡ k
+    mine w u q = ap (λ i. shelf_for n i u.target) q.0 ∙ ap (λ (x : Ticket). shelf_for n worker x.target) (sym (same_Some t u q.1)) ∙ sym place
+
+    drawn_by : (w : ℕ) (u : Ticket) → (w ≡ worker) × (Some t ≡ Some u) → u.number ≡ s.book.drawn
+    drawn_by w u q = ap (λ (x : Ticket). x.number) (sym (same_Some t u q.1)) ∙ number
+
+    fresh : (w : ℕ) (u : Ticket) → slice_get held w ≡ Some (Some u) → shelf_for n w u.target ≡ k → u.number ≡ s.book.drawn → ⊥
+    fresh w u h at e = let low = o.below k s here u.number (o.out w u h s (moved ss (shelf_for n w u.target) k s at here)) in omega (arith, low, e)
+
+    is_out : (w : ℕ) (u : Ticket) → slice_get (slice_set held worker (Some t)) w ≡ Some (Some u) → shelf_for n w u.target ≡ k
+        → Among u.number (s.book.out ++ s.book.drawn ∷ [])
+    is_out w u h at = elim (case w u h) [
+      | inl q ↦ subst (λ m. Among m (s.book.out ++ s.book.drawn ∷ [])) (sym (drawn_by w u q)) (among_last s.book.drawn s.book.out)
+      | inr q ↦ among_more u.number s.book.drawn s.book.out (o.out w u q.1 s (moved ss (shelf_for n w u.target) k s at here))
+    ]
+
+-- ---- the events
+
+-- a take, by what it was answered
+pub take_orderly : (n : ℕ) (d : Desk) (k worker : ℕ) (target : Destination) (answer : Val) (nonce : ℕ) (s new : Shelf) (r : Reply) → slice_get d.shelves k ≡ Some s
+    → k ≡ shelf_for n worker target → Takes s.book nonce r new.book → AreOut n d.shelves d.held
+    → (let x = taken_by d k worker target answer (r, new) in AreOut n x.1.shelves x.1.held)
+take_orderly n d k worker target answer nonce s new (taken number drawn) here place took o =
+    orderly_taken n d.shelves d.held k worker s new (record { target = target; answer = answer; number = number; nonce = drawn }) here place took.0 took.2 o
+take_orderly n d k worker target answer nonce s new r here place took o =
+    orderly_same n d.shelves d.held k s new here (ap (λ (b : Book). b.out) took) (ap (λ (b : Book). b.drawn) took) o
+
+pub publish_orderly : (n : ℕ) (d : Desk) (k worker : ℕ) (t : Ticket) (fate : Fate) (s : Shelf) → slice_get d.shelves k ≡ Some s
+    → k ≡ shelf_for n worker t.target → slice_get d.held worker ≡ Some (Some t) → AreOut n d.shelves d.held
+    → AreOut n (slice_set d.shelves k (shelf_step counting s (publish t) fate).1) (slice_set d.held worker None)
+publish_orderly n d k worker t fate s here place holds o =
+    let kept = published s.rules s.book (counting s.nonces) t fate in
+    orderly_spent n d.shelves d.held k worker s (shelf_step counting s (publish t) fate).1 t here place holds kept.out kept.drawn o
+
+pub sweep_orderly : (n : ℕ) (d : Desk) (k tick : ℕ) (fate : Fate) (s : Shelf) → slice_get d.shelves k ≡ Some s → AreOut n d.shelves d.held
+    → AreOut n (slice_set d.shelves k (shelf_step counting s (sweep tick) fate).1) d.held
+sweep_orderly n d k tick fate s here o =
+    let kept = swept s.rules s.book (counting s.nonces) tick fate in
+    orderly_same n d.shelves d.held k s (shelf_step counting s (sweep tick) fate).1 here kept.out kept.drawn o
+
+-- a publish of what a worker holds
+pub publish_lawful : (n : ℕ) (d : Desk) (k worker : ℕ) (t : Ticket) (s : Shelf) → slice_get d.shelves k ≡ Some s → k ≡ shelf_for n worker t.target
+    → slice_get d.held worker ≡ Some (Some t) → AreOut n d.shelves d.held → IsLawful (publish t) s.book
+publish_lawful n d k worker t s here place holds o =
+    of_among s.book.out t.number (o.out worker t holds s (moved d.shelves (shelf_for n worker t.target) k s (sym place) here))

@@ -1,0 +1,14 @@
+pub mod Places
+pub mod Endings
+pub mod Causes
+pub mod Kept
+pub mod Open
+pub mod Happening
+pub mod Fitting
+pub mod Stepping
+pub mod Playing
+pub mod Servings
+pub mod ShelfRuns
+pub mod Held
+pub mod Entering
+pub mod Transcribed
