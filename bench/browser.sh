@@ -19,7 +19,7 @@ cd "$here" || exit 1
 ./hovgyelit serve --port 0 -- examples/shop.scm examples/hotel.scm >"$work/counts" 2>"$work/where" &
 server=$!
 tries=0
-until grep -q listening "$work/where"; do
+until grep -q listening "$work/where" 2>/dev/null; do
     tries=$((tries + 1))
     [ "$tries" -le 100 ] || fail "it does not listen: $(cat "$work/where")"
     sleep 0.1

@@ -26,7 +26,7 @@ awk 'BEGIN {
     -- "$here/examples/shop.scm" "$work/long.scm" >"$work/counts" 2>"$work/where" &
 server=$!
 tries=0
-until grep -q listening "$work/where"; do
+until grep -q listening "$work/where" 2>/dev/null; do
     tries=$((tries + 1))
     [ "$tries" -le 100 ] || fail "it does not listen: $(cat "$work/where")"
     sleep 0.1

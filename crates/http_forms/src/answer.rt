@@ -29,7 +29,8 @@ pub fn path_and_query(target: &[u8]) -> (&[u8], &[u8])
 
 // A binding: a symbol and a text.
 fn binding(alloc: Global, name: &str, value: &str) -> Result<Value, AllocError>
-    ensures { IfOk result (λ v. meaning v ≡ list (val (symbol name.now) (val (text value.now) no_vals))) }
+    ensures { IfOk result (λ v.
+        meaning v ≡ list (val (symbol name.now) (val (text value.now) no_vals))) }
 {
     let mut pair = Items::new(alloc);
     pair.push(Value::Symbol(Str::new(String::from_str(alloc, name)?)))?;
@@ -39,7 +40,8 @@ fn binding(alloc: Global, name: &str, value: &str) -> Result<Value, AllocError>
 
 // Puts the pairs of a form behind the bindings, in order.
 fn push_pairs(alloc: Global, bindings: &mut Items, pairs: &[u8]) -> Result<(), AllocError>
-    ensures { OnOk result (bindings.new ≡ bindings.old ++ map spec.binding_of (form.raw_pairs pairs.now)) }
+    ensures { OnOk result
+        (bindings.new ≡ bindings.old ++ map spec.binding_of (form.raw_pairs pairs.now)) }
 {
     for pair in parse(alloc, pairs) {
         let (name, value) = pair?;

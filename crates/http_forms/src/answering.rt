@@ -27,7 +27,8 @@ pub trait Answering {
     ) -> Reply
         requires { (rules self.now).IsOwn pass.old }
         ensures own { (rules self.now).IsOwn pass.new }
-        ensures visit { (rules self.now).Visits pass.old (target_of target.now) (meaning answer) result pass.new };
+        ensures visit { (rules self.now).Visits pass.old (target_of target.now)
+            (meaning answer) result pass.new };
 
     /// Sweeps each shelf at the tick, in seconds: how many instances it freed, or the reply that says why none, in the
     /// order of the shelves. An error is want of memory for their list.

@@ -30,7 +30,8 @@ fn same_letters(left: &[u8], right: &[u8]) -> bool
 
 // What was found with one value more.
 fn with_one<'a>(found: Found<'a>, value: &'a [u8]) -> Found<'a>
-    ensures { (values : List (List ℕ)) → IsFound values found.entry → IsFound (values ++ value.now ∷ []) result }
+    ensures { (values : List (List ℕ)) → IsFound values found.entry →
+        IsFound (values ++ value.now ∷ []) result }
 {
     match found {
         Found::Absent => Found::Once(value),
@@ -67,7 +68,8 @@ fn number(digits: &[u8]) -> u32
 
 /// The length that the fields Content-Length give the body, if there are any. One above `u32::MAX` counts as that.
 pub(crate) fn announced(found: Found<'_>) -> Result<Option<u32>, Refused>
-    ensures { (values : List (List ℕ)) → IsFound values found.entry → result ≡ capped (spec.announced values) }
+    ensures { (values : List (List ℕ)) → IsFound values found.entry →
+        result ≡ capped (spec.announced values) }
 {
     match found {
         Found::Absent => Ok(None),
@@ -170,7 +172,8 @@ fn has_close(value: &[u8]) -> bool
 /// Source: RFC 9110, section 7.6.1, and RFC 9112, section 9.6.
 pub(crate) fn says_close(lines: &[u8], headers: &[HeaderSpan]) -> bool
     requires { All (IsHeaderWithin (length lines.now)) headers.now }
-    ensures { result ≡ spec.say_close (spec.values_of (codes "Connection") (map (header_bytes lines.now) headers.now)) }
+    ensures { result ≡ spec.say_close
+        (spec.values_of (codes "Connection") (map (header_bytes lines.now) headers.now)) }
 {
     let mut says = false;
     for header in headers {

@@ -71,7 +71,8 @@ fn moved(progress: Progress, bytes: &[u8]) -> Progress
 fn wanted_by(progress: Progress, bytes: &[u8]) -> usize
     requires { KnowsBy progress bytes.now }
     ensures decided { result ≡ 0 → IsDecided bytes.now }
-    ensures short { (more : List ℕ) → length more < result → Decides (bytes.now ++ more) false unfinished }
+    ensures short { (more : List ℕ) → length more < result →
+        Decides (bytes.now ++ more) false unfinished }
     ensures enough { Suffices result bytes.now }
 {
     match progress {
@@ -101,7 +102,8 @@ impl RequestScanner {
         requires { Follows self.old bytes.now }
         ensures decided { result ≡ 0 → IsDecided bytes.now }
         // However many bytes fewer than these are read, the request is unfinished.
-        ensures short { (more : List ℕ) → length more < result → Decides (bytes.now ++ more) false unfinished }
+        ensures short { (more : List ℕ) → length more < result →
+            Decides (bytes.now ++ more) false unfinished }
         ensures enough { Suffices result bytes.now }
         ensures knows { Knows self.new bytes.now }
         ensures goes_on { (more : List ℕ) → Follows self.new (bytes.now ++ more) }

@@ -50,7 +50,8 @@ fn write_three<O: Sink>(
     second: &[u8],
     third: &[u8],
 ) -> Result<(), Failed>
-    ensures { Writes (O.view sink.old) (O.view sink.new) (first.now ++ (second.now ++ third.now)) result }
+    ensures { Writes (O.view sink.old) (O.view sink.new)
+        (first.now ++ (second.now ++ third.now)) result }
 {
     write_all(sink, first)?;
     write_all(sink, second)?;
@@ -59,7 +60,8 @@ fn write_three<O: Sink>(
 
 // Writes the lines up to the length.
 fn write_front<O: Sink>(sink: &mut O, status: Status, media_type: &str) -> Result<(), Failed>
-    ensures { Writes (O.view sink.old) (O.view sink.new) (spec.first_lines status media_type.now) result }
+    ensures { Writes (O.view sink.old) (O.view sink.new)
+        (spec.first_lines status media_type.now) result }
 {
     write_three(sink, b"HTTP/1.1 ", status.text().as_bytes(), b"\r\n")?;
     write_three(
@@ -85,7 +87,8 @@ fn last_lines(closes: bool) -> &'static str
 // Writes the length of a body in two pieces, the last lines, and the body.
 fn write_body<O: Sink>(sink: &mut O, closes: bool, body: &[u8], end: &[u8]) -> Result<(), Failed>
     requires { length body.now + length end.now < 2 ^ 64 }
-    ensures { Writes (O.view sink.old) (O.view sink.new) (spec.length_and_body closes (body.now ++ end.now)) result }
+    ensures { Writes (O.view sink.old) (O.view sink.new)
+        (spec.length_and_body closes (body.now ++ end.now)) result }
 {
     let mut digits = Buffer::new();
     let length = digits.format(body.len() + end.len());
@@ -103,7 +106,8 @@ fn write_message<O: Sink>(
     end: &[u8],
 ) -> Result<(), Failed>
     requires { length body.now + length end.now < 2 ^ 64 }
-    ensures { Writes (O.view sink.old) (O.view sink.new) (spec.message status closes media_type.now (body.now ++ end.now)) result }
+    ensures { Writes (O.view sink.old) (O.view sink.new)
+        (spec.message status closes media_type.now (body.now ++ end.now)) result }
 {
     write_front(sink, status, media_type)?;
     write_body(sink, closes, body, end)
@@ -111,7 +115,8 @@ fn write_message<O: Sink>(
 
 // Writes a page, as HTML.
 fn write_page<O: Sink>(sink: &mut O, closes: bool, page: &[u8]) -> Result<(), Failed>
-    ensures { Writes (O.view sink.old) (O.view sink.new) (spec.page_message closes page.now) result }
+    ensures { Writes (O.view sink.old) (O.view sink.new)
+        (spec.page_message closes page.now) result }
 {
     write_message(sink, Status::Ok, closes, "text/html", page, b"")
 }
@@ -137,7 +142,8 @@ fn write_told<O: Sink>(sink: &mut O, closes: bool, reply: &Reply) -> Result<(), 
 
 #[tactic(auto, unfolding(crate::specs::Reply::reply_text))]
 fn write_answer<O: Sink>(sink: &mut O, closes: bool, answer: &Answer) -> Result<(), Failed>
-    ensures { Writes (O.view sink.old) (O.view sink.new) (spec.reply_text answer.now closes) result }
+    ensures { Writes (O.view sink.old) (O.view sink.new)
+        (spec.reply_text answer.now closes) result }
 {
     match answer {
         Answer::Reply(reply) => write_told(sink, closes, reply),
@@ -148,9 +154,11 @@ fn write_answer<O: Sink>(sink: &mut O, closes: bool, answer: &Answer) -> Result<
 /// Writes the answer, whole or as far as the sink takes it, and hands it on. It says whether the connection is closed behind
 /// it. It takes no memory.
 pub fn write_reply<O: Sink>(answer: &Answer, closes: bool, sink: &mut O) -> Result<(), Failed>
-    ensures ok { OnOk result (Appends (O.view sink.old).written (O.view sink.new).written (spec.reply_text answer.now closes)) }
+    ensures ok { OnOk result (Appends (O.view sink.old).written (O.view sink.new).written
+        (spec.reply_text answer.now closes)) }
     ensures handed { OnOk result (HandsOn (O.view sink.new).written (O.view sink.new).handed) }
-    ensures part { AppendsPart (O.view sink.old).written (O.view sink.new).written (spec.reply_text answer.now closes) }
+    ensures part { AppendsPart (O.view sink.old).written (O.view sink.new).written
+        (spec.reply_text answer.now closes) }
     ensures cause { HasCause (O.view sink.old).faults (O.view sink.new).faults result }
 {
     write_answer(sink, closes, answer)?;

@@ -64,7 +64,8 @@ fn request_for(
     body: &[u8],
 ) -> Result<Request, AllocError>
     requires { IsWithin (length lines.now) asked.target }
-    ensures { IfOk result (λ r. visit_in r ≡ spec.visit_of count (asked_of lines.now asked) body.now) }
+    ensures { IfOk result (λ r.
+        visit_in r ≡ spec.visit_of count (asked_of lines.now asked) body.now) }
 {
     let (path, query) = path_and_query(asked.target.of(lines));
     let form: &[u8] = if asked.posts { body } else { &[] };

@@ -30,13 +30,15 @@ pub(crate) struct Asked {
 }
 
 fn is_one(found: Found<'_>) -> bool
-    ensures { (values : List (List ℕ)) → IsFound values found.entry → result ≡ fields.is_one values }
+    ensures { (values : List (List ℕ)) → IsFound values found.entry →
+        result ≡ fields.is_one values }
 {
     matches!(found, Found::Once(_))
 }
 
 fn is_none(found: Found<'_>) -> bool
-    ensures { (values : List (List ℕ)) → IsFound values found.entry → result ≡ fields.is_none values }
+    ensures { (values : List (List ℕ)) → IsFound values found.entry →
+        result ≡ fields.is_none values }
 {
     matches!(found, Found::Absent)
 }
@@ -107,7 +109,8 @@ fn fields_verdict(
     headers: &[HeaderSpan],
 ) -> Result<Asked, Refused>
     requires { All (IsHeaderWithin (length lines.now)) headers.now }
-    ensures judges { judged_of lines.now result ≡ spec.fields_verdict minor method.now (span_bytes lines.now target)
+    ensures judges { judged_of lines.now result ≡ spec.fields_verdict minor method.now
+        (span_bytes lines.now target)
         (map (header_bytes lines.now) headers.now) }
     ensures target { IfOk result (λ asked. asked.target ≡ target) }
 {
@@ -152,7 +155,8 @@ fn head_verdict(lines: &[u8]) -> Result<Asked, Refused>
 /// What a whole head asks for, or the first row that refuses it.
 pub(crate) fn judge(head: &[u8]) -> Result<Asked, Refused>
     ensures judges { Judges head.now (judged_of (without_blank head.now) result) }
-    ensures within { IfOk result (λ asked. IsWithin (length (without_blank head.now)) asked.target) }
+    ensures within { IfOk result (λ asked.
+        IsWithin (length (without_blank head.now)) asked.target) }
     ensures short { OnOk result (length head.now ≤ 16384) }
 {
     let lines = without_blank(head);

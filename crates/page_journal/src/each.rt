@@ -45,7 +45,8 @@ fn read_body<D: Disk>(
 ) -> Result<(), Failed>
     requires inside { IsTrue D.tells → place + size ≤ length (D.view disk.old).seen }
     requires room { size ≤ vec_capacity buffer.old }
-    ensures bytes { IsTrue D.tells → OnOk result (buffer.new.items ≡ take size (drop place (D.view disk.old).seen)) }
+    ensures bytes { IsTrue D.tells →
+        OnOk result (buffer.new.items ≡ take size (drop place (D.view disk.old).seen)) }
     ensures size { OnOk result (length buffer.new.items ≡ size) }
     ensures capacity { vec_capacity buffer.old ≤ vec_capacity buffer.new }
     ensures quiet { IsQuiet (D.view disk.old) (D.view disk.new) }
@@ -63,15 +64,18 @@ impl<D: Disk> Journal<D> {
     pub fn for_each<T: Take>(&mut self, taker: &mut T) -> Result<(), DiskFault>
         requires sound { IsSound self.old }
         requires settled { IsTrue D.tells → IsSettled D.view self.old }
-        ensures taken { IsTrue D.tells → OnOk result (TakesAll T.takes taker.old 8 (bodies_in D.view self.old) taker.new) }
-        ensures front { IsTrue D.tells → TakesFront T.takes taker.old (bodies_in D.view self.old) taker.new }
+        ensures taken { IsTrue D.tells →
+            OnOk result (TakesAll T.takes taker.old 8 (bodies_in D.view self.old) taker.new) }
+        ensures front { IsTrue D.tells →
+            TakesFront T.takes taker.old (bodies_in D.view self.old) taker.new }
         ensures handed { (bodies : List (List ℕ)) × TakesAll T.takes taker.old 8 bodies taker.new }
         ensures quiet { IsQuiet (view_of D.view self.old) (view_of D.view self.new) }
         ensures len { length_of self.new ≡ length_of self.old }
         ensures whole { is_broken self.new ≡ is_broken self.old }
         ensures sound { IsSound self.new }
         ensures settled { IsTrue D.tells → IsSettled D.view self.new }
-        ensures cause { OnErr result (HasFailed (view_of D.view self.old) (view_of D.view self.new)) }
+        ensures cause { OnErr result
+            (HasFailed (view_of D.view self.old) (view_of D.view self.new)) }
     {
         let len = self.end + 1;
         let mut place = 8;

@@ -82,13 +82,16 @@ impl<D: Disk> Journal<D> {
             × (bodies_in D.view self.new ≡ bodies_in D.view self.old ++ body.now ∷ [])) }
 
         // A crash at any moment of the call leaves the records from before it, with the new one or without.
-        ensures any_moment { IsTrue D.tells → LeavesOnly (view_of D.view self.old) (view_of D.view self.new)
+        ensures any_moment { IsTrue D.tells →
+            LeavesOnly (view_of D.view self.old) (view_of D.view self.new)
             (MayHold (bodies_in D.view self.old) body.now) }
 
         ensures full { let len = length_with self.old body.now in
             2 ^ 30 < len → (result ≡ Err (AppendFault.Full len)) × (self.new ≡ self.old) }
-        ensures only_full { length_with self.old body.now ≤ 2 ^ 30 → OnErr result (result ≡ Err AppendFault.DiskFault) }
-        ensures cause { IsErrOf result AppendFault.DiskFault → HasFailed (view_of D.view self.old) (view_of D.view self.new) }
+        ensures only_full { length_with self.old body.now ≤ 2 ^ 30 →
+            OnErr result (result ≡ Err AppendFault.DiskFault) }
+        ensures cause { IsErrOf result AppendFault.DiskFault →
+            HasFailed (view_of D.view self.old) (view_of D.view self.new) }
         ensures later { (view_of D.view self.old).faults ≤ (view_of D.view self.new).faults }
     {
         let gate = self.end;

@@ -60,11 +60,15 @@ pub fn recover<D: Disk>(alloc: Global, disk: &mut D, len: u64) -> Result<Opening
     requires end { len ≤ (D.view disk.old).end }
     requires left { 1 ≤ (D.view disk.old).left }
     ensures fits { IfOk result (λ opening. opening.end + 1 ≤ 2 ^ 30) }
-    ensures opened { IsTrue D.tells → IfOk result (λ opening. IsOpened (D.view disk.old) (D.view disk.new) opening) }
+    ensures opened { IsTrue D.tells →
+        IfOk result (λ opening. IsOpened (D.view disk.old) (D.view disk.new) opening) }
     ensures refused { IsTrue D.tells → IsFault (D.view disk.old) (D.view disk.new) result }
-    ensures cause { IsErrOf result JournalFault.DiskFault → HasFailed (D.view disk.old) (D.view disk.new) }
-    ensures any_moment { IsTrue D.tells → MayHoldNowAndThroughout (D.view disk.old) (D.view disk.new) }
-    ensures closed_stays { IsTrue D.tells → ClosedNowAndThroughout (D.view disk.old) (D.view disk.new) }
+    ensures cause { IsErrOf result JournalFault.DiskFault →
+        HasFailed (D.view disk.old) (D.view disk.new) }
+    ensures any_moment { IsTrue D.tells →
+        MayHoldNowAndThroughout (D.view disk.old) (D.view disk.new) }
+    ensures closed_stays { IsTrue D.tells →
+        ClosedNowAndThroughout (D.view disk.old) (D.view disk.new) }
     ensures later { (D.view disk.old).faults ≤ (D.view disk.new).faults }
 {
     disk.sync()?;
@@ -85,11 +89,15 @@ pub fn recover<D: Disk>(alloc: Global, disk: &mut D, len: u64) -> Result<Opening
 /// The same of any disk; an empty one gets a journal with no records.
 pub fn recover_or_create<D: Disk>(alloc: Global, disk: &mut D) -> Result<Opening, JournalFault>
     ensures fits { IfOk result (λ opening. opening.end + 1 ≤ 2 ^ 30) }
-    ensures opened { IsTrue D.tells → IfOk result (λ opening. IsOpened (D.view disk.old) (D.view disk.new) opening) }
+    ensures opened { IsTrue D.tells →
+        IfOk result (λ opening. IsOpened (D.view disk.old) (D.view disk.new) opening) }
     ensures refused { IsTrue D.tells → IsFault (D.view disk.old) (D.view disk.new) result }
-    ensures cause { IsErrOf result JournalFault.DiskFault → HasFailed (D.view disk.old) (D.view disk.new) }
-    ensures any_moment { IsTrue D.tells → MayHoldNowAndThroughout (D.view disk.old) (D.view disk.new) }
-    ensures closed_stays { IsTrue D.tells → ClosedNowAndThroughout (D.view disk.old) (D.view disk.new) }
+    ensures cause { IsErrOf result JournalFault.DiskFault →
+        HasFailed (D.view disk.old) (D.view disk.new) }
+    ensures any_moment { IsTrue D.tells →
+        MayHoldNowAndThroughout (D.view disk.old) (D.view disk.new) }
+    ensures closed_stays { IsTrue D.tells →
+        ClosedNowAndThroughout (D.view disk.old) (D.view disk.new) }
     ensures later { (D.view disk.old).faults ≤ (D.view disk.new).faults }
 {
     let len = disk.len()?;
@@ -113,13 +121,19 @@ impl<D: Disk> Journal<D> {
         ensures sound { IfOk result (λ journal. IsSound journal) }
         ensures whole { IfOk result (λ journal. is_broken journal ≡ false) }
         ensures settled { IsTrue D.tells → IfOk result (λ journal. IsSettled D.view journal) }
-        ensures records { IsTrue D.tells → IfOk result (λ journal. bodies_in D.view journal ≡ stored (D.view disk).seen) }
-        ensures before_or_with { IsTrue D.tells → IfOk result (λ journal. IsBeforeOrWith (D.view disk) (bodies_in D.view journal)) }
+        ensures records { IsTrue D.tells →
+            IfOk result (λ journal. bodies_in D.view journal ≡ stored (D.view disk).seen) }
+        ensures before_or_with { IsTrue D.tells →
+            IfOk result (λ journal. IsBeforeOrWith (D.view disk) (bodies_in D.view journal)) }
         ensures intact { IsTrue D.tells → OnOk result (IsIntactOrEmpty (D.view disk)) }
-        ensures refused { IsTrue D.tells → IsFault (D.view disk) (D.view (disk_of result)) (fault_of result) }
-        ensures cause { IsErrOf (fault_of result) JournalFault.DiskFault → HasFailed (D.view disk) (D.view (disk_of result)) }
-        ensures any_moment { IsTrue D.tells → MayHoldNowAndThroughout (D.view disk) (D.view (disk_of result)) }
-        ensures closed_stays { IsTrue D.tells → ClosedNowAndThroughout (D.view disk) (D.view (disk_of result)) }
+        ensures refused { IsTrue D.tells →
+            IsFault (D.view disk) (D.view (disk_of result)) (fault_of result) }
+        ensures cause { IsErrOf (fault_of result) JournalFault.DiskFault →
+            HasFailed (D.view disk) (D.view (disk_of result)) }
+        ensures any_moment { IsTrue D.tells →
+            MayHoldNowAndThroughout (D.view disk) (D.view (disk_of result)) }
+        ensures closed_stays { IsTrue D.tells →
+            ClosedNowAndThroughout (D.view disk) (D.view (disk_of result)) }
         ensures later { (D.view disk).faults ≤ (D.view (disk_of result)).faults }
     {
         let mut disk = disk;

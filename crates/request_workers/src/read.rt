@@ -46,8 +46,10 @@ fn read_into<S: Source>(
     piece: &mut [u8],
 ) -> Result<usize, ReadStop>
     requires { 0 < length piece.old }
-    ensures read { ReadsPiece (S.view source.old).left (S.view source.new).left bytes.old.items bytes.new.items (length piece.old) result }
-    ensures failed { IsErrOf result ReadStop.Failed → Rose (S.view source.old).faults (S.view source.new).faults }
+    ensures read { ReadsPiece (S.view source.old).left
+        (S.view source.new).left bytes.old.items bytes.new.items (length piece.old) result }
+    ensures failed { IsErrOf result ReadStop.Failed →
+        Rose (S.view source.old).faults (S.view source.new).faults }
     ensures later { (S.view source.old).faults ≤ (S.view source.new).faults }
 {
     let count = source.read(piece)?;
@@ -62,8 +64,10 @@ fn read_piece<S: Source>(
     wanted: usize,
 ) -> Result<usize, ReadStop>
     requires { 0 < wanted }
-    ensures read { ReadsPiece (S.view source.old).left (S.view source.new).left bytes.old.items bytes.new.items wanted result }
-    ensures failed { IsErrOf result ReadStop.Failed → Rose (S.view source.old).faults (S.view source.new).faults }
+    ensures read { ReadsPiece (S.view source.old).left
+        (S.view source.new).left bytes.old.items bytes.new.items wanted result }
+    ensures failed { IsErrOf result ReadStop.Failed →
+        Rose (S.view source.old).faults (S.view source.new).faults }
     ensures later { (S.view source.old).faults ≤ (S.view source.new).faults }
 {
     if wanted == 1 {
@@ -84,9 +88,11 @@ pub(crate) fn read_bytes<S: Source>(
 ) -> Result<bool, ReadStop>
     requires none { bytes.old.items ≡ [] }
     requires begins { (bytes : List ℕ) → Follows scanner.old bytes }
-    ensures read { ReadsAll (S.view source.old).left (S.view source.new).left bytes.new.items result }
+    ensures read { ReadsAll (S.view source.old).left
+        (S.view source.new).left bytes.new.items result }
     ensures knows { IfOk result (λ _. Knows scanner.new bytes.new.items) }
-    ensures failed { IsErrOf result ReadStop.Failed → Rose (S.view source.old).faults (S.view source.new).faults }
+    ensures failed { IsErrOf result ReadStop.Failed →
+        Rose (S.view source.old).faults (S.view source.new).faults }
     ensures later { (S.view source.old).faults ≤ (S.view source.new).faults }
 {
     let mut wanted = scanner.wanted(bytes);

@@ -41,7 +41,8 @@ fn judge(
 /// Reads the bytes of one request, and not one too many.
 pub(crate) fn read_request<S: Source>(alloc: Global, source: &mut S) -> Result<Incoming, ReadStop>
     ensures came { Comes (S.view source.old).left (S.view source.new).left result }
-    ensures failed { IsErrOf result ReadStop.Failed → Rose (S.view source.old).faults (S.view source.new).faults }
+    ensures failed { IsErrOf result ReadStop.Failed →
+        Rose (S.view source.old).faults (S.view source.new).faults }
     ensures later { (S.view source.old).faults ≤ (S.view source.new).faults }
 {
     let mut bytes = Vec::new(alloc);

@@ -54,7 +54,8 @@ fn visit<A: Answering, G: Gate>(
 ) -> Reply
     requires { (A.rules answering.now).IsOwn pass.old }
     ensures own { (A.rules answering.now).IsOwn pass.new }
-    ensures reply { Replies (A.rules answering.now) pass.old (option_map target_of target) (meaning answer) result pass.new }
+    ensures reply { Replies (A.rules answering.now) pass.old (option_map target_of target)
+        (meaning answer) result pass.new }
 {
     match target {
         Some(target) => answering.visit(alloc, pass, &target, answer, gate),
@@ -97,7 +98,8 @@ fn told(answer: Answer, whole: bool) -> Served
 }
 
 /// Serves one link: reads the bytes of one request and not one more, makes the visit that they ask for, and writes its
-/// reply, behind which the link closes; or writes why they are refused. An error is want of memory: then no visit was made, and nothing was written.
+/// reply, behind which the link closes; or writes why they are refused. An error is want of memory: then no visit was
+/// made, and nothing was written.
 pub fn serve_one<A: Answering, L: Link, G: Gate>(
     alloc: Global,
     answering: &A,
@@ -107,7 +109,8 @@ pub fn serve_one<A: Answering, L: Link, G: Gate>(
 ) -> Result<Served, AllocError>
     requires { (A.rules answering.now).IsOwn pass.old }
     ensures own { (A.rules answering.now).IsOwn pass.new }
-    ensures served { ServesOrDrops (A.rules answering.now) pass.old pass.new (L.view link.old) (L.view link.new) result }
+    ensures served { ServesOrDrops (A.rules answering.now) pass.old pass.new (L.view link.old)
+        (L.view link.new) result }
     ensures later { IsLater (L.view link.old) (L.view link.new) }
 {
     let incoming = match read_request(alloc, link.input()) {

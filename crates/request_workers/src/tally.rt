@@ -51,7 +51,8 @@ impl Tally {
     // One visit more, which had this reply.
     fn count_visit(&mut self, reply: &Reply)
         requires { IsBelow (count_of self.old) COUNT_LIMIT }
-        ensures count { count_of self.new ≡ spec.both (count_of self.old) (spec.visit_count reply.now) }
+        ensures count { count_of self.new ≡ spec.both (count_of self.old)
+            (spec.visit_count reply.now) }
         ensures end { self.new.end ≡ self.old.end }
     {
         match Told::of(reply) {
@@ -63,7 +64,8 @@ impl Tally {
     // One link more, which was served so.
     fn count_served(&mut self, how: &Served)
         requires { IsBelow (count_of self.old) COUNT_LIMIT }
-        ensures count { count_of self.new ≡ spec.both (count_of self.old) (spec.served_count how.now) }
+        ensures count { count_of self.new ≡ spec.both (count_of self.old)
+            (spec.served_count how.now) }
         ensures end { self.new.end ≡ self.old.end }
     {
         match how {
@@ -80,7 +82,8 @@ impl Tally {
     // One link more, which was served so, or dropped.
     pub(crate) fn count(&mut self, how: &Result<Served, AllocError>)
         requires { IsBelow (count_of self.old) COUNT_LIMIT }
-        ensures count { count_of self.new ≡ spec.both (count_of self.old) (spec.link_count how.now) }
+        ensures count { count_of self.new ≡ spec.both (count_of self.old)
+            (spec.link_count how.now) }
         ensures end { self.new.end ≡ self.old.end }
     {
         match how {

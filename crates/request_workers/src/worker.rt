@@ -51,7 +51,8 @@ fn take_turn<A: Answering, P: Porch, C: Clock, G: Gate>(
     requires own { (A.rules answering.now).IsOwn pass.old }
     requires counts { IsBelow (count_of tally.old) (2 ^ 62) }
     ensures own { (A.rules answering.now).IsOwn pass.new }
-    ensures turn { Takes (A.rules answering.now) P.Link.view (C.shows clock.now) result pass.old pass.new
+    ensures turn { Takes (A.rules answering.now) P.Link.view
+        (C.shows clock.now) result pass.old pass.new
         (P.view porch.old) (P.view porch.new) (count_of tally.old) (count_of tally.new) }
     ensures end { EndsTurn result (P.view porch.old) (P.view porch.new) }
     ensures given { (P.view porch.new).given ≡ given_by result (P.view porch.old).given }
@@ -85,7 +86,8 @@ pub fn work<A: Answering, P: Porch, C: Clock, G: Gate>(
 ) -> Tally
     requires { (A.rules answering.now).IsOwn pass.old }
     ensures own { (A.rules answering.now).IsOwn pass.new }
-    ensures worked { Worked (A.rules answering.now) P.Link.view (C.shows clock.now) pass.old pass.new
+    ensures worked { Worked (A.rules answering.now) P.Link.view
+        (C.shows clock.now) pass.old pass.new
         (P.view porch.old) (P.view porch.new) (count_of result) }
     ensures end { EndsBy result.end (P.view porch.old) (P.view porch.new) }
     // Each link counts each thing once at most, so the counts of many workers have a sum.

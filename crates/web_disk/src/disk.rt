@@ -27,7 +27,8 @@ pub trait Disk {
     /// Fills the buffer with the bytes from a place on. No byte is asked for past the end.
     fn read(&mut self, place: u64, buf: &mut [u8]) -> Result<(), Failed>
         requires { IsTrue tells → place + length buf.old ≤ length (view self.old).seen }
-        ensures bytes { IsTrue tells → OnOk result (buf.new ≡ take (length buf.old) (drop place (view self.old).seen)) }
+        ensures bytes { IsTrue tells →
+            OnOk result (buf.new ≡ take (length buf.old) (drop place (view self.old).seen)) }
         ensures seen { (view self.new).seen ≡ (view self.old).seen }
         ensures images { NoNewImage (view self.old) (view self.new) }
         ensures call { IsCall 0 (view self.old) (view self.new) result }
@@ -39,7 +40,8 @@ pub trait Disk {
         requires end { place + length piece.now ≤ (view self.old).end }
         requires left { length piece.now ≤ (view self.old).left }
         requires ready { 0 < (view self.old).ready }
-        ensures written { IsTrue tells → OnOk result (Holds (view self.old).seen place piece.now (view self.new).seen) }
+        ensures written { IsTrue tells →
+            OnOk result (Holds (view self.old).seen place piece.now (view self.new).seen) }
         ensures images { Spoils place (place + length piece.now) (view self.old) (view self.new) }
         ensures call { IsCall (length piece.now) (view self.old) (view self.new) result };
 
@@ -47,7 +49,8 @@ pub trait Disk {
     fn cut(&mut self, len: u64) -> Result<(), Failed>
         requires inside { IsTrue tells → len ≤ length (view self.old).seen }
         requires ready { 0 < (view self.old).ready }
-        ensures cut { IsTrue tells → OnOk result ((view self.new).seen ≡ take len (view self.old).seen) }
+        ensures cut { IsTrue tells →
+            OnOk result ((view self.new).seen ≡ take len (view self.old).seen) }
         ensures images { Cuts len (view self.old) (view self.new) }
         ensures call { IsCall 0 (view self.old) (view self.new) result };
 

@@ -116,7 +116,8 @@ impl Disk for MemoryDisk {
 
     fn read(&mut self, place: u64, buf: &mut [u8]) -> Result<(), Failed>
         requires { place + length buf.old ≤ length (memory_view self.old).seen }
-        ensures bytes { OnOk result (buf.new ≡ take (length buf.old) (drop place (memory_view self.old).seen)) }
+        ensures bytes { OnOk result
+            (buf.new ≡ take (length buf.old) (drop place (memory_view self.old).seen)) }
         ensures seen { (memory_view self.new).seen ≡ (memory_view self.old).seen }
         ensures images { NoNewImage (memory_view self.old) (memory_view self.new) }
         ensures call { IsCall 0 (memory_view self.old) (memory_view self.new) result }
@@ -140,9 +141,12 @@ impl Disk for MemoryDisk {
         requires end { place + length piece.now ≤ (memory_view self.old).end }
         requires left { length piece.now ≤ (memory_view self.old).left }
         requires ready { 0 < (memory_view self.old).ready }
-        ensures written { OnOk result (Holds (memory_view self.old).seen place piece.now (memory_view self.new).seen) }
-        ensures images { Spoils place (place + length piece.now) (memory_view self.old) (memory_view self.new) }
-        ensures call { IsCall (length piece.now) (memory_view self.old) (memory_view self.new) result }
+        ensures written { OnOk result
+            (Holds (memory_view self.old).seen place piece.now (memory_view self.new).seen) }
+        ensures images { Spoils place (place + length piece.now) (memory_view self.old)
+            (memory_view self.new) }
+        ensures call { IsCall (length piece.now) (memory_view self.old)
+            (memory_view self.new) result }
         ensures obeys { Obeys self.old self.new result }
         ensures does { DoesWrite place piece.now self.old self.new }
     {
@@ -166,7 +170,8 @@ impl Disk for MemoryDisk {
     fn cut(&mut self, len: u64) -> Result<(), Failed>
         requires inside { len ≤ length (memory_view self.old).seen }
         requires ready { 0 < (memory_view self.old).ready }
-        ensures cut { OnOk result ((memory_view self.new).seen ≡ take len (memory_view self.old).seen) }
+        ensures cut { OnOk result
+            ((memory_view self.new).seen ≡ take len (memory_view self.old).seen) }
         ensures images { Cuts len (memory_view self.old) (memory_view self.new) }
         ensures call { IsCall 0 (memory_view self.old) (memory_view self.new) result }
         ensures obeys { Obeys self.old self.new result }

@@ -79,7 +79,8 @@ impl MemoryRack {
 
     // Puts a disk into the place of this number, if there is one.
     fn put_back(&mut self, number: u32, disk: MemoryDisk)
-        ensures there { place_of self.old number ≢ None → place_of self.new number ≡ Some (Some disk) }
+        ensures there { place_of self.old number ≢ None →
+            place_of self.new number ≡ Some (Some disk) }
         ensures home { is_lent self.new number ≡ false }
         ensures others { (n : ℕ) → n ≢ number → place_of self.new n ≡ place_of self.old n }
         ensures wreck { self.new.wreck ≡ self.old.wreck }
@@ -105,13 +106,17 @@ impl Rack<MemoryDisk> for MemoryRack {
 
     // It fails exactly where it is listed, and where the disk is out or there is none.
     fn take(&mut self, alloc: Global, directory: &str, number: u32) -> Result<MemoryDisk, RackFault>
-        ensures images { IfOk result (λ disk. AreAmong (memory_view disk).images (may_hold self.old number)) }
-        ensures taken { IfOk result (λ disk. IsTakenFrom self.old.wreck (disk_in (place_of self.old number)) disk) }
+        ensures images { IfOk result (λ disk.
+            AreAmong (memory_view disk).images (may_hold self.old number)) }
+        ensures taken { IfOk result (λ disk.
+            IsTakenFrom self.old.wreck (disk_in (place_of self.old number)) disk) }
         ensures fresh { IfOk result (λ disk. (memory_view disk).faults ≡ 0) }
         ensures out { OnOk result (is_lent self.new number ≡ true) }
-        ensures others { (n : ℕ) → n ≢ number → AreAmong (may_hold self.new n) (may_hold self.old n) }
+        ensures others { (n : ℕ) → n ≢ number →
+            AreAmong (may_hold self.new n) (may_hold self.old n) }
         ensures others_out { (n : ℕ) → n ≢ number → is_lent self.new n ≡ is_lent self.old n }
-        ensures err { OnErr result ((n : ℕ) → AreAmong (may_hold self.new n) (may_hold self.old n)) }
+        ensures err { OnErr result ((n : ℕ) →
+            AreAmong (may_hold self.new n) (may_hold self.old n)) }
         ensures err_out { OnErr result ((n : ℕ) → is_lent self.new n ≡ is_lent self.old n) }
         ensures failed { IsErrOf result RackFault.Failed → Rose self.old.faults self.new.faults }
         ensures later { self.old.faults ≤ self.new.faults }
@@ -142,12 +147,16 @@ impl Rack<MemoryDisk> for MemoryRack {
     }
 
     fn give(&mut self, number: u32, disk: MemoryDisk)
-        ensures images { is_lent self.old number ≡ true → AreAmong (may_hold self.new number) (memory_view disk).images }
-        ensures there { is_lent self.old number ≡ true → place_of self.new number ≡ Some (Some disk) }
+        ensures images { is_lent self.old number ≡ true →
+            AreAmong (may_hold self.new number) (memory_view disk).images }
+        ensures there { is_lent self.old number ≡ true →
+            place_of self.new number ≡ Some (Some disk) }
         ensures home { is_lent self.new number ≡ false }
-        ensures others { (n : ℕ) → n ≢ number → AreAmong (may_hold self.new n) (may_hold self.old n) }
+        ensures others { (n : ℕ) → n ≢ number →
+            AreAmong (may_hold self.new n) (may_hold self.old n) }
         ensures others_out { (n : ℕ) → n ≢ number → is_lent self.new n ≡ is_lent self.old n }
-        ensures faults { self.new.faults ≡ min (self.old.faults + (memory_view disk).faults) (2 ^ 64 - 1) }
+        ensures faults { self.new.faults ≡ min (self.old.faults + (memory_view disk).faults)
+            (2 ^ 64 - 1) }
         ensures takes { self.new.takes ≡ self.old.takes }
         ensures rules { SameRules self.old self.new }
     {

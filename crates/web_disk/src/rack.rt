@@ -49,21 +49,28 @@ pub trait Rack<D: Disk> {
 
     /// Takes the disk of this number out of the directory.
     fn take(&mut self, alloc: Global, directory: &str, number: u32) -> Result<D, RackFault>
-        ensures images { IsTrue tells → IfOk result (λ disk. AreAmong (D.view disk).images ((view self.old).holds number)) }
+        ensures images { IsTrue tells →
+            IfOk result (λ disk. AreAmong (D.view disk).images ((view self.old).holds number)) }
         ensures fresh { IfOk result (λ disk. (D.view disk).faults ≡ 0) }
         ensures out { OnOk result ((view self.new).out number ≡ true) }
-        ensures others { (n : ℕ) → n ≢ number → AreAmong ((view self.new).holds n) ((view self.old).holds n) }
+        ensures others { (n : ℕ) → n ≢ number →
+            AreAmong ((view self.new).holds n) ((view self.old).holds n) }
         ensures others_out { (n : ℕ) → n ≢ number → (view self.new).out n ≡ (view self.old).out n }
-        ensures err { OnErr result ((n : ℕ) → AreAmong ((view self.new).holds n) ((view self.old).holds n)) }
+        ensures err { OnErr result ((n : ℕ) →
+            AreAmong ((view self.new).holds n) ((view self.old).holds n)) }
         ensures err_out { OnErr result ((n : ℕ) → (view self.new).out n ≡ (view self.old).out n) }
-        ensures failed { IsErrOf result RackFault.Failed → Rose (view self.old).faults (view self.new).faults }
+        ensures failed { IsErrOf result RackFault.Failed →
+            Rose (view self.old).faults (view self.new).faults }
         ensures later { (view self.old).faults ≤ (view self.new).faults };
 
     /// Gives back the disk of this number. The faults of the disk since it was taken count as the rack's.
     fn give(&mut self, number: u32, disk: D)
-        ensures images { IsTrue tells → (view self.old).out number ≡ true → AreAmong ((view self.new).holds number) (D.view disk).images }
-        ensures others { (n : ℕ) → n ≢ number → AreAmong ((view self.new).holds n) ((view self.old).holds n) }
+        ensures images { IsTrue tells → (view self.old).out number ≡ true →
+            AreAmong ((view self.new).holds number) (D.view disk).images }
+        ensures others { (n : ℕ) → n ≢ number →
+            AreAmong ((view self.new).holds n) ((view self.old).holds n) }
         ensures home { (view self.new).out number ≡ false }
         ensures others_out { (n : ℕ) → n ≢ number → (view self.new).out n ≡ (view self.old).out n }
-        ensures faults { (view self.new).faults ≡ min ((view self.old).faults + (D.view disk).faults) (2 ^ 64 - 1) };
+        ensures faults { (view self.new).faults ≡ min
+            ((view self.old).faults + (D.view disk).faults) (2 ^ 64 - 1) };
 }

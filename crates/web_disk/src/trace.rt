@@ -141,7 +141,8 @@ impl Trace {
     pub fn reserve(&mut self, end: u64) -> Result<(), AllocError>
         ensures calls { OnOk result (8 ≤ calls_left self.new) }
         ensures end { OnOk result (end ≤ vec_capacity self.new.bytes) }
-        ensures pieces { OnOk result (vec_len self.new.pieces + end ≤ vec_capacity self.new.pieces) }
+        ensures pieces { OnOk result
+            (vec_len self.new.pieces + end ≤ vec_capacity self.new.pieces) }
         ensures stays { Stays self.old self.new }
     {
         let end = end as usize;

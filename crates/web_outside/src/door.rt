@@ -57,19 +57,25 @@ pub trait Door {
     ) -> Result<Vec<Self::Porch>, DoorFault>
         requires { connections ≤ CONNECTION_LIMIT }
         ensures count { IfOk result (λ porches. vec_len porches ≡ workers) }
-        ensures told { IfOk result (λ porches. GiveLists Self.Porch.view porches.items ((view self.old).links port)) }
+        ensures told { IfOk result (λ porches.
+            GiveLists Self.Porch.view porches.items ((view self.old).links port)) }
         ensures served { IfOk result (λ porches. HaveNone Self.Porch.view porches.items) }
-        ensures given { IfOk result (λ porches. All (λ porch. (Self.Porch.view porch).given ≡ 0) porches.items) }
-        ensures most { IfOk result (λ porches. All (λ porch. (Self.Porch.view porch).most ≡ connections) porches.items) }
-        ensures fresh { IfOk result (λ porches. All (λ porch. (Self.Porch.view porch).faults ≡ 0) porches.items) }
+        ensures given { IfOk result (λ porches.
+            All (λ porch. (Self.Porch.view porch).given ≡ 0) porches.items) }
+        ensures most { IfOk result (λ porches.
+            All (λ porch. (Self.Porch.view porch).most ≡ connections) porches.items) }
+        ensures fresh { IfOk result (λ porches.
+            All (λ porch. (Self.Porch.view porch).faults ≡ 0) porches.items) }
         ensures err { OnErr result ((view self.new).links ≡ (view self.old).links) }
         ensures closed { (view self.new).closed ≡ (view self.old).closed }
-        ensures failed { IsErrOf result DoorFault.Failed → Rose (view self.old).faults (view self.new).faults }
+        ensures failed { IsErrOf result DoorFault.Failed →
+            Rose (view self.old).faults (view self.new).faults }
         ensures later { (view self.old).faults ≤ (view self.new).faults };
 
     /// Listens no more. The faults of the porches count as the door's.
     fn close(&mut self, porches: Vec<Self::Porch>)
         ensures closed { IfSome (view self.new).closed (λ kept. kept ≡ porches.items) }
         ensures links { (view self.new).links ≡ (view self.old).links }
-        ensures faults { (view self.new).faults ≡ counts_with Self.Porch.view porches.items (view self.old).faults };
+        ensures faults { (view self.new).faults ≡ counts_with Self.Porch.view porches.items
+            (view self.old).faults };
 }

@@ -23,12 +23,14 @@ pub trait Link {
 
     /// The source.
     fn input(&mut self) -> &mut Self::Input
-        ensures* writes_back { sem 𝓛 (Lends Self.row Self.Input.row self.entry result (with_input self.old)) }
+        ensures* writes_back { sem 𝓛
+            (Lends Self.row Self.Input.row self.entry result (with_input self.old)) }
         ensures value { Self.Input.view result.now ≡ (view self.old).input };
 
     /// The sink.
     fn output(&mut self) -> &mut Self::Output
-        ensures* writes_back { sem 𝓛 (Lends Self.row Self.Output.row self.entry result (with_output self.old)) }
+        ensures* writes_back { sem 𝓛
+            (Lends Self.row Self.Output.row self.entry result (with_output self.old)) }
         ensures value { Self.Output.view result.now ≡ (view self.old).output };
 
     /// The source that was put in is the link's, and the sink stays.

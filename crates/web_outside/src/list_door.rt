@@ -53,7 +53,8 @@ fn open_all(porches: &mut [ListPorch], connections: u64)
     requires { connections ≤ CONNECTION_LIMIT }
     ensures opened { All (IsOpened connections) porches.new }
     ensures coming { all_coming porches.new ≡ all_coming porches.old }
-    ensures told { map (λ porch. (porch_view porch).coming) porches.new ≡ map Some (all_coming porches.old) }
+    ensures told { map (λ porch. (porch_view porch).coming) porches.new
+        ≡ map Some (all_coming porches.old) }
     ensures failing { all_failing porches.new ≡ all_failing porches.old }
 {
     if let Some((first, rest)) = porches.split_first_mut() {
@@ -91,10 +92,13 @@ impl Door for ListDoor {
     ) -> Result<Vec<ListPorch>, DoorFault>
         requires { connections ≤ CONNECTION_LIMIT }
         ensures count { IfOk result (λ porches. vec_len porches ≡ workers) }
-        ensures told { IfOk result (λ porches. GiveLists porch_view porches.items (links_at self.old port)) }
-        ensures coming { IfOk result (λ porches. all_coming porches.items ≡ all_coming self.old.porches.items) }
+        ensures told { IfOk result (λ porches.
+            GiveLists porch_view porches.items (links_at self.old port)) }
+        ensures coming { IfOk result (λ porches.
+            all_coming porches.items ≡ all_coming self.old.porches.items) }
         ensures opened { IfOk result (λ porches. All (IsOpened connections) porches.items) }
-        ensures failing { IfOk result (λ porches. all_failing porches.items ≡ all_failing self.old.porches.items) }
+        ensures failing { IfOk result (λ porches.
+            all_failing porches.items ≡ all_failing self.old.porches.items) }
         ensures emptied { IfOk result (λ _. self.new.porches.items ≡ []) }
         ensures err { OnErr result (self.new.porches.items ≡ self.old.porches.items) }
         ensures fails { is_err result ≡ listen_fails self.old port workers }

@@ -91,13 +91,15 @@ impl Porch for ListPorch {
 
     // It fails exactly where it is listed, and else ends exactly where no more links come.
     fn next(&mut self) -> Result<Option<TextLink>, Failed>
-        ensures first { GivesFirst result (Some (porch_coming self.old)) (Some (porch_coming self.new)) }
+        ensures first { GivesFirst result (Some (porch_coming self.old))
+            (Some (porch_coming self.new)) }
         ensures given { self.new.given ≡ given_after result self.old.given }
         ensures lent { self.new.lent ≡ lent_after result self.old.lent }
         ensures bound { IfOk result (λ next. IfSome next (λ _. self.new.given ≤ self.new.most)) }
         ensures most { self.new.most ≡ self.old.most }
         ensures limit { self.new.most ≤ CONNECTION_LIMIT }
-        ensures ended { EndsOnly result self.old.given self.old.most (Some (porch_coming self.old)) }
+        ensures ended { EndsOnly result self.old.given self.old.most
+            (Some (porch_coming self.old)) }
         ensures served { porch_served self.new ≡ porch_served self.old }
         ensures cause { HasCause self.old.faults self.new.faults result }
         ensures fails { is_err result ≡ is_listed self.old.calls self.old.failing.items }

@@ -25,10 +25,12 @@ pub trait Porch {
         ensures first { GivesFirst result (view self.old).coming (view self.new).coming }
         ensures given { (view self.new).given ≡ given_after result (view self.old).given }
         ensures lent { (view self.new).lent ≡ lent_after result (view self.old).lent }
-        ensures bound { IfOk result (λ next. IfSome next (λ _. (view self.new).given ≤ (view self.new).most)) }
+        ensures bound { IfOk result (λ next.
+            IfSome next (λ _. (view self.new).given ≤ (view self.new).most)) }
         ensures most { (view self.new).most ≡ (view self.old).most }
         ensures limit { (view self.new).most ≤ CONNECTION_LIMIT }
-        ensures ended { EndsOnly result (view self.old).given (view self.old).most (view self.old).coming }
+        ensures ended { EndsOnly result (view self.old).given (view self.old).most
+            (view self.old).coming }
         ensures served { (view self.new).served ≡ (view self.old).served }
         ensures cause { HasCause (view self.old).faults (view self.new).faults result };
 

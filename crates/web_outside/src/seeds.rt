@@ -55,8 +55,10 @@ pub trait Seeds<N: Nonces> {
     /// Draws so many sources of nonces.
     fn draw(&mut self, alloc: Global, count: u32) -> Result<Vec<N>, SeedFault>
         ensures count { IfOk result (λ sources. vec_len sources ≡ count) }
-        ensures told { IfOk result (λ sources. IfSome ((view self.old).gives count) (λ told. sources.items ≡ told)) }
-        ensures failed { IsErrOf result SeedFault.Failed → Rose (view self.old).faults (view self.new).faults }
+        ensures told { IfOk result (λ sources.
+            IfSome ((view self.old).gives count) (λ told. sources.items ≡ told)) }
+        ensures failed { IsErrOf result SeedFault.Failed →
+            Rose (view self.old).faults (view self.new).faults }
         ensures later { (view self.old).faults ≤ (view self.new).faults };
 }
 
@@ -99,8 +101,10 @@ impl Seeds<Counting> for ListSeeds {
     fn draw(&mut self, alloc: Global, count: u32) -> Result<Vec<Counting>, SeedFault>
         ensures count { IfOk result (λ sources. vec_len sources ≡ count) }
         ensures told { IfOk result (λ sources. sources.items ≡ replicate count from_zero) }
-        ensures fails { is_listed self.old.draws self.old.failing.items ≡ true → IsErrOf result SeedFault.Failed }
-        ensures fails_only { IsErrOf result SeedFault.Failed → is_listed self.old.draws self.old.failing.items ≡ true }
+        ensures fails { is_listed self.old.draws self.old.failing.items ≡ true →
+            IsErrOf result SeedFault.Failed }
+        ensures fails_only { IsErrOf result SeedFault.Failed →
+            is_listed self.old.draws self.old.failing.items ≡ true }
         ensures failed { IsErrOf result SeedFault.Failed → Rose self.old.faults self.new.faults }
         ensures later { self.old.faults ≤ self.new.faults }
         ensures faults { self.new.faults ≡ faults_after_draw result self.old.faults }

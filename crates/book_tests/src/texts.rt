@@ -1,14 +1,10 @@
 use core_syntax::expand;
 use page_names::{ScriptName, Target, parse_target};
 use script_nodes::{NamedScript, Script, Setup};
-use script_value::{Bytes, Str, Value, equal};
+use script_value::{Bytes, Value, equal};
 use sexp_reader::read_all;
 use std::alloc::Global;
 use std::test::Fail;
-
-/// A script that asks for two numbers, and shows their sum.
-pub const SUM: &str =
-    "(let ((a (string->number (extract-binding/single 'n (send/suspend (lambda (u) (list 'a (list (list 'href u)) \"1\")))))) (b (string->number (extract-binding/single 'n (send/suspend (lambda (u) (list 'a (list (list 'href u)) \"2\"))))))) (list 'p (number->string (+ a b))))";
 
 /// The data of a text.
 pub fn data(alloc: Global, text: &str) -> Result<Vec<Value>, Fail> {
@@ -26,11 +22,6 @@ pub fn is_datum(alloc: Global, value: &Value, text: &str) -> Result<bool, Fail> 
         [wanted] => equal(value, wanted),
         _ => false,
     })
-}
-
-/// The symbol of a name, which may have no spelling.
-pub fn symbol(alloc: Global, name: &str) -> Result<Value, Fail> {
-    Ok(Value::Symbol(Str::new(String::from_str(alloc, name)?)))
 }
 
 /// The script of a text.

@@ -1,0 +1,9 @@
+//! Tests of copies of the book, the shelf and what they give, and of setups: what no row of steps says.
+#![tactic(auto)]
+
+#[cfg(test)]
+mod copies;
+#[cfg(test)]
+mod setups;
+#[cfg(test)]
+mod texts;

@@ -1,0 +1,37 @@
+use server_command::command;
+use std::alloc::{AllocError, Global};
+use web_outside::{ListDoor, ListSeeds, OpenGate, SetClock, TextSink, TextSource};
+
+// The most that a run writes.
+const ROOM: usize = 2_000_000;
+
+/// The status that a command ends with, and what it wrote.
+#[derive(Drop)]
+pub struct Outcome {
+    pub status: u8,
+    pub written: Vec<u8>,
+}
+
+/// What a command with these words and this input comes to, over an outside that never fails.
+pub fn ran<R>(rt: &R, alloc: Global, words: &[&str], input: &[u8]) -> Result<Outcome, AllocError> {
+    let mut source = TextSource::new(input.to_vec(alloc)?, Vec::new(alloc), 4_096);
+    let mut sink = TextSink::new(alloc, ROOM, Vec::new(alloc))?;
+    let mut door = ListDoor::new(alloc, 0, Vec::new(alloc), Vec::new(alloc));
+    let mut seeds = ListSeeds::new(Vec::new(alloc));
+    let clock = SetClock::new(0);
+    let status = command(
+        rt,
+        alloc,
+        words,
+        &mut source,
+        &mut sink,
+        &mut door,
+        &clock,
+        &mut seeds,
+        &OpenGate,
+    );
+    Ok(Outcome {
+        status,
+        written: sink.bytes().to_vec(alloc)?,
+    })
+}

@@ -1,0 +1,178 @@
+use crate::outside::ran;
+use crate::transcript::transcript;
+use std::alloc::{AllocError, Global};
+use std::mem;
+
+// A script of a name.
+#[derive(Drop)]
+struct Script {
+    name: String,
+    text: String,
+}
+
+// What the lines up to the next `.` are.
+#[derive(Drop)]
+enum Block {
+    Between,
+    Script(Script),
+    Steps { head: String, steps: String },
+    Input { words: String, text: String },
+}
+
+/// The scripts so far, and the block that is read.
+#[derive(Drop)]
+pub struct Rows {
+    scripts: Vec<Script>,
+    block: Block,
+}
+
+// A text with one more line.
+fn push_line(text: &mut String, line: &str) -> Result<(), AllocError> {
+    if !text.is_empty() {
+        text.push_str("\n")?;
+    }
+    text.push_str(line)
+}
+
+// What a command wrote, and its status.
+fn with_status(alloc: Global, mut told: Vec<u8>, status: u8) -> Result<Vec<u8>, AllocError> {
+    told.extend_from_slice(format!(in alloc; "status {status}\n")?.as_bytes())?;
+    Ok(told)
+}
+
+// The words of a command.
+fn words_of<'a>(alloc: Global, text: &'a str) -> Result<Vec<&'a str>, AllocError> {
+    let mut words = Vec::new(alloc);
+    words.push("hovgyelit")?;
+    for word in text.split_whitespace() {
+        words.push(word)?;
+    }
+    Ok(words)
+}
+
+// What a command with these words and this input wrote, and its status.
+fn told_of<R>(rt: &R, alloc: Global, words: &str, input: &str) -> Result<Vec<u8>, AllocError> {
+    let words = words_of(alloc, words)?;
+    let outcome = ran(rt, alloc, &words, input.as_bytes())?;
+    with_status(alloc, outcome.written, outcome.status)
+}
+
+// What a start of a script is answered.
+fn started<R>(rt: &R, alloc: Global, script: &str) -> Result<Vec<u8>, AllocError> {
+    let length = script.len();
+    let input = format!(in alloc; "script a {length}\n{script}\nsteps\nget 0 /servlets/a\n")?;
+    told_of(rt, alloc, "play", input.as_str())
+}
+
+// The line of a row as it is.
+fn echo(alloc: Global, line: &str) -> Result<Vec<u8>, AllocError> {
+    let line = format!(in alloc; "{line}\n")?;
+    Ok(line.into_bytes())
+}
+
+impl Rows {
+    /// No scripts yet.
+    pub fn new(alloc: Global) -> Rows {
+        Rows {
+            scripts: Vec::new(alloc),
+            block: Block::Between,
+        }
+    }
+
+    // The section of the last script of a name.
+    fn section(&self, alloc: Global, name: &str) -> Result<String, AllocError> {
+        match self
+            .scripts
+            .iter()
+            .rev()
+            .find(|script| script.name.as_str() == name)
+        {
+            Some(script) => {
+                let text = script.text.as_str();
+                let length = text.len();
+                format!(in alloc; "script {name} {length}\n{text}\n")
+            }
+            None => format!(in alloc; "no script {name}\n"),
+        }
+    }
+
+    // The run of a command over the scripts that its head names, and steps.
+    fn played<R>(
+        &self,
+        rt: &R,
+        alloc: Global,
+        head: &str,
+        steps: &str,
+    ) -> Result<Vec<u8>, AllocError> {
+        let (names, options) = head.split_once(" : ").unwrap_or((head, ""));
+        let mut input = String::new(alloc);
+        for name in names.split_whitespace() {
+            input.push_str(self.section(alloc, name)?.as_str())?;
+        }
+        input.push_str("steps\n")?;
+        input.push_str(steps)?;
+        if !steps.is_empty() {
+            input.push_str("\n")?;
+        }
+        let words = format!(in alloc; "play {options}")?;
+        let words = words_of(alloc, words.as_str())?;
+        let outcome = ran(rt, alloc, &words, input.as_bytes())?;
+        let told = transcript(alloc, steps, outcome.written.as_slice())?;
+        with_status(alloc, told, outcome.status)
+    }
+
+    // What a block comes to.
+    fn ended<R>(&mut self, rt: &R, alloc: Global) -> Result<Vec<u8>, AllocError> {
+        match mem::replace(&mut self.block, Block::Between) {
+            Block::Between => Ok(Vec::new(alloc)),
+            Block::Script(script) => {
+                self.scripts.push(script)?;
+                Ok(Vec::new(alloc))
+            }
+            Block::Steps { head, steps } => self.played(rt, alloc, head.as_str(), steps.as_str()),
+            Block::Input { words, text } => told_of(rt, alloc, words.as_str(), text.as_str()),
+        }
+    }
+
+    // What is written for a line between two blocks, or for the first of one.
+    fn begin<R>(&mut self, rt: &R, alloc: Global, line: &str) -> Result<Vec<u8>, AllocError> {
+        let (word, rest) = line.split_once(' ').unwrap_or((line, ""));
+        let text = String::new(alloc);
+        match word {
+            "script" => {
+                let name = String::from_str(alloc, rest)?;
+                self.block = Block::Script(Script { name, text });
+            }
+            "play" => {
+                let head = String::from_str(alloc, rest)?;
+                self.block = Block::Steps { head, steps: text };
+            }
+            "input" => {
+                let words = String::from_str(alloc, rest)?;
+                self.block = Block::Input { words, text };
+            }
+            "start" => return started(rt, alloc, rest),
+            "words" => return told_of(rt, alloc, rest, ""),
+            _ => {}
+        }
+        Ok(Vec::new(alloc))
+    }
+
+    /// What is written for one more line.
+    pub fn line<R>(&mut self, rt: &R, alloc: Global, line: &str) -> Result<Vec<u8>, AllocError> {
+        if line == "." {
+            return self.ended(rt, alloc);
+        }
+        let mut told = echo(alloc, line)?;
+        match &mut self.block {
+            Block::Between => told.extend_from_slice(self.begin(rt, alloc, line)?.as_slice())?,
+            Block::Script(script) => push_line(&mut script.text, line)?,
+            Block::Steps { steps, .. } => {
+                push_line(steps, line)?;
+                told.clear();
+            }
+            Block::Input { text, .. } => push_line(text, line)?,
+        }
+        Ok(told)
+    }
+}

@@ -1,0 +1,38 @@
+use std::alloc::{AllocError, Global};
+
+// The number behind ` 200 ` in a line, that of the bytes of the page behind it.
+fn page_length(line: &str) -> Option<usize> {
+    let (_, length) = line.split_once(" 200 ")?;
+    length.parse().ok()
+}
+
+// How many of these bytes the first reply has: its line, and the page behind it with its newline.
+fn reply_length(written: &[u8]) -> usize {
+    let line = written
+        .iter()
+        .position(|byte| *byte == b'\n')
+        .unwrap_or(written.len());
+    let page = match str::from_utf8(written.get(..line).unwrap_or(written)) {
+        Ok(line) => page_length(line),
+        Err(_) => None,
+    };
+    let behind = match page {
+        Some(length) => length.saturating_add(1),
+        None => 0,
+    };
+    line.saturating_add(1).saturating_add(behind)
+}
+
+/// Each step behind `> `, with its reply below it, and then what else was written.
+pub fn transcript(alloc: Global, steps: &str, written: &[u8]) -> Result<Vec<u8>, AllocError> {
+    let mut told = Vec::new(alloc);
+    let mut rest = written;
+    for step in steps.lines() {
+        told.extend_from_slice(format!(in alloc; "> {step}\n")?.as_bytes())?;
+        let (reply, behind) = rest.split_at(reply_length(rest).min(rest.len()));
+        told.extend_from_slice(reply)?;
+        rest = behind;
+    }
+    told.extend_from_slice(rest)?;
+    Ok(told)
+}
