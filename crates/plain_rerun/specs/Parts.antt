@@ -1,11 +1,9 @@
 -- A script's nodes as the trees that they stand for, and what the engine does with them.
-use Rattle.std.specs.Prelude.{◌≡◌, ℕ, ℤ, pos, negsuc, Bool, true, false, List, [], map, length, Result, Ok, Err}
+use Rattle.std.specs.Prelude.{ℕ, Bool, true, false, List, [], map, length}
 use Rattle.std.specs.List.{AllByRecursion}
 use Rattle.script_value.specs.Val.{Val, truth}
 use Rattle.script_value.specs.declared.outcome.Op.{Op}
 use Rattle.script_value.specs.declared.outcome.TxName.{TxName}
-use Rattle.script_value.specs.declared.outcome.Fault.{Fault}
-use Rattle.script_value.specs.declared.outcome.Fault.TheVariants.{WrongType}
 use Rattle.prim_ops.specs.Table.{is_false}
 use Rattle.script_nodes.specs.Core.{Core, Cores, cores_of, prim, bind, branch, repeat, cell_shadow}
 use Rattle.script_nodes.specs.Arena.{Arena, tree_at, IsBehind}
