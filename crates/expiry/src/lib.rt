@@ -4,11 +4,13 @@
 ghost use Rattle.std.specs.Prelude.{◌≡◌, ◌+◌, ◌^◌, ◌<◌, ◌≤◌, nat_le};
 ghost use Rattle.std.specs.List.{list_all};
 
+use server_limits::MOST_LIFE;
+
 /// The last tick, in seconds: each clock is below it.
 pub const TICKS: u64 = 4_611_686_018_427_387_904;
 
 /// The longest life of a page, in seconds.
-pub const LONGEST_LIFE: u64 = 2_147_483_648;
+pub const LONGEST_LIFE: u64 = MOST_LIFE;
 
 /// The deadline of a page that is shown at this clock and lives so long, all in seconds.
 pub fn deadline(clock: u64, life: u64) -> u64

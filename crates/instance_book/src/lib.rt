@@ -19,6 +19,11 @@ mod prepare;
 mod prepared;
 mod ticket;
 
+pub use after::{After, Show};
 pub use book::Book;
+pub use in_order::InOrder;
+pub use instance::KeptInstance;
+pub use numbered::Numbered;
+pub use page::KeptPage;
 pub use prepared::{Change, Ending, Extension, Finish, Opening, Prepared};
 pub use ticket::Ticket;

@@ -13,9 +13,9 @@ pub struct Opening {
     pub left: Vec<TxName>,
     pub kind: SendKind,
     /// The page, whose number is also that of its instance.
-    pub(crate) page: Numbered<KeptPage>,
+    pub page: Numbered<KeptPage>,
     /// The instance behind the segment, with room for the page.
-    pub(crate) instance: KeptInstance,
+    pub instance: KeptInstance,
 }
 
 /// An answer to a page showed a page.
@@ -28,7 +28,7 @@ pub struct Extension {
     pub left: Vec<TxName>,
     pub kind: SendKind,
     /// The page, and what its segment makes of the instance.
-    pub(crate) show: Show,
+    pub show: Show,
 }
 
 /// An answer to a page ended with a last page.
@@ -43,7 +43,8 @@ pub struct Ending {
     pub left: Vec<TxName>,
     /// The transactions that were open where it ended.
     pub inside: Vec<TxName>,
-    pub(crate) after: After,
+    /// What it leaves of the instance.
+    pub after: After,
 }
 
 /// An answer to a page freed its instance.
@@ -71,8 +72,8 @@ pub enum Change {
 /// A visit whose reply is made and, if it changes the book, its change, for which there is room.
 #[derive(Drop)]
 pub struct Prepared {
-    pub(crate) reply: Reply,
+    pub reply: Reply,
     /// One more than its number, or 0 where the book stays.
     pub(crate) logged: u64,
-    pub(crate) change: Option<Change>,
+    pub change: Option<Change>,
 }

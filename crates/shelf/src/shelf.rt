@@ -1,4 +1,5 @@
 ghost use Rattle.std.specs.Prelude.{◌≤◌};
+ghost use Rattle.server_limits.specs.Limits.{most_life};
 
 use crate::rules::Rules;
 use instance_book::Book;
@@ -9,5 +10,5 @@ pub struct Shelf<N> {
     pub(crate) book: Book,
     pub(crate) nonces: N,
     pub(crate) rules: Rules,
-    ghost life: { rules.life ≤ 2147483648 },
+    ghost life: { rules.life ≤ most_life },
 }
