@@ -1,63 +1,39 @@
 //! How a run ends: by its words, by its input and by its output.
 
 use crate::outside::{
-    CHECK, FAIR, FULL, Outside, PLAY, STUCK, Transcript, input_of, parts_of, ran,
+    CHECK, FAIR, FULL, Outside, PLAY, STUCK, Transcript, answered, input_of, parts_of, ran,
 };
 use crate::transcripts::{SUM, SUM_SCRIPT};
 use std::alloc::Global;
 use std::test::Fail;
 
-const NO_COMMANDS: &[&[&str]] = &[
-    &["hovgyelit"],
-    &["hovgyelit", "serve"],
-    &["hovgyelit", "serve", "--port"],
-    &["hovgyelit", "serve", "--port", "65536"],
-    &["hovgyelit", "serve", "--port", "-1"],
-    &["hovgyelit", "serve", "--port", "1", "--connections", "0"],
-    &[
-        "hovgyelit",
-        "serve",
-        "--port",
-        "1",
-        "--connections",
-        "1000001",
-    ],
-    &["hovgyelit", "serve", "--connections", "1"],
-    &["hovgyelit", "serve", "--port", "1", "--port", "2"],
-    &["hovgyelit", "play", "--port", "1"],
-    &["hovgyelit", "Play"],
-    &["hovgyelit", ""],
-    &["hovgyelit", "help"],
-    &["hovgyelit", "--help"],
-    &["hovgyelit", "play", "--help"],
-    &["hovgyelit", "play", "play"],
-    &["hovgyelit", "check", "a"],
-    &["hovgyelit", "check", "--fuel", "10"],
-    &["hovgyelit", "--fuel", "10", "play"],
-    &["hovgyelit", "play", "--fuel"],
-    &["hovgyelit", "play", "--fuel", ""],
-    &["hovgyelit", "play", "--fuel", "ten"],
-    &["hovgyelit", "play", "--fuel", "0"],
-    &["hovgyelit", "play", "--fuel", "-1"],
-    &["hovgyelit", "play", "--fuel", "10000001"],
-    &["hovgyelit", "play", "--life", "0"],
-    &["hovgyelit", "play", "--life", "2147483649"],
-    &["hovgyelit", "play", "--instances", "0"],
-    &["hovgyelit", "play", "--instances", "4097"],
-    &["hovgyelit", "play", "--pages", "0"],
-    &["hovgyelit", "play", "--pages", "1025"],
-    &["hovgyelit", "play", "--pages", "18446744073709551617"],
-    &["hovgyelit", "play", "--fuel", "1", "--fuel", "2"],
-    &["hovgyelit", "play", "--turns", "1"],
-];
+// Words that a line of rows cannot say.
+const NO_COMMANDS: &[&[&str]] = &[&["hovgyelit", ""], &["hovgyelit", "play", "--fuel", ""]];
 
 #[test]
-fn other_words_are_refused(rt: HostRuntime) -> Result<(), Fail> {
+fn an_empty_word_is_refused(rt: HostRuntime) -> Result<(), Fail> {
     for words in NO_COMMANDS {
         let outcome = ran(&rt, words, b"", &FAIR)?;
         assert_eq!(rt; outcome.text.as_str(), "error 2 usage\n", "{words:?}");
         assert_eq!(rt; outcome.status, 2, "{words:?}");
         assert!(rt; outcome.handed);
+    }
+    Ok(())
+}
+
+// Lines that rows cannot say: each stands at the input's third line of steps, and is no step.
+const NO_STEPS: &[&str] = &["get 0 /x", "get 0 /x\r\n"];
+
+#[test]
+fn a_line_ends_with_a_newline_alone(rt: HostRuntime) -> Result<(), Fail> {
+    for line in NO_STEPS {
+        let steps = format!(in rt.alloc(); "get 1 /none\ntake 2 /servlets/sum\n{line}")?;
+        let outcome = answered(&rt, "'a", steps.as_str())?;
+        assert_eq!(rt;
+            outcome.text.as_str(),
+            "1 404 unknown\n2 taken 0\nerror 4 3\n"
+        );
+        assert_eq!(rt; outcome.status, 4);
     }
     Ok(())
 }

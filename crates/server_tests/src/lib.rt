@@ -1,12 +1,11 @@
-//! Tests of the command over an outside in memory: words, setups, transcripts of visits, and links that are served.
+//! Tests of the command over an outside in memory, of what no row can say: failing inputs and outputs, long texts, visits that
+//! are made up, and links that are served.
 #![tactic(auto)]
 
 #[cfg(test)]
 mod endings;
 #[cfg(test)]
 mod outside;
-#[cfg(test)]
-mod runs;
 #[cfg(test)]
 mod serving;
 #[cfg(test)]

@@ -1,128 +1,13 @@
-//! The first fault of a setup and of a script, as `play` and `check` tell it, and the limits of both.
+//! Limits of setups and of scripts, as `play` and `check` tell them, by texts that are too long for rows.
 
 use crate::outside::{CHECK, FAIR, PLAY, answered, ran, repeated, setup_of};
-use crate::transcripts::SUM_SCRIPT;
 use std::test::Fail;
-
-// Inputs, and what `play` tells of their setups.
-const SETUPS: &[(&str, &str)] = &[
-    ("", "setup 0 end"),
-    ("steps\n", "setup 0 empty"),
-    ("steps", "setup 0 section"),
-    ("script a 2\n'a\n", "setup 14 end"),
-    ("script a 2\n'a\nsteps", "setup 14 section"),
-    ("script a 2\n'a", "setup 0 section"),
-    ("script a 2\n'a\n\nsteps\n", "setup 14 section"),
-    ("script a 02\n'a\nsteps\n", "setup 0 section"),
-    ("script a 16777217\n'a\nsteps\n", "setup 0 section"),
-    ("script A 2\n'a\nsteps\n", "setup 0 section"),
-    ("script  2\n'a\nsteps\n", "setup 0 section"),
-    ("script a  2\n'a\nsteps\n", "setup 0 section"),
-    (
-        "script abcdefghijklmnopqrstuvwxyz0123456 2\n'a\nsteps\n",
-        "setup 0 section",
-    ),
-    (
-        "script a 2\n'a\nscript b 3\n'a\nsteps\n",
-        "setup 14 section",
-    ),
-    ("script a 2\n'a\nscript a 2\n'a\nsteps\n", "setup 14 repeat"),
-    (
-        "script a 2\n'a\nscript a 3\n'a\nsteps\n",
-        "setup 14 section",
-    ),
-    ("script a 2\n'a\nscript a 1\n(\nsteps\n", "setup 14 repeat"),
-    (" script a 2\n'a\nsteps\n", "setup 0 section"),
-    ("script a 1\n(\nscript a 1\n", "a read 0 unclosed"),
-    ("script a 1\nx\nscript a 1\n", "a syntax 0 unbound"),
-    ("script a 0\n\nsteps\n", "a syntax 0 shape"),
-];
-
-#[test]
-fn the_first_fault_of_a_setup_is_told(rt: HostRuntime) -> Result<(), Fail> {
-    for (input, fault) in SETUPS {
-        let outcome = ran(&rt, PLAY, input.as_bytes(), &FAIR)?;
-        let line = format!(in rt.alloc(); "error 3 {fault}\n")?;
-        assert_eq!(rt; outcome.text.as_str(), line.as_str(), "of {input}");
-        assert_eq!(rt; outcome.status, 3);
-        assert!(rt; outcome.handed);
-    }
-    Ok(())
-}
-
-// Inputs of `check`, which has no steps, and what it tells.
-const CHECKED: &[(&str, u8, &str)] = &[
-    ("script a 2\n'a\n", 0, "ok 1"),
-    ("script a 2\n'a\nscript b 3\n'bc\n", 0, "ok 2"),
-    ("", 3, "error 3 setup 0 empty"),
-    ("steps\n", 3, "error 3 setup 0 section"),
-    ("script a 2\n'a\nsteps\n", 3, "error 3 setup 14 section"),
-    ("script a 2\n'a", 3, "error 3 setup 0 section"),
-    ("script a 0\n\n", 3, "error 3 a syntax 0 shape"),
-    ("script a 4\n(p \"\n", 3, "error 3 a read 3 unclosed"),
-    (
-        "script a 11\n(list 'p x)\n",
-        3,
-        "error 3 a syntax 0 unbound",
-    ),
-];
-
-#[test]
-fn a_setup_is_checked_up_to_the_end_of_the_input(rt: HostRuntime) -> Result<(), Fail> {
-    for (input, status, line) in CHECKED {
-        let outcome = ran(&rt, CHECK, input.as_bytes(), &FAIR)?;
-        let wanted = format!(in rt.alloc(); "{line}\n")?;
-        assert_eq!(rt; outcome.text.as_str(), wanted.as_str(), "of {input}");
-        assert_eq!(rt; outcome.status, *status, "of {input}");
-        assert!(rt; outcome.handed);
-    }
-    let sum = setup_of(rt.alloc(), &[("sum", SUM_SCRIPT)])?;
-    let outcome = ran(&rt, CHECK, sum.as_bytes(), &FAIR)?;
-    assert_eq!(rt; outcome.text.as_str(), "ok 1\n");
-    Ok(())
-}
 
 // Whether the script of this text is refused with this fault.
 fn is_refused(rt: &HostRuntime, script: &str, fault: &str) -> Result<bool, Fail> {
     let outcome = answered(rt, script, "")?;
     let line = format!(in rt.alloc(); "error 3 sum {fault}\n")?;
     Ok(outcome.status == 3 && outcome.text.as_str() == line.as_str())
-}
-
-const FAULTS: &[(&str, &str)] = &[
-    ("(p \"", "read 3 unclosed"),
-    ("(p]", "read 2 mismatch"),
-    ("1 )", "read 2 unopened"),
-    ("(list 1a)", "read 6 token"),
-    ("(list 9223372036854775808)", "read 6 range"),
-    ("(list 'p x)", "syntax 0 unbound"),
-    ("1 2", "syntax 0 shape"),
-    ("(define c (make-web-cell 1))", "syntax 1 shape"),
-    ("(define c (make-web-cell x)) 'p", "syntax 0 shape"),
-    ("`,@'(p)", "syntax 0 shape"),
-    ("(let ((a 1) (a 2)) a)", "syntax 0 duplicate"),
-    (
-        "(define c (make-web-cell 1)) (define c (make-instance-cell 1)) 'p",
-        "syntax 1 duplicate",
-    ),
-    ("(number->string)", "syntax 0 arity"),
-    ("(cond ['a 'b])", "syntax 0 noelse"),
-    (
-        "(send/suspend (lambda (u) (send/suspend (lambda (v) v))))",
-        "syntax 0 nestedsend",
-    ),
-    (
-        "(define c (make-instance-cell 1)) (send/suspend (lambda (u) (instance-cell-set! c 2)))",
-        "syntax 1 effect",
-    ),
-];
-
-#[test]
-fn the_first_fault_of_a_script_is_told(rt: HostRuntime) -> Result<(), Fail> {
-    for (script, fault) in FAULTS {
-        assert!(rt; is_refused(&rt, script, fault)?, "of {script}");
-    }
-    Ok(())
 }
 
 // How many bindings of a `let*` stand one inside the other, and what `check` tells of them.

@@ -1,10 +1,37 @@
 //! Two visits under way on one page, for each two ways in which their segments stop; and transactions, for each way to leave them.
 
-use crate::outside::{FAIR, answered, input_of, ran, repeated};
-use crate::runs::{Run, first_wrong};
+use crate::outside::{FAIR, PLAY, answered, input_of, parts_of, ran, repeated};
 use crate::transcripts::QUIZ_SCRIPT;
 use std::alloc::Global;
 use std::test::Fail;
+
+// Options, scripts, and a transcript that ends well.
+type Run = (
+    &'static [&'static str],
+    &'static [(&'static str, &'static str)],
+    &'static str,
+);
+
+// The first run under these options that is not as its transcript, in words.
+fn first_wrong(rt: &HostRuntime, runs: &[Run]) -> Result<Option<String>, Fail> {
+    let alloc = rt.alloc();
+    for (options, scripts, transcript) in runs {
+        let wanted = parts_of(alloc, transcript)?;
+        let input = input_of(alloc, scripts, wanted.steps.as_str())?;
+        let mut words = PLAY.to_vec(alloc)?;
+        words.extend_from_slice(options)?;
+        let outcome = ran(rt, &words, input.as_bytes(), &FAIR)?;
+        if outcome.status != 0
+            || outcome.text.as_str() != wanted.printed.as_str()
+            || !outcome.handed
+        {
+            let status = outcome.status;
+            let text = outcome.text.as_str();
+            return Ok(Some(format!(in alloc; "{status} {text}, for {transcript}")?));
+        }
+    }
+    Ok(None)
+}
 
 // A page, and a segment that counts itself and stops as the answer asks.
 const STOPS_SCRIPT: &str = r#"(define c (make-instance-cell 0))
