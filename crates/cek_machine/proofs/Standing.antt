@@ -12,12 +12,13 @@ use Rattle.machine_spec.proofs.Fitting.{node_is_there}
 use Rattle.machine_spec.proofs.Stepping.{visit_there, place_there, fits_on, pays_on}
 use Rattle.machine_spec.specs.Dues.{InSegment}
 use Rattle.cek_machine.specs.Machines.{most_cost, steps_left}
-use Rattle.cek_machine.specs.declared.frame.Frame.{Frame}
-use Rattle.cek_machine.specs.declared.frame.Frame.TheVariants as frame
-use Rattle.cek_machine.specs.declared.frame.Control.{Control}
+use Rattle.stored_states.specs.declared.frame.Frame.{Frame}
+use Rattle.stored_states.specs.declared.frame.Frame.TheVariants as frame
+use Rattle.cek_machine.specs.declared.control.Control.{Control}
 use Rattle.cek_machine.specs.declared.spot.Spot.{Spot}
 use Rattle.cek_machine.specs.Kinds.{IsRow, IsLet, IsPrim, IsIf, IsFor, IsStore, Stands}
-use Rattle.cek_machine.specs.Spots.{frame_of, frames_of, control_of, point}
+use Rattle.cek_machine.specs.Spots.{frames_of, control_of, point}
+use Rattle.stored_states.specs.Views.{frame_of}
 
 pub visits_there : (a : Arena) (n : ℕ) (env : List Val) (fs : List spec.Frame) → IsScript a → FitsAt a (spec.visit n) env fs → n < length a.nodes
 visits_there a n env fs i w = visit_there a i n env fs w

@@ -8,38 +8,17 @@ use Rattle.segments.specs.Views.{outcome_of}
 use Rattle.segment_progress.specs.States as plain
 use Rattle.segment_progress.specs.States.{state_of}
 use Rattle.replay_spec.specs.Tape.{End, got, stop, Run, ◌>>◌, charge}
-use Rattle.cek_machine.specs.declared.frame.Frame.{Frame}
-use Rattle.cek_machine.specs.declared.frame.Frame.TheVariants as frame
-use Rattle.cek_machine.specs.declared.frame.Control.{Control}
-use Rattle.cek_machine.specs.declared.frame.Control.TheVariants.{Visit, Give}
-use Rattle.cek_machine.specs.declared.frame.Suspended.{Suspended}
+use Rattle.stored_states.specs.declared.frame.Frame.{Frame}
+use Rattle.cek_machine.specs.declared.control.Control.{Control}
+use Rattle.cek_machine.specs.declared.control.Control.TheVariants.{Visit, Give}
 use Rattle.cek_machine.specs.declared.spot.Spot.{Spot}
+use Rattle.stored_states.specs.Views.{frame_of, stack}
 use Rattle.machine_spec.specs.Machine as spec
 use Rattle.machine_spec.specs.Machine.{inside_of, visits}
-
-abbrev pub frame_of : Frame → spec.Frame
-frame_of (frame.Binding n done) = spec.in_binding n done
-frame_of (frame.Operand n done) = spec.in_operand n done
-frame_of (frame.Body n bound) = spec.in_body n bound
-frame_of (frame.Seq n k) = spec.in_seq n k
-frame_of (frame.And n k) = spec.in_and n k
-frame_of (frame.Or n k) = spec.in_or n k
-frame_of (frame.If n k) = spec.in_if n k
-frame_of (frame.Count n) = spec.in_count n
-frame_of (frame.Store n) = spec.in_store n
-frame_of (frame.Turn n turns done) = spec.in_turn n turns done
-frame_of (frame.Isolate n name) = spec.in_isolate n name
-frame_of (frame.Page n kind) = spec.in_page n kind
-frame_of (frame.Finish n) = spec.in_finish n
-frame_of (frame.Back n) = spec.in_back n
 
 abbrev pub control_of : Control → spec.Control
 control_of (Visit n) = spec.visit n
 control_of (Give v) = spec.value (meaning v)
-
--- the innermost frame first
-abbrev pub stack : List Frame → List spec.Frame
-stack fs = reverse (map frame_of fs)
 
 abbrev pub frames_of : Spot → List spec.Frame
 frames_of s = stack s.frames.items
@@ -81,6 +60,3 @@ paid_visit p f env fs = charge (inside_of fs) 1 >> visits p env (f ∷ fs)
 abbrev pub Pops : Option Frame → (old new : List spec.Frame) → Type 0
 Pops None old new = (old ≡ []) × (new ≡ [])
 Pops (Some f) old new = old ≡ frame_of f ∷ new
-
-abbrev pub suspended_of : Suspended → spec.Suspended
-suspended_of d = record { env = d.env; frames = stack d.frames.items; shadows = d.shades }

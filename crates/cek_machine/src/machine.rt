@@ -8,10 +8,11 @@ ghost use Rattle.machine_spec.specs.Machine.{cut, next, outer_env, outer_frames,
 ghost use Rattle.machine_spec.specs.Fits.{FitsAt, Fits};
 ghost use Rattle.machine_spec.specs.Laws.{resumed};
 ghost use Rattle.cek_machine.specs.Kinds.{Stands};
-ghost use Rattle.cek_machine.specs.Spots.{suspended_of, Sound, Pops, ComesOut, frame_of, frames_of, control_of};
+ghost use Rattle.cek_machine.specs.Spots.{Sound, Pops, ComesOut, frames_of, control_of};
+ghost use Rattle.stored_states.specs.Views.{suspended_of, frame_of};
 ghost use Rattle.cek_machine.specs.Machines.{Steps as StepsSo, Runs, IsReady, IsWithin, machine_of, start_of, kept_of};
 
-use crate::frame::{Control, Frame, Suspended};
+use crate::control::Control;
 use crate::nodes::node_of;
 use crate::spot::Spot;
 use crate::steps::Steps;
@@ -22,6 +23,7 @@ use segments::{Now, PlainEnd, Rerun};
 use std::alloc::{AllocError, Global};
 use std::mem;
 use std::sync::ledger::Ledger;
+use stored_states::{Frame, Suspended};
 use web_cells::Shades;
 
 /// A script's machine: it visits a node or gives a value to its innermost frame, step by step, up to a stop.
@@ -34,7 +36,7 @@ pub struct Machine<'s> {
 
 impl<'t> Spot<'t> {
     // The innermost frame.
-    #[tactic(auto, using(crate::proofs::Stacks::stack_push))]
+    #[tactic(auto, using(stored_states::proofs::Stacks::stack_push))]
     fn pop(&mut self) -> Option<Frame>
         ensures frames { Pops result (frames_of self.old) (frames_of self.new) }
         ensures env { self.new.env ≡ self.old.env }

@@ -5,13 +5,15 @@ ghost use Rattle.replay_spec.specs.Tape.{send_page, shadow, set_cell, add_cell};
 ghost use Rattle.replay_spec.specs.Eval.{value_at, copied};
 ghost use Rattle.script_nodes.specs.declared.script.Node.TheVariants as variant;
 ghost use Rattle.machine_spec.specs.Machine.{inside_of, given, visits, next_part, next_operand, next_binding, visited};
-ghost use Rattle.cek_machine.specs.Spots.{Moves, Sound, SoundUnder, IsFlat, frame_of};
+ghost use Rattle.cek_machine.specs.Spots.{Moves, Sound, SoundUnder, IsFlat};
+ghost use Rattle.stored_states.specs.Views.{frame_of};
 
-use crate::frame::{Control, Frame};
+use crate::control::Control;
 use script_nodes::SendKind;
 use script_value::{Items, Op, Value};
 use segment_progress::{Halt, Progress, applied};
 use std::alloc::Global;
+use stored_states::Frame;
 
 /// Where a machine is, its control aside.
 #[derive(Drop)]
@@ -63,7 +65,7 @@ impl<'t> Spot<'t> {
     }
 
     /// A part is worked on in this frame.
-    #[tactic(auto, using(crate::proofs::Stacks::stack_push))]
+    #[tactic(auto, using(stored_states::proofs::Stacks::stack_push))]
     pub fn work(&mut self, frame: Frame, part: u32) -> Result<Control, Halt>
         requires sound { Sound self.old }
         requires flat { IsFlat frame }
@@ -143,7 +145,7 @@ impl<'t> Spot<'t> {
     }
 
     /// The page of a send is worked on, under the URL.
-    #[tactic(auto, using(crate::proofs::Stacks::stack_push))]
+    #[tactic(auto, using(stored_states::proofs::Stacks::stack_push))]
     pub fn page(
         &mut self,
         alloc: Global,
@@ -162,7 +164,7 @@ impl<'t> Spot<'t> {
     }
 
     /// A transaction is entered, and its part is worked on.
-    #[tactic(auto, using(crate::proofs::Stacks::stack_push))]
+    #[tactic(auto, using(stored_states::proofs::Stacks::stack_push))]
     pub fn isolate(&mut self, node: u32, body: u32) -> Result<Control, Halt>
         requires { Sound self.old }
         ensures gives { Moves result self.old self.new (visited node (variant.Isolate body)) }

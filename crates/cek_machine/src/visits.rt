@@ -3,14 +3,16 @@ ghost use Rattle.prim_ops.specs.Table.{takes};
 ghost use Rattle.script_nodes.specs.declared.script.Node.TheVariants as variant;
 ghost use Rattle.script_nodes.specs.Arena.{IsFull};
 ghost use Rattle.machine_spec.specs.Machine.{visited};
-ghost use Rattle.cek_machine.specs.Spots.{Moves, Sound, IsFlat, frame_of, paid_visit};
+ghost use Rattle.cek_machine.specs.Spots.{Moves, Sound, IsFlat, paid_visit};
+ghost use Rattle.stored_states.specs.Views.{frame_of};
 
-use crate::frame::{Control, Frame};
+use crate::control::Control;
 use crate::spot::Spot;
 use script_nodes::{Node, Numbers};
 use script_value::{Items, Op, Value};
 use segment_progress::Halt;
 use std::alloc::Global;
+use stored_states::Frame;
 
 impl<'t> Spot<'t> {
     /// A visit is charged, and a part is worked on in this frame.

@@ -1,5 +1,5 @@
 ghost use Rattle.machine_spec.specs.Fits.{Fits};
-ghost use Rattle.cek_machine.specs.Spots.{suspended_of};
+ghost use Rattle.stored_states.specs.Views.{suspended_of};
 
 use crate::runs::{datum, script, segment, url};
 use instance_cells::Cells;

@@ -9,6 +9,7 @@ use Rattle.script_nodes.specs.Arena.{Arena, IsScript, script_of}
 use Rattle.replay_spec.specs.Tape.{Answer, Reads, recorded, present, State, Tape}
 use Rattle.replay_spec.specs.Tape as spec
 use Rattle.replay_spec.specs.Eval as eval
+use Rattle.replay_spec.specs.Eval.{segment_at}
 use Rattle.replay_spec.specs.Laws.{Waits, reading, longer}
 use Rattle.machine_spec.specs.Machine.{Machine, Suspended, Step, goes, stopped, step, then, steps, inside_of}
 use Rattle.machine_spec.specs.Fits.{FitsAt, Fits}
@@ -20,14 +21,14 @@ use Rattle.machine_spec.proofs.Bound.{halts}
 use Rattle.machine_spec.proofs.Stepping.{fits_on, fits_kept}
 use Rattle.segments.specs.declared.ends.PlainEnd.{PlainEnd}
 use Rattle.segments.specs.Views as plain
-use Rattle.cek_machine.specs.declared.frame.Suspended as kept
-use Rattle.cek_machine.specs.Spots.{suspended_of, frame_of}
-use Rattle.send_suspend.specs.declared.segment.Origin.{Origin}
-use Rattle.send_suspend.specs.declared.segment.Origin.TheVariants.{Start, Page}
-use Rattle.send_suspend.specs.declared.segment.Outcome.{Outcome}
-use Rattle.send_suspend.specs.declared.segment.Outcome.TheVariants.{Shown, Finished, Ended, Faulted, Fuel}
-use Rattle.send_suspend.specs.declared.segment.Segment.{Segment}
-use Rattle.send_suspend.specs.Segments.{outcome_of, Keeps, Ends, newest, frames_in, begun, IsLastOver, Replays}
+use Rattle.stored_states.specs.declared.frame.Suspended as kept
+use Rattle.stored_states.specs.Views.{suspended_of, frame_of, outcome_of, Keeps, segment_of}
+use Rattle.stored_states.specs.declared.segment.Origin.{Origin}
+use Rattle.stored_states.specs.declared.segment.Origin.TheVariants.{Start, Page}
+use Rattle.stored_states.specs.declared.segment.Outcome.{Outcome}
+use Rattle.stored_states.specs.declared.segment.Outcome.TheVariants.{Shown, Finished, Ended, Faulted, Fuel}
+use Rattle.stored_states.specs.declared.segment.Segment.{Segment}
+use Rattle.send_suspend.specs.Segments.{Ends, newest, frames_in, begun, IsLastOver, Replays}
 
 -- the segment of a machine over present cells is within its fuel
 pub within_begun : (from : Origin) (a : Arena) (value : Val) (number : ℕ) (url : List ℕ) (cells : List Val) (fuel : ℕ) → InSegment fuel (begun from a (newest value number url cells fuel)).state
@@ -43,8 +44,9 @@ keeps (Faulted k) d P e h = tt
 keeps (Fuel cost) d P e h = tt
 
 -- the stop of a machine is this segment
-pub record IsStop (r : Segment) (o : spec.Outcome) (d : Suspended) (s : State) : Type 0 where
+pub record IsStop (r : Segment) (o : spec.Outcome) (names : List TxName) (d : Suspended) (s : State) : Type 0 where
   pub outcome : outcome_of r.outcome ≡ o
+  pub entered : r.entered.items ≡ names
   pub kept : Keeps r.outcome (λ e. e ≡ d)
   pub effects : map effect_of r.effects.items ≡ s.effects
   pub left : r.left.items ≡ s.left
@@ -52,6 +54,9 @@ pub record IsStop (r : Segment) (o : spec.Outcome) (d : Suspended) (s : State) :
 
 same_outcome : (o p : spec.Outcome) (ns ms : List TxName) (d e : Suspended) (s t : State) → stopped o ns d s ≡ stopped p ms e t → o ≡ p
 same_outcome o p ns ms d e s t h = cc
+
+same_names : (o p : spec.Outcome) (ns ms : List TxName) (d e : Suspended) (s t : State) → stopped o ns d s ≡ stopped p ms e t → ns ≡ ms
+same_names o p ns ms d e s t h = cc
 
 same_kept : (o p : spec.Outcome) (ns ms : List TxName) (d e : Suspended) (s t : State) → stopped o ns d s ≡ stopped p ms e t → d ≡ e
 same_kept o p ns ms d e s t h = cc
@@ -61,37 +66,39 @@ same_state o p ns ms d e s t h = cc
 
 -- the stop that was reached is the one that there is
 reached : (a : Arena) (m mid : Machine) (s : Stops a m) (k : ℕ) (o : spec.Outcome) (names : List TxName) (d : Suspended) (t : State) (r : Segment)
-    → steps a k m ≡ goes mid → step a mid ≡ stopped o names d t → IsStop r o d t → IsStop r s.outcome s.kept s.state
+    → steps a k m ≡ goes mid → step a mid ≡ stopped o names d t → IsStop r o names d t → IsStop r s.outcome s.entered s.kept s.state
 reached a m mid s k o names d t r p q is =
     let same = (first_stop a m mid s k o names d t p q).1 in
     let kept = same_kept o s.outcome names s.entered d s.kept t s.state same in
     let state = same_state o s.outcome names s.entered d s.kept t s.state same in
     record {
       outcome = is.outcome ∙ same_outcome o s.outcome names s.entered d s.kept t s.state same;
+      entered = is.entered ∙ same_names o s.outcome names s.entered d s.kept t s.state same;
       kept = subst (λ (x : Suspended). Keeps r.outcome (λ e. e ≡ x)) kept is.kept;
       effects = is.effects ∙ ap (λ (x : State). x.effects) state;
       left = is.left ∙ ap (λ (x : State). x.left) state;
       cost = is.cost ∙ ap (λ (x : State). x.cost) state;
     }
 
+-- what is told of a stop is its segment
+same_segment : (r : Segment) (o : spec.Outcome) (names : List TxName) (d : Suspended) (s : State) → IsStop r o names d s → segment_of r ≡ segment_at o names s
+same_segment r o names d s is =
+    let a = is.outcome in
+    let b = is.entered in
+    let c = is.effects in
+    let e = is.left in
+    let f = is.cost in
+    cc
+
 last_over : (a : Arena) (fuel : ℕ) (m : Machine) (tape : Reads → Tape) (now : Reads) (c : ComesTo a fuel m (tape now) (λ vs. tape (recorded vs))) (r : Segment)
-    → IsStop r c.stops.outcome c.stops.kept c.stops.state → IsLastOver a r tape now
+    → IsStop r c.stops.outcome c.stops.entered c.stops.kept c.stops.state → IsLastOver a r tape now
 last_over a fuel m tape now c r is =
     let waits = λ (w : Waits (outcome_of r.outcome)). subst Waits is.outcome w in
     let run = eval.run (script_of a) (tape now) in
     let entered : c.stops.entered ≡ run.entered = ap (λ (x : eval.Segment). x.entered) c.runs in (
       (
-        is.outcome ∙ ap (λ (x : eval.Segment). x.outcome) c.runs,
-        (
-          is.effects ∙ ap (λ (x : eval.Segment). x.effects) c.runs,
-          (
-            is.left ∙ ap (λ (x : eval.Segment). x.left) c.runs,
-            (
-              is.cost ∙ ap (λ (x : eval.Segment). x.cost) c.runs,
-              keeps r.outcome c.stops.kept (λ d. inside_of d.frames ≡ run.entered) is.kept (λ w. sym c.inside ∙ entered),
-            ),
-          ),
-        ),
+        same_segment r c.stops.outcome c.stops.entered c.stops.kept c.stops.state is ∙ c.runs,
+        keeps r.outcome c.stops.kept (λ d. inside_of d.frames ≡ run.entered) is.kept (λ w. sym c.inside ∙ entered),
       ),
       (
         keeps r.outcome c.stops.kept (λ d. IsStateOf a (tape now) d) is.kept (λ w. c.shows (waits w)),
@@ -103,7 +110,7 @@ last_over a fuel m tape now c r is =
 -- the law of a segment
 replays : (from : Origin) (a : Arena) → IsScript a → (value : Val) (number : ℕ) (url : List ℕ) (cells : List Val) (fuel : ℕ) → fuel < 2 ^ 63
     → (m mid : Machine) → m ≡ begun from a (newest value number url cells fuel) → (k : ℕ) (o : spec.Outcome) (names : List TxName) (d : Suspended) (t : State) (r : Segment)
-    → steps a k m ≡ goes mid → step a mid ≡ stopped o names d t → IsStop r o d t → Replays from a (newest value number url cells fuel) r
+    → steps a k m ≡ goes mid → step a mid ≡ stopped o names d t → IsStop r o names d t → Replays from a (newest value number url cells fuel) r
 replays Start a i value number url cells fuel h m mid e k o names d t r p q is =
     let x = newest value number url cells fuel in
     let c = start_is a i x.segment cells fuel h in
@@ -148,7 +155,7 @@ pub record Came (from : Origin) (a : Arena) (x : Answer) (r : Segment) (before c
 
 came_there : (from : Origin) (a : Arena) → IsScript a → (value : Val) (number : ℕ) (url : List ℕ) (cells : List Val) (fuel : ℕ) → fuel < 2 ^ 63
     → (m : Machine) → FitsAt a m.point.control m.point.env m.point.frames → m ≡ begun from a (newest value number url cells fuel)
-    → (o : spec.Outcome) (names : List TxName) (d : Suspended) (s : State) (r : Segment) (before count : ℕ) → Ran a m o names d s before count → IsStop r o d s
+    → (o : spec.Outcome) (names : List TxName) (d : Suspended) (s : State) (r : Segment) (before count : ℕ) → Ran a m o names d s before count → IsStop r o names d s
     → Came from a (newest value number url cells fuel) r before count
 came_there from a i value number url cells fuel h m w e o names d s r before count ran is =
     let x = newest value number url cells fuel in
@@ -173,7 +180,7 @@ came_there from a i value number url cells fuel h m w e o names d s r before cou
 
 pub came : (from : Origin) (a b : Arena) → b ≡ a → IsScript b → (value : Val) (number : ℕ) (url : List ℕ) (cells : List Val) (fuel : ℕ) → fuel < 2 ^ 63
     → (m : Machine) → FitsAt b m.point.control m.point.env m.point.frames → m ≡ begun from a (newest value number url cells fuel)
-    → (o : spec.Outcome) (names : List TxName) (d : Suspended) (s : State) (r : Segment) (before count : ℕ) → Ran b m o names d s before count → IsStop r o d s
+    → (o : spec.Outcome) (names : List TxName) (d : Suspended) (s : State) (r : Segment) (before count : ℕ) → Ran b m o names d s before count → IsStop r o names d s
     → Came from a (newest value number url cells fuel) r before count
 came from a b same i value number url cells fuel h m w e o names d s r before count ran is =
     let x = newest value number url cells fuel in
@@ -181,7 +188,7 @@ came from a b same i value number url cells fuel h m w e o names d s r before co
     (λ f. came_there from b i value number url cells fuel h m w f o names d s r before count ran is) e
 
 -- the parts of a machine at its stop
-pub is_stop : (r : Segment) (end last : PlainEnd) (state : kept.Suspended) (d : Suspended) (s : State) → Ends r.outcome last state → plain.outcome_of last ≡ plain.outcome_of end
-    → suspended_of state ≡ d → map effect_of r.effects.items ≡ s.effects → r.left.items ≡ s.left → r.cost ≡ s.cost → IsStop r (plain.outcome_of end) d s
-is_stop r end last state d s ends e f g h c =
-    record { outcome = ends.0 ∙ e; kept = subst (λ (x : Suspended). Keeps r.outcome (λ y. y ≡ x)) f ends.1; effects = g; left = h; cost = c }
+pub is_stop : (r : Segment) (end last : PlainEnd) (state : kept.Suspended) (names : List TxName) (d : Suspended) (s : State) → Ends r.outcome last state → plain.outcome_of last ≡ plain.outcome_of end
+    → suspended_of state ≡ d → r.entered.items ≡ names → map effect_of r.effects.items ≡ s.effects → r.left.items ≡ s.left → r.cost ≡ s.cost → IsStop r (plain.outcome_of end) names d s
+is_stop r end last state names d s ends e f n g h c =
+    record { outcome = ends.0 ∙ e; entered = n; kept = subst (λ (x : Suspended). Keeps r.outcome (λ y. y ≡ x)) f ends.1; effects = g; left = h; cost = c }

@@ -6,7 +6,6 @@ use Rattle.instance_cells.specs.Cells.{reads_of}
 use Rattle.instance_cells.specs.Views.{effect_of}
 use Rattle.segments.specs.declared.ends.PlainEnd.{PlainEnd}
 use Rattle.segments.specs.Views as plain
-use Rattle.replay_spec.specs.Tape as spec
 use Rattle.replay_spec.specs.Tape.{Answer, Reads, recorded, present, State, Tape}
 use Rattle.replay_spec.specs.Eval as eval
 use Rattle.replay_spec.specs.Laws.{reading, longer}
@@ -14,25 +13,12 @@ use Rattle.machine_spec.specs.Machine as machine
 use Rattle.machine_spec.specs.Machine.{inside_of}
 use Rattle.machine_spec.specs.Fits.{Fits}
 use Rattle.machine_spec.specs.Laws.{started, resumed, alone, IsStateOf}
-use Rattle.cek_machine.specs.declared.frame.Suspended.{Suspended}
-use Rattle.cek_machine.specs.Spots.{suspended_of}
-use Rattle.send_suspend.specs.declared.segment.Origin.{Origin}
-use Rattle.send_suspend.specs.declared.segment.Origin.TheVariants.{Start, Page}
-use Rattle.send_suspend.specs.declared.segment.Outcome.{Outcome}
-use Rattle.send_suspend.specs.declared.segment.Outcome.TheVariants.{Shown, Finished, Ended, Faulted, Fuel}
-use Rattle.send_suspend.specs.declared.segment.Segment.{Segment}
-
-abbrev pub outcome_of : Outcome → spec.Outcome
-outcome_of (Shown page kind state) = spec.paged (spec.shows kind) page
-outcome_of (Finished page) = spec.paged spec.finishes page
-outcome_of (Ended page) = spec.paged spec.ends page
-outcome_of (Faulted k) = spec.faulted k
-outcome_of (Fuel cost) = spec.out_of_fuel cost
-
--- this holds of what is kept, where it waits for an answer
-abbrev pub Keeps : Outcome → (machine.Suspended → Type 0) → Type 0
-Keeps (Shown page kind state) P = P (suspended_of state)
-Keeps _ P = ⊤
+use Rattle.stored_states.specs.declared.frame.Suspended.{Suspended}
+use Rattle.stored_states.specs.Views.{suspended_of, outcome_of, Keeps, segment_of}
+use Rattle.stored_states.specs.declared.segment.Origin.{Origin}
+use Rattle.stored_states.specs.declared.segment.Origin.TheVariants.{Start, Page}
+use Rattle.stored_states.specs.declared.segment.Outcome.{Outcome}
+use Rattle.stored_states.specs.declared.segment.Segment.{Segment}
 
 -- the stop of a machine, with this state where it waits for an answer
 abbrev pub Ends : Outcome → PlainEnd → Suspended → Type 0
@@ -58,9 +44,7 @@ begun (Page d) a x = resumed a (suspended_of d) x
 
 -- It is what the last segment of a run comes to; a page is inside the transactions of its state's frames.
 abbrev pub IsLast : Segment → eval.Segment → Type 0
-IsLast r s =
-    (outcome_of r.outcome ≡ s.outcome) × ((map effect_of r.effects.items ≡ s.effects) × ((r.left.items ≡ s.left) × ((r.cost ≡ s.cost)
-    × Keeps r.outcome (λ d. inside_of d.frames ≡ s.entered))))
+IsLast r s = (segment_of r ≡ s) × Keeps r.outcome (λ d. inside_of d.frames ≡ s.entered)
 
 -- It is the last segment of the script, run from its start over this tape. Where it waits for an answer, its state is that of
 -- this tape, and of the tape with what was read recorded.

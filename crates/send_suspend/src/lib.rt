@@ -2,8 +2,7 @@
 #![tactic(auto)]
 
 mod run;
-mod segment;
 
-pub use cek_machine::{Frame, Steps, Suspended};
+pub use cek_machine::Steps;
 pub use run::run_segment;
-pub use segment::{Origin, Outcome, Segment};
+pub use stored_states::{Frame, Origin, Outcome, Segment, Suspended};

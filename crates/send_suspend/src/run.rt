@@ -3,16 +3,17 @@ ghost use Rattle.script_value.specs.Views.{meaning};
 ghost use Rattle.segments.specs.Views.{source_of, now_of};
 ghost use Rattle.machine_spec.specs.Fits.{Fits};
 ghost use Rattle.cek_machine.specs.Machines.{IsReady, machine_of};
-ghost use Rattle.send_suspend.specs.Segments.{newest, FitsFrom, frames_in, begun, Keeps, Ends, Replays};
+ghost use Rattle.stored_states.specs.Views.{Keeps};
+ghost use Rattle.send_suspend.specs.Segments.{newest, FitsFrom, frames_in, begun, Ends, Replays};
 
-use crate::segment::{Origin, Outcome, Segment};
-use cek_machine::{Machine, Steps, Suspended};
+use cek_machine::{Machine, Steps};
 use instance_cells::Cells;
 use script_nodes::Script;
 use script_value::{Str, Value};
 use segments::{Now, PlainEnd, Reads};
 use std::alloc::{AllocError, Global};
 use std::sync::ledger::Ledger;
+use stored_states::{Origin, Outcome, Segment, Suspended};
 
 // How a segment stopped, with what is kept where it waits for an answer.
 fn outcome_with(end: PlainEnd, state: Suspended) -> Outcome
@@ -79,9 +80,11 @@ pub fn run_segment<L: Ledger>(
     let mut machine = begin(alloc, script, from, answer, segment)?;
     let end = machine.run(alloc, steps)?;
     let (rerun, state) = machine.into_parts(alloc, end);
+    let entered = state.inside(alloc)?;
     Ok(Segment {
         outcome: outcome_with(rerun.end, state),
         effects: rerun.effects,
+        entered,
         left: rerun.left,
         cost: rerun.cost,
     })

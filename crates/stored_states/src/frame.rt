@@ -1,9 +1,9 @@
 ghost use Rattle.std.specs.Prelude.{◌≡◌, IfOk};
 ghost use Rattle.machine_spec.specs.Machine.{inside_of};
-ghost use Rattle.cek_machine.specs.Spots.{stack, suspended_of};
+ghost use Rattle.stored_states.specs.Views.{stack, suspended_of};
 
 use script_nodes::SendKind;
-use script_value::{Items, TxName, Value};
+use script_value::{Items, TxName};
 use std::alloc::{AllocError, Global};
 use web_cells::Shades;
 
@@ -38,15 +38,6 @@ pub enum Frame {
     Finish { node: u32 },
     /// The body of a last page.
     Back { node: u32 },
-}
-
-/// A node to visit, or a value to give.
-#[derive(Drop)]
-pub enum Control {
-    /// The node of a number.
-    Visit(u32),
-    /// A value for the innermost frame.
-    Give(Value),
 }
 
 /// What is kept of a machine at a page: its variables, its frames, the outermost first, and the bindings of web cells.
