@@ -1,7 +1,7 @@
-ghost use Rattle.std.specs.Prelude.{◌≡◌, ◌≤◌, false, IfOk, OnOk, OnErr, IsErrOf};
+ghost use Rattle.std.specs.Prelude.{◌≡◌, ◌≤◌, ℕ, false, IfOk, OnOk, OnErr, IsErrOf};
 ghost use Rattle.web_outside.specs.Causes.{Rose};
 ghost use Rattle.web_disk.specs.Racks.{faults_after_take};
-ghost use Rattle.file_disk.specs.Lendings.{Lends, SameOut, lending_view};
+ghost use Rattle.file_disk.specs.Lendings.{is_out, Lends, SameOut, lending_view};
 
 use crate::FileDisk;
 use crate::lending::Lending;
@@ -20,7 +20,8 @@ pub struct FileRack<'r, R> {
 impl<'r, R> FileRack<'r, R> {
     /// A rack of which no disk is out.
     pub fn new(rt: &'r R, alloc: Global) -> FileRack<'r, R>
-        ensures { result.lending.faults ≡ 0 }
+        ensures out { (number : ℕ) → is_out result.lending number ≡ false }
+        ensures faults { result.lending.faults ≡ 0 }
     {
         FileRack {
             rt,

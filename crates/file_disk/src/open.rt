@@ -2,8 +2,12 @@
 use std::alloc::AllocError;
 use std::fs::{self, File, Files, TryLockError};
 use std::io::{self, ErrorKind};
+use std::os::unix::fs::OpenOptionsExt;
 use std::path::Path;
 use thiserror::Error;
+
+// A file that is made may be read and written by its owner, and by nobody else.
+const OWNER_ALONE: u32 = 0o600;
 
 /// Why a file does not serve as a disk.
 #[derive(Debug, Drop, Error)]
@@ -84,6 +88,7 @@ pub fn open_alone<R: Files<File = File>>(
         .read(true)
         .write(true)
         .create(true)
+        .mode(OWNER_ALONE)
         .open(rt, path)?;
     if !file.metadata()?.is_file() {
         return Err(Refusal::NoFile);

@@ -1,7 +1,7 @@
-ghost use Rattle.std.specs.Prelude.{◌≡◌, ◌≤◌, false, IfOk, OnOk, OnErr, IsErrOf};
+ghost use Rattle.std.specs.Prelude.{◌≡◌, ◌≤◌, ℕ, false, IfOk, OnOk, OnErr, IsErrOf};
 ghost use Rattle.web_outside.specs.Causes.{Rose};
 ghost use Rattle.web_disk.specs.Racks.{faults_after_take};
-ghost use Rattle.file_disk.specs.Lendings.{Lends, SameOut, lending_view};
+ghost use Rattle.file_disk.specs.Lendings.{is_out, Lends, SameOut, lending_view};
 ghost use Rattle.file_disk.specs.Served.{served_view};
 
 use crate::file_rack::take_file;
@@ -26,7 +26,8 @@ pub struct ServedRack<'r, R> {
 impl<'r, R> ServedRack<'r, R> {
     /// A rack of which no disk is out.
     pub fn new(rt: &'r R, alloc: Global) -> ServedRack<'r, R>
-        ensures { result.lending.faults ≡ 0 }
+        ensures out { (number : ℕ) → is_out result.lending number ≡ false }
+        ensures faults { result.lending.faults ≡ 0 }
     {
         ServedRack {
             rt,
