@@ -1,0 +1,4 @@
+pub mod Files
+pub mod Lendings
+pub mod MemoryFiles
+pub mod Served

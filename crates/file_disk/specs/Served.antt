@@ -1,0 +1,20 @@
+-- What contracts see of a disk that a program is given.
+use Rattle.std.specs.Prelude.{ℕ, List}
+use Rattle.web_disk.specs.View.{View}
+use Rattle.file_disk.specs.declared.served.ServedDisk.{ServedDisk}
+use Rattle.file_disk.specs.declared.served.ServedDisk.TheVariants.{Memory, File}
+use Rattle.file_disk.specs.Files.{file_view}
+use Rattle.file_disk.specs.MemoryFiles.{memory_file_view}
+
+abbrev pub served_view : ServedDisk → View
+served_view (Memory disk) = memory_file_view disk
+served_view (File disk) = file_view disk
+
+-- it tells no images
+pub no_image : (disk : ServedDisk) (image : List ℕ) → (served_view disk).images image → ⊥
+no_image (Memory disk) image left = left
+no_image (File disk) image left = left
+
+pub no_moment : (disk : ServedDisk) (t : ℕ) (image : List ℕ) → (served_view disk).since t image → ⊥
+no_moment (Memory disk) t image left = left
+no_moment (File disk) t image left = left

@@ -1,0 +1,84 @@
+ghost use Rattle.std.specs.Prelude.{◌≡◌, ◌≤◌, ℕ, false, IfOk, OnOk, OnErr, IsErrOf};
+ghost use Rattle.web_outside.specs.Causes.{Rose};
+ghost use Rattle.web_disk.specs.Racks.{faults_after_take};
+ghost use Rattle.file_disk.specs.Lendings.{is_out, Lends, SameOut, lending_view};
+
+use crate::FileDisk;
+use crate::lending::Lending;
+use crate::open::{Refusal, open_alone};
+use std::alloc::Global;
+use std::fs::{File, Files};
+use web_disk::{Disk, Rack, RackFault};
+
+/// Disks that are files: that of number N is the file `shelf-N` of the directory. A file is held by one process alone. Where one is not taken, the reason is told on the standard error.
+#[derive(Drop)]
+pub struct FileRack<'r, R> {
+    rt: &'r R,
+    lending: Lending,
+}
+
+impl<'r, R> FileRack<'r, R> {
+    /// A rack of which no disk is out.
+    pub fn new(rt: &'r R, alloc: Global) -> FileRack<'r, R>
+        ensures out { (number : ℕ) → is_out result.lending number ≡ false }
+        ensures faults { result.lending.faults ≡ 0 }
+    {
+        FileRack {
+            rt,
+            lending: Lending::new(alloc),
+        }
+    }
+}
+
+/// The file of a disk, or the fault, which is told and counted.
+pub fn take_file<R: Files<File = File> + Eprint>(
+    rt: &R,
+    alloc: Global,
+    lending: &mut Lending,
+    directory: &str,
+    number: u32,
+) -> Result<FileDisk<File>, RackFault>
+    ensures fresh { IfOk result (λ disk. disk.faults ≡ 0) }
+    ensures out { OnOk result (Lends lending.old lending.new number) }
+    ensures err { OnErr result (SameOut lending.old lending.new) }
+    ensures faults { lending.new.faults ≡ faults_after_take result lending.old.faults }
+    ensures failed { IsErrOf result RackFault.Failed → Rose lending.old.faults lending.new.faults }
+    ensures later { lending.old.faults ≤ lending.new.faults }
+{
+    lending.reserve()?;
+    let path = format!(in alloc; "{directory}/shelf-{number}")?;
+    match open_alone(rt, directory, path.as_str()) {
+        Ok(file) => {
+            lending.lend(number);
+            Ok(FileDisk::new(file))
+        }
+        Err(Refusal::Memory) => Err(RackFault::Memory),
+        Err(refusal) => {
+            let _ = eprintln!(rt; "hovgyelit: {path}: {refusal}");
+            Err(lending.fail())
+        }
+    }
+}
+
+impl<'r, R: Files<File = File> + Eprint> Rack<FileDisk<File>> for FileRack<'r, R> {
+    ghost tells = { false };
+
+    ghost view = { λ rack. lending_view rack.lending };
+
+    fn faults(&self) -> u64 {
+        self.lending.faults()
+    }
+
+    fn take(
+        &mut self,
+        alloc: Global,
+        directory: &str,
+        number: u32,
+    ) -> Result<FileDisk<File>, RackFault> {
+        take_file(self.rt, alloc, &mut self.lending, directory, number)
+    }
+
+    fn give(&mut self, number: u32, disk: FileDisk<File>) {
+        self.lending.take_back(number, disk.faults());
+    }
+}

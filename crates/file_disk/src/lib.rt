@@ -1,0 +1,18 @@
+//! Disks that are files, the racks that they are taken from, and which of them a program is given: files of a folder, or disks in memory.
+#![tactic(auto)]
+
+mod file;
+mod file_rack;
+mod lending;
+mod memory_file;
+mod memory_shelves;
+mod open;
+mod served;
+mod served_rack;
+
+pub use file::FileDisk;
+pub use file_rack::FileRack;
+pub use memory_file::MemoryFile;
+pub use memory_shelves::MOST_MEMORY_DISKS;
+pub use served::ServedDisk;
+pub use served_rack::{MEMORY, ServedRack};

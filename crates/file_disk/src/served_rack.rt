@@ -1,0 +1,97 @@
+ghost use Rattle.std.specs.Prelude.{◌≡◌, ◌≤◌, ℕ, false, IfOk, OnOk, OnErr, IsErrOf};
+ghost use Rattle.web_outside.specs.Causes.{Rose};
+ghost use Rattle.web_disk.specs.Racks.{faults_after_take};
+ghost use Rattle.file_disk.specs.Lendings.{is_out, Lends, SameOut, lending_view};
+ghost use Rattle.file_disk.specs.Served.{served_view};
+
+use crate::file_rack::take_file;
+use crate::lending::Lending;
+use crate::memory_shelves::MemoryShelves;
+use crate::{MemoryFile, ServedDisk};
+use std::alloc::Global;
+use std::fs::{File, Files};
+use web_disk::{Disk, Rack, RackFault};
+
+/// The directory of this name is no folder: its disks are in memory.
+pub const MEMORY: &str = "-";
+
+/// The disks that a program is given: of the directory named `-` disks in memory, and of any other its files.
+#[derive(Drop)]
+pub struct ServedRack<'r, R> {
+    rt: &'r R,
+    lending: Lending,
+    shelves: MemoryShelves,
+}
+
+impl<'r, R> ServedRack<'r, R> {
+    /// A rack of which no disk is out.
+    pub fn new(rt: &'r R, alloc: Global) -> ServedRack<'r, R>
+        ensures out { (number : ℕ) → is_out result.lending number ≡ false }
+        ensures faults { result.lending.faults ≡ 0 }
+    {
+        ServedRack {
+            rt,
+            lending: Lending::new(alloc),
+            shelves: MemoryShelves::new(alloc),
+        }
+    }
+}
+
+// The disk in memory of this number, or the fault, which is counted.
+fn take_memory(
+    alloc: Global,
+    lending: &mut Lending,
+    shelves: &mut MemoryShelves,
+    number: u32,
+) -> Result<MemoryFile, RackFault>
+    ensures fresh { IfOk result (λ disk. (served_view (ServedDisk.Memory disk)).faults ≡ 0) }
+    ensures out { OnOk result (Lends lending.old lending.new number) }
+    ensures err { OnErr result (SameOut lending.old lending.new) }
+    ensures faults { lending.new.faults ≡ faults_after_take result lending.old.faults }
+    ensures failed { IsErrOf result RackFault.Failed → Rose lending.old.faults lending.new.faults }
+    ensures later { lending.old.faults ≤ lending.new.faults }
+{
+    lending.reserve()?;
+    match shelves.take(alloc, number) {
+        Ok(disk) => {
+            lending.lend(number);
+            Ok(MemoryFile::new(disk))
+        }
+        Err(RackFault::Memory) => Err(RackFault::Memory),
+        Err(RackFault::Failed) => Err(lending.fail()),
+    }
+}
+
+impl<'r, R: Files<File = File> + Eprint> Rack<ServedDisk> for ServedRack<'r, R> {
+    ghost tells = { false };
+
+    ghost view = { λ rack. lending_view rack.lending };
+
+    fn faults(&self) -> u64 {
+        self.lending.faults()
+    }
+
+    fn take(
+        &mut self,
+        alloc: Global,
+        directory: &str,
+        number: u32,
+    ) -> Result<ServedDisk, RackFault> {
+        let lending = &mut self.lending;
+        if directory == MEMORY {
+            let disk = take_memory(alloc, lending, &mut self.shelves, number)?;
+            Ok(ServedDisk::Memory(disk))
+        } else {
+            let disk = take_file(self.rt, alloc, lending, directory, number)?;
+            Ok(ServedDisk::File(disk))
+        }
+    }
+
+    fn give(&mut self, number: u32, disk: ServedDisk) {
+        self.lending.take_back(number, disk.faults());
+        match disk {
+            ServedDisk::Memory(disk) => self.shelves.give(number, disk.into_disk()),
+            ServedDisk::File(disk) => drop(disk),
+        }
+    }
+}

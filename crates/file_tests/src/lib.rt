@@ -1,0 +1,9 @@
+//! Tests of disks that are files, and of the racks that they are taken from.
+#![tactic(auto)]
+
+#[cfg(test)]
+mod calls;
+#[cfg(test)]
+mod files;
+#[cfg(test)]
+mod served;
