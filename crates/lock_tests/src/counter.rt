@@ -1,3 +1,4 @@
+//! A counter, as a value that may lie behind the lock.
 ghost use Rattle.std.specs.Prelude.{◌≡◌, ◌≤◌, ◌^◌, [], ◌∷◌, ◌++◌, IfSome, IfNone};
 
 use shelf_lock::Kept;

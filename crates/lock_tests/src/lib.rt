@@ -1,11 +1,11 @@
-//! Tests of the lock over a counter.
+//! A counter behind the lock, and tests of the lock over it.
 #![tactic(auto)]
 
-#[cfg(test)]
-mod counter;
+pub mod counter;
+pub mod counting;
 #[cfg(test)]
 mod notes;
 #[cfg(test)]
-mod threads;
+mod numbers;
 #[cfg(test)]
-mod worn;
+mod threads;

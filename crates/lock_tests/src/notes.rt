@@ -1,22 +1,7 @@
-ghost use Rattle.std.specs.Prelude.{◌≡◌};
-ghost use mathlib.Core.List.{IsPrefix};
-
 use crate::counter::Counter;
-use crate::worn::count_once;
-use shelf_lock::{Pass, ShelfLock};
+use crate::counting::{count_once, tell};
+use shelf_lock::ShelfLock;
 use std::test::Fail;
-
-// One pass tells another what it has seen.
-fn tell(lock: &ShelfLock<Counter>, from: &mut Pass<Counter>, to: &mut Pass<Counter>)
-    requires own { (from.old.seat.table_id ≡ lock.now.board.shared.table_id) × (to.old.seat.table_id ≡ lock.now.board.shared.table_id) }
-    ensures own { (from.new.seat.table_id ≡ from.old.seat.table_id) × (to.new.seat.table_id ≡ to.old.seat.table_id) }
-    ensures callers { (from.new.caller ≡ from.old.caller) × (to.new.caller ≡ to.old.caller) }
-    ensures heard { IsPrefix from.old.seat.me.0.seen to.new.seat.me.0.seen }
-    ensures kept { IsPrefix to.old.seat.me.0.seen to.new.seat.me.0.seen }
-{
-    let note = lock.split(from);
-    lock.join(to, note);
-}
 
 #[test]
 fn a_note_makes_no_entry(rt: HostRuntime) -> Result<(), Fail> {

@@ -1,70 +1,9 @@
-ghost use Rattle.std.specs.Prelude.{◌≡◌};
-
 use crate::counter::{Count, Counter};
-use crate::worn::count_once;
-use shelf_lock::{Kept, Pass, ShelfLock};
-use std::sync::Wait;
+use crate::counting::{both_count, both_look};
+use shelf_lock::ShelfLock;
 use std::test::Fail;
-use std::thread::{Threads, join};
 
 const TURNS: u64 = 1000;
-
-// So many turns of the pass, one behind the other.
-fn count_up<R: Wait>(
-    rt: &R,
-    lock: &ShelfLock<Counter>,
-    mut pass: Pass<Counter>,
-    turns: u64,
-) -> Pass<Counter>
-    requires { pass.seat.table_id ≡ lock.now.board.shared.table_id }
-    ensures { result.seat.table_id ≡ lock.now.board.shared.table_id }
-{
-    for turn in 0..turns {
-        let _ = count_once(rt, lock, &mut pass, turn);
-    }
-    pass
-}
-
-// Both passes count, each in a thread.
-fn both_count<R: Threads + Wait + Sync>(
-    rt: &R,
-    lock: &ShelfLock<Counter>,
-    first: Pass<Counter>,
-    second: Pass<Counter>,
-) -> (Pass<Counter>, Pass<Counter>)
-    requires { (first.seat.table_id ≡ lock.now.board.shared.table_id) × (second.seat.table_id ≡ lock.now.board.shared.table_id) }
-    ensures first { result.0.seat.table_id ≡ lock.now.board.shared.table_id }
-    ensures second { result.1.seat.table_id ≡ lock.now.board.shared.table_id }
-{
-    join(
-        rt,
-        || count_up(rt, lock, first, TURNS),
-        || count_up(rt, lock, second, TURNS),
-    )
-}
-
-// A turn that changes nothing.
-fn look<V: Kept, R: Wait>(rt: &R, lock: &ShelfLock<V>, mut pass: Pass<V>) -> Pass<V>
-    requires { pass.seat.table_id ≡ lock.now.board.shared.table_id }
-    ensures { result.seat.table_id ≡ lock.now.board.shared.table_id }
-{
-    let _ = lock.turn(rt, &mut pass, |_: &mut V| ());
-    pass
-}
-
-// Two passes look, each in a thread, at any value that may go to another thread.
-fn both_look<V: Kept + Send, R: Threads + Wait + Sync>(
-    rt: &R,
-    lock: &ShelfLock<V>,
-    first: Pass<V>,
-    second: Pass<V>,
-) -> (Pass<V>, Pass<V>)
-    requires { (first.seat.table_id ≡ lock.now.board.shared.table_id) × (second.seat.table_id ≡ lock.now.board.shared.table_id) }
-    ensures first { result.0.seat.table_id ≡ lock.now.board.shared.table_id }
-    ensures second { result.1.seat.table_id ≡ lock.now.board.shared.table_id }
-{
-    join(rt, || look(rt, lock, first), || look(rt, lock, second))
-}
 
 // Whether the caller's counts are those of its turns, in order.
 fn in_order(counts: &[Count], caller: u64) -> bool {
@@ -89,7 +28,7 @@ fn each_thread_counts_in_its_order(rt: HostRuntime) -> Result<(), Fail> {
     let (Some(second), Some(first)) = (passes.pop(), passes.pop()) else {
         return Err(Fail::from("no passes"));
     };
-    let (first, second) = both_count(&rt, &lock, first, second);
+    let (first, second) = both_count(&rt, &lock, first, second, TURNS);
     let (mut first, second) = both_look(&rt, &lock, first, second);
     lock.absorb(&mut first, second);
     let counter = lock.close_with(&rt, first);

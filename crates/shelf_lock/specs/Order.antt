@@ -154,3 +154,11 @@ module _ {S O E : Type 0} (history : S → List E) where
 -- one more entry at most, by this caller
 abbrev pub Adds : {E : Type 0} → (E → ℕ) → ℕ → List E → List E → Type 0
 Adds {E} caller who old new = (new ≡ old) ⊎ ((e : E) × (caller e ≡ who) × (new ≡ old ++ e ∷ []))
+
+-- between two histories the caller made one entry at most
+abbrev pub MakesOne : {E : Type 0} → (E → ℕ) → ℕ → List E → List E → Type 0
+MakesOne caller who old new = Adds caller who (made_by caller who old) (made_by caller who new)
+
+-- between two histories the caller made no entry
+abbrev pub MakesNone : {E : Type 0} → (E → ℕ) → ℕ → List E → List E → Type 0
+MakesNone caller who old new = made_by caller who new ≡ made_by caller who old

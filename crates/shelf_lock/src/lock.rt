@@ -1,6 +1,7 @@
 //! The lock.
 ghost use Rattle.std.specs.Prelude.{◌≡◌, ℕ, ◌+◌, ◌<◌, ◌≤◌, ◌^◌, [], ◌∷◌, Some, length, slice_get, IfOk, IfErr, MatchResult};
-ghost use Rattle.shelf_lock.specs.Order.{Of, Begins, Each, Told, GoesOn, MadeBelow, maker, posed, both, longer};
+ghost use Rattle.shelf_lock.specs.Order.{Begins, Each, Told, GoesOn, MadeBelow, MakesOne, MakesNone, maker, posed, both, longer};
+ghost use mathlib.Core.List.{IsPrefix};
 ghost use Rattle.shelf_lock.specs.declared.view.Role.TheVariants.{Outside};
 ghost use Rattle.shelf_lock.specs.Turns.{IsSized, IsSameSeat, IsNewSeat, MayCall, KeepsEach, Turned, FoundWorn};
 
@@ -90,6 +91,10 @@ impl<V: Kept> ShelfLock<V> {
         ensures turned { MatchResult result
             (λ a. Turned V.Kept F.FnOnce f pass.old.seat.me.0 a pass.new.seat.me.0)
             (λ _. FoundWorn V.Kept pass.old.seat.me.0 pass.new.seat.me.0) }
+        ensures grows { IsPrefix pass.old.seat.me.0.seen pass.new.seat.me.0.seen }
+        ensures made { MatchResult result
+            (λ _. MakesOne V.caller pass.old.caller pass.old.seat.me.0.seen pass.new.seat.me.0.seen)
+            (λ _. MakesNone V.caller pass.old.caller pass.old.seat.me.0.seen pass.new.seat.me.0.seen) }
     {
         steps::turn(rt, &self.board.shared, &self.sleepers, &mut pass.seat, f)
     }

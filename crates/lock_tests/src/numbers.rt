@@ -1,24 +1,7 @@
-ghost use Rattle.std.specs.Prelude.{◌≡◌};
-
-use crate::counter::{Count, Counter};
-use shelf_lock::{Pass, ShelfLock, Worn};
-use std::sync::Wait;
+use crate::counter::Counter;
+use crate::counting::count_once;
+use shelf_lock::{ShelfLock, Worn};
 use std::test::Fail;
-
-/// One turn, in which the pass counts. It tells whether the count was kept.
-pub fn count_once<R: Wait>(
-    rt: &R,
-    lock: &ShelfLock<Counter>,
-    pass: &mut Pass<Counter>,
-    turn: u64,
-) -> Result<Option<()>, Worn>
-    requires own { pass.old.seat.table_id ≡ lock.now.board.shared.table_id }
-    ensures own { pass.new.seat.table_id ≡ pass.old.seat.table_id }
-    ensures caller { pass.new.caller ≡ pass.old.caller }
-{
-    let caller = pass.caller;
-    lock.turn(rt, pass, |c: &mut Counter| c.count(Count { caller, turn }))
-}
 
 #[test]
 fn the_second_turn_is_worn(rt: HostRuntime) -> Result<(), Fail> {
