@@ -1,0 +1,65 @@
+-- What holds of every legal history.
+use Rattle.std.specs.Prelude.{◌≡◌, ◌≤◌, ◌+◌, ℕ, List, [], ◌∷◌, ◌++◌, Contains, map, length, ⊤}
+use Rattle.script_value.specs.declared.outcome.TxName.{TxName}
+use Rattle.replay_spec.specs.Book.{Book}
+use Rattle.replay_spec.specs.Rules.{Rules}
+use Rattle.replay_spec.specs.Next.{Ticket}
+use Rattle.replay_spec.specs.Step.{Event, take, publish, sweep, crash, Fate, Reply, taken, swept, step}
+use Rattle.replay_spec.specs.Runs.{Shelf, shelf_step, answers_to}
+use Rattle.replay_spec.specs.Invariant.{AreDifferent, IsOrderly, IsSound}
+use Rattle.replay_spec.specs.Laws.{Moment, Leads, IsLawfulRun, Leaves, IsOn, IsRefusal, without_effect}
+use Rattle.shelf_history.specs.Histories.{Entry, fate_by, events_of, shelf_behind, book_behind, own_of, owed_by, Owes, IsNext, IsLegal, IsOpened}
+
+-- A legal history goes on by each entry that comes next, a front of it is legal, and it stays so while the disk's count rises.
+abbrev pub HistoriesGoOn : Type 0
+HistoriesGoOn =
+    (source : ℕ → ℕ) (opened now : ℕ) (s : Shelf) (es : List Entry)
+    → ((e : Entry) → IsLegal source opened now s es → IsNext source opened now s es e → IsLegal source opened now s (es ++ e ∷ []))
+    × ((e : Entry) → IsLegal source opened now s (es ++ e ∷ []) → IsNext source opened now s es e)
+    × ((more : List Entry) → IsLegal source opened now s (es ++ more) → IsLegal source opened now s es)
+    × ((later : ℕ) → now ≤ later → IsLegal source opened now s es → IsLegal source opened later s es)
+
+-- the shelf behind one entry more
+abbrev pub OneEntryIsAStep : Type 0
+OneEntryIsAStep =
+    (source : ℕ → ℕ) (s : Shelf) (es : List Entry) (e : Entry)
+    → shelf_behind source s (es ++ e ∷ []) ≡ (shelf_step source (shelf_behind source s es) e.event (fate_by e.reply)).1
+
+-- A legal history is a run of lawful events, each answered as it is there: it leads from the book behind each front of it to
+-- the book behind the whole.
+abbrev pub HistoriesAreRuns : Type 0
+HistoriesAreRuns =
+    (source : ℕ → ℕ) (opened now : ℕ) (s : Shelf) (es : List Entry) → IsOpened s → IsLegal source opened now s es
+    → IsLawfulRun source (events_of es) s
+    × (answers_to source (events_of es) s ≡ map (λ e. e.reply) es)
+    × ((front more : List Entry) → es ≡ front ++ more → Leads (book_behind source s front) (book_behind source s es))
+
+-- the take of which a ticket is
+abbrev pub take_of : (caller : ℕ) → Ticket → Entry
+take_of caller t = record { caller = caller; event = take t.target t.answer; reply = taken t.number t.nonce }
+
+-- the tickets that were taken, whatever became of them
+abbrev pub given_by : Event → Reply → List Ticket → List Ticket
+given_by (take target answer) (taken number nonce) ts = record { target = target; answer = answer; number = number; nonce = nonce } ∷ ts
+given_by _ _ ts = ts
+
+abbrev pub tickets_taken : List Entry → List Ticket
+tickets_taken [] = []
+tickets_taken (e ∷ es) = given_by e.event e.reply (tickets_taken es)
+
+-- No number is taken twice.
+abbrev pub NoNumberTakenTwice : Type 0
+NoNumberTakenTwice =
+    (source : ℕ → ℕ) (opened now : ℕ) (s : Shelf) (es : List Entry) → IsOpened s → IsLegal source opened now s es
+    → AreDifferent (map (λ t. t.number) (tickets_taken es))
+
+-- A ticket that a caller owes by its own entries is out in every legal history that has just these of the caller, whatever
+-- others do between them: its number is out in the book behind, and target, answer and nonce are those of the one take of this
+-- number, which is the caller's.
+abbrev pub WhatIsOwedIsOut : Type 0
+WhatIsOwedIsOut =
+    (source : ℕ → ℕ) (opened now : ℕ) (s : Shelf) (es own : List Entry) (caller : ℕ) (t : Ticket) → IsOpened s → IsLegal source opened now s es
+    → own_of caller es ≡ own → Contains (owed_by own) t
+    → Contains (book_behind source s es).out t.number
+    × Contains own (take_of caller t)
+    × ((e : Entry) (u : Ticket) → Contains es e → e ≡ take_of e.caller u → u.number ≡ t.number → e ≡ take_of caller t)
