@@ -1,3 +1,4 @@
 pub mod Members
 pub mod Going
 pub mod Owing
+pub mod Numbers

@@ -1,7 +1,7 @@
 //! What callers did on a shelf since it was opened, what such a history has to be, and laws of it.
 #![tactic(auto)]
 
-ghost use Rattle.shelf_history.specs.Laws.{HistoriesGoOn, OneEntryIsAStep};
+ghost use Rattle.shelf_history.specs.Laws.{HistoriesGoOn, OneEntryIsAStep, HistoriesAreRuns};
 
 /// A legal history goes on by each entry that comes next; a front of it is legal; and it stays so while the disk's count of
 /// faults rises.
@@ -12,4 +12,9 @@ pub fn histories_go_on()
 /// The shelf behind one entry more is that of one step.
 pub fn one_entry_is_a_step()
     ensures { OneEntryIsAStep }
+{}
+
+/// A legal history is a run of lawful events.
+pub fn histories_are_runs()
+    ensures { HistoriesAreRuns }
 {}
