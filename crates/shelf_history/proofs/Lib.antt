@@ -2,3 +2,4 @@ pub mod Members
 pub mod Going
 pub mod Owing
 pub mod Numbers
+pub mod Twice

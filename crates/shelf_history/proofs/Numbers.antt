@@ -32,7 +32,7 @@ pub record Well (source : ℕ → ℕ) (s : Shelf) (es : List Entry) : Type 0 wh
   pub held : Held es (tickets_left es [])
 
 -- a take that is answered so drew this number
-given_next : (rules : Rules) (b : Book) (nonce : ℕ) (x : Event) (fate : Fate) (r : Reply) (t : Ticket) → (step rules b nonce x fate).0 ≡ r → IsGiven x r t
+pub given_next : (rules : Rules) (b : Book) (nonce : ℕ) (x : Event) (fate : Fate) (r : Reply) (t : Ticket) → (step rules b nonce x fate).0 ≡ r → IsGiven x r t
     → (t.number ≡ b.drawn) × (t.nonce ≡ nonce) × ((step rules b nonce x fate).1.drawn ≡ b.drawn + 1)
 given_next rules b nonce (take target answer) fate (taken n m) t is given =
     let takes : Takes b nonce (taken n m) (step rules b nonce (take target answer) fate).1 =

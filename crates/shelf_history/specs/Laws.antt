@@ -50,7 +50,7 @@ tickets_taken (e ∷ es) = given_by e.event e.reply (tickets_taken es)
 -- No number is taken twice.
 abbrev pub NoNumberTakenTwice : Type 0
 NoNumberTakenTwice =
-    (source : ℕ → ℕ) (opened now : ℕ) (s : Shelf) (es : List Entry) → IsOpened s → IsLegal source opened now s es
+    (source : ℕ → ℕ) (opened now : ℕ) (s : Shelf) (es : List Entry) → IsLegal source opened now s es
     → AreDifferent (map (λ t. t.number) (tickets_taken es))
 
 -- A ticket that a caller owes by its own entries is out in every legal history that has just these of the caller, whatever

@@ -1,7 +1,7 @@
 //! What callers did on a shelf since it was opened, what such a history has to be, and laws of it.
 #![tactic(auto)]
 
-ghost use Rattle.shelf_history.specs.Laws.{HistoriesGoOn, OneEntryIsAStep, HistoriesAreRuns};
+ghost use Rattle.shelf_history.specs.Laws.{HistoriesGoOn, OneEntryIsAStep, HistoriesAreRuns, NoNumberTakenTwice, WhatIsOwedIsOut};
 
 /// A legal history goes on by each entry that comes next; a front of it is legal; and it stays so while the disk's count of
 /// faults rises.
@@ -17,4 +17,14 @@ pub fn one_entry_is_a_step()
 /// A legal history is a run of lawful events.
 pub fn histories_are_runs()
     ensures { HistoriesAreRuns }
+{}
+
+/// No number is taken twice.
+pub fn no_number_taken_twice()
+    ensures { NoNumberTakenTwice }
+{}
+
+/// A ticket that a caller owes by its own entries is out, whatever others do, and it is that of the caller's take.
+pub fn what_is_owed_is_out()
+    ensures { WhatIsOwedIsOut }
 {}
