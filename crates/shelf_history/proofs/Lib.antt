@@ -3,3 +3,4 @@ pub mod Going
 pub mod Owing
 pub mod Numbers
 pub mod Twice
+pub mod Behind

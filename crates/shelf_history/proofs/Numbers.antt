@@ -47,7 +47,7 @@ given_next rules b nonce (sweep tick) fate r t is given = absurd given
 given_next rules b nonce (crash scripts) fate r t is given = absurd given
 
 module _ (source : ℕ → ℕ) (opened now : ℕ) (s : Shelf) where
-  lawful_next : (es : List Entry) (x : Event) (caller : ℕ) → Well source s es → MayCome caller x es → IsLawful x (book_behind source s es)
+  pub lawful_next : (es : List Entry) (x : Event) (caller : ℕ) → Well source s es → MayCome caller x es → IsLawful x (book_behind source s es)
   lawful_next es (take target answer) caller w comes = tt
   lawful_next es (publish p) caller w comes =
       subst (λ (ns : List ℕ). Contains ns p.number) w.out (contains_mapped (λ (t : Ticket). t.number) (tickets_left es []) p (w.held.owned caller p comes))

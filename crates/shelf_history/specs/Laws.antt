@@ -63,3 +63,34 @@ WhatIsOwedIsOut =
     → Contains (book_behind source s es).out t.number
     × Contains own (take_of caller t)
     × ((e : Entry) (u : Ticket) → Contains es e → e ≡ take_of e.caller u → u.number ≡ t.number → e ≡ take_of caller t)
+
+-- what an entry meets behind those before it
+abbrev pub moment_of : (source : ℕ → ℕ) → Shelf → (before : List Entry) → Entry → Moment
+moment_of source s before e =
+    let now = shelf_behind source s before in record { rules = now.rules; nonce = source now.nonces; event = e.event; fate = fate_by e.reply }
+
+-- From a sound book a legal history leads to a sound one, of the same shelf.
+abbrev pub BooksBehindAreSound : Type 0
+BooksBehindAreSound =
+    (source : ℕ → ℕ) (opened now : ℕ) (s : Shelf) (es : List Entry) → IsOpened s → IsSound s.book → IsLegal source opened now s es
+    → IsSound (book_behind source s es) × ((book_behind source s es).shelf ≡ s.book.shelf)
+
+-- The clock never falls, and behind a sweep that was answered it is at the tick, at least.
+abbrev pub TheClockNeverFalls : Type 0
+TheClockNeverFalls =
+    (source : ℕ → ℕ) (opened now : ℕ) (s : Shelf) (front more : List Entry) → IsOpened s → IsLegal source opened now s (front ++ more)
+    → ((book_behind source s front).clock ≤ (book_behind source s (front ++ more)).clock)
+    × ((caller tick freed : ℕ) → Contains front (record { caller = caller; event = sweep tick; reply = swept freed })
+    → tick ≤ (book_behind source s (front ++ more)).clock)
+
+-- After an entry that left a transaction none leaves it, of whichever caller. Each on a page that is inside it, or was in any
+-- book before, is refused without effect.
+abbrev pub ClosedIsClosed : Type 0
+ClosedIsClosed =
+    (source : ℕ → ℕ) (opened now : ℕ) (s : Shelf) (before between : List Entry) (leaving next : Entry) (name : TxName)
+    → let until = before ++ leaving ∷ between in
+    IsOpened s → IsSound s.book → IsLegal source opened now s (until ++ next ∷ [])
+    → Leaves name (book_behind source s before) (moment_of source s before leaving)
+    → (Leaves name (book_behind source s until) (moment_of source s until next) → ⊥)
+    × ((early more : List Entry) → until ≡ early ++ more → IsOn name (book_behind source s early) next.event
+    → IsRefusal next.reply × (book_behind source s (until ++ next ∷ []) ≡ without_effect next.event (book_behind source s until)))

@@ -1,7 +1,7 @@
 //! What callers did on a shelf since it was opened, what such a history has to be, and laws of it.
 #![tactic(auto)]
 
-ghost use Rattle.shelf_history.specs.Laws.{HistoriesGoOn, OneEntryIsAStep, HistoriesAreRuns, NoNumberTakenTwice, WhatIsOwedIsOut};
+ghost use Rattle.shelf_history.specs.Laws.{HistoriesGoOn, OneEntryIsAStep, HistoriesAreRuns, NoNumberTakenTwice, WhatIsOwedIsOut, BooksBehindAreSound, TheClockNeverFalls, ClosedIsClosed};
 
 /// A legal history goes on by each entry that comes next; a front of it is legal; and it stays so while the disk's count of
 /// faults rises.
@@ -27,4 +27,20 @@ pub fn no_number_taken_twice()
 /// A ticket that a caller owes by its own entries is out, whatever others do, and it is that of the caller's take.
 pub fn what_is_owed_is_out()
     ensures { WhatIsOwedIsOut }
+{}
+
+/// From a sound book a legal history leads to a sound one, of the same shelf.
+pub fn books_behind_are_sound()
+    ensures { BooksBehindAreSound }
+{}
+
+/// The clock never falls, and behind a sweep that was answered it is at the tick, at least.
+pub fn the_clock_never_falls()
+    ensures { TheClockNeverFalls }
+{}
+
+/// After an entry that left a transaction none leaves it, and each on a page inside it is refused without effect, of
+/// whichever caller.
+pub fn closed_is_closed()
+    ensures { ClosedIsClosed }
 {}
