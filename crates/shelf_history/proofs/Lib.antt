@@ -4,3 +4,4 @@ pub mod Owing
 pub mod Numbers
 pub mod Twice
 pub mod Behind
+pub mod Passing

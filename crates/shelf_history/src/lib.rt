@@ -2,6 +2,7 @@
 #![tactic(auto)]
 
 ghost use Rattle.shelf_history.specs.Laws.{HistoriesGoOn, OneEntryIsAStep, HistoriesAreRuns, NoNumberTakenTwice, WhatIsOwedIsOut, BooksBehindAreSound, TheClockNeverFalls, ClosedIsClosed};
+ghost use Rattle.shelf_history.specs.Passes.{ATurnGoes, CallsCompose, SeenStays, ATakeIsOwed};
 
 /// A legal history goes on by each entry that comes next; a front of it is legal; and it stays so while the disk's count of
 /// faults rises.
@@ -43,4 +44,24 @@ pub fn the_clock_never_falls()
 /// whichever caller.
 pub fn closed_is_closed()
     ensures { ClosedIsClosed }
+{}
+
+/// A turn goes on by one entry of its caller, behind what the pass had seen and what others did since.
+pub fn a_turn_goes()
+    ensures { ATurnGoes }
+{}
+
+/// Calls of one caller compose, with others' entries between them.
+pub fn calls_compose()
+    ensures { CallsCompose }
+{}
+
+/// What a pass has seen stays a front of the history with all its caller's entries, whatever others do.
+pub fn seen_stays()
+    ensures { SeenStays }
+{}
+
+/// What was taken is owed until it is published, whatever others do, so its publish may come.
+pub fn a_take_is_owed()
+    ensures { ATakeIsOwed }
 {}
