@@ -5,3 +5,5 @@ pub mod Numbers
 pub mod Twice
 pub mod Behind
 pub mod Passing
+pub mod Fates
+pub mod Nonces

@@ -44,7 +44,7 @@ given_more (publish p) r ts us = refl
 given_more (sweep tick) r ts us = refl
 given_more (crash scripts) r ts us = refl
 
-taken_push : (es : List Entry) (e : Entry) → tickets_taken (es ++ e ∷ []) ≡ tickets_taken es ++ given_by e.event e.reply []
+pub taken_push : (es : List Entry) (e : Entry) → tickets_taken (es ++ e ∷ []) ≡ tickets_taken es ++ given_by e.event e.reply []
 taken_push [] e = refl
 taken_push (x ∷ es) e = ap (given_by x.event x.reply) (taken_push es e) ∙ given_more x.event x.reply (tickets_taken es) (given_by e.event e.reply [])
 

@@ -8,7 +8,7 @@ use Rattle.replay_spec.specs.Step.{Event, take, publish, sweep, crash, Fate, Rep
 use Rattle.replay_spec.specs.Runs.{Shelf, shelf_step, answers_to}
 use Rattle.replay_spec.specs.Invariant.{AreDifferent, IsOrderly, IsSound}
 use Rattle.replay_spec.specs.Laws.{Moment, Leads, IsLawfulRun, Leaves, IsOn, IsRefusal, without_effect}
-use Rattle.shelf_history.specs.Histories.{Entry, fate_by, events_of, shelf_behind, book_behind, own_of, owed_by, Owes, IsNext, IsLegal, IsOpened}
+use Rattle.shelf_history.specs.Histories.{Entry, fate_by, events_of, shelf_behind, book_behind, own_of, owed_by, Owes, MayCome, IsCounted, IsNext, IsLegal, IsOpened}
 
 -- A legal history goes on by each entry that comes next, a front of it is legal, and it stays so while the disk's count rises.
 abbrev pub HistoriesGoOn : Type 0
@@ -63,6 +63,26 @@ WhatIsOwedIsOut =
     → Contains (book_behind source s es).out t.number
     × Contains own (take_of caller t)
     × ((e : Entry) (u : Ticket) → Contains es e → e ≡ take_of e.caller u → u.number ≡ t.number → e ≡ take_of caller t)
+
+-- Whatever its fate is, an event that may come makes an entry, of which its fate can be read off, and the shelf behind it is
+-- the one that it makes: so histories leave out nothing that may happen.
+abbrev pub EachEventIsAnEntry : Type 0
+EachEventIsAnEntry =
+    (source : ℕ → ℕ) (opened now : ℕ) (s : Shelf) (es : List Entry) (caller : ℕ) (x : Event) (fate : Fate) → MayCome caller x es
+    → let next = shelf_step source (shelf_behind source s es) x fate in
+    let e : Entry = record { caller = caller; event = x; reply = next.0 } in
+    IsCounted opened now next.0 → IsNext source opened now s es e × (shelf_behind source s (es ++ e ∷ []) ≡ next.1)
+
+-- the tickets have the source's nonces in turn, from this one on
+abbrev pub AreInTurn : (source : ℕ → ℕ) → ℕ → List Ticket → Type 0
+AreInTurn source k [] = ⊤
+AreInTurn source k (t ∷ ts) = (t.nonce ≡ source k) × AreInTurn source (k + 1) ts
+
+-- Takes are given the nonces of the source in turn, and what is left of it are those behind them.
+abbrev pub NoncesComeInTurn : Type 0
+NoncesComeInTurn =
+    (source : ℕ → ℕ) (opened now : ℕ) (s : Shelf) (es : List Entry) → IsLegal source opened now s es
+    → AreInTurn source s.nonces (tickets_taken es) × ((shelf_behind source s es).nonces ≡ s.nonces + length (tickets_taken es))
 
 -- what an entry meets behind those before it
 abbrev pub moment_of : (source : ℕ → ℕ) → Shelf → (before : List Entry) → Entry → Moment

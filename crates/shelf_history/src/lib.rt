@@ -1,7 +1,7 @@
 //! What callers did on a shelf since it was opened, what such a history has to be, and laws of it.
 #![tactic(auto)]
 
-ghost use Rattle.shelf_history.specs.Laws.{HistoriesGoOn, OneEntryIsAStep, HistoriesAreRuns, NoNumberTakenTwice, WhatIsOwedIsOut, BooksBehindAreSound, TheClockNeverFalls, ClosedIsClosed};
+ghost use Rattle.shelf_history.specs.Laws.{HistoriesGoOn, OneEntryIsAStep, EachEventIsAnEntry, HistoriesAreRuns, NoncesComeInTurn, NoNumberTakenTwice, WhatIsOwedIsOut, BooksBehindAreSound, TheClockNeverFalls, ClosedIsClosed};
 ghost use Rattle.shelf_history.specs.Passes.{ATurnGoes, CallsCompose, SeenStays, ATakeIsOwed};
 
 /// A legal history goes on by each entry that comes next; a front of it is legal; and it stays so while the disk's count of
@@ -15,6 +15,11 @@ pub fn one_entry_is_a_step()
     ensures { OneEntryIsAStep }
 {}
 
+/// Whatever its fate is, an event that may come makes an entry, of which its fate can be read off.
+pub fn each_event_is_an_entry()
+    ensures { EachEventIsAnEntry }
+{}
+
 /// A legal history is a run of lawful events.
 pub fn histories_are_runs()
     ensures { HistoriesAreRuns }
@@ -23,6 +28,11 @@ pub fn histories_are_runs()
 /// No number is taken twice.
 pub fn no_number_taken_twice()
     ensures { NoNumberTakenTwice }
+{}
+
+/// Takes are given the nonces of the source in turn, and what is left of it are those behind them.
+pub fn nonces_come_in_turn()
+    ensures { NoncesComeInTurn }
 {}
 
 /// A ticket that a caller owes by its own entries is out, whatever others do, and it is that of the caller's take.
