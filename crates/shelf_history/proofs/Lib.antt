@@ -7,3 +7,4 @@ pub mod Behind
 pub mod Passing
 pub mod Fates
 pub mod Nonces
+pub mod Keeping

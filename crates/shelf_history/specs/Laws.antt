@@ -1,10 +1,10 @@
 -- What holds of every legal history.
 use Rattle.std.specs.Prelude.{◌≡◌, ◌≤◌, ◌+◌, ℕ, List, [], ◌∷◌, ◌++◌, Contains, map, length, ⊤}
 use Rattle.script_value.specs.declared.outcome.TxName.{TxName}
-use Rattle.replay_spec.specs.Book.{Book}
+use Rattle.script_nodes.specs.Setup.{Named}
 use Rattle.replay_spec.specs.Rules.{Rules}
 use Rattle.replay_spec.specs.Next.{Ticket}
-use Rattle.replay_spec.specs.Step.{Event, take, publish, sweep, crash, Fate, Reply, taken, swept, step}
+use Rattle.replay_spec.specs.Step.{Event, take, sweep, crash, Fate, Reply, taken, swept, step}
 use Rattle.replay_spec.specs.Runs.{Shelf, shelf_step, answers_to}
 use Rattle.replay_spec.specs.Invariant.{AreDifferent, IsOrderly, IsSound}
 use Rattle.replay_spec.specs.Laws.{Moment, Leads, IsLawfulRun, Leaves, IsOn, IsRefusal, without_effect}
@@ -94,6 +94,15 @@ abbrev pub BooksBehindAreSound : Type 0
 BooksBehindAreSound =
     (source : ℕ → ℕ) (opened now : ℕ) (s : Shelf) (es : List Entry) → IsOpened s → IsSound s.book → IsLegal source opened now s es
     → IsSound (book_behind source s es) × ((book_behind source s es).shelf ≡ s.book.shelf)
+
+-- A crash behind it, whatever becomes of what is in doubt, leaves a shelf as it may be when it is opened, again with a sound
+-- book: with it the next history begins.
+abbrev pub ACrashOpens : Type 0
+ACrashOpens =
+    (source : ℕ → ℕ) (opened now : ℕ) (s : Shelf) (es : List Entry) (rules : Rules) (nonce : ℕ) (scripts : List Named) (fate : Fate)
+    → IsOpened s → IsLegal source opened now s es
+    → let b = (step rules (book_behind source s es) nonce (crash scripts) fate).1 in
+    IsOpened (record { rules = rules; book = b; nonces = 0 }) × (IsSound s.book → IsSound b)
 
 -- The clock never falls, and behind a sweep that was answered it is at the tick, at least.
 abbrev pub TheClockNeverFalls : Type 0

@@ -1,8 +1,9 @@
 //! What callers did on a shelf since it was opened, what such a history has to be, and laws of it.
 #![tactic(auto)]
 
-ghost use Rattle.shelf_history.specs.Laws.{HistoriesGoOn, OneEntryIsAStep, EachEventIsAnEntry, HistoriesAreRuns, NoncesComeInTurn, NoNumberTakenTwice, WhatIsOwedIsOut, BooksBehindAreSound, TheClockNeverFalls, ClosedIsClosed};
+ghost use Rattle.shelf_history.specs.Laws.{HistoriesGoOn, OneEntryIsAStep, EachEventIsAnEntry, HistoriesAreRuns, NoncesComeInTurn, NoNumberTakenTwice, WhatIsOwedIsOut, BooksBehindAreSound, ACrashOpens, TheClockNeverFalls, ClosedIsClosed};
 ghost use Rattle.shelf_history.specs.Passes.{ATurnGoes, CallsCompose, SeenStays, ATakeIsOwed};
+ghost use Rattle.shelf_history.specs.Kept.{KeptGoesOn, WhatIsKeptIsSound};
 
 /// A legal history goes on by each entry that comes next; a front of it is legal; and it stays so while the disk's count of
 /// faults rises.
@@ -45,6 +46,11 @@ pub fn books_behind_are_sound()
     ensures { BooksBehindAreSound }
 {}
 
+/// A crash behind a legal history leaves a shelf as it may be when it is opened.
+pub fn a_crash_opens()
+    ensures { ACrashOpens }
+{}
+
 /// The clock never falls, and behind a sweep that was answered it is at the tick, at least.
 pub fn the_clock_never_falls()
     ensures { TheClockNeverFalls }
@@ -74,4 +80,15 @@ pub fn seen_stays()
 /// What was taken is owed until it is published, whatever others do, so its publish may come.
 pub fn a_take_is_owed()
     ensures { ATakeIsOwed }
+{}
+
+/// What stands between the turns of a lock stands of a shelf that was opened, and each event that may come keeps it.
+pub fn kept_goes_on()
+    ensures { KeptGoesOn }
+{}
+
+/// Of what is kept between turns the book is orderly, each publish that may come is lawful, and the nonces to come are those
+/// behind the takes.
+pub fn what_is_kept_is_sound()
+    ensures { WhatIsKeptIsSound }
 {}
