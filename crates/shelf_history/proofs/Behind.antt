@@ -1,15 +1,13 @@
 -- What holds of the books behind a history.
-use Rattle.std.proofs.Common.{◌≡◌, ◌≤◌, ◌<◌, ◌⊎◌, ℕ, Bool, true, false, List, [], ◌∷◌, ◌++◌, Option, Some, None, Contains, refl, sym, ◌∙◌, ap, subst, inl, inr, arith, append_assoc, nat_le, if◌then◌else◌}
+use Rattle.std.proofs.Common.{◌≡◌, ◌≤◌, ℕ, Bool, true, false, List, [], ◌∷◌, ◌++◌, Contains, refl, sym, ◌∙◌, ap, subst, inl, inr, arith, append_assoc, nat_le, if◌then◌else◌}
 use Rattle.std.proofs.lemmas.Bool.Decides.{nat_tests}
 use Rattle.std.proofs.lemmas.List.Elements.{Contains-push_cases}
-use Rattle.script_value.specs.declared.outcome.TxName.{TxName}
 use Rattle.replay_spec.specs.Book.{Book}
 use Rattle.replay_spec.specs.Rules.{Rules}
-use Rattle.replay_spec.specs.Step.{Event, sweep, Fate, Reply, swept, Decision, fate_of, settle, sweep_comes, decide_sweep, down_by, unless, step}
-use Rattle.replay_spec.specs.Runs.{Shelf, shelf_step}
+use Rattle.replay_spec.specs.Step.{Event, sweep, Fate, swept, fate_of, settle, sweep_comes, step}
+use Rattle.replay_spec.specs.Runs.{Shelf}
 use Rattle.replay_spec.specs.Invariant.{IsSound}
-use Rattle.replay_spec.specs.Laws as book
-use Rattle.replay_spec.specs.Laws.{Moment, then_book, Leads, Leaves, IsOn, IsRefusal, without_effect}
+use Rattle.replay_spec.specs.Laws.{Moment, then_book, Leads, IsOn, IsRefusal}
 use Rattle.replay_spec.proofs.Steps.{led}
 use Rattle.replay_spec.proofs.Stays.{never_falls}
 use Rattle.replay_spec.proofs.Closing as closing
@@ -100,7 +98,7 @@ closed source opened now s before between leaving next name opening good legal l
     let on : Leads (then_book m b) (book_behind source s until) =
     subst (λ (x : Shelf). Leads x.book (book_behind source s until)) (is_step source s before leaving)
     (subst (λ (l : List Entry). Leads (book_behind source s (before ++ leaving ∷ [])) (book_behind source s l)) split
-      (leads source opened now s (before ++ leaving ∷ []) between opening (subst (IsLegal source opened now s) (sym split) to))) in
+    (leads source opened now s (before ++ leaving ∷ []) between opening (subst (IsLegal source opened now s) (sym split) to))) in
     let all = closing.closed b (book_behind source s until) m n name (sound source opened now s before opening good first) lawful leaves on in (
       all.0,
       λ (early more : List Entry) (is : until ≡ early ++ more) (inside : IsOn name (book_behind source s early) next.event).

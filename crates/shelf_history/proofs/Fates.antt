@@ -1,5 +1,5 @@
 -- The fate of an event is read off its reply.
-use Rattle.std.proofs.Common.{◌≡◌, ◌+◌, ◌==◌, ◌^◌, ℕ, Bool, true, false, List, [], ◌∷◌, ◌++◌, length, Option, Some, None, refl, sym, ◌∙◌, ap, subst, arith, nat_le, if◌then◌else◌, length-append}
+use Rattle.std.proofs.Common.{◌≡◌, ◌+◌, ◌==◌, ◌^◌, ℕ, Bool, true, false, List, length, Option, Some, None, refl, sym, ◌∙◌, ap, arith, nat_le, if◌then◌else◌}
 use Rattle.std.specs.Prelude.{⊤}
 use Rattle.script_value.specs.declared.outcome.TxName.{TxName}
 use Rattle.script_value.specs.declared.outcome.Refusal.{Refusal}
@@ -11,9 +11,9 @@ use Rattle.replay_spec.specs.Book.{Change, Doubt, Book, spend}
 use Rattle.replay_spec.specs.Rules.{Journal, Rules}
 use Rattle.replay_spec.specs.Admission.{when, or_else, Admission, begins, resumes, refused, refusal_of, admit}
 use Rattle.replay_spec.specs.Next.{Ticket, Visit, url_for, comes_to, start_visit, page_visit}
-use Rattle.replay_spec.specs.Step.{Event, take, publish, sweep, crash, Fate, plain, no_memory, disk_fault, lost, kept, Reply, taken, disk_failed, worn, memory, swept, Decision, replies, records, unless, down_by, refused_by, no_take, take_unless, change_by, reply_by, full, too_long, full_journal, with_room, stopped, settles, decide, decide_sweep, publish_comes, sweep_comes, fate_of, settle, take_by, step}
+use Rattle.replay_spec.specs.Step.{Event, take, publish, sweep, crash, Fate, plain, no_memory, disk_fault, lost, kept, Reply, taken, disk_failed, worn, memory, swept, Decision, replies, records, unless, down_by, refused_by, no_take, take_unless, change_by, reply_by, full, with_room, stopped, settles, decide, decide_sweep, publish_comes, sweep_comes, fate_of, settle, take_by, step}
 use Rattle.replay_spec.specs.Runs.{Shelf, drawn_by, shelf_step}
-use Rattle.shelf_history.specs.Histories.{Entry, fate_by, shelf_behind, MayCome, IsNext, IsLegal}
+use Rattle.shelf_history.specs.Histories.{Entry, fate_by, shelf_behind, MayCome}
 use Rattle.shelf_history.specs.Laws.{EachEventIsAnEntry}
 use Rattle.shelf_history.proofs.Going.{is_step}
 

@@ -1,5 +1,5 @@
 -- What is kept between turns.
-use Rattle.std.proofs.Common.{◌≡◌, ◌≤◌, ◌+◌, ℕ, List, [], ◌∷◌, ◌++◌, refl, sym, ◌∙◌, ap, subst, arith, length}
+use Rattle.std.proofs.Common.{◌≡◌, ◌≤◌, ◌+◌, ℕ, List, [], ◌∷◌, refl, sym, ◌∙◌, ap, subst, arith, length}
 use Rattle.script_nodes.specs.Setup.{Named}
 use Rattle.replay_spec.specs.Book.{Book}
 use Rattle.replay_spec.specs.Rules.{Rules}
@@ -9,7 +9,7 @@ use Rattle.replay_spec.specs.Invariant.{IsOrderly, IsSound}
 use Rattle.replay_spec.specs.Laws.{IsLawful, Moment, Leads}
 use Rattle.replay_spec.proofs.Orderly as orderly
 use Rattle.replay_spec.proofs.Steps as sound_books
-use Rattle.shelf_history.specs.Histories.{Entry, fate_by, shelf_behind, book_behind, MayCome, IsCounted, IsNext, IsLegal, IsOpened}
+use Rattle.shelf_history.specs.Histories.{Entry, fate_by, shelf_behind, book_behind, MayCome, IsCounted}
 use Rattle.shelf_history.specs.Laws.{tickets_taken, ACrashOpens}
 use Rattle.shelf_history.specs.Kept.{IsKept, IsEvent, KeptGoesOn, WhatIsKeptIsSound}
 use Rattle.shelf_history.proofs.Going.{push, is_step, legal_later}

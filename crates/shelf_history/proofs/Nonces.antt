@@ -6,7 +6,7 @@ use Rattle.replay_spec.specs.Book.{Book, spend}
 use Rattle.replay_spec.specs.Rules.{Rules}
 use Rattle.replay_spec.specs.Next.{Ticket}
 use Rattle.replay_spec.specs.Step.{Event, take, publish, sweep, crash, Fate, Reply, taken, swept, Decision, publish_comes, sweep_comes, fate_of, settle, step}
-use Rattle.replay_spec.specs.Runs.{Shelf, drawn_by, shelf_step}
+use Rattle.replay_spec.specs.Runs.{Shelf, drawn_by}
 use Rattle.shelf_history.specs.Histories.{Entry, fate_by, shelf_behind, MayCome, IsNext, IsLegal}
 use Rattle.shelf_history.specs.Laws.{given_by, tickets_taken, AreInTurn, NoncesComeInTurn}
 use Rattle.shelf_history.proofs.Going.{along, is_step}

@@ -1,24 +1,22 @@
 -- Histories are runs, in which no number is taken twice and what is owed is out.
-use Rattle.std.proofs.Common.{◌≡◌, ◌≢◌, ◌≤◌, ◌<◌, ◌+◌, ◌⊎◌, ℕ, Bool, List, [], ◌∷◌, ◌++◌, map, Contains, refl, sym, ◌∙◌, ap, subst, inl, inr, arith, nat_le, if◌then◌else◌}
-use Rattle.std.specs.Prelude.{⊤}
+use Rattle.std.proofs.Common.{◌≡◌, ◌+◌, ℕ, List, [], ◌∷◌, ◌++◌, map, Contains, refl, sym, ◌∙◌, ap, subst, arith}
 use Rattle.std.proofs.lemmas.List.{map_push}
-use Rattle.page_names.specs.Names.{Destination}
 use Rattle.replay_spec.specs.Book.{Book}
 use Rattle.replay_spec.specs.Rules.{Rules}
 use Rattle.replay_spec.specs.Next.{Ticket}
-use Rattle.replay_spec.specs.Step.{Event, take, publish, sweep, crash, Fate, Reply, taken, swept, Decision, fate_of, settle, publish_comes, sweep_comes, take_by, step}
+use Rattle.replay_spec.specs.Step.{Event, take, publish, sweep, crash, Fate, Reply, taken, step}
 use Rattle.replay_spec.specs.Runs.{Shelf, shelf_step, answers_to}
-use Rattle.replay_spec.specs.Invariant.{Among, AreDifferent, IsOrderly}
+use Rattle.replay_spec.specs.Invariant.{IsOrderly}
 use Rattle.replay_spec.specs.Laws.{IsLawful, IsLawfulRun, Moment, Takes, Leads, tickets_by}
-use Rattle.replay_spec.proofs.Stand.{among_of, among_drawn}
+use Rattle.replay_spec.proofs.Stand.{among_of}
 use Rattle.replay_spec.proofs.Orderly as orderly
 use Rattle.replay_spec.proofs.Refused.{unchanged}
 use Rattle.replay_spec.proofs.Numbers.{tickets_out}
-use Rattle.shelf_history.specs.Histories.{Entry, fate_by, events_of, shelf_behind, book_behind, own_of, tickets_left, owed_by, Owes, MayCome, IsNext, GoesOn, IsLegal, IsOpened}
-use Rattle.shelf_history.specs.Laws.{HistoriesAreRuns, take_of, given_by, tickets_taken, NoNumberTakenTwice, WhatIsOwedIsOut}
-use Rattle.shelf_history.proofs.Members.{contains_first, contains_more, contains_cases, contains_passed, contains_mapped, contains_none}
+use Rattle.shelf_history.specs.Histories.{Entry, fate_by, events_of, shelf_behind, book_behind, tickets_left, MayCome, IsNext, IsLegal, IsOpened}
+use Rattle.shelf_history.specs.Laws.{HistoriesAreRuns}
+use Rattle.shelf_history.proofs.Members.{contains_mapped}
 use Rattle.shelf_history.proofs.Going.{along, is_step, answers_push, lawful_push, leads_more}
-use Rattle.shelf_history.proofs.Owing.{IsGiven, left_by, left_push, Held, held_none, held_then, IsFresh}
+use Rattle.shelf_history.proofs.Owing.{IsGiven, left_push, Held, held_none, held_then, IsFresh}
 
 abbrev pub numbers : List Ticket → List ℕ
 numbers ts = map (λ t. t.number) ts

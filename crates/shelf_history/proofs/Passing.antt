@@ -1,17 +1,15 @@
 -- What a pass has seen, and how its calls compose.
-use Rattle.std.proofs.Common.{◌≡◌, ◌≢◌, ◌≤◌, ◌+◌, ◌==◌, ℕ, zero, suc, Bool, true, false, cond, List, [], ◌∷◌, ◌++◌, length, filter, Contains, refl, sym, ◌∙◌, ap, subst, inl, inr, arith, append_assoc, length-append}
+use Rattle.std.proofs.Common.{◌≡◌, ◌≢◌, ◌==◌, ℕ, Bool, true, false, cond, List, [], ◌∷◌, ◌++◌, length, Contains, refl, sym, ◌∙◌, ap, subst, inl, inr, arith, append_assoc, length-append}
 use Rattle.std.proofs.lemmas.Bool.Decides.{nat_tests}
 use Rattle.std.proofs.lemmas.List.{append-nil}
 use Rattle.std.proofs.lemmas.List.Elements.{filter-append, Contains-push}
 use mathlib.Core.List.{IsPrefix}
 use Rattle.replay_spec.specs.Next.{Ticket}
 use Rattle.replay_spec.specs.Step.{Event, publish}
-use Rattle.replay_spec.specs.Runs.{Shelf}
 use Rattle.replay_spec.specs.Laws.{tickets_by}
-use Rattle.shelf_history.specs.Histories.{Entry, own_of, tickets_left, owed_by, Owes, MayCome, IsNext, IsLegal}
+use Rattle.shelf_history.specs.Histories.{Entry, own_of, owed_by, Owes, IsLegal}
 use Rattle.shelf_history.specs.Laws.{take_of}
 use Rattle.shelf_history.specs.Passes.{IsSeenBy, Goes, Makes, ATurnGoes, CallsCompose, SeenStays, ATakeIsOwed}
-use Rattle.shelf_history.proofs.Members.{contains_passed}
 use Rattle.shelf_history.proofs.Going.{push}
 use Rattle.shelf_history.proofs.Owing.{left_push, left_by}
 

@@ -1,5 +1,5 @@
 -- No number is taken twice, and what is owed is out.
-use Rattle.std.proofs.Common.{◌≡◌, ◌≢◌, ◌≤◌, ◌<◌, ◌+◌, ◌⊎◌, ◌==◌, ℕ, Bool, true, List, [], ◌∷◌, ◌++◌, map, Contains, refl, sym, ◌∙◌, ap, subst, inl, inr, arith, nat_le, if◌then◌else◌}
+use Rattle.std.proofs.Common.{◌≡◌, ◌≤◌, ◌<◌, ◌+◌, ◌⊎◌, ◌==◌, ℕ, Bool, true, List, [], ◌∷◌, ◌++◌, Contains, refl, sym, ◌∙◌, ap, subst, inl, inr, arith, nat_le, if◌then◌else◌}
 use Rattle.std.proofs.lemmas.Bool.Decides.{nat_tests}
 use Rattle.std.proofs.lemmas.List.{map_push, append-nil}
 use Rattle.replay_spec.specs.Book.{Book, spend}
@@ -11,12 +11,12 @@ use Rattle.replay_spec.specs.Runs.{Shelf, shelf_step}
 use Rattle.replay_spec.specs.Invariant.{Among, AreDifferent}
 use Rattle.replay_spec.specs.Laws.{tickets_by}
 use Rattle.replay_spec.proofs.Stand.{among_drawn}
-use Rattle.shelf_history.specs.Histories.{Entry, fate_by, shelf_behind, book_behind, own_of, tickets_left, owed_by, Owes, MayCome, IsNext, GoesOn, IsLegal, IsOpened}
+use Rattle.shelf_history.specs.Histories.{Entry, fate_by, shelf_behind, book_behind, tickets_left, owed_by, Owes, MayCome, IsNext, IsLegal}
 use Rattle.shelf_history.specs.Laws.{take_of, given_by, tickets_taken, NoNumberTakenTwice, WhatIsOwedIsOut}
 use Rattle.shelf_history.proofs.Members.{contains_first, contains_more, contains_cases, contains_passed, contains_mapped, contains_none}
 use Rattle.shelf_history.proofs.Going.{along, is_step}
 use Rattle.shelf_history.proofs.Owing.{IsGiven, left_by}
-use Rattle.shelf_history.proofs.Numbers.{numbers, Well, given_next, well}
+use Rattle.shelf_history.proofs.Numbers.{numbers, given_next, well}
 
 -- the numbers that are drawn rise
 settled_drawn : (rules : Rules) (b : Book) (fate : Fate) (d : Decision) → (settle rules b fate d).1.drawn ≡ b.drawn
@@ -176,11 +176,11 @@ owed_out source opened now s es own caller t opening legal is owes =
     elim (left_from own [] t owes) [
       | inl none ↦ absurd (contains_none t none)
       | inr (e, there, came) ↦
-        let passed = contains_passed (λ (x : Entry). x.caller == caller) es e (subst (λ (l : List Entry). Contains l e) (sym is) there) in
-        let its : e ≡ take_of caller t = came ∙ ap (λ (c : ℕ). take_of c t) (same_caller e.caller caller passed.1) in (
-          subst (λ (ns : List ℕ). Contains ns t.number) w.out (contains_mapped (λ (u : Ticket). u.number) (tickets_left es []) t (w.held.owned caller t mine)),
-          subst (λ (x : Entry). Contains own x) its there,
-          λ (f : Entry) (u : Ticket) (two : Contains es f) (too : f ≡ take_of f.caller u) (same : u.number ≡ t.number).
-              sym (alone es e f t u (are_taken source opened now s es legal).0 passed.0 two came too same) ∙ its,
-        )
+          let passed = contains_passed (λ (x : Entry). x.caller == caller) es e (subst (λ (l : List Entry). Contains l e) (sym is) there) in
+          let its : e ≡ take_of caller t = came ∙ ap (λ (c : ℕ). take_of c t) (same_caller e.caller caller passed.1) in (
+            subst (λ (ns : List ℕ). Contains ns t.number) w.out (contains_mapped (λ (u : Ticket). u.number) (tickets_left es []) t (w.held.owned caller t mine)),
+            subst (λ (x : Entry). Contains own x) its there,
+            λ (f : Entry) (u : Ticket) (two : Contains es f) (too : f ≡ take_of f.caller u) (same : u.number ≡ t.number).
+                sym (alone es e f t u (are_taken source opened now s es legal).0 passed.0 two came too same) ∙ its,
+          )
     ]

@@ -2,7 +2,7 @@
 use Rattle.std.specs.Prelude.{◌≡◌, ◌⊎◌, ◌≤◌, ◌<◌, ◌-◌, ◌^◌, ◌==◌, ℕ, List, [], ◌∷◌, ◌++◌, Contains, map, filter, ⊤}
 use Rattle.replay_spec.specs.Book.{Book}
 use Rattle.replay_spec.specs.Next.{Ticket}
-use Rattle.replay_spec.specs.Step.{Event, take, publish, crash, Fate, plain, no_memory, disk_fault, Reply, taken, disk_failed, memory}
+use Rattle.replay_spec.specs.Step.{Event, publish, crash, Fate, plain, no_memory, disk_fault, Reply, disk_failed, memory}
 use Rattle.replay_spec.specs.Runs.{Shelf, shelf_step, after}
 use Rattle.replay_spec.specs.Invariant.{IsOrderly}
 use Rattle.replay_spec.specs.Laws.{tickets_by}

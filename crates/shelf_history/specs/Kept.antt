@@ -1,11 +1,10 @@
 -- What stands of a shelf between the turns of a lock, beside the history that it has had since it was opened.
-use Rattle.std.specs.Prelude.{◌≡◌, ◌≤◌, ◌+◌, ℕ, List, [], ◌∷◌, ◌++◌, Contains, length}
-use Rattle.replay_spec.specs.Next.{Ticket}
-use Rattle.replay_spec.specs.Step.{Event, publish, Reply}
+use Rattle.std.specs.Prelude.{◌≡◌, ◌≤◌, ◌+◌, ℕ, List, [], ◌∷◌, ◌++◌, length}
+use Rattle.replay_spec.specs.Step.{Event, Reply}
 use Rattle.replay_spec.specs.Runs.{Shelf, shelf_step}
 use Rattle.replay_spec.specs.Invariant.{IsOrderly, IsSound}
 use Rattle.replay_spec.specs.Laws.{IsLawful}
-use Rattle.shelf_history.specs.Histories.{Entry, fate_by, shelf_behind, Owes, MayCome, IsCounted, IsLegal, IsOpened}
+use Rattle.shelf_history.specs.Histories.{Entry, fate_by, shelf_behind, MayCome, IsCounted, IsLegal, IsOpened}
 use Rattle.shelf_history.specs.Laws.{tickets_taken}
 
 -- The history is legal from the shelf as it was opened, the shelf is the one behind it, and the nonces to come are those of

@@ -6,9 +6,9 @@ use Rattle.replay_spec.specs.Rules.{Rules}
 use Rattle.replay_spec.specs.Next.{Ticket}
 use Rattle.replay_spec.specs.Step.{Event, take, sweep, crash, Fate, Reply, taken, swept, step}
 use Rattle.replay_spec.specs.Runs.{Shelf, shelf_step, answers_to}
-use Rattle.replay_spec.specs.Invariant.{AreDifferent, IsOrderly, IsSound}
+use Rattle.replay_spec.specs.Invariant.{AreDifferent, IsSound}
 use Rattle.replay_spec.specs.Laws.{Moment, Leads, IsLawfulRun, Leaves, IsOn, IsRefusal, without_effect}
-use Rattle.shelf_history.specs.Histories.{Entry, fate_by, events_of, shelf_behind, book_behind, own_of, owed_by, Owes, MayCome, IsCounted, IsNext, IsLegal, IsOpened}
+use Rattle.shelf_history.specs.Histories.{Entry, fate_by, events_of, shelf_behind, book_behind, own_of, owed_by, MayCome, IsCounted, IsNext, IsLegal, IsOpened}
 
 -- A legal history goes on by each entry that comes next, a front of it is legal, and it stays so while the disk's count rises.
 abbrev pub HistoriesGoOn : Type 0

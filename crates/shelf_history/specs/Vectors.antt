@@ -1,12 +1,11 @@
 -- Histories that compute: the shop of one item, and what no history is.
-use Rattle.std.specs.Prelude.{◌≡◌, ◌⊎◌, ℕ, ◌+◌, List, [], ◌∷◌, ◌++◌, codes, refl}
+use Rattle.std.specs.Prelude.{ℕ, List, [], ◌∷◌, ◌++◌, codes, refl}
 use Rattle.std.proofs.Common.{arith, inl, inr, ap}
 use Rattle.page_names.specs.Names.{Destination, start}
 use Rattle.replay_spec.specs.Next.{Ticket}
-use Rattle.replay_spec.specs.Step.{Event, take, publish, sweep, crash, Reply, taken, ended, disk_failed, swept, live, step}
-use Rattle.replay_spec.specs.Runs.{Shelf}
+use Rattle.replay_spec.specs.Step.{Event, take, publish, sweep, crash, Reply, taken, ended, disk_failed, swept, step}
 use Rattle.replay_spec.specs.Samples.{name, rules, opened, counted, at, nothing, link_to, shop}
-use Rattle.shelf_history.specs.Histories.{Entry, Owes, IsCounted, IsNext, IsLegal}
+use Rattle.shelf_history.specs.Histories.{Entry, Owes, IsCounted, IsLegal}
 use Rattle.shelf_history.specs.Laws.{take_of}
 
 abbrev ticket : Destination → (number : ℕ) → Ticket
@@ -32,22 +31,38 @@ pub sold_once : Happens (open_shop ++ buys 1 1 (codes "bought") ∷ buys 2 2 (co
 unfolding step
 sold_once = (
   record { comes = tt; answered = refl; counted = tt },
-  (record { comes = (0, omega arith, refl); answered = refl; counted = tt },
-  (record { comes = tt; answered = refl; counted = tt },
-  (record { comes = tt; answered = refl; counted = tt },
-  (record { comes = (0, omega arith, refl); answered = refl; counted = tt },
-  (record { comes = (0, omega arith, refl); answered = refl; counted = tt }, tt))))),
+  (
+    record { comes = (0, omega arith, refl); answered = refl; counted = tt },
+    (
+      record { comes = tt; answered = refl; counted = tt },
+      (
+        record { comes = tt; answered = refl; counted = tt },
+        (
+          record { comes = (0, omega arith, refl); answered = refl; counted = tt },
+          (record { comes = (0, omega arith, refl); answered = refl; counted = tt }, tt),
+        ),
+      ),
+    ),
+  ),
 )
 
 pub sold_to_the_other : Happens (open_shop ++ buys 2 2 (codes "bought") ∷ buys 1 1 (codes "sold out") ∷ [])
 unfolding step
 sold_to_the_other = (
   record { comes = tt; answered = refl; counted = tt },
-  (record { comes = (0, omega arith, refl); answered = refl; counted = tt },
-  (record { comes = tt; answered = refl; counted = tt },
-  (record { comes = tt; answered = refl; counted = tt },
-  (record { comes = (0, omega arith, refl); answered = refl; counted = tt },
-  (record { comes = (0, omega arith, refl); answered = refl; counted = tt }, tt))))),
+  (
+    record { comes = (0, omega arith, refl); answered = refl; counted = tt },
+    (
+      record { comes = tt; answered = refl; counted = tt },
+      (
+        record { comes = tt; answered = refl; counted = tt },
+        (
+          record { comes = (0, omega arith, refl); answered = refl; counted = tt },
+          (record { comes = (0, omega arith, refl); answered = refl; counted = tt }, tt),
+        ),
+      ),
+    ),
+  ),
 )
 
 -- each caller owes what it took, until it has published it
