@@ -8,3 +8,4 @@ pub mod Passing
 pub mod Fates
 pub mod Nonces
 pub mod Keeping
+pub mod Spending

@@ -60,7 +60,7 @@ module _ (source : ℕ → ℕ) (opened now : ℕ) (s : Shelf) where
       let below = w.orderly.below u.number (among_of now.book.out u.number out) in
       omega (arith, below, same, drawn)
 
-  well_next : (es : List Entry) (e : Entry) → IsNext source opened now s es e → Well source s es → Well source s (es ++ e ∷ [])
+  pub well_next : (es : List Entry) (e : Entry) → IsNext source opened now s es e → Well source s es → Well source s (es ++ e ∷ [])
   well_next es e next w =
       let at : Shelf = shelf_behind source s es in
       let m : Moment = record { rules = at.rules; nonce = source at.nonces; event = e.event; fate = fate_by e.reply } in

@@ -28,7 +28,7 @@ took_drawn b target nonce fate = grind arith
 swept_drawn : (rules : Rules) (b : Book) (tick : ℕ) (fate : Fate) (is_late : Bool) → b.drawn ≤ (if is_late then (swept 0, b) else settle rules b fate (sweep_comes rules b tick)).1.drawn
 swept_drawn rules b tick fate is_late = grind (arith, settled_drawn rules b fate (sweep_comes rules b tick))
 
-stepped_drawn : (rules : Rules) (b : Book) (nonce : ℕ) (x : Event) (fate : Fate) (caller : ℕ) (es : List Entry) → MayCome caller x es → b.drawn ≤ (step rules b nonce x fate).1.drawn
+pub stepped_drawn : (rules : Rules) (b : Book) (nonce : ℕ) (x : Event) (fate : Fate) (caller : ℕ) (es : List Entry) → MayCome caller x es → b.drawn ≤ (step rules b nonce x fate).1.drawn
 unfolding step
 stepped_drawn rules b nonce (take target answer) fate caller es h = took_drawn b target nonce fate
 stepped_drawn rules b nonce (publish p) fate caller es h =
@@ -113,7 +113,7 @@ is_take caller (sweep tick) r t given = absurd given
 is_take caller (crash scripts) r t given = absurd given
 
 -- a ticket that is left was there, or is of a take
-left_from : (es : List Entry) (ts : List Ticket) (t : Ticket) → Contains (tickets_left es ts) t → Contains ts t ⊎ ((e : Entry) × Contains es e × (e ≡ take_of e.caller t))
+pub left_from : (es : List Entry) (ts : List Ticket) (t : Ticket) → Contains (tickets_left es ts) t → Contains ts t ⊎ ((e : Entry) × Contains es e × (e ≡ take_of e.caller t))
 left_from [] ts t h = inl h
 left_from (x ∷ es) ts t h = elim (left_from es (tickets_by x.event x.reply ts) t h) [
   | inl before ↦ elim (left_by x.event x.reply ts t before) [
@@ -166,7 +166,7 @@ alone (x ∷ es) e f t u h one two is too same = elim (contains_cases x e es one
   ]
 ]
 
-same_caller : (n m : ℕ) → (n == m) ≡ true → n ≡ m
+pub same_caller : (n m : ℕ) → (n == m) ≡ true → n ≡ m
 same_caller n m h = grind (arith, nat_tests)
 
 pub owed_out : WhatIsOwedIsOut

@@ -4,7 +4,7 @@ use Rattle.script_value.specs.declared.outcome.TxName.{TxName}
 use Rattle.script_nodes.specs.Setup.{Named}
 use Rattle.replay_spec.specs.Rules.{Rules}
 use Rattle.replay_spec.specs.Next.{Ticket}
-use Rattle.replay_spec.specs.Step.{Event, take, sweep, crash, Fate, Reply, taken, swept, step}
+use Rattle.replay_spec.specs.Step.{Event, take, publish, sweep, crash, Fate, Reply, taken, swept, step}
 use Rattle.replay_spec.specs.Runs.{Shelf, shelf_step, answers_to}
 use Rattle.replay_spec.specs.Invariant.{AreDifferent, IsSound}
 use Rattle.replay_spec.specs.Laws.{Moment, Leads, IsLawfulRun, Leaves, IsOn, IsRefusal, without_effect}
@@ -52,6 +52,14 @@ abbrev pub NoNumberTakenTwice : Type 0
 NoNumberTakenTwice =
     (source : ℕ → ℕ) (opened now : ℕ) (s : Shelf) (es : List Entry) → IsLegal source opened now s es
     → AreDifferent (map (λ t. t.number) (tickets_taken es))
+
+-- Each publish is of a ticket that its caller took before, just as it was given, and no two are of one take.
+abbrev pub EachPublishHasItsTake : Type 0
+EachPublishHasItsTake =
+    (source : ℕ → ℕ) (opened now : ℕ) (s : Shelf) (before later : List Entry) (e : Entry) (t : Ticket) → IsOpened s → e.event ≡ publish t
+    → IsLegal source opened now s (before ++ e ∷ later)
+    → Contains before (take_of e.caller t)
+    × ((f : Entry) (u : Ticket) → Contains later f → f.event ≡ publish u → u.number ≡ t.number → ⊥)
 
 -- A ticket that a caller owes by its own entries is out in every legal history that has just these of the caller, whatever
 -- others do between them: its number is out in the book behind, and target, answer and nonce are those of the one take of this

@@ -1,7 +1,7 @@
 //! What callers did on a shelf since it was opened, what such a history has to be, and laws of it.
 #![tactic(auto)]
 
-ghost use Rattle.shelf_history.specs.Laws.{HistoriesGoOn, OneEntryIsAStep, EachEventIsAnEntry, HistoriesAreRuns, NoncesComeInTurn, NoNumberTakenTwice, WhatIsOwedIsOut, BooksBehindAreSound, ACrashOpens, TheClockNeverFalls, ClosedIsClosed};
+ghost use Rattle.shelf_history.specs.Laws.{HistoriesGoOn, OneEntryIsAStep, EachEventIsAnEntry, HistoriesAreRuns, NoncesComeInTurn, NoNumberTakenTwice, EachPublishHasItsTake, WhatIsOwedIsOut, BooksBehindAreSound, ACrashOpens, TheClockNeverFalls, ClosedIsClosed};
 ghost use Rattle.shelf_history.specs.Passes.{ATurnGoes, CallsCompose, SeenStays, ATakeIsOwed};
 ghost use Rattle.shelf_history.specs.Kept.{KeptGoesOn, WhatIsKeptIsSound};
 
@@ -34,6 +34,11 @@ pub fn no_number_taken_twice()
 /// Takes are given the nonces of the source in turn, and what is left of it are those behind them.
 pub fn nonces_come_in_turn()
     ensures { NoncesComeInTurn }
+{}
+
+/// Each publish is of a ticket that its caller took before, and no two are of one take.
+pub fn each_publish_has_its_take()
+    ensures { EachPublishHasItsTake }
 {}
 
 /// A ticket that a caller owes by its own entries is out, whatever others do, and it is that of the caller's take.
