@@ -9,3 +9,4 @@ pub mod Fates
 pub mod Nonces
 pub mod Keeping
 pub mod Spending
+pub mod Admitting

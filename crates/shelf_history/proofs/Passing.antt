@@ -42,7 +42,7 @@ compose source opened now s caller seen = (
   },
   λ (es : List Entry) (known : IsSeenBy caller seen es) (legal : IsLegal source opened now s es).
       record { front = known.front; legal = legal; own = known.own ∙ sym (append-nil (own_of caller seen)) },
-  λ (one two mid es : List Entry) (g : Makes source opened now s caller seen one mid) (h : Makes source opened now s caller mid two es). record {
+  λ (one two mid es : List Entry) (then : ℕ) (g : Makes source opened then s caller seen one mid) (h : Makes source opened now s caller mid two es). record {
     front = prefix_of seen mid es g.front h.front;
     legal = h.legal;
     own = h.own ∙ (ap (λ (l : List Entry). l ++ two) g.own ∙ append_assoc (own_of caller seen) one two);

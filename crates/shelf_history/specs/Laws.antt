@@ -3,12 +3,14 @@ use Rattle.std.specs.Prelude.{◌≡◌, ◌≤◌, ◌+◌, ℕ, List, [], ◌�
 use Rattle.script_value.specs.declared.outcome.TxName.{TxName}
 use Rattle.script_nodes.specs.Setup.{Named}
 use Rattle.replay_spec.specs.Rules.{Rules}
+use Rattle.replay_spec.specs.Admission.{Place, resumes, admit}
 use Rattle.replay_spec.specs.Next.{Ticket}
 use Rattle.replay_spec.specs.Step.{Event, take, publish, sweep, crash, Fate, Reply, taken, swept, step}
 use Rattle.replay_spec.specs.Runs.{Shelf, shelf_step, answers_to}
 use Rattle.replay_spec.specs.Invariant.{AreDifferent, IsSound}
-use Rattle.replay_spec.specs.Laws.{Moment, Leads, IsLawfulRun, Leaves, IsOn, IsRefusal, without_effect}
-use Rattle.shelf_history.specs.Histories.{Entry, fate_by, events_of, shelf_behind, book_behind, own_of, owed_by, MayCome, IsCounted, IsNext, IsLegal, IsOpened}
+use Rattle.replay_spec.specs.Laws.{Moment, Leads, IsLawfulRun, IsSame, Leaves, IsOn, IsRefusal, without_effect}
+use Rattle.replay_spec.specs.Promises.{IsAdmission}
+use Rattle.shelf_history.specs.Histories.{Entry, fate_by, events_of, shelf_behind, book_behind, own_of, owed_by, Owes, MayCome, IsCounted, IsNext, IsLegal, IsOpened}
 
 -- A legal history goes on by each entry that comes next, a front of it is legal, and it stays so while the disk's count rises.
 abbrev pub HistoriesGoOn : Type 0
@@ -91,6 +93,22 @@ abbrev pub NoncesComeInTurn : Type 0
 NoncesComeInTurn =
     (source : ℕ → ℕ) (opened now : ℕ) (s : Shelf) (es : List Entry) → IsLegal source opened now s es
     → AreInTurn source s.nonces (tickets_taken es) × ((shelf_behind source s es).nonces ≡ s.nonces + length (tickets_taken es))
+
+-- The caller took the ticket behind this front of the history, where its target was admitted. Where it is admitted still, the
+-- visit is of the same page, behind the same pages.
+pub record WasTaken (source : ℕ → ℕ) (s : Shelf) (es : List Entry) (caller : ℕ) (t : Ticket) : Type 0 where
+  pub front : List Entry
+  pub rest : List Entry
+  pub is : es ≡ front ++ take_of caller t ∷ rest
+  pub admitted : IsAdmission (admit (book_behind source s front) t.target)
+  pub same : (x y : Place) → admit (book_behind source s front) t.target ≡ resumes x → admit (book_behind source s es) t.target ≡ resumes y
+      → IsSame (book_behind source s front) (book_behind source s es) x y
+
+-- What a caller owes it took where it was admitted.
+abbrev pub WhatIsOwedWasTaken : Type 0
+WhatIsOwedWasTaken =
+    (source : ℕ → ℕ) (opened now : ℕ) (s : Shelf) (es : List Entry) (caller : ℕ) (t : Ticket) → IsOpened s → IsLegal source opened now s es
+    → Owes caller t es → WasTaken source s es caller t
 
 -- what an entry meets behind those before it
 abbrev pub moment_of : (source : ℕ → ℕ) → Shelf → (before : List Entry) → Entry → Moment

@@ -40,7 +40,7 @@ CallsCompose =
     (source : ℕ → ℕ) (opened now : ℕ) (s : Shelf) (caller : ℕ) (seen : List Entry)
     → ((added es : List Entry) → Goes source opened now s caller seen added es → Makes source opened now s caller seen added es)
     × ((es : List Entry) → IsSeenBy caller seen es → IsLegal source opened now s es → Makes source opened now s caller seen [] es)
-    × ((one two mid es : List Entry) → Makes source opened now s caller seen one mid → Makes source opened now s caller mid two es
+    × ((one two mid es : List Entry) (then : ℕ) → Makes source opened then s caller seen one mid → Makes source opened now s caller mid two es
     → Makes source opened now s caller seen (one ++ two) es)
 
 -- What others do is not seen and changes nothing of it: what the pass has seen is still a front, with all its caller's entries.

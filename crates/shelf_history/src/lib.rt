@@ -1,7 +1,7 @@
 //! What callers did on a shelf since it was opened, what such a history has to be, and laws of it.
 #![tactic(auto)]
 
-ghost use Rattle.shelf_history.specs.Laws.{HistoriesGoOn, OneEntryIsAStep, EachEventIsAnEntry, HistoriesAreRuns, NoncesComeInTurn, NoNumberTakenTwice, EachPublishHasItsTake, WhatIsOwedIsOut, BooksBehindAreSound, ACrashOpens, TheClockNeverFalls, ClosedIsClosed};
+ghost use Rattle.shelf_history.specs.Laws.{HistoriesGoOn, OneEntryIsAStep, EachEventIsAnEntry, HistoriesAreRuns, NoncesComeInTurn, NoNumberTakenTwice, EachPublishHasItsTake, WhatIsOwedIsOut, WhatIsOwedWasTaken, BooksBehindAreSound, ACrashOpens, TheClockNeverFalls, ClosedIsClosed};
 ghost use Rattle.shelf_history.specs.Passes.{ATurnGoes, CallsCompose, SeenStays, ATakeIsOwed};
 ghost use Rattle.shelf_history.specs.Kept.{KeptGoesOn, WhatIsKeptIsSound};
 
@@ -44,6 +44,11 @@ pub fn each_publish_has_its_take()
 /// A ticket that a caller owes by its own entries is out, whatever others do, and it is that of the caller's take.
 pub fn what_is_owed_is_out()
     ensures { WhatIsOwedIsOut }
+{}
+
+/// What a caller owes it took where it was admitted; where it is admitted still, the visit is of the same page.
+pub fn what_is_owed_was_taken()
+    ensures { WhatIsOwedWasTaken }
 {}
 
 /// From a sound book a legal history leads to a sound one, of the same shelf.

@@ -1,0 +1,71 @@
+-- What is owed was admitted, and a publish answers the page that it was admitted for.
+use Rattle.std.proofs.Common.{◌≡◌, ◌⊎◌, ◌==◌, ◌^◌, ℕ, Bool, List, [], ◌∷◌, ◌++◌, Option, Some, None, Contains, refl, sym, ◌∙◌, ap, subst, inl, inr, arith, append_assoc}
+use Rattle.std.specs.Prelude.{⊤}
+use Rattle.page_names.specs.Names.{Destination, start, page}
+use Rattle.page_names.specs.declared.names.PageName.{PageName}
+use Rattle.replay_spec.specs.Book.{Book, Instance, Doubt, instance_at}
+use Rattle.replay_spec.specs.Rules.{Rules}
+use Rattle.replay_spec.specs.Admission.{Place, place_at, when, or_else, Admission, begins, resumes, refused, refusal_of, admit}
+use Rattle.replay_spec.specs.Next.{Ticket}
+use Rattle.replay_spec.specs.Step.{Event, take, Fate, plain, Reply, taken, worn, down_by, refused_by, no_take, take_unless, step}
+use Rattle.replay_spec.specs.Runs.{Shelf}
+use Rattle.replay_spec.specs.Invariant.{IsOrderly}
+use Rattle.replay_spec.specs.Laws.{Leads, IsSame}
+use Rattle.replay_spec.specs.Promises.{IsAdmission}
+use Rattle.replay_spec.proofs.Admitted.{page_stands, resumes_place, start_is_no_page}
+use Rattle.replay_spec.proofs.Stays.{stay}
+use Rattle.shelf_history.specs.Histories.{Entry, shelf_behind, book_behind, Owes, IsLegal, IsOpened}
+use Rattle.shelf_history.specs.Laws.{take_of, WasTaken, WhatIsOwedWasTaken}
+use Rattle.shelf_history.proofs.Members.{contains_cases, contains_none}
+use Rattle.shelf_history.proofs.Going.{front, last}
+use Rattle.shelf_history.proofs.Numbers.{well}
+use Rattle.shelf_history.proofs.Behind.{leads}
+use Rattle.shelf_history.proofs.Spending.{took_it}
+
+-- the place of an entry
+split_at : (es : List Entry) (e : Entry) → Contains es e → (first : List Entry) × (rest : List Entry) × (es ≡ first ++ e ∷ rest)
+split_at [] e h = absurd (contains_none e h)
+split_at (x ∷ es) e h = elim (contains_cases x e es h) [
+  | inl same ↦ ([], es, ap (λ (y : Entry). y ∷ es) same)
+  | inr later ↦ let rest = split_at es e later in (x ∷ rest.0, rest.1, ap (λ (l : List Entry). x ∷ l) rest.2)
+]
+
+-- what was told a ticket was admitted
+told_admitted : (b : Book) (nonce number given : ℕ) (o : Option Doubt) (is_worn : Bool) (a : Admission)
+    → (take_unless (or_else (down_by o) (or_else (when is_worn worn) (refused_by (refusal_of a)))) b nonce).0 ≡ taken number given → IsAdmission a
+told_admitted b nonce number given o is_worn a h = grind arith
+
+take_admitted : (rules : Rules) (b : Book) (nonce number given : ℕ) (t : Ticket) → (step rules b nonce (take t.target t.answer) plain).0 ≡ taken number given → IsAdmission (admit b t.target)
+unfolding step
+take_admitted rules b nonce number given t h = told_admitted b nonce number given b.down (b.drawn == 2 ^ 62) (admit b t.target) h
+
+-- the page that stands is the one that stood
+same_page : (b c : Book) (name : List ℕ) (n : PageName) (x y : Place) → IsOrderly b → Leads b c → place_at b name n ≡ Some x → place_at c name n ≡ Some y → instance_at n.instance c.instances ≡ Some y.instance
+    → IsSame b c x y
+same_page b c name n x y orderly to was is there = elim (stay b c orderly to name n x was) [
+  | inl gone ↦ absurd (let no : ⊥ = cc in no)
+  | inr (z, (found, same)) ↦ let its : z ≡ y = cc in subst (IsSame b c x) its same
+]
+
+same_target : (b c : Book) (target : Destination) (x y : Place) → IsOrderly b → Leads b c → admit b target ≡ resumes x → admit c target ≡ resumes y → IsSame b c x y
+same_target b c (start name) x y orderly to was is = absurd (start_is_no_page b name x was)
+same_target b c (page name n) x y orderly to was is =
+    same_page b c name n x y orderly to (resumes_place b name n x was).0 (resumes_place c name n y is).0 (page_stands c name n y is).here
+
+pub owed_taken : WhatIsOwedWasTaken
+owed_taken source opened now s es caller t opening legal owes =
+    let at = split_at es (take_of caller t) (took_it es caller t owes) in
+    let all : IsLegal source opened now s (at.0 ++ take_of caller t ∷ at.1) = subst (IsLegal source opened now s) at.2 legal in
+    let before = front source opened now s [] at.0 (take_of caller t ∷ at.1) all in
+    let next = last source opened now s [] at.0 (take_of caller t)
+    (front source opened now s [] (at.0 ++ take_of caller t ∷ []) at.1 (subst (IsLegal source opened now s) (sym (append_assoc at.0 (take_of caller t ∷ []) at.1)) all)) in
+    let was : Shelf = shelf_behind source s at.0 in
+    let to : Leads (book_behind source s at.0) (book_behind source s es) =
+    subst (λ (l : List Entry). Leads (book_behind source s at.0) (book_behind source s l)) (sym at.2) (leads source opened now s at.0 (take_of caller t ∷ at.1) opening all) in
+    record {
+      front = at.0;
+      rest = at.1;
+      is = at.2;
+      admitted = take_admitted was.rules was.book (source was.nonces) t.number t.nonce t next.answered;
+      same = λ x y had has. same_target was.book (book_behind source s es) t.target x y (well source opened now s at.0 opening before).orderly to had has;
+    }
