@@ -1,21 +1,22 @@
 -- What is kept between turns.
-use Rattle.std.proofs.Common.{◌≡◌, ◌≤◌, ◌+◌, ℕ, List, [], ◌∷◌, refl, sym, ◌∙◌, ap, subst, arith, length}
+use Rattle.std.proofs.Common.{◌≡◌, ◌≤◌, ◌+◌, ℕ, List, [], ◌∷◌, ◌++◌, inl, inr, refl, sym, ◌∙◌, ap, subst, arith, length}
 use Rattle.script_nodes.specs.Setup.{Named}
 use Rattle.replay_spec.specs.Book.{Book}
 use Rattle.replay_spec.specs.Rules.{Rules}
-use Rattle.replay_spec.specs.Step.{Event, crash, Fate, Reply, step}
+use Rattle.replay_spec.specs.Step.{Event, crash, Fate, lost, kept, recovered, Reply, step}
 use Rattle.replay_spec.specs.Runs.{Shelf, shelf_step}
 use Rattle.replay_spec.specs.Invariant.{IsOrderly, IsSound}
 use Rattle.replay_spec.specs.Laws.{IsLawful, Moment, Leads}
 use Rattle.replay_spec.proofs.Orderly as orderly
 use Rattle.replay_spec.proofs.Steps as sound_books
-use Rattle.shelf_history.specs.Histories.{Entry, fate_by, shelf_behind, book_behind, MayCome, IsCounted}
+use Rattle.shelf_history.specs.Histories.{Entry, fate_by, shelf_behind, book_behind, MayCome, IsCounted, IsLegal, IsOpened}
 use Rattle.shelf_history.specs.Laws.{tickets_taken, ACrashOpens}
-use Rattle.shelf_history.specs.Kept.{IsKept, IsEvent, KeptGoesOn, WhatIsKeptIsSound}
-use Rattle.shelf_history.proofs.Going.{push, is_step, legal_later}
+use Rattle.shelf_history.specs.Kept.{IsKept, IsEvent, crashed, MayBeLeft, WhatIsLeftOpens, KeptGoesOn, WhatIsKeptIsSound}
+use Rattle.shelf_history.proofs.Going.{push, front, is_step, legal_later}
 use Rattle.shelf_history.proofs.Numbers.{well, lawful_next}
 use Rattle.shelf_history.proofs.Behind.{sound}
 use Rattle.shelf_history.proofs.Nonces.{in_turn}
+use Rattle.shelf_history.proofs.Passing.{prefix_of}
 
 pub kept_on : KeptGoesOn
 kept_on source opened now start = (
@@ -39,15 +40,15 @@ kept_on source opened now start = (
 )
 
 pub kept_sound : WhatIsKeptIsSound
-kept_sound source opened now start s coming es opening kept =
-    let w = well source opened now start es opening kept.legal in
-    let book : book_behind source start es ≡ s.book = ap (λ (t : Shelf). t.book) (sym kept.shelf) in (
+kept_sound source opened now start s coming es opening held =
+    let w = well source opened now start es opening held.legal in
+    let book : book_behind source start es ≡ s.book = ap (λ (t : Shelf). t.book) (sym held.shelf) in (
       subst IsOrderly book w.orderly,
-      λ (good : IsSound start.book). subst IsSound book (sound source opened now start es opening good kept.legal),
+      λ (good : IsSound start.book). subst IsSound book (sound source opened now start es opening good held.legal),
       λ (caller : ℕ) (x : Event) (comes : MayCome caller x es). subst (IsLawful x) book (lawful_next source opened now start es x caller w comes),
       λ (k : ℕ).
-          let given : s.nonces ≡ start.nonces + length (tickets_taken es) = ap (λ (t : Shelf). t.nonces) kept.shelf ∙ (in_turn source opened now start es kept.legal).1 in
-          kept.nonces k ∙ ap (λ (n : ℕ). source (n + k)) given,
+          let given : s.nonces ≡ start.nonces + length (tickets_taken es) = ap (λ (t : Shelf). t.nonces) held.shelf ∙ (in_turn source opened now start es held.legal).1 in
+          held.nonces k ∙ ap (λ (n : ℕ). source (n + k)) given,
     )
 
 -- a crash of a book leads to the one behind it
@@ -70,3 +71,31 @@ crash_opens source opened now s es rules nonce scripts fate opening legal =
       },
       λ (good : IsSound s.book). (sound_books.led b c (sound source opened now s es opening good legal) leads).sound,
     )
+
+crash_left : (rules : Rules) (b c : Book) (fate : Fate) → c ≡ crashed rules fate b → (step rules b 0 (crash (recovered rules fate b.down b).scripts) fate).1 ≡ c
+unfolding step
+crash_left rules b c fate is = sym is
+
+crash_is : (source : ℕ → ℕ) (opened now : ℕ) (start : Shelf) (es : List Entry) (c : Book) (fate : Fate) → IsOpened start.book → IsLegal source opened now start es
+    → c ≡ crashed start.rules fate (book_behind source start es) → IsOpened c × (IsSound start.book → IsSound c)
+crash_is source opened now start es c fate opening legal is =
+    let b = book_behind source start es in
+    let same = crash_left start.rules b c fate is in
+    let all = crash_opens source opened now start es start.rules 0 (recovered start.rules fate b.down b).scripts fate opening legal in
+    (subst IsOpened same all.0, λ good. subst IsSound same (all.1 good))
+
+pub left_opens : WhatIsLeftOpens
+left_opens source start es c left = (
+  λ (more : List Entry). record {
+    front = left.front;
+    begins = prefix_of left.front es (es ++ more) left.begins (more, refl);
+    left = left.left;
+  },
+  λ (opened now : ℕ) (opening : IsOpened start.book) (legal : IsLegal source opened now start es).
+      let legal_then : IsLegal source opened now start left.front =
+      front source opened now start [] left.front left.begins.0 (subst (IsLegal source opened now start) (sym left.begins.1) legal) in
+      elim left.left [
+        | inl is ↦ crash_is source opened now start left.front c lost opening legal_then is
+        | inr is ↦ crash_is source opened now start left.front c kept opening legal_then is
+      ],
+)

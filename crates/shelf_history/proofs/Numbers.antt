@@ -82,7 +82,7 @@ module _ (source : ℕ → ℕ) (opened now : ℕ) (s : Shelf) where
         held = subst (λ (ts : List Ticket). Held (es ++ e ∷ []) ts) (sym (left_push es e [])) (held_then es all e w.held next.comes (fresh_next es e w next));
       }
 
-  pub well : (es : List Entry) → IsOpened s → IsLegal source opened now s es → Well source s es
+  pub well : (es : List Entry) → IsOpened s.book → IsLegal source opened now s es → Well source s es
   well es opening legal = along source opened now s (Well source s) well_next [] es legal (record {
     orderly = opening.orderly;
     lawful = tt;

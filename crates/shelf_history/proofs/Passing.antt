@@ -9,7 +9,7 @@ use Rattle.replay_spec.specs.Step.{Event, publish}
 use Rattle.replay_spec.specs.Laws.{tickets_by}
 use Rattle.shelf_history.specs.Histories.{Entry, own_of, owed_by, Owes, IsLegal}
 use Rattle.shelf_history.specs.Laws.{take_of}
-use Rattle.shelf_history.specs.Passes.{IsSeenBy, Goes, Makes, ATurnGoes, CallsCompose, SeenStays, ATakeIsOwed}
+use Rattle.shelf_history.specs.Passes.{publish_of, TwoCallsVisit, IsSeenBy, Goes, Makes, ATurnGoes, CallsCompose, SeenStays, ATakeIsOwed}
 use Rattle.shelf_history.proofs.Going.{push}
 use Rattle.shelf_history.proofs.Owing.{left_push, left_by}
 
@@ -30,7 +30,7 @@ turn source opened now s caller seen es e known legal next is = record {
   own = own_append caller es (e ∷ []) ∙ (ap (λ (l : List Entry). l ++ own_of caller (e ∷ [])) known.own ∙ ap (λ (l : List Entry). own_of caller seen ++ l) (own_one e caller is));
 }
 
-prefix_of : (a b c : List Entry) → IsPrefix a b → IsPrefix b c → IsPrefix a c
+pub prefix_of : (a b c : List Entry) → IsPrefix a b → IsPrefix b c → IsPrefix a c
 prefix_of a b c one two = (one.0 ++ two.0, sym (append_assoc a one.0 two.0) ∙ (ap (λ (l : List Entry). l ++ two.0) one.1 ∙ two.1))
 
 pub compose : CallsCompose
@@ -94,3 +94,10 @@ owed source opened now s caller seen es t = (
   λ (e : Entry) (is : e.event ≡ publish t) (g : Goes source opened now s caller seen (e ∷ []) es) (owes : Owes caller t es).
       no_longer_left t (own_of caller seen) e is (subst (λ (l : List Entry). Contains (owed_by l) t) g.own owes),
 )
+
+pub visits : TwoCallsVisit
+visits source opened then now s caller seen mid es t reply took published =
+    let made = compose source opened now s caller seen in
+    let first = (compose source opened then s caller seen).0 (take_of caller t ∷ []) mid took in
+    let second = (compose source opened now s caller mid).0 (publish_of caller t reply ∷ []) es published in
+    inl (t, refl, refl, made.2 (take_of caller t ∷ []) (publish_of caller t reply ∷ []) mid es then first second)

@@ -1,10 +1,13 @@
 -- What stands of a shelf between the turns of a lock, beside the history that it has had since it was opened.
-use Rattle.std.specs.Prelude.{◌≡◌, ◌≤◌, ◌+◌, ℕ, List, [], ◌∷◌, ◌++◌, length}
-use Rattle.replay_spec.specs.Step.{Event, Reply}
+use Rattle.std.specs.Prelude.{◌≡◌, ◌⊎◌, ◌≤◌, ◌+◌, ℕ, List, [], ◌∷◌, ◌++◌, length}
+use mathlib.Core.List.{IsPrefix}
+use Rattle.replay_spec.specs.Book.{Book, reopened}
+use Rattle.replay_spec.specs.Rules.{Rules}
+use Rattle.replay_spec.specs.Step.{Event, Fate, lost, kept, recovered, Reply}
 use Rattle.replay_spec.specs.Runs.{Shelf, shelf_step}
 use Rattle.replay_spec.specs.Invariant.{IsOrderly, IsSound}
 use Rattle.replay_spec.specs.Laws.{IsLawful}
-use Rattle.shelf_history.specs.Histories.{Entry, fate_by, shelf_behind, MayCome, IsCounted, IsLegal, IsOpened}
+use Rattle.shelf_history.specs.Histories.{Entry, fate_by, shelf_behind, book_behind, MayCome, IsCounted, IsLegal, IsOpened}
 use Rattle.shelf_history.specs.Laws.{tickets_taken}
 
 -- The history is legal from the shelf as it was opened, the shelf is the one behind it, and the nonces to come are those of
@@ -35,9 +38,27 @@ KeptGoesOn =
 -- nonces to come are the source's behind those of the takes.
 abbrev pub WhatIsKeptIsSound : Type 0
 WhatIsKeptIsSound =
-    (source : ℕ → ℕ) (opened now : ℕ) (start s : Shelf) (coming : ℕ → ℕ) (es : List Entry) → IsOpened start
+    (source : ℕ → ℕ) (opened now : ℕ) (start s : Shelf) (coming : ℕ → ℕ) (es : List Entry) → IsOpened start.book
     → IsKept source opened now start s coming es
     → IsOrderly s.book
     × (IsSound start.book → IsSound s.book)
     × ((caller : ℕ) (x : Event) → MayCome caller x es → IsLawful x s.book)
     × ((k : ℕ) → coming k ≡ source (start.nonces + length (tickets_taken es) + k))
+
+-- the book as after a crash, with what is in doubt or without it
+abbrev pub crashed : Rules → Fate → Book → Book
+crashed rules fate b = reopened (recovered rules fate b.down b)
+
+-- What a crash at some moment since the opening may have left: the book behind a front of the history, and of what was in
+-- doubt there all or nothing.
+pub record MayBeLeft (source : ℕ → ℕ) (start : Shelf) (es : List Entry) (c : Book) : Type 0 where
+  pub front : List Entry
+  pub begins : IsPrefix front es
+  pub left : (c ≡ crashed start.rules lost (book_behind source start front)) ⊎ (c ≡ crashed start.rules kept (book_behind source start front))
+
+-- What may have been left may have been left of a longer history too, and with it the shelf may be opened.
+abbrev pub WhatIsLeftOpens : Type 0
+WhatIsLeftOpens =
+    (source : ℕ → ℕ) (start : Shelf) (es : List Entry) (c : Book) → MayBeLeft source start es c
+    → ((more : List Entry) → MayBeLeft source start (es ++ more) c)
+    × ((opened now : ℕ) → IsOpened start.book → IsLegal source opened now start es → IsOpened c × (IsSound start.book → IsSound c))

@@ -31,7 +31,7 @@ OneEntryIsAStep =
 -- the book behind the whole.
 abbrev pub HistoriesAreRuns : Type 0
 HistoriesAreRuns =
-    (source : ℕ → ℕ) (opened now : ℕ) (s : Shelf) (es : List Entry) → IsOpened s → IsLegal source opened now s es
+    (source : ℕ → ℕ) (opened now : ℕ) (s : Shelf) (es : List Entry) → IsOpened s.book → IsLegal source opened now s es
     → IsLawfulRun source (events_of es) s
     × (answers_to source (events_of es) s ≡ map (λ e. e.reply) es)
     × ((front more : List Entry) → es ≡ front ++ more → Leads (book_behind source s front) (book_behind source s es))
@@ -58,7 +58,7 @@ NoNumberTakenTwice =
 -- Each publish is of a ticket that its caller took before, just as it was given, and no two are of one take.
 abbrev pub EachPublishHasItsTake : Type 0
 EachPublishHasItsTake =
-    (source : ℕ → ℕ) (opened now : ℕ) (s : Shelf) (before later : List Entry) (e : Entry) (t : Ticket) → IsOpened s → e.event ≡ publish t
+    (source : ℕ → ℕ) (opened now : ℕ) (s : Shelf) (before later : List Entry) (e : Entry) (t : Ticket) → IsOpened s.book → e.event ≡ publish t
     → IsLegal source opened now s (before ++ e ∷ later)
     → Contains before (take_of e.caller t)
     × ((f : Entry) (u : Ticket) → Contains later f → f.event ≡ publish u → u.number ≡ t.number → ⊥)
@@ -68,7 +68,7 @@ EachPublishHasItsTake =
 -- number, which is the caller's.
 abbrev pub WhatIsOwedIsOut : Type 0
 WhatIsOwedIsOut =
-    (source : ℕ → ℕ) (opened now : ℕ) (s : Shelf) (es own : List Entry) (caller : ℕ) (t : Ticket) → IsOpened s → IsLegal source opened now s es
+    (source : ℕ → ℕ) (opened now : ℕ) (s : Shelf) (es own : List Entry) (caller : ℕ) (t : Ticket) → IsOpened s.book → IsLegal source opened now s es
     → own_of caller es ≡ own → Contains (owed_by own) t
     → Contains (book_behind source s es).out t.number
     × Contains own (take_of caller t)
@@ -107,7 +107,7 @@ pub record WasTaken (source : ℕ → ℕ) (s : Shelf) (es : List Entry) (caller
 -- What a caller owes it took where it was admitted.
 abbrev pub WhatIsOwedWasTaken : Type 0
 WhatIsOwedWasTaken =
-    (source : ℕ → ℕ) (opened now : ℕ) (s : Shelf) (es : List Entry) (caller : ℕ) (t : Ticket) → IsOpened s → IsLegal source opened now s es
+    (source : ℕ → ℕ) (opened now : ℕ) (s : Shelf) (es : List Entry) (caller : ℕ) (t : Ticket) → IsOpened s.book → IsLegal source opened now s es
     → Owes caller t es → WasTaken source s es caller t
 
 -- what an entry meets behind those before it
@@ -118,22 +118,21 @@ moment_of source s before e =
 -- From a sound book a legal history leads to a sound one, of the same shelf.
 abbrev pub BooksBehindAreSound : Type 0
 BooksBehindAreSound =
-    (source : ℕ → ℕ) (opened now : ℕ) (s : Shelf) (es : List Entry) → IsOpened s → IsSound s.book → IsLegal source opened now s es
+    (source : ℕ → ℕ) (opened now : ℕ) (s : Shelf) (es : List Entry) → IsOpened s.book → IsSound s.book → IsLegal source opened now s es
     → IsSound (book_behind source s es) × ((book_behind source s es).shelf ≡ s.book.shelf)
 
--- A crash behind it, whatever becomes of what is in doubt, leaves a shelf as it may be when it is opened, again with a sound
--- book: with it the next history begins.
+-- A crash behind it, whatever becomes of what is in doubt, leaves a book as it may be at an opening, again a sound one: with it
+-- the next history begins.
 abbrev pub ACrashOpens : Type 0
 ACrashOpens =
     (source : ℕ → ℕ) (opened now : ℕ) (s : Shelf) (es : List Entry) (rules : Rules) (nonce : ℕ) (scripts : List Named) (fate : Fate)
-    → IsOpened s → IsLegal source opened now s es
-    → let b = (step rules (book_behind source s es) nonce (crash scripts) fate).1 in
-    IsOpened (record { rules = rules; book = b; nonces = 0 }) × (IsSound s.book → IsSound b)
+    → IsOpened s.book → IsLegal source opened now s es
+    → let b = (step rules (book_behind source s es) nonce (crash scripts) fate).1 in IsOpened b × (IsSound s.book → IsSound b)
 
 -- The clock never falls, and behind a sweep that was answered it is at the tick, at least.
 abbrev pub TheClockNeverFalls : Type 0
 TheClockNeverFalls =
-    (source : ℕ → ℕ) (opened now : ℕ) (s : Shelf) (front more : List Entry) → IsOpened s → IsLegal source opened now s (front ++ more)
+    (source : ℕ → ℕ) (opened now : ℕ) (s : Shelf) (front more : List Entry) → IsOpened s.book → IsLegal source opened now s (front ++ more)
     → ((book_behind source s front).clock ≤ (book_behind source s (front ++ more)).clock)
     × ((caller tick freed : ℕ) → Contains front (record { caller = caller; event = sweep tick; reply = swept freed })
     → tick ≤ (book_behind source s (front ++ more)).clock)
@@ -144,7 +143,7 @@ abbrev pub ClosedIsClosed : Type 0
 ClosedIsClosed =
     (source : ℕ → ℕ) (opened now : ℕ) (s : Shelf) (before between : List Entry) (leaving next : Entry) (name : TxName)
     → let until = before ++ leaving ∷ between in
-    IsOpened s → IsSound s.book → IsLegal source opened now s (until ++ next ∷ [])
+    IsOpened s.book → IsSound s.book → IsLegal source opened now s (until ++ next ∷ [])
     → Leaves name (book_behind source s before) (moment_of source s before leaving)
     → (Leaves name (book_behind source s until) (moment_of source s until next) → ⊥)
     × ((early more : List Entry) → until ≡ early ++ more → IsOn name (book_behind source s early) next.event

@@ -1,8 +1,10 @@
 -- What the pass of one caller has seen of a history, and what a call of it may claim.
-use Rattle.std.specs.Prelude.{◌≡◌, ◌≢◌, ℕ, List, [], ◌∷◌, ◌++◌}
+use Rattle.std.specs.Prelude.{◌≡◌, ◌≢◌, ◌⊎◌, ℕ, List, [], ◌∷◌, ◌++◌, ⊤}
 use mathlib.Core.List.{IsPrefix}
+use Rattle.script_value.specs.Val.{Val}
+use Rattle.page_names.specs.Names.{Destination}
 use Rattle.replay_spec.specs.Next.{Ticket}
-use Rattle.replay_spec.specs.Step.{publish}
+use Rattle.replay_spec.specs.Step.{take, publish, Reply, taken}
 use Rattle.replay_spec.specs.Runs.{Shelf}
 use Rattle.shelf_history.specs.Histories.{Entry, own_of, Owes, MayCome, IsNext, IsLegal}
 use Rattle.shelf_history.specs.Laws.{take_of}
@@ -59,3 +61,26 @@ ATakeIsOwed =
     → (Goes source opened now s caller seen (take_of caller t ∷ []) es → Owes caller t es)
     × (IsSeenBy caller seen es → Owes caller t seen → MayCome caller (publish t) es)
     × ((e : Entry) → e.event ≡ publish t → Goes source opened now s caller seen (e ∷ []) es → Owes caller t es → ⊥)
+
+abbrev pub IsTicket : Reply → Type 0
+IsTicket (taken number nonce) = ⊤
+IsTicket _ = ⊥
+
+abbrev pub publish_of : (caller : ℕ) → Ticket → Reply → Entry
+publish_of caller t reply = record { caller = caller; event = publish t; reply = reply }
+
+-- A visit of this target with this answer, and its reply: its take, which was told a ticket, and the publish of that; or the
+-- take alone, which was told this.
+abbrev pub Visits : (source : ℕ → ℕ) → (opened now : ℕ) → Shelf → (caller : ℕ) → (seen : List Entry) → Destination → Val → Reply → (es : List Entry) → Type 0
+Visits source opened now s caller seen target answer reply es =
+    ((t : Ticket) × (t.target ≡ target) × (t.answer ≡ answer)
+    × Makes source opened now s caller seen (take_of caller t ∷ publish_of caller t reply ∷ []) es)
+    ⊎ ((IsTicket reply → ⊥) × Goes source opened now s caller seen (record { caller = caller; event = take target answer; reply = reply } ∷ []) es)
+
+-- A take that was told a ticket and, whatever others did since, its publish are a visit.
+abbrev pub TwoCallsVisit : Type 0
+TwoCallsVisit =
+    (source : ℕ → ℕ) (opened then now : ℕ) (s : Shelf) (caller : ℕ) (seen mid es : List Entry) (t : Ticket) (reply : Reply)
+    → Goes source opened then s caller seen (take_of caller t ∷ []) mid
+    → Goes source opened now s caller mid (publish_of caller t reply ∷ []) es
+    → Visits source opened now s caller seen t.target t.answer reply es

@@ -2,8 +2,8 @@
 #![tactic(auto)]
 
 ghost use Rattle.shelf_history.specs.Laws.{HistoriesGoOn, OneEntryIsAStep, EachEventIsAnEntry, HistoriesAreRuns, NoncesComeInTurn, NoNumberTakenTwice, EachPublishHasItsTake, WhatIsOwedIsOut, WhatIsOwedWasTaken, BooksBehindAreSound, ACrashOpens, TheClockNeverFalls, ClosedIsClosed};
-ghost use Rattle.shelf_history.specs.Passes.{ATurnGoes, CallsCompose, SeenStays, ATakeIsOwed};
-ghost use Rattle.shelf_history.specs.Kept.{KeptGoesOn, WhatIsKeptIsSound};
+ghost use Rattle.shelf_history.specs.Passes.{ATurnGoes, CallsCompose, SeenStays, ATakeIsOwed, TwoCallsVisit};
+ghost use Rattle.shelf_history.specs.Kept.{KeptGoesOn, WhatIsKeptIsSound, WhatIsLeftOpens};
 
 /// A legal history goes on by each entry that comes next; a front of it is legal; and it stays so while the disk's count of
 /// faults rises.
@@ -92,6 +92,11 @@ pub fn a_take_is_owed()
     ensures { ATakeIsOwed }
 {}
 
+/// A take that was told a ticket and, whatever others did since, its publish are a visit.
+pub fn two_calls_visit()
+    ensures { TwoCallsVisit }
+{}
+
 /// What stands between the turns of a lock stands of a shelf that was opened, and each event that may come keeps it.
 pub fn kept_goes_on()
     ensures { KeptGoesOn }
@@ -101,4 +106,9 @@ pub fn kept_goes_on()
 /// behind the takes.
 pub fn what_is_kept_is_sound()
     ensures { WhatIsKeptIsSound }
+{}
+
+/// With what a crash may have left, at whatever moment, the shelf may be opened again.
+pub fn what_is_left_opens()
+    ensures { WhatIsLeftOpens }
 {}
