@@ -11,7 +11,7 @@ use Rattle.replay_spec.proofs.Orderly as orderly
 use Rattle.replay_spec.proofs.Steps as sound_books
 use Rattle.shelf_history.specs.Histories.{Entry, fate_by, shelf_behind, book_behind, MayCome, IsCounted, IsLegal, IsOpened}
 use Rattle.shelf_history.specs.Laws.{tickets_taken, ACrashOpens}
-use Rattle.shelf_history.specs.Kept.{IsKept, IsEvent, crashed, MayBeLeft, WhatIsLeftOpens, KeptGoesOn, WhatIsKeptIsSound}
+use Rattle.shelf_history.specs.Kept.{IsKept, IsEvent, crashed, WhatIsLeftOpens, KeptGoesOn, WhatIsKeptIsSound}
 use Rattle.shelf_history.proofs.Going.{push, front, is_step, legal_later}
 use Rattle.shelf_history.proofs.Numbers.{well, lawful_next}
 use Rattle.shelf_history.proofs.Behind.{sound}
