@@ -41,7 +41,8 @@ impl Fnv1a {
     /// Goes on over these bytes.
     pub fn update(&mut self, bytes: &[u8])
         ensures hashed { self.new ≡ goes_on self.old bytes.now }
-        ensures longer { (before : List ℕ) → self.old ≡ fnv1a before → self.new ≡ fnv1a (before ++ bytes.now) }
+        ensures joined { (before : List ℕ)
+            → self.old ≡ fnv1a before → self.new ≡ fnv1a (before ++ bytes.now) }
     {
         for byte in bytes {
             self.hash = mixed(self.hash, *byte);
