@@ -119,6 +119,7 @@ impl Generator {
         ensures kept { IfOk result (λ _. self.new ≡ spec.with_url url.now self.old) }
         ensures lacking { OnErr result (self.new ≡ self.old) }
         ensures few { OnOk result (length self.new.targets ≤ spec.most_targets) }
+        ensures clock { self.new.clock ≡ self.old.clock }
     {
         let url = Bytes::new(url.to_vec(alloc)?);
         self.targets.push(url)?;
@@ -133,6 +134,7 @@ impl Generator {
     pub fn learn_from(&mut self, alloc: Global, told: &Report) -> Result<(), AllocError>
         ensures kept { IfOk result (λ _. self.new ≡ spec.learned told.now self.old) }
         ensures lacking { OnErr result (self.new ≡ self.old) }
+        ensures clock { self.new.clock ≡ self.old.clock }
     {
         match told {
             Report::Replied {
