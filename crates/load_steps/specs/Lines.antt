@@ -1,0 +1,26 @@
+-- The lines that spell the steps of a measured run.
+use Rattle.std.specs.Prelude.{ℕ, ◌<◌, List, ◌++◌, codes}
+use Rattle.std.specs.Fmt.{decimal}
+use Rattle.play_steps.specs.Step as play
+use Rattle.load_steps.specs.declared.step.LoadStep.{LoadStep}
+use Rattle.load_steps.specs.declared.step.LoadStep.TheVariants.{Crash, Tick, Publish, Take, Get}
+
+-- a word, a worker and a target, with single spaces
+abbrev pub visit_line : List ℕ → ℕ → List ℕ → List ℕ
+visit_line word worker target = word ++ codes " " ++ decimal worker ++ codes " " ++ target
+
+-- the line of a step, without the newline
+abbrev pub line_of : LoadStep → List ℕ
+line_of (Crash shelf) = codes "crash " ++ decimal shelf
+line_of (Tick time) = play.line_of (play.tick time)
+line_of (Publish worker) = play.line_of (play.publish worker)
+line_of (Take worker target) = play.line_of (play.take worker target)
+line_of (Get worker target) = play.line_of (play.get worker target)
+
+-- the shelf, the worker, the time and the target of a step are in their ranges
+abbrev pub IsLoadStep : (shelves : ℕ) → LoadStep → Type 0
+IsLoadStep shelves (Crash shelf) = shelf < shelves
+IsLoadStep shelves (Tick time) = play.IsStep (play.tick time)
+IsLoadStep shelves (Publish worker) = play.IsStep (play.publish worker)
+IsLoadStep shelves (Take worker target) = play.IsStep (play.take worker target)
+IsLoadStep shelves (Get worker target) = play.IsStep (play.get worker target)
