@@ -14,12 +14,12 @@ both_true true c e = (refl, e)
 both_true false c e = absurd cc
 
 -- what the first test says
-record First (least cells : ℕ) (s : ℕ × Val) (ss : List (ℕ × Val)) : Type 0 where
-  from : least ≤ s.0
-  named : s.0 < cells
-  more : shadows_fit (s.0 + 1) cells ss ≡ true
+pub record First (least cells : ℕ) (s : ℕ × Val) (ss : List (ℕ × Val)) : Type 0 where
+  pub from : least ≤ s.0
+  pub named : s.0 < cells
+  pub more : shadows_fit (s.0 + 1) cells ss ≡ true
 
-first : (least cells : ℕ) (s : ℕ × Val) (ss : List (ℕ × Val)) → shadows_fit least cells (s ∷ ss) ≡ true → First least cells s ss
+pub first : (least cells : ℕ) (s : ℕ × Val) (ss : List (ℕ × Val)) → shadows_fit least cells (s ∷ ss) ≡ true → First least cells s ss
 first least cells s ss e =
     let b = both_true (nat_le least s.0) (nat_lt s.0 cells && shadows_fit (s.0 + 1) cells ss) e in
     let c = both_true (nat_lt s.0 cells) (shadows_fit (s.0 + 1) cells ss) b.1 in

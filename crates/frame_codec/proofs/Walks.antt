@@ -47,29 +47,32 @@ seam [] y ys = refl
 seam (x ∷ xs) y ys = seam xs y ys
 
 -- what is worked on is a part of a node of this kind
-worked_fits : (f : Frame) (x : Node) (p : ℕ) → part_worked f x ≡ Some p → IsKind f x × (slice_get (parts x) (place_of f) ≡ Some p)
-worked_fits (in_binding n done) (node.Let bindings body) p e = (slice_get_within bindings (length done) p e, among bindings body (length done) p e)
-worked_fits (in_body n bound) (node.Let bindings body) p e =
+worked_fits : (f : Frame) (x : Node) (p : ℕ) → FrameHasBytes f → part_worked x f ≡ Some p → IsKind f x × (slice_get (parts x) (place_of f) ≡ Some p)
+worked_fits (in_page n kind) x p h e = absurd h
+worked_fits (in_finish n) x p h e = absurd h
+worked_fits (in_back n) x p h e = absurd h
+worked_fits (in_binding n done) (node.Let bindings body) p h e = (slice_get_within bindings (length done) p e, among bindings body (length done) p e)
+worked_fits (in_body n bound) (node.Let bindings body) p h e =
     let g = cond_some (bound == length bindings) body p e in
     let same : bound ≡ length bindings = grind (arith, nat_tests, g.0) in
     (same, ap (λ (i : ℕ). slice_get (bindings ++ body ∷ []) i) same ∙ seam bindings body [] ∙ ap (λ (q : ℕ). Some q) g.1)
-worked_fits (in_seq n k) (node.Seq ps) p e = (tt, e)
-worked_fits (in_if n k) (node.If test a b) p e = (tt, e)
-worked_fits (in_and n k) (node.And ps) p e = (tt, e)
-worked_fits (in_or n k) (node.Or ps) p e = (tt, e)
-worked_fits (in_operand n done) (node.Prim o ps) p e = (tt, e)
-worked_fits (in_count n) (node.For count body) p e = (tt, e)
-worked_fits (in_turn n turns done) (node.For count body) p e =
+worked_fits (in_seq n k) (node.Seq ps) p h e = (tt, e)
+worked_fits (in_if n k) (node.If test a b) p h e = (tt, e)
+worked_fits (in_and n k) (node.And ps) p h e = (tt, e)
+worked_fits (in_or n k) (node.Or ps) p h e = (tt, e)
+worked_fits (in_operand n done) (node.Prim o ps) p h e = (tt, e)
+worked_fits (in_count n) (node.For count body) p h e = (tt, e)
+worked_fits (in_turn n turns done) (node.For count body) p h e =
     let g = cond_some (nat_lt (length done) turns) body p e in
     (grind (arith, nat_tests, g.0), ap (λ (q : ℕ). Some q) g.1)
-worked_fits (in_store n) (node.CellShadow c v) p e = (tt, e)
-worked_fits (in_store n) (node.InstSet c v) p e = (tt, e)
-worked_fits (in_store n) (node.InstAdd c v) p e = (tt, e)
-worked_fits (in_isolate n name) (node.Isolate body) p e = (tt, e)
-worked_fits f x p e = absurd (none-some p e)
+worked_fits (in_store n) (node.CellShadow c v) p h e = (tt, e)
+worked_fits (in_store n) (node.InstSet c v) p h e = (tt, e)
+worked_fits (in_store n) (node.InstAdd c v) p h e = (tt, e)
+worked_fits (in_isolate n name) (node.Isolate body) p h e = (tt, e)
+worked_fits f x p h e = absurd (none-some p e)
 
 -- and the other way round
-fits_worked : (f : Frame) (x : Node) (p : ℕ) → FrameHasBytes f → IsKind f x → slice_get (parts x) (place_of f) ≡ Some p → part_worked f x ≡ Some p
+fits_worked : (f : Frame) (x : Node) (p : ℕ) → FrameHasBytes f → IsKind f x → slice_get (parts x) (place_of f) ≡ Some p → part_worked x f ≡ Some p
 fits_worked (in_page n kind) x p h k e = absurd h
 fits_worked (in_finish n) x p h k e = absurd h
 fits_worked (in_back n) x p h k e = absurd h
@@ -245,9 +248,9 @@ entered a env gs f p next h r e =
     elim (chosen (p.node == node_of f) _ _ _ e) [
       | inl t ↦
         let same : p.node ≡ node_of f = grind (arith, nat_tests, t.0) in
-        let b = bind_some (part_worked f (node_at a (node_of f))) (λ part. scope_in f env p.scope >>= λ scope. Some (place part scope)) next t.1 in
+        let b = bind_some (part_worked (node_at a (node_of f)) f) (λ part. scope_in f env p.scope >>= λ scope. Some (place part scope)) next t.1 in
         let c = bind_some (scope_in f env p.scope) (λ scope. Some (place b.0 scope)) next b.2 in
-        let w = worked_fits f (node_at a (node_of f)) b.0 b.1 in
+        let w = worked_fits f (node_at a (node_of f)) b.0 h b.1 in
         let s = scope_binds f env r.inner p.scope c.0 h r.scope c.1 in
         let outside : Works a gs (node_of f) r.inner = subst (λ (n : ℕ). Works a gs n r.inner) same r.works in
         subst (λ q. Reached a env (f ∷ gs) q) (some_same (place b.0 c.0) next c.2) (record {

@@ -53,6 +53,9 @@ read_for bytes = do
 abbrev pub name_of : ℕ × ℕ → TxName
 name_of x = record { ticket = x.0; entry = x.1 }
 
+abbrev pub read_isolate : Reader Frame
+read_isolate bytes = seen_as (λ x. in_isolate x.0 (name_of x.1)) (read_both read_u32 (read_both read_u64 read_u32) bytes)
+
 -- a frame of this kind
 abbrev pub read_kind : Arena → ℕ → Reader Frame
 read_kind a kind rest =
@@ -64,7 +67,7 @@ read_kind a kind rest =
     (if kind == 6 then seen_as (λ x. in_operand x.0 x.1) (read_both read_u32 read_values rest) else
     (if kind == 7 then read_for rest else
     (if kind == 8 then seen_as (λ n. in_store n) (read_u32 rest) else
-    (if kind == 9 then seen_as (λ x. in_isolate x.0 (name_of x.1)) (read_both read_u32 (read_both read_u64 read_u32) rest) else None))))))))
+    (if kind == 9 then read_isolate rest else None))))))))
 
 -- a frame
 abbrev pub read_frame : Arena → Reader Frame

@@ -8,21 +8,21 @@ use Rattle.script_nodes.specs.Arena.{Arena}
 use Rattle.machine_spec.specs.Machine.{Frame, in_binding, in_operand, in_body, in_seq, in_and, in_or, in_if, in_count, in_store, in_turn, in_isolate, node_at, Suspended}
 use Rattle.machine_spec.specs.Fits.{node_of}
 
--- the part that a frame works on; none where the frame is not of the node's kind, or is the body of a page
-abbrev pub part_worked : Frame → Node → Option ℕ
-part_worked (in_binding n done) (node.Let bindings body) = slice_get bindings (length done)
-part_worked (in_body n bound) (node.Let bindings body) = if bound == length bindings then Some body else None
-part_worked (in_seq n k) (node.Seq ps) = slice_get ps k
-part_worked (in_if n k) (node.If test a b) = slice_get (test ∷ a ∷ b ∷ []) k
-part_worked (in_and n k) (node.And ps) = slice_get ps k
-part_worked (in_or n k) (node.Or ps) = slice_get ps k
-part_worked (in_operand n done) (node.Prim o ps) = slice_get ps (length done)
-part_worked (in_count n) (node.For count body) = Some count
-part_worked (in_turn n turns done) (node.For count body) = if nat_lt (length done) turns then Some body else None
-part_worked (in_store n) (node.CellShadow c e) = Some e
-part_worked (in_store n) (node.InstSet c e) = Some e
-part_worked (in_store n) (node.InstAdd c e) = Some e
-part_worked (in_isolate n name) (node.Isolate body) = Some body
+-- the part of a node that a frame works on; none where the frame is not of the node's kind, or is the body of a page
+abbrev pub part_worked : Node → Frame → Option ℕ
+part_worked (node.Let bindings body) (in_binding n done) = slice_get bindings (length done)
+part_worked (node.Let bindings body) (in_body n bound) = if bound == length bindings then Some body else None
+part_worked (node.Seq ps) (in_seq n k) = slice_get ps k
+part_worked (node.If test a b) (in_if n k) = slice_get (test ∷ a ∷ b ∷ []) k
+part_worked (node.And ps) (in_and n k) = slice_get ps k
+part_worked (node.Or ps) (in_or n k) = slice_get ps k
+part_worked (node.Prim o ps) (in_operand n done) = slice_get ps (length done)
+part_worked (node.For count body) (in_count n) = Some count
+part_worked (node.For count body) (in_turn n turns done) = if nat_lt (length done) turns then Some body else None
+part_worked (node.CellShadow c e) (in_store n) = Some e
+part_worked (node.InstSet c e) (in_store n) = Some e
+part_worked (node.InstAdd c e) (in_store n) = Some e
+part_worked (node.Isolate body) (in_isolate n name) = Some body
 part_worked _ _ = None
 
 -- one more variable, where it is this number
@@ -45,7 +45,7 @@ pub record Place : Type 0 where
 abbrev pub enters : Arena → List Val → Place → Frame → Option Place
 enters a env p f =
     if p.node == node_of f then (do
-      part ← part_worked f (node_at a (node_of f))
+      part ← part_worked (node_at a (node_of f)) f
       scope ← scope_in f env p.scope
       Some (record { node = part; scope = scope })
     ) else None

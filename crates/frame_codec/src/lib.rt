@@ -3,6 +3,18 @@
 
 ghost use Rattle.frame_codec.specs.Laws.{AreStatesExact};
 
+
+mod fit;
+
+mod read;
+mod size;
+mod state;
+mod write;
+
+pub use state::decode;
+pub use size::length;
+pub use write::encode;
+
 /// What is written is read back, and what is read is spelled so and fits; no spelling is the front of another one.
 pub fn states_are_exact()
     ensures { AreStatesExact }
