@@ -1,5 +1,5 @@
 -- Frames and bindings of web cells are spelled exactly.
-use Rattle.std.proofs.Common.{◌≡◌, ℕ, zero, suc, ◌+◌, ◌<◌, ◌≤◌, ◌^◌, ◌==◌, Bool, true, false, cond, if◌then◌else◌, List, [], ◌∷◌, ◌++◌, length, get_or, Option, Some, None, refl, sym, ap, subst, ◌∙◌, arith, append_assoc, ◌⊎◌, inl, inr, lit<}
+use Rattle.std.proofs.Common.{◌≡◌, ℕ, ◌<◌, ◌^◌, ◌==◌, Bool, true, false, cond, if◌then◌else◌, List, [], ◌∷◌, ◌++◌, length, get_or, Option, Some, None, refl, sym, ap, subst, ◌∙◌, arith, append_assoc, ◌⊎◌, inl, inr, lit<}
 use Rattle.std.specs.Prelude.{⊤}
 use Rattle.std.proofs.lemmas.Bool.Decides.{nat_tests}
 use Rattle.std.proofs.lemmas.Option.{some_pair_parts, none-some}
@@ -17,7 +17,7 @@ use Rattle.value_bytes.proofs.Lists.{list_exact}
 use Rattle.value_bytes.proofs.Trees.{value_exact}
 use Rattle.machine_spec.specs.Machine.{Frame, in_binding, in_operand, in_body, in_seq, in_and, in_or, in_if, in_count, in_store, in_turn, in_isolate, in_page, in_finish, in_back, bindings_in, node_at}
 use Rattle.machine_spec.specs.Fits.{node_of}
-use Rattle.frame_codec.specs.Spelling.{frame_bytes, let_bytes, part_bytes, name_bytes, shadow_bytes, IsShort, FrameHasBytes, ShadowHasBytes}
+use Rattle.frame_codec.specs.Spelling.{frame_bytes, let_bytes, shadow_bytes, IsShort, FrameHasBytes, ShadowHasBytes}
 use Rattle.frame_codec.specs.Reading.{read_both, bindings_of, body_frame, let_frame, read_let, read_part, read_for_kind, read_for, name_of, read_kind, read_frame, read_shadow}
 
 -- ---- one behind the other
@@ -187,7 +187,7 @@ seen_frame s fits r law view a tag spelled fit kind bytes f rest small k e =
     let x = law.exact bytes y.0 rest small y.1 in
     let front : kind ∷ bytes ≡ tag ∷ (s y.0 ++ rest) = λ i. k i ∷ x.whole i in
     subst (λ g. SpellsFrame a kind bytes g rest) y.2
-        (record { whole = front ∙ ap (λ (b : List ℕ). b ++ rest) (sym (spelled y.0)); fit = fit y.0 x.fit })
+    (record { whole = front ∙ ap (λ (b : List ℕ). b ++ rest) (sym (spelled y.0)); fit = fit y.0 x.fit })
 
 -- what a frame of a Let is
 record LetFrame (a : Arena) (n k : ℕ) (done : List Val) (f : Frame) : Type 0 where
@@ -222,7 +222,7 @@ let_spells : (a : Arena) (kind : ℕ) (bytes : List ℕ) (f : Frame) (rest : Lis
     → SpellsFrame a kind bytes f rest
 let_spells a kind bytes f rest small k e =
     let b = bind_some (read_both read_u32 (read_both read_u32 read_values) bytes)
-        (λ x. framed x.1 (let_frame (bindings_of a x.0.0) x.0.0 x.0.1.0 x.0.1.1)) (f, rest) e in
+    (λ x. framed x.1 (let_frame (bindings_of a x.0.0) x.0.0 x.0.1.0 x.0.1.1)) (f, rest) e in
     let c = bind_some (let_frame (bindings_of a b.0.0.0) b.0.0.0 b.0.0.1.0 b.0.0.1.1) (λ g. Some (g, b.0.1)) (f, rest) b.2 in
     let x = let_exact.exact bytes b.0.0 b.0.1 small b.1 in
     let l = let_spelled a b.0.0.0 b.0.0.1.0 b.0.0.1.1 c.0 c.1 in
@@ -241,8 +241,8 @@ turn_spells a kind n part bytes left f rest small k one short whole e =
     let x = turns_exact.exact left y.0 rest small y.1 in
     let more : List ℕ = u64_bytes y.0.0 ++ values_bytes y.0.1 in
     let all : bytes ≡ (u32_bytes n ++ 1 ∷ more) ++ rest =
-        whole ∙ ap (λ (b : ℕ). (u32_bytes n ++ b ∷ []) ++ left) one ∙ ap (λ (l : List ℕ). (u32_bytes n ++ 1 ∷ []) ++ l) x.whole
-        ∙ append_assoc (u32_bytes n) (1 ∷ []) (more ++ rest) ∙ sym (append_assoc (u32_bytes n) (1 ∷ more) rest) in
+    whole ∙ ap (λ (b : ℕ). (u32_bytes n ++ b ∷ []) ++ left) one ∙ ap (λ (l : List ℕ). (u32_bytes n ++ 1 ∷ []) ++ l) x.whole
+    ∙ append_assoc (u32_bytes n) (1 ∷ []) (more ++ rest) ∙ sym (append_assoc (u32_bytes n) (1 ∷ more) rest) in
     subst (λ g. SpellsFrame a kind bytes g rest) y.2 (record {
       whole = λ i. k i ∷ all i;
       fit = ((short, x.fit), tt);

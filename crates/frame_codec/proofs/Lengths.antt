@@ -1,8 +1,7 @@
 -- How long spellings are.
-use Rattle.std.proofs.Common.{◌≡◌, ℕ, ◌+◌, ◌<◌, ◌^◌, List, [], ◌∷◌, ◌++◌, length, map, take, get_or, reverse, min, refl, sym, ap, ◌∙◌, arith, length-append}
+use Rattle.std.proofs.Common.{◌≡◌, ℕ, ◌+◌, ◌<◌, List, [], ◌∷◌, ◌++◌, length, map, take, get_or, reverse, arith, length-append}
 use Rattle.std.specs.List.{flat_map}
 use Rattle.std.proofs.lemmas.List.{map_more, reverse-reverse}
-use Rattle.script_value.specs.Val.{Val}
 use Rattle.web_cells.specs.Views.{pair_of}
 use Rattle.web_cells.specs.declared.shades.Shadow.{Shadow}
 use Rattle.stored_states.specs.declared.frame.Frame.{Frame}

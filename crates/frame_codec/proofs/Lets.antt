@@ -1,5 +1,5 @@
 -- The frame of the body of a Let has no value that is done.
-use Rattle.std.proofs.Common.{◌≡◌, ℕ, List, [], ◌∷◌, Some, None, refl, length}
+use Rattle.std.proofs.Common.{◌≡◌, ℕ, List, [], ◌∷◌, Some, None, refl}
 use Rattle.script_value.specs.Val.{Val}
 use Rattle.machine_spec.specs.Machine.{in_body}
 use Rattle.frame_codec.specs.Reading.{body_frame}

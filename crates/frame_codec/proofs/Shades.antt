@@ -1,5 +1,5 @@
 -- Bindings that are made in the order of their cells.
-use Rattle.std.proofs.Common.{◌≡◌, ℕ, ◌+◌, ◌<◌, ◌≤◌, ◌==◌, Bool, true, false, cond, nat_lt, List, [], ◌∷◌, ◌++◌, length, map, refl, sym, ap, ◌∙◌, arith, append_assoc}
+use Rattle.std.proofs.Common.{◌≡◌, ℕ, ◌+◌, ◌<◌, ◌≤◌, ◌==◌, Bool, true, false, cond, nat_lt, List, [], ◌∷◌, ◌++◌, map, refl, sym, ap, ◌∙◌, arith, append_assoc}
 use Rattle.std.specs.List.{AllByRecursion}
 use Rattle.std.proofs.lemmas.Bool.Decides.{nat_tests}
 use Rattle.std.proofs.lemmas.List.{append-nil, map-append}
@@ -8,7 +8,7 @@ use Rattle.web_cells.specs.Shadows.{bound_to, all_bound}
 use Rattle.web_cells.specs.Views.{pair_of}
 use Rattle.web_cells.specs.declared.shades.Shadow.{Shadow}
 use Rattle.frame_codec.specs.Walk.{shadows_fit}
-use Rattle.frame_codec.proofs.Cells.{First, first}
+use Rattle.frame_codec.proofs.Cells.{first}
 
 one_bound : (made : List (ℕ × Val)) (s : ℕ × Val) (ss : List (ℕ × Val)) → all_bound (made ++ s ∷ []) ss ≡ bound_to s.0 s.1 (all_bound made ss)
 one_bound [] s ss = refl

@@ -1,5 +1,5 @@
 -- States are spelled exactly.
-use Rattle.std.proofs.Common.{◌≡◌, ℕ, ◌<◌, ◌^◌, ◌&&◌, Bool, true, false, cond, if◌then◌else◌, List, [], ◌∷◌, ◌++◌, length, reverse, Option, Some, None, refl, sym, ap, subst, ◌∙◌}
+use Rattle.std.proofs.Common.{◌≡◌, ℕ, ◌&&◌, Bool, true, false, cond, List, [], ◌∷◌, length, reverse, Option, Some, None, refl, sym, ap, subst, ◌∙◌}
 use mathlib.Core.List.{reverse_aux}
 use Rattle.std.specs.List.{AllByRecursion}
 use Rattle.std.proofs.lemmas.List.{append-nil, reverse-reverse}
@@ -7,7 +7,7 @@ use Rattle.std.proofs.lemmas.Option.{none-some, cond_some}
 use Rattle.script_value.specs.Val.{Val}
 use Rattle.script_nodes.specs.Arena.{Arena}
 use Rattle.value_bytes.specs.Spelling.{values_bytes, list_bytes, HaveBytes, FitsList}
-use Rattle.value_bytes.specs.Reading.{Reader, read_list, read_values}
+use Rattle.value_bytes.specs.Reading.{read_list, read_values}
 use Rattle.value_bytes.specs.Laws.{AreBytes, IsExact, HasNoPrefix}
 use Rattle.value_bytes.proofs.Lists.{list_exact, no_prefix}
 use Rattle.machine_spec.specs.Machine.{Frame, node_at, Suspended}
@@ -16,7 +16,7 @@ use Rattle.frame_codec.specs.Spelling.{frame_bytes, shadow_bytes, state_bytes, F
 use Rattle.frame_codec.specs.Stored.{IsStored}
 use Rattle.frame_codec.specs.Walk.{frames_fit, shadows_fit}
 use Rattle.frame_codec.specs.Reading.{read_both, read_frame, read_shadow, read_parts, fitting, read_state}
-use Rattle.frame_codec.specs.Laws.{SpellsState, AreStatesExact}
+use Rattle.frame_codec.specs.Laws.{SpellsState, HasNone, AreStatesExact}
 use Rattle.frame_codec.proofs.Frames.{both_bytes, BothFit, both_exact, values_exact, frame_exact, shadow_exact, LetFits, IsRead}
 use Rattle.frame_codec.proofs.Walks.{walk_fits, fits_walk, lets_fit}
 use Rattle.frame_codec.proofs.Cells.{cells_fit, fit_cells}
@@ -60,7 +60,7 @@ PartsFit a = BothFit HaveBytes (ListsFit a)
 parts_exact : (a : Arena) → IsExact parts_bytes (PartsFit a) (read_parts a)
 parts_exact a =
     let lists = both_exact (list_bytes frame_bytes) (FitsList (IsRead a)) (read_list (read_frame a)) (list_bytes shadow_bytes) (FitsList ShadowHasBytes) (read_list read_shadow)
-        (list_exact frame_bytes (IsRead a) (read_frame a) (frame_exact a)) (list_exact shadow_bytes ShadowHasBytes read_shadow shadow_exact) in
+    (list_exact frame_bytes (IsRead a) (read_frame a) (frame_exact a)) (list_exact shadow_bytes ShadowHasBytes read_shadow shadow_exact) in
     both_exact values_bytes HaveBytes read_values lists_bytes (ListsFit a) (read_both (read_list (read_frame a)) (read_list read_shadow)) values_exact lists
 
 abbrev parts_of : Suspended → Parts
@@ -145,3 +145,14 @@ state_prefix a d e rest sd se same =
 
 pub states_are_exact : AreStatesExact
 states_are_exact = record { back = state_back; exact = state_spells; prefix = state_prefix }
+
+-- ---- what a decoder gives
+
+-- what is read is spelled by the bytes
+pub found_is_spelled : (a : Arena) (bytes : List ℕ) (d : Suspended) → read_state a bytes ≡ Some d → AreBytes bytes → SpellsState a bytes d
+found_is_spelled a bytes d e small = state_spells a bytes d small e
+
+-- where nothing is read, no state has the bytes
+pub none_has_these : (a : Arena) (bytes : List ℕ) → read_state a bytes ≡ None → HasNone a bytes
+none_has_these a bytes e d s whole =
+    absurd (none-some d (sym e ∙ ap (λ (b : List ℕ). read_state a b) whole ∙ state_back a d s))

@@ -1,19 +1,18 @@
 -- The walk over the frames of a state tells whether they fit the script.
-use Rattle.std.proofs.Common.{◌≡◌, ℕ, zero, suc, ◌+◌, ◌<◌, ◌≤◌, ◌==◌, ◌&&◌, Bool, true, false, cond, if◌then◌else◌, nat_le, nat_lt, List, [], ◌∷◌, ◌++◌, length, take, drop, reverse, get_or, Option, Some, None, refl, sym, ap, subst, ◌∙◌, arith, append_assoc, length-append, ◌⊎◌, inl, inr}
-use Rattle.std.specs.Prelude.{pos, negsuc, ⊤, slice_get}
+use Rattle.std.proofs.Common.{◌≡◌, ℕ, zero, suc, ◌+◌, ◌<◌, ◌≤◌, ◌==◌, ◌&&◌, Bool, true, false, cond, nat_le, nat_lt, List, [], ◌∷◌, ◌++◌, length, take, drop, reverse, Option, Some, None, refl, sym, ap, subst, ◌∙◌, arith, append_assoc, length-append, ◌⊎◌, inl, inr}
+use Rattle.std.specs.Prelude.{pos, negsuc, slice_get}
 use mathlib.Core.List.{reverse_aux}
 use Rattle.std.specs.List.{AllByRecursion}
 use Rattle.std.proofs.lemmas.Bool.Decides.{nat_tests}
-use Rattle.std.proofs.lemmas.List.{append-nil, take-append-drop, length-take, length-drop, get_or_append_left, reverse-reverse}
-use Rattle.std.proofs.Math.Seq.{get_or-append_seam}
-use Rattle.std.proofs.lemmas.Option.{some_pair_parts, none-some, cond_some, slice_get_past, slice_get_within, get_or_from_slice_get, slice_get-get_or}
+use Rattle.std.proofs.lemmas.List.{append-nil, take-append-drop, length-take, reverse-reverse}
+use Rattle.std.proofs.lemmas.Option.{none-some, cond_some, slice_get_past, slice_get_within}
 use Rattle.script_value.specs.Val.{Val, number, truth, text, symbol, list}
 use Rattle.script_value.specs.Pieces.{◌>>=◌}
 use Rattle.script_nodes.specs.declared.script.Node.{Node}
 use Rattle.script_nodes.specs.declared.script.Node.TheVariants as node
 use Rattle.script_nodes.specs.Arena.{Arena, parts}
 use Rattle.value_bytes.proofs.Numbers.{bind_some}
-use Rattle.machine_spec.specs.Machine.{Frame, in_binding, in_operand, in_body, in_seq, in_and, in_or, in_if, in_count, in_store, in_turn, in_isolate, in_page, in_finish, in_back, bindings_in, node_at, Suspended}
+use Rattle.machine_spec.specs.Machine.{Frame, in_binding, in_operand, in_body, in_seq, in_and, in_or, in_if, in_count, in_store, in_turn, in_isolate, in_page, in_finish, in_back, node_at, Suspended}
 use Rattle.machine_spec.specs.Fits.{node_of, place_of, IsKind, Binds, Works, IsSend, Fits}
 use Rattle.frame_codec.specs.Spelling.{FrameHasBytes}
 use Rattle.frame_codec.specs.Walk.{part_worked, numbered, scope_in, Place, enters, walk, outermost, is_send, ends_well, frames_fit}
@@ -247,17 +246,17 @@ entered : (a : Arena) (env : List Val) (gs : List Frame) (f : Frame) (p next : P
 entered a env gs f p next h r e =
     elim (chosen (p.node == node_of f) _ _ _ e) [
       | inl t ↦
-        let same : p.node ≡ node_of f = grind (arith, nat_tests, t.0) in
-        let b = bind_some (part_worked (node_at a (node_of f)) f) (λ part. scope_in f env p.scope >>= λ scope. Some (place part scope)) next t.1 in
-        let c = bind_some (scope_in f env p.scope) (λ scope. Some (place b.0 scope)) next b.2 in
-        let w = worked_fits f (node_at a (node_of f)) b.0 h b.1 in
-        let s = scope_binds f env r.inner p.scope c.0 h r.scope c.1 in
-        let outside : Works a gs (node_of f) r.inner = subst (λ (n : ℕ). Works a gs n r.inner) same r.works in
-        subst (λ q. Reached a env (f ∷ gs) q) (some_same (place b.0 c.0) next c.2) (record {
-          inner = s.inner;
-          scope = s.scope;
-          works = (w.0, (w.1, (r.inner, (s.binds, outside))));
-        })
+          let same : p.node ≡ node_of f = grind (arith, nat_tests, t.0) in
+          let b = bind_some (part_worked (node_at a (node_of f)) f) (λ part. scope_in f env p.scope >>= λ scope. Some (place part scope)) next t.1 in
+          let c = bind_some (scope_in f env p.scope) (λ scope. Some (place b.0 scope)) next b.2 in
+          let w = worked_fits f (node_at a (node_of f)) b.0 h b.1 in
+          let s = scope_binds f env r.inner p.scope c.0 h r.scope c.1 in
+          let outside : Works a gs (node_of f) r.inner = subst (λ (n : ℕ). Works a gs n r.inner) same r.works in
+          subst (λ q. Reached a env (f ∷ gs) q) (some_same (place b.0 c.0) next c.2) (record {
+            inner = s.inner;
+            scope = s.scope;
+            works = (w.0, (w.1, (r.inner, (s.binds, outside))));
+          })
       | inr t ↦ absurd (none-some next t.1)
     ]
 
@@ -356,7 +355,7 @@ from_outermost a env p r =
 pub fits_walk : (a : Arena) (d : Suspended) → AllByRecursion FrameHasBytes (reverse d.frames) → Fits a d → frames_fit a d.env (reverse d.frames) ≡ true
 fits_walk a d h fits =
     let works : Works a (reverse_aux (reverse d.frames) []) fits.node d.env =
-        subst (λ fs. Works a fs fits.node d.env) (sym (reverse-reverse d.frames)) fits.works in
+    subst (λ fs. Works a fs fits.node d.env) (sym (reverse-reverse d.frames)) fits.works in
     let q = place fits.node (length d.env) in
     let r : Reached a d.env (reverse_aux (reverse d.frames) []) q = record {
       inner = d.env;

@@ -1,5 +1,5 @@
 -- Writing and reading undo each other, so a state has one spelling.
-use Rattle.std.specs.Prelude.{◌≡◌, ℕ, List, [], ◌++◌, Some}
+use Rattle.std.specs.Prelude.{◌≡◌, ℕ, List, Some}
 use Rattle.script_nodes.specs.Arena.{Arena}
 use Rattle.value_bytes.specs.Laws.{AreBytes, HasNoPrefix}
 use Rattle.machine_spec.specs.Machine.{Suspended}
@@ -11,6 +11,10 @@ use Rattle.frame_codec.specs.Reading.{read_state}
 pub record SpellsState (a : Arena) (bytes : List ℕ) (d : Suspended) : Type 0 where
   pub whole : bytes ≡ state_bytes d
   pub stored : IsStored a d
+
+-- no state that fits the script is spelled by these bytes
+abbrev pub HasNone : Arena → List ℕ → Type 0
+HasNone a bytes = (d : Suspended) → IsStored a d → ¬ (bytes ≡ state_bytes d)
 
 -- What is written is read back; what is read is spelled so, and fits; no spelling is the front of another one.
 pub record AreStatesExact : Type 0 where

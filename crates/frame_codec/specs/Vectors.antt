@@ -1,14 +1,14 @@
 -- Worked rows.
-use Rattle.std.specs.Prelude.{◌≡◌, ℕ, List, [], ◌∷◌, ◌++◌, Some, None, pos, true, false, codes, refl}
+use Rattle.std.specs.Prelude.{◌≡◌, ℕ, List, [], ◌∷◌, ◌++◌, Some, None, true, false, codes, refl}
 use lib.Utf8.{encode}
 use Rattle.std.specs.Str.{is_utf8, chars}
-use Rattle.script_value.specs.Val.{Val, text, symbol, truth, number}
+use Rattle.script_value.specs.Val.{symbol, truth}
 use Rattle.script_value.specs.declared.value.Value.TheVariants.{Truth}
 use Rattle.script_value.specs.declared.outcome.Op.TheVariants as op
 use Rattle.script_nodes.specs.declared.script.Node.TheVariants as node
 use Rattle.script_nodes.specs.declared.script.SendKind.TheVariants.{Suspend}
 use Rattle.script_nodes.specs.Arena.{Arena}
-use Rattle.machine_spec.specs.Machine.{Frame, Suspended, in_binding, in_operand, in_turn, in_seq, in_count}
+use Rattle.machine_spec.specs.Machine.{Suspended, in_binding, in_operand, in_turn, in_seq, in_count}
 use Rattle.value_bytes.specs.Reading.{read_within}
 use Rattle.frame_codec.specs.Spelling.{state_bytes, frame_bytes}
 use Rattle.frame_codec.specs.Walk.{frames_fit, shadows_fit}

@@ -1,11 +1,11 @@
 -- Whether a state fits a script, as a walk over its frames from the outermost.
-use Rattle.std.specs.Prelude.{ℕ, ◌+◌, ◌==◌, ◌&&◌, Bool, true, false, pos, negsuc, List, [], ◌∷◌, length, reverse, slice_get, Option, Some, None, nat_le, nat_lt, if◌then◌else◌}
+use Rattle.std.specs.Prelude.{ℕ, ◌+◌, ◌==◌, ◌&&◌, Bool, true, false, pos, List, [], ◌∷◌, length, slice_get, Option, Some, None, nat_le, nat_lt, if◌then◌else◌}
 use Rattle.script_value.specs.Val.{Val, number}
 use Rattle.script_value.specs.Pieces.{◌>>=◌}
 use Rattle.script_nodes.specs.declared.script.Node.{Node}
 use Rattle.script_nodes.specs.declared.script.Node.TheVariants as node
 use Rattle.script_nodes.specs.Arena.{Arena}
-use Rattle.machine_spec.specs.Machine.{Frame, in_binding, in_operand, in_body, in_seq, in_and, in_or, in_if, in_count, in_store, in_turn, in_isolate, node_at, Suspended}
+use Rattle.machine_spec.specs.Machine.{Frame, in_binding, in_operand, in_body, in_seq, in_and, in_or, in_if, in_count, in_store, in_turn, in_isolate, node_at}
 use Rattle.machine_spec.specs.Fits.{node_of}
 
 -- the part of a node that a frame works on; none where the frame is not of the node's kind, or is the body of a page

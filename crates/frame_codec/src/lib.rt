@@ -3,16 +3,16 @@
 
 ghost use Rattle.frame_codec.specs.Laws.{AreStatesExact};
 
-
 mod fit;
-
 mod read;
 mod size;
+mod spelled;
 mod state;
 mod write;
 
-pub use state::decode;
 pub use size::length;
+pub use spelled::is_spelled;
+pub use state::decode;
 pub use write::encode;
 
 /// What is written is read back, and what is read is spelled so and fits; no spelling is the front of another one.

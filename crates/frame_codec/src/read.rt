@@ -161,11 +161,7 @@ fn read_shadows(alloc: Global, cursor: &mut Cursor<'_>) -> Result<Vec<Shadow>, U
 }
 
 /// What a state is made of, whether it fits the script or not.
-pub fn read_parts(
-    alloc: Global,
-    script: &Script,
-    cursor: &mut Cursor<'_>,
-) -> Result<Parts, Unread>
+pub fn read_parts(alloc: Global, script: &Script, cursor: &mut Cursor<'_>) -> Result<Parts, Unread>
     ensures { Reads parts_of result cursor.new (spec.read_parts script.now cursor.old) }
 {
     let env = values(alloc, cursor)?;

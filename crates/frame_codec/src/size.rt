@@ -17,7 +17,9 @@ const MOST: u64 = 1 << 63;
 fn with_done(front: u64, done: &Items) -> u64
     ensures { result ≡ min (front + length (values_bytes done.now)) (2 ^ 63) }
 {
-    values_length(done.as_slice()).saturating_add(front).min(MOST)
+    values_length(done.as_slice())
+        .saturating_add(front)
+        .min(MOST)
 }
 
 fn frame_length(frame: &Frame) -> u64

@@ -1,7 +1,8 @@
-ghost use Rattle.std.specs.Prelude.{◌≡◌, [], Some, option_map, IfOk, map};
+ghost use Rattle.std.specs.Prelude.{◌≡◌, [], Some, option_map, IfOk, IfSome, IsNone, map};
 ghost use Rattle.web_cells.specs.Shadows.{all_bound};
 ghost use Rattle.web_cells.specs.Views.{pair_of};
 ghost use Rattle.stored_states.specs.Views.{suspended_of};
+ghost use Rattle.frame_codec.specs.Laws.{SpellsState, HasNone};
 ghost use Rattle.frame_codec.specs.Reading as spec;
 ghost use Rattle.frame_codec.specs.Views.{parts_of};
 
@@ -46,8 +47,8 @@ fn fitting(alloc: Global, script: &Script, parts: Parts) -> Result<Option<Suspen
     }
 }
 
-/// The state that these bytes spell, and that fits the script; none where no such state has them.
-pub fn decode(alloc: Global, script: &Script, bytes: &[u8]) -> Result<Option<Suspended>, AllocError>
+// The state that these bytes spell, and that fits the script.
+fn read_state(alloc: Global, script: &Script, bytes: &[u8]) -> Result<Option<Suspended>, AllocError>
     ensures { IfOk result (λ found. option_map suspended_of found ≡ spec.read_state script.now bytes.now) }
 {
     let mut cursor = Cursor::over(bytes);
@@ -61,5 +62,19 @@ pub fn decode(alloc: Global, script: &Script, bytes: &[u8]) -> Result<Option<Sus
         }
         Err(Unread::Misspelled) => Ok(None),
         Err(Unread::Memory) => Err(AllocError),
+    }
+}
+
+/// The state that these bytes spell, and that fits the script; none where no such state has them.
+///
+/// What it takes of memory is never more than the bytes that are there ask for: no count in them is trusted.
+pub fn decode(alloc: Global, script: &Script, bytes: &[u8]) -> Result<Option<Suspended>, AllocError>
+    ensures read { IfOk result (λ found. option_map suspended_of found ≡ spec.read_state script.now bytes.now) }
+    ensures spelled { IfOk result (λ found. IfSome found (λ d. SpellsState script.now bytes.now (suspended_of d))) }
+    ensures none { IfOk result (λ found. IsNone found → HasNone script.now bytes.now) }
+{
+    match read_state(alloc, script, bytes)? {
+        Some(state) => Ok(Some(state)),
+        None => Ok(None),
     }
 }

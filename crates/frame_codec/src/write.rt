@@ -33,12 +33,7 @@ fn write_part(writer: &mut Writer, kind: u8, node: u32, part: usize) -> Result<(
 }
 
 // A part of a Let, behind the values of the bindings that are done.
-fn write_let(
-    writer: &mut Writer,
-    node: u32,
-    part: usize,
-    done: &[Value],
-) -> Result<(), AllocError>
+fn write_let(writer: &mut Writer, node: u32, part: usize, done: &[Value]) -> Result<(), AllocError>
     requires part { part < 2 ^ 32 }
     requires done { HaveBytes (map meaning done.now) }
     ensures { OnOk result (writer.new ≡ writer.old ++ 1 ∷ let_bytes node part (map meaning done.now)) }
@@ -62,12 +57,7 @@ fn write_operand(writer: &mut Writer, node: u32, done: &Items) -> Result<(), All
     write_values(writer, done.as_slice())
 }
 
-fn write_turn(
-    writer: &mut Writer,
-    node: u32,
-    turns: u64,
-    done: &Items,
-) -> Result<(), AllocError>
+fn write_turn(writer: &mut Writer, node: u32, turns: u64, done: &Items) -> Result<(), AllocError>
     requires { HaveBytes done.now }
     ensures { OnOk result (writer.new ≡ writer.old ++ frame_bytes (in_turn node turns done.now)) }
 {

@@ -7,5 +7,5 @@ use Rattle.frame_codec.proofs.read.read_shadows.Goals as goal
 pub loop-turn-preserved : goal.loop-turn-preserved
 loop-turn-preserved c =
     one_kept pair_of read_shadow c.in_ok-count.count c.loop-turn.turn c.loop-turn.shadows.items c.push.new.self.items c.in_ok-shadow.shadow
-        c.loop-turn.cursor c.read_shadow.new.cursor c.in_ok-push.ensures.items c.loop-turn-test.true c.in_ok-shadow.ensures
+    c.loop-turn.cursor c.read_shadow.new.cursor c.in_ok-push.ensures.items c.loop-turn-test.true c.in_ok-shadow.ensures
     ∙ c.loop-turn.invariant
