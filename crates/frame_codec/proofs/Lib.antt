@@ -1,0 +1,10 @@
+pub mod Frames
+pub mod Walks
+pub mod Cells
+pub mod States
+pub mod Nodes
+pub mod Lets
+pub mod Shades
+pub mod Lengths
+pub mod Written
+pub mod Turns

@@ -1,0 +1,88 @@
+-- Worked rows.
+use Rattle.std.specs.Prelude.{◌≡◌, ℕ, List, [], ◌∷◌, ◌++◌, Some, None, true, false, codes, refl}
+use lib.Utf8.{encode}
+use Rattle.std.specs.Str.{is_utf8, chars}
+use Rattle.script_value.specs.Val.{symbol, truth}
+use Rattle.script_value.specs.declared.value.Value.TheVariants.{Truth}
+use Rattle.script_value.specs.declared.outcome.Op.TheVariants as op
+use Rattle.script_nodes.specs.declared.script.Node.TheVariants as node
+use Rattle.script_nodes.specs.declared.script.SendKind.TheVariants.{Suspend}
+use Rattle.script_nodes.specs.Arena.{Arena}
+use Rattle.machine_spec.specs.Machine.{Suspended, in_binding, in_operand, in_turn, in_seq, in_count}
+use Rattle.value_bytes.specs.Reading.{read_within}
+use Rattle.frame_codec.specs.Spelling.{state_bytes, frame_bytes}
+use Rattle.frame_codec.specs.Walk.{frames_fit, shadows_fit}
+use Rattle.frame_codec.specs.Reading.{read_frame, read_state}
+
+-- a script that binds what stands in the query that a page is answered with, under the name n
+abbrev pub asks : Arena
+asks = record {
+  nodes = node.Let (1 ∷ []) 6 ∷ node.Prim op.IsNull (2 ∷ []) ∷ node.Prim op.List (3 ∷ 4 ∷ []) ∷ node.Lit (Truth true)
+      ∷ node.Send Suspend 5 ∷ node.Lit (Truth true) ∷ node.Var 0 ∷ [];
+  web = truth false ∷ truth false ∷ [];
+  cells = [];
+}
+
+-- its first page
+abbrev pub first_page : Suspended
+first_page = record {
+  env = [];
+  frames = in_operand 2 (symbol (codes "n") ∷ []) ∷ in_operand 1 [] ∷ in_binding 0 [] ∷ [];
+  shadows = [];
+}
+
+abbrev first_page_bytes : List ℕ
+first_page_bytes =
+    0 ∷ 0 ∷ 0 ∷ 0 ∷ 3 ∷ 0 ∷ 0 ∷ 0 ∷ 1 ∷ 0 ∷ 0 ∷ 0 ∷ 0 ∷ 0 ∷ 0 ∷ 0 ∷ 0 ∷ 0 ∷ 0 ∷ 0 ∷ 0
+    ∷ 6 ∷ 1 ∷ 0 ∷ 0 ∷ 0 ∷ 0 ∷ 0 ∷ 0 ∷ 0 ∷ 6 ∷ 2 ∷ 0 ∷ 0 ∷ 0 ∷ 1 ∷ 0 ∷ 0 ∷ 0 ∷ 4 ∷ 1 ∷ 0 ∷ 0 ∷ 0 ∷ 110 ∷ 0 ∷ 0 ∷ 0 ∷ 0 ∷ []
+
+forty_nine_bytes : state_bytes first_page ≡ first_page_bytes
+forty_nine_bytes = refl
+
+they_are_read : read_state asks first_page_bytes ≡ Some first_page
+unfolding read_within is_utf8 chars encode
+they_are_read = refl
+
+-- nothing stands behind a state
+one_byte_more : read_state asks (first_page_bytes ++ 0 ∷ []) ≡ None
+unfolding read_within is_utf8 chars encode
+one_byte_more = refl
+
+a_turn : frame_bytes (in_turn 3 2 (truth true ∷ []))
+    ≡ 7 ∷ 3 ∷ 0 ∷ 0 ∷ 0 ∷ 1 ∷ 2 ∷ 0 ∷ 0 ∷ 0 ∷ 0 ∷ 0 ∷ 0 ∷ 0 ∷ 1 ∷ 0 ∷ 0 ∷ 0 ∷ 2 ∷ []
+a_turn = refl
+
+a_turn_is_read : read_frame asks (frame_bytes (in_turn 3 2 (truth true ∷ [])) ++ 9 ∷ []) ≡ Some (in_turn 3 2 (truth true ∷ []), 9 ∷ [])
+unfolding read_within
+a_turn_is_read = refl
+
+a_count : read_frame asks (7 ∷ 3 ∷ 0 ∷ 0 ∷ 0 ∷ 0 ∷ []) ≡ Some (in_count 3, [])
+a_count = refl
+
+-- a part of a Let that is neither its body nor behind as many values
+a_part_that_is_none : read_frame asks (1 ∷ 0 ∷ 0 ∷ 0 ∷ 0 ∷ 2 ∷ 0 ∷ 0 ∷ 0 ∷ 0 ∷ 0 ∷ 0 ∷ 0 ∷ []) ≡ None
+unfolding read_within
+a_part_that_is_none = refl
+
+-- the frames of the first page end at a node that sends a page; without the last they do not
+whole_way : frames_fit asks [] (in_binding 0 [] ∷ in_operand 1 [] ∷ in_operand 2 (truth true ∷ []) ∷ []) ≡ true
+whole_way = refl
+
+short_way : frames_fit asks [] (in_binding 0 [] ∷ in_operand 1 [] ∷ []) ≡ false
+short_way = refl
+
+another_kind : frames_fit asks [] (in_seq 0 0 ∷ in_operand 1 [] ∷ in_operand 2 (truth true ∷ []) ∷ []) ≡ false
+another_kind = refl
+
+-- the cells rise, each once, and are web cells of the script
+rising : shadows_fit 0 2 ((0, truth true) ∷ (1, truth true) ∷ []) ≡ true
+rising = refl
+
+twice : shadows_fit 0 2 ((1, truth true) ∷ (1, truth true) ∷ []) ≡ false
+twice = refl
+
+falling : shadows_fit 0 2 ((1, truth true) ∷ (0, truth true) ∷ []) ≡ false
+falling = refl
+
+no_cell : shadows_fit 0 2 ((2, truth true) ∷ []) ≡ false
+no_cell = refl

@@ -1,0 +1,79 @@
+-- Whether a state fits a script, as a walk over its frames from the outermost.
+use Rattle.std.specs.Prelude.{ℕ, ◌+◌, ◌==◌, ◌&&◌, Bool, true, false, pos, List, [], ◌∷◌, length, slice_get, Option, Some, None, nat_le, nat_lt, if◌then◌else◌}
+use Rattle.script_value.specs.Val.{Val, number}
+use Rattle.script_value.specs.Pieces.{◌>>=◌}
+use Rattle.script_nodes.specs.declared.script.Node.{Node}
+use Rattle.script_nodes.specs.declared.script.Node.TheVariants as node
+use Rattle.script_nodes.specs.Arena.{Arena}
+use Rattle.machine_spec.specs.Machine.{Frame, in_binding, in_operand, in_body, in_seq, in_and, in_or, in_if, in_count, in_store, in_turn, in_isolate, node_at}
+use Rattle.machine_spec.specs.Fits.{node_of}
+
+-- the part of a node that a frame works on; none where the frame is not of the node's kind, or is the body of a page
+abbrev pub part_worked : Node → Frame → Option ℕ
+part_worked (node.Let bindings body) (in_binding n done) = slice_get bindings (length done)
+part_worked (node.Let bindings body) (in_body n bound) = if bound == length bindings then Some body else None
+part_worked (node.Seq ps) (in_seq n k) = slice_get ps k
+part_worked (node.If test a b) (in_if n k) = slice_get (test ∷ a ∷ b ∷ []) k
+part_worked (node.And ps) (in_and n k) = slice_get ps k
+part_worked (node.Or ps) (in_or n k) = slice_get ps k
+part_worked (node.Prim o ps) (in_operand n done) = slice_get ps (length done)
+part_worked (node.For count body) (in_count n) = Some count
+part_worked (node.For count body) (in_turn n turns done) = if nat_lt (length done) turns then Some body else None
+part_worked (node.CellShadow c e) (in_store n) = Some e
+part_worked (node.InstSet c e) (in_store n) = Some e
+part_worked (node.InstAdd c e) (in_store n) = Some e
+part_worked (node.Isolate body) (in_isolate n name) = Some body
+part_worked _ _ = None
+
+-- one more variable, where it is this number
+abbrev pub numbered : (turn scope : ℕ) → Option Val → Option ℕ
+numbered turn k (Some (number (pos m))) = if m == turn then Some (k + 1) else None
+numbered turn k _ = None
+
+-- how many variables there are in a frame's part, where there are so many outside; none where they are not those of the frame
+abbrev pub scope_in : Frame → List Val → ℕ → Option ℕ
+scope_in (in_body n bound) env k = if nat_le (k + bound) (length env) then Some (k + bound) else None
+scope_in (in_turn n turns done) env k = numbered (length done) k (slice_get env k)
+scope_in _ env k = Some k
+
+-- a node that has to be worked on, and how many variables are in scope there
+pub record Place : Type 0 where
+  pub node : ℕ
+  pub scope : ℕ
+
+-- the node and the scope that are left to what stands in a frame
+abbrev pub enters : Arena → List Val → Place → Frame → Option Place
+enters a env p f =
+    if p.node == node_of f then (do
+      part ← part_worked (node_at a (node_of f)) f
+      scope ← scope_in f env p.scope
+      Some (record { node = part; scope = scope })
+    ) else None
+
+-- the node and the scope behind frames, the outermost first
+abbrev pub walk : Arena → List Val → Place → List Frame → Option Place
+walk a env p [] = Some p
+walk a env p (f ∷ fs) = do
+  next ← enters a env p f
+  walk a env next fs
+
+abbrev pub outermost : Place
+outermost = record { node = 0; scope = 0 }
+
+abbrev pub is_send : Node → Bool
+is_send (node.Send kind body) = true
+is_send _ = false
+
+-- the walk ends at a node that sends a page, with all variables
+abbrev pub ends_well : Arena → List Val → Option Place → Bool
+ends_well a env None = false
+ends_well a env (Some p) = p.scope == length env && is_send (node_at a p.node)
+
+-- the frames work on a node that sends a page
+abbrev pub frames_fit : Arena → List Val → (outermost_first : List Frame) → Bool
+frames_fit a env fs = ends_well a env (walk a env outermost fs)
+
+-- the cells are among so many and rise from this one on
+abbrev pub shadows_fit : (least cells : ℕ) → List (ℕ × Val) → Bool
+shadows_fit least cells [] = true
+shadows_fit least cells (s ∷ ss) = nat_le least s.0 && (nat_lt s.0 cells && shadows_fit (s.0 + 1) cells ss)

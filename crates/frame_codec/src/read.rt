@@ -1,0 +1,175 @@
+ghost use Rattle.std.specs.Prelude.{◌≡◌, option_map, map};
+ghost use Rattle.web_cells.specs.Views.{pair_of};
+ghost use Rattle.value_bytes.specs.Reading.{read_list};
+ghost use Rattle.value_bytes.specs.Views.{Reads};
+ghost use Rattle.stored_states.specs.Views.{frame_of};
+ghost use Rattle.frame_codec.specs.Reading as spec;
+ghost use Rattle.frame_codec.specs.Views.{parts_of};
+
+use crate::fit::bindings_of;
+use script_nodes::Script;
+use script_value::{Items, TxName};
+use std::alloc::Global;
+use stored_states::Frame;
+use value_bytes::fields::{byte, number_32, number_64};
+use value_bytes::{Unread, value, values};
+use web_cells::Shadow;
+use wire_bytes::Cursor;
+
+/// The variables of a state, its frames, the outermost first, and its bindings of web cells, the first first.
+#[derive(Drop)]
+pub struct Parts {
+    pub env: Items,
+    pub frames: Vec<Frame>,
+    pub shadows: Vec<Shadow>,
+}
+
+// The frame of a Let of so many bindings.
+#[tactic(auto, using(crate::proofs::Lets::a_body, crate::proofs::Lets::no_body))]
+fn let_frame(bindings: usize, node: u32, part: u32, done: Items) -> Option<Frame>
+    ensures { option_map frame_of result ≡ spec.let_frame bindings node part done }
+{
+    if part as usize == bindings {
+        if done.is_empty() {
+            Some(Frame::Body {
+                node,
+                bound: part as usize,
+            })
+        } else {
+            None
+        }
+    } else if part as usize == done.len() {
+        Some(Frame::Binding { node, done })
+    } else {
+        None
+    }
+}
+
+fn read_let(alloc: Global, script: &Script, cursor: &mut Cursor<'_>) -> Result<Frame, Unread>
+    ensures { Reads frame_of result cursor.new (spec.read_let script.now cursor.old) }
+{
+    let node = number_32(cursor)?;
+    let part = number_32(cursor)?;
+    let done = values(alloc, cursor)?;
+    match let_frame(bindings_of(script, node), node, part, done) {
+        Some(frame) => Ok(frame),
+        None => Err(Unread::Misspelled),
+    }
+}
+
+// A For's turn or its count.
+fn read_for(alloc: Global, cursor: &mut Cursor<'_>) -> Result<Frame, Unread>
+    ensures { Reads frame_of result cursor.new (spec.read_for cursor.old) }
+{
+    let node = number_32(cursor)?;
+    match byte(cursor)? {
+        0 => Ok(Frame::Count { node }),
+        1 => {
+            let turns = number_64(cursor)?;
+            let done = values(alloc, cursor)?;
+            Ok(Frame::Turn { node, turns, done })
+        }
+        _ => Err(Unread::Misspelled),
+    }
+}
+
+fn read_isolate(cursor: &mut Cursor<'_>) -> Result<Frame, Unread>
+    ensures { Reads frame_of result cursor.new (spec.read_isolate cursor.old) }
+{
+    let node = number_32(cursor)?;
+    let ticket = number_64(cursor)?;
+    let entry = number_32(cursor)?;
+    Ok(Frame::Isolate {
+        node,
+        name: TxName { ticket, entry },
+    })
+}
+
+// A frame. Its node is not looked for, unless it is a Let.
+fn read_frame(alloc: Global, script: &Script, cursor: &mut Cursor<'_>) -> Result<Frame, Unread>
+    ensures { Reads frame_of result cursor.new (spec.read_frame script.now cursor.old) }
+{
+    match byte(cursor)? {
+        1 => read_let(alloc, script, cursor),
+        2 => Ok(Frame::Seq {
+            node: number_32(cursor)?,
+            part: number_32(cursor)? as usize,
+        }),
+        3 => Ok(Frame::If {
+            node: number_32(cursor)?,
+            part: byte(cursor)? as usize,
+        }),
+        4 => Ok(Frame::And {
+            node: number_32(cursor)?,
+            part: number_32(cursor)? as usize,
+        }),
+        5 => Ok(Frame::Or {
+            node: number_32(cursor)?,
+            part: number_32(cursor)? as usize,
+        }),
+        6 => Ok(Frame::Operand {
+            node: number_32(cursor)?,
+            done: values(alloc, cursor)?,
+        }),
+        7 => read_for(alloc, cursor),
+        8 => Ok(Frame::Store {
+            node: number_32(cursor)?,
+        }),
+        9 => read_isolate(cursor),
+        _ => Err(Unread::Misspelled),
+    }
+}
+
+// A list of frames. They are kept one by one, so that no count is trusted.
+#[tactic(auto, using(value_bytes::proofs::Turns::one_more, value_bytes::proofs::Turns::no_more, value_bytes::proofs::Turns::at_end))]
+fn read_frames(
+    alloc: Global,
+    script: &Script,
+    cursor: &mut Cursor<'_>,
+) -> Result<Vec<Frame>, Unread>
+    ensures { Reads (λ fs. map frame_of fs.items) result cursor.new (read_list (spec.read_frame script.now) cursor.old) }
+{
+    let count = number_32(cursor)?;
+    let mut frames = Vec::new(alloc);
+    for turn in 0..count {
+        let frame = read_frame(alloc, script, cursor)?;
+        frames.push(frame)?;
+    }
+    Ok(frames)
+}
+
+fn read_shadow(alloc: Global, cursor: &mut Cursor<'_>) -> Result<Shadow, Unread>
+    ensures { Reads pair_of result cursor.new (spec.read_shadow cursor.old) }
+{
+    let cell = byte(cursor)?;
+    let value = value(alloc, cursor)?;
+    Ok(Shadow { cell, value })
+}
+
+// A list of bindings. They are kept one by one, so that no count is trusted.
+#[tactic(auto, using(value_bytes::proofs::Turns::one_more, value_bytes::proofs::Turns::no_more, value_bytes::proofs::Turns::at_end))]
+fn read_shadows(alloc: Global, cursor: &mut Cursor<'_>) -> Result<Vec<Shadow>, Unread>
+    ensures { Reads (λ ss. map pair_of ss.items) result cursor.new (read_list spec.read_shadow cursor.old) }
+{
+    let count = number_32(cursor)?;
+    let mut shadows = Vec::new(alloc);
+    for turn in 0..count {
+        let shadow = read_shadow(alloc, cursor)?;
+        shadows.push(shadow)?;
+    }
+    Ok(shadows)
+}
+
+/// What a state is made of, whether it fits the script or not.
+pub fn read_parts(alloc: Global, script: &Script, cursor: &mut Cursor<'_>) -> Result<Parts, Unread>
+    ensures { Reads parts_of result cursor.new (spec.read_parts script.now cursor.old) }
+{
+    let env = values(alloc, cursor)?;
+    let frames = read_frames(alloc, script, cursor)?;
+    let shadows = read_shadows(alloc, cursor)?;
+    Ok(Parts {
+        env,
+        frames,
+        shadows,
+    })
+}
