@@ -137,8 +137,8 @@ TheClockNeverFalls =
     × ((caller tick freed : ℕ) → Contains front (record { caller = caller; event = sweep tick; reply = swept freed })
     → tick ≤ (book_behind source s (front ++ more)).clock)
 
--- After an entry that left a transaction none leaves it, of whichever caller. Each on a page that is inside it, or was in any
--- book before, is refused without effect.
+-- After an entry that left a transaction none leaves it, of whichever caller. Each on a page that is inside it, or was in
+-- the book behind any front of the history, is refused without effect.
 abbrev pub ClosedIsClosed : Type 0
 ClosedIsClosed =
     (source : ℕ → ℕ) (opened now : ℕ) (s : Shelf) (before between : List Entry) (leaving next : Entry) (name : TxName)

@@ -72,7 +72,7 @@ pub fn closed_is_closed()
     ensures { ClosedIsClosed }
 {}
 
-/// A turn goes on by one entry of its caller, behind what the pass had seen and what others did since.
+/// A turn goes on by one entry of its caller or by none, behind what the pass had seen and what others did since.
 pub fn a_turn_goes()
     ensures { ATurnGoes }
 {}
