@@ -9,12 +9,13 @@ use Rattle.replay_spec.specs.Invariant.{IsOrderly, IsSound}
 use Rattle.replay_spec.specs.Laws.{IsLawful, Moment, Leads}
 use Rattle.replay_spec.proofs.Orderly as orderly
 use Rattle.replay_spec.proofs.Steps as sound_books
+use Rattle.replay_spec.proofs.Steps.{leads_on}
 use Rattle.shelf_history.specs.Histories.{Entry, fate_by, shelf_behind, book_behind, MayCome, IsCounted, IsLegal, IsOpened}
 use Rattle.shelf_history.specs.Laws.{tickets_taken, ACrashOpens}
 use Rattle.shelf_history.specs.Kept.{IsKept, IsEvent, crashed, WhatIsLeftOpens, KeptGoesOn, WhatIsKeptIsSound}
 use Rattle.shelf_history.proofs.Going.{push, front, is_step, legal_later}
 use Rattle.shelf_history.proofs.Numbers.{well, lawful_next}
-use Rattle.shelf_history.proofs.Behind.{sound}
+use Rattle.shelf_history.proofs.Behind.{leads, sound}
 use Rattle.shelf_history.proofs.Nonces.{in_turn}
 use Rattle.shelf_history.proofs.Passing.{prefix_of}
 
@@ -64,12 +65,13 @@ pub crash_opens : ACrashOpens
 crash_opens source opened now s es rules nonce scripts fate opening legal =
     let b : Book = book_behind source s es in
     let c : Book = (step rules b nonce (crash scripts) fate).1 in
-    let leads = crash_leads rules b nonce scripts fate in (
+    let on = crash_leads rules b nonce scripts fate in (
       record {
-        orderly = (orderly.led b c (well source opened now s es opening legal).orderly leads).orderly;
+        orderly = (orderly.led b c (well source opened now s es opening legal).orderly on).orderly;
         idle = crash_idle rules b nonce scripts fate;
       },
-      λ (good : IsSound s.book). (sound_books.led b c (sound source opened now s es opening good legal) leads).sound,
+      leads_on s.book b c (leads source opened now s [] es opening legal) on,
+      λ (good : IsSound s.book). (sound_books.led b c (sound source opened now s es opening good legal) on).sound,
     )
 
 crash_left : (rules : Rules) (b c : Book) (fate : Fate) → c ≡ crashed rules fate b → (step rules b 0 (crash (recovered rules fate b.down b).scripts) fate).1 ≡ c
@@ -77,12 +79,12 @@ unfolding step
 crash_left rules b c fate is = sym is
 
 crash_is : (source : ℕ → ℕ) (opened now : ℕ) (start : Shelf) (es : List Entry) (c : Book) (fate : Fate) → IsOpened start.book → IsLegal source opened now start es
-    → c ≡ crashed start.rules fate (book_behind source start es) → IsOpened c × (IsSound start.book → IsSound c)
+    → c ≡ crashed start.rules fate (book_behind source start es) → IsOpened c × Leads start.book c × (IsSound start.book → IsSound c)
 crash_is source opened now start es c fate opening legal is =
     let b = book_behind source start es in
     let same = crash_left start.rules b c fate is in
     let all = crash_opens source opened now start es start.rules 0 (recovered start.rules fate b.down b).scripts fate opening legal in
-    (subst IsOpened same all.0, λ good. subst IsSound same (all.1 good))
+    (subst IsOpened same all.0, subst (λ (d : Book). Leads start.book d) same all.1, λ good. subst IsSound same (all.2 good))
 
 pub left_opens : WhatIsLeftOpens
 left_opens source start es c left = (
