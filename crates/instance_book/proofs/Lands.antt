@@ -1,5 +1,5 @@
 -- What a prepared visit makes of a book is what the definitions make of it.
-use Rattle.std.proofs.Common.{◌≡◌, ◌∙◌, ap, sym, subst, ℕ, zero, suc, ◌+◌, ◌<◌, max, nat_le, List, [], ◌∷◌, length, slice_get, Option, Some, None, Result, Ok, Err, IfOk, IfErr, OnOk, refl, arith, true, false}
+use Rattle.std.proofs.Common.{◌≡◌, ◌∙◌, ap, sym, subst, ℕ, zero, suc, ◌+◌, ◌<◌, max, nat_le, List, [], ◌∷◌, length, slice_get, Option, Some, None, Result, Ok, Err, IfOk, IfErr, OnOk, refl, arith, true, false, inr}
 use Rattle.std.proofs.lemmas.Bool.Decides.{nat_tests}
 use Rattle.std.proofs.lemmas.Option.{get_or_from_slice_get}
 use Rattle.script_value.specs.declared.outcome.Reply.{Reply}
@@ -26,16 +26,19 @@ use Rattle.instance_book.specs.declared.ticket.Ticket.{Ticket}
 use Rattle.std.specs.declared.alloc.AllocError.{AllocError}
 use Rattle.instance_book.specs.declared.book.Book as RustBook
 use Rattle.instance_book.specs.Views.{script_in, no_script, ticket_of, reply_of, HasRoomAt}
-use Rattle.instance_book.specs.Changes.{instances_after, put_into, decision_by, decision_of, ended_with, shown_with, HasRoomFor, IsPlacedBy}
+use Rattle.instance_book.specs.Changes.{instances_after, put_into, decision_by, decision_of, ended_with, shown_with, HasRoomFor}
 use Rattle.instance_book.specs.Fits.{IsFor, FitsStart}
-use Rattle.instance_book.specs.Prepares.{rules_with, IsRecord, IsCarriedOut, Prepares, first_page, first_instance, next_page, opening_by, extension_by, ending_by, finish_by, OpensWith, ExtendsBy, EndsBy, IsOpening, IsExtension, IsEnding, IsFinish}
+use Rattle.instance_book.specs.Prepares.{rules_with, IsRecord, IsCarriedOut, Prepares, first_page, first_instance, next_page, opening_by, extension_by, ending_by, finish_by, OpensWith, ExtendsBy, EndsBy, IsOpening, IsExtension, IsEnding, IsFinish, ExtendsTo, ShowsNone, AnswerKeepsState}
+use Rattle.machine_spec.specs.Machine.{Suspended}
+use Rattle.stored_states.specs.Views.{segment_of, state_of}
+use Rattle.stored_states.specs.declared.segment.Segment as stored
 
 -- two changes of the instance that is there which agree on it
 mend_agrees : (n : ℕ) (f g : Instance → Instance) (is : List Instance) (i : Instance) → instance_at n is ≡ Some i → f i ≡ g i → mend n f is ≡ mend n g is
 mend_agrees n f g [] i h e = refl
 mend_agrees n f g (j ∷ js) i h e = grind (arith, nat_tests, h, e, mend_agrees n f g js i)
 
--- what a decision is answered with, and whether it opens an instance of a script of the setup
+-- what a decision is answered with
 abbrev reply_in : Decision → step.Reply
 reply_in (replies r) = r
 reply_in (records r c inside) = r
@@ -43,22 +46,6 @@ reply_in (records r c inside) = r
 reply_is : (r : step.Reply) (c : Option Change) → reply_in (decision_by r c) ≡ r
 reply_is r None = refl
 reply_is r (Some c) = refl
-
-abbrev PlacedIn : List Named → Decision → Type 0
-PlacedIn scripts (records r (spec.opens o) inside) = o.script < length scripts
-PlacedIn scripts _ = Unit {0}
-
-placed_by : (scripts : List Named) (r : step.Reply) (c : Option Change) (d : Decision) → decision_by r c ≡ d → PlacedIn scripts d → IsPlacedBy scripts c
-placed_by scripts r None d e h = tt
-placed_by scripts r (Some (Opens o)) d e h = subst (PlacedIn scripts) (sym e) h
-placed_by scripts r (Some (Extends x)) d e h = tt
-placed_by scripts r (Some (Ends x)) d e h = tt
-placed_by scripts r (Some (Finishes x)) d e h = tt
-
-below_length : {A : Type 0} (xs : List A) (k : ℕ) (x : A) → slice_get xs k ≡ Some x → k < length xs
-below_length [] k x h = absurd (cc)
-below_length (y ∷ ys) zero x h = omega arith
-below_length (y ∷ ys) (suc k) x h = omega (arith, below_length ys k x h)
 
 -- what a change makes of the instances
 opens_as : (scripts : List Named) (c : Option Change) (f : List Named → Instance) (is : List Instance) → OpensWith c f → instances_after scripts c is ≡ put_instance (f scripts) is
@@ -115,21 +102,20 @@ module _ (scripts : List Named) (fuel life instances pages : ℕ) (b : Book) (t 
   -- what is prepared makes of the book what the decision makes of it
   carried : (p : Prepared) (d : Decision) (is : List Instance → List Instance) → decision_of p ≡ d → p.logged ≡ t.number + 1
       → ((n : ℕ) → carried_out rules (spend n b) d ≡ (reply_in d, logged_with (t.number + 1) (is b.instances) (spend n b)))
-      → instances_after scripts p.change b.instances ≡ is b.instances → PlacedIn scripts d → IsCarriedOut scripts rules b d p
-  carried p d is decision logged landed made placed = record {
+      → instances_after scripts p.change b.instances ≡ is b.instances → IsCarriedOut scripts rules b d p
+  carried p d is decision logged landed made = record {
     decision = decision;
     lands = λ n.
         let reply : reply_in d ≡ reply_of p.reply = ap reply_in (sym decision) ∙ reply_is (reply_of p.reply) p.change in
         let book : logged_with (t.number + 1) (is b.instances) (spend n b) ≡ put_into scripts p (spend n b) = same_books (t.number + 1) p.logged (is b.instances) (instances_after scripts p.change b.instances) (spend n b) (sym logged) (sym made) in
         landed n ∙ (ap (λ (r : step.Reply). (r, logged_with (t.number + 1) (is b.instances) (spend n b))) reply ∙ ap (λ (c : Book). (reply_of p.reply, c)) book);
-    placed = placed_by scripts (reply_of p.reply) p.change d decision placed;
   }
 
   -- what changes nothing
   pub stays : (p : Prepared) (r : Reply) → p.reply ≡ r → p.logged ≡ 0 → p.change ≡ None → Prepares scripts rules b (replies (reply_of r)) (Ok p)
   stays p r e l c =
       let logged : max b.logged 0 ≡ b.logged = grind arith in
-      record { decision = rw (e, c) refl; lands = λ n. rw (e, l, c, logged) refl; placed = rw c tt }
+      record { decision = rw (e, c) refl; lands = λ n. rw (e, l, c, logged) refl }
 
   start_shows : (k : ℕ) (named : Named) (s : Segment) (kind : SendKind) (bytes : List ℕ) → s.outcome ≡ paged (shows kind) bytes → nat_le instances (length b.instances) ≡ false
       → let v = start_visit b (ticket_of t) k named in
@@ -161,7 +147,7 @@ module _ (scripts : List Named) (fuel life instances pages : ℕ) (b : Book) (t 
       opens_as scripts p.change _ b.instances o.change ∙ ap (λ (i : Instance). put_instance i b.instances) (first_is scripts t named s.effects s.entered s.left kind deadline its fits.cells) in
       subst (λ (x : Decision). Prepares scripts rules b x (Ok p)) (sym (start_shows k named s kind bytes e full))
       (carried p d (put_instance begins) (o.recorded.decision ∙ same) o.recorded.logged
-      (λ n. ap (λ (is : List Instance). (step.shown bytes (url_for v), logged_with (t.number + 1) is (spend n b))) opened) made (below_length scripts k named there))
+      (λ n. ap (λ (is : List Instance). (step.shown bytes (url_for v), logged_with (t.number + 1) is (spend n b))) opened) made)
 
   page_shows : (at : Place) (s : Segment) (kind : SendKind) (bytes : List ℕ) → s.outcome ≡ paged (shows kind) bytes → nat_le pages (length at.instance.pages) ≡ false
       → let v = page_visit b (ticket_of t) at in
@@ -208,7 +194,7 @@ module _ (scripts : List Named) (fuel life instances pages : ℕ) (b : Book) (t 
       let f : Instance → Instance = shown_by s.effects s.left kind (next_page t at.page.number s.effects s.entered (b.clock + life)) in
       let same : records (step.shown bytes t.url) change s.entered ≡ d = ap (λ (u : List ℕ). records (step.shown bytes u) change s.entered) fits.url in
       subst (λ (y : Decision). Prepares scripts rules b y (Ok p)) (sym (page_shows at s kind bytes e full))
-      (carried p d (mend at.instance.number f) (x.recorded.decision ∙ same) x.recorded.logged (λ n. refl) (extends_as scripts p.change at.instance f b.instances found x.change) tt)
+      (carried p d (mend at.instance.number f) (x.recorded.decision ∙ same) x.recorded.logged (λ n. refl) (extends_as scripts p.change at.instance f b.instances found x.change))
 
   pub ending_lands : (at : Place) (s : Segment) (bytes : List ℕ) (p : Prepared) → instance_at at.instance.number b.instances ≡ Some at.instance
       → s.outcome ≡ paged ends bytes → IsEnding p t at.instance at.page.number bytes s.effects s.entered s.left (done s.effects s.left)
@@ -216,7 +202,7 @@ module _ (scripts : List Named) (fuel life instances pages : ℕ) (b : Book) (t 
   ending_lands at s bytes p found e x =
       let d : Decision = records (step.ended bytes) (spec.ends (ending_by t at.instance.number at.page.number s.effects s.left)) s.entered in
       subst (λ (y : Decision). Prepares scripts rules b y (Ok p)) (sym (page_ends at s bytes e))
-      (carried p d (mend at.instance.number (done s.effects s.left)) x.recorded.decision x.recorded.logged (λ n. refl) (ends_as scripts p.change at.instance (done s.effects s.left) b.instances found x.change) tt)
+      (carried p d (mend at.instance.number (done s.effects s.left)) x.recorded.decision x.recorded.logged (λ n. refl) (ends_as scripts p.change at.instance (done s.effects s.left) b.instances found x.change))
 
   pub finish_lands : (at : Place) (s : Segment) (bytes : List ℕ) (p : Prepared) → s.outcome ≡ paged finishes bytes
       → IsFinish p t at.instance.number at.page.number bytes s.effects s.entered
@@ -225,7 +211,7 @@ module _ (scripts : List Named) (fuel life instances pages : ℕ) (b : Book) (t 
       let d : Decision = records (step.finished bytes) (spec.finishes (finish_by t at.instance.number at.page.number s.effects)) s.entered in
       let made : FreesAs scripts p.change b.instances d = subst (FreesAs scripts p.change b.instances) x.decision (finishes_as scripts (reply_of p.reply) p.change b.instances) in
       subst (λ (y : Decision). Prepares scripts rules b y (Ok p)) (sym (page_finishes at s bytes e))
-      (carried p d (without at.instance.number) x.decision x.logged (λ n. refl) made tt)
+      (carried p d (without at.instance.number) x.decision x.logged (λ n. refl) made)
 
   -- an extension for which room was wanted too
   pub extended : (at : Place) (s : Segment) (kind : SendKind) (bytes : List ℕ) (made : Result Prepared AllocError) (r : Result Prepared Reply)
@@ -267,3 +253,34 @@ room_made t i answered bytes effects inside left kind deadline f n b made (Ok p)
     let one : IsExtension p t i answered bytes effects inside left kind deadline f = subst (λ (m : Result Prepared AllocError). IfOk m (λ q. IsExtension q t i answered bytes effects inside left kind deadline f)) is x in
     room_by p.change i f b one.change (subst (λ (m : ℕ). HasRoomAt m b.instances) (sym number) room)
 room_made t i answered bytes effects inside left kind deadline f n b made (Err q) number x is room = tt
+
+-- what shows no page
+pub ending_shows_none : (c : Option Change) (i : Instance) (f : Instance → Instance) → EndsBy c i f → ShowsNone c
+ending_shows_none None i f h = absurd h
+ending_shows_none (Some (Opens o)) i f h = absurd h
+ending_shows_none (Some (Extends x)) i f h = absurd h
+ending_shows_none (Some (Ends x)) i f h = tt
+ending_shows_none (Some (Finishes x)) i f h = absurd h
+
+abbrev IsFinishing : Decision → Type 0
+IsFinishing (records r (spec.opens o) inside) = ⊥
+IsFinishing (records r (spec.extends x) inside) = ⊥
+IsFinishing _ = Unit {0}
+
+finishing_shows_none : (r : step.Reply) (c : Option Change) → IsFinishing (decision_by r c) → ShowsNone c
+finishing_shows_none r None h = tt
+finishing_shows_none r (Some (Opens o)) h = h
+finishing_shows_none r (Some (Extends x)) h = h
+finishing_shows_none r (Some (Ends x)) h = tt
+finishing_shows_none r (Some (Finishes x)) h = tt
+
+pub finish_shows_none : (r : step.Reply) (c : Option Change) (reply : step.Reply) (f : spec.Finish) (inside : List TxName) → decision_by r c ≡ records reply (spec.finishes f) inside → ShowsNone c
+finish_shows_none r c reply f inside e = finishing_shows_none r c (subst IsFinishing (sym e) tt)
+
+-- the page of an extension for which room was wanted too
+pub page_shown : (t : Ticket) (s : stored.Segment) (n instance answered : ℕ) (d : Suspended) (made : Result Prepared AllocError) (r : Result Prepared Reply) → n ≡ instance → state_of s.outcome ≡ Some d
+    → IfOk made (λ p. ExtendsTo t n answered (segment_of s).effects s.entered.items d p.change) → IfOk r (λ p. made ≡ Ok p) → IfOk r (λ p. AnswerKeepsState t s instance answered p.change)
+page_shown t s n instance answered d made (Err q) e state page is = tt
+page_shown t s n instance answered d made (Ok p) e state page is =
+    let one : ExtendsTo t n answered (segment_of s).effects s.entered.items d p.change = subst (λ (m : Result Prepared AllocError). IfOk m (λ q. ExtendsTo t n answered (segment_of s).effects s.entered.items d q.change)) is page in
+    inr (d, (state, subst (λ (m : ℕ). ExtendsTo t m answered (segment_of s).effects s.entered.items d p.change) e one))

@@ -1,6 +1,6 @@
 pub mod Orders
 pub mod Lists
 pub mod Seen
-pub mod Links
+pub mod States
 pub mod Lands
 pub mod Admitted

@@ -15,7 +15,8 @@ use Rattle.instance_book.specs.Orders.{Rises, IsAt, numbers_of}
 use Rattle.instance_book.specs.declared.book.Book.{Book}
 use Rattle.instance_book.specs.Views.{page_of, instance_of, book_of}
 use Rattle.instance_book.specs.Swept.{cells_in, cells_at}
-use Rattle.instance_book.specs.Places.{IsPlaced}
+use Rattle.machine_spec.specs.Machine.{Suspended}
+use Rattle.instance_book.specs.Places.{shown_of}
 use Rattle.instance_book.proofs.Orders.{Ascends, rises, ascends}
 use Rattle.instance_book.proofs.Lists.{within}
 
@@ -58,6 +59,15 @@ page_seen n xs r h = found (λ (p : Page). p.number) page_of (λ x. refl) n xs r
 
 pub page_put : (x : Numbered KeptPage) (xs : List (Numbered KeptPage)) → map page_of (put_in_order (λ thing. thing.number) x xs) ≡ put_page (page_of x) (map page_of xs)
 page_put x xs = seen_put (λ (p : Page). p.number) page_of (λ y. refl) x xs
+
+-- pages with their states
+pub shown_seen : (n : ℕ) (xs : List (Numbered KeptPage)) (r : Option (Bor (Numbered KeptPage))) → option_copied r ≡ at_number (λ thing. thing.number) n xs
+    → option_map (λ p. shown_of p.now) r ≡ at_number (λ (x : Page × Suspended). x.0.number) n (map shown_of xs)
+shown_seen n xs r h = found (λ (x : Page × Suspended). x.0.number) shown_of (λ x. refl) n xs r h
+
+pub shown_put : (x : Numbered KeptPage) (xs : List (Numbered KeptPage))
+    → map shown_of (put_in_order (λ thing. thing.number) x xs) ≡ put_in_order (λ (y : Page × Suspended). y.0.number) (shown_of x) (map shown_of xs)
+shown_put x xs = seen_put (λ (y : Page × Suspended). y.0.number) shown_of (λ y. refl) x xs
 
 pub pages_numbered : (xs : List (Numbered KeptPage)) → numbers_of xs ≡ map (λ (p : Page). p.number) (map page_of xs)
 pages_numbered xs = numbers_seen (λ (p : Page). p.number) page_of (λ y. refl) xs
@@ -115,29 +125,39 @@ module _ (scripts : List Named) where
   mend_nothing n [] = refl
   mend_nothing n (i ∷ is) = grind (arith, nat_tests, mend_nothing n is)
 
-  -- places
-  pub placed_put : (x : Numbered KeptInstance) (xs : List (Numbered KeptInstance)) → IsPlaced scripts x → AllByRecursion (IsPlaced scripts) xs → AllByRecursion (IsPlaced scripts) (put_in_order (λ thing. thing.number) x xs)
-  placed_put x [] p all = (p, tt)
-  placed_put x (y ∷ ys) p all = grind (arith, nat_tests, p, all.0, all.1, placed_put x ys p all.1)
+-- what holds of each
+module _ {A : Type 0} (P : A → Type 0) where
+  pub all_put : (number_of : A → ℕ) (x : A) (xs : List A) → P x → AllByRecursion P xs → AllByRecursion P (put_in_order number_of x xs)
+  all_put number_of x [] p all = (p, tt)
+  all_put number_of x (y ∷ ys) p all = grind (arith, nat_tests, p, all.0, all.1, all_put number_of x ys p all.1)
 
-  pub placed_kept : (p : Numbered KeptInstance → Bool) (xs : List (Numbered KeptInstance)) → AllByRecursion (IsPlaced scripts) xs → AllByRecursion (IsPlaced scripts) (filter p xs)
-  placed_kept p [] all = tt
-  placed_kept p (x ∷ xs) all = grind (arith, all.0, all.1, placed_kept p xs all.1)
+  pub all_kept : (p : A → Bool) (xs : List A) → AllByRecursion P xs → AllByRecursion P (filter p xs)
+  all_kept p [] all = tt
+  all_kept p (x ∷ xs) all = grind (arith, all.0, all.1, all_kept p xs all.1)
 
-  pub placed_set : (xs : List (Numbered KeptInstance)) (place : ℕ) (x y : Numbered KeptInstance) → x ≡ get_or xs place x → place < length xs → y.item.script ≡ x.item.script
-      → AllByRecursion (IsPlaced scripts) xs → AllByRecursion (IsPlaced scripts) (set xs place y)
-  placed_set [] place x y is h e all = absurd (omega arith)
-  placed_set (z ∷ zs) zero x y is h e all = (subst (λ k. k < length scripts) (sym (e ∙ ap (λ (i : Numbered KeptInstance). i.item.script) is)) all.0, all.1)
-  placed_set (z ∷ zs) (suc k) x y is h e all = (all.0, placed_set zs k x y is (omega arith) e all.1)
+  pub all_set : (xs : List A) (place : ℕ) (x y : A) → x ≡ get_or xs place x → place < length xs → (P x → P y)
+      → AllByRecursion P xs → AllByRecursion P (set xs place y)
+  all_set [] place x y is h f all = absurd (omega arith)
+  all_set (z ∷ zs) zero x y is h f all = (f (subst P (sym is) all.0), all.1)
+  all_set (z ∷ zs) (suc k) x y is h f all = (all.0, all_set zs k x y is (omega arith) f all.1)
 
-  pub placed_at : (xs : List (Numbered KeptInstance)) (n : ℕ) (x : Numbered KeptInstance) → AllByRecursion (IsPlaced scripts) xs → at_number (λ thing. thing.number) n xs ≡ Some x → IsPlaced scripts x
-  placed_at [] n x all h = absurd (cc)
-  placed_at (y ∷ ys) n x all h = grind (arith, nat_tests, h, all.0, placed_at ys n x all.1)
+  pub all_at : (number_of : A → ℕ) (n : ℕ) (xs : List A) (x : A) → AllByRecursion P xs → at_number number_of n xs ≡ Some x → P x
+  all_at number_of n [] x all h = absurd (cc)
+  all_at number_of n (y ∷ ys) x all h = grind (arith, nat_tests, h, all.0, all_at number_of n ys x all.1)
 
-pub placed_found : (scripts : List Named) (n : ℕ) (xs : List (Numbered KeptInstance)) (r : Option (Bor (Numbered KeptInstance))) → option_copied r ≡ at_number (λ thing. thing.number) n xs
-    → AllByRecursion (IsPlaced scripts) xs → IfSome r (λ i. IsPlaced scripts i.now)
-placed_found scripts n xs None h all = tt
-placed_found scripts n xs (Some x) h all = placed_at scripts xs n x.now all (sym h)
+  pub all_found : (number_of : A → ℕ) (n : ℕ) (xs : List A) (r : Option (Bor A)) → option_copied r ≡ at_number number_of n xs
+      → AllByRecursion P xs → IfSome r (λ i. P i.now)
+  all_found number_of n xs None h all = tt
+  all_found number_of n xs (Some x) h all = all_at number_of n xs x.now all (sym h)
+
+-- copies of things are as their sources, where this is told by what is seen of them
+pub all_alike : {A B : Type 0} (P : A → Type 0) (view : A → B) → ((x y : A) → view x ≡ view y → P y → P x)
+    → (xs ys : List A) → map view xs ≡ map view ys → AllByRecursion P ys → AllByRecursion P xs
+all_alike P view f [] ys e all = tt
+all_alike P view f (x ∷ xs) [] e all = absurd (cc)
+all_alike P view f (x ∷ xs) (y ∷ ys) e all =
+    let first : view x ≡ view y = cc in let rest : map view xs ≡ map view ys = cc in
+    (f x y first all.0, all_alike P view f xs ys rest all.1)
 
 -- the cells that are kept are those of the book
 pub cells_seen : (scripts : List Named) (journal : ℕ) (down : Option Doubt) (n : ℕ) (b : Book) → cells_at n b ≡ cells_in n (book_of scripts journal down b)
@@ -158,14 +178,6 @@ pub copied_more : {A B : Type 0} (f : A → B) (xs ys : List A) (i : ℕ) (x y :
     → map f (ys ++ y ∷ []) ≡ map f (take (i + 1) xs)
 copied_more f xs ys i x y same h is e =
     map-append f ys (y ∷ []) ∙ (ap (λ zs. zs ++ f y ∷ []) same ∙ (ap (λ z. map f (take i xs) ++ z ∷ []) e ∙ (sym (map-append f (take i xs) (x ∷ [])) ∙ ap (map f) (sym (taken_more xs i x h is)))))
-
-pub placed_by_scripts : (scripts : List Named) (xs ys : List (Numbered KeptInstance)) → map (λ i. i.item.script) xs ≡ map (λ i. i.item.script) ys → AllByRecursion (IsPlaced scripts) ys → AllByRecursion (IsPlaced scripts) xs
-placed_by_scripts scripts [] ys e all = tt
-placed_by_scripts scripts (x ∷ xs) [] e all = absurd (cc)
-placed_by_scripts scripts (x ∷ xs) (y ∷ ys) e all =
-    let first : x.item.script ≡ y.item.script = cc in
-    let rest : map (λ i. i.item.script) xs ≡ map (λ i. i.item.script) ys = cc in
-    (subst (λ k. k < length scripts) (sym first) all.0, placed_by_scripts scripts xs ys rest all.1)
 
 pub rises_with_instances : (xs ys : List (Numbered KeptInstance)) → map (instance_of []) xs ≡ map (instance_of []) ys → Rises (numbers_of ys) → Rises (numbers_of xs)
 rises_with_instances xs ys e rise = subst Rises (sym (same_numbers (λ (i : Instance). i.number) (instance_of []) (λ y. refl) xs ys e)) rise

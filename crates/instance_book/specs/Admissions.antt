@@ -13,6 +13,7 @@ use Rattle.page_names.specs.declared.names.Target.{Target}
 use Rattle.replay_spec.specs.Book as book
 use Rattle.replay_spec.specs.Admission as spec
 use Rattle.replay_spec.specs.Next as next
+use Rattle.replay_spec.specs.Next.{home}
 use Rattle.instance_book.specs.declared.numbered.Numbered.{Numbered}
 use Rattle.instance_book.specs.declared.page.KeptPage.{KeptPage}
 use Rattle.instance_book.specs.declared.instance.KeptInstance.{KeptInstance}
@@ -21,7 +22,8 @@ use Rattle.instance_book.specs.declared.admission.Place.{Place}
 use Rattle.instance_book.specs.declared.admission.Admission.{Admission}
 use Rattle.instance_book.specs.declared.admission.Admission.TheVariants.{Begins, Resumes, Refused}
 use Rattle.instance_book.specs.declared.ticket.Ticket.{Ticket}
-use Rattle.instance_book.specs.Views.{page_of, instance_of, book_of, ticket_of}
+use Rattle.instance_book.specs.Views.{page_of, pages_of, instance_of, book_of, ticket_of}
+use Rattle.instance_book.specs.Places.{state_at, HasState}
 use Rattle.instance_book.specs.Fits.{IsFor, FitsStart, FitsAs}
 
 abbrev pub place_of : List Named → Place → spec.Place
@@ -32,9 +34,12 @@ admission_of scripts (Begins place script) = spec.begins place (named_of script.
 admission_of scripts (Resumes place) = spec.resumes (place_of scripts place)
 admission_of scripts (Refused r) = spec.refused r
 
--- the place's script is that of its instance
-abbrev pub HasItsScript : List Named → Place → Type 0
-HasItsScript scripts p = slice_get scripts p.instance.now.item.script ≡ Some (named_of p.script.now)
+-- the place's script is that of its instance, and its page has the state of its chain
+pub record IsKeptAt (scripts : List Named) (shelf : ℕ) (p : Place) : Type 0 where
+  pub script : slice_get scripts p.instance.now.item.script ≡ Some (named_of p.script.now)
+  pub state :
+      let s = named_of p.script.now in
+      HasState s (home s shelf p.instance.now.number) (pages_of p.instance.now.item.pages) (page_of p.page.now) (state_at p.page.now)
 
 -- why the page of this instance can't be answered
 abbrev pub IsWhyNot : (clock : ℕ) → Numbered KeptInstance → Numbered KeptPage → Option Refusal → Type 0
@@ -86,6 +91,7 @@ FitsPlace setup b place t =
 abbrev pub FitsIn : Setup → Book → Target → Ticket → Type 0
 FitsIn setup b target t = FitsAs (scripts_of setup) (book_under setup b) t (admission_for setup b target)
 
-abbrev pub ResumesItsScript : List Named → Admission → Type 0
-ResumesItsScript scripts (Resumes place) = HasItsScript scripts place
-ResumesItsScript scripts _ = ⊤
+-- what an admission resumes is kept so
+abbrev pub ResumesKept : List Named → (shelf : ℕ) → Admission → Type 0
+ResumesKept scripts shelf (Resumes place) = IsKeptAt scripts shelf place
+ResumesKept scripts shelf _ = ⊤

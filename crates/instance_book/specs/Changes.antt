@@ -1,11 +1,12 @@
 -- What a prepared visit makes of the book.
-use Rattle.std.specs.Prelude.{◌≡◌, ◌+◌, ◌^◌, ◌<◌, ℕ, max, List, map, length, Option, Some, None, ⊤}
+use Rattle.std.specs.Prelude.{◌≡◌, ◌+◌, ◌^◌, ◌<◌, ℕ, max, List, [], ◌∷◌, map, length, Option, Some, None, ⊤}
 use Rattle.script_value.specs.Views.{meaning}
 use Rattle.script_value.specs.declared.outcome.TxName.{TxName}
 use Rattle.script_nodes.specs.Setup.{Named}
 use Rattle.instance_cells.specs.Views.{effect_of}
 use Rattle.replay_spec.specs.Book as spec
 use Rattle.replay_spec.specs.Change.{put_page, put_instance, mend, without}
+use Rattle.replay_spec.specs.Next.{home}
 use Rattle.replay_spec.specs.Step as step
 use Rattle.replay_spec.specs.Step.{Decision, replies, records}
 use Rattle.instance_book.specs.declared.numbered.Numbered.{Numbered}
@@ -23,8 +24,9 @@ use Rattle.instance_book.specs.declared.prepared.Prepared.{Prepared}
 use Rattle.instance_book.specs.declared.book.Book.{Book}
 use Rattle.instance_book.specs.Orders.{numbers_of}
 use Rattle.instance_book.specs.Lists.{HasRoom}
-use Rattle.instance_book.specs.Views.{page_of, instance_with, instance_of, reply_of, HasRoomAt}
-use Rattle.instance_book.specs.Makes.{HasPlaces}
+use Rattle.instance_book.specs.Views.{page_of, pages_of, script_in, instance_with, instance_of, instances_of, reply_of, HasRoomAt}
+use Rattle.instance_book.specs.Places.{state_at, shown_in, HasState, IsNextAt}
+use Rattle.instance_book.specs.Makes.{HasItsStates}
 
 -- the one that came anew, or else what there is
 abbrev pub renewed : {A : Type 0} → A → Option A → A
@@ -157,15 +159,27 @@ abbrev pub HasRoomFor : Option Change → Book → Type 0
 HasRoomFor None b = ⊤
 HasRoomFor (Some c) b = HasRoomWith c b
 
--- a new instance is of a script of the setup
-abbrev pub OpensPlaced : List Named → Change → Type 0
-OpensPlaced scripts (Opens o) = o.instance.script < length scripts
-OpensPlaced scripts _ = ⊤
+-- a new instance is of a script of the setup, and its one page has the state of its chain
+pub record OpensKept (scripts : List Named) (shelf : ℕ) (o : Opening) : Type 0 where
+  pub place : o.instance.script < length scripts
+  pub pages : pages_of o.instance.pages ≡ []
+  pub shown : shown_in o.instance.pages ≡ []
+  pub state :
+      let s = script_in scripts o.instance.script in
+      HasState s (home s shelf o.page.number) (page_of o.page ∷ []) (page_of o.page) (state_at o.page)
 
-abbrev pub IsPlacedBy : List Named → Option Change → Type 0
-IsPlacedBy scripts None = ⊤
-IsPlacedBy scripts (Some c) = OpensPlaced scripts c
+-- a new page has the state of its chain, in this shelf of these instances
+abbrev pub HasStateIn : List Named → (shelf : ℕ) → List spec.Instance → Change → Type 0
+HasStateIn scripts shelf is (Opens o) = OpensKept scripts shelf o
+HasStateIn scripts shelf is (Extends x) = IsNextAt shelf is x.instance x.show.page
+HasStateIn scripts shelf is _ = ⊤
 
--- where the change's new instance is of a script of the setup too, each goes on to be
-abbrev pub KeepsPlacesBy : Option Change → (old new : Book) → Type 0
-KeepsPlacesBy c old new = (scripts : List Named) → IsPlacedBy scripts c → HasPlaces scripts old → HasPlaces scripts new
+abbrev pub HasStateBy : List Named → (shelf : ℕ) → List spec.Instance → Option Change → Type 0
+HasStateBy scripts shelf is None = ⊤
+HasStateBy scripts shelf is (Some c) = HasStateIn scripts shelf is c
+
+-- where the change's new page has the state of its chain too, each goes on to have its own
+abbrev pub KeepsStatesBy : Option Change → (old new : Book) → Type 0
+KeepsStatesBy c old new =
+    (scripts : List Named) → HasStateBy scripts old.shelf (instances_of scripts old.instances) c
+    → HasItsStates scripts old → HasItsStates scripts new

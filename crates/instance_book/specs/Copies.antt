@@ -1,7 +1,10 @@
 -- Copies of what is prepared.
-use Rattle.std.specs.Prelude.{◌≡◌, ℕ, List}
+use Rattle.std.specs.Prelude.{◌≡◌, ℕ, List, Option}
 use Rattle.script_nodes.specs.Setup.{Named}
 use Rattle.replay_spec.specs.Book as spec
+use Rattle.replay_spec.specs.Step as step
+use Rattle.instance_book.specs.declared.in_order.InOrder.{InOrder}
+use Rattle.instance_book.specs.declared.page.KeptPage.{KeptPage}
 use Rattle.instance_book.specs.declared.instance.KeptInstance.{KeptInstance}
 use Rattle.instance_book.specs.declared.after.Show.{Show}
 use Rattle.instance_book.specs.declared.prepared.Opening.{Opening}
@@ -9,16 +12,23 @@ use Rattle.instance_book.specs.declared.prepared.Extension.{Extension}
 use Rattle.instance_book.specs.declared.prepared.Prepared.{Prepared}
 use Rattle.instance_book.specs.declared.prepared.Change.{Change}
 use Rattle.instance_book.specs.declared.book.Book.{Book}
-use Rattle.instance_book.specs.Views.{page_of, instance_with}
-use Rattle.instance_book.specs.Changes.{shown_with, extension_of, begun_with, change_of, inside_of, decision_of, instances_after, HasRoomWith, HasRoomFor, OpensPlaced, IsPlacedBy, instances_with}
+use Rattle.instance_book.specs.Views.{page_of, pages_of, instance_with}
+use Rattle.instance_book.specs.Changes.{shown_with, extension_of, begun_with, change_of, inside_of, decision_by, decision_of, instances_after, HasRoomWith, HasRoomFor, HasStateIn, HasStateBy, instances_with}
+use Rattle.instance_book.specs.Places.{state_at, shown_in}
 
 -- the same instance under each number and setup
 abbrev pub IsSameInstance : (i copy : KeptInstance) → Type 0
 IsSameInstance i copy = (scripts : List Named) (n : ℕ) → instance_with scripts n copy ≡ instance_with scripts n i
 
--- the same page, and the same is made of each instance
+-- the same pages, with the same states
+pub record IsSamePages (ps copy : InOrder KeptPage) : Type 0 where
+  pub pages : pages_of copy ≡ pages_of ps
+  pub shown : shown_in copy ≡ shown_in ps
+
+-- the same page with the same state, and the same is made of each instance
 pub record IsSameShow (s copy : Show) : Type 0 where
   pub page : page_of copy.page ≡ page_of s.page
+  pub state : state_at copy.page ≡ state_at s.page
   pub made : (i : spec.Instance) → shown_with copy i ≡ shown_with s i
 
 -- the instance that begins is the same
@@ -36,7 +46,14 @@ pub record IsSameChange (c copy : Change) : Type 0 where
   pub inside : inside_of copy ≡ inside_of c
   pub instances : (scripts : List Named) (is : List spec.Instance) → instances_with scripts copy is ≡ instances_with scripts c is
   pub room : (b : Book) → HasRoomWith c b → HasRoomWith copy b
-  pub placed : (scripts : List Named) → OpensPlaced scripts c → OpensPlaced scripts copy
+  pub states : (scripts : List Named) (shelf : ℕ) (is : List spec.Instance) → HasStateIn scripts shelf is c → HasStateIn scripts shelf is copy
+
+-- where there is one
+pub record IsSameIf (c copy : Option Change) : Type 0 where
+  pub decision : (r : step.Reply) → decision_by r copy ≡ decision_by r c
+  pub instances : (scripts : List Named) (is : List spec.Instance) → instances_after scripts copy is ≡ instances_after scripts c is
+  pub room : (b : Book) → HasRoomFor c b → HasRoomFor copy b
+  pub states : (scripts : List Named) (shelf : ℕ) (is : List spec.Instance) → HasStateBy scripts shelf is c → HasStateBy scripts shelf is copy
 
 -- the same visit
 pub record IsSame (p copy : Prepared) : Type 0 where
@@ -45,4 +62,4 @@ pub record IsSame (p copy : Prepared) : Type 0 where
   pub decision : decision_of copy ≡ decision_of p
   pub instances : (scripts : List Named) (is : List spec.Instance) → instances_after scripts copy.change is ≡ instances_after scripts p.change is
   pub room : (b : Book) → HasRoomFor p.change b → HasRoomFor copy.change b
-  pub placed : (scripts : List Named) → IsPlacedBy scripts p.change → IsPlacedBy scripts copy.change
+  pub states : (scripts : List Named) (shelf : ℕ) (is : List spec.Instance) → HasStateBy scripts shelf is p.change → HasStateBy scripts shelf is copy.change

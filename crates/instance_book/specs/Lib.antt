@@ -3,11 +3,12 @@ pub mod Lists
 pub mod Views
 pub mod Places
 pub mod Makes
-pub mod Changes
 pub mod Fits
+pub mod Changes
 pub mod Admissions
-pub mod Chains
+pub mod Homes
 pub mod Swept
 pub mod Prepares
 pub mod Segments
 pub mod Copies
+pub mod Laws

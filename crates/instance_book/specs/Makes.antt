@@ -6,10 +6,11 @@ use Rattle.replay_spec.specs.Book as spec
 use Rattle.replay_spec.specs.Change.{put_instance}
 use Rattle.instance_book.specs.declared.numbered.Numbered.{Numbered}
 use Rattle.instance_book.specs.declared.in_order.InOrder.{InOrder}
+use Rattle.instance_book.specs.declared.page.KeptPage.{KeptPage}
 use Rattle.instance_book.specs.declared.instance.KeptInstance.{KeptInstance}
 use Rattle.instance_book.specs.declared.book.Book.{Book}
 use Rattle.instance_book.specs.Views.{instance_of, instances_of, book_of}
-use Rattle.instance_book.specs.Places.{IsPlaced, ArePlaced, StayPlaced}
+use Rattle.instance_book.specs.Places.{IsKept, AreKept, IsNextAt}
 
 -- whatever the setup, of the one list this was made
 abbrev pub AllBecome : (List spec.Instance → List spec.Instance) → (old new : InOrder KeptInstance) → Type 0
@@ -19,13 +20,14 @@ abbrev pub PutsInstance : Numbered KeptInstance → (old new : InOrder KeptInsta
 PutsInstance i old new =
     (scripts : List Named) → instances_of scripts new ≡ put_instance (instance_of scripts i) (instances_of scripts old)
 
--- the instance of a number, which is of a script of the setup where each is
+-- the instance of a number, which is kept as each is
 abbrev pub IsInstanceAt : ℕ → InOrder KeptInstance → Option (Bor (Numbered KeptInstance)) → Type 0
 IsInstanceAt n is i =
     (scripts : List Named) → option_map (λ x. instance_of scripts x.now) i ≡ spec.instance_at n (instances_of scripts is)
 
-abbrev pub IsPlacedAmong : InOrder KeptInstance → Option (Bor (Numbered KeptInstance)) → Type 0
-IsPlacedAmong is i = (scripts : List Named) → ArePlaced scripts is → IfSome i (λ x. IsPlaced scripts x.now)
+abbrev pub IsKeptAmong : InOrder KeptInstance → Option (Bor (Numbered KeptInstance)) → Type 0
+IsKeptAmong is i =
+    (scripts : List Named) (shelf : ℕ) → AreKept scripts shelf is → IfSome i (λ x. IsKept scripts shelf x.now)
 
 -- Whatever the setup, the length of the journal and what is in doubt, of the one book this was made, under that setup.
 abbrev pub MakesUnder : (List Named → spec.Book → spec.Book) → (old new : Book) → Type 0
@@ -43,9 +45,14 @@ StaysSame old new = Makes (λ b. b) old new
 abbrev pub count_of : Book → ℕ
 count_of b = length b.instances.things.items
 
--- each instance is of a script of the setup; and goes on to be
-abbrev pub HasPlaces : List Named → Book → Type 0
-HasPlaces scripts b = ArePlaced scripts b.instances
+-- each instance is of a script of the setup, and each of its pages has the state of its chain; and so it goes on to be
+abbrev pub HasItsStates : List Named → Book → Type 0
+HasItsStates scripts b = AreKept scripts b.shelf b.instances
 
-abbrev pub KeepsPlaces : (old new : Book) → Type 0
-KeepsPlaces old new = StayPlaced old.instances new.instances
+abbrev pub KeepsStates : (old new : Book) → Type 0
+KeepsStates old new = (scripts : List Named) → HasItsStates scripts old → HasItsStates scripts new
+
+-- where this is the next page of its instance and has the state of its chain, each goes on to be kept so
+abbrev pub StayKeptNext : (instance : ℕ) → Numbered KeptPage → (old new : InOrder KeptInstance) → Type 0
+StayKeptNext n p old new =
+    (scripts : List Named) (shelf : ℕ) → IsNextAt shelf (instances_of scripts old) n p → AreKept scripts shelf old → AreKept scripts shelf new

@@ -1,5 +1,5 @@
 -- What a visit is prepared as.
-use Rattle.std.specs.Prelude.{◌≡◌, ℕ, ◌+◌, List, [], ◌∷◌, length, Option, Some, None, IfSome, Result, Ok, Err, ⊤}
+use Rattle.std.specs.Prelude.{◌≡◌, ◌⊎◌, ℕ, ◌+◌, List, [], ◌∷◌, length, Option, Some, None, IfSome, Result, Ok, Err, ⊤}
 use Rattle.script_value.specs.Val.{list, no_vals}
 use Rattle.script_value.specs.Views.{meaning}
 use Rattle.script_value.specs.declared.outcome.Reply.{Reply}
@@ -18,13 +18,19 @@ use Rattle.replay_spec.specs.Rules.{Rules}
 use Rattle.replay_spec.specs.Admission.{Place, Admission, begins, resumes, refused, refusal_of, admit}
 use Rattle.replay_spec.specs.Next.{start_visit, page_visit}
 use Rattle.replay_spec.specs.Step.{Decision, replies, records, settles, carried_out, refusal, shown, ended, finished}
+use Rattle.machine_spec.specs.Machine.{Suspended}
+use Rattle.stored_states.specs.Views.{segment_of, state_of}
+use Rattle.stored_states.specs.declared.segment.Segment as stored
+use Rattle.instance_book.specs.declared.prepared.Opening.{Opening}
+use Rattle.instance_book.specs.declared.prepared.Extension.{Extension}
 use Rattle.instance_book.specs.declared.prepared.Prepared.{Prepared}
 use Rattle.instance_book.specs.declared.prepared.Change.{Change}
 use Rattle.instance_book.specs.declared.prepared.Change.TheVariants.{Opens, Extends, Ends}
 use Rattle.instance_book.specs.declared.book.Book.{Book}
 use Rattle.instance_book.specs.declared.ticket.Ticket.{Ticket}
-use Rattle.instance_book.specs.Views.{script_in, ticket_of, reply_of, book_of}
-use Rattle.instance_book.specs.Changes.{begun_with, shown_with, ended_with, decision_of, put_into, IsPlacedBy}
+use Rattle.instance_book.specs.Views.{page_of, pages_of, script_in, ticket_of, reply_of, book_of}
+use Rattle.instance_book.specs.Places.{state_at, shown_in}
+use Rattle.instance_book.specs.Changes.{begun_with, shown_with, ended_with, decision_of, put_into}
 use Rattle.instance_book.specs.Swept.{cells_at}
 use Rattle.instance_book.specs.Fits.{IsFor, FitsStart, FitsAs}
 
@@ -42,7 +48,6 @@ IsRecord (records r c inside) = ⊤
 pub record IsCarriedOut (scripts : List Named) (rules : Rules) (b : spec.Book) (d : Decision) (p : Prepared) : Type 0 where
   pub decision : decision_of p ≡ d
   pub lands : (n : ℕ) → carried_out rules (spend n b) d ≡ (reply_of p.reply, put_into scripts p (spend n b))
-  pub placed : IsPlacedBy scripts p.change
 
 -- A refusal is the decision. Want of memory is told only of one that changes the book.
 abbrev pub Prepares : List Named → Rules → spec.Book → Decision → Result Prepared Reply → Type 0
@@ -204,3 +209,54 @@ IsPrepared book t s instances pages life result =
     (scripts : List Named) (length_now : ℕ) (down : Option Doubt) (fuel : ℕ) (a : Admission)
     → let b = book_of scripts length_now down book in admit b (target_of t.target) ≡ a → refusal_of a ≡ None → FitsAs scripts b t a
     → let rules = rules_with fuel life instances pages in Prepares scripts rules b (settled rules b t a s) result
+
+-- A start's instance begins with its page alone, and an answer's page follows the one that was answered; each is the page of the
+-- ticket, behind what its segment did, and has this state.
+pub record OpensAs (t : Ticket) (effects : List Effect) (inside : List TxName) (d : Suspended) (o : Opening) : Type 0 where
+  pub script : o.instance.script ≡ t.script
+  pub pages : pages_of o.instance.pages ≡ []
+  pub shown : shown_in o.instance.pages ≡ []
+  pub page : page_of o.page ≡ first_page t effects inside o.page.item.deadline
+  pub state : state_at o.page ≡ d
+
+pub record ExtendsAs (t : Ticket) (number answered : ℕ) (effects : List Effect) (inside : List TxName) (d : Suspended) (x : Extension) : Type 0 where
+  pub instance : x.instance ≡ number
+  pub page : page_of x.show.page ≡ next_page t answered effects inside x.show.page.item.deadline
+  pub state : state_at x.show.page ≡ d
+
+abbrev pub OpensTo : Ticket → List Effect → (inside : List TxName) → Suspended → Option Change → Type 0
+OpensTo t effects inside d (Some (Opens o)) = OpensAs t effects inside d o
+OpensTo t effects inside d _ = ⊥
+
+abbrev pub ExtendsTo : Ticket → (instance answered : ℕ) → List Effect → (inside : List TxName) → Suspended → Option Change → Type 0
+ExtendsTo t instance answered effects inside d (Some (Extends x)) = ExtendsAs t instance answered effects inside d x
+ExtendsTo t instance answered effects inside d _ = ⊥
+
+-- the first page of a start, or the page of an answer to this one, has the state of its segment
+abbrev pub OpensFrom : Ticket → stored.Segment → Option Change → Type 0
+OpensFrom t r c =
+    (d : Suspended) × ((state_of r.outcome ≡ Some d) × OpensTo t (segment_of r).effects r.entered.items d c)
+
+abbrev pub ExtendsFrom : Ticket → stored.Segment → (instance answered : ℕ) → Option Change → Type 0
+ExtendsFrom t r instance answered c =
+    (d : Suspended) × ((state_of r.outcome ≡ Some d) × ExtendsTo t instance answered (segment_of r).effects r.entered.items d c)
+
+-- the change shows no page; or it shows the page so
+abbrev pub ShowsNone : Option Change → Type 0
+ShowsNone (Some (Opens o)) = ⊥
+ShowsNone (Some (Extends x)) = ⊥
+ShowsNone _ = ⊤
+
+abbrev pub StartKeepsState : Ticket → stored.Segment → Option Change → Type 0
+StartKeepsState t r c = ShowsNone c ⊎ OpensFrom t r c
+
+abbrev pub AnswerKeepsState : Ticket → stored.Segment → (instance answered : ℕ) → Option Change → Type 0
+AnswerKeepsState t r instance answered c = ShowsNone c ⊎ ExtendsFrom t r instance answered c
+
+-- the new page of a ticket, if there is one, is that of its segment
+abbrev pub KeepsStateOf : Ticket → stored.Segment → Destination → Option Change → Type 0
+KeepsStateOf t r (start name) c = StartKeepsState t r c
+KeepsStateOf t r (page name n) c = AnswerKeepsState t r n.instance n.page c
+
+abbrev pub KeepsItsState : Ticket → stored.Segment → Option Change → Type 0
+KeepsItsState t r c = KeepsStateOf t r (target_of t.target) c

@@ -1,13 +1,12 @@
-ghost use Rattle.std.specs.Prelude.{◌≡◌, List, Some, option_map, slice_get, IfSome};
+ghost use Rattle.std.specs.Prelude.{◌≡◌, ◌<◌, ℕ, List, Some, length, option_map, slice_get, IfSome};
 ghost use Rattle.script_nodes.specs.Setup.{Named};
 ghost use Rattle.script_nodes.specs.Views.{named_of, scripts_of};
 ghost use Rattle.page_names.specs.Views.{name_of};
 ghost use Rattle.replay_spec.specs.Admission as spec;
 ghost use Rattle.replay_spec.specs.Names.{first_closed};
 ghost use Rattle.instance_book.specs.Views.{instance_of, page_of};
-ghost use Rattle.instance_book.specs.Places.{IsPlaced};
-ghost use Rattle.instance_book.specs.Makes.{HasPlaces};
-ghost use Rattle.instance_book.specs.Admissions.{IsWhyNot, named_if, IsPlaceAt, IsStartOf, IsAdmittedAs, HasItsScript, ResumesItsScript};
+ghost use Rattle.instance_book.specs.Makes.{HasItsStates};
+ghost use Rattle.instance_book.specs.Admissions.{IsWhyNot, named_if, IsPlaceAt, IsStartOf, IsAdmittedAs, IsKeptAt, ResumesKept};
 
 use crate::book::Book;
 use crate::instance::KeptInstance;
@@ -74,7 +73,7 @@ fn why_not(
 
 // The script of an instance, which is one of the setup.
 fn script_of<'a>(setup: &'a Setup, instance: &Numbered<KeptInstance>) -> Option<&'a NamedScript>
-    requires { IsPlaced (scripts_of setup.now) instance.now }
+    requires { instance.now.item.script < length (scripts_of setup.now) }
     ensures script { named_if result ≡ slice_get (scripts_of setup.now) instance.now.item.script }
     ensures its { named_if result ≡ Some (instance_of (scripts_of setup.now) instance.now).script }
 {
@@ -88,9 +87,9 @@ fn place_at<'a>(
     name: &ScriptName,
     page: &PageName,
 ) -> Option<Place<'a>>
-    requires { HasPlaces (scripts_of setup.now) book.now }
+    requires { HasItsStates (scripts_of setup.now) book.now }
     ensures place { IsPlaceAt setup.now book.now name.now page.now result }
-    ensures script { IfSome result (HasItsScript (scripts_of setup.now)) }
+    ensures states { IfSome result (IsKeptAt (scripts_of setup.now) book.now.shelf) }
 {
     let instance = book.instances.instance(page.instance)?;
     let script = script_of(setup, instance)?;
@@ -111,7 +110,7 @@ fn place_at<'a>(
 // What a start is admitted as.
 fn admission_of_start<'a>(setup: &'a Setup, name: &ScriptName) -> Admission<'a>
     ensures admission { IsStartOf setup.now name.now result }
-    ensures script { ResumesItsScript (scripts_of setup.now) result }
+    ensures states { (shelf : ℕ) → ResumesKept (scripts_of setup.now) shelf result }
 {
     let Some(place) = setup.place(name) else {
         return Admission::Refused(Refusal::Unknown);
@@ -129,9 +128,9 @@ fn admission_of_page<'a>(
     name: &ScriptName,
     page: &PageName,
 ) -> Admission<'a>
-    requires { HasPlaces (scripts_of setup.now) book.now }
+    requires { HasItsStates (scripts_of setup.now) book.now }
     ensures admission { IsAdmittedAs setup.now book.now (Target.Page name.now page.now) result }
-    ensures script { ResumesItsScript (scripts_of setup.now) result }
+    ensures states { ResumesKept (scripts_of setup.now) book.now.shelf result }
 {
     let Some(place) = place_at(book, setup, name, page) else {
         return Admission::Refused(Refusal::Unknown);
@@ -144,9 +143,9 @@ fn admission_of_page<'a>(
 
 /// What a target is admitted as.
 pub fn admission_to<'a>(book: &'a Book, setup: &'a Setup, target: &Target) -> Admission<'a>
-    requires { HasPlaces (scripts_of setup.now) book.now }
+    requires { HasItsStates (scripts_of setup.now) book.now }
     ensures admission { IsAdmittedAs setup.now book.now target.now result }
-    ensures script { ResumesItsScript (scripts_of setup.now) result }
+    ensures states { ResumesKept (scripts_of setup.now) book.now.shelf result }
 {
     match target {
         Target::Start(name) => admission_of_start(setup, name),

@@ -2,27 +2,39 @@ ghost use Rattle.std.specs.Prelude.{◌≡◌, ◌<◌, ◌^◌, List, ℕ, Opti
 ghost use Rattle.script_nodes.specs.Setup.{Named};
 ghost use Rattle.script_nodes.specs.Views.{named_of, scripts_of};
 ghost use Rattle.replay_spec.specs.Book as spec;
+ghost use Rattle.stored_states.specs.Views.{origin_of};
 ghost use Rattle.instance_book.specs.Views.{IsTicketFor};
-ghost use Rattle.instance_book.specs.Makes.{count_of, Makes, StaysSame, HasPlaces, KeepsPlaces};
-ghost use Rattle.instance_book.specs.Admissions.{HasItsScript, HasCellsBy, FitsStartIn, FitsPlace, admission_for, refusal_for, FitsIn};
+ghost use Rattle.instance_book.specs.Places.{state_at};
+ghost use Rattle.instance_book.specs.Makes.{count_of, Makes, StaysSame, HasItsStates, KeepsStates};
+ghost use Rattle.instance_book.specs.Admissions.{IsKeptAt, HasCellsBy, FitsStartIn, FitsPlace, admission_for, refusal_for, FitsIn};
 ghost use Rattle.instance_book.specs.Swept.{swept, cells_at, IsEmpty};
 
 use crate::admission::{Admission, Place, admission_to};
 use crate::book::Book;
-use crate::chain::Home;
+use crate::home::Home;
 use crate::in_order::InOrder;
+use crate::numbered::Numbered;
+use crate::page::KeptPage;
 use crate::ticket::Ticket;
 use instance_cells::Cells;
 use page_names::Target;
 use script_nodes::{NamedScript, Setup};
 use script_value::{Refusal, Value};
 use std::alloc::{AllocError, Global};
+use stored_states::Origin;
+
+// What an answer to a page goes on from.
+fn origin_at(alloc: Global, page: &Numbered<KeptPage>) -> Result<Origin, AllocError>
+    ensures { IfOk result (λ from. origin_of from ≡ Some (state_at page.now)) }
+{
+    Ok(Origin::Page(page.item.state.try_clone(alloc)?))
+}
 
 impl Book {
     /// The book of a shelf with nothing in it; it takes no memory.
     pub fn empty(alloc: Global, shelf: u32) -> Book
         ensures book { IsEmpty shelf result }
-        ensures placed { (scripts : List Named) → HasPlaces scripts result }
+        ensures states { (scripts : List Named) → HasItsStates scripts result }
     {
         Book {
             shelf,
@@ -73,7 +85,7 @@ impl Book {
 
     /// Whether a target is admitted, and else why not. It takes no memory.
     pub fn admit(&self, setup: &Setup, target: &Target) -> Result<(), Refusal>
-        requires { HasPlaces (scripts_of setup.now) self.now }
+        requires { HasItsStates (scripts_of setup.now) self.now }
         ensures admitted { OnOk result (refusal_for setup.now self.now target.now ≡ None) }
         ensures refused { IfErr result (λ r. refusal_for setup.now self.now target.now ≡ Some r) }
     {
@@ -110,7 +122,7 @@ impl Book {
             script: place,
             target: *target,
             url: home.url(alloc, number, nonce)?,
-            from: Vec::new(alloc),
+            from: Origin::Start,
             answer,
             cells: Cells::of(alloc, script.script.instance_defaults().as_slice())?,
         })
@@ -127,7 +139,7 @@ impl Book {
         number: u64,
         nonce: u64,
     ) -> Result<Ticket, AllocError>
-        requires { HasItsScript (scripts_of setup.now) place }
+        requires { IsKeptAt (scripts_of setup.now) self.now.shelf place }
         ensures ticket { IfOk result (IsTicketFor target.now answer number nonce) }
         ensures fits { IfOk result (FitsPlace setup.now self.now place.entry) }
         ensures cells { IfOk result (λ t. t.cells ≡ place.entry.instance.now.item.cells) }
@@ -137,14 +149,13 @@ impl Book {
             shelf: self.shelf,
             instance: place.instance.number,
         };
-        let from = home.past(alloc, &place.instance.item.pages, place.page)?;
         Ok(Ticket {
             number,
             nonce,
             script: place.instance.item.script,
             target: *target,
             url: home.url(alloc, number, nonce)?,
-            from,
+            from: origin_at(alloc, place.page)?,
             answer,
             cells: place.instance.item.cells.try_clone(alloc)?,
         })
@@ -160,7 +171,7 @@ impl Book {
         number: u64,
         nonce: u64,
     ) -> Result<Ticket, AllocError>
-        requires { HasPlaces (scripts_of setup.now) self.now }
+        requires { HasItsStates (scripts_of setup.now) self.now }
         ensures ticket { IfOk result (IsTicketFor target.now answer number nonce) }
         ensures fits { IfOk result (FitsIn setup.now self.now target.now) }
         ensures cells { IfOk result (HasCellsBy (admission_for setup.now self.now target.now)) }
@@ -189,13 +200,13 @@ impl Book {
     ) -> Result<Ticket, AllocError>
         requires admitted { refusal_for setup.now self.old target.now ≡ None }
         requires numbers { self.old.drawn < 2 ^ 62 }
-        requires placed { HasPlaces (scripts_of setup.now) self.old }
+        requires states { HasItsStates (scripts_of setup.now) self.old }
         ensures drawn { OnOk result (Makes spec.draw self.old self.new) }
         ensures ticket { IfOk result (IsTicketFor target.now answer self.old.drawn nonce) }
         ensures fits { IfOk result (FitsIn setup.now self.old target.now) }
         ensures cells { IfOk result (HasCellsBy (admission_for setup.now self.old target.now)) }
         ensures err { OnErr result (StaysSame self.old self.new) }
-        ensures placed { KeepsPlaces self.old self.new }
+        ensures states { KeepsStates self.old self.new }
     {
         let number = self.drawn;
         let ticket = self.made(alloc, setup, target, answer, number, nonce)?;
@@ -209,6 +220,7 @@ impl Book {
     pub fn spend(&mut self, number: u64)
         ensures book { Makes (spec.spend number) self.old self.new }
         ensures instances { self.new.instances ≡ self.old.instances }
+        ensures states { KeepsStates self.old self.new }
     {
         self.out.retain(|other| *other != number);
     }
@@ -219,7 +231,7 @@ impl Book {
         requires low { tick < 2 ^ 62 }
         ensures book { Makes (swept tick) self.old self.new }
         ensures count { result ≡ count_of self.old - count_of self.new }
-        ensures placed { KeepsPlaces self.old self.new }
+        ensures states { KeepsStates self.old self.new }
     {
         let before = self.instances.len();
         self.clock = tick;

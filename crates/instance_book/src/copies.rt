@@ -1,10 +1,10 @@
 ghost use Rattle.std.specs.Prelude.{◌≡◌, IfOk};
 ghost use Rattle.instance_book.specs.Lists.{HasRoom};
-ghost use Rattle.instance_book.specs.Views.{page_of, pages_of};
-ghost use Rattle.instance_book.specs.Places.{StayPlaced};
-ghost use Rattle.instance_book.specs.Makes.{AllBecome, StaysSame, KeepsPlaces};
+ghost use Rattle.instance_book.specs.Views.{page_of};
+ghost use Rattle.instance_book.specs.Places.{state_at, StayKept};
+ghost use Rattle.instance_book.specs.Makes.{AllBecome, StaysSame, KeepsStates};
 ghost use Rattle.instance_book.specs.Changes.{opening_of, ending_of, finish_of};
-ghost use Rattle.instance_book.specs.Copies.{IsSameInstance, BeginsAlike, IsSameShow, IsSameExtension, IsSameChange, IsSame};
+ghost use Rattle.instance_book.specs.Copies.{IsSamePages, IsSameInstance, BeginsAlike, IsSameShow, IsSameExtension, IsSameChange, IsSameIf, IsSame};
 
 use crate::after::{After, Show};
 use crate::book::Book;
@@ -19,7 +19,8 @@ use std::alloc::{AllocError, Global};
 impl Numbered<KeptPage> {
     /// A copy, equal to its source.
     pub fn try_clone(&self, alloc: Global) -> Result<Numbered<KeptPage>, AllocError>
-        ensures { IfOk result (λ copy. page_of copy ≡ page_of self.now) }
+        ensures page { IfOk result (λ copy. page_of copy ≡ page_of self.now) }
+        ensures state { IfOk result (λ copy. state_at copy ≡ state_at self.now) }
     {
         Ok(Numbered {
             number: self.number,
@@ -30,6 +31,7 @@ impl Numbered<KeptPage> {
                 reads: self.item.reads.try_clone(alloc)?,
                 inside: self.item.inside.as_slice().to_vec(alloc)?,
                 deadline: self.item.deadline,
+                state: self.item.state.try_clone(alloc)?,
             },
         })
     }
@@ -38,7 +40,7 @@ impl Numbered<KeptPage> {
 impl InOrder<KeptPage> {
     /// A copy, equal to its source.
     pub fn try_clone(&self, alloc: Global) -> Result<InOrder<KeptPage>, AllocError>
-        ensures { IfOk result (λ copy. pages_of copy ≡ pages_of self.now) }
+        ensures { IfOk result (IsSamePages self.now) }
     {
         let mut things = Vec::new(alloc);
         for page in &self.things {
@@ -53,6 +55,7 @@ impl KeptInstance {
     pub fn try_clone(&self, alloc: Global) -> Result<KeptInstance, AllocError>
         ensures instance { IfOk result (IsSameInstance self.now) }
         ensures script { IfOk result (λ copy. copy.script ≡ self.now.script) }
+        ensures pages { IfOk result (λ copy. IsSamePages self.now.pages copy.pages) }
     {
         Ok(KeptInstance {
             script: self.script,
@@ -68,7 +71,7 @@ impl InOrder<KeptInstance> {
     /// A copy, equal to its source.
     pub fn try_clone(&self, alloc: Global) -> Result<InOrder<KeptInstance>, AllocError>
         ensures instances { IfOk result (AllBecome (λ is. is) self.now) }
-        ensures placed { IfOk result (StayPlaced self.now) }
+        ensures states { IfOk result (StayKept self.now) }
     {
         let mut things = Vec::new(alloc);
         for instance in &self.things {
@@ -119,6 +122,9 @@ impl Opening {
     pub fn try_clone(&self, alloc: Global) -> Result<Opening, AllocError>
         ensures opening { IfOk result (λ copy. opening_of copy ≡ opening_of self.now) }
         ensures page { IfOk result (λ copy. page_of copy.page ≡ page_of self.now.page) }
+        ensures state { IfOk result (λ copy. state_at copy.page ≡ state_at self.now.page) }
+        ensures script { IfOk result (λ copy. copy.instance.script ≡ self.now.instance.script) }
+        ensures pages { IfOk result (λ copy. IsSamePages self.now.instance.pages copy.instance.pages) }
         ensures begun { IfOk result (BeginsAlike self.now) }
         ensures room { IfOk result (λ copy. HasRoom copy.instance.pages) }
     {
@@ -192,13 +198,30 @@ impl Change {
     pub fn try_clone(&self, alloc: Global) -> Result<Change, AllocError>
         ensures { IfOk result (IsSameChange self.now) }
     {
-        Ok(match self {
-            Change::Opens(opening) => Change::Opens(opening.try_clone(alloc)?),
-            Change::Extends(extension) => Change::Extends(extension.try_clone(alloc)?),
-            Change::Ends(ending) => Change::Ends(ending.try_clone(alloc)?),
-            Change::Finishes(finish) => Change::Finishes(finish.try_clone(alloc)?),
-        })
+        match self {
+            Change::Opens(opening) => {
+                let copy = opening.try_clone(alloc)?;
+                Ok(Change::Opens(copy))
+            }
+            Change::Extends(extension) => {
+                let copy = extension.try_clone(alloc)?;
+                Ok(Change::Extends(copy))
+            }
+            Change::Ends(ending) => Ok(Change::Ends(ending.try_clone(alloc)?)),
+            Change::Finishes(finish) => Ok(Change::Finishes(finish.try_clone(alloc)?)),
+        }
     }
+}
+
+// A copy of a change, where there is one.
+fn clone_change(alloc: Global, change: &Option<Change>) -> Result<Option<Change>, AllocError>
+    ensures { IfOk result (IsSameIf change.now) }
+{
+    let Some(change) = change else {
+        return Ok(None);
+    };
+    let copy = change.try_clone(alloc)?;
+    Ok(Some(copy))
 }
 
 impl Prepared {
@@ -206,10 +229,7 @@ impl Prepared {
     pub fn try_clone(&self, alloc: Global) -> Result<Prepared, AllocError>
         ensures { IfOk result (IsSame self.now) }
     {
-        let change = match &self.change {
-            Some(change) => Some(change.try_clone(alloc)?),
-            None => None,
-        };
+        let change = clone_change(alloc, &self.change)?;
         Ok(Prepared {
             reply: self.reply.try_clone(alloc)?,
             logged: self.logged,
@@ -222,7 +242,7 @@ impl Book {
     /// A copy, equal to its source.
     pub fn try_clone(&self, alloc: Global) -> Result<Book, AllocError>
         ensures book { IfOk result (StaysSame self.now) }
-        ensures placed { IfOk result (KeepsPlaces self.now) }
+        ensures states { IfOk result (KeepsStates self.now) }
     {
         let instances = self.instances.try_clone(alloc)?;
         let out = self.out.as_slice().to_vec(alloc)?;

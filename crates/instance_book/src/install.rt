@@ -1,6 +1,6 @@
 ghost use Rattle.std.specs.Prelude.{◌≡◌};
 ghost use Rattle.instance_book.specs.Makes.{MakesUnder};
-ghost use Rattle.instance_book.specs.Changes.{changed_by, put_into, HasRoomFor, KeepsPlacesBy};
+ghost use Rattle.instance_book.specs.Changes.{changed_by, put_into, HasRoomFor, KeepsStatesBy};
 
 use crate::book::Book;
 use crate::instance::KeptInstance;
@@ -9,7 +9,10 @@ use crate::prepared::{Change, Opening, Prepared};
 use script_value::Reply;
 
 impl Opening {
+    ghost use Rattle.replay_spec.specs.Change.{put_in_order, put_page};
     ghost use Rattle.instance_book.specs.Lists.{HasRoom};
+    ghost use Rattle.instance_book.specs.Views.{page_of, pages_of};
+    ghost use Rattle.instance_book.specs.Places.{shown_of, shown_in};
     ghost use Rattle.instance_book.specs.Changes.{BeginsWith};
 
     // The instance that begins with its page.
@@ -17,6 +20,9 @@ impl Opening {
         requires { HasRoom self.instance.pages }
         ensures instance { BeginsWith self result }
         ensures script { result.item.script ≡ self.instance.script }
+        ensures number { result.number ≡ self.page.number }
+        ensures pages { pages_of result.item.pages ≡ put_page (page_of self.page) (pages_of self.instance.pages) }
+        ensures shown { shown_in result.item.pages ≡ put_in_order (λ x. x.0.number) (shown_of self.page) (shown_in self.instance.pages) }
     {
         let Opening {
             effects: _,
@@ -39,7 +45,7 @@ impl Book {
     fn change(&mut self, change: Option<Change>)
         requires { HasRoomFor change self.old }
         ensures book { MakesUnder (λ scripts. changed_by scripts change) self.old self.new }
-        ensures placed { KeepsPlacesBy change self.old self.new }
+        ensures states { KeepsStatesBy change self.old self.new }
     {
         let Some(change) = change else {
             return;
@@ -59,7 +65,7 @@ impl Book {
         requires { HasRoomFor prepared.change self.old }
         ensures book { MakesUnder (λ scripts. put_into scripts prepared) self.old self.new }
         ensures reply { result ≡ prepared.reply }
-        ensures placed { KeepsPlacesBy prepared.change self.old self.new }
+        ensures states { KeepsStatesBy prepared.change self.old self.new }
     {
         let Prepared {
             reply,

@@ -1,12 +1,15 @@
 //! The instances of a shelf with their pages and cells: what a target is admitted as, and what each visit makes of the book.
 #![tactic(auto)]
 
+ghost use Rattle.instance_book.specs.Places.{OneMoreHasItsState};
+ghost use Rattle.instance_book.specs.Laws.{AShownPageHasItsState};
+
 mod admission;
 mod after;
 mod book;
 mod calls;
-mod chain;
 mod copies;
+mod home;
 mod in_order;
 mod install;
 mod instance;
@@ -27,3 +30,14 @@ pub use numbered::Numbered;
 pub use page::KeptPage;
 pub use prepared::{Change, Ending, Extension, Finish, Opening, Prepared};
 pub use ticket::Ticket;
+
+/// Where each page of an instance has the state of its chain, so it is with one more page whose state is that of its chain.
+pub fn one_more_has_its_state()
+    ensures { OneMoreHasItsState }
+{}
+
+/// The page that a visit shows has the state of its chain, where what it went on from was the state of the chain that it
+/// answered.
+pub fn a_shown_page_has_its_state()
+    ensures { AShownPageHasItsState }
+{}

@@ -1,4 +1,5 @@
 use script_value::{Items, TxName, Value};
+use stored_states::Suspended;
 
 /// What is kept of a page that was shown, under its number.
 #[derive(Drop)]
@@ -14,4 +15,6 @@ pub struct KeptPage {
     pub inside: Vec<TxName>,
     /// From this tick on it can't be answered, in seconds.
     pub deadline: u64,
+    /// What is kept of its script: an answer goes on from there.
+    pub state: Suspended,
 }

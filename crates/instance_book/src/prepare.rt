@@ -1,12 +1,13 @@
-ghost use Rattle.std.specs.Prelude.{◌≡◌, ◌<◌, ◌≤◌, ◌+◌, ◌^◌, ◌++◌, None, Ok, IfOk, IfErr, OnOk, map, length, Contains};
+ghost use Rattle.std.specs.Prelude.{◌≡◌, ◌<◌, ◌≤◌, ◌+◌, ◌^◌, ◌++◌, [], None, Ok, IfOk, IfErr, OnOk, map, length, Contains};
 ghost use Rattle.instance_cells.specs.Cells.{AreOn, reads_of};
 ghost use Rattle.instance_cells.specs.Views.{effect_of};
-ghost use Rattle.segments.specs.Views.{segment_of};
+ghost use Rattle.stored_states.specs.Views.{segment_of, suspended_of};
 ghost use Rattle.instance_book.specs.Lists.{HasRoom};
-ghost use Rattle.instance_book.specs.Views.{HasRoomAt};
-ghost use Rattle.instance_book.specs.Makes.{StaysSame, KeepsPlaces};
+ghost use Rattle.instance_book.specs.Views.{pages_of, HasRoomAt};
+ghost use Rattle.instance_book.specs.Places.{state_at, shown_in};
+ghost use Rattle.instance_book.specs.Makes.{StaysSame, KeepsStates};
 ghost use Rattle.instance_book.specs.Changes.{renewed, HasRoomFor};
-ghost use Rattle.instance_book.specs.Prepares.{StartsOn, AnswersOn, IsOnCells, AreOnCells, IsPrepared};
+ghost use Rattle.instance_book.specs.Prepares.{StartsOn, AnswersOn, IsOnCells, AreOnCells, IsPrepared, OpensTo, ExtendsTo, StartKeepsState, AnswerKeepsState, KeepsItsState};
 ghost use Rattle.instance_book.specs.Segments.{Revokes, BeginsBy, IsLeftBy, GoesOnBy, Shows, EndsOn, FinishesOn, OpensOn};
 
 use crate::after::{After, Show};
@@ -22,8 +23,8 @@ use instance_cells::Effect;
 use page_names::{PageName, Target};
 use script_nodes::SendKind;
 use script_value::{Bytes, Items, Refusal, Reply, TxName, Value};
-use segments::{PlainEnd, Rerun};
 use std::alloc::{AllocError, Global};
+use stored_states::{Outcome, Segment, Suspended};
 use transactions::Closed;
 
 // The closed transactions with these more.
@@ -111,6 +112,8 @@ fn begun(
     ensures instance { IfOk result (BeginsBy ticket.now effects.now left.now) }
     ensures room { IfOk result (λ instance. HasRoom instance.pages) }
     ensures script { IfOk result (λ instance. instance.script ≡ ticket.now.script) }
+    ensures pages { IfOk result (λ instance. pages_of instance.pages ≡ []) }
+    ensures shown { IfOk result (λ instance. shown_in instance.pages ≡ []) }
 {
     Ok(KeptInstance {
         script: ticket.script,
@@ -144,9 +147,11 @@ impl KeptInstance {
         inside: Vec<TxName>,
         left: &[TxName],
         deadline: u64,
+        state: Suspended,
     ) -> Result<Show, AllocError>
         requires { AreOn (length self.now.cells) (map effect_of effects.now) }
-        ensures { IfOk result (GoesOnBy ticket.now parent kind effects.now inside.items left.now deadline self.now) }
+        ensures state { IfOk result (λ show. state_at show.page ≡ suspended_of state) }
+        ensures instance { IfOk result (GoesOnBy ticket.now parent kind effects.now inside.items left.now deadline self.now) }
     {
         let after = self.after(alloc, effects, left)?;
         let revoked = revoked_after(alloc, kind, &self.pages)?;
@@ -162,6 +167,7 @@ impl KeptInstance {
                     reads,
                     inside,
                     deadline,
+                    state,
                 },
             },
             revoked,
@@ -183,14 +189,16 @@ impl Numbered<KeptInstance> {
         inside: Vec<TxName>,
         left: Vec<TxName>,
         deadline: u64,
+        state: Suspended,
     ) -> Result<Prepared, AllocError>
         requires on { AreOn (length self.now.item.cells) (map effect_of effects.items) }
         requires number { ticket.now.number < 2 ^ 63 }
-        ensures { IfOk result (Shows ticket.now answered page kind effects.items inside.items left.items deadline self.now) }
+        ensures state { IfOk result (λ p. ExtendsTo ticket.now self.now.number answered (map effect_of effects.items) inside.items (suspended_of state) p.change) }
+        ensures shows { IfOk result (Shows ticket.now answered page kind effects.items inside.items left.items deadline self.now) }
     {
         let reply = shown(alloc, page, ticket)?;
         let show = self.item.shows(
-            alloc, ticket, answered, kind, &effects, inside, &left, deadline,
+            alloc, ticket, answered, kind, &effects, inside, &left, deadline, state,
         )?;
         Ok(Prepared {
             reply,
@@ -279,14 +287,16 @@ impl Book {
         inside: Vec<TxName>,
         left: Vec<TxName>,
         life: u64,
+        state: Suspended,
     ) -> Result<Prepared, AllocError>
         requires on { AreOn (length ticket.now.cells) (map effect_of effects.items) }
         requires life { life ≤ LONGEST_LIFE }
         requires number { ticket.now.number < 2 ^ 63 }
         requires few { length self.old.instances.things.items + 1 < 2 ^ 32 }
         ensures book { StaysSame self.old self.new }
-        ensures placed { KeepsPlaces self.old self.new }
+        ensures states { KeepsStates self.old self.new }
         ensures room { IfOk result (λ p. HasRoomFor p.change self.new) }
+        ensures state { IfOk result (λ p. OpensTo ticket.now (map effect_of effects.items) inside.items (suspended_of state) p.change) }
         ensures opens { IfOk result (OpensOn ticket.now page kind effects.items inside.items left.items life self.old) }
     {
         let reply = shown(alloc, page, ticket)?;
@@ -309,6 +319,7 @@ impl Book {
                         reads,
                         inside,
                         deadline: deadline(self.clock, life),
+                        state,
                     },
                 },
                 instance,
@@ -321,7 +332,7 @@ impl Book {
         &mut self,
         alloc: Global,
         ticket: &Ticket,
-        segment: Rerun,
+        segment: Segment,
         instances: u32,
         life: u64,
     ) -> Result<Prepared, Reply>
@@ -329,32 +340,36 @@ impl Book {
         requires life { life ≤ LONGEST_LIFE }
         requires number { ticket.now.number < 2 ^ 63 }
         ensures book { StaysSame self.old self.new }
-        ensures placed { KeepsPlaces self.old self.new }
+        ensures states { KeepsStates self.old self.new }
         ensures room { IfOk result (λ p. HasRoomFor p.change self.new) }
+        ensures state { IfOk result (λ p. StartKeepsState ticket.now segment p.change) }
         ensures decided { StartsOn self.old ticket.now (segment_of segment) instances life result }
     {
-        let Rerun {
-            end,
+        let Segment {
+            outcome,
             effects,
             entered,
             left,
             cost: _,
         } = segment;
-        match end {
-            PlainEnd::Shown { page, kind } => {
+        match outcome {
+            Outcome::Shown { page, kind, state } => {
                 let count = self.instances.len();
                 if count >= instances as usize {
                     return Err(Reply::ShelfFull(count as u64));
                 }
-                match self.opening(alloc, ticket, page, kind, effects, entered, left, life) {
+                let made = self.opening(
+                    alloc, ticket, page, kind, effects, entered, left, life, state,
+                );
+                match made {
                     Ok(prepared) => Ok(prepared),
                     Err(_) => Err(Reply::Memory),
                 }
             }
-            PlainEnd::Finished(page) => Ok(unchanged(Reply::Finished(page))),
-            PlainEnd::Ended(page) => Ok(unchanged(Reply::Ended(page))),
-            PlainEnd::Faulted(fault) => Ok(unchanged(Reply::Fault(fault))),
-            PlainEnd::Fuel(cost) => Ok(unchanged(Reply::Fuel(cost))),
+            Outcome::Finished(page) => Ok(unchanged(Reply::Finished(page))),
+            Outcome::Ended(page) => Ok(unchanged(Reply::Ended(page))),
+            Outcome::Faulted(fault) => Ok(unchanged(Reply::Fault(fault))),
+            Outcome::Fuel(cost) => Ok(unchanged(Reply::Fuel(cost))),
         }
     }
 
@@ -365,7 +380,7 @@ impl Book {
         made: Result<Prepared, AllocError>,
     ) -> Result<Prepared, Reply>
         ensures book { StaysSame self.old self.new }
-        ensures placed { KeepsPlaces self.old self.new }
+        ensures states { KeepsStates self.old self.new }
         ensures made { IfOk result (λ p. made ≡ Ok p) }
         ensures room { OnOk result (HasRoomAt instance self.new.instances) }
         ensures err { IfErr result (λ r. r ≡ Reply.Memory) }
@@ -385,7 +400,7 @@ impl Book {
         alloc: Global,
         ticket: &Ticket,
         page: &PageName,
-        segment: Rerun,
+        segment: Segment,
         pages: u32,
         life: u64,
     ) -> Result<Prepared, Reply>
@@ -393,39 +408,44 @@ impl Book {
         requires life { life ≤ LONGEST_LIFE }
         requires number { ticket.now.number < 2 ^ 63 }
         ensures book { StaysSame self.old self.new }
-        ensures placed { KeepsPlaces self.old self.new }
+        ensures states { KeepsStates self.old self.new }
         ensures room { IfOk result (λ p. HasRoomFor p.change self.new) }
+        ensures state { IfOk result (λ p. AnswerKeepsState ticket.now segment page.now.instance page.now.page p.change) }
         ensures decided { AnswersOn self.old ticket.now page.now (segment_of segment) pages life result }
     {
         let Some(instance) = self.instances.get(page.instance) else {
             return Ok(unchanged(Reply::Refused(Refusal::Unknown)));
         };
-        let Rerun {
-            end,
+        let Segment {
+            outcome,
             effects,
             entered,
             left,
             cost: _,
         } = segment;
-        match end {
-            PlainEnd::Shown { page: bytes, kind } => {
+        match outcome {
+            Outcome::Shown {
+                page: bytes,
+                kind,
+                state,
+            } => {
                 let count = instance.item.pages.len();
                 if count >= pages as usize {
                     return Err(Reply::InstanceFull(count as u64));
                 }
                 let deadline = deadline(self.clock, life);
                 let made = instance.extension(
-                    alloc, ticket, page.page, bytes, kind, effects, entered, left, deadline,
+                    alloc, ticket, page.page, bytes, kind, effects, entered, left, deadline, state,
                 );
                 self.with_room(page.instance, made)
             }
-            PlainEnd::Ended(bytes) => {
+            Outcome::Ended(bytes) => {
                 match instance.ending(alloc, ticket, page.page, bytes, effects, entered, left) {
                     Ok(prepared) => Ok(prepared),
                     Err(_) => Err(Reply::Memory),
                 }
             }
-            PlainEnd::Finished(bytes) => {
+            Outcome::Finished(bytes) => {
                 match finish(
                     alloc,
                     ticket,
@@ -439,8 +459,8 @@ impl Book {
                     Err(_) => Err(Reply::Memory),
                 }
             }
-            PlainEnd::Faulted(fault) => Ok(unchanged(Reply::Fault(fault))),
-            PlainEnd::Fuel(cost) => Ok(unchanged(Reply::Fuel(cost))),
+            Outcome::Faulted(fault) => Ok(unchanged(Reply::Fault(fault))),
+            Outcome::Fuel(cost) => Ok(unchanged(Reply::Fuel(cost))),
         }
     }
 
@@ -448,12 +468,13 @@ impl Book {
     ///
     /// It asks for a number that is out, for a life in its range in seconds, and for effects on the cells of the visit's
     /// instance. The segment is the one over the present cells of an admitted target: then what is prepared is what the visit
-    /// comes to, and carries it out, and a refusal is `ShelfFull`, `InstanceFull` or want of memory.
+    /// comes to, and carries it out, and a refusal is `ShelfFull`, `InstanceFull` or want of memory. A page that it shows
+    /// keeps the state of the segment.
     pub fn prepare(
         &mut self,
         alloc: Global,
         ticket: &Ticket,
-        segment: Rerun,
+        segment: Segment,
         instances: u32,
         pages: u32,
         life: u64,
@@ -462,8 +483,9 @@ impl Book {
         requires life { life ≤ LONGEST_LIFE }
         requires on { AreOnCells self.old ticket.now (map effect_of segment.effects.items) }
         ensures book { StaysSame self.old self.new }
-        ensures placed { KeepsPlaces self.old self.new }
+        ensures states { KeepsStates self.old self.new }
         ensures room { IfOk result (λ p. HasRoomFor p.change self.new) }
+        ensures state { IfOk result (λ p. KeepsItsState ticket.now segment p.change) }
         ensures decided { IsPrepared self.old ticket.now (segment_of segment) instances pages life result }
     {
         let _out = &self.out;

@@ -2,6 +2,7 @@ ghost use Rattle.std.specs.Prelude.{◌≡◌, ◌<◌, ◌^◌, ◌∷◌, [], 
 ghost use Rattle.script_nodes.specs.Views.{scripts_of};
 ghost use Rattle.page_names.specs.Names.{destination_of};
 ghost use Rattle.play_steps.specs.Rules.{Publishes, Sweeps};
+ghost use Rattle.instance_book.specs.Fits.{IsForSome};
 ghost use Rattle.shelf.specs.Ranges.{AreInRange};
 ghost use Rattle.shelf.specs.Views.{IsRunIfAny, rules_of};
 ghost use Rattle.server_command.specs.Desk as spec;
@@ -12,13 +13,13 @@ use crate::answer::answer_to;
 use http_forms::path_and_query;
 use instance_book::Ticket;
 use page_names::{Target, parse_target};
-use plain_rerun::{Rerun, rerun};
 use replay_spec::refused_is_unchanged;
 use script_nodes::Setup;
 use script_value::{Refusal, Reply};
-use shelf::{Rules, Shelf, tickets_go_on_to_fit};
+use shelf::{Rules, Shelf, run_ticket, tickets_go_on_to_fit};
 use std::alloc::Global;
 use std::mem;
+use stored_states::Segment;
 use web_outside::Counting;
 
 /// A shelf in memory, and the tickets of the sixteen workers that visit it.
@@ -42,11 +43,12 @@ fn target_at(path: &[u8]) -> Option<Target>
 }
 
 // The segment that a ticket is for, over the ticket's own cells; none where its run finds no memory.
-pub(crate) fn segment_of(alloc: Global, setup: &Setup, ticket: &Ticket, fuel: u64) -> Option<Rerun>
+pub(crate) fn segment_of(alloc: Global, setup: &Setup, ticket: &Ticket, fuel: u64) -> Option<Segment>
+    requires fits { IsForSome (scripts_of setup.now) ticket.now }
+    requires fuel { fuel < 2 ^ 63 }
     ensures { IsRunIfAny (scripts_of setup.now) fuel ticket.now result }
 {
-    let named = setup.get(ticket.script)?;
-    rerun(alloc, &named.script, &ticket.tape(&ticket.cells, fuel)).ok()
+    run_ticket(alloc, setup, ticket, &ticket.cells, fuel).ok()
 }
 
 // The ticket that a worker holds, which it holds no longer.

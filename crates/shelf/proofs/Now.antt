@@ -1,27 +1,98 @@
 -- The segment of a ticket over the cells of now.
-use Rattle.std.proofs.Common.{◌≡◌, ◌∙◌, ap, sym, subst, ℕ, List, [], ◌∷◌, length, map, Option, Some, None, IfSome, Result, Ok, Err, IfOk, option_map, slice_get, refl}
+use Rattle.std.proofs.Common.{◌≡◌, ◌∙◌, ap, sym, subst, ℕ, List, [], ◌∷◌, ◌++◌, length, map, Option, Some, None, IfSome, Result, Ok, Err, IfOk, option_map, slice_get, refl}
+use Rattle.std.proofs.lemmas.Option.{same_Some}
 use Rattle.script_value.specs.Val.{Val}
+use Rattle.script_value.specs.Views.{meaning}
 use Rattle.script_nodes.specs.Core.{OnCells}
+use Rattle.script_nodes.specs.Arena.{Arena, IsScript, script_of}
 use Rattle.script_nodes.specs.Setup.{Named, Script}
+use Rattle.script_nodes.specs.declared.script.Node.{Node}
 use Rattle.page_names.specs.Names.{start, page}
 use Rattle.page_names.specs.declared.names.PageName.{PageName}
-use Rattle.instance_cells.specs.Cells.{Holds, AreOn}
+use Rattle.instance_cells.specs.Cells.{Holds, AreOn, reads_of}
+use Rattle.instance_cells.specs.Views.{effect_of}
 use Rattle.replay_spec.specs.Tape.{Reads, recorded, present, Answer, Tape}
-use Rattle.replay_spec.specs.Eval.{Segment, run}
+use Rattle.replay_spec.specs.Eval as eval
+use Rattle.replay_spec.specs.Eval.{run}
 use Rattle.replay_spec.specs.Book.{Page, Instance, Book}
-use Rattle.replay_spec.specs.Admission.{Admission, begins, resumes, refused, refusal_of, admit}
-use Rattle.replay_spec.specs.Next.{Home, Visit, home_of, answered, tape_for, start_visit, page_visit}
-use Rattle.replay_spec.specs.Laws.{ArePast, EffectsHoldRunSame, EffectsAreOnCells}
+use Rattle.replay_spec.specs.Admission.{Place, Admission, begins, resumes, refused, refusal_of, admit}
+use Rattle.replay_spec.specs.Next.{Home, Visit, home_of, answered, tape_of, tape_for, page_tape, comes_to, start_visit, page_visit}
+use Rattle.replay_spec.specs.Next as next
+use Rattle.replay_spec.specs.Laws.{ArePast, EffectsHoldRunSame, EffectsAreOnCells, longer}
 use Rattle.replay_spec.proofs.Admitted.{page_stands, start_is_no_page, page_is_no_start}
+use Rattle.machine_spec.specs.Machine.{Suspended}
+use Rattle.machine_spec.specs.Laws.{IsStateOf}
+use Rattle.machine_spec.specs.Fits.{EachStateFits}
+use Rattle.stored_states.specs.Views.{suspended_of, origin_of, Keeps, segment_of}
+use Rattle.stored_states.specs.declared.segment.Origin.{Origin}
+use Rattle.stored_states.specs.declared.segment.Origin.TheVariants as origin
+use Rattle.stored_states.specs.declared.segment.Segment.{Segment}
+use Rattle.send_suspend.specs.Segments.{newest, FitsFrom, IsLastOver, Replays}
 use Rattle.instance_book.specs.declared.ticket.Ticket.{Ticket}
 use Rattle.instance_book.specs.Views.{ticket_of}
 use Rattle.instance_book.specs.Swept.{cells_in}
-use Rattle.instance_book.specs.Fits.{GoesOnFrom, newest_of, tape_with, past_of, IsFor, FitsAs}
-use Rattle.shelf.specs.Views.{IsSegmentOf, HaveTheirCells}
+use Rattle.instance_book.specs.Places.{arena_of}
+use Rattle.instance_book.specs.Fits.{GoesOnFrom, IsFor, IsForSome, FitsAs}
+use Rattle.instance_book.specs.Laws.{KeepsStateOver, KeepsStateAs}
+use Rattle.shelf.specs.Views.{IsSegmentOf, IsRunOver, HaveTheirCells}
 
--- behind the past of a visit, the tape of a ticket that is for it is the visit's
-tape_is : (scripts : List Named) (t : Ticket) (v : Visit) (reads : Reads) → v.ticket ≡ ticket_of t → IsFor scripts t v → tape_with t (past_of v) reads ≡ tape_for v reads
-tape_is scripts t v reads e fits = rw (fits.url, e) refl
+-- a script is its nodes in pre-order
+pub arena_is : (a : Arena) → IsScript a → a ≡ arena_of (script_of a)
+arena_is a i = ap (λ (ns : List Node). record a { nodes = ns }) i.numbered
+
+-- what a visit goes on from fits its script
+pub fits_from : EachStateFits → (a : Arena) → IsScript a → (v : Visit) → v.script.script ≡ script_of a → (o : Origin) → GoesOnFrom v (origin_of o) → FitsFrom a o
+fits_from law a i v e origin.Start goes = tt
+fits_from law a i v e (origin.Page d) goes =
+    let same : arena_of v.script.script ≡ a = ap arena_of e ∙ sym (arena_is a i) in
+    law a (page_tape (home_of v) goes.ancestors goes.page) (suspended_of d) (subst (λ (b : Arena). IsStateOf b (page_tape (home_of v) goes.ancestors goes.page) (suspended_of d)) same goes.state)
+
+-- an origin that is the same is gone on from the same
+pub replays_alike : (o p : Origin) (a : Arena) (x : Answer) (r : Segment) → origin_of o ≡ origin_of p → Replays o a x r → Replays p a x r
+replays_alike origin.Start origin.Start a x r e h = h
+replays_alike origin.Start (origin.Page d) a x r e h = absurd (cc)
+replays_alike (origin.Page d) origin.Start a x r e h = absurd (cc)
+replays_alike (origin.Page d) (origin.Page c) a x r e h = λ t is. h t (subst (λ (s : Suspended). IsStateOf a t s) (sym (same_Some (suspended_of d) (suspended_of c) e)) is)
+
+-- one page more, and then the newest segment
+one_more : (h : Home) (ps : List Page) (p : Page) (x : Answer) → tape_of h (ps ++ p ∷ []) x ≡ longer x (page_tape h ps p)
+one_more h [] p x = refl
+one_more h (q ∷ ps) p x = ap (λ (xs : List Answer). record { first = (answered h q).segment; later = xs ++ x ∷ [] }) (mapped ps)
+  where
+    mapped : (ps : List Page) → map (answered h) (ps ++ p ∷ []) ≡ map (answered h) ps ++ answered h p ∷ []
+    mapped [] = refl
+    mapped (r ∷ ps) = ap (λ (xs : List Answer). answered h r ∷ xs) (mapped ps)
+
+-- a segment is that of a visit over these cells, and its state is kept over the visit's tape
+pub record IsRunAs (v : Visit) (cells : List Val) (fuel : ℕ) (r : Segment) : Type 0 where
+  pub comes : segment_of r ≡ comes_to v (present cells fuel)
+  pub state : KeepsStateOver v r
+
+over_tape : (v : Visit) (a : Arena) (cells : List Val) (fuel : ℕ) (r : Segment) (tape : Reads → Tape) → v.script.script ≡ script_of a → a ≡ arena_of v.script.script
+    → ((reads : Reads) → tape reads ≡ tape_for v reads) → IsLastOver a r tape (present cells fuel) → IsRunAs v cells fuel r
+over_tape v a cells fuel r tape e same is last =
+    let read : Reads = recorded (reads_of (map effect_of r.effects.items)) in
+    record {
+      comes = last.0.0 ∙ (ap (λ (t : Tape). run (script_of a) t) (is (present cells fuel)) ∙ ap (λ (s : Script). run s (tape_for v (present cells fuel))) (sym e));
+      state = subst (λ (t : Tape). Keeps r.outcome (λ d. IsStateOf (arena_of v.script.script) t d)) (is read)
+          (subst (λ (b : Arena). Keeps r.outcome (λ d. IsStateOf b (tape read) d)) same last.1.1);
+    }
+
+runs_from : (v : Visit) (a : Arena) (cells : List Val) (fuel : ℕ) (r : Segment) → v.script.script ≡ script_of a → a ≡ arena_of v.script.script
+    → (o : Origin) → GoesOnFrom v (origin_of o) → Replays o a (next.newest v (present cells fuel)) r → IsRunAs v cells fuel r
+runs_from v a cells fuel r e same origin.Start goes replays =
+    over_tape v a cells fuel r (λ reads. tape_of (home_of v) [] (next.newest v reads)) e same
+    (λ reads. ap (λ (ps : List Page). tape_of (home_of v) ps (next.newest v reads)) (sym goes)) replays
+runs_from v a cells fuel r e same (origin.Page d) goes replays =
+    let t = page_tape (home_of v) goes.ancestors goes.page in
+    over_tape v a cells fuel r (λ reads. longer (next.newest v reads) t) e same
+    (λ reads. sym (ap (λ (ps : List Page). tape_of (home_of v) ps (next.newest v reads)) goes.chain ∙ one_more (home_of v) goes.ancestors goes.page (next.newest v reads)))
+    (replays t (subst (λ (b : Arena). IsStateOf b t (suspended_of d)) (sym same) goes.state))
+
+-- the answer of a ticket that is for a visit is the visit's
+answer_is : (scripts : List Named) (t : Ticket) (v : Visit) (cells : List Val) (fuel : ℕ) → v.ticket ≡ ticket_of t → IsFor scripts t v
+    → newest (meaning t.answer) t.number t.url cells fuel ≡ next.newest v (present cells fuel)
+answer_is scripts t v cells fuel e fits = rw (fits.url, e) refl
 
 -- pages that were shown are past
 are_past : (h : Home) (ps : List Page) → ArePast (map (answered h) ps)
@@ -29,84 +100,92 @@ are_past h [] = tt
 are_past h (p ∷ ps) = (tt, are_past h ps)
 
 -- a first run whose effects hold over the cells of now
-same_run : EffectsHoldRunSame → (t : Ticket) (v : Visit) (s : Script) (fuel : ℕ) (before now : List Val)
-    → Holds (run s (tape_with t (past_of v) (present before fuel))).effects now
-    → run s (tape_with t (past_of v) (present now fuel)) ≡ run s (tape_with t (past_of v) (present before fuel))
-same_run law t v s fuel before now holds = law s (past_of v) (newest_of t (recorded [])) (are_past (home_of v) v.pages) fuel before now holds
+same_run : EffectsHoldRunSame → (v : Visit) (fuel : ℕ) (before now : List Val) → Holds (comes_to v (present before fuel)).effects now
+    → comes_to v (present now fuel) ≡ comes_to v (present before fuel)
+same_run law v fuel before now holds =
+    law v.script.script (map (answered (home_of v)) v.pages) (next.newest v (recorded [])) (are_past (home_of v) v.pages) fuel before now holds
 
 -- a run's effects are on the cells of its script
-on_cells : EffectsAreOnCells → (named : Named) (t : Tape) (n : ℕ) → OnCells (length named.script.web) (length named.script.cells) named.script.body
-    → n ≡ length named.script.cells → AreOn n (run named.script t).effects
-on_cells law named t n whole e = subst (λ m. AreOn m (run named.script t).effects) (sym e) (law named.script t (length named.script.web) (length named.script.cells) whole)
+on_cells : EffectsAreOnCells → (v : Visit) (reads : Reads) (n : ℕ) → OnCells (length v.script.script.web) (length v.script.script.cells) v.script.script.body
+    → n ≡ length v.script.script.cells → AreOn n (comes_to v reads).effects
+on_cells law v reads n whole e =
+    subst (λ m. AreOn m (comes_to v reads).effects) (sym e) (law v.script.script (tape_for v reads) (length v.script.script.web) (length v.script.script.cells) whole)
 
--- a segment is the ticket's run over these cells, behind whatever past it goes on from
-abbrev pub IsRunOver : Ticket → Named → List Val → (fuel : ℕ) → Segment → Type 0
-IsRunOver t named cells fuel s = (past : List Answer) → GoesOnFrom t.from.items past → s ≡ run named.script (tape_with t past (present cells fuel))
+module _ (b : Book) (t : Ticket) (name : List ℕ) (a : Arena) (i : IsScript a) (named : Named) (its : named.script ≡ script_of a) (found : slice_get b.scripts t.script ≡ Some named) (fuel : ℕ) (over : List Val) (r : Segment)
+    (is : IsRunOver b.scripts fuel t over r) where
+  -- the run of the visit that the ticket is for
+  run_as : (v : Visit) → v.ticket ≡ ticket_of t → IsFor b.scripts t v → IsRunAs v over fuel r
+  run_as v e fits =
+      let script : v.script.script ≡ script_of a = ap (λ (s : Named). s.script) (same_Some v.script named (sym fits.script ∙ found)) ∙ its in
+      let same : a ≡ arena_of v.script.script = arena_is a i ∙ ap arena_of (sym script) in
+      let mine : arena_of named.script ≡ a = ap arena_of its ∙ sym (arena_is a i) in
+      runs_from v a over fuel r script same t.from fits.from
+      (subst (λ (x : Answer). Replays t.from a x r) (answer_is b.scripts t v over fuel e fits)
+      (subst (λ (c : Arena). Replays t.from c (newest (meaning t.answer) t.number t.url over fuel) r) mine (is named found)))
 
-module _ (b : Book) (t : Ticket) (name : List ℕ) (named : Named) (found : slice_get b.scripts t.script ≡ Some named) (fuel : ℕ) (s : Segment) where
-  -- the segment of a start that is admitted
-  pub start_segment : (a : Admission) → admit b (start name) ≡ a → FitsAs b.scripts b t a → IsRunOver t named t.cells fuel s → IsSegmentOf fuel b t a s
-  start_segment (begins k x) adm fits is =
+  whole_of : (v : Visit) → IsFor b.scripts t v → OnCells (length named.script.web) (length named.script.cells) named.script.body
+      → OnCells (length v.script.script.web) (length v.script.script.cells) v.script.script.body
+  whole_of v fits whole =
+      subst (λ (s : Named). OnCells (length s.script.web) (length s.script.cells) s.script.body) (same_Some named v.script (sym found ∙ fits.script)) whole
+
+  -- its state, where the target is admitted
+  pub keeps_state : (adm : Admission) → FitsAs b.scripts b t adm → KeepsStateAs b t adm r
+  keeps_state (begins k x) fits = (run_as (start_visit b (ticket_of t) k x) refl fits.run).state
+  keeps_state (resumes at) fits = (run_as (page_visit b (ticket_of t) at) refl fits).state
+  keeps_state (refused why) fits = tt
+
+  -- the segment of a start that is admitted, over the cells of its ticket
+  pub start_segment : (adm : Admission) → admit b (start name) ≡ adm → FitsAs b.scripts b t adm → over ≡ t.cells → IsSegmentOf fuel b t adm (segment_of r)
+  start_segment (begins k x) e fits own =
       let v = start_visit b (ticket_of t) k x in
-      let same : named ≡ x = cc (fits.run.script, found) in
-      is (past_of v) fits.run.from
-      ∙ (ap (λ (y : Named). run y.script (tape_with t (past_of v) (present t.cells fuel))) same
-      ∙ (ap (λ (vs : List Val). run x.script (tape_with t (past_of v) (present vs fuel))) fits.cells
-      ∙ ap (run x.script) (tape_is b.scripts t v (present x.script.cells fuel) refl fits.run)))
-  start_segment (resumes at) adm fits is = absurd (start_is_no_page b name at adm)
-  start_segment (refused r) adm fits is = tt
+      (run_as v refl fits.run).comes ∙ ap (λ (vs : List Val). comes_to v (present vs fuel)) (own ∙ fits.cells)
+  start_segment (resumes at) e fits own = absurd (start_is_no_page b name at e)
+  start_segment (refused why) e fits own = tt
 
   -- the effects of its run are on its cells
-  pub start_on : EffectsAreOnCells → (a : Admission) → OnCells (length named.script.web) (length named.script.cells) named.script.body
-      → admit b (start name) ≡ a → refusal_of a ≡ None → FitsAs b.scripts b t a → IsRunOver t named t.cells fuel s → AreOn (length t.cells) s.effects
-  start_on law (begins k x) whole adm admitted fits is =
+  pub start_on : EffectsAreOnCells → (adm : Admission) → OnCells (length named.script.web) (length named.script.cells) named.script.body
+      → admit b (start name) ≡ adm → refusal_of adm ≡ None → FitsAs b.scripts b t adm → AreOn (length t.cells) (segment_of r).effects
+  start_on law (begins k x) whole e ok fits =
       let v = start_visit b (ticket_of t) k x in
-      let same : named ≡ x = cc (fits.run.script, found) in
-      let cells : length t.cells ≡ length named.script.cells = ap (λ (vs : List Val). length vs) (fits.cells ∙ ap (λ (y : Named). y.script.cells) (sym same)) in
-      subst (λ (y : Segment). AreOn (length t.cells) y.effects) (sym (is (past_of v) fits.run.from)) (on_cells law named (tape_with t (past_of v) (present t.cells fuel)) (length t.cells) whole cells)
-  start_on law (resumes at) whole adm admitted fits is = absurd (start_is_no_page b name at adm)
-  start_on law (refused r) whole adm admitted fits is = absurd (cc)
+      subst (λ (s : eval.Segment). AreOn (length t.cells) s.effects) (sym (run_as v refl fits.run).comes)
+      (on_cells law v (present over fuel) (length t.cells) (whole_of v fits.run whole) (ap (λ (vs : List Val). length vs) fits.cells))
+  start_on law (resumes at) whole e ok fits = absurd (start_is_no_page b name at e)
+  start_on law (refused why) whole e ok fits = absurd (cc)
 
   module _ (n : PageName) (cells : List Val) (here : cells_in n.instance b ≡ Some cells) where
-    -- the segment of an answer to a page that is admitted: the first run where its effects hold, or the run over the cells of now
-    pub rerun_segment : (a : Admission) → admit b (page name n) ≡ a → FitsAs b.scripts b t a → IsRunOver t named cells fuel s → IsSegmentOf fuel b t a s
-    rerun_segment (begins k x) adm fits is = absurd (page_is_no_start b name n k x adm)
-    rerun_segment (resumes at) adm fits is =
-        let v = page_visit b (ticket_of t) at in
-        let script : named ≡ at.instance.script = cc (fits.script, found) in
-        let mine : cells ≡ at.instance.cells = cc (here, ap (option_map (λ (i : Instance). i.cells)) (page_stands b name n at adm).here) in
-        is (past_of v) fits.from
-        ∙ (ap (λ (y : Named). run y.script (tape_with t (past_of v) (present cells fuel))) script
-        ∙ (ap (λ (vs : List Val). run at.instance.script.script (tape_with t (past_of v) (present vs fuel))) mine
-        ∙ ap (run at.instance.script.script) (tape_is b.scripts t v (present at.instance.cells fuel) refl fits)))
-    rerun_segment (refused r) adm fits is = tt
+    its_cells : (at : Place) → admit b (page name n) ≡ resumes at → cells ≡ at.instance.cells
+    its_cells at e = cc (here, ap (option_map (λ (j : Instance). j.cells)) (page_stands b name n at e).here)
 
-    pub held_segment : EffectsHoldRunSame → (a : Admission) → admit b (page name n) ≡ a → FitsAs b.scripts b t a → IsRunOver t named t.cells fuel s → Holds s.effects cells → IsSegmentOf fuel b t a s
-    held_segment law (begins k x) adm fits is holds = absurd (page_is_no_start b name n k x adm)
-    held_segment law (resumes at) adm fits is holds =
+    -- the segment of an answer to a page that is admitted: the run over the cells of now, or the first run where its effects hold
+    pub rerun_segment : (adm : Admission) → admit b (page name n) ≡ adm → FitsAs b.scripts b t adm → over ≡ cells → IsSegmentOf fuel b t adm (segment_of r)
+    rerun_segment (begins k x) e fits own = absurd (page_is_no_start b name n k x e)
+    rerun_segment (resumes at) e fits own =
         let v = page_visit b (ticket_of t) at in
-        let first = is (past_of v) fits.from in
-        let again = same_run law t v named.script fuel t.cells cells (subst (λ (x : Segment). Holds x.effects cells) first holds) in
-        let now : s ≡ run named.script (tape_with t (past_of v) (present cells fuel)) = first ∙ sym again in
-        rerun_segment (resumes at) adm fits (λ past from. now ∙ ap (λ (p : List Answer). run named.script (tape_with t p (present cells fuel))) (sym fits.from ∙ from))
-    held_segment law (refused r) adm fits is holds = tt
+        (run_as v refl fits).comes ∙ ap (λ (vs : List Val). comes_to v (present vs fuel)) (own ∙ its_cells at e)
+    rerun_segment (refused why) e fits own = tt
+
+    pub held_segment : EffectsHoldRunSame → (adm : Admission) → admit b (page name n) ≡ adm → FitsAs b.scripts b t adm → Holds (segment_of r).effects cells → IsSegmentOf fuel b t adm (segment_of r)
+    held_segment law (begins k x) e fits holds = absurd (page_is_no_start b name n k x e)
+    held_segment law (resumes at) e fits holds =
+        let v = page_visit b (ticket_of t) at in
+        let first = (run_as v refl fits).comes in
+        let again = same_run law v fuel over cells (subst (λ (s : eval.Segment). Holds s.effects cells) first holds) in
+        first ∙ (sym again ∙ ap (λ (vs : List Val). comes_to v (present vs fuel)) (its_cells at e))
+    held_segment law (refused why) e fits holds = tt
 
     -- the effects of its run are on the cells of its instance
-    pub page_on : EffectsAreOnCells → (over : List Val) (a : Admission) → OnCells (length named.script.web) (length named.script.cells) named.script.body → HaveTheirCells b
-        → admit b (page name n) ≡ a → refusal_of a ≡ None → FitsAs b.scripts b t a → IsRunOver t named over fuel s → AreOn (length cells) s.effects
-    page_on law over (begins k x) whole theirs adm admitted fits is = absurd (page_is_no_start b name n k x adm)
-    page_on law over (resumes at) whole theirs adm admitted fits is =
+    pub page_on : EffectsAreOnCells → (adm : Admission) → OnCells (length named.script.web) (length named.script.cells) named.script.body → HaveTheirCells b
+        → admit b (page name n) ≡ adm → refusal_of adm ≡ None → FitsAs b.scripts b t adm → AreOn (length cells) (segment_of r).effects
+    page_on law (begins k x) whole theirs e ok fits = absurd (page_is_no_start b name n k x e)
+    page_on law (resumes at) whole theirs e ok fits =
         let v = page_visit b (ticket_of t) at in
-        let stands = page_stands b name n at adm in
-        let script : named ≡ at.instance.script = cc (fits.script, found) in
-        let mine : cells ≡ at.instance.cells = cc (here, ap (option_map (λ (i : Instance). i.cells)) stands.here) in
-        let many : length cells ≡ length named.script.cells =
-        ap (λ (vs : List Val). length vs) mine ∙ (theirs n.instance at.instance stands.here ∙ ap (λ (y : Named). length y.script.cells) (sym script)) in
-        subst (λ (y : Segment). AreOn (length cells) y.effects) (sym (is (past_of v) fits.from)) (on_cells law named (tape_with t (past_of v) (present over fuel)) (length cells) whole many)
-    page_on law over (refused r) whole theirs adm admitted fits is = absurd (cc)
+        let many : length cells ≡ length at.instance.script.script.cells =
+        ap (λ (vs : List Val). length vs) (its_cells at e) ∙ theirs n.instance at.instance (page_stands b name n at e).here in
+        subst (λ (s : eval.Segment). AreOn (length cells) s.effects) (sym (run_as v refl fits).comes) (on_cells law v (present over fuel) (length cells) (whole_of v fits whole) many)
+    page_on law (refused why) whole theirs e ok fits = absurd (cc)
 
 -- where the instance is gone, nothing is admitted
-pub gone_segment : (b : Book) (t : Ticket) (name : List ℕ) (n : PageName) (fuel : ℕ) (s : Segment) (a : Admission) → cells_in n.instance b ≡ None → admit b (page name n) ≡ a → IsSegmentOf fuel b t a s
+pub gone_segment : (b : Book) (t : Ticket) (name : List ℕ) (n : PageName) (fuel : ℕ) (s : eval.Segment) (a : Admission) → cells_in n.instance b ≡ None → admit b (page name n) ≡ a → IsSegmentOf fuel b t a s
 gone_segment b t name n fuel s (begins k x) gone adm = absurd (page_is_no_start b name n k x adm)
 gone_segment b t name n fuel s (resumes at) gone adm =
     let there = ap (option_map (λ (i : Instance). i.cells)) (page_stands b name n at adm).here in

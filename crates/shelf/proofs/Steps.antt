@@ -28,7 +28,7 @@ use Rattle.replay_spec.specs.Runs.{drawn_by, shelf_step}
 use Rattle.replay_spec.specs.Runs as runs
 use Rattle.replay_spec.specs.Invariant.{IsOrderly}
 use Rattle.replay_spec.specs.Laws.{IsLawful, OrderlyBooksStay}
-use Rattle.instance_book.specs.Makes.{HasPlaces}
+use Rattle.instance_book.specs.Makes.{HasItsStates}
 use Rattle.instance_book.specs.Fits.{FitsAs}
 use Rattle.shelf.specs.declared.rules.Rules as limits_of
 use Rattle.shelf.specs.declared.shelf.Shelf.{Shelf}
@@ -274,9 +274,9 @@ quiet_event coming ss old new event r after limits source_stays is none stepped 
 
 -- a shelf in order stays so
 pub order_behind : {N : Type 0} → OrderlyBooksStay → (ss : List Named) (old new : Shelf N) (event : step.Event) (nonce : ℕ) (fate : step.Fate) (r : step.Reply) (after : Book) → IsInOrder ss old → IsLawful event (book_in ss old)
-    → (HasPlaces ss old.book → HasPlaces ss new.book) → book_in ss new ≡ after → step.step (rules_of old.rules) (book_in ss old) nonce event fate ≡ (r, after) → IsInOrder ss new
+    → (HasItsStates ss old.book → HasItsStates ss new.book) → book_in ss new ≡ after → step.step (rules_of old.rules) (book_in ss old) nonce event fate ≡ (r, after) → IsInOrder ss new
 order_behind law ss old new event nonce fate r after order lawful places is stepped = record {
-  placed = places order.placed;
+  states = places order.states;
   orderly = subst IsOrderly (sym is) (orderly_behind law (rules_of old.rules) (book_in ss old) nonce event fate r after order.orderly lawful stepped);
 }
 

@@ -9,7 +9,7 @@ use Rattle.script_nodes.specs.Views.{scripts_of}
 use Rattle.script_nodes.specs.declared.setup.Setup.{Setup}
 use Rattle.page_names.specs.Views.{target_of}
 use Rattle.page_names.specs.declared.names.Target.{Target}
-use Rattle.segments.specs.declared.ends.Rerun.{Rerun}
+use Rattle.stored_states.specs.declared.segment.Segment.{Segment}
 use Rattle.replay_spec.specs.Book as spec
 use Rattle.replay_spec.specs.Rules as spec_rules
 use Rattle.replay_spec.specs.Step as step
@@ -54,9 +54,9 @@ IsDecided setup s t result =
     Decides (scripts_of setup) (rules_of s.rules) (book_in (scripts_of setup) s) (decision_of setup s t) result
 
 -- where no second run is due, want of memory is told only of what changes the book
-abbrev pub IsDecidedIfHeld : {N : Type 0} → Setup → Shelf N → Ticket → Option Rerun → Result Prepared Reply → Type 0
+abbrev pub IsDecidedIfHeld : {N : Type 0} → Setup → Shelf N → Ticket → Option Segment → Result Prepared Reply → Type 0
 IsDecidedIfHeld setup s t segment result =
-    (r : Rerun) → segment ≡ Some r → HoldNow (book_in (scripts_of setup) s) t r
+    (r : Segment) → segment ≡ Some r → HoldNow (book_in (scripts_of setup) s) t r
     → Prepares (scripts_of setup) (rules_of s.rules) (book_in (scripts_of setup) s) (decision_of setup s t) result
 
 -- a decision that changes nothing is told
@@ -64,9 +64,9 @@ abbrev pub TellsReply : Decision → step.Reply → Type 0
 TellsReply (replies x) r = r ≡ x
 TellsReply (records x c inside) r = ⊤
 
-abbrev pub IsToldIfHeld : {N : Type 0} → Setup → Shelf N → Ticket → Option Rerun → Reply → Type 0
+abbrev pub IsToldIfHeld : {N : Type 0} → Setup → Shelf N → Ticket → Option Segment → Reply → Type 0
 IsToldIfHeld setup s t segment result =
-    (r : Rerun) → segment ≡ Some r → HoldNow (book_in (scripts_of setup) s) t r → TellsReply (decision_of setup s t) (reply_of result)
+    (r : Segment) → segment ≡ Some r → HoldNow (book_in (scripts_of setup) s) t r → TellsReply (decision_of setup s t) (reply_of result)
 
 -- a target that is not admitted is told so
 abbrev pub TellsRefusal : {N : Type 0} → Setup → Shelf N → Target → Reply → Type 0
@@ -75,7 +75,7 @@ TellsRefusal setup s target result = IfSome (refusal_now setup s target) (λ r. 
 abbrev pub IsRefused : {N : Type 0} → Setup → Shelf N → Target → Result Prepared Reply → Type 0
 IsRefused setup s target result = IfSome (refusal_now setup s target) (λ r. result ≡ Err (reply.Refused r))
 
-abbrev pub WantsMemory : {N : Type 0} → Setup → Shelf N → Ticket → Option Rerun → Result Prepared Reply → Type 0
+abbrev pub WantsMemory : {N : Type 0} → Setup → Shelf N → Ticket → Option Segment → Result Prepared Reply → Type 0
 WantsMemory setup s t segment result = segment ≡ None → refusal_now setup s t.target ≡ None → result ≡ Err reply.Memory
 
 -- want of memory changes nothing else than that the number is spent
@@ -84,7 +84,7 @@ SpendsOnly setup old new t result =
     result ≡ reply.Memory → book_in (scripts_of setup) new ≡ spec.spend t.number (book_in (scripts_of setup) old)
 
 -- where there was no memory for the run of an admitted target, that is the answer
-abbrev pub WantsIfNone : {N : Type 0} → Setup → Shelf N → Ticket → Option Rerun → Reply → Type 0
+abbrev pub WantsIfNone : {N : Type 0} → Setup → Shelf N → Ticket → Option Segment → Reply → Type 0
 WantsIfNone setup s t segment result = segment ≡ None → refusal_now setup s t.target ≡ None → result ≡ reply.Memory
 
 -- a sweep is one event, whatever the setup

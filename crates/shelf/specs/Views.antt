@@ -1,5 +1,7 @@
 -- What the program's shelf stands for in the definitions.
 use Rattle.std.specs.Prelude.{◌≡◌, ℕ, ◌+◌, List, map, length, Option, Some, None, IfSome, Contains, slice_get, Result, Ok, Err, ⊤}
+use Rattle.script_value.specs.Val.{Val}
+use Rattle.script_value.specs.Views.{meaning}
 use Rattle.script_value.specs.declared.outcome.Reply.{Reply}
 use Rattle.script_value.specs.declared.outcome.Refusal.{Refusal}
 use Rattle.script_nodes.specs.Setup.{Named}
@@ -10,10 +12,11 @@ use Rattle.page_names.specs.Views.{target_of}
 use Rattle.page_names.specs.declared.names.Target.{Target}
 use Rattle.instance_cells.specs.Cells.{Effect, Holds}
 use Rattle.instance_cells.specs.Views.{effect_of}
-use Rattle.segments.specs.declared.ends.Rerun.{Rerun}
-use Rattle.segments.specs.Views.{segment_of}
-use Rattle.replay_spec.specs.Tape.{Answer, present}
-use Rattle.replay_spec.specs.Eval.{Segment, run}
+use Rattle.stored_states.specs.Views.{segment_of}
+use Rattle.stored_states.specs.declared.segment.Segment as ran
+use Rattle.send_suspend.specs.Segments.{newest, Replays}
+use Rattle.replay_spec.specs.Tape.{present}
+use Rattle.replay_spec.specs.Eval.{Segment}
 use Rattle.replay_spec.specs.Book as spec
 use Rattle.replay_spec.specs.Book.{Book, instance_at}
 use Rattle.replay_spec.specs.Rules as spec_rules
@@ -25,10 +28,12 @@ use Rattle.replay_spec.specs.Runs.{drawn_by, shelf_step}
 use Rattle.replay_spec.specs.Invariant.{IsOrderly}
 use Rattle.instance_book.specs.declared.ticket.Ticket.{Ticket}
 use Rattle.instance_book.specs.Views.{book_of, ticket_of, reply_of}
-use Rattle.instance_book.specs.Makes.{HasPlaces}
+use Rattle.instance_book.specs.Makes.{HasItsStates}
 use Rattle.instance_book.specs.Swept.{cells_in}
-use Rattle.instance_book.specs.Fits.{GoesOnFrom, tape_with, FitsAs}
+use Rattle.instance_book.specs.Places.{arena_of}
+use Rattle.instance_book.specs.Fits.{FitsAs}
 use Rattle.instance_book.specs.Prepares.{rules_with}
+use Rattle.instance_book.specs.Laws.{KeepsStateAs}
 use Rattle.shelf.specs.declared.rules.Rules.{Rules}
 use Rattle.shelf.specs.declared.shelf.Shelf.{Shelf}
 
@@ -48,9 +53,9 @@ shelf_of scripts given s = record { rules = rules_of s.rules; book = book_in scr
 abbrev pub HasGiven : (source : ℕ → ℕ) → (given : ℕ) → (coming : ℕ → ℕ) → Type 0
 HasGiven source given coming = (k : ℕ) → coming k ≡ source (given + k)
 
--- each instance is of a script of the setup, and the book is orderly
+-- each instance is of a script of the setup and each page has the state of its chain, and the book is orderly
 pub record IsInOrder {N : Type 0} (scripts : List Named) (s : Shelf N) : Type 0 where
-  pub placed : HasPlaces scripts s.book
+  pub states : HasItsStates scripts s.book
   pub orderly : IsOrderly (book_in scripts s)
 
 -- under each setup; one that was in order goes on to be; and a copy of a shelf
@@ -109,18 +114,21 @@ FitsNow setup s t = FitsAs (scripts_of setup) (book_in (scripts_of setup) s) t (
 abbrev pub IsOut : {N : Type 0} → Setup → Shelf N → Ticket → Type 0
 IsOut setup s t = Contains (book_in (scripts_of setup) s).out t.number
 
--- what the ticket's run comes to over its own cells, behind the past that it goes on from
-abbrev pub IsRunOf : List Named → (fuel : ℕ) → Ticket → Rerun → Type 0
-IsRunOf scripts fuel t r =
-    (named : Named) (past : List Answer) → slice_get scripts t.script ≡ Some named → GoesOnFrom t.from.items past
-    → segment_of r ≡ run named.script (tape_with t past (present t.cells fuel))
+-- the segment of the ticket over these cells, which goes on from what the ticket goes on from; and over the ticket's own cells
+abbrev pub IsRunOver : List Named → (fuel : ℕ) → Ticket → (cells : List Val) → ran.Segment → Type 0
+IsRunOver scripts fuel t cells r =
+    (named : Named) → slice_get scripts t.script ≡ Some named
+    → Replays t.from (arena_of named.script) (newest (meaning t.answer) t.number t.url cells fuel) r
+
+abbrev pub IsRunOf : List Named → (fuel : ℕ) → Ticket → ran.Segment → Type 0
+IsRunOf scripts fuel t r = IsRunOver scripts fuel t t.cells r
 
 -- the run, where there was memory for it
-abbrev pub IsRunIfAny : List Named → (fuel : ℕ) → Ticket → Option Rerun → Type 0
+abbrev pub IsRunIfAny : List Named → (fuel : ℕ) → Ticket → Option ran.Segment → Type 0
 IsRunIfAny scripts fuel t None = ⊤
 IsRunIfAny scripts fuel t (Some r) = IsRunOf scripts fuel t r
 
-abbrev pub IsRunFor : {N : Type 0} → Setup → Shelf N → Ticket → Option Rerun → Type 0
+abbrev pub IsRunFor : {N : Type 0} → Setup → Shelf N → Ticket → Option ran.Segment → Type 0
 IsRunFor setup s t segment = IsRunIfAny (scripts_of setup) s.rules.fuel t segment
 
 -- no second run is due: a start's cells are its own, and the effects hold over the cells of an answered page's instance
@@ -128,7 +136,7 @@ abbrev pub HoldIn : Book → Destination → List Effect → Type 0
 HoldIn b (start name) effects = ⊤
 HoldIn b (page name n) effects = IfSome (cells_in n.instance b) (λ cells. Holds effects cells)
 
-abbrev pub HoldNow : Book → Ticket → Rerun → Type 0
+abbrev pub HoldNow : Book → Ticket → ran.Segment → Type 0
 HoldNow b t r = HoldIn b (target_of t.target) (map effect_of r.effects.items)
 
 -- each instance has as many cells as its script
@@ -143,5 +151,9 @@ IsSegmentOf fuel b t (resumes at) s = s ≡ comes_to (page_visit b (ticket_of t)
 IsSegmentOf fuel b t (refused r) s = ⊤
 
 -- the same of the program's values
-abbrev pub IsSegmentNow : (fuel : ℕ) → Book → Ticket → Rerun → Type 0
+abbrev pub IsSegmentNow : (fuel : ℕ) → Book → Ticket → ran.Segment → Type 0
 IsSegmentNow fuel b t r = IsSegmentOf fuel b t (admit b (target_of t.target)) (segment_of r)
+
+-- and its state is that of the page's chain
+abbrev pub KeepsStateNow : Book → Ticket → ran.Segment → Type 0
+KeepsStateNow b t r = KeepsStateAs b t (admit b (target_of t.target)) r

@@ -11,6 +11,7 @@ mod shelf;
 
 use replay_spec::{orderly_books_stay, pages_stay};
 pub use rules::Rules;
+pub use second::run_ticket;
 pub use shelf::Shelf;
 
 /// A ticket that fits the book of its take goes on to fit: a page that was shown stays as it is while its instance lives, so

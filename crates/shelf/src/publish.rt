@@ -1,8 +1,10 @@
 ghost use Rattle.std.specs.Prelude.{◌≡◌, ◌<◌, ◌^◌, IfOk, IsOk};
 ghost use Rattle.script_nodes.specs.Views.{scripts_of};
-ghost use Rattle.instance_book.specs.Makes.{StaysSame, KeepsPlaces};
+ghost use Rattle.instance_book.specs.Makes.{StaysSame, KeepsStates};
 ghost use Rattle.instance_book.specs.Admissions.{HasCellsBy};
-ghost use Rattle.instance_book.specs.Changes.{HasRoomFor};
+ghost use Rattle.instance_book.specs.Changes.{HasRoomFor, HasStateBy};
+ghost use Rattle.instance_book.specs.Fits.{IsForSome};
+ghost use Rattle.instance_book.specs.Views.{instances_of};
 ghost use Rattle.shelf.specs.Ranges.{AreInRange};
 ghost use Rattle.shelf.specs.Views.{IsInOrder, IsAlwaysInOrder, StaysInOrder, IsEmpty, admission_now, FitsNow, IsOut, IsRunFor};
 ghost use Rattle.shelf.specs.Events.{IsTake, IsTicketOf, TellsWhyNot, IsDecided, IsDecidedIfHeld, IsRefused, WantsMemory, IsPublish, TellsRefusal, IsToldIfHeld, WantsIfNone, SpendsOnly, IsSweep};
@@ -10,12 +12,12 @@ ghost use Rattle.shelf.specs.Events.{IsTake, IsTicketOf, TellsWhyNot, IsDecided,
 use crate::rules::Rules;
 use crate::second::segment_now;
 use crate::shelf::Shelf;
-use instance_book::{Book, Prepared, Ticket};
+use instance_book::{Book, Prepared, Ticket, a_shown_page_has_its_state};
 use page_names::Target;
 use replay_spec::orderly_books_stay;
 use script_nodes::Setup;
 use script_value::{Reply, Value};
-use segments::Rerun;
+use send_suspend::Segment;
 use std::alloc::Global;
 use web_outside::Nonces;
 
@@ -48,7 +50,8 @@ impl<N: Nonces + Drop> Shelf<N> {
 
     /// The limits of the shelf.
     pub fn rules(&self) -> Rules
-        ensures { result ≡ self.now.rules }
+        ensures rules { result ≡ self.now.rules }
+        ensures fuel { result.fuel < 2 ^ 63 }
     {
         self.rules
     }
@@ -77,6 +80,7 @@ impl<N: Nonces + Drop> Shelf<N> {
         ensures refused { TellsWhyNot setup.now self.old target.now result }
         ensures ticket { IfOk result (IsTicketOf N.nonce setup.now self.old target.now answer) }
         ensures fits { IfOk result (FitsNow setup.now self.new) }
+        ensures runs { IfOk result (IsForSome (scripts_of setup.now)) }
         ensures cells { IfOk result (HasCellsBy (admission_now setup.now self.old target.now)) }
         ensures out { IfOk result (IsOut setup.now self.new) }
         ensures rules { self.new.rules ≡ self.old.rules }
@@ -105,15 +109,16 @@ impl<N: Nonces + Drop> Shelf<N> {
         alloc: Global,
         setup: &Setup,
         ticket: &Ticket,
-        segment: Option<Rerun>,
+        segment: Option<Segment>,
     ) -> Result<Prepared, Reply>
         requires in_order { IsInOrder (scripts_of setup.now) self.old }
         requires out { IsOut setup.now self.old ticket.now }
         requires fits { FitsNow setup.now self.old ticket.now }
         requires segment { IsRunFor setup.now self.old ticket.now segment }
         ensures book { StaysSame self.old.book self.new.book }
-        ensures placed { KeepsPlaces self.old.book self.new.book }
+        ensures states { KeepsStates self.old.book self.new.book }
         ensures room { IfOk result (λ p. HasRoomFor p.change self.new.book) }
+        ensures shown { IfOk result (λ p. HasStateBy (scripts_of setup.now) self.old.book.shelf (instances_of (scripts_of setup.now) self.old.book.instances) p.change) }
         ensures decided { IsDecided setup.now self.old ticket.now result }
         ensures held { IsDecidedIfHeld setup.now self.old ticket.now segment result }
         ensures refused { IsRefused setup.now self.old ticket.now.target result }
@@ -121,6 +126,7 @@ impl<N: Nonces + Drop> Shelf<N> {
         ensures nonces { self.new.nonces ≡ self.old.nonces }
         ensures rules { self.new.rules ≡ self.old.rules }
     {
+        a_shown_page_has_its_state();
         if let Err(refusal) = self.book.admit(setup, &ticket.target) {
             return Err(Reply::Refused(refusal));
         }
@@ -156,7 +162,7 @@ impl<N: Nonces + Drop> Shelf<N> {
         alloc: Global,
         setup: &Setup,
         ticket: Ticket,
-        segment: Option<Rerun>,
+        segment: Option<Segment>,
     ) -> Reply
         requires in_order { IsInOrder (scripts_of setup.now) self.old }
         requires out { IsOut setup.now self.old ticket }

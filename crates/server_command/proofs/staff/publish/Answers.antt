@@ -1,6 +1,11 @@
 use Rattle.std.proofs.Common.{◌≡◌, ◌∙◌, ap, sym, subst, List, Option, None, map, option_map, refl, arith}
 use Rattle.script_nodes.specs.Views.{scripts_of}
+use Rattle.script_nodes.specs.Setup.{Named}
+use Rattle.page_names.specs.Views.{target_of}
 use Rattle.play_steps.specs.Rules.{Comes}
+use Rattle.replay_spec.specs.Admission.{admit}
+use Rattle.instance_book.specs.Fits.{IsForSome}
+use Rattle.instance_book.proofs.States.{some_visit}
 use Rattle.instance_book.specs.Views.{ticket_of, reply_of}
 use Rattle.instance_book.specs.declared.ticket.Ticket.{Ticket}
 use Rattle.shelf.specs.Views.{book_in, shelf_of, fate_by}
@@ -31,6 +36,12 @@ returns-in_default-clause-fit c =
     let s = c.args.staff.now in
     let same : c.handed_in.new.tickets ≡ s.tickets = c.in_default.ensures.without ∙ same_set s.tickets c.args.worker None c.in_default.ensures.ticket in
     subst (λ (ts : List (Option Ticket)). IsFit (scripts_of c.args.setup.now) (record { shelf = s.shelf; tickets = ts })) (sym same) c.requires.fit
+
+pub segment_of-segment-requires-clause-fits : goal.segment_of-segment-requires-clause-fits
+segment_of-segment-requires-clause-fits c =
+    let t = c.in-Some.ticket in
+    let is = (c.requires.fit.tickets c.args.worker t c.in-Some.ensures.ticket).0 in
+    subst (λ (ss : List Named). IsForSome ss t) (sym is.setup) (some_visit is.then.scripts is.then t (admit is.then (target_of t.target)) is.admitted is.fits)
 
 pub publish-requires-clause-in_order : goal.publish-requires-clause-in_order
 publish-requires-clause-in_order c = c.requires.fit.in_order

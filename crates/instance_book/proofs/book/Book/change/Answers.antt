@@ -1,9 +1,11 @@
 use Rattle.std.proofs.Common.{◌≡◌, ◌∙◌, ap, sym, List, [], length, map, arith, not, ◌==◌}
 use Rattle.replay_spec.specs.Book.{Instance}
 use Rattle.replay_spec.specs.Change.{put_instance, mend, without}
-use Rattle.instance_book.specs.Views.{instance_of}
-use Rattle.instance_book.specs.Changes.{ended_with, shown_with}
+use Rattle.instance_book.specs.Views.{instance_of, instances_of}
+use Rattle.instance_book.specs.Places.{IsNextAt}
+use Rattle.instance_book.specs.Changes.{ended_with, shown_with, OpensKept}
 use Rattle.instance_book.proofs.Seen.{length_mend, length_put, length_kept, length_seen}
+use Rattle.instance_book.proofs.States.{kept_first}
 use Rattle.instance_book.proofs.book.Book.change.Goals as goal
 
 pub invariant_of-self : goal.invariant_of-self
@@ -42,11 +44,21 @@ invariant_of-self-in-Finishes c =
     let fewer = length_kept (λ (i : Instance). not (i.number == n)) is in
     record { ticks = c.args.self.now.ticks; numbers = c.args.self.now.numbers; few = omega (arith, before, fewer, after, c.args.self.now.few); below = c.args.self.now.below }
 
-pub returns-in-Extends-clause-placed : goal.returns-in-Extends-clause-placed
-returns-in-Extends-clause-placed c scripts p all = c.show.ensures.placed scripts all
+pub returns-in-Opens-clause-states : goal.returns-in-Opens-clause-states
+returns-in-Opens-clause-states c scripts kept all =
+    let o = c.in-Opens.opening in
+    let own : OpensKept scripts c.args.self.now.shelf o = rw (c.in-Some.is, c.in-Opens.is) at kept in
+    c.put_instance.ensures.states scripts c.args.self.now.shelf
+    (kept_first scripts c.args.self.now.shelf o c.begin.result own c.begin.ensures.number c.begin.ensures.script c.begin.ensures.pages c.begin.ensures.shown) all
 
-pub returns-in-Ends-clause-placed : goal.returns-in-Ends-clause-placed
-returns-in-Ends-clause-placed c scripts p all = c.end.ensures.placed scripts all
+pub returns-in-Extends-clause-states : goal.returns-in-Extends-clause-states
+returns-in-Extends-clause-states c scripts kept all =
+    let x = c.in-Extends.extension in
+    let own : IsNextAt c.args.self.now.shelf (instances_of scripts c.args.self.now.instances) x.instance x.show.page = rw (c.in-Some.is, c.in-Extends.is) at kept in
+    c.show.ensures.states scripts c.args.self.now.shelf own all
 
-pub returns-in-Finishes-clause-placed : goal.returns-in-Finishes-clause-placed
-returns-in-Finishes-clause-placed c scripts p all = c.free.ensures.placed scripts all
+pub returns-in-Ends-clause-states : goal.returns-in-Ends-clause-states
+returns-in-Ends-clause-states c scripts kept all = c.end.ensures.states scripts c.args.self.now.shelf all
+
+pub returns-in-Finishes-clause-states : goal.returns-in-Finishes-clause-states
+returns-in-Finishes-clause-states c scripts kept all = c.free.ensures.states scripts c.args.self.now.shelf all

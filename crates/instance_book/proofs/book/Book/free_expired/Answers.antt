@@ -19,3 +19,6 @@ overflow_sub-result c =
     let after : length c.keep_live.new.self.things.items ≡ length (filter (is_live c.args.tick) is) = sym (length_seen (instance_of []) c.keep_live.new.self.things.items) ∙ ap (λ (js : List Instance). length js) (c.keep_live.ensures.instances []) in
     let fewer = length_kept (is_live c.args.tick) is in
     omega (arith, before, after, fewer, c.len.ensures, c.len-before.ensures)
+
+pub returns-clause-states : goal.returns-clause-states
+returns-clause-states c scripts all = c.keep_live.ensures.states scripts c.args.self.now.shelf all

@@ -21,7 +21,7 @@ returns-clause-opens c =
     let reads = rw c.deref.ensures.value at c.in_ok-reads.ensures in
     let first : Numbered KeptPage = record {
       number = t.number;
-      item = record { nonce = t.nonce; parent = None; answer = value.List c.new.result; reads = c.in_ok-reads.reads; inside = c.args.inside; deadline = c.deadline.result };
+      item = record { nonce = t.nonce; parent = None; answer = value.List c.new.result; reads = c.in_ok-reads.reads; inside = c.args.inside; deadline = c.deadline.result; state = c.args.state };
     } in
     let page : page_of first ≡ first_page t effects c.args.inside.items (c.args.self.now.clock + c.args.life) = rw (reads, c.deadline.ensures, c.new.ensures) refl in
     let record_of : ℕ → ℕ → spec.Opening = λ script deadline. record {
@@ -44,4 +44,16 @@ returns-clause-opens c =
       change = λ scripts.
           ap (λ (i : spec.Instance). record i { pages = put_page (page_of first) i.pages }) (begins scripts t.number)
           ∙ ap (λ (p : spec.Page). record (begun_by scripts t t.number effects c.args.left.items) { pages = p ∷ [] }) page;
+    }
+
+pub returns-clause-state : goal.returns-clause-state
+returns-clause-state c =
+    let t = c.args.ticket.now in
+    let reads = rw c.deref.ensures.value at c.in_ok-reads.ensures in
+    record {
+      script = c.in_ok-instance.ensures.script;
+      pages = c.in_ok-instance.ensures.pages;
+      shown = c.in_ok-instance.ensures.shown;
+      page = rw (reads, c.new.ensures) refl;
+      state = refl;
     }

@@ -1,9 +1,10 @@
-use Rattle.std.proofs.Common.{◌∙◌, ap, sym, arith}
+use Rattle.std.proofs.Common.{◌∙◌, ap, sym, subst, arith, IfOk}
 use Rattle.page_names.specs.Views.{name_of, target_of}
 use Rattle.page_names.specs.declared.names.Target.{Target}
-use Rattle.segments.specs.Views.{segment_of}
+use Rattle.stored_states.specs.Views.{segment_of}
 use Rattle.replay_spec.specs.Admission.{admit}
 use Rattle.instance_book.specs.Views.{book_of}
+use Rattle.instance_book.specs.Prepares.{KeepsStateOf}
 use Rattle.instance_book.proofs.Admitted.{start_prepared, page_prepared}
 use Rattle.instance_book.proofs.book.Book.prepare.Goals as goal
 
@@ -22,3 +23,11 @@ pub returns-in-Page-clause-decided : goal.returns-in-Page-clause-decided
 returns-in-Page-clause-decided c scripts journal down fuel a adm admitted fits =
     page_prepared scripts journal down fuel c.args.life c.args.instances c.args.pages c.args.self.now c.args.ticket.now (segment_of c.args.segment) c.prepare_page.result (name_of c.in-Page.field-0) c.in-Page.page a
     (ap (λ (t : Target). admit (book_of scripts journal down c.args.self.now) (target_of t)) (sym c.in-Page.is) ∙ adm) admitted fits c.prepare_page.ensures.decided
+
+pub returns-in-Start-clause-state : goal.returns-in-Start-clause-state
+returns-in-Start-clause-state c =
+    subst (λ (x : Target). IfOk c.prepare_start.result (λ p. KeepsStateOf c.args.ticket.now c.args.segment (target_of x) p.change)) (sym c.in-Start.is) c.prepare_start.ensures.state
+
+pub returns-in-Page-clause-state : goal.returns-in-Page-clause-state
+returns-in-Page-clause-state c =
+    subst (λ (x : Target). IfOk c.prepare_page.result (λ p. KeepsStateOf c.args.ticket.now c.args.segment (target_of x) p.change)) (sym c.in-Page.is) c.prepare_page.ensures.state

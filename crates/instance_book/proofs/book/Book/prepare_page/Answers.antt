@@ -1,7 +1,7 @@
-use Rattle.std.proofs.Common.{◌≡◌, ◌∙◌, ap, sym, subst, ℕ, ◌+◌, [], length, Some, IfOk, nat_le, true, false, arith}
+use Rattle.std.proofs.Common.{◌≡◌, ◌∙◌, ap, sym, subst, ℕ, ◌+◌, [], length, Some, IfOk, nat_le, true, false, arith, inl}
 use Rattle.std.proofs.lemmas.Bool.Decides.{nat_tests}
 use Rattle.std.specs.Option.{option_copied}
-use Rattle.segments.specs.Views.{outcome_of, segment_of}
+use Rattle.stored_states.specs.Views.{outcome_of, segment_of, state_of, suspended_of}
 use Rattle.replay_spec.specs.Book.{Instance, instance_at}
 use Rattle.replay_spec.specs.Change.{done, shown_by}
 use Rattle.instance_book.specs.declared.prepared.Prepared.{Prepared}
@@ -9,7 +9,7 @@ use Rattle.instance_book.specs.Views.{book_of, page_of, instance_of, instances_o
 use Rattle.instance_book.specs.Prepares.{next_page, IsExtension, IsEnding, IsFinish}
 use Rattle.replay_spec.proofs.Numbered.{number_of}
 use Rattle.instance_book.proofs.Seen.{instance_some, instance_none, length_seen}
-use Rattle.instance_book.proofs.Lands.{page_full, extended, ending_lands, finish_lands, ending_room, room_made, under}
+use Rattle.instance_book.proofs.Lands.{page_full, extended, ending_lands, finish_lands, ending_room, ending_shows_none, finish_shows_none, page_shown, room_made, under}
 use Rattle.instance_book.proofs.book.Book.prepare_page.Goals as goal
 
 pub returns-in_default-clause-decided : goal.returns-in_default-clause-decided
@@ -38,7 +38,7 @@ returns-in-Shown-clause-room c =
     let deadline = c.deadline-deadline.result in
     let f : Instance → Instance = shown_by s.effects s.left c.in-Shown.kind (next_page t answered s.effects s.entered deadline) in
     room_made t (instance_of [] x) answered c.in-Shown.bytes s.effects s.entered s.left c.in-Shown.kind deadline f c.args.page.now.instance c.with_room.new.self c.extension-made.result c.with_room.result number
-    (under (λ ss p. IsExtension p t (instance_of ss x) answered c.in-Shown.bytes s.effects s.entered s.left c.in-Shown.kind deadline f) c.extension-made.result [] c.extension-made.ensures) c.with_room.ensures.made c.with_room.ensures.room
+    (under (λ ss p. IsExtension p t (instance_of ss x) answered c.in-Shown.bytes s.effects s.entered s.left c.in-Shown.kind deadline f) c.extension-made.result [] c.extension-made.ensures.shows) c.with_room.ensures.made c.with_room.ensures.room
 
 pub returns-in-Shown-clause-decided : goal.returns-in-Shown-clause-decided
 returns-in-Shown-clause-decided c scripts journal down fuel instances at found number fits =
@@ -53,7 +53,7 @@ returns-in-Shown-clause-decided c scripts journal down fuel instances at found n
     let full : nat_le c.args.pages (length at.instance.pages) ≡ false = grind (arith, nat_tests, c.if-count-pages.false, count) in
     let P : Instance → ℕ → ℕ → Prepared → Type 0 = λ i answered deadline p. IsExtension p c.args.ticket.now i answered c.in-Shown.bytes s.effects s.entered s.left c.in-Shown.kind deadline
     (shown_by s.effects s.left c.in-Shown.kind (next_page c.args.ticket.now answered s.effects s.entered deadline)) in
-    let made : IfOk c.extension-made.result (P (instance_of scripts x) c.args.page.now.page c.deadline-deadline.result) = under (λ ss. P (instance_of ss x) c.args.page.now.page c.deadline-deadline.result) c.extension-made.result scripts c.extension-made.ensures in
+    let made : IfOk c.extension-made.result (P (instance_of scripts x) c.args.page.now.page c.deadline-deadline.result) = under (λ ss. P (instance_of ss x) c.args.page.now.page c.deadline-deadline.result) c.extension-made.result scripts c.extension-made.ensures.shows in
     let made2 : IfOk c.extension-made.result (P at.instance c.args.page.now.page c.deadline-deadline.result) = subst (λ (i : Instance). IfOk c.extension-made.result (P i c.args.page.now.page c.deadline-deadline.result)) same made in
     let made3 : IfOk c.extension-made.result (P at.instance at.page.number c.deadline-deadline.result) = subst (λ (n : ℕ). IfOk c.extension-made.result (P at.instance n c.deadline-deadline.result)) (sym number) made2 in
     let made4 : IfOk c.extension-made.result (P at.instance at.page.number (b.clock + c.args.life)) = subst (λ (d : ℕ). IfOk c.extension-made.result (P at.instance at.page.number d)) c.deadline-deadline.ensures made3 in
@@ -84,3 +84,17 @@ returns-in-Ok-finish-clause-decided c scripts journal down fuel instances at fou
     let P : ℕ → ℕ → Type 0 = λ n answered. IsFinish c.in-Ok-finish.prepared c.args.ticket.now n answered c.in-Finished.bytes s.effects s.entered in
     let made : P at.instance.number at.page.number = subst (P at.instance.number) (sym number) (subst (λ (n : ℕ). P n c.args.page.now.page) (sym its) c.in-Ok-finish.ensures) in
     finish_lands scripts fuel c.args.life instances c.args.pages b c.args.ticket.now at s c.in-Finished.bytes c.in-Ok-finish.prepared (ap outcome_of c.in-Finished.is) made
+
+pub returns-in-Shown-clause-state : goal.returns-in-Shown-clause-state
+returns-in-Shown-clause-state c =
+    let x = c.in-Some.instance.now in
+    let some = instance_some [] c.args.page.now.instance c.args.self.now.instances.things.items x (sym c.in-Some.ensures) in
+    let number : x.number ≡ c.args.page.now.instance = number_of (λ (i : Instance). i.number) c.args.page.now.instance (instances_of [] c.args.self.now.instances) (instance_of [] x) some in
+    page_shown c.args.ticket.now c.args.segment x.number c.args.page.now.instance c.args.page.now.page (suspended_of c.in-Shown.state) c.extension-made.result c.with_room.result number (ap state_of c.in-Shown.is)
+    c.extension-made.ensures.state c.with_room.ensures.made
+
+pub returns-in-Ok-clause-state : goal.returns-in-Ok-clause-state
+returns-in-Ok-clause-state c = inl (ending_shows_none c.in-Ok.prepared.change _ _ (c.in-Ok.ensures []).change)
+
+pub returns-in-Ok-finish-clause-state : goal.returns-in-Ok-finish-clause-state
+returns-in-Ok-finish-clause-state c = inl (finish_shows_none _ c.in-Ok-finish.prepared.change _ _ _ c.in-Ok-finish.ensures.decision)

@@ -1,6 +1,6 @@
-use Rattle.std.proofs.Common.{◌≡◌, ap, refl, length, nat_le, false, arith}
+use Rattle.std.proofs.Common.{◌≡◌, ap, refl, length, nat_le, false, arith, inr}
 use Rattle.std.proofs.lemmas.Bool.Decides.{nat_tests}
-use Rattle.segments.specs.Views.{outcome_of, segment_of}
+use Rattle.stored_states.specs.Views.{outcome_of, segment_of, state_of, suspended_of}
 use Rattle.instance_book.specs.Views.{book_of, instance_of}
 use Rattle.instance_book.proofs.Seen.{length_seen}
 use Rattle.instance_book.proofs.Lands.{opening_lands}
@@ -13,3 +13,6 @@ returns-in-Ok-clause-decided c scripts journal down fuel pages k named fits =
     let full : nat_le c.args.instances (length b.instances) ≡ false = grind (arith, nat_tests, many, c.if-count-instances.false, c.len-count.ensures) in
     opening_lands scripts fuel c.args.life c.args.instances pages b c.args.ticket.now refl k named (segment_of c.args.segment) c.in-Shown.kind c.in-Shown.page c.in-Ok.prepared
     fits (ap outcome_of c.in-Shown.is) full c.in-Ok.ensures.opens
+
+pub returns-in-Ok-clause-state : goal.returns-in-Ok-clause-state
+returns-in-Ok-clause-state c = inr (suspended_of c.in-Shown.state, (ap state_of c.in-Shown.is, c.in-Ok.ensures.state))

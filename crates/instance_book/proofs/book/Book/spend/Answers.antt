@@ -21,3 +21,6 @@ pub returns-clause-book : goal.returns-clause-book
 returns-clause-book c scripts journal down =
     ap (λ (ms : List ℕ). record (book_of scripts journal down c.args.self.now) { out = ms })
     (filter_same _ (λ m. not (m == c.args.number)) _ (λ x b q h. (search rules, search rules)) _ _ c.retain.ensures.filtered)
+
+pub returns-clause-states : goal.returns-clause-states
+returns-clause-states c scripts all = all

@@ -13,3 +13,6 @@ invariant_of-result c =
       few = omega (arith, many, c.args.self.now.few);
       below = λ n h. c.args.self.now.below n (subst (λ (ms : List ℕ). Contains ms n) out h);
     }
+
+pub returns-clause-states : goal.returns-clause-states
+returns-clause-states c scripts all = c.in_ok-instances.ensures.states scripts c.args.self.now.shelf all

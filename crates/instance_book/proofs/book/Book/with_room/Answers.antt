@@ -6,3 +6,9 @@ pub invariant_of-self : goal.invariant_of-self
 invariant_of-self c =
     let same = same_length c.make_room_in.new.self.things.items c.args.self.now.instances.things.items (c.make_room_in.ensures.instances []) in
     record { ticks = c.args.self.now.ticks; numbers = c.args.self.now.numbers; few = omega (arith, same, c.args.self.now.few); below = c.args.self.now.below }
+
+pub returns-in-Ok-make_room_in-clause-states : goal.returns-in-Ok-make_room_in-clause-states
+returns-in-Ok-make_room_in-clause-states c scripts all = c.make_room_in.ensures.states scripts c.args.self.now.shelf all
+
+pub returns-in-Err-make_room_in-clause-states : goal.returns-in-Err-make_room_in-clause-states
+returns-in-Err-make_room_in-clause-states c scripts all = c.make_room_in.ensures.states scripts c.args.self.now.shelf all

@@ -1,9 +1,11 @@
-use Rattle.std.proofs.Common.{◌≡◌, ◌∙◌, ◌++◌, ◌∷◌, ◌<◌, ap, map, subst, length, get_or, ◌≤◌, List, []}
+use Rattle.std.proofs.Common.{◌≡◌, ◌∙◌, ◌++◌, ◌∷◌, ◌<◌, ap, map, subst, length, get_or, ◌≤◌, List, [], refl}
 use Rattle.instance_book.specs.Views.{instance_of}
 use Rattle.instance_book.specs.declared.numbered.Numbered.{Numbered}
 use Rattle.instance_book.specs.declared.instance.KeptInstance.{KeptInstance}
 use Rattle.instance_book.proofs.Lists.{taken}
-use Rattle.instance_book.proofs.Seen.{rises_with_instances, copied_more, placed_by_scripts}
+use Rattle.instance_book.proofs.Seen.{rises_with_instances, copied_more, all_alike}
+use Rattle.instance_book.proofs.States.{kept_of, kept_as, same_kept}
+use Rattle.instance_book.specs.Places.{IsKept}
 use Rattle.instance_book.proofs.copies.InOrder+KeptInstance.try_clone.Goals as goal
 
 pub invariant_of-result : goal.invariant_of-result
@@ -25,12 +27,12 @@ loop-instance-preserved c =
     let items : c.push.new.self.items ≡ ys ++ y ∷ [] = c.in_ok-push.ensures.items in
     record {
       same = λ scripts. ap (map (instance_of scripts)) items ∙ copied_more (instance_of scripts) xs ys i x y (c.loop-instance.invariant.same scripts) within here (c.in_ok-try_clone.ensures.instance scripts x.number);
-      scripts = ap (map (λ (j : Numbered KeptInstance). j.item.script)) items ∙ copied_more (λ (j : Numbered KeptInstance). j.item.script) xs ys i x y c.loop-instance.invariant.scripts within here c.in_ok-try_clone.ensures.script;
+      kept = ap (map kept_of) items ∙ copied_more kept_of xs ys i x y c.loop-instance.invariant.kept within here (same_kept y x refl c.in_ok-try_clone.ensures.script c.in_ok-try_clone.ensures.pages.pages c.in_ok-try_clone.ensures.pages.shown);
     }
 
-pub returns-clause-placed : goal.returns-clause-placed
-returns-clause-placed c scripts all =
+pub returns-clause-states : goal.returns-clause-states
+returns-clause-states c scripts shelf all =
     let xs = c.args.self.now.things.items in
     let end : length xs ≤ c.loop-instance.instance-index = subst (λ (is : List (Numbered KeptInstance)). length is ≤ c.loop-instance.instance-index) c.deref-instance-items.ensures.value c.loop-instance-test.false in
-    let same : map (λ i. i.item.script) c.loop-instance.things.items ≡ map (λ i. i.item.script) xs = c.loop-instance.invariant.scripts ∙ ap (map (λ (j : Numbered KeptInstance). j.item.script)) (taken xs c.loop-instance.instance-index end) in
-    placed_by_scripts scripts c.loop-instance.things.items xs same all
+    let same : map kept_of c.loop-instance.things.items ≡ map kept_of xs = c.loop-instance.invariant.kept ∙ ap (map kept_of) (taken xs c.loop-instance.instance-index end) in
+    all_alike (IsKept scripts shelf) kept_of (kept_as scripts shelf) c.loop-instance.things.items xs same all

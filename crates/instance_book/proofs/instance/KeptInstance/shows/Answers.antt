@@ -9,8 +9,8 @@ use Rattle.instance_book.specs.Changes.{renewed_by}
 use Rattle.instance_book.specs.Prepares.{next_page}
 use Rattle.instance_book.proofs.instance.KeptInstance.shows.Goals as goal
 
-pub returns : goal.returns
-returns c =
+pub returns-clause-instance : goal.returns-clause-instance
+returns-clause-instance c =
     let t = c.args.ticket.now in
     let effects = map effect_of c.args.effects.now in
     let left = c.args.left.now in
@@ -18,7 +18,7 @@ returns c =
     let next : Page = next_page t c.args.parent effects c.args.inside.items c.args.deadline in
     let shown : Numbered KeptPage = record {
       number = t.number;
-      item = record { nonce = t.nonce; parent = _; answer = c.in_ok-answer.answer; reads = c.in_ok-reads.reads; inside = c.args.inside; deadline = c.args.deadline };
+      item = record { nonce = t.nonce; parent = _; answer = c.in_ok-answer.answer; reads = c.in_ok-reads.reads; inside = c.args.inside; deadline = c.args.deadline; state = c.args.state };
     } in
     let page : page_of shown ≡ next = rw (c.in_ok-reads.ensures, c.in_ok-answer.ensures) refl in
     record {

@@ -1,8 +1,14 @@
-use Rattle.std.proofs.Common.{refl}
+use Rattle.std.proofs.Common.{ap, refl}
 use Rattle.instance_book.specs.declared.numbered.Numbered.{Numbered}
 use Rattle.instance_book.specs.declared.instance.KeptInstance.{KeptInstance}
+use Rattle.instance_book.specs.declared.in_order.InOrder.{InOrder}
+use Rattle.instance_book.specs.declared.page.KeptPage.{KeptPage}
+use Rattle.instance_book.specs.Views.{pages_of}
+use Rattle.instance_book.specs.Places.{shown_in, IsKept}
 use Rattle.instance_book.specs.Changes.{ended_with}
-use Rattle.instance_book.proofs.Seen.{rises_set, mended, unmended}
+use Rattle.instance_book.proofs.States.{kept_alike}
+use Rattle.instance_book.proofs.Lists.{within}
+use Rattle.instance_book.proofs.Seen.{rises_set, mended, unmended, all_set}
 use Rattle.instance_book.proofs.instances.InOrder+KeptInstance.end.Goals as goal
 
 pub invariant_of-self : goal.invariant_of-self
@@ -19,3 +25,10 @@ returns-in-Some-clause-instances c scripts =
 
 pub returns-in-None-clause-instances : goal.returns-in-None-clause-instances
 returns-in-None-clause-instances c scripts = unmended scripts c.args.self.now.things.items c.args.number (ended_with c.args.after) c.in-None.ensures.absent
+
+pub returns-in-Some-clause-states : goal.returns-in-Some-clause-states
+returns-in-Some-clause-states c scripts shelf all =
+    let x = c.index_mut.result.now in
+    let y : Numbered KeptInstance = record { number = x.number; item = c.end.new.self } in
+    all_set (IsKept scripts shelf) c.args.self.now.things.items c.in-Some.place x y c.index_mut.ensures.value (within c.args.self.now.things.items c.args.number c.in-Some.place c.in-Some.ensures.found)
+    (kept_alike scripts shelf y x refl c.end.ensures.script (ap (λ (ps : InOrder KeptPage). pages_of ps) c.end.ensures.pages) (ap (λ (ps : InOrder KeptPage). shown_in ps) c.end.ensures.pages)) all

@@ -4,7 +4,10 @@ use Rattle.instance_book.specs.declared.page.KeptPage.{KeptPage}
 use Rattle.instance_book.specs.declared.instance.KeptInstance.{KeptInstance}
 use Rattle.instance_book.specs.Lists.{HasRoom}
 use Rattle.instance_book.specs.Views.{page_of, instance_of}
-use Rattle.instance_book.proofs.Seen.{rises_set, mended, mend_nothing, first_set}
+use Rattle.instance_book.specs.Places.{shown_of, IsKept}
+use Rattle.instance_book.proofs.Lists.{within}
+use Rattle.instance_book.proofs.States.{kept_alike}
+use Rattle.instance_book.proofs.Seen.{rises_set, mended, mend_nothing, first_set, all_set}
 use Rattle.instance_book.proofs.instances.InOrder+KeptInstance.make_room_in.Goals as goal
 
 pub invariant_of-self : goal.invariant_of-self
@@ -31,3 +34,10 @@ returns-in-Some-clause-room c =
     let y : Numbered KeptInstance = record { number = x.number; item = record x.item { pages = c.make_room.new.self } } in
     let written = first_set c.args.self.now.things.items c.args.number c.in-Some.place x y c.args.self.now.rising c.in-Some.ensures.found c.index_mut.ensures.value refl in
     on_ok c.make_room.result c.make_room.ensures.room (λ room i h. let same : y ≡ i = cc (written, h) in subst (λ (j : Numbered KeptInstance). HasRoom j.item.pages) same room)
+
+pub returns-in-Some-clause-states : goal.returns-in-Some-clause-states
+returns-in-Some-clause-states c scripts shelf all =
+    let x = c.index_mut.result.now in
+    let y : Numbered KeptInstance = record { number = x.number; item = record x.item { pages = c.make_room.new.self } } in
+    all_set (IsKept scripts shelf) c.args.self.now.things.items c.in-Some.place x y c.index_mut.ensures.value (within c.args.self.now.things.items c.args.number c.in-Some.place c.in-Some.ensures.found)
+    (kept_alike scripts shelf y x refl refl (ap (map page_of) c.make_room.ensures.things) (ap (map shown_of) c.make_room.ensures.things)) all

@@ -1,19 +1,20 @@
-use Rattle.std.proofs.Common.{◌∙◌, ap, map, refl}
+use Rattle.std.proofs.Common.{◌≡◌, ◌∙◌, ap, sym, map, refl, ℕ}
 use Rattle.script_value.specs.declared.outcome.Reply.{Reply}
 use Rattle.instance_cells.specs.Views.{effect_of}
 use Rattle.replay_spec.specs.Book as spec
 use Rattle.replay_spec.specs.Step as step
 use Rattle.replay_spec.specs.Step.{Decision, records}
 use Rattle.instance_book.specs.Views.{reply_of, page_of}
+use Rattle.instance_book.specs.Prepares.{next_page}
 use Rattle.instance_book.specs.Segments.{GoesOnBy}
 use Rattle.instance_book.proofs.prepare.Numbered+KeptInstance.extension.Goals as goal
 
-pub returns : goal.returns
-returns c scripts =
+pub returns-clause-shows : goal.returns-clause-shows
+returns-clause-shows c scripts =
     let t = c.args.ticket.now in
     let effects = map effect_of c.args.effects.items in
     let goes : GoesOnBy t c.args.answered c.args.kind c.args.effects.items c.args.inside.items c.args.left.items c.args.deadline c.args.self.now.item c.in_ok-show.show =
-    rw (c.deref.ensures.value, c.deref-2.ensures.value) at c.in_ok-show.ensures in
+    rw (c.deref.ensures.value, c.deref-2.ensures.value) at c.in_ok-show.ensures.instance in
     let record_of : spec.Page → spec.Extension = λ p. record {
       number = p.number;
       nonce = p.nonce;
@@ -34,4 +35,16 @@ returns c scripts =
         logged = refl;
       };
       change = (refl, goes.instance scripts c.args.self.now.number);
+    }
+
+pub returns-clause-state : goal.returns-clause-state
+returns-clause-state c =
+    let t = c.args.ticket.now in
+    let goes : GoesOnBy t c.args.answered c.args.kind c.args.effects.items c.args.inside.items c.args.left.items c.args.deadline c.args.self.now.item c.in_ok-show.show =
+    rw (c.deref.ensures.value, c.deref-2.ensures.value) at c.in_ok-show.ensures.instance in
+    let deadline : c.in_ok-show.show.page.item.deadline ≡ c.args.deadline = ap (λ (p : spec.Page). p.deadline) goes.page in
+    record {
+      instance = refl;
+      page = goes.page ∙ ap (λ (d : ℕ). next_page t c.args.answered (map effect_of c.args.effects.items) c.args.inside.items d) (sym deadline);
+      state = c.in_ok-show.ensures.state;
     }

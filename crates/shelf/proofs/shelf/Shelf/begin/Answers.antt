@@ -13,6 +13,6 @@ pub returns-clause-in_order : goal.returns-clause-in_order
 returns-clause-in_order g c scripts =
     let rules = rules_of c.args.rules in
     record {
-      placed = c.empty.ensures.placed scripts;
+      states = c.empty.ensures.states scripts;
       orderly = subst IsOrderly (sym (c.empty.ensures.book scripts rules)) (c.orderly_books_stay.ensures.0 rules scripts c.args.rules.number);
     }

@@ -1,12 +1,9 @@
 use Rattle.std.proofs.Common.{◌≡◌, ◌∙◌, ap, sym, subst, refl, None}
 use Rattle.script_nodes.specs.Views.{scripts_of}
-use Rattle.replay_spec.specs.Book.{spend}
+use Rattle.replay_spec.specs.Book.{Book, spend}
 use Rattle.replay_spec.specs.Step as step
-use Rattle.instance_book.specs.declared.in_order.InOrder.{InOrder}
-use Rattle.instance_book.specs.declared.instance.KeptInstance.{KeptInstance}
 use Rattle.instance_book.specs.Views.{book_of, ticket_of, reply_of}
-use Rattle.instance_book.specs.Places.{ArePlaced}
-use Rattle.instance_book.specs.Changes.{put_into}
+use Rattle.instance_book.specs.Changes.{put_into, HasStateBy}
 use Rattle.shelf.specs.Views.{book_in, fate_by, refusal_now}
 use Rattle.shelf.proofs.Steps.{published, answered, memory_spends, refused_ok, refused_err, quiet, quiet_event, order_behind}
 use Rattle.shelf.proofs.shelf.Shelf.publish.Goals as goal
@@ -36,7 +33,7 @@ returns-in-Ok-clause-in_order g c =
     let spent : book_of scripts 0 None c.spend.new.self ≡ spend n b = c.spend.ensures.book scripts 0 None ∙ ap (spend n) (c.in-Ok.ensures.book scripts 0 None) in
     let landed : book_of scripts 0 None c.install.new.self ≡ put_into scripts p (spend n b) = c.install.ensures.book scripts 0 None ∙ ap (put_into scripts p) spent in
     order_behind c.orderly_books_stay.ensures scripts s _ (step.publish (ticket_of c.args.ticket)) 0 (fate_by (reply_of p.reply)) (reply_of p.reply) (put_into scripts p (spend n b)) c.requires.in_order c.requires.out
-    (λ all. c.install.ensures.placed scripts c.in-Ok.ensures.decided.placed (subst (λ (is : InOrder KeptInstance). ArePlaced scripts is) (sym c.spend.ensures.instances) (c.in-Ok.ensures.placed scripts all)))
+    (λ all. c.install.ensures.states scripts (subst (λ (x : Book). HasStateBy scripts x.shelf x.instances p.change) (sym spent) c.in-Ok.ensures.shown) (c.spend.ensures.states scripts (c.in-Ok.ensures.states scripts all)))
     landed (published scripts r.fuel r.life r.instances r.pages b 0 (ticket_of c.args.ticket) p refl c.in-Ok.ensures.decided)
 
 pub returns-in-Ok-clause-refused : goal.returns-in-Ok-clause-refused
@@ -78,7 +75,7 @@ returns-clause-in_order g c =
     let n = c.args.ticket.number in
     let spent : book_of scripts 0 None c.spend.new.self ≡ spend n b = c.spend.ensures.book scripts 0 None ∙ ap (spend n) (c.in-Err.ensures.book scripts 0 None) in
     order_behind c.orderly_books_stay.ensures scripts s _ (step.publish (ticket_of c.args.ticket)) 0 (fate_by (reply_of c.in-Err.reply)) (reply_of c.in-Err.reply) (spend n b) c.requires.in_order c.requires.out
-    (λ all. subst (λ (is : InOrder KeptInstance). ArePlaced scripts is) (sym c.spend.ensures.instances) (c.in-Err.ensures.placed scripts all))
+    (λ all. c.spend.ensures.states scripts (c.in-Err.ensures.states scripts all))
     spent (answered scripts r.fuel r.life r.instances r.pages b 0 (ticket_of c.args.ticket) c.in-Err.reply c.in-Err.ensures.decided)
 
 pub returns-clause-refused : goal.returns-clause-refused

@@ -38,5 +38,5 @@ returns-clause-in_order g c scripts order =
     let before = length_seen (instance_of scripts) s.book.instances.things.items in
     let left = length_seen (instance_of scripts) c.free_expired.new.self.instances.things.items in
     let count : c.free_expired.result ≡ length b.instances - length after.instances = omega (arith, before, left, c.free_expired.ensures.count) in
-    order_behind c.orderly_books_stay.ensures scripts s _ (step.sweep c.args.tick) 0 step.plain (step.swept c.free_expired.result) after order tt (c.free_expired.ensures.placed scripts) refl
+    order_behind c.orderly_books_stay.ensures scripts s _ (step.sweep c.args.tick) 0 step.plain (step.swept c.free_expired.result) after order tt (c.free_expired.ensures.states scripts) refl
     (swept_late scripts r.fuel r.life r.instances r.pages b 0 c.args.tick c.free_expired.result after refl late (c.free_expired.ensures.book scripts 0 None) count)

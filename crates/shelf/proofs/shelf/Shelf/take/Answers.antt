@@ -12,6 +12,7 @@ use Rattle.replay_spec.specs.Step as step
 use Rattle.replay_spec.specs.Invariant.{IsOrderly}
 use Rattle.instance_book.specs.Views.{book_of}
 use Rattle.instance_book.specs.Fits.{FitsAs}
+use Rattle.instance_book.proofs.States.{some_visit}
 use Rattle.shelf.specs.Views.{rules_of, book_in, shelf_of}
 use Rattle.shelf.proofs.Steps.{worn, refused_take, taken, no_memory_take, follows, quiet_event, order_behind, fits_drawn}
 use Rattle.shelf.proofs.shelf.Shelf.take.Goals as goal
@@ -68,7 +69,7 @@ returns-in-Ok-clause-in_order g c =
     let d = target_of c.args.target.now in
     let v = meaning c.args.answer in
     let low : (b.drawn == 2 ^ 62) ≡ false = grind (arith, nat_tests, c.if-drawn-eq-NUMBERS.false, c.drawn.ensures) in
-    order_behind c.orderly_books_stay.ensures scripts s _ (step.take d v) 0 step.plain (step.taken b.drawn 0) (draw b) c.requires tt (c.in-Ok.ensures.placed scripts) (c.in-Ok.ensures.drawn scripts 0 None)
+    order_behind c.orderly_books_stay.ensures scripts s _ (step.take d v) 0 step.plain (step.taken b.drawn 0) (draw b) c.requires tt (c.in-Ok.ensures.states scripts) (c.in-Ok.ensures.drawn scripts 0 None)
     (taken scripts r.fuel r.life r.instances r.pages b 0 d v refl low c.in_default.ensures.admitted)
 
 pub returns-in-Ok-clause-fits : goal.returns-in-Ok-clause-fits
@@ -100,6 +101,12 @@ pub returns-in-Err-ticket-clause-in_order : goal.returns-in-Err-ticket-clause-in
 returns-in-Err-ticket-clause-in_order g c =
     let scripts = scripts_of c.args.setup.now in
     record {
-      placed = c.in-Err-ticket.ensures.placed scripts c.requires.placed;
+      states = c.in-Err-ticket.ensures.states scripts c.requires.states;
       orderly = subst IsOrderly (sym (c.in-Err-ticket.ensures.err scripts 0 None)) c.requires.orderly;
     }
+
+pub returns-in-Ok-clause-runs : goal.returns-in-Ok-clause-runs
+returns-in-Ok-clause-runs g c =
+    let scripts = scripts_of c.args.setup.now in
+    let b = book_in scripts c.args.self.now in
+    some_visit scripts b c.in-Ok.ticket (admit b (target_of c.args.target.now)) c.in_default.ensures.admitted c.in-Ok.ensures.fits

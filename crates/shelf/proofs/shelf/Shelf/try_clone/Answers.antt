@@ -7,6 +7,6 @@ returns-clause-book g c scripts = c.in_ok-try_clone.ensures.book scripts 0 None
 
 pub returns-clause-in_order : goal.returns-clause-in_order
 returns-clause-in_order g c scripts order = record {
-  placed = c.in_ok-try_clone.ensures.placed scripts order.placed;
+  states = c.in_ok-try_clone.ensures.states scripts order.states;
   orderly = subst IsOrderly (sym (c.in_ok-try_clone.ensures.book scripts 0 None)) order.orderly;
 }

@@ -1,0 +1,233 @@
+-- The states of pages.
+use Rattle.std.proofs.Common.{◌≡◌, ◌∙◌, ap, sym, subst, ℕ, zero, suc, ◌<◌, ◌≤◌, List, [], ◌∷◌, ◌++◌, length, map, reverse, slice_get, Option, Some, None, refl, arith, Contains, inl, inr}
+use Rattle.std.specs.List.{AllByRecursion}
+use Rattle.std.proofs.lemmas.Bool.Decides.{nat_tests}
+use Rattle.std.proofs.lemmas.List.{reverse-append}
+use Rattle.std.proofs.lemmas.Option.{same_Some, get_or_from_slice_get}
+use Rattle.script_nodes.specs.Setup.{Named, Script}
+use Rattle.page_names.specs.Names.{Destination, start, page}
+use Rattle.page_names.specs.Views.{target_of}
+use Rattle.page_names.specs.declared.names.PageName.{PageName}
+use Rattle.instance_cells.specs.Cells.{Effect, reads_of}
+use Rattle.instance_cells.specs.Views.{effect_of}
+use Rattle.script_value.specs.declared.outcome.TxName.{TxName}
+use Rattle.replay_spec.specs.Tape.{Reads, recorded, Tape, Answer}
+use Rattle.replay_spec.specs.Book.{Page, Instance, Book, at_number, page_at, instance_at, parent_of, chain}
+use Rattle.replay_spec.specs.Change.{put_page, put_in_order}
+use Rattle.replay_spec.specs.Admission.{Place, Admission, begins, resumes, refused, refusal_of, admit}
+use Rattle.replay_spec.specs.Next.{Home, Visit, home, home_of, answered, newest, tape_of, tape_for, page_tape, start_visit, page_visit}
+use Rattle.replay_spec.specs.Next as next
+use Rattle.replay_spec.specs.Invariant.{AreAncestors, Lineage, IsOrderly}
+use Rattle.replay_spec.proofs.Ancestors.{Grown, put_grown, ancestors_grown, lineage_grown, chain_is}
+use Rattle.replay_spec.proofs.Numbered.{put_length, number_of}
+use Rattle.replay_spec.proofs.Stand.{among_of}
+use Rattle.replay_spec.proofs.Admitted.{page_stands, start_is_no_page, page_is_no_start}
+use Rattle.machine_spec.specs.Machine.{Suspended}
+use Rattle.machine_spec.specs.Laws.{IsStateOf}
+use Rattle.stored_states.specs.Views.{Keeps, state_of, segment_of}
+use Rattle.stored_states.specs.declared.segment.Outcome.{Outcome}
+use Rattle.stored_states.specs.declared.segment.Outcome.TheVariants.{Shown, Finished, Ended, Faulted, Fuel}
+use Rattle.stored_states.specs.declared.segment.Segment.{Segment}
+use Rattle.instance_book.specs.declared.numbered.Numbered.{Numbered}
+use Rattle.instance_book.specs.declared.page.KeptPage.{KeptPage}
+use Rattle.instance_book.specs.declared.instance.KeptInstance.{KeptInstance}
+use Rattle.instance_book.specs.declared.prepared.Opening.{Opening}
+use Rattle.instance_book.specs.declared.prepared.Extension.{Extension}
+use Rattle.instance_book.specs.declared.prepared.Change.{Change}
+use Rattle.instance_book.specs.declared.prepared.Change.TheVariants.{Opens, Extends, Ends, Finishes}
+use Rattle.instance_book.specs.declared.ticket.Ticket.{Ticket}
+use Rattle.instance_book.specs.Views.{page_of, pages_of, script_in, no_script, ticket_of}
+use Rattle.instance_book.specs.Places.{arena_of, state_at, shown_of, shown_in, HasState, HaveStates, IsKeptAs, IsKept, IsNextIn, IsNextAt, OneMoreHasItsState}
+use Rattle.instance_book.specs.Changes.{OpensKept, HasStateBy}
+use Rattle.instance_book.specs.Fits.{IsStateBehind, GoesOnFrom, FitsAs, IsForSome}
+use Rattle.instance_book.specs.Prepares.{first_page, next_page, OpensAs, ExtendsAs, OpensTo, ExtendsTo, KeepsStateOf}
+use Rattle.instance_book.specs.Laws.{KeepsStateOver, KeepsStateAs, AShownPageHasItsState}
+use Rattle.instance_book.proofs.Seen.{all_put, all_at}
+
+-- what a page has among others it has among more
+states_grown : (s : Named) (h : Home) (ps qs : List Page) → Grown ps qs → length ps ≤ length qs → (xs : List (Page × Suspended)) → HaveStates s h ps xs → HaveStates s h qs xs
+states_grown s h ps qs grown longer [] all = tt
+states_grown s h ps qs grown longer (x ∷ xs) all =
+    (record { lineage = lineage_grown ps qs grown longer x.0 all.0.lineage; state = all.0.state }, states_grown s h ps qs grown longer xs all.1)
+
+pub one_more_state : OneMoreHasItsState
+one_more_state s h ps xs p d unused own all =
+    let more : length ps ≤ length (put_page p ps) = omega (arith, put_length (λ (q : Page). q.number) p ps unused) in
+    all_put (λ (x : Page × Suspended). HasState s h (put_page p ps) x.0 x.1) (λ (x : Page × Suspended). x.0.number) (p, d) xs own
+    (states_grown s h ps (put_page p ps) (put_grown p ps unused) more xs all)
+
+-- an instance is kept as what is seen of it
+pub kept_alike : (scripts : List Named) (shelf : ℕ) (x y : Numbered KeptInstance) → x.number ≡ y.number → x.item.script ≡ y.item.script
+    → pages_of x.item.pages ≡ pages_of y.item.pages → shown_in x.item.pages ≡ shown_in y.item.pages → IsKept scripts shelf y → IsKept scripts shelf x
+kept_alike scripts shelf x y number place pages shown kept = rw (number, place, pages, shown) kept
+
+-- what is seen of it: its number, its script's place, and its pages with their states
+abbrev pub kept_of : Numbered KeptInstance → (ℕ × ℕ) × (List Page × List (Page × Suspended))
+kept_of x = ((x.number, x.item.script), (pages_of x.item.pages, shown_in x.item.pages))
+
+pub same_kept : (x y : Numbered KeptInstance) → x.number ≡ y.number → x.item.script ≡ y.item.script → pages_of x.item.pages ≡ pages_of y.item.pages → shown_in x.item.pages ≡ shown_in y.item.pages
+    → kept_of x ≡ kept_of y
+same_kept x y number place pages shown = rw (number, place, pages, shown) refl
+
+pub kept_as : (scripts : List Named) (shelf : ℕ) (x y : Numbered KeptInstance) → kept_of x ≡ kept_of y → IsKept scripts shelf y → IsKept scripts shelf x
+kept_as scripts shelf x y e kept =
+    subst (λ (k : (ℕ × ℕ) × (List Page × List (Page × Suspended))). IsKeptAs scripts shelf k.0.0 k.0.1 k.1.0 k.1.1) (sym e) kept
+
+-- with its next page it is kept too
+pub kept_next : (scripts : List Named) (shelf : ℕ) (x y : Numbered KeptInstance) (p : Numbered KeptPage) → y.number ≡ x.number → y.item.script ≡ x.item.script
+    → pages_of y.item.pages ≡ put_page (page_of p) (pages_of x.item.pages) → shown_in y.item.pages ≡ put_in_order (λ z. z.0.number) (shown_of p) (shown_in x.item.pages)
+    → page_at p.number (pages_of x.item.pages) ≡ None
+    → (let s = script_in scripts x.item.script in HasState s (home s shelf x.number) (put_page (page_of p) (pages_of x.item.pages)) (page_of p) (state_at p))
+    → IsKept scripts shelf x → IsKept scripts shelf y
+kept_next scripts shelf x y p number place pages shown unused own kept =
+    let s = script_in scripts x.item.script in
+    rw (number, place, pages, shown) (record {
+      placed = kept.placed;
+      states = one_more_state s (home s shelf x.number) (pages_of x.item.pages) (shown_in x.item.pages) (page_of p) (state_at p) unused own kept.states;
+    })
+
+-- an instance that begins with its page
+pub kept_first : (scripts : List Named) (shelf : ℕ) (o : Opening) (y : Numbered KeptInstance) → OpensKept scripts shelf o → y.number ≡ o.page.number → y.item.script ≡ o.instance.script
+    → pages_of y.item.pages ≡ put_page (page_of o.page) (pages_of o.instance.pages) → shown_in y.item.pages ≡ put_in_order (λ z. z.0.number) (shown_of o.page) (shown_in o.instance.pages)
+    → IsKept scripts shelf y
+kept_first scripts shelf o y kept number place pages shown =
+    rw (number, place, pages, shown, kept.pages, kept.shown) (record { placed = kept.place; states = (kept.state, tt) })
+
+keeps_state : (o : Outcome) (P : Suspended → Type 0) (d : Suspended) → Keeps o P → state_of o ≡ Some d → P d
+keeps_state (Shown bytes kind state) P d k e = subst P (same_Some _ d e) k
+keeps_state (Finished bytes) P d k e = absurd (cc)
+keeps_state (Ended bytes) P d k e = absurd (cc)
+keeps_state (Faulted f) P d k e = absurd (cc)
+keeps_state (Fuel cost) P d k e = absurd (cc)
+
+below_length : {A : Type 0} (xs : List A) (k : ℕ) (x : A) → slice_get xs k ≡ Some x → k < length xs
+below_length [] k x h = absurd (cc)
+below_length (y ∷ ys) zero x h = omega arith
+below_length (y ∷ ys) (suc k) x h = omega (arith, below_length ys k x h)
+
+-- the first page of a start
+first_kept : (scripts : List Named) (b : Book) (t : Ticket) (k : ℕ) (s : Named) (effects : List Effect) (inside : List TxName) (d : Suspended) (o : Opening)
+    → slice_get scripts t.script ≡ Some s → OpensAs t effects inside d o
+    → IsStateOf (arena_of s.script) (tape_for (start_visit b (ticket_of t) k s) (recorded (reads_of effects))) d → OpensKept scripts b.shelf o
+first_kept scripts b t k s effects inside d o found made state =
+    let its : script_in scripts o.instance.script ≡ s = ap (script_in scripts) made.script ∙ get_or_from_slice_get scripts t.script s no_script found in
+    let p = page_of o.page in
+    let parent : p.parent ≡ None = ap (λ (q : Page). q.parent) made.page in
+    let number : o.page.number ≡ t.number = ap (λ (q : Page). q.number) made.page in
+    let tape : page_tape (home s b.shelf o.page.number) [] p ≡ tape_for (start_visit b (ticket_of t) k s) (recorded (reads_of effects)) =
+    ap (λ (n : ℕ). page_tape (home s b.shelf n) [] p) number ∙ ap (λ (q : Page). page_tape (home s b.shelf t.number) [] q) made.page in
+    record {
+      place = subst (λ (m : ℕ). m < length scripts) (sym made.script) (below_length scripts t.script s found);
+      pages = made.pages;
+      shown = made.shown;
+      state = rw its (record {
+        lineage = record { ancestors = []; are = parent; few = omega arith };
+        state = subst (λ (x : Tape). IsStateOf (arena_of s.script) x (state_at o.page)) (sym tape) (subst (IsStateOf (arena_of s.script) (tape_for (start_visit b (ticket_of t) k s) (recorded (reads_of effects)))) (sym made.state) state);
+      });
+    }
+
+-- the next page of an answer
+next_kept : (b : Book) (t : Ticket) (at : Place) (n : PageName) (effects : List Effect) (inside : List TxName) (d : Suspended) (x : Extension)
+    → IsOrderly b → Contains b.out t.number → instance_at n.instance b.instances ≡ Some at.instance → page_at n.page at.instance.pages ≡ Some at.page → ExtendsAs t n.instance n.page effects inside d x
+    → IsStateOf (arena_of at.instance.script.script) (tape_for (page_visit b (ticket_of t) at) (recorded (reads_of effects))) d → IsNextAt b.shelf b.instances x.instance x.show.page
+next_kept b t at n effects inside d x orderly out here shown made state i found =
+    let same : at.instance ≡ i = same_Some at.instance i (sym here ∙ (ap (λ (m : ℕ). instance_at m b.instances) (sym made.instance) ∙ found)) in
+    subst (λ (j : Instance). IsNextIn b.shelf j (page_of x.show.page) (state_at x.show.page)) same next
+  where
+    p : Page
+    p = page_of x.show.page
+
+    ps : List Page
+    ps = at.instance.pages
+
+    s : Named
+    s = at.instance.script
+
+    h : Lineage ps at.page
+    h = orderly.instances.lineage n.instance at.instance here n.page at.page shown
+
+    next : IsNextIn b.shelf at.instance p (state_at x.show.page)
+    next =
+        let number : p.number ≡ t.number = ap (λ (q : Page). q.number) made.page in
+        let parent : p.parent ≡ Some n.page = ap (λ (q : Page). q.parent) made.page in
+        let unused : page_at p.number ps ≡ None = subst (λ (m : ℕ). page_at m ps ≡ None) (sym number) (orderly.instances.no_page t.number (inl (among_of b.out t.number out)) n.instance at.instance here) in
+        let grown : Grown ps (put_page p ps) = put_grown p ps unused in
+        let mine : AreAncestors (put_page p ps) p (at.page ∷ h.ancestors) =
+        (subst (λ (o : Option ℕ). parent_of (put_page p ps) o ≡ Some at.page) (sym parent) (grown n.page at.page shown), ancestors_grown ps (put_page p ps) grown at.page h.ancestors h.are) in
+        let home_at : Home = home s b.shelf at.instance.number in
+        let all : reverse (at.page ∷ h.ancestors) ≡ chain ps at.page = sym (chain_is ps at.page h.ancestors h.are h.few) in
+        let tape : page_tape home_at (reverse (at.page ∷ h.ancestors)) p ≡ tape_for (page_visit b (ticket_of t) at) (recorded (reads_of effects)) =
+        ap (λ (qs : List Page). page_tape home_at qs p) all ∙ ap (λ (q : Page). page_tape home_at (chain ps at.page) q) made.page in
+        record {
+          unused = unused;
+          state = record {
+            lineage = record { ancestors = at.page ∷ h.ancestors; are = mine; few = omega (arith, h.few, put_length (λ (q : Page). q.number) p ps unused) };
+            state = subst (λ (y : Tape). IsStateOf (arena_of s.script) y (state_at x.show.page)) (sym tape) (subst (IsStateOf (arena_of s.script) (tape_for (page_visit b (ticket_of t) at) (recorded (reads_of effects)))) (sym made.state) state);
+          };
+        }
+
+-- by the kinds of admission and of change
+module _ (b : Book) (orderly : IsOrderly b) (t : Ticket) (out : Contains b.out t.number) (r : Segment) where
+  start_keeps : (name : List ℕ) (a : Admission) → admit b (start name) ≡ a → refusal_of a ≡ None → FitsAs b.scripts b t a → KeepsStateAs b t a r
+      → (c : Option Change) → KeepsStateOf t r (start name) c → HasStateBy b.scripts b.shelf b.instances c
+  start_keeps name (resumes at) adm ok fits over c keeps = absurd (start_is_no_page b name at adm)
+  start_keeps name (refused why) adm ok fits over c keeps = absurd (cc)
+  start_keeps name (begins k s) adm ok fits over None keeps = tt
+  start_keeps name (begins k s) adm ok fits over (Some (Ends e)) keeps = tt
+  start_keeps name (begins k s) adm ok fits over (Some (Finishes f)) keeps = tt
+  start_keeps name (begins k s) adm ok fits over (Some (Opens o)) (inl none) = absurd none
+  start_keeps name (begins k s) adm ok fits over (Some (Opens o)) (inr from) =
+      first_kept b.scripts b t k s (segment_of r).effects r.entered.items from.0 o fits.run.script from.1.1 (keeps_state r.outcome _ from.0 over from.1.0)
+  start_keeps name (begins k s) adm ok fits over (Some (Extends x)) (inl none) = absurd none
+  start_keeps name (begins k s) adm ok fits over (Some (Extends x)) (inr from) = absurd from.1.1
+
+  page_keeps : (name : List ℕ) (n : PageName) (a : Admission) → admit b (page name n) ≡ a → refusal_of a ≡ None → FitsAs b.scripts b t a → KeepsStateAs b t a r
+      → (c : Option Change) → KeepsStateOf t r (page name n) c → HasStateBy b.scripts b.shelf b.instances c
+  page_keeps name n (begins k s) adm ok fits over c keeps = absurd (page_is_no_start b name n k s adm)
+  page_keeps name n (refused why) adm ok fits over c keeps = absurd (cc)
+  page_keeps name n (resumes at) adm ok fits over None keeps = tt
+  page_keeps name n (resumes at) adm ok fits over (Some (Ends e)) keeps = tt
+  page_keeps name n (resumes at) adm ok fits over (Some (Finishes f)) keeps = tt
+  page_keeps name n (resumes at) adm ok fits over (Some (Opens o)) (inl none) = absurd none
+  page_keeps name n (resumes at) adm ok fits over (Some (Opens o)) (inr from) = absurd from.1.1
+  page_keeps name n (resumes at) adm ok fits over (Some (Extends x)) (inl none) = absurd none
+  page_keeps name n (resumes at) adm ok fits over (Some (Extends x)) (inr from) =
+      let stands = page_stands b name n at adm in
+      next_kept b t at n (segment_of r).effects r.entered.items from.0 x orderly out stands.here stands.shown from.1.1 (keeps_state r.outcome _ from.0 over from.1.0)
+
+  keeps_by : (d : Destination) (a : Admission) → admit b d ≡ a → refusal_of a ≡ None → FitsAs b.scripts b t a → KeepsStateAs b t a r
+      → (c : Option Change) → KeepsStateOf t r d c → HasStateBy b.scripts b.shelf b.instances c
+  keeps_by (start name) a adm ok fits over c keeps = start_keeps name a adm ok fits over c keeps
+  keeps_by (page name n) a adm ok fits over c keeps = page_keeps name n a adm ok fits over c keeps
+
+pub a_shown_page_has_its_state : AShownPageHasItsState
+a_shown_page_has_its_state b orderly t out a adm ok fits r over c keeps = keeps_by b orderly t out r (target_of t.target) a adm ok fits over c keeps
+
+-- a visit whose pages are the chain of a page that has its state
+pub goes_on_from : (v : Visit) (ps : List Page) (p : Page) (d : Suspended) → v.pages ≡ chain ps p → HasState v.script (home_of v) ps p d → IsStateBehind v d
+goes_on_from v ps p d e has =
+    let h = has.lineage in
+    record {
+      ancestors = reverse h.ancestors;
+      page = p;
+      chain = e ∙ (chain_is ps p h.ancestors h.are h.few ∙ reverse-append (p ∷ []) h.ancestors);
+      state = has.state;
+    }
+
+-- and so is an answer to the page of a place, of which this is kept
+pub origin_goes_on : (b : Book) (t : next.Ticket) (at : Place) (s : Named) (o : Option Suspended) (d : Suspended) → o ≡ Some d → at.instance.script ≡ s
+    → HasState s (home s b.shelf at.instance.number) at.instance.pages at.page d → GoesOnFrom (page_visit b t at) o
+origin_goes_on b t at s o d e its has =
+    subst (λ (x : Option Suspended). GoesOnFrom (page_visit b t at) x) (sym e) (goes_on_from (page_visit b t at) at.instance.pages at.page d refl
+    (subst (λ (x : Named). HasState x (home x b.shelf at.instance.number) at.instance.pages at.page d) (sym its) has))
+
+-- the state of a page that is found among those of an instance
+pub state_found : (s : Named) (h : Home) (ps : List Page) (n : ℕ) (xs : List (Page × Suspended)) (x : Page × Suspended) → HaveStates s h ps xs
+    → at_number (λ (y : Page × Suspended). y.0.number) n xs ≡ Some x → HasState s h ps x.0 x.1
+state_found s h ps n xs x all found = all_at (λ (y : Page × Suspended). HasState s h ps y.0 y.1) (λ (y : Page × Suspended). y.0.number) n xs x all found
+
+-- a ticket whose target is admitted and that fits is for the visit
+pub some_visit : (scripts : List Named) (b : Book) (t : Ticket) (a : Admission) → refusal_of a ≡ None → FitsAs scripts b t a → IsForSome scripts t
+some_visit scripts b t (begins k s) ok fits = record { visit = start_visit b (ticket_of t) k s; ticket = refl; fits = fits.run }
+some_visit scripts b t (resumes at) ok fits = record { visit = page_visit b (ticket_of t) at; ticket = refl; fits = fits }
+some_visit scripts b t (refused why) ok fits = absurd (cc)

@@ -1,0 +1,39 @@
+-- The state of a page that a visit shows.
+use Rattle.std.specs.Prelude.{◌≡◌, map, Contains, Option, None, ⊤}
+use Rattle.instance_cells.specs.Cells.{reads_of}
+use Rattle.instance_cells.specs.Views.{effect_of}
+use Rattle.page_names.specs.Views.{target_of}
+use Rattle.replay_spec.specs.Tape.{recorded}
+use Rattle.replay_spec.specs.Book.{Book}
+use Rattle.replay_spec.specs.Admission.{Admission, begins, resumes, refused, refusal_of, admit}
+use Rattle.replay_spec.specs.Next.{Visit, tape_for, start_visit, page_visit}
+use Rattle.replay_spec.specs.Invariant.{IsOrderly}
+use Rattle.machine_spec.specs.Laws.{IsStateOf}
+use Rattle.stored_states.specs.Views.{Keeps}
+use Rattle.stored_states.specs.declared.segment.Segment.{Segment}
+use Rattle.instance_book.specs.declared.prepared.Change.{Change}
+use Rattle.instance_book.specs.declared.ticket.Ticket.{Ticket}
+use Rattle.instance_book.specs.Views.{ticket_of}
+use Rattle.instance_book.specs.Places.{arena_of}
+use Rattle.instance_book.specs.Fits.{FitsAs}
+use Rattle.instance_book.specs.Changes.{HasStateBy}
+use Rattle.instance_book.specs.Prepares.{KeepsItsState}
+
+-- where the segment waits for an answer, its state is kept over the visit's tape, with what was read recorded
+abbrev pub KeepsStateOver : Visit → Segment → Type 0
+KeepsStateOver v r =
+    Keeps r.outcome (λ d. IsStateOf (arena_of v.script.script) (tape_for v (recorded (reads_of (map effect_of r.effects.items)))) d)
+
+-- the visit is the one that the ticket's target is admitted as
+abbrev pub KeepsStateAs : Book → Ticket → Admission → Segment → Type 0
+KeepsStateAs b t (begins k s) r = KeepsStateOver (start_visit b (ticket_of t) k s) r
+KeepsStateAs b t (resumes at) r = KeepsStateOver (page_visit b (ticket_of t) at) r
+KeepsStateAs b t (refused why) r = ⊤
+
+-- What a ticket's segment shows, where the target is admitted and the ticket is for the visit, is a page with the state of its
+-- chain.
+abbrev pub AShownPageHasItsState : Type 0
+AShownPageHasItsState =
+    (b : Book) → IsOrderly b → (t : Ticket) → Contains b.out t.number → (a : Admission) → admit b (target_of t.target) ≡ a
+    → refusal_of a ≡ None → FitsAs b.scripts b t a → (r : Segment) → KeepsStateAs b t a r → (c : Option Change) → KeepsItsState t r c
+    → HasStateBy b.scripts b.shelf b.instances c
