@@ -8,6 +8,7 @@ ghost use Rattle.journal_records.specs.Reading as spec;
 ghost use Rattle.journal_records.specs.Reading.{is_nothing, read_below};
 ghost use Rattle.journal_records.specs.Views.{script_of, origin_of, page_of, ending_of, finish_of, logged_of};
 
+use crate::grammar::{DEADLINES_END, NUMBERS_END};
 use crate::logged::{Logged, LoggedEnded, LoggedFinish, LoggedPage, LoggedScript, Origin};
 use instance_cells::Effect;
 use script_nodes::SendKind;
@@ -16,12 +17,6 @@ use std::alloc::{AllocError, Global};
 use value_bytes::fields::{byte, number_32, number_64, signed_64, string};
 use value_bytes::{Unread, value};
 use wire_bytes::Cursor;
-
-// Tickets, instances, pages and clocks stay below this.
-const NUMBERS_END: u64 = 1 << 62;
-
-// Deadlines stay below this.
-const DEADLINES_END: u64 = 1 << 63;
 
 /// The record whose body this is; none where it is the body of no record.
 pub fn decode(alloc: Global, body: &[u8]) -> Result<Option<Logged>, AllocError>

@@ -3,6 +3,7 @@
 
 mod decoding;
 mod encoding;
+mod grammar;
 mod laws;
 mod logged;
 mod measure;
@@ -10,6 +11,7 @@ mod recorded;
 
 pub use decoding::decode;
 pub use encoding::{encode, encode_begin};
+pub use grammar::{can_begin, is_in_grammar};
 pub use laws::records_are_exact;
 pub use logged::{Logged, LoggedEnded, LoggedFinish, LoggedPage, LoggedScript, Origin};
 pub use measure::body_length;
