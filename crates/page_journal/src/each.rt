@@ -1,6 +1,6 @@
 ghost use Rattle.std.specs.Prelude.{◌≡◌, ◌<◌, ◌≤◌, ◌+◌, ◌^◌, ◌++◌, ◌∷◌, List, ℕ, length, take, drop, IsTrue, OnOk, OnErr, vec_capacity};
 ghost use Rattle.web_disk.specs.View.{View, NoNewImage, Elapses};
-ghost use Rattle.page_journal.specs.Records.{stored};
+ghost use Rattle.page_journal.specs.Records.{stored, at_rest};
 ghost use Rattle.page_journal.specs.Scanned.{IsQuiet};
 ghost use Rattle.page_journal.specs.Settled.{HasFailed, IsSettled, IsReady, IsSound, view_of, bodies_in, length_of, is_broken};
 ghost use Rattle.page_journal.specs.Taken.{TakesAll, TakesFront};
@@ -31,8 +31,9 @@ pub trait Take {
     /// What one record makes of the taker.
     ghost takes: { Self → ℕ → List ℕ → Self → Type 0 };
 
-    /// Takes the body of the record whose gate is at this place.
+    /// Takes the body of the record whose gate is at this place. A closed gate has room behind it.
     fn body(&mut self, place: u64, body: &[u8])
+        requires { place + 6 + length body.now ≤ 2 ^ 30 }
         ensures { takes self.old place body.now self.new };
 }
 
@@ -68,7 +69,9 @@ impl<D: Disk> Journal<D> {
             OnOk result (TakesAll T.takes taker.old 8 (bodies_in D.view self.old) taker.new) }
         ensures front { IsTrue D.tells →
             TakesFront T.takes taker.old (bodies_in D.view self.old) taker.new }
-        ensures handed { (bodies : List (List ℕ)) × TakesAll T.takes taker.old 8 bodies taker.new }
+        // Also of a disk that does not tell its bytes, and where a call of it failed.
+        ensures handed { (bodies : List (List ℕ)) × TakesAll T.takes taker.old 8 bodies taker.new
+            × (length (at_rest bodies) ≤ 2 ^ 30) }
         ensures quiet { IsQuiet (view_of D.view self.old) (view_of D.view self.new) }
         ensures len { length_of self.new ≡ length_of self.old }
         ensures whole { is_broken self.new ≡ is_broken self.old }
@@ -118,10 +121,10 @@ impl<D: Disk> Journal<D> {
 
     /// The length of the journal, in bytes.
     pub fn len(&self) -> u64
-        requires sound { IsSound self.now }
-        requires settled { IsTrue D.tells → IsSettled D.view self.now }
+        requires { IsSound self.now }
         ensures len { result ≡ length_of self.now }
-        ensures seen { IsTrue D.tells → result ≡ length (view_of D.view self.now).seen }
+        ensures seen { IsTrue D.tells → IsSettled D.view self.now →
+            result ≡ length (view_of D.view self.now).seen }
     {
         self.end + 1
     }

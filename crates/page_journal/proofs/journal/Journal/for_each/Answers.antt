@@ -1,8 +1,8 @@
 use Rattle.std.proofs.Common.{◌≡◌, ◌+◌, ℕ, suc, List, [], length, take, drop, refl, ◌∙◌, ap, subst, arith}
 use Rattle.page_journal.specs.Records.{records_from, Damaged}
-use Rattle.page_journal.specs.Scanned.{IsFound, HasRecord, HasEnd}
+use Rattle.page_journal.specs.Scanned.{IsFound, IsWithin, HasRecord, HasEnd}
 use Rattle.page_journal.proofs.Scans.{quiet_none, quiet_then, no_longer}
-use Rattle.page_journal.proofs.Takings.{handed_one, takes_front, takes_none, takes_one, takes_all, fits_buffer, never_wrong, never_past}
+use Rattle.page_journal.proofs.Takings.{handed_all, handed_one, takes_front, takes_none, takes_one, takes_all, fits_buffer, never_wrong, never_past}
 use Rattle.page_journal.proofs.journal.Journal.for_each.Goals as goal
 
 pub gates-init : goal.gates-init
@@ -10,7 +10,7 @@ gates-init g c = record {
   taking = λ told.
       let settled = c.requires.settled told in
       takes_none g.T.Take.takes c.args.taker.now _ settled.file (omega (arith, settled.end, settled.fits));
-  handing = record { done = []; here = refl {A = ℕ}; taken = refl };
+  handing = record { done = []; here = refl {A = ℕ}; fits = omega arith; taken = refl };
   quiet = quiet_none _ (g.met.D.Disk.only_now c.args.self.now.disk);
   end = refl {A = ℕ};
   broken = refl;
@@ -38,7 +38,8 @@ gates-preserved g c = record {
       let bytes = c.deref.ensures.value ∙ c.in_ok-read_body-in-Next.ensures.bytes told ∙ ap (λ (l : List ℕ). take c.in-Next.size (drop (c.gates.place + 5) l)) (c.look.ensures.quiet.seen ∙ same) in
       takes_one g.T.Take.takes c.args.taker.now _ c.gates.place c.in-Next.size _ c.gates.taker c.body.new.self c.deref.result.now (c.gates.invariant.taking told)
       (subst (λ (l : List ℕ). HasRecord l c.gates.place c.in-Next.size) same found) bytes c.body.ensures (omega arith);
-  handing = handed_one g.T.Take.takes c.args.taker.now c.gates.place c.in-Next.size _ c.gates.taker c.body.new.self (c.gates.invariant.handing) (ap length c.deref.ensures.value ∙ c.in_ok-read_body-in-Next.ensures.size) c.body.ensures;
+  handing = handed_one g.T.Take.takes c.args.taker.now c.gates.place c.in-Next.size _ c.gates.taker c.body.new.self (c.gates.invariant.handing) (ap length c.deref.ensures.value ∙ c.in_ok-read_body-in-Next.ensures.size)
+      (subst (λ f. IsWithin c.gates.place (c.args.self.now.end + 1) f) c.in-Next.is c.in_ok-look.ensures.within).0 c.body.ensures;
   quiet = quiet_then _ _ _ c.gates.invariant.quiet (quiet_then _ _ _ c.look.ensures.quiet c.read_body.ensures.quiet);
   end = c.gates.invariant.end;
   broken = c.gates.invariant.broken;
@@ -60,22 +61,22 @@ returns-then-size-capacity-clause-taken g c = λ told.
     absurd (omega (arith, fits, c.if-size-capacity.true, c.capacity.ensures))
 
 pub returns-in-Wrong-clause-handed : goal.returns-in-Wrong-clause-handed
-returns-in-Wrong-clause-handed g c = (c.gates.invariant.handing.done, c.gates.invariant.handing.taken)
+returns-in-Wrong-clause-handed g c = handed_all _ _ _ _ c.gates.invariant.handing
 
 pub returns-in-End-clause-handed : goal.returns-in-End-clause-handed
-returns-in-End-clause-handed g c = (c.gates.invariant.handing.done, c.gates.invariant.handing.taken)
+returns-in-End-clause-handed g c = handed_all _ _ _ _ c.gates.invariant.handing
 
 pub returns-clause-handed : goal.returns-clause-handed
-returns-clause-handed g c = (c.gates.invariant.handing.done, c.gates.invariant.handing.taken)
+returns-clause-handed g c = handed_all _ _ _ _ c.gates.invariant.handing
 
 pub returns-then-size-capacity-clause-handed : goal.returns-then-size-capacity-clause-handed
-returns-then-size-capacity-clause-handed g c = (c.gates.invariant.handing.done, c.gates.invariant.handing.taken)
+returns-then-size-capacity-clause-handed g c = handed_all _ _ _ _ c.gates.invariant.handing
 
 pub returns-in_err-look-clause-handed : goal.returns-in_err-look-clause-handed
-returns-in_err-look-clause-handed g c = (c.gates.invariant.handing.done, c.gates.invariant.handing.taken)
+returns-in_err-look-clause-handed g c = handed_all _ _ _ _ c.gates.invariant.handing
 
 pub returns-in_err-read_body-in-Next-clause-handed : goal.returns-in_err-read_body-in-Next-clause-handed
-returns-in_err-read_body-in-Next-clause-handed g c = (c.gates.invariant.handing.done, c.gates.invariant.handing.taken)
+returns-in_err-read_body-in-Next-clause-handed g c = handed_all _ _ _ _ c.gates.invariant.handing
 
 pub returns-in-Wrong-clause-front : goal.returns-in-Wrong-clause-front
 returns-in-Wrong-clause-front g c = λ told. takes_front g.T.Take.takes c.args.taker.now _ c.gates.place c.gates.taker (c.gates.invariant.taking told)
