@@ -1,0 +1,112 @@
+-- What is written or read piece by piece.
+use Rattle.std.proofs.Common.{◌≡◌, ℕ, zero, suc, ◌+◌, ◌-◌, ◌<◌, Bool, true, false, List, [], ◌∷◌, ◌++◌, length, map, take, drop, get_or, Option, Some, None, refl, sym, ap, subst, ◌∙◌, append_assoc, arith}
+use Rattle.std.specs.Prelude.{slice_get, Result, Ok, Err, OnOk}
+use Rattle.std.specs.List.{flat_map, AllByRecursion}
+use Rattle.std.specs.List.{take-map}
+use Rattle.std.proofs.lemmas.List.{map_more, take_more}
+use Rattle.std.proofs.lemmas.Option.{get_or_from_slice_get, slice_get_within}
+use Rattle.std.proofs.lemmas.Grind.{common_steps}
+use Rattle.script_value.specs.Val.{Val, list, vals_of}
+use Rattle.script_nodes.specs.Setup.{Named}
+use Rattle.value_bytes.specs.Reading.{Reader, read_several}
+use Rattle.value_bytes.proofs.Turns.{with_front, one_more}
+use Rattle.journal_records.specs.Records.{Record, texts_of}
+use Rattle.journal_records.specs.Reading.{is_nothing, read_front, read_record, alone}
+
+-- ---- pieces, one behind the other
+
+pub onto : (a x b y : List ℕ) → b ≡ a ++ x → b ++ y ≡ a ++ (x ++ y)
+onto a x b y e = ap (λ (l : List ℕ). l ++ y) e ∙ append_assoc a x y
+
+pub onto_3 : (a x b y c z : List ℕ) → b ≡ a ++ x → c ≡ b ++ y → c ++ z ≡ a ++ (x ++ (y ++ z))
+onto_3 a x b y c z e f = onto b y c z f ∙ onto a x b (y ++ z) e
+
+pub onto_4 : (a x b y c z d w : List ℕ) → b ≡ a ++ x → c ≡ b ++ y → d ≡ c ++ z → d ++ w ≡ a ++ (x ++ (y ++ (z ++ w)))
+onto_4 a x b y c z d w e f g = onto c z d w g ∙ onto_3 a x b y c (z ++ w) e f
+
+-- ---- several
+
+-- one more of several is written
+pub walked : {A : Type 0} (spelled : A → List ℕ) (xs : List A) (i : ℕ) (d : A) (old new whole : List ℕ) → i < length xs
+    → new ≡ old ++ spelled (get_or xs i d) → old ++ flat_map spelled (drop i xs) ≡ whole → new ++ flat_map spelled (drop (i + 1) xs) ≡ whole
+walked spelled xs i d old new whole h e w =
+    let here : drop i xs ≡ get_or xs i d ∷ drop (i + 1) xs = grind (arith, common_steps) in
+    onto old (spelled (get_or xs i d)) new (flat_map spelled (drop (i + 1) xs)) e
+    ∙ ap (λ ys. old ++ flat_map spelled ys) (sym here) ∙ w
+
+-- the first of those that are left can be written
+pub fits_here : {A B : Type 0} (P : B → Type 0) (view : A → B) (xs : List A) (i : ℕ) (d : A) → i < length xs
+    → AllByRecursion P (map view (drop i xs)) → d ≡ get_or xs i d → P (view d)
+fits_here P view xs i d h f e =
+    let here : drop i xs ≡ get_or xs i d ∷ drop (i + 1) xs = grind (arith, common_steps) in
+    let both : AllByRecursion P (map view (get_or xs i d ∷ drop (i + 1) xs)) = subst (λ ys. AllByRecursion P (map view ys)) here f in
+    subst (λ y. P (view y)) (sym e) both.0
+
+-- one more of several is read
+pub pushed : {A B : Type 0} (view : A → B) (read : Reader B) (n i : ℕ) (old new : List A) (x : A) (bytes rest : List ℕ) (whole : Option (List B × List ℕ))
+    → new ≡ old ++ x ∷ [] → i < n → read bytes ≡ Some (view x, rest)
+    → with_front (map view old) (read_several read (n - i) bytes) ≡ whole → with_front (map view new) (read_several read (n - (i + 1)) rest) ≡ whole
+pushed view read n i old new x bytes rest whole e h r w =
+    let front : map view new ≡ map view old ++ view x ∷ [] = grind (arith, common_steps, e) in
+    ap (λ ys. with_front ys (read_several read (n - (i + 1)) rest)) front ∙ one_more read n i (map view old) bytes (view x) rest h r ∙ w
+
+-- ---- a setup
+
+-- the script of a place stands before those behind it
+pub text_here : (scripts : List Named) (i : ℕ) (s : Named) → slice_get scripts i ≡ Some s
+    → drop i (texts_of scripts) ≡ (s.name, s.text) ∷ drop (suc i) (texts_of scripts)
+text_here [] i s e = absurd cc
+text_here (n ∷ scripts) zero s e =
+    let same : n ≡ s = cc in
+    ap (λ (m : Named). (m.name, m.text) ∷ texts_of scripts) same
+text_here (n ∷ scripts) (suc i) s e = text_here scripts i s e
+
+pub text_there : (scripts : List Named) (i : ℕ) (s : Named) → Some s ≡ slice_get scripts i
+    → drop i (texts_of scripts) ≡ (s.name, s.text) ∷ drop (i + 1) (texts_of scripts)
+text_there scripts i s e =
+    let next : suc i ≡ i + 1 = omega arith in
+    text_here scripts i s (sym e) ∙ ap (λ (k : ℕ). (s.name, s.text) ∷ drop k (texts_of scripts)) next
+
+pub none_past : {X : Type 0} (xs : List X) (i : ℕ) → None ≡ slice_get xs i → i < length xs → ⊥
+none_past [] i e h = omega arith
+none_past (x ∷ xs) zero e h = cc
+none_past (x ∷ xs) (suc i) e h = none_past xs i e (omega arith)
+
+pub on_ok : {T E : Type 0} (r : Result T E) (P Q : Type 0) → OnOk r P → (P → Q) → OnOk r Q
+on_ok (Ok x) P Q p f = f p
+on_ok (Err x) P Q p f = tt
+
+pub one_more_text : {A B : Type 0} (view : A → B) (xs : List A) (ys : List B) (i : ℕ) (d : A) → i < length xs → d ≡ get_or xs i d
+    → slice_get ys i ≡ Some (view d) → take i (map view xs) ≡ take i ys → take (i + 1) (map view xs) ≡ take (i + 1) ys
+one_more_text view xs ys i d h e s t =
+    let here = get_or_from_slice_get ys i (view d) (view d) s in
+    let more = take_more ys i (view d) (slice_get_within ys i (view d) s) in
+    let front = map_more view xs i d h in
+    let swapped = take-map view (i + 1) xs in
+    let before = take-map view i xs in
+    cc
+
+-- ---- the empty list
+
+pub is_nothing_test : (b : Bool) (vs : List Val) → (b ≡ true → vs ≡ []) × (vs ≡ [] → b ≡ true) → b ≡ is_nothing (list (vals_of vs))
+is_nothing_test b [] e = e.1 refl
+is_nothing_test true (v ∷ vs) e = absurd (cc (e.0 refl))
+is_nothing_test false (v ∷ vs) e = refl
+
+-- ---- a whole body
+
+pub whole_record : (bytes rest : List ℕ) (r : Record) → read_front bytes ≡ Some (r, rest) → rest ≡ [] → read_record bytes ≡ Some r
+unfolding read_record
+whole_record bytes rest r e f = ap alone e ∙ ap (λ l. alone (Some (r, l))) f
+
+alone_not : (r : Record) (rest : List ℕ) → (rest ≡ [] → ⊥) → alone (Some (r, rest)) ≡ None
+alone_not r [] e = absurd (e refl)
+alone_not r (b ∷ rest) e = refl
+
+pub more_than_a_record : (bytes rest : List ℕ) (r : Record) → read_front bytes ≡ Some (r, rest) → (rest ≡ [] → ⊥) → read_record bytes ≡ None
+unfolding read_record
+more_than_a_record bytes rest r e f = ap alone e ∙ alone_not r rest f
+
+pub no_record : (bytes : List ℕ) → read_front bytes ≡ None → read_record bytes ≡ None
+unfolding read_record
+no_record bytes e = ap alone e

@@ -1,0 +1,4 @@
+pub mod Codec
+pub mod Chains
+pub mod Exact
+pub mod Sizes

@@ -1,0 +1,6 @@
+pub mod Fields
+pub mod Records
+pub mod Reading
+pub mod Laws
+pub mod Views
+pub mod Vectors

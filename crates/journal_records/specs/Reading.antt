@@ -1,0 +1,207 @@
+-- How records are read.
+use Rattle.std.specs.Prelude.{ℕ, ◌==◌, Bool, true, false, List, [], ◌∷◌, Option, Some, None, nat_lt, if◌then◌else◌}
+use Rattle.script_value.specs.Val.{Val, number, truth, text, symbol, list, no_vals, val}
+use Rattle.script_value.specs.Pieces.{◌>>=◌}
+use Rattle.script_value.specs.declared.outcome.TxName.{TxName}
+use Rattle.instance_cells.specs.Cells.{Effect, read, set, add}
+use Rattle.script_nodes.specs.declared.script.SendKind.{SendKind}
+use Rattle.script_nodes.specs.declared.script.SendKind.TheVariants.{Suspend, Forward}
+use Rattle.replay_spec.specs.Book.{Ending, Finish, Change, opens, extends, ends, finishes, sweeps}
+use Rattle.wire_bytes.specs.Reading.{read_u8, read_u32, read_u64, read_bytes}
+use Rattle.value_bytes.specs.Reading.{Reader, seen_as, read_list, read_i64, read_value}
+use Rattle.journal_records.specs.Fields.{Origin, start, answered, numbers_end, deadlines_end}
+use Rattle.journal_records.specs.Records.{Record, begins, changes, Page}
+
+-- one, and another behind it
+infixr 10 ◌then◌
+abbrev pub ◌then◌ : {A B : Type 0} → Reader A → Reader B → Reader (A × B)
+◌then◌ first second bytes = do
+  x ← first bytes
+  y ← second x.1
+  Some ((x.0, y.0), y.1)
+
+-- a number of 64 bits below the limit
+abbrev pub read_below : ℕ → Reader ℕ
+read_below limit bytes = do
+  n ← read_u64 bytes
+  if nat_lt n.0 limit then Some n else None
+
+-- a ticket, an instance, a page or a clock
+abbrev pub read_number : Reader ℕ
+read_number bytes = read_below numbers_end bytes
+
+abbrev pub read_deadline : Reader ℕ
+read_deadline bytes = read_below deadlines_end bytes
+
+abbrev pub name_from : ℕ × ℕ → TxName
+name_from x = record { ticket = x.0; entry = x.1 }
+
+abbrev pub read_name : Reader TxName
+read_name bytes = seen_as name_from ((read_u64 then read_u32) bytes)
+
+-- what an effect of this kind did to the cell
+abbrev pub read_effect_of : (kind cell : ℕ) → Reader Effect
+read_effect_of kind cell bytes =
+    if kind == 0 then seen_as (read cell) (read_value bytes) else
+    (if kind == 1 then seen_as (set cell) (read_value bytes) else
+    (if kind == 2 then seen_as (add cell) (read_i64 bytes) else None))
+
+abbrev pub read_effect : Reader Effect
+read_effect bytes = do
+  kind ← read_u8 bytes
+  cell ← read_u8 kind.1
+  read_effect_of kind.0 cell.0 cell.1
+
+abbrev pub send_of : ℕ → Option SendKind
+send_of kind = if kind == 0 then Some Suspend else (if kind == 1 then Some Forward else None)
+
+abbrev pub read_send : Reader SendKind
+read_send bytes = do
+  kind ← read_u8 bytes
+  send ← send_of kind.0
+  Some (send, kind.1)
+
+-- whether a value is the empty list
+abbrev pub is_nothing : Val → Bool
+is_nothing (number n) = false
+is_nothing (truth b) = false
+is_nothing (text t) = false
+is_nothing (symbol s) = false
+is_nothing (list no_vals) = true
+is_nothing (list (val v vs)) = false
+
+abbrev pub read_nothing : Reader Val
+read_nothing bytes = do
+  v ← read_value bytes
+  if is_nothing v.0 then Some v else None
+
+abbrev pub start_from : ℕ × Val → Origin
+start_from x = start x.0
+
+-- a page of an instance, and its answer
+abbrev pub read_answered : Reader (ℕ × (ℕ × Val))
+read_answered bytes = (read_number then (read_number then read_value)) bytes
+
+abbrev pub answered_from : ℕ × (ℕ × Val) → Origin
+answered_from x = answered x.0 x.1.0 x.1.1
+
+abbrev pub read_origin_of : ℕ → Reader Origin
+read_origin_of kind bytes =
+    if kind == 0 then seen_as start_from ((read_u8 then read_nothing) bytes) else
+    (if kind == 1 then seen_as answered_from (read_answered bytes) else None)
+
+abbrev pub read_origin : Reader Origin
+read_origin bytes = do
+  kind ← read_u8 bytes
+  read_origin_of kind.0 kind.1
+
+abbrev pub read_effects : Reader (List Effect)
+read_effects bytes = read_list read_effect bytes
+
+abbrev pub read_names : Reader (List TxName)
+read_names bytes = read_list read_name bytes
+
+abbrev pub PageParts : Type 0
+PageParts = ℕ × (ℕ × (Origin × (List Effect × (List TxName × (SendKind × ℕ)))))
+
+abbrev pub page_from : PageParts → Page
+page_from x = record {
+  ticket = x.0;
+  nonce = x.1.0;
+  origin = x.1.1.0;
+  effects = x.1.1.1.0;
+  left = x.1.1.1.1.0;
+  kind = x.1.1.1.1.1.0;
+  deadline = x.1.1.1.1.1.1;
+}
+
+abbrev pub read_page : Reader Page
+read_page bytes =
+    seen_as page_from
+    ((read_number then (read_u64 then (read_origin then (read_effects then (read_names then (read_send then read_deadline)))))) bytes)
+
+abbrev pub EndingParts : Type 0
+EndingParts = ℕ × (ℕ × (ℕ × (Val × (List Effect × List TxName))))
+
+abbrev pub ending_from : EndingParts → Ending
+ending_from x = record {
+  number = x.0;
+  instance = x.1.0;
+  page = x.1.1.0;
+  answer = x.1.1.1.0;
+  effects = x.1.1.1.1.0;
+  left = x.1.1.1.1.1;
+}
+
+abbrev pub read_ending : Reader Ending
+read_ending bytes =
+    seen_as ending_from ((read_number then (read_number then (read_number then (read_value then (read_effects then read_names))))) bytes)
+
+abbrev pub FinishParts : Type 0
+FinishParts = ℕ × (ℕ × (ℕ × (Val × List Effect)))
+
+abbrev pub finish_from : FinishParts → Finish
+finish_from x = record { number = x.0; instance = x.1.0; page = x.1.1.0; answer = x.1.1.1.0; effects = x.1.1.1.1 }
+
+abbrev pub read_finish : Reader Finish
+read_finish bytes = seen_as finish_from ((read_number then (read_number then (read_number then (read_value then read_effects)))) bytes)
+
+abbrev pub read_script : Reader (List ℕ × List ℕ)
+read_script bytes = (read_bytes then read_bytes) bytes
+
+abbrev pub begins_from : ℕ × List (List ℕ × List ℕ) → Record
+begins_from x = begins x.0 x.1
+
+abbrev pub read_begins : Reader Record
+read_begins bytes = seen_as begins_from ((read_u32 then read_list read_script) bytes)
+
+-- the change that a page is, by its origin
+abbrev pub change_from : ℕ → ℕ → Origin → List Effect → List TxName → SendKind → ℕ → Change
+change_from ticket nonce (start script) effects left kind deadline = opens (record {
+  number = ticket;
+  nonce = nonce;
+  script = script;
+  effects = effects;
+  left = left;
+  kind = kind;
+  deadline = deadline;
+})
+change_from ticket nonce (answered instance page answer) effects left kind deadline = extends (record {
+  number = ticket;
+  nonce = nonce;
+  instance = instance;
+  page = page;
+  answer = answer;
+  effects = effects;
+  left = left;
+  kind = kind;
+  deadline = deadline;
+})
+
+abbrev pub page_change : Page → Change
+page_change p = change_from p.ticket p.nonce p.origin p.effects p.left p.kind p.deadline
+
+-- a record of this kind
+abbrev pub read_kind : ℕ → Reader Record
+read_kind kind rest =
+    if kind == 1 then read_begins rest else
+    (if kind == 2 then seen_as (λ p. changes (page_change p)) (read_page rest) else
+    (if kind == 3 then seen_as (λ e. changes (ends e)) (read_ending rest) else
+    (if kind == 4 then seen_as (λ f. changes (finishes f)) (read_finish rest) else
+    (if kind == 5 then seen_as (λ n. changes (sweeps n)) (read_number rest) else None))))
+
+-- the record at the front
+abbrev pub read_front : Reader Record
+read_front bytes = do
+  kind ← read_u8 bytes
+  read_kind kind.0 kind.1
+
+-- what was read, where nothing stands behind it
+abbrev pub alone : {A : Type 0} → Option (A × List ℕ) → Option A
+alone None = None
+alone (Some (x, [])) = Some x
+alone (Some (x, b ∷ bytes)) = None
+
+-- the record whose body this is
+unfoldable pub read_record : List ℕ → Option Record
+read_record bytes = alone (read_front bytes)

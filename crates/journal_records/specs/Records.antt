@@ -1,0 +1,138 @@
+-- Records of a journal: how each is written, and which can be.
+use Rattle.std.specs.Prelude.{ℕ, ◌<◌, ◌+◌, ◌^◌, List, [], ◌∷◌, ◌++◌, length, map, min}
+use Rattle.script_value.specs.declared.outcome.TxName.{TxName}
+use Rattle.instance_cells.specs.Cells.{Effect}
+use Rattle.script_nodes.specs.declared.script.SendKind.{SendKind}
+use Rattle.script_nodes.specs.Setup.{Named}
+use Rattle.replay_spec.specs.Book.{Opening, Extension, Ending, Finish, Change, opens, extends, ends, finishes, sweeps}
+use Rattle.replay_spec.specs.Rules.{Journal}
+use Rattle.wire_bytes.specs.Spelling.{u32_bytes, u64_bytes}
+use Rattle.value_bytes.specs.Spelling.{value_bytes, list_bytes, FitsList}
+use Rattle.journal_records.specs.Fields.{numbers_end, deadlines_end, name_bytes, NameFits, effect_bytes, EffectFits, send_byte, script_bytes, ScriptFits, Origin, start, answered, origin_bytes, OriginFits, AnswerFits}
+
+-- what a record says: a journal of this shelf begins, with these names and texts of its scripts; or the book changes
+pub data Record : Type 0 where
+  begins : (shelf : ℕ) (scripts : List (List ℕ × List ℕ)) → Record
+  changes : Change → Record
+
+-- what the record of a page that was shown says, a start's or an answer's
+pub record Page : Type 0 where
+  pub ticket : ℕ
+  pub nonce : ℕ
+  pub origin : Origin
+  pub effects : List Effect
+  pub left : List TxName
+  pub kind : SendKind
+  pub deadline : ℕ
+
+abbrev pub opening_page : Opening → Page
+opening_page o = record {
+  ticket = o.number;
+  nonce = o.nonce;
+  origin = start o.script;
+  effects = o.effects;
+  left = o.left;
+  kind = o.kind;
+  deadline = o.deadline;
+}
+
+abbrev pub extension_page : Extension → Page
+extension_page e = record {
+  ticket = e.number;
+  nonce = e.nonce;
+  origin = answered e.instance e.page e.answer;
+  effects = e.effects;
+  left = e.left;
+  kind = e.kind;
+  deadline = e.deadline;
+}
+
+-- effects, one behind the other, behind their count; likewise the names of transactions that were left
+abbrev pub effects_bytes : List Effect → List ℕ
+effects_bytes es = list_bytes effect_bytes es
+
+abbrev pub names_bytes : List TxName → List ℕ
+names_bytes ts = list_bytes name_bytes ts
+
+-- a page: its ticket, its nonce, where its segment began, what it did, what it left, how it was sent, and its deadline
+abbrev pub page_bytes : Page → List ℕ
+page_bytes p =
+    u64_bytes p.ticket ++ (u64_bytes p.nonce ++ (origin_bytes p.origin
+    ++ (effects_bytes p.effects ++ (names_bytes p.left ++ (send_byte p.kind ∷ [] ++ u64_bytes p.deadline)))))
+
+pub record PageFits (p : Page) : Type 0 where
+  pub ticket : p.ticket < numbers_end
+  pub nonce : p.nonce < 2 ^ 64
+  pub origin : OriginFits p.origin
+  pub effects : FitsList EffectFits p.effects
+  pub left : FitsList NameFits p.left
+  pub deadline : p.deadline < deadlines_end
+
+-- a last page that has no name: its ticket, the page that was answered, and with what; what its segment did, and what it left
+abbrev pub ending_bytes : Ending → List ℕ
+ending_bytes e =
+    u64_bytes e.number ++ (u64_bytes e.instance ++ (u64_bytes e.page ++ (value_bytes e.answer ++ (effects_bytes e.effects ++ names_bytes e.left))))
+
+pub record EndingFits (e : Ending) : Type 0 where
+  pub ticket : e.number < numbers_end
+  pub answered : AnswerFits e.instance e.page e.answer
+  pub effects : FitsList EffectFits e.effects
+  pub left : FitsList NameFits e.left
+
+-- a last page with which the instance went: the same, but nothing was left
+abbrev pub finish_bytes : Finish → List ℕ
+finish_bytes f =
+    u64_bytes f.number ++ (u64_bytes f.instance ++ (u64_bytes f.page ++ (value_bytes f.answer ++ effects_bytes f.effects)))
+
+pub record FinishFits (f : Finish) : Type 0 where
+  pub ticket : f.number < numbers_end
+  pub answered : AnswerFits f.instance f.page f.answer
+  pub effects : FitsList EffectFits f.effects
+
+-- a change: a byte for its kind, and its fields
+abbrev pub change_bytes : Change → List ℕ
+change_bytes (opens o) = 2 ∷ page_bytes (opening_page o)
+change_bytes (extends e) = 2 ∷ page_bytes (extension_page e)
+change_bytes (ends e) = 3 ∷ ending_bytes e
+change_bytes (finishes f) = 4 ∷ finish_bytes f
+change_bytes (sweeps tick) = 5 ∷ u64_bytes tick
+
+abbrev pub ChangeFits : Change → Type 0
+ChangeFits (opens o) = PageFits (opening_page o)
+ChangeFits (extends e) = PageFits (extension_page e)
+ChangeFits (ends e) = EndingFits e
+ChangeFits (finishes f) = FinishFits f
+ChangeFits (sweeps tick) = tick < numbers_end
+
+-- the body of a record; a journal begins with the number of its shelf and its scripts
+abbrev pub body_of : Record → List ℕ
+body_of (begins shelf scripts) = 1 ∷ (u32_bytes shelf ++ list_bytes script_bytes scripts)
+body_of (changes c) = change_bytes c
+
+-- a record has a body
+abbrev pub IsInGrammar : Record → Type 0
+IsInGrammar (begins shelf scripts) = (shelf < 2 ^ 32) × FitsList ScriptFits scripts
+IsInGrammar (changes c) = ChangeFits c
+
+-- the length of a record's body, also where a part is too long for its count; one above 2^63 counts as 2^63
+abbrev pub body_length : Record → ℕ
+body_length r = min (length (body_of r)) (2 ^ 63)
+
+abbrev pub record_length : Change → ℕ
+record_length c = body_length (changes c)
+
+-- the names and the texts of scripts
+abbrev pub texts_of : List Named → List (List ℕ × List ℕ)
+texts_of scripts = map (λ s. (s.name, s.text)) scripts
+
+-- the record that a journal of these scripts begins with
+abbrev pub begin_of : (shelf : ℕ) → List Named → Record
+begin_of shelf scripts = begins shelf (texts_of scripts)
+
+-- how long a journal is that has no more: 8 bytes before it, a gate, four bytes of length, the body, and a gate
+abbrev pub begun_length : (shelf : ℕ) → List Named → ℕ
+begun_length shelf scripts = 14 + length (body_of (begin_of shelf scripts))
+
+-- what a shelf asks of its journal
+abbrev pub journal_rules : (shelf : ℕ) → List Named → Journal
+journal_rules shelf scripts = record { begun = begun_length shelf scripts; length_of = λ book c. record_length c }

@@ -1,0 +1,203 @@
+-- Worked rows.
+use Rattle.std.specs.Prelude.{◌≡◌, ℕ, ◌-◌, ◌^◌, Bool, not, is_some, List, [], ◌∷◌, ◌++◌, length, map, pos, negsuc, true, false, Some, None, codes, refl}
+use Rattle.std.specs.List.{list_all}
+use Rattle.script_value.specs.Val.{number, truth}
+use Rattle.instance_cells.specs.Cells.{read, set, add}
+use Rattle.script_nodes.specs.declared.script.SendKind.TheVariants.{Suspend, Forward}
+use Rattle.script_nodes.specs.Setup.{Script}
+use Rattle.replay_spec.specs.Book.{Change, opens, extends, ends, finishes, sweeps}
+use Rattle.value_bytes.specs.Reading.{read_within}
+use Rattle.journal_records.specs.Fields.{name_bytes}
+use Rattle.journal_records.specs.Records.{Record, begins, changes, body_of, record_length, begun_length}
+use Rattle.journal_records.specs.Reading.{read_record}
+
+-- the fronts of these bytes, but for the whole
+abbrev fronts : List ℕ → List (List ℕ)
+fronts [] = []
+fronts (b ∷ bytes) = [] ∷ map (λ front. b ∷ front) (fronts bytes)
+
+-- whether each front is the body of no record
+abbrev is_whole : List ℕ → Bool
+is_whole bytes = list_all (λ front. not (is_some (read_record front))) (fronts bytes)
+
+-- the clock goes on to 50
+abbrev sweep_body : List ℕ
+sweep_body = 5 ∷ 50 ∷ 0 ∷ 0 ∷ 0 ∷ 0 ∷ 0 ∷ 0 ∷ 0 ∷ []
+
+sweep : body_of (changes (sweeps 50)) ≡ sweep_body
+sweep = refl
+
+sweep_is_read : read_record sweep_body ≡ Some (changes (sweeps 50))
+unfolding read_record
+sweep_is_read = refl
+
+short_sweep : is_whole sweep_body ≡ true
+unfolding read_record
+short_sweep = refl
+
+long_sweep : read_record (sweep_body ++ 0 ∷ []) ≡ None
+unfolding read_record
+long_sweep = refl
+
+-- a clock of 2^62
+late_sweep : read_record (5 ∷ 0 ∷ 0 ∷ 0 ∷ 0 ∷ 0 ∷ 0 ∷ 0 ∷ 64 ∷ []) ≡ None
+unfolding read_record
+late_sweep = refl
+
+last_sweep : read_record (5 ∷ 255 ∷ 255 ∷ 255 ∷ 255 ∷ 255 ∷ 255 ∷ 255 ∷ 63 ∷ []) ≡ Some (changes (sweeps (2 ^ 62 - 1)))
+unfolding read_record
+last_sweep = refl
+
+-- one script, `ten`, with the text '(p "12345")
+begin : length (body_of (begins 0 ((codes "ten", codes "'(p \"12345\")") ∷ []))) ≡ 32
+begin = refl
+
+-- so a journal that has no more is 46 bytes long
+begun : (s : Script) → begun_length 0 (record { name = codes "ten"; text = codes "'(p \"12345\")"; script = s } ∷ []) ≡ 46
+begun s = refl
+
+-- one script, `a`, with the text 7
+abbrev begin_body : List ℕ
+begin_body = 1 ∷ 2 ∷ 0 ∷ 0 ∷ 0 ∷ 1 ∷ 0 ∷ 0 ∷ 0 ∷ 1 ∷ 0 ∷ 0 ∷ 0 ∷ 97 ∷ 1 ∷ 0 ∷ 0 ∷ 0 ∷ 55 ∷ []
+
+short_begin_body : body_of (begins 2 ((codes "a", codes "7") ∷ [])) ≡ begin_body
+short_begin_body = refl
+
+begin_is_read : read_record begin_body ≡ Some (begins 2 ((codes "a", codes "7") ∷ []))
+unfolding read_record
+begin_is_read = refl
+
+short_begin : is_whole begin_body ≡ true
+unfolding read_record
+short_begin = refl
+
+-- a start of the second script read cell 0, took one from cell 2, and showed a page
+abbrev start : Record
+start = changes (opens (record {
+  number = 3;
+  nonce = 7;
+  script = 1;
+  effects = read 0 (truth true) ∷ add 2 (negsuc 0) ∷ [];
+  left = [];
+  kind = Suspend;
+  deadline = 86400;
+}))
+
+abbrev start_body : List ℕ
+start_body =
+    (2 ∷ 3 ∷ 0 ∷ 0 ∷ 0 ∷ 0 ∷ 0 ∷ 0 ∷ 0 ∷ 7 ∷ 0 ∷ 0 ∷ 0 ∷ 0 ∷ 0 ∷ 0 ∷ 0 ∷ 0 ∷ 1 ∷ 5 ∷ 0 ∷ 0 ∷ 0 ∷ 0 ∷ [])
+    ++ (2 ∷ 0 ∷ 0 ∷ 0 ∷ 0 ∷ 0 ∷ 2 ∷ 2 ∷ 2 ∷ 255 ∷ 255 ∷ 255 ∷ 255 ∷ 255 ∷ 255 ∷ 255 ∷ 255 ∷ [])
+    ++ (0 ∷ 0 ∷ 0 ∷ 0 ∷ 0 ∷ 128 ∷ 81 ∷ 1 ∷ 0 ∷ 0 ∷ 0 ∷ 0 ∷ 0 ∷ [])
+
+a_start : body_of start ≡ start_body
+a_start = refl
+
+a_start_is_read : read_record start_body ≡ Some start
+unfolding read_record read_within
+a_start_is_read = refl
+
+a_short_start : is_whole start_body ≡ true
+unfolding read_record read_within
+a_short_start = refl
+
+a_long_start : read_record (start_body ++ 0 ∷ []) ≡ None
+unfolding read_record read_within
+a_long_start = refl
+
+-- page 4 of instance 3 was answered with 1; cell 1 was set, one transaction was left, and a page was shown by a forward
+abbrev answer : Record
+answer = changes (extends (record {
+  number = 5;
+  nonce = 258;
+  instance = 3;
+  page = 4;
+  answer = number (pos 1);
+  effects = set 1 (truth false) ∷ [];
+  left = record { ticket = 3; entry = 2 } ∷ [];
+  kind = Forward;
+  deadline = 1;
+}))
+
+abbrev answer_body : List ℕ
+answer_body =
+    (2 ∷ 5 ∷ 0 ∷ 0 ∷ 0 ∷ 0 ∷ 0 ∷ 0 ∷ 0 ∷ 2 ∷ 1 ∷ 0 ∷ 0 ∷ 0 ∷ 0 ∷ 0 ∷ 0 ∷ [])
+    ++ (1 ∷ 3 ∷ 0 ∷ 0 ∷ 0 ∷ 0 ∷ 0 ∷ 0 ∷ 0 ∷ 4 ∷ 0 ∷ 0 ∷ 0 ∷ 0 ∷ 0 ∷ 0 ∷ 0 ∷ 0 ∷ 1 ∷ 0 ∷ 0 ∷ 0 ∷ 0 ∷ 0 ∷ 0 ∷ 0 ∷ [])
+    ++ (1 ∷ 0 ∷ 0 ∷ 0 ∷ 1 ∷ 1 ∷ 1 ∷ [])
+    ++ (1 ∷ 0 ∷ 0 ∷ 0 ∷ 3 ∷ 0 ∷ 0 ∷ 0 ∷ 0 ∷ 0 ∷ 0 ∷ 0 ∷ 2 ∷ 0 ∷ 0 ∷ 0 ∷ [])
+    ++ (1 ∷ 1 ∷ 0 ∷ 0 ∷ 0 ∷ 0 ∷ 0 ∷ 0 ∷ 0 ∷ [])
+
+an_answer : body_of answer ≡ answer_body
+unfolding name_bytes
+an_answer = refl
+
+an_answer_is_read : read_record answer_body ≡ Some answer
+unfolding read_record read_within
+an_answer_is_read = refl
+
+a_short_answer : is_whole answer_body ≡ true
+unfolding read_record read_within
+a_short_answer = refl
+
+-- a start has the empty list for an answer, and no other
+an_answered_start : read_record (
+    (2 ∷ 3 ∷ 0 ∷ 0 ∷ 0 ∷ 0 ∷ 0 ∷ 0 ∷ 0 ∷ 7 ∷ 0 ∷ 0 ∷ 0 ∷ 0 ∷ 0 ∷ 0 ∷ 0 ∷ 0 ∷ 1 ∷ 1 ∷ 0 ∷ 0 ∷ 0 ∷ 0 ∷ 0 ∷ 0 ∷ 0 ∷ 0 ∷ [])
+    ++ (0 ∷ 128 ∷ 81 ∷ 1 ∷ 0 ∷ 0 ∷ 0 ∷ 0 ∷ 0 ∷ [])
+    ) ≡ None
+unfolding read_record read_within
+an_answered_start = refl
+
+-- a last page that has no name, and one with which the instance went
+abbrev ending : Change
+ending = ends (record { number = 5; instance = 3; page = 4; answer = truth true; effects = []; left = record { ticket = 3; entry = 2 } ∷ [] })
+
+abbrev ending_body : List ℕ
+ending_body =
+    (3 ∷ 5 ∷ 0 ∷ 0 ∷ 0 ∷ 0 ∷ 0 ∷ 0 ∷ 0 ∷ 3 ∷ 0 ∷ 0 ∷ 0 ∷ 0 ∷ 0 ∷ 0 ∷ 0 ∷ 4 ∷ 0 ∷ 0 ∷ 0 ∷ 0 ∷ 0 ∷ 0 ∷ 0 ∷ 2 ∷ [])
+    ++ (0 ∷ 0 ∷ 0 ∷ 0 ∷ 1 ∷ 0 ∷ 0 ∷ 0 ∷ 3 ∷ 0 ∷ 0 ∷ 0 ∷ 0 ∷ 0 ∷ 0 ∷ 0 ∷ 2 ∷ 0 ∷ 0 ∷ 0 ∷ [])
+
+an_ending : body_of (changes ending) ≡ ending_body
+unfolding name_bytes
+an_ending = refl
+
+an_ending_is_read : read_record ending_body ≡ Some (changes ending)
+unfolding read_record read_within
+an_ending_is_read = refl
+
+a_short_ending : is_whole ending_body ≡ true
+unfolding read_record read_within
+a_short_ending = refl
+
+its_length : record_length ending ≡ 46
+unfolding name_bytes
+its_length = refl
+
+abbrev finish : Change
+finish = finishes (record { number = 5; instance = 3; page = 4; answer = truth true; effects = [] })
+
+abbrev finish_body : List ℕ
+finish_body =
+    4 ∷ 5 ∷ 0 ∷ 0 ∷ 0 ∷ 0 ∷ 0 ∷ 0 ∷ 0 ∷ 3 ∷ 0 ∷ 0 ∷ 0 ∷ 0 ∷ 0 ∷ 0 ∷ 0 ∷ 4 ∷ 0 ∷ 0 ∷ 0 ∷ 0 ∷ 0 ∷ 0 ∷ 0 ∷ 2 ∷ 0 ∷ 0 ∷ 0 ∷ 0 ∷ []
+
+a_finish : body_of (changes finish) ≡ finish_body
+a_finish = refl
+
+a_finish_is_read : read_record finish_body ≡ Some (changes finish)
+unfolding read_record read_within
+a_finish_is_read = refl
+
+a_short_finish : is_whole finish_body ≡ true
+unfolding read_record read_within
+a_short_finish = refl
+
+-- no other kind
+kind_none : read_record [] ≡ None
+unfolding read_record
+kind_none = refl
+
+kind_0 : read_record (0 ∷ 0 ∷ 0 ∷ 0 ∷ 0 ∷ 0 ∷ 0 ∷ 0 ∷ 0 ∷ []) ≡ None
+unfolding read_record
+kind_0 = refl
+
+kind_6 : read_record (6 ∷ 0 ∷ 0 ∷ 0 ∷ 0 ∷ 0 ∷ 0 ∷ 0 ∷ 0 ∷ []) ≡ None
+unfolding read_record
+kind_6 = refl

@@ -1,0 +1,280 @@
+ghost use Rattle.std.specs.Prelude.{◌≡◌, ◌↔◌, ◌≤◌, ◌^◌, List, map, IsTrue, IfOk, IfSome, option_map};
+ghost use Rattle.script_value.specs.Views.{meaning};
+ghost use Rattle.instance_cells.specs.Views.{effect_of};
+ghost use Rattle.value_bytes.specs.Reading.{read_list};
+ghost use Rattle.value_bytes.specs.Views.{Reads};
+ghost use Rattle.journal_records.specs.Laws.{IsBodyOf};
+ghost use Rattle.journal_records.specs.Reading as spec;
+ghost use Rattle.journal_records.specs.Reading.{is_nothing, read_below};
+ghost use Rattle.journal_records.specs.Views.{script_of, origin_of, page_of, ending_of, finish_of, logged_of};
+
+use crate::logged::{Logged, LoggedEnded, LoggedFinish, LoggedPage, LoggedScript, Origin};
+use instance_cells::Effect;
+use script_nodes::SendKind;
+use script_value::{Bytes, TxName, Value};
+use std::alloc::{AllocError, Global};
+use value_bytes::fields::{byte, number_32, number_64, signed_64, string};
+use value_bytes::{Unread, value};
+use wire_bytes::Cursor;
+
+// Tickets, instances, pages and clocks stay below this.
+const NUMBERS_END: u64 = 1 << 62;
+
+// Deadlines stay below this.
+const DEADLINES_END: u64 = 1 << 63;
+
+/// The record whose body this is; none where it is the body of no record.
+pub fn decode(alloc: Global, body: &[u8]) -> Result<Option<Logged>, AllocError>
+    ensures read { IfOk result (λ found. option_map logged_of found ≡ spec.read_record body.now) }
+    ensures spelled { IfOk result (λ found. IfSome found (λ logged. IsBodyOf body.now (logged_of logged))) }
+{
+    let mut cursor = Cursor::over(body);
+    match front(alloc, &mut cursor) {
+        Ok(logged) => {
+            if cursor.at_end() {
+                Ok(Some(logged))
+            } else {
+                Ok(None)
+            }
+        }
+        Err(Unread::Misspelled) => Ok(None),
+        Err(Unread::Memory) => Err(AllocError),
+    }
+}
+
+// The record at the front.
+fn front(alloc: Global, cursor: &mut Cursor<'_>) -> Result<Logged, Unread>
+    ensures { Reads logged_of result cursor.new (spec.read_front cursor.old) }
+{
+    let kind = byte(cursor)?;
+    match kind {
+        1 => begin(alloc, cursor),
+        2 => Ok(Logged::Page(page(alloc, cursor)?)),
+        3 => Ok(Logged::Ended(ended(alloc, cursor)?)),
+        4 => Ok(Logged::Finish(finish(alloc, cursor)?)),
+        5 => {
+            let clock = number(cursor)?;
+            Ok(Logged::Sweep { clock })
+        }
+        _ => Err(Unread::Misspelled),
+    }
+}
+
+fn begin(alloc: Global, cursor: &mut Cursor<'_>) -> Result<Logged, Unread>
+    ensures { Reads logged_of result cursor.new (spec.read_begins cursor.old) }
+{
+    let shelf = number_32(cursor)?;
+    let scripts = scripts(alloc, cursor)?;
+    Ok(Logged::Begin { shelf, scripts })
+}
+
+#[tactic(auto, using(value_bytes::proofs::Turns::at_start, value_bytes::proofs::Turns::one_more, value_bytes::proofs::Turns::no_more, value_bytes::proofs::Turns::at_end))]
+fn scripts(alloc: Global, cursor: &mut Cursor<'_>) -> Result<Vec<LoggedScript>, Unread>
+    ensures { Reads (λ v. map script_of v.items) result cursor.new (read_list spec.read_script cursor.old) }
+{
+    let count = number_32(cursor)?;
+    let mut scripts = Vec::new(alloc);
+    for turn in 0..count {
+        let script = script(alloc, cursor)?;
+        scripts.push(script)?;
+    }
+    Ok(scripts)
+}
+
+fn script(alloc: Global, cursor: &mut Cursor<'_>) -> Result<LoggedScript, Unread>
+    ensures { Reads script_of result cursor.new (spec.read_script cursor.old) }
+{
+    let name = string(cursor)?;
+    let text = string(cursor)?;
+    Ok(LoggedScript {
+        name: Bytes::new(name.to_vec(alloc)?),
+        text: Bytes::new(text.to_vec(alloc)?),
+    })
+}
+
+fn page(alloc: Global, cursor: &mut Cursor<'_>) -> Result<LoggedPage, Unread>
+    ensures { Reads page_of result cursor.new (spec.read_page cursor.old) }
+{
+    let ticket = number(cursor)?;
+    let nonce = number_64(cursor)?;
+    let origin = origin(alloc, cursor)?;
+    let effects = effects(alloc, cursor)?;
+    let left = names(alloc, cursor)?;
+    let kind = send_kind(cursor)?;
+    let deadline = deadline(cursor)?;
+    Ok(LoggedPage {
+        ticket,
+        nonce,
+        origin,
+        effects,
+        left,
+        kind,
+        deadline,
+    })
+}
+
+fn ended(alloc: Global, cursor: &mut Cursor<'_>) -> Result<LoggedEnded, Unread>
+    ensures { Reads ending_of result cursor.new (spec.read_ending cursor.old) }
+{
+    let ticket = number(cursor)?;
+    let instance = number(cursor)?;
+    let page = number(cursor)?;
+    let answer = value(alloc, cursor)?;
+    let effects = effects(alloc, cursor)?;
+    let left = names(alloc, cursor)?;
+    Ok(LoggedEnded {
+        ticket,
+        instance,
+        page,
+        answer,
+        effects,
+        left,
+    })
+}
+
+fn finish(alloc: Global, cursor: &mut Cursor<'_>) -> Result<LoggedFinish, Unread>
+    ensures { Reads finish_of result cursor.new (spec.read_finish cursor.old) }
+{
+    let ticket = number(cursor)?;
+    let instance = number(cursor)?;
+    let page = number(cursor)?;
+    let answer = value(alloc, cursor)?;
+    let effects = effects(alloc, cursor)?;
+    Ok(LoggedFinish {
+        ticket,
+        instance,
+        page,
+        answer,
+        effects,
+    })
+}
+
+fn origin(alloc: Global, cursor: &mut Cursor<'_>) -> Result<Origin, Unread>
+    ensures { Reads origin_of result cursor.new (spec.read_origin cursor.old) }
+{
+    match byte(cursor)? {
+        0 => start(alloc, cursor),
+        1 => answered(alloc, cursor),
+        _ => Err(Unread::Misspelled),
+    }
+}
+
+// A start, whose answer is the empty list.
+fn start(alloc: Global, cursor: &mut Cursor<'_>) -> Result<Origin, Unread>
+    ensures { Reads origin_of result cursor.new (spec.read_origin_of 0 cursor.old) }
+{
+    let script = byte(cursor)?;
+    let answer = value(alloc, cursor)?;
+    if is_empty_list(&answer) {
+        Ok(Origin::Start { script })
+    } else {
+        Err(Unread::Misspelled)
+    }
+}
+
+fn is_empty_list(value: &Value) -> bool
+    ensures { result ≡ is_nothing (meaning value.now) }
+{
+    match value {
+        Value::List(items) => items.is_empty(),
+        Value::Int(_) => false,
+        Value::Truth(_) => false,
+        Value::Text(_) => false,
+        Value::Symbol(_) => false,
+    }
+}
+
+fn answered(alloc: Global, cursor: &mut Cursor<'_>) -> Result<Origin, Unread>
+    ensures { Reads origin_of result cursor.new (spec.read_origin_of 1 cursor.old) }
+{
+    let instance = number(cursor)?;
+    let page = number(cursor)?;
+    let answer = value(alloc, cursor)?;
+    Ok(Origin::Answer {
+        instance,
+        page,
+        answer,
+    })
+}
+
+#[tactic(auto, using(value_bytes::proofs::Turns::at_start, value_bytes::proofs::Turns::one_more, value_bytes::proofs::Turns::no_more, value_bytes::proofs::Turns::at_end))]
+fn effects(alloc: Global, cursor: &mut Cursor<'_>) -> Result<Vec<Effect>, Unread>
+    ensures { Reads (λ v. map effect_of v.items) result cursor.new (spec.read_effects cursor.old) }
+{
+    let count = number_32(cursor)?;
+    let mut effects = Vec::new(alloc);
+    for turn in 0..count {
+        let effect = effect(alloc, cursor)?;
+        effects.push(effect)?;
+    }
+    Ok(effects)
+}
+
+fn effect(alloc: Global, cursor: &mut Cursor<'_>) -> Result<Effect, Unread>
+    ensures { Reads effect_of result cursor.new (spec.read_effect cursor.old) }
+{
+    let kind = byte(cursor)?;
+    let cell = byte(cursor)?;
+    match kind {
+        0 => Ok(Effect::Read(cell, value(alloc, cursor)?)),
+        1 => Ok(Effect::Set(cell, value(alloc, cursor)?)),
+        2 => Ok(Effect::Add(cell, signed_64(cursor)?)),
+        _ => Err(Unread::Misspelled),
+    }
+}
+
+#[tactic(auto, using(value_bytes::proofs::Turns::at_start, value_bytes::proofs::Turns::one_more, value_bytes::proofs::Turns::no_more, value_bytes::proofs::Turns::at_end))]
+fn names(alloc: Global, cursor: &mut Cursor<'_>) -> Result<Vec<TxName>, Unread>
+    ensures { Reads (λ v. v.items) result cursor.new (spec.read_names cursor.old) }
+{
+    let count = number_32(cursor)?;
+    let mut names = Vec::new(alloc);
+    for turn in 0..count {
+        let name = name(cursor)?;
+        names.push(name)?;
+    }
+    Ok(names)
+}
+
+fn name(cursor: &mut Cursor<'_>) -> Result<TxName, Unread>
+    ensures { Reads (λ t. t) result cursor.new (spec.read_name cursor.old) }
+{
+    let ticket = number_64(cursor)?;
+    let entry = number_32(cursor)?;
+    Ok(TxName { ticket, entry })
+}
+
+fn send_kind(cursor: &mut Cursor<'_>) -> Result<SendKind, Unread>
+    ensures { Reads (λ k. k) result cursor.new (spec.read_send cursor.old) }
+{
+    match byte(cursor)? {
+        0 => Ok(SendKind::Suspend),
+        1 => Ok(SendKind::Forward),
+        _ => Err(Unread::Misspelled),
+    }
+}
+
+// A ticket, an instance, a page or a clock.
+fn number(cursor: &mut Cursor<'_>) -> Result<u64, Unread>
+    ensures { Reads (λ n. n) result cursor.new (spec.read_number cursor.old) }
+{
+    below(cursor, NUMBERS_END)
+}
+
+fn deadline(cursor: &mut Cursor<'_>) -> Result<u64, Unread>
+    ensures { Reads (λ n. n) result cursor.new (spec.read_deadline cursor.old) }
+{
+    below(cursor, DEADLINES_END)
+}
+
+// A number of 64 bits below the limit.
+fn below(cursor: &mut Cursor<'_>, limit: u64) -> Result<u64, Unread>
+    ensures { Reads (λ n. n) result cursor.new (read_below limit cursor.old) }
+{
+    let number = number_64(cursor)?;
+    if number < limit {
+        Ok(number)
+    } else {
+        Err(Unread::Misspelled)
+    }
+}

@@ -1,0 +1,236 @@
+ghost use Rattle.std.specs.Prelude.{◌≡◌, ◌++◌, ◌<◌, ◌^◌, ◌∷◌, [], ◌+◌, List, map, drop, IfOk, OnOk, length};
+ghost use Rattle.std.specs.List.{flat_map, AllByRecursion};
+ghost use Rattle.instance_cells.specs.Views.{effect_of};
+ghost use Rattle.script_nodes.specs.Views.{scripts_of};
+ghost use Rattle.value_bytes.specs.Spelling.{FitsList, list_bytes, value_bytes};
+ghost use Rattle.journal_records.specs.Fields.{effect_bytes, EffectFits, name_bytes, NameFits, script_bytes, ScriptFits, origin_bytes, OriginFits, send_byte, nothing};
+ghost use Rattle.journal_records.specs.Records.{body_of, begin_of, begins, texts_of, IsInGrammar, effects_bytes, names_bytes, page_bytes, PageFits, ending_bytes, EndingFits, finish_bytes, FinishFits};
+ghost use Rattle.journal_records.specs.Views.{script_of, lent_origin, lent_page, lent_ending, lent_finish, recorded_of};
+
+use crate::logged::LoggedScript;
+use crate::recorded::{Recorded, RecordedEnded, RecordedFinish, RecordedOrigin, RecordedPage};
+use instance_cells::Effect;
+use script_nodes::{SendKind, Setup};
+use script_value::{Bytes, TxName};
+use std::alloc::{AllocError, Global};
+use value_bytes::write_value;
+use wire_bytes::Writer;
+
+/// The body of a record.
+pub fn encode(alloc: Global, record: &Recorded<'_>) -> Result<Bytes, AllocError>
+    requires { IsInGrammar (recorded_of record.now) }
+    ensures { IfOk result (λ body. body ≡ body_of (recorded_of record.now)) }
+{
+    let mut writer = Writer::new(alloc);
+    write_record(&mut writer, record)?;
+    Ok(writer.finish())
+}
+
+/// The body of the record that a journal of this shelf and setup begins with.
+pub fn encode_begin(alloc: Global, shelf: u32, setup: &Setup) -> Result<Bytes, AllocError>
+    requires { IsInGrammar (begin_of shelf (scripts_of setup.now)) }
+    ensures { IfOk result (λ body. body ≡ body_of (begin_of shelf (scripts_of setup.now))) }
+{
+    let mut writer = Writer::new(alloc);
+    writer.u8(1)?;
+    writer.u32(shelf)?;
+    writer.u32(setup.len() as u32)?;
+    write_setup(&mut writer, setup)?;
+    Ok(writer.finish())
+}
+
+fn write_record(writer: &mut Writer, record: &Recorded<'_>) -> Result<(), AllocError>
+    requires { IsInGrammar (recorded_of record.now) }
+    ensures { OnOk result (writer.new ≡ writer.old ++ body_of (recorded_of record.now)) }
+{
+    match record {
+        Recorded::Begin { shelf, scripts } => {
+            writer.u8(1)?;
+            writer.u32(*shelf)?;
+            write_scripts(writer, scripts)
+        }
+        Recorded::Page(page) => write_page(writer, page),
+        Recorded::Ended(ended) => write_ended(writer, ended),
+        Recorded::Finish(finish) => write_finish(writer, finish),
+        Recorded::Sweep { clock } => {
+            writer.u8(5)?;
+            writer.u64(*clock)
+        }
+    }
+}
+
+fn write_scripts(writer: &mut Writer, scripts: &[LoggedScript]) -> Result<(), AllocError>
+    requires { FitsList ScriptFits (map script_of scripts.now) }
+    ensures { OnOk result (writer.new ≡ writer.old ++ list_bytes script_bytes (map script_of scripts.now)) }
+{
+    writer.u32(scripts.len() as u32)?;
+    for script in scripts {
+        write_script(writer, script.name.as_slice(), script.text.as_slice())?;
+    }
+    Ok(())
+}
+
+fn write_script(writer: &mut Writer, name: &[u8], text: &[u8]) -> Result<(), AllocError>
+    requires { ScriptFits (name.now, text.now) }
+    ensures { OnOk result (writer.new ≡ writer.old ++ script_bytes (name.now, text.now)) }
+{
+    writer.bytes(name)?;
+    writer.bytes(text)
+}
+
+// The scripts of a setup, one behind the other.
+fn write_setup(writer: &mut Writer, setup: &Setup) -> Result<(), AllocError>
+    requires { AllByRecursion ScriptFits (texts_of (scripts_of setup.now)) }
+    ensures { OnOk result (writer.new ≡ writer.old ++ flat_map script_bytes (texts_of (scripts_of setup.now))) }
+{
+    for place in 0..setup.len() {
+        write_place(writer, setup, place)?;
+    }
+    Ok(())
+}
+
+// The script of a place, in front of those behind it.
+fn write_place(writer: &mut Writer, setup: &Setup, place: usize) -> Result<(), AllocError>
+    requires within { place < length (scripts_of setup.now) }
+    requires fit { AllByRecursion ScriptFits (drop place (texts_of (scripts_of setup.now))) }
+    ensures { OnOk result (
+        writer.new ++ flat_map script_bytes (drop (place + 1) (texts_of (scripts_of setup.now)))
+        ≡ writer.old ++ flat_map script_bytes (drop place (texts_of (scripts_of setup.now)))
+        ) }
+{
+    match setup.get(place) {
+        Some(named) => write_script(writer, named.name.as_bytes(), named.text.as_slice()),
+        None => unreachable!(),
+    }
+}
+
+fn write_page(writer: &mut Writer, page: &RecordedPage<'_>) -> Result<(), AllocError>
+    requires { PageFits (lent_page page.now) }
+    ensures { OnOk result (writer.new ≡ writer.old ++ 2 ∷ page_bytes (lent_page page.now)) }
+{
+    writer.u8(2)?;
+    writer.u64(page.ticket)?;
+    writer.u64(page.nonce)?;
+    write_origin(writer, &page.origin)?;
+    write_effects(writer, page.effects)?;
+    write_names(writer, page.left)?;
+    writer.u8(send_number(page.kind))?;
+    writer.u64(page.deadline)
+}
+
+fn write_ended(writer: &mut Writer, ended: &RecordedEnded<'_>) -> Result<(), AllocError>
+    requires { EndingFits (lent_ending ended.now) }
+    ensures { OnOk result (writer.new ≡ writer.old ++ 3 ∷ ending_bytes (lent_ending ended.now)) }
+{
+    writer.u8(3)?;
+    writer.u64(ended.ticket)?;
+    writer.u64(ended.instance)?;
+    writer.u64(ended.page)?;
+    write_value(writer, ended.answer)?;
+    write_effects(writer, ended.effects)?;
+    write_names(writer, ended.left)
+}
+
+fn write_finish(writer: &mut Writer, finish: &RecordedFinish<'_>) -> Result<(), AllocError>
+    requires { FinishFits (lent_finish finish.now) }
+    ensures { OnOk result (writer.new ≡ writer.old ++ 4 ∷ finish_bytes (lent_finish finish.now)) }
+{
+    writer.u8(4)?;
+    writer.u64(finish.ticket)?;
+    writer.u64(finish.instance)?;
+    writer.u64(finish.page)?;
+    write_value(writer, finish.answer)?;
+    write_effects(writer, finish.effects)
+}
+
+fn write_origin(writer: &mut Writer, origin: &RecordedOrigin<'_>) -> Result<(), AllocError>
+    requires { OriginFits (lent_origin origin.now) }
+    ensures { OnOk result (writer.new ≡ writer.old ++ origin_bytes (lent_origin origin.now)) }
+{
+    match origin {
+        RecordedOrigin::Start { script } => {
+            writer.u8(0)?;
+            writer.u8(*script)?;
+            write_nothing(writer)
+        }
+        RecordedOrigin::Answer {
+            instance,
+            page,
+            answer,
+        } => {
+            writer.u8(1)?;
+            writer.u64(*instance)?;
+            writer.u64(*page)?;
+            write_value(writer, answer)
+        }
+    }
+}
+
+// The empty list.
+fn write_nothing(writer: &mut Writer) -> Result<(), AllocError>
+    ensures { OnOk result (writer.new ≡ writer.old ++ value_bytes nothing) }
+{
+    writer.u8(5)?;
+    writer.u32(0)
+}
+
+fn write_effects(writer: &mut Writer, effects: &[Effect]) -> Result<(), AllocError>
+    requires { FitsList EffectFits (map effect_of effects.now) }
+    ensures { OnOk result (writer.new ≡ writer.old ++ effects_bytes (map effect_of effects.now)) }
+{
+    writer.u32(effects.len() as u32)?;
+    for effect in effects {
+        write_effect(writer, effect)?;
+    }
+    Ok(())
+}
+
+fn write_effect(writer: &mut Writer, effect: &Effect) -> Result<(), AllocError>
+    requires { EffectFits (effect_of effect.now) }
+    ensures { OnOk result (writer.new ≡ writer.old ++ effect_bytes (effect_of effect.now)) }
+{
+    match effect {
+        Effect::Read(cell, value) => {
+            writer.u8(0)?;
+            writer.u8(*cell)?;
+            write_value(writer, value)
+        }
+        Effect::Set(cell, value) => {
+            writer.u8(1)?;
+            writer.u8(*cell)?;
+            write_value(writer, value)
+        }
+        Effect::Add(cell, number) => {
+            writer.u8(2)?;
+            writer.u8(*cell)?;
+            writer.u64(number.cast_unsigned())
+        }
+    }
+}
+
+fn write_names(writer: &mut Writer, names: &[TxName]) -> Result<(), AllocError>
+    requires { FitsList NameFits names.now }
+    ensures { OnOk result (writer.new ≡ writer.old ++ names_bytes names.now) }
+{
+    writer.u32(names.len() as u32)?;
+    for name in names {
+        write_name(writer, name)?;
+    }
+    Ok(())
+}
+
+fn write_name(writer: &mut Writer, name: &TxName) -> Result<(), AllocError>
+    ensures { OnOk result (writer.new ≡ writer.old ++ name_bytes name.now) }
+{
+    writer.u64(name.ticket)?;
+    writer.u32(name.entry)
+}
+
+fn send_number(kind: SendKind) -> u8
+    ensures { result ≡ send_byte kind }
+{
+    match kind {
+        SendKind::Suspend => 0,
+        SendKind::Forward => 1,
+    }
+}

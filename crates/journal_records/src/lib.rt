@@ -1,0 +1,16 @@
+//! The records of a journal: each has one body, and what is read is what was written.
+#![tactic(auto)]
+
+mod decoding;
+mod encoding;
+mod laws;
+mod logged;
+mod measure;
+mod recorded;
+
+pub use decoding::decode;
+pub use encoding::{encode, encode_begin};
+pub use laws::records_are_exact;
+pub use logged::{Logged, LoggedEnded, LoggedFinish, LoggedPage, LoggedScript, Origin};
+pub use measure::body_length;
+pub use recorded::{Recorded, RecordedEnded, RecordedFinish, RecordedOrigin, RecordedPage};
