@@ -24,8 +24,9 @@ use Rattle.journal_records.specs.Laws.{AreRecordsExact}
 use Rattle.value_bytes.specs.Laws.{AreBytes}
 use Rattle.journal_books.specs.Making.{Making, nothing, made, damaged, other, rules_over, are_told, has_script, first_by, next_by, with_body, with_bodies}
 use Rattle.journal_books.specs.Keeping.{AreAllBytes, AreNamed, body_by}
+use Rattle.journal_books.proofs.Makings.{both_true, told_is}
 use Rattle.journal_books.specs.Spelling.{IsDoubtInRange}
-use Rattle.journal_books.specs.Laws.{BodiesMakeFittingBooks}
+use Rattle.journal_books.specs.Laws.{OnlyItsBeginBegins, BodiesMakeFittingBooks}
 
 -- scripts of instances name cells that they have
 abbrev Named_in : List Instance → Type 0
@@ -88,6 +89,33 @@ told_only (p ∷ ps) (s ∷ ss) e =
     let text = bytes_are p.1 s.text one.1 in
     let rest = told_only ps ss all.1 in
     λ i. (name i, text i) ∷ rest i
+
+begins_same : (s t : ℕ) (xs ys : List (List ℕ × List ℕ)) → begins s xs ≡ begins t ys → (s ≡ t) × (xs ≡ ys)
+begins_same s t xs ys e = (cc e, cc e)
+
+pub only_begin : OnlyItsBeginBegins
+only_begin scripts shelf place s named = by_test (s == shelf && are_told named scripts) refl
+  where
+    is_begin : (s == shelf && are_told named scripts) ≡ true → begins s named ≡ begin_of shelf scripts
+    is_begin t =
+        let all = split (s == shelf) (are_told named scripts) t in
+        let same : s ≡ shelf = grind (arith, nat_tests, all.0) in
+        let names = told_only named scripts all.1 in
+        λ i. begins (same i) (names i)
+
+    is_told : begins s named ≡ begin_of shelf scripts → (s == shelf && are_told named scripts) ≡ true
+    is_told e =
+        let parts = begins_same s shelf named (texts_of scripts) e in
+        let here : (s == shelf) ≡ true = grind (arith, nat_tests, parts.0) in
+        let there : are_told named scripts ≡ true = subst (λ (ns : List (List ℕ × List ℕ)). are_told ns scripts ≡ true) (sym parts.1) (told_is scripts) in
+        both_true (s == shelf) (are_told named scripts) here there
+
+    by_test : (t : Bool) → (s == shelf && are_told named scripts) ≡ t
+        → (begins s named ≡ begin_of shelf scripts
+        → (if t then made (nothing_made (rules_over scripts shelf) scripts shelf) else other place) ≡ made (nothing_made (rules_over scripts shelf) scripts shelf))
+        × ((begins s named ≡ begin_of shelf scripts → ⊥) → (if t then made (nothing_made (rules_over scripts shelf) scripts shelf) else other place) ≡ other place)
+    by_test true e = (λ _. refl, λ other. absurd (other (is_begin e)))
+    by_test false e = (λ same. absurd (let told = is_told same in let no : ⊥ = cc in no), λ _. refl)
 
 first_fits : AreRecordsExact → (all : Type 0) (scripts : List Named) (shelf : ℕ) (body : List ℕ) (o : Option Record) → read_record body ≡ o → (all → AreBytes body)
     → FitsMaking all scripts shelf (8 + 5 + length body) (first_by scripts shelf 8 o)

@@ -36,17 +36,17 @@ made_push x scripts shelf bodies m c makes fits script =
     ∙ ap (next_by scripts shelf place m) (x.back (changes c) fits)
     ∙ ap (λ (t : Bool). if t then made (redo (rules_over scripts shelf) c m) else damaged place) script
 
-both : (a b : Bool) → a ≡ true → b ≡ true → (a && b) ≡ true
-both true true x y = refl
-both true false x y = y
-both false b x y = x
+pub both_true : (a b : Bool) → a ≡ true → b ≡ true → (a && b) ≡ true
+both_true true true x y = refl
+both_true true false x y = y
+both_true false b x y = x
 
 bytes_same : (xs : List ℕ) → bytes_eq xs xs ≡ true
 bytes_same xs = grind (arith, nat_tests, bytes_eq-Decides xs xs)
 
 pub told_is : (scripts : List Named) → are_told (texts_of scripts) scripts ≡ true
 told_is [] = refl
-told_is (s ∷ ss) = both (bytes_eq s.name s.name && bytes_eq s.text s.text) (are_told (texts_of ss) ss) (both _ _ (bytes_same s.name) (bytes_same s.text)) (told_is ss)
+told_is (s ∷ ss) = both_true (bytes_eq s.name s.name && bytes_eq s.text s.text) (are_told (texts_of ss) ss) (both_true _ _ (bytes_same s.name) (bytes_same s.text)) (told_is ss)
 
 -- the first record of a journal makes an empty book
 pub made_first : AreRecordsExact → (scripts : List Named) (shelf : ℕ) → IsInGrammar (begin_of shelf scripts)
@@ -54,4 +54,4 @@ pub made_first : AreRecordsExact → (scripts : List Named) (shelf : ℕ) → Is
 made_first x scripts shelf fits =
     let same : (shelf == shelf) ≡ true = grind (arith, nat_tests) in
     ap (first_by scripts shelf 8) (x.back (begin_of shelf scripts) fits)
-    ∙ ap (λ (t : Bool). if t then made (nothing_made (rules_over scripts shelf) scripts shelf) else other 8) (both (shelf == shelf) (are_told (texts_of scripts) scripts) same (told_is scripts))
+    ∙ ap (λ (t : Bool). if t then made (nothing_made (rules_over scripts shelf) scripts shelf) else other 8) (both_true (shelf == shelf) (are_told (texts_of scripts) scripts) same (told_is scripts))

@@ -13,11 +13,19 @@ use Rattle.replay_spec.specs.Invariant.{IsOrderly}
 use Rattle.replay_spec.specs.Remade.{NameTheirCells, KeepsSetup, AreUnder, AreTakenIn}
 use Rattle.replay_spec.specs.Laws.{IsLawful, Moment, AreLawful, book_after, changes_of}
 use Rattle.server_limits.specs.Limits.{most_fuel}
-use Rattle.journal_records.specs.Records.{changes, IsInGrammar, begin_of, journal_rules}
-use Rattle.journal_books.specs.Making.{made, book_of}
+use Rattle.journal_records.specs.Records.{begins, changes, IsInGrammar, begin_of, journal_rules}
+use Rattle.journal_books.specs.Making.{made, other, rules_over, first_by, book_of}
 use Rattle.journal_books.specs.Standing.{Makes, MakesIn, HasRoom, Between, Held, if_kept}
 use Rattle.journal_books.specs.Keeping.{AreAllBytes, IsRecoverable, Keeps, AreNamed, body_by, first_body, with_landed, IsSpelled, AreSpelled, stake_of}
 use Rattle.journal_books.specs.Spelling.{IsInRange, AreLimits, GivesTick, IsTicket, PartsFit}
+
+-- The record that a journal of this shelf and setup begins with makes an empty book, and any other Begin is of another.
+abbrev pub OnlyItsBeginBegins : Type 0
+OnlyItsBeginBegins =
+    (scripts : List Named) (shelf place s : ℕ) (named : List (List ℕ × List ℕ))
+    → (begins s named ≡ begin_of shelf scripts
+    → first_by scripts shelf place (Some (begins s named)) ≡ made (nothing_made (rules_over scripts shelf) scripts shelf))
+    × ((begins s named ≡ begin_of shelf scripts → ⊥) → first_by scripts shelf place (Some (begins s named)) ≡ other place)
 
 -- What a disk that stands between two books may hold after a crash makes one of them.
 abbrev pub ImagesMakeBooks : Type 0

@@ -5,11 +5,16 @@ ghost use Rattle.std.specs.Prelude.{IsTrue};
 ghost use Rattle.journal_books.specs.Depths.{RunsStayShallow};
 ghost use Rattle.journal_books.specs.Disks.{RecoveriesStay, RecoveriesFindOne, SettledJournalsStand, QuietCallsStand, AppendsStandBetween, CallsLeaveStanding};
 ghost use Rattle.journal_books.specs.Reading.{ReadersMakeTheBook};
-ghost use Rattle.journal_books.specs.Laws.{ImagesMakeBooks, BooksStandAlike, ACrashIsLostOrKept, BodiesMakeFittingBooks, EventsAreKept, EventsStandBetween, RunsAreKept, FreshJournalsSuffice, WhatIsRecordedIsSpelled, RangesAreKept};
+ghost use Rattle.journal_books.specs.Laws.{OnlyItsBeginBegins, ImagesMakeBooks, BooksStandAlike, ACrashIsLostOrKept, BodiesMakeFittingBooks, EventsAreKept, EventsStandBetween, RunsAreKept, FreshJournalsSuffice, WhatIsRecordedIsSpelled, RangesAreKept};
 
 use journal_records::records_are_exact;
 use page_journal::Take;
 use web_disk::Disk;
+
+/// The record that a journal of this shelf and setup begins with makes an empty book, and any other Begin is of another.
+pub fn only_its_begin_begins()
+    ensures { OnlyItsBeginBegins }
+{}
 
 /// What a disk that stands between two books may hold after a crash makes one of them.
 pub fn images_make_books()
