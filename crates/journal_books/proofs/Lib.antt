@@ -1,0 +1,11 @@
+pub mod Makings
+pub mod Fitting
+pub mod Remade
+pub mod Kept
+pub mod Between
+pub mod Spelled
+pub mod Ranges
+pub mod Readings
+pub mod Standings
+pub mod Shallow
+pub mod Runs

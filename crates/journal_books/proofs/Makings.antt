@@ -1,0 +1,57 @@
+-- What one record more makes, and what any bodies make.
+use Rattle.std.proofs.Common.{◌≡◌, ℕ, ◌+◌, ◌==◌, ◌&&◌, List, [], ◌∷◌, ◌++◌, length, Bool, true, false, if◌then◌else◌, refl, ◌∙◌, ap, arith, length-append}
+use Rattle.std.specs.Str.{bytes_eq}
+use Rattle.std.proofs.lemmas.Bool.Decides.{nat_tests}
+use Rattle.std.proofs.lemmas.Slice.Eq.{bytes_eq-Decides}
+use Rattle.script_nodes.specs.Setup.{Named}
+use Rattle.page_journal.specs.Records.{framed, frames}
+use Rattle.page_journal.proofs.Frames.{length-framed}
+use Rattle.replay_spec.specs.Book.{Change}
+use Rattle.replay_spec.specs.Recovery.{Made, nothing_made, redo}
+use Rattle.journal_records.specs.Records.{changes, IsInGrammar, begin_of, texts_of}
+use Rattle.journal_records.specs.Laws.{AreRecordsExact}
+use Rattle.journal_books.specs.Making.{Making, nothing, made, damaged, other, rules_over, are_told, has_script, first_by, next_by, with_body, with_bodies, book_of}
+use Rattle.journal_books.specs.Keeping.{body_by, first_body}
+
+behind_first : (place : ℕ) (first : List ℕ) (bodies : List (List ℕ)) → place + 5 + length first + length (frames bodies) ≡ place + length (frames (first ∷ bodies))
+behind_first place first bodies = omega (arith, length-append (framed first) (frames bodies), length-framed first)
+
+with_push : (scripts : List Named) (shelf place : ℕ) (bodies : List (List ℕ)) (body : List ℕ) (m : Making)
+    → with_bodies scripts shelf place (bodies ++ body ∷ []) m ≡ with_body scripts shelf (place + length (frames bodies)) body (with_bodies scripts shelf place bodies m)
+with_push scripts shelf place [] body m =
+    let same : place ≡ place + 0 = omega arith in
+    ap (λ (n : ℕ). with_body scripts shelf n body m) same
+with_push scripts shelf place (first ∷ bodies) body m =
+    let rest = with_bodies scripts shelf (place + 5 + length first) bodies (with_body scripts shelf place first m) in
+    with_push scripts shelf (place + 5 + length first) bodies body (with_body scripts shelf place first m)
+    ∙ ap (λ (n : ℕ). with_body scripts shelf n body rest) (behind_first place first bodies)
+
+-- the body of a change makes of what was made what the change makes of it
+pub made_push : AreRecordsExact → (scripts : List Named) (shelf : ℕ) (bodies : List (List ℕ)) (m : Made) (c : Change) → book_of scripts shelf bodies ≡ made m → IsInGrammar (changes c)
+    → has_script (length scripts) c ≡ true → book_of scripts shelf (bodies ++ body_by c ∷ []) ≡ made (redo (rules_over scripts shelf) c m)
+made_push x scripts shelf bodies m c makes fits script =
+    let place = 8 + length (frames bodies) in
+    with_push scripts shelf 8 bodies (body_by c) nothing
+    ∙ ap (with_body scripts shelf place (body_by c)) makes
+    ∙ ap (next_by scripts shelf place m) (x.back (changes c) fits)
+    ∙ ap (λ (t : Bool). if t then made (redo (rules_over scripts shelf) c m) else damaged place) script
+
+pub both_true : (a b : Bool) → a ≡ true → b ≡ true → (a && b) ≡ true
+both_true true true x y = refl
+both_true true false x y = y
+both_true false b x y = x
+
+bytes_same : (xs : List ℕ) → bytes_eq xs xs ≡ true
+bytes_same xs = grind (arith, nat_tests, bytes_eq-Decides xs xs)
+
+pub told_is : (scripts : List Named) → are_told (texts_of scripts) scripts ≡ true
+told_is [] = refl
+told_is (s ∷ ss) = both_true (bytes_eq s.name s.name && bytes_eq s.text s.text) (are_told (texts_of ss) ss) (both_true _ _ (bytes_same s.name) (bytes_same s.text)) (told_is ss)
+
+-- the first record of a journal makes an empty book
+pub made_first : AreRecordsExact → (scripts : List Named) (shelf : ℕ) → IsInGrammar (begin_of shelf scripts)
+    → book_of scripts shelf (first_body scripts shelf ∷ []) ≡ made (nothing_made (rules_over scripts shelf) scripts shelf)
+made_first x scripts shelf fits =
+    let same : (shelf == shelf) ≡ true = grind (arith, nat_tests) in
+    ap (first_by scripts shelf 8) (x.back (begin_of shelf scripts) fits)
+    ∙ ap (λ (t : Bool). if t then made (nothing_made (rules_over scripts shelf) scripts shelf) else other 8) (both_true (shelf == shelf) (are_told (texts_of scripts) scripts) same (told_is scripts))

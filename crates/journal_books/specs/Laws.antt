@@ -1,0 +1,130 @@
+-- What holds of journals and of the books that they make.
+use Rattle.std.specs.Prelude.{◌≡◌, ◌⊎◌, ℕ, ◌≤◌, ◌^◌, List, ◌∷◌, ◌++◌, length, map, Some, option_map}
+use Rattle.script_value.specs.declared.outcome.TxName.{TxName}
+use Rattle.script_nodes.specs.Setup.{Named}
+use Rattle.page_journal.specs.Records.{at_rest}
+use Rattle.replay_spec.specs.Book.{Change, Book, reopened}
+use Rattle.replay_spec.specs.Rules.{Rules, empty_book}
+use Rattle.replay_spec.specs.Next.{Ticket}
+use Rattle.replay_spec.specs.Step.{Event, crash, Fate, lost, kept, Reply, records, publish_comes, step}
+use Rattle.replay_spec.specs.Runs.{lands}
+use Rattle.replay_spec.specs.Recovery.{Made, nothing_made}
+use Rattle.replay_spec.specs.Invariant.{IsOrderly}
+use Rattle.replay_spec.specs.Remade.{NameTheirCells, KeepsSetup, AreUnder, AreTakenIn}
+use Rattle.replay_spec.specs.Laws.{IsLawful, Moment, AreLawful, book_after, changes_of}
+use Rattle.server_limits.specs.Limits.{most_fuel}
+use Rattle.journal_records.specs.Records.{begins, changes, IsInGrammar, begin_of, journal_rules}
+use Rattle.journal_books.specs.Making.{made, other, rules_over, first_by, book_of}
+use Rattle.journal_books.specs.Standing.{Makes, MakesIn, HasRoom, Between, Held, if_kept}
+use Rattle.journal_books.specs.Keeping.{AreAllBytes, IsRecoverable, Keeps, AreNamed, body_by, first_body, with_landed, IsSpelled, AreSpelled, stake_of}
+use Rattle.journal_books.specs.Spelling.{IsInRange, AreLimits, GivesTick, IsTicket, PartsFit}
+
+-- The record that a journal of this shelf and setup begins with makes an empty book, and any other Begin is of another.
+abbrev pub OnlyItsBeginBegins : Type 0
+OnlyItsBeginBegins =
+    (scripts : List Named) (shelf place s : ℕ) (named : List (List ℕ × List ℕ))
+    → (begins s named ≡ begin_of shelf scripts
+    → first_by scripts shelf place (Some (begins s named)) ≡ made (nothing_made (rules_over scripts shelf) scripts shelf))
+    × ((begins s named ≡ begin_of shelf scripts → ⊥) → first_by scripts shelf place (Some (begins s named)) ≡ other place)
+
+-- What a disk that stands between two books may hold after a crash makes one of them.
+abbrev pub ImagesMakeBooks : Type 0
+ImagesMakeBooks =
+    (scripts : List Named) (shelf : ℕ) (before after : Book) (k : Between scripts shelf before after) (image : List ℕ)
+    → Held k image
+    → MakesIn scripts shelf image before ⊎ MakesIn scripts shelf image after
+
+-- Of a book records tell what is left of it after a crash: what is out on it, and which number is next, makes no difference.
+abbrev pub BooksStandAlike : Type 0
+BooksStandAlike =
+    (scripts : List Named) (shelf : ℕ)
+    → ((b c : Book) → reopened b ≡ reopened c → b.down ≡ c.down
+    → reopened (if_kept scripts shelf b) ≡ reopened (if_kept scripts shelf c))
+    × ((a b c d : Book) → reopened a ≡ reopened c → reopened b ≡ reopened d → (k : Between scripts shelf a b)
+    → (l : Between scripts shelf c d) × (l.bodies ≡ k.bodies) × (l.more ≡ k.more))
+
+-- this journal's lengths are those that the rules know
+abbrev pub AreOver : Rules → List Named → (shelf : ℕ) → Type 0
+AreOver rules scripts shelf = rules.journal ≡ Some (journal_rules shelf scripts)
+
+-- So what a disk that stands for a book may hold after a crash makes the book of the event crash, what is in doubt lost or
+-- kept.
+abbrev pub ACrashIsLostOrKept : Type 0
+ACrashIsLostOrKept =
+    (scripts : List Named) (shelf : ℕ) (rules : Rules) (b : Book) (nonce : ℕ) → AreOver rules scripts shelf
+    → (k : Between scripts shelf b (if_kept scripts shelf b)) (image : List ℕ) → Held k image
+    → MakesIn scripts shelf image (step rules b nonce (crash scripts) lost).1
+    ⊎ MakesIn scripts shelf image (step rules b nonce (crash scripts) kept).1
+
+-- What any bodies make is a book of this shelf and setup, as after a crash, that can go on. Where they are bytes, its numbers
+-- are in range, and the journal is as long as it tells.
+pub record IsFitting (scripts : List Named) (shelf : ℕ) (bodies : List (List ℕ)) (m : Made) : Type 0 where
+  pub again : m.book ≡ reopened m.book
+  pub scripts_are : m.book.scripts ≡ scripts
+  pub shelf_is : m.book.shelf ≡ shelf
+  pub recoverable : AreNamed scripts → IsRecoverable m.book m.seen
+  pub range : AreAllBytes bodies → IsInRange m.book
+  pub long : AreAllBytes bodies → length (at_rest bodies) ≤ 2 ^ 30 → m.book.length ≡ length (at_rest bodies)
+
+abbrev pub BodiesMakeFittingBooks : Type 0
+BodiesMakeFittingBooks =
+    (scripts : List Named) (shelf : ℕ) (bodies : List (List ℕ)) (m : Made) → book_of scripts shelf bodies ≡ made m
+    → IsFitting scripts shelf bodies m
+
+-- The body of the record that an event leaves makes of the journal's book the book behind the event, also where what was in
+-- doubt is kept at a crash; where it leaves none, the same bodies make it. The book can go on.
+abbrev pub EventsAreKept : Type 0
+EventsAreKept =
+    (scripts : List Named) (shelf : ℕ) (bodies : List (List ℕ)) (rules : Rules) (b : Book) (nonce : ℕ) (event : Event)
+    (fate : Fate)
+    → rules.fuel ≤ most_fuel → AreOver rules scripts shelf → KeepsSetup event b → IsLawful event b
+    → Keeps scripts shelf bodies b → IsSpelled (lands rules b event fate)
+    → Keeps scripts shelf (with_landed (lands rules b event fate) bodies) (step rules b nonce event fate).1
+
+-- So with that body in flight a disk stands between the book before the event and the book behind it, where what is in doubt
+-- then is kept.
+abbrev pub EventsStandBetween : Type 0
+EventsStandBetween =
+    (scripts : List Named) (shelf : ℕ) (bodies : List (List ℕ)) (rules : Rules) (b : Book) (nonce : ℕ) (event : Event)
+    (fate : Fate)
+    → rules.fuel ≤ most_fuel → AreOver rules scripts shelf → KeepsSetup event b → IsLawful event b
+    → Keeps scripts shelf bodies b
+    → let c = stake_of rules b nonce event fate in
+    IsSpelled c → HasRoom bodies (option_map body_by c)
+    → (k : Between scripts shelf b (if_kept scripts shelf (step rules b nonce event fate).1))
+    × (k.bodies ≡ bodies) × (k.more ≡ option_map body_by c)
+
+-- The bodies that a run leaves behind those of a journal make the run's last book, over crashes and under rules that change.
+abbrev pub RunsAreKept : Type 0
+RunsAreKept =
+    (scripts : List Named) (shelf : ℕ) (bodies : List (List ℕ)) (ms : List Moment) (b : Book)
+    → AreUnder (Some (journal_rules shelf scripts)) ms b → AreLawful ms b
+    → Keeps scripts shelf bodies b → AreSpelled (changes_of ms b)
+    → Keeps scripts shelf (bodies ++ map body_by (changes_of ms b)) (book_after ms b)
+
+-- From a fresh journal on the bodies of a run make its last book, and none of them is passed over.
+abbrev pub FreshJournalsSuffice : Type 0
+FreshJournalsSuffice =
+    (scripts : List Named) (shelf : ℕ) (rules : Rules) (ms : List Moment) → AreOver rules scripts shelf → AreNamed scripts
+    → IsInGrammar (begin_of shelf scripts)
+    → let b = empty_book rules scripts shelf in
+    AreUnder rules.journal ms b → AreLawful ms b → AreSpelled (changes_of ms b)
+    → Makes scripts shelf (first_body scripts shelf ∷ map body_by (changes_of ms b)) (book_after ms b)
+    × AreTakenIn rules (changes_of ms b) (nothing_made rules scripts shelf)
+
+-- What a publish records can be written, on a book in range, where its values can: it is not too long, and its numbers are
+-- such as records tell.
+abbrev pub WhatIsRecordedIsSpelled : Type 0
+WhatIsRecordedIsSpelled =
+    (scripts : List Named) (shelf : ℕ) (rules : Rules) (b : Book) (t : Ticket) (r : Reply) (c : Change)
+    (inside : List TxName)
+    → rules.fuel ≤ most_fuel → AreOver rules scripts shelf → IsOrderly b → NameTheirCells b → IsInRange b
+    → AreLimits rules b.scripts → IsTicket b t
+    → publish_comes rules b t ≡ records r c inside → PartsFit c
+    → IsInGrammar (changes c)
+
+-- Each event keeps numbers and clock in range.
+abbrev pub RangesAreKept : Type 0
+RangesAreKept =
+    (rules : Rules) (b : Book) (nonce : ℕ) (event : Event) (fate : Fate) → IsOrderly b → IsInRange b → GivesTick event
+    → IsInRange (step rules b nonce event fate).1

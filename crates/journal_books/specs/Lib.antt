@@ -1,0 +1,9 @@
+pub mod Making
+pub mod Standing
+pub mod Keeping
+pub mod Reading
+pub mod Spelling
+pub mod Depths
+pub mod Disks
+pub mod Laws
+pub mod Vectors

@@ -1,0 +1,79 @@
+-- What the records of a journal make of a shelf.
+use Rattle.std.specs.Prelude.{ℕ, ◌+◌, ◌==◌, ◌&&◌, Bool, true, false, List, [], ◌∷◌, length, Option, Some, None, nat_lt, if◌then◌else◌}
+use Rattle.std.specs.Str.{bytes_eq}
+use Rattle.script_nodes.specs.Setup.{Named}
+use Rattle.page_journal.specs.Records as journal
+use Rattle.page_journal.specs.Records.{Log, records}
+use Rattle.replay_spec.specs.Book.{Change, opens}
+use Rattle.replay_spec.specs.Rules.{Rules}
+use Rattle.replay_spec.specs.Recovery.{Made, nothing_made, redo}
+use Rattle.server_limits.specs.Limits.{most_fuel}
+use Rattle.journal_records.specs.Records.{Record, begins, changes, journal_rules}
+use Rattle.journal_records.specs.Reading.{read_record}
+
+-- There is no record; or they make a book, as after a crash, of a shelf of these scripts; or what stands at this place is no
+-- record that a shelf writes there; or the journal is of another shelf, or of other scripts.
+pub data Making : Type 0 where
+  nothing : Making
+  made : Made → Making
+  damaged : (place : ℕ) → Making
+  other : (place : ℕ) → Making
+
+-- the rules that records are read under: of these they need the journal alone
+abbrev pub rules_over : List Named → (shelf : ℕ) → Rules
+rules_over scripts shelf =
+    record { fuel = most_fuel; life = 0; instances = 0; pages = 0; journal = Some (journal_rules shelf scripts) }
+
+-- these are the names and texts of the scripts, in order
+abbrev pub are_told : List (List ℕ × List ℕ) → List Named → Bool
+are_told [] [] = true
+are_told (p ∷ ps) (s ∷ ss) = bytes_eq p.0 s.name && bytes_eq p.1 s.text && are_told ps ss
+are_told _ _ = false
+
+-- a start is of one of so many scripts
+abbrev pub has_script : (count : ℕ) → Change → Bool
+has_script count (opens o) = nat_lt o.script count
+has_script count _ = true
+
+-- the first record, whose gate is at this place, and a later one
+abbrev pub first_by : List Named → (shelf place : ℕ) → Option Record → Making
+first_by scripts shelf place None = damaged place
+first_by scripts shelf place (Some (changes c)) = damaged place
+first_by scripts shelf place (Some (begins s named)) =
+    if s == shelf && are_told named scripts then made (nothing_made (rules_over scripts shelf) scripts shelf) else other place
+
+abbrev pub next_by : List Named → (shelf place : ℕ) → Made → Option Record → Making
+next_by scripts shelf place m None = damaged place
+next_by scripts shelf place m (Some (begins s named)) = damaged place
+next_by scripts shelf place m (Some (changes c)) =
+    if has_script (length scripts) c then made (redo (rules_over scripts shelf) c m) else damaged place
+
+-- with one body more, behind the gate at this place
+abbrev pub with_body : List Named → (shelf place : ℕ) → List ℕ → Making → Making
+with_body scripts shelf place body nothing = first_by scripts shelf place (read_record body)
+with_body scripts shelf place body (made m) = next_by scripts shelf place m (read_record body)
+with_body scripts shelf place body (damaged p) = damaged p
+with_body scripts shelf place body (other p) = other p
+
+abbrev pub with_bodies : List Named → (shelf place : ℕ) → List (List ℕ) → Making → Making
+with_bodies scripts shelf place [] m = m
+with_bodies scripts shelf place (body ∷ bodies) m =
+    with_bodies scripts shelf (place + 5 + length body) bodies (with_body scripts shelf place body m)
+
+-- What the bodies of a journal make for a shelf of this number under this setup. The first gate is at 8.
+abbrev pub book_of : List Named → (shelf : ℕ) → List (List ℕ) → Making
+book_of scripts shelf bodies = with_bodies scripts shelf 8 bodies nothing
+
+-- and what its bytes make
+abbrev pub by_log : List Named → (shelf : ℕ) → Log → Making
+by_log scripts shelf (journal.Damaged place) = damaged place
+by_log scripts shelf (journal.Intact bodies) = book_of scripts shelf bodies
+
+abbrev pub book_in_bytes : List Named → (shelf : ℕ) → List ℕ → Making
+book_in_bytes scripts shelf [] = nothing
+book_in_bytes scripts shelf (b ∷ bytes) = by_log scripts shelf (records (b ∷ bytes))
+
+-- what a shelf that is opened goes on with: where there is no record it writes the first, and its book is empty
+abbrev pub begun : List Named → (shelf : ℕ) → Making → Making
+begun scripts shelf nothing = made (nothing_made (rules_over scripts shelf) scripts shelf)
+begun scripts shelf m = m

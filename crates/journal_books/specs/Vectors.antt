@@ -1,0 +1,165 @@
+-- Worked rows.
+use Rattle.std.specs.Prelude.{◌≡◌, ℕ, ◌+◌, ◌-◌, ◌^◌, List, [], ◌∷◌, ◌++◌, length, None, codes, refl}
+use Rattle.script_value.specs.Val.{text, symbol, list, vals_of, no_vals}
+use Rattle.script_nodes.specs.declared.script.SendKind.TheVariants.{Suspend}
+use Rattle.script_nodes.specs.Core.{lit, send}
+use Rattle.script_nodes.specs.Setup.{Named}
+use Rattle.page_journal.specs.Records.{header, frames, at_rest}
+use Rattle.replay_spec.specs.Book.{Page, Change, Book, opens, ends, sweeps}
+use Rattle.replay_spec.specs.Rules.{empty_book}
+use Rattle.replay_spec.specs.Recovery.{Made}
+use Rattle.value_bytes.specs.Reading.{read_within}
+use Rattle.journal_records.specs.Reading.{read_record}
+use Rattle.journal_books.specs.Making.{nothing, made, damaged, other, rules_over, book_of, book_in_bytes, begun}
+use Rattle.journal_books.specs.Keeping.{body_by, first_body}
+
+-- the script `ten`: its one page is a paragraph
+abbrev ten : Named
+ten = record {
+  name = codes "ten";
+  text = codes "'(p \"12345\")";
+  script = record { web = []; cells = []; body = lit (list (vals_of (symbol (codes "p") ∷ text (codes "12345") ∷ []))) };
+}
+
+-- a script that shows a page and waits
+abbrev waiting : Named
+waiting = record {
+  name = codes "waiting";
+  text = codes "(send/suspend (lambda (k) \"go\"))";
+  script = record { web = []; cells = []; body = send Suspend (lit (text (codes "go"))) };
+}
+
+abbrev begin_ten : List ℕ
+begin_ten = first_body (ten ∷ []) 0
+
+abbrev empty_ten : Book
+empty_ten = empty_book (rules_over (ten ∷ []) 0) (ten ∷ []) 0
+
+-- Begin alone, and a tick to 50: the journals are 46 and 60 bytes long
+begin_makes_an_empty_book :
+    book_of (ten ∷ []) 0 (begin_ten ∷ []) ≡ made (record { book = record empty_ten { length = 46 }; seen = [] })
+unfolding read_record
+begin_makes_an_empty_book = refl
+
+abbrev at_50 : Made
+at_50 = record { book = record empty_ten { clock = 50; length = 60 }; seen = [] }
+
+tick_50 : book_of (ten ∷ []) 0 (begin_ten ∷ body_by (sweeps 50) ∷ []) ≡ made at_50
+unfolding read_record
+tick_50 = refl
+
+tick_50_is_so_long : length (at_rest (begin_ten ∷ body_by (sweeps 50) ∷ [])) ≡ 60
+tick_50_is_so_long = refl
+
+tick_50_in_bytes : book_in_bytes (ten ∷ []) 0 (at_rest (begin_ten ∷ body_by (sweeps 50) ∷ [])) ≡ made at_50
+unfolding read_record
+tick_50_in_bytes = refl
+
+-- nothing to read, and what is begun then
+an_empty_disk : book_in_bytes (ten ∷ []) 0 [] ≡ nothing
+an_empty_disk = refl
+
+no_records : book_in_bytes (ten ∷ []) 0 (at_rest []) ≡ nothing
+no_records = refl
+
+what_begins : begun (ten ∷ []) 0 nothing ≡ book_of (ten ∷ []) 0 (begin_ten ∷ [])
+unfolding read_record
+what_begins = refl
+
+-- an answer to a page of no instance, with the greatest number, and with one more
+abbrev lost_end : ℕ → Change
+lost_end n = ends (record { number = n; instance = 7; page = 7; answer = list no_vals; effects = []; left = [] })
+
+the_greatest_number :
+    book_of (ten ∷ []) 0 (begin_ten ∷ body_by (lost_end (2 ^ 62 - 1)) ∷ [])
+    ≡ made (record {
+      book = record empty_ten { drawn = 2 ^ 62; logged = 2 ^ 62; length = 46 + 5 + 38 };
+      seen = (2 ^ 62 - 1) ∷ [];
+    })
+unfolding read_record read_within
+the_greatest_number = refl
+
+one_more : book_of (ten ∷ []) 0 (begin_ten ∷ body_by (lost_end (2 ^ 62)) ∷ []) ≡ damaged 45
+unfolding read_record
+one_more = refl
+
+-- a start that shows its page; the same number again is passed over
+abbrev opening : (number script : ℕ) → Change
+opening n k = opens (record { number = n; nonce = 5; script = k; effects = []; left = []; kind = Suspend; deadline = 3600 })
+
+abbrev begin_waiting : List ℕ
+begin_waiting = first_body (waiting ∷ []) 3
+
+abbrev root : Page
+root = record { number = 0; nonce = 5; parent = None; answer = list no_vals; reads = []; inside = []; deadline = 3600 }
+
+abbrev started : (length : ℕ) → Book
+started size = record (empty_book (rules_over (waiting ∷ []) 3) (waiting ∷ []) 3) {
+  drawn = 1;
+  logged = 1;
+  length = size;
+  instances = record { number = 0; script = waiting; cells = []; closed = []; revoked = []; pages = root ∷ [] } ∷ [];
+}
+
+a_start :
+    book_of (waiting ∷ []) 3 (begin_waiting ∷ body_by (opening 0 0) ∷ [])
+    ≡ made (record { book = started 116; seen = 0 ∷ [] })
+unfolding read_record read_within
+a_start = refl
+
+a_number_twice :
+    book_of (waiting ∷ []) 3 (begin_waiting ∷ body_by (opening 0 0) ∷ body_by (opening 0 0) ∷ [])
+    ≡ made (record { book = started 162; seen = 0 ∷ 0 ∷ [] })
+unfolding read_record read_within
+a_number_twice = refl
+
+-- a start of a script that is not of the setup; a second Begin
+no_such_script : book_of (waiting ∷ []) 3 (begin_waiting ∷ body_by (opening 0 1) ∷ []) ≡ damaged 69
+unfolding read_record read_within
+no_such_script = refl
+
+begins_twice : book_of (ten ∷ []) 0 (begin_ten ∷ body_by (sweeps 50) ∷ begin_ten ∷ []) ≡ damaged 59
+unfolding read_record
+begins_twice = refl
+
+-- no Begin; another shelf's; other scripts, by their texts, their names, their order and their number
+no_begin : book_of (ten ∷ []) 0 (body_by (sweeps 50) ∷ begin_ten ∷ []) ≡ damaged 8
+unfolding read_record
+no_begin = refl
+
+no_record : book_of (ten ∷ []) 0 ((6 ∷ []) ∷ []) ≡ damaged 8
+unfolding read_record
+no_record = refl
+
+another_shelf : book_of (ten ∷ []) 1 (begin_ten ∷ []) ≡ other 8
+unfolding read_record
+another_shelf = refl
+
+another_text : book_of (record ten { text = codes "1" } ∷ []) 0 (begin_ten ∷ []) ≡ other 8
+unfolding read_record
+another_text = refl
+
+another_name : book_of (record ten { name = codes "two" } ∷ []) 0 (begin_ten ∷ []) ≡ other 8
+unfolding read_record
+another_name = refl
+
+another_order : book_of (waiting ∷ ten ∷ []) 0 (first_body (ten ∷ waiting ∷ []) 0 ∷ []) ≡ other 8
+unfolding read_record
+another_order = refl
+
+one_script_more : book_of (ten ∷ waiting ∷ []) 0 (begin_ten ∷ []) ≡ other 8
+unfolding read_record
+one_script_more = refl
+
+-- the first fault by its place; a fault of the framing before all others
+other_first : book_of (ten ∷ []) 1 (begin_ten ∷ (6 ∷ []) ∷ []) ≡ other 8
+unfolding read_record
+other_first = refl
+
+the_first_damage : book_of (ten ∷ []) 0 (begin_ten ∷ (6 ∷ []) ∷ [] ∷ []) ≡ damaged 45
+unfolding read_record
+the_first_damage = refl
+
+framing_first : book_in_bytes (ten ∷ []) 1 (header ++ (frames (begin_ten ∷ []) ++ 1 ∷ 9 ∷ 0 ∷ [])) ≡ damaged 45
+unfolding read_record
+framing_first = refl
