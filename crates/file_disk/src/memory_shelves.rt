@@ -1,4 +1,4 @@
-ghost use Rattle.std.specs.Prelude.{◌≡◌, ◌<◌, ◌^◌, ℕ, true, Some, IfOk};
+ghost use Rattle.std.specs.Prelude.{◌≡◌, ◌<◌, ◌^◌, [], ℕ, true, Some, IfOk};
 ghost use Rattle.web_disk.specs.Disks.{memory_view};
 ghost use Rattle.web_disk.specs.Racks.{place_of, is_lent, IsTakenFrom};
 ghost use Rattle.web_disk.specs.declared.memory.MemoryDisk.{MemoryDisk};
@@ -26,7 +26,11 @@ pub struct MemoryShelves {
 
 impl MemoryShelves {
     /// No disk was made yet.
-    pub fn new(alloc: Global) -> MemoryShelves {
+    pub fn new(alloc: Global) -> MemoryShelves
+        ensures disks { result.rack.disks.items ≡ [] }
+        ensures failing { result.rack.failing.items ≡ [] }
+        ensures made { result.made ≡ 0 }
+    {
         MemoryShelves {
             rack: MemoryRack::new(alloc, NO_WRECK, Vec::new(alloc)),
             made: 0,
