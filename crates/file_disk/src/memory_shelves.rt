@@ -1,4 +1,4 @@
-ghost use Rattle.std.specs.Prelude.{◌≡◌, ◌<◌, ◌^◌, [], ℕ, true, Some, IfOk};
+ghost use Rattle.std.specs.Prelude.{◌≡◌, ◌<◌, ◌^◌, [], ℕ, true, Some, IfOk, IsErrOf};
 ghost use Rattle.web_disk.specs.Disks.{memory_view};
 ghost use Rattle.web_disk.specs.Racks.{place_of, is_lent, IsTakenFrom};
 ghost use Rattle.web_disk.specs.declared.memory.MemoryDisk.{MemoryDisk};
@@ -43,6 +43,7 @@ impl MemoryShelves {
         ensures kept { (n : ℕ) (there : MemoryDisk) → place_of self.old.rack n ≡ Some (Some there) →
             place_of self.new.rack n ≡ Some (Some there) }
         ensures wreck { self.new.rack.wreck ≡ self.old.rack.wreck }
+        ensures failing { self.new.rack.failing.items ≡ self.old.rack.failing.items }
     {
         'disks: for _ in self.made..number + 1 {
             let disk = MemoryDisk::new(alloc, Vec::new(alloc), Vec::new(alloc))?;
@@ -58,6 +59,9 @@ impl MemoryShelves {
         ensures taken { IfOk result (λ disk. (there : MemoryDisk) →
             place_of self.old.rack number ≡ Some (Some there) →
             IsTakenFrom self.old.rack.wreck (Some there) disk) }
+        ensures fails_only { (there : MemoryDisk) → self.old.rack.failing.items ≡ [] →
+            number < MOST_MEMORY_DISKS → place_of self.old.rack number ≡ Some (Some there) →
+            IsErrOf result RackFault.Failed → ⊥ }
     {
         if number >= MOST_MEMORY_DISKS {
             return Err(RackFault::Failed);

@@ -9,4 +9,5 @@ disks-preserved c = record {
       subst (λ (l : List (Option MemoryDisk)). slice_get l n ≡ Some (Some there)) (sym c.in_ok-add.ensures.ok)
       (stays_there _ _ n (Some there) (c.disks.invariant.kept n there is));
   wreck = c.add.ensures.wreck ∙ c.disks.invariant.wreck;
+  failing = c.add.ensures.failing ∙ c.disks.invariant.failing;
 }

@@ -7,4 +7,5 @@ abbrev pub invariant-disks : goal.invariant-disks
 invariant-disks l = record {
   kept : (n : ℕ) (there : MemoryDisk) → place_of l.fn.self.rack n ≡ Some (Some there) → place_of l.self.rack n ≡ Some (Some there);
   wreck : l.self.rack.wreck ≡ l.fn.self.rack.wreck;
+  failing : l.self.rack.failing.items ≡ l.fn.self.rack.failing.items;
 }
