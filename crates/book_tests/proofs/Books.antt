@@ -4,6 +4,9 @@ use Rattle.std.proofs.lemmas.List.Elements.{Contains-push}
 use Rattle.replay_spec.specs.Book as spec
 use Rattle.replay_spec.specs.Next as next
 use Rattle.instance_book.specs.Makes.{Makes}
+use Rattle.instance_book.specs.Fits.{GoesOnFrom, IsForSome, IsCopy}
+use Rattle.machine_spec.specs.Machine.{Suspended}
+use Rattle.script_nodes.specs.Setup.{Named}
 use Rattle.instance_book.specs.Views.{ticket_of, ticket_for}
 use Rattle.page_names.specs.declared.names.Target.{Target}
 use Rattle.script_value.specs.declared.value.Value.{Value}
@@ -38,3 +41,15 @@ pub ticket_out : (old new : Book) (t : Ticket) (target : Target) (answer : Value
     → ticket_of t ≡ ticket_for target answer old.drawn nonce → Contains new.out.items t.number
 ticket_out old new t target answer nonce made is =
     subst (λ (n : ℕ). Contains new.out.items n) (sym (ap (λ (x : next.Ticket). x.number) is)) (drawn_out old new made)
+
+-- a copy of a ticket is for the same visit
+pub copy_runs : (scripts : List Named) (t copy : Ticket) → IsCopy copy t → IsForSome scripts t → IsForSome scripts copy
+copy_runs scripts t copy same is = record {
+  visit = is.visit;
+  ticket = is.ticket ∙ sym same.ticket;
+  fits = record {
+    script = rw same.script is.fits.script;
+    url = same.url ∙ is.fits.url;
+    from = subst (λ (o : Option Suspended). GoesOnFrom is.visit o) (sym same.from) is.fits.from;
+  };
+}

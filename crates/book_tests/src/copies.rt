@@ -1,20 +1,21 @@
 ghost use Rattle.std.specs.Prelude.{◌≡◌, ◌<◌, ◌^◌, [], None, IfOk, Contains};
 ghost use Rattle.script_nodes.specs.Views.{scripts_of};
 ghost use Rattle.instance_book.specs.Admissions.{refusal_for};
+ghost use Rattle.instance_book.specs.Fits.{IsForSome};
 ghost use Rattle.instance_book.specs.Changes.{HasRoomFor};
-ghost use Rattle.instance_book.specs.Makes.{HasPlaces};
+ghost use Rattle.instance_book.specs.Makes.{HasItsStates};
 ghost use Rattle.shelf.specs.Views.{IsInOrder};
 
 use crate::texts::{datum, is_datum, setup, target, text_of};
 use instance_book::{Book, Prepared, Ticket};
 use page_names::Target;
-use plain_rerun::rerun;
 use script_nodes::{SendKind, Setup};
-use script_value::{Bytes, Reply};
-use segments::{PlainEnd, Rerun};
-use shelf::{Rules, Shelf};
+use script_value::{Bytes, Items, Reply};
+use shelf::{Rules, Shelf, run_ticket};
 use std::alloc::Global;
 use std::test::Fail;
+use stored_states::{Outcome, Segment, Suspended};
+use web_cells::Shades;
 use web_outside::{Counting, Nonces};
 
 const READS: &str =
@@ -22,7 +23,7 @@ const READS: &str =
 
 // A book of the shelf 7 with nothing in it, for the scripts of a setup.
 fn empty_book(alloc: Global, setup: &Setup) -> Book
-    ensures { HasPlaces (scripts_of setup.now) result }
+    ensures { HasItsStates (scripts_of setup.now) result }
 {
     let _ = setup;
     Book::empty(alloc, 7)
@@ -33,8 +34,9 @@ fn empty_book(alloc: Global, setup: &Setup) -> Book
 fn take(alloc: Global, book: &mut Book, setup: &Setup, target: &Target) -> Result<Ticket, Fail>
     requires admitted { refusal_for setup.now book.old target.now ≡ None }
     requires numbers { book.old.drawn < 2 ^ 62 }
-    requires placed { HasPlaces (scripts_of setup.now) book.old }
-    ensures { IfOk result (λ t. Contains book.new.out.items t.number) }
+    requires states { HasItsStates (scripts_of setup.now) book.old }
+    ensures out { IfOk result (λ t. Contains book.new.out.items t.number) }
+    ensures runs { IfOk result (IsForSome (scripts_of setup.now)) }
 {
     let answer = datum(alloc, "3")?;
     let ticket = book.ticket(alloc, setup, target, answer, 10)?;
@@ -43,8 +45,9 @@ fn take(alloc: Global, book: &mut Book, setup: &Setup, target: &Target) -> Resul
 
 // A ticket for a start.
 fn started(alloc: Global, book: &mut Book, setup: &Setup) -> Result<Ticket, Fail>
-    requires { HasPlaces (scripts_of setup.now) book.old }
-    ensures { IfOk result (λ t. Contains book.new.out.items t.number) }
+    requires { HasItsStates (scripts_of setup.now) book.old }
+    ensures out { IfOk result (λ t. Contains book.new.out.items t.number) }
+    ensures runs { IfOk result (IsForSome (scripts_of setup.now)) }
 {
     if book.drawn() >= 1_000 {
         return Err(Fail::from("too many tickets"));
@@ -57,17 +60,20 @@ fn started(alloc: Global, book: &mut Book, setup: &Setup) -> Result<Ticket, Fail
 }
 
 // What the run of a ticket shows.
-fn shown(alloc: Global, setup: &Setup, ticket: &Ticket) -> Result<String, Fail> {
-    let named = setup.get(ticket.script).ok_or("no script")?;
-    let run = rerun(alloc, &named.script, &ticket.tape(&ticket.cells, 1_000))?;
-    match &run.end {
-        PlainEnd::Shown { page, .. } => Ok(String::from_str(alloc, text_of(page)?)?),
+fn shown(alloc: Global, setup: &Setup, ticket: &Ticket) -> Result<String, Fail>
+    requires { IsForSome (scripts_of setup.now) ticket.now }
+{
+    let run = run_ticket(alloc, setup, ticket, &ticket.cells, 1_000)?;
+    match &run.outcome {
+        Outcome::Shown { page, .. } => Ok(String::from_str(alloc, text_of(page)?)?),
         _ => Err(Fail::from("no page")),
     }
 }
 
 // Whether a ticket is that of a start, and runs as it.
-fn is_start(alloc: Global, setup: &Setup, ticket: &Ticket) -> Result<bool, Fail> {
+fn is_start(alloc: Global, setup: &Setup, ticket: &Ticket) -> Result<bool, Fail>
+    requires { IsForSome (scripts_of setup.now) ticket.now }
+{
     let page = shown(alloc, setup, ticket)?;
     Ok(
         ticket.number == 0
@@ -77,25 +83,40 @@ fn is_start(alloc: Global, setup: &Setup, ticket: &Ticket) -> Result<bool, Fail>
     )
 }
 
+// A copy of a ticket, which is for the same visit.
+fn copy_of(alloc: Global, setup: &Setup, ticket: &Ticket) -> Result<Ticket, Fail>
+    requires { IsForSome (scripts_of setup.now) ticket.now }
+    ensures { IfOk result (IsForSome (scripts_of setup.now)) }
+{
+    let _ = setup;
+    let copy = ticket.try_clone(alloc)?;
+    Ok(copy)
+}
+
 #[test]
 fn a_copy_of_a_ticket_runs_alike(rt: HostRuntime) -> Result<(), Fail> {
     let alloc = rt.alloc();
     let setup = setup(alloc, &[("s", READS)])?;
     let ticket = started(alloc, &mut empty_book(alloc, &setup), &setup)?;
     assert!(rt; is_start(alloc, &setup, &ticket)?);
-    let copy = ticket.try_clone(alloc)?;
+    let copy = copy_of(alloc, &setup, &ticket)?;
     assert!(rt; is_start(alloc, &setup, &copy)?);
     Ok(())
 }
 
 // A segment that showed a page, and did nothing else.
-fn segment(alloc: Global) -> Result<Rerun, Fail>
+fn segment(alloc: Global) -> Result<Segment, Fail>
     ensures { IfOk result (λ r. r.effects.items ≡ []) }
 {
-    Ok(Rerun {
-        end: PlainEnd::Shown {
+    Ok(Segment {
+        outcome: Outcome::Shown {
             page: Bytes::new("a".as_bytes().to_vec(alloc)?),
             kind: SendKind::Suspend,
+            state: Suspended {
+                env: Items::new(alloc),
+                frames: Vec::new(alloc),
+                shades: Shades::root(alloc),
+            },
         },
         effects: Vec::new(alloc),
         entered: Vec::new(alloc),
@@ -119,7 +140,7 @@ fn prepared(alloc: Global, book: &mut Book, ticket: &Ticket) -> Result<Prepared,
 
 // What is prepared, or a copy of it, is installed.
 fn installed(alloc: Global, book: &mut Book, setup: &Setup, is_copy: bool) -> Result<Reply, Fail>
-    requires { HasPlaces (scripts_of setup.now) book.old }
+    requires { HasItsStates (scripts_of setup.now) book.old }
 {
     let ticket = started(alloc, book, setup)?;
     let prepared = prepared(alloc, book, &ticket)?;

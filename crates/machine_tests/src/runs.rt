@@ -1,6 +1,7 @@
 ghost use Rattle.std.specs.Prelude.{◌≡◌, ◌<◌, ◌^◌, IfOk};
 ghost use Rattle.machine_spec.specs.Fits.{Fits};
-ghost use Rattle.send_suspend.specs.Segments.{FitsFrom, Keeps};
+ghost use Rattle.stored_states.specs.Views.{Keeps};
+ghost use Rattle.send_suspend.specs.Segments.{FitsFrom};
 
 use core_syntax::expand;
 use instance_cells::Cells;
