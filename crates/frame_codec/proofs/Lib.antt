@@ -8,3 +8,4 @@ pub mod Shades
 pub mod Lengths
 pub mod Written
 pub mod Turns
+pub mod Kept

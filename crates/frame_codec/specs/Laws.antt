@@ -1,9 +1,11 @@
 -- Writing and reading undo each other, so a state has one spelling.
 use Rattle.std.specs.Prelude.{◌≡◌, ℕ, List, Some}
-use Rattle.script_nodes.specs.Arena.{Arena}
+use Rattle.script_nodes.specs.Arena.{Arena, IsScript}
+use Rattle.replay_spec.specs.Tape.{Tape}
 use Rattle.value_bytes.specs.Laws.{AreBytes, HasNoPrefix}
 use Rattle.machine_spec.specs.Machine.{Suspended}
-use Rattle.frame_codec.specs.Spelling.{state_bytes}
+use Rattle.machine_spec.specs.Laws.{IsStateOf}
+use Rattle.frame_codec.specs.Spelling.{state_bytes, StateHasBytes}
 use Rattle.frame_codec.specs.Stored.{IsStored}
 use Rattle.frame_codec.specs.Reading.{read_state}
 
@@ -21,3 +23,7 @@ pub record AreStatesExact : Type 0 where
   pub back : (a : Arena) (d : Suspended) → IsStored a d → read_state a (state_bytes d) ≡ Some d
   pub exact : (a : Arena) (bytes : List ℕ) (d : Suspended) → AreBytes bytes → read_state a bytes ≡ Some d → SpellsState a bytes d
   pub prefix : (a : Arena) → HasNoPrefix state_bytes (IsStored a)
+
+-- What is kept of a script at a page fits it, with its bindings: where it has a spelling, it is read back.
+abbrev pub EachKeptIsStored : Type 0
+EachKeptIsStored = (a : Arena) → IsScript a → (t : Tape) (d : Suspended) → IsStateOf a t d → StateHasBytes d → IsStored a d
