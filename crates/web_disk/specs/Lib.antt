@@ -3,6 +3,7 @@ pub mod Disks
 pub mod Fates
 pub mod Memory
 pub mod Racks
+pub mod Repeated
 pub mod Since
 pub mod Vectors
 pub mod View

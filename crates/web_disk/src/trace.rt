@@ -39,8 +39,8 @@ pub struct Trace {
     pub pieces: Vec<u8>,
 }
 
-// Writes over what is there, and past the end.
-fn overwrite(bytes: &mut Vec<u8>, place: usize, piece: &[u8])
+/// Writes over what is there, and past the end.
+pub fn overwrite(bytes: &mut Vec<u8>, place: usize, piece: &[u8])
     requires place { place ≤ vec_len bytes.old }
     requires room { place + length piece.now ≤ vec_capacity bytes.old }
     ensures bytes { Holds bytes.old.items place piece.now bytes.new.items }
