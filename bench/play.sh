@@ -6,7 +6,8 @@
 # stays: where time grows with the cost alone, the last column stays. Then the operations over one long operand and over
 # many short ones, at the same cost: where none is slower than its operands' size, the ratio is near 1. Then the reading of
 # scripts: with twice the names and references the ratio is near 2, and with ten times the levels of a template of one size
-# near 1. Last, how many bytes a started instance takes with its page.
+# near 1. Then 9,000 answers to pages with few and with many pages behind them: a visit goes on from what is kept of its page,
+# so they take the same time. Last, how many bytes a started instance takes with its page, and one page more of an instance.
 
 here=$(CDPATH='' cd -- "$(dirname -- "$0")/.." && pwd) || exit 1
 # The program by itself: the launcher looks at the sources first, and is a process with a peak of its own.
@@ -228,6 +229,43 @@ peak() {
     peak=$(($(tail -n 1 "$work/peak") * 1024))
 }
 
+# So many runs of a quiz of 300 questions, in each of them answers up to a page so many pages deep, and then so many answers to
+# that page, each of which shows a page.
+deep() {
+    setup_of quiz
+    awk -v depth="$1" -v answers="$2" -v runs="$3" "$page"'
+        BEGIN {
+            for (number = run = 0; run < runs; run++) {
+                first = last = number++
+                print "get 0 /servlets/quiz"
+                for (j = 0; j < depth; j++) {
+                    print "get 0 " page("quiz", first, last, j == 0 ? "?count=300" : "?word=x")
+                    last = number++
+                }
+                for (j = 0; j < answers; j++) {
+                    print "get 0 " page("quiz", first, last, "?word=y")
+                    number++
+                }
+            }
+        }'
+}
+
+# Plays them, and tests that each step is answered by a page.
+play_deep() {
+    deep "$@" >"$work/in"
+    play --pages 1024
+    pages=$(grep -c '^0 200 ' "$work/out")
+    [ "$pages" -eq $(($3 * (1 + $1 + $2))) ] || { echo "$pages pages $1 deep" >&2; exit 1; }
+}
+
+# The time of 9,000 answers to pages of this depth, without that of the way to them.
+depth() {
+    play_deep "$1" 0 10
+    way=$took
+    play_deep "$1" 900 10
+    echo "9,000 answers to pages $1 deep: $((took - way)) ms"
+}
+
 # What the peak with 4,000 live instances has more than that with 1,000 is what 3,000 of them take. Both runs read and write
 # as many bytes, and 1,000 instances are enough to fill what the reading of the input left free.
 bytes_of_an_instance() {
@@ -235,6 +273,22 @@ bytes_of_an_instance() {
     few=$peak
     peak 4000
     echo "bytes of a started instance with its page: $(((peak - few) / 3000))"
+}
+
+# The peak of the program's memory where so many answers were given to a page of this depth, in bytes.
+peak_deep() {
+    deep "$1" "$2" 1 >"$work/in"
+    /usr/bin/time -f %M -o "$work/peak" "$program" play --pages 1024 <"$work/in" >"$work/out" ||
+        { echo "play ended with status $?" >&2; exit 1; }
+    peak=$(($(tail -n 1 "$work/peak") * 1024))
+}
+
+# What 600 more pages of one instance take, each shown behind a page of this depth.
+bytes_of_a_page() {
+    peak_deep "$1" 300
+    few=$peak
+    peak_deep "$1" 900
+    echo "bytes of a page behind one $1 deep: $(((peak - few) / 600))"
 }
 
 # The program is built, if need be, before anything is timed.
@@ -263,4 +317,7 @@ both_sizes '(string=? t t)'
 reading names 2000 4000
 reading levels 10 100
 
+for pages in 1 10 50; do depth "$pages"; done
+
 bytes_of_an_instance
+for pages in 1 10 50; do bytes_of_a_page "$pages"; done
