@@ -43,7 +43,12 @@ fn target_at(path: &[u8]) -> Option<Target>
 }
 
 // The segment that a ticket is for, over the ticket's own cells; none where its run finds no memory.
-pub(crate) fn segment_of(alloc: Global, setup: &Setup, ticket: &Ticket, fuel: u64) -> Option<Segment>
+pub(crate) fn segment_of(
+    alloc: Global,
+    setup: &Setup,
+    ticket: &Ticket,
+    fuel: u64,
+) -> Option<Segment>
     requires fits { IsForSome (scripts_of setup.now) ticket.now }
     requires fuel { fuel < 2 ^ 63 }
     ensures { IsRunIfAny (scripts_of setup.now) fuel ticket.now result }

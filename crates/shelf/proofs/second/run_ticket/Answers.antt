@@ -27,6 +27,6 @@ returns c =
     let rust = c.in-Some.named.now in
     let x = newest (meaning t.answer) t.number t.url c.args.cells.now c.args.fuel in
     if_ok c.uncounted.result c.uncounted.ensures (λ r is named found.
-        let mine : named_of rust ≡ named = same_Some (named_of rust) named (c.in-Some.ensures ∙ found) in
-        let arena : rust.script ≡ arena_of named.script = arena_is rust.script c.root-root.ensures.script ∙ ap (λ (n : Named). arena_of n.script) mine in
-        subst (λ (a : Arena). Replays t.from a x r) arena (replays_alike c.in_ok-from.from t.from rust.script x r c.in_ok-from.ensures is))
+    let mine : named_of rust ≡ named = same_Some (named_of rust) named (c.in-Some.ensures ∙ found) in
+    let arena : rust.script ≡ arena_of named.script = arena_is rust.script c.root-root.ensures.script ∙ ap (λ (n : Named). arena_of n.script) mine in
+    subst (λ (a : Arena). Replays t.from a x r) arena (replays_alike c.in_ok-from.from t.from rust.script x r c.in_ok-from.ensures is))
