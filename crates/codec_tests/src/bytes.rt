@@ -16,8 +16,7 @@ const FIRST_PAGE: &[u8] = &[
 ];
 
 /// A script whose page has a variable in scope: the list of nothing.
-const ONE_VARIABLE: &str =
-    "(let ((a '())) (list 'p (send/suspend (lambda (u) '(p \"ask\"))) a))";
+const ONE_VARIABLE: &str = "(let ((a '())) (list 'p (send/suspend (lambda (u) '(p \"ask\"))) a))";
 
 #[test]
 fn the_first_page_of_a_sum_takes_49_bytes(rt: HostRuntime) -> Result<(), Fail> {
@@ -46,13 +45,16 @@ fn what_is_cut_short_or_goes_on_is_no_state(rt: HostRuntime) -> Result<(), Fail>
     for behind in 0..=255_u8 {
         let mut longer = FIRST_PAGE.to_vec(alloc)?;
         longer.push(behind)?;
-        assert!(rt; !is_read(alloc, &script, longer.as_slice())?, "before {behind}");
+        assert!(rt;
+            !is_read(alloc, &script, longer.as_slice())?,
+            "before {behind}"
+        );
     }
     Ok(())
 }
 
-// The spelling of the state that is read of these bytes, if one is.
-fn again(alloc: Global, script: &Script, bytes: &[u8]) -> Result<Option<Bytes>, Fail> {
+/// The spelling of the state that is read of these bytes, if one is.
+pub fn again(alloc: Global, script: &Script, bytes: &[u8]) -> Result<Option<Bytes>, Fail> {
     match decode(alloc, script, bytes)? {
         Some(state) => Ok(Some(spelling(alloc, &state)?)),
         None => Ok(None),
@@ -60,12 +62,7 @@ fn again(alloc: Global, script: &Script, bytes: &[u8]) -> Result<Option<Bytes>, 
 }
 
 // How many of the changes of this byte are read as a state that is spelled otherwise.
-fn misread(
-    alloc: Global,
-    script: &Script,
-    bytes: &[u8],
-    place: usize,
-) -> Result<u64, Fail> {
+fn misread(alloc: Global, script: &Script, bytes: &[u8], place: usize) -> Result<u64, Fail> {
     let mut wrong: u64 = 0;
     for value in 0..=255_u8 {
         let mut changed = bytes.to_vec(alloc)?;
@@ -86,7 +83,11 @@ fn a_changed_byte_is_no_state_or_another_one(rt: HostRuntime) -> Result<(), Fail
     let alloc = rt.alloc();
     let script = script(alloc, SUM)?;
     for place in 0..FIRST_PAGE.len() {
-        assert_eq!(rt; misread(alloc, &script, FIRST_PAGE, place)?, 0, "at {place}");
+        assert_eq!(rt;
+            misread(alloc, &script, FIRST_PAGE, place)?,
+            0,
+            "at {place}"
+        );
     }
     Ok(())
 }
