@@ -53,8 +53,8 @@ fn what_is_cut_short_or_goes_on_is_no_state(rt: HostRuntime) -> Result<(), Fail>
     Ok(())
 }
 
-// The spelling of the state that is read of these bytes, if one is.
-fn again(alloc: Global, script: &Script, bytes: &[u8]) -> Result<Option<Bytes>, Fail> {
+/// The spelling of the state that is read of these bytes, if one is.
+pub fn again(alloc: Global, script: &Script, bytes: &[u8]) -> Result<Option<Bytes>, Fail> {
     match decode(alloc, script, bytes)? {
         Some(state) => Ok(Some(spelling(alloc, &state)?)),
         None => Ok(None),

@@ -23,11 +23,6 @@ pub fn script(alloc: Global, text: &str) -> Result<Script, Fail> {
     Ok(expand(alloc, read_all(alloc, text.as_bytes())?.as_slice())?)
 }
 
-/// The last datum of a text.
-pub fn datum(alloc: Global, text: &str) -> Result<Value, Fail> {
-    Ok(read_all(alloc, text.as_bytes())?.pop().ok_or("no datum")?)
-}
-
 fn counted<L: Ledger>(
     alloc: Global,
     blank: Blank,
@@ -50,8 +45,8 @@ fn counted<L: Ledger>(
     )
 }
 
-/// A segment, over what the instance cells begin with.
-pub fn segment(
+// A segment, over what the instance cells begin with.
+fn segment(
     alloc: Global,
     script: &Script,
     from: Origin,
@@ -67,8 +62,9 @@ pub fn segment(
 pub fn first_page(alloc: Global, script: &Script) -> Result<Suspended, Fail>
     ensures { IfOk result (λ d. Fits script.now (suspended_of d)) }
 {
-    match segment(alloc, script, Origin::Start, &Value::Truth(false))?.outcome {
-        Outcome::Shown { state, .. } => Ok(state),
+    let shown = segment(alloc, script, Origin::Start, &Value::Truth(false))?;
+    match &shown.outcome {
+        Outcome::Shown { state, .. } => Ok(state.try_clone(alloc)?),
         _ => Err(Fail::from("no page")),
     }
 }

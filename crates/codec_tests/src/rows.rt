@@ -1,8 +1,8 @@
-use crate::pages::{datum, first_page, script, segment, spelling};
+use crate::bytes::again;
+use crate::pages::{first_page, script, spelling};
 use frame_codec::{decode, length};
 use script_nodes::Script;
 use script_value::Bytes;
-use send_suspend::{Origin, Outcome, Segment};
 use std::alloc::{AllocError, Global};
 use std::test::Fail;
 
@@ -43,42 +43,6 @@ fn asking(alloc: Global, row: &str) -> Result<String, AllocError> {
     Ok(text)
 }
 
-// Whether two segments show the same page at the same cost.
-fn are_alike(one: &Segment, other: &Segment) -> bool {
-    let pages = match (&one.outcome, &other.outcome) {
-        (Outcome::Shown { page, .. }, Outcome::Shown { page: second, .. }) => {
-            page.as_slice() == second.as_slice()
-        }
-        (Outcome::Ended(page), Outcome::Ended(second)) => page.as_slice() == second.as_slice(),
-        _ => false,
-    };
-    pages && one.cost == other.cost
-}
-
-// Whether a state is read back from its bytes, is as long as they are, and goes on alike.
-fn is_kept(alloc: Global, row: &str) -> Result<bool, Fail> {
-    let text = asking(alloc, row)?;
-    let script = script(alloc, text.as_str())?;
-    let state = first_page(alloc, &script)?;
-    let bytes = spelling(alloc, &state)?;
-    let Some(read) = decode(alloc, &script, bytes.as_slice())? else {
-        return Ok(false);
-    };
-    let second = spelling(alloc, &read)?;
-    let answer = datum(alloc, "((n \"3\"))")?;
-    let one = segment(alloc, &script, Origin::Page(state), &answer)?;
-    let other = segment(alloc, &script, Origin::Page(read), &answer)?;
-    Ok(second.as_slice() == bytes.as_slice() && are_alike(&one, &other))
-}
-
-#[test]
-fn a_state_is_read_back_and_goes_on_alike(rt: HostRuntime) -> Result<(), Fail> {
-    for row in ROWS {
-        assert!(rt; is_kept(rt.alloc(), row)?, "{row}");
-    }
-    Ok(())
-}
-
 // The bytes of the first page of a row.
 fn bytes_of(alloc: Global, script: &Script) -> Result<Bytes, Fail> {
     let state = first_page(alloc, script)?;
@@ -90,14 +54,26 @@ fn bytes_of(alloc: Global, script: &Script) -> Result<Bytes, Fail> {
     }
 }
 
+// Whether the first page of a script is read back from its bytes.
+fn is_read_back(alloc: Global, script: &Script) -> Result<bool, Fail> {
+    let bytes = bytes_of(alloc, script)?;
+    match again(alloc, script, bytes.as_slice())? {
+        Some(spelled) => Ok(spelled.as_slice() == bytes.as_slice()),
+        None => Ok(false),
+    }
+}
+
+// Whether the first page of a row is read back from its bytes.
+fn is_row_kept(alloc: Global, row: &str) -> Result<bool, Fail> {
+    let text = asking(alloc, row)?;
+    let script = script(alloc, text.as_str())?;
+    is_read_back(alloc, &script)
+}
+
 #[test]
-fn each_length_is_that_of_the_bytes(rt: HostRuntime) -> Result<(), Fail> {
-    let alloc = rt.alloc();
+fn a_state_in_each_kind_of_frame_is_read_back(rt: HostRuntime) -> Result<(), Fail> {
     for row in ROWS {
-        let text = asking(alloc, row)?;
-        let script = script(alloc, text.as_str())?;
-        let bytes = bytes_of(alloc, &script)?;
-        assert!(rt; bytes.len() > 12, "{row}");
+        assert!(rt; is_row_kept(rt.alloc(), row)?, "{row}");
     }
     Ok(())
 }
