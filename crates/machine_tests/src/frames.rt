@@ -53,10 +53,6 @@ fn the_first_page_of_a_sum_is_kept_as_three_frames(rt: HostRuntime) -> Result<()
             if !is_first_page(alloc, state)? {
                 return Err(Fail::from("the frames are others"));
             }
-            // A run from the start takes no more steps than twice its cost and 2.
-            if SUM.len() != 268 || 2 * first.cost + 2 > 183 {
-                return Err(Fail::from("more than 183 steps"));
-            }
             Ok(())
         }
         _ => Err(Fail::from("no page")),
