@@ -1,4 +1,5 @@
 pub mod Codec
 pub mod Chains
 pub mod Exact
+pub mod Nesting
 pub mod Sizes
