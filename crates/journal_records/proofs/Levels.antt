@@ -1,11 +1,10 @@
 -- Of values that nest no deeper than so many levels.
-use Rattle.std.proofs.Common.{◌≡◌, ℕ, ◌≤◌, List, [], ◌∷◌, map, true, false, Bool, refl}
+use Rattle.std.proofs.Common.{◌≡◌, ℕ, ◌≤◌, List}
 use Rattle.std.specs.Prelude.{◌↔◌}
 use Rattle.std.specs.List.{list_all, AllByRecursion}
 use Rattle.script_value.specs.Val.{Vals, depth_all}
 use Rattle.instance_cells.specs.Cells.{Effect}
-use Rattle.script_value.specs.declared.outcome.TxName.{TxName}
-use Rattle.journal_records.specs.Fields.{AreTyped, is_shallow_effect, IsTypedEffect, NameFits}
+use Rattle.journal_records.specs.Fields.{AreTyped, is_shallow_effect, IsTypedEffect}
 
 -- where what is left of values is within the levels, and typed, so are all
 pub record NestsAs (levels : ℕ) (left all : Vals) : Type 0 where
