@@ -1,5 +1,5 @@
 -- What opening a shelf finds.
-use Rattle.std.specs.Prelude.{◌≡◌, ◌⊎◌, List, length, Result, Ok, Err, ⊤}
+use Rattle.std.specs.Prelude.{◌≡◌, ◌⊎◌, ℕ, List, length, Result, Ok, Err, ⊤}
 use Rattle.script_nodes.specs.Setup.{Named}
 use Rattle.web_disk.specs.View.{View, AreAmong}
 use Rattle.replay_spec.specs.Book.{Book}

@@ -1,3 +1,5 @@
+ghost use Rattle.std.specs.Prelude.{◌≡◌, option_map};
+
 use instance_book::Change;
 
 /// A change whose record was being added when the disk failed.
@@ -15,4 +17,19 @@ pub struct Doubt {
     /// How often a call of the disk had failed then.
     pub(crate) count: u64,
     pub(crate) change: Doubted,
+}
+
+impl Doubt {
+    ghost use Rattle.shelf.specs.Views.{doubt_of, doubt_by};
+
+    // A visit's change may have happened, if it has one.
+    pub(crate) fn of_visit(count: u64, change: Option<Change>) -> Option<Doubt>
+        ensures { option_map doubt_of result ≡ doubt_by count change }
+    {
+        let change = change?;
+        Some(Doubt {
+            count,
+            change: Doubted::Visits(change),
+        })
+    }
 }

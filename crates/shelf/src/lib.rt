@@ -6,7 +6,9 @@ ghost use Rattle.shelf.specs.Opening.{AReopenedShelfHasCrashed};
 
 mod begin;
 mod doubt;
+mod prepare;
 mod publish;
+mod recording;
 mod rules;
 mod second;
 mod shelf;

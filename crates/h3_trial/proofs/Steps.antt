@@ -1,0 +1,234 @@
+-- What the events of a shelf come to.
+use Rattle.std.proofs.Common.{◌≡◌, ◌≢◌, ◌∙◌, ap, sym, subst, refl, ℕ, ◌+◌, ◌-◌, ◌^◌, ◌==◌, max, nat_le, Bool, true, false, List, [], ◌∷◌, length, Option, Some, None, Result, Ok, Err, IfSome, arith}
+use Rattle.std.specs.Prelude.{nat_lt}
+use Rattle.script_value.specs.Val.{Val}
+use Rattle.script_value.specs.declared.outcome.Refusal.{Refusal}
+use Rattle.script_value.specs.declared.outcome.TxName.{TxName}
+use Rattle.script_nodes.specs.Setup.{Named}
+use Rattle.page_names.specs.Names.{Destination}
+use Rattle.replay_spec.specs.Tape as tape
+use Rattle.replay_spec.specs.Tape.{How, shows, finishes, ends, Outcome, paged, faulted, out_of_fuel}
+use Rattle.replay_spec.specs.Eval.{Segment}
+use Rattle.replay_spec.specs.Book.{Change, sweeps, Doubt, Book, draw, spend}
+use Rattle.replay_spec.specs.Change.{land}
+use Rattle.replay_spec.specs.Rules.{Journal, Rules}
+use Rattle.replay_spec.specs.Admission.{when, or_else, Admission, begins, resumes, refused, refusal_of, admit}
+use Rattle.replay_spec.specs.Next as next
+use Rattle.replay_spec.specs.Next.{Origin, starts, answers, Visit}
+use Rattle.replay_spec.specs.Step as step
+use Rattle.replay_spec.specs.Step.{Decision, replies, records, unless, full, full_journal, reply_by, with_room, stopped, decide, settle, publish_comes, sweep_comes, freed, plain, no_memory, disk_fault}
+use Rattle.replay_spec.specs.Runs.{lands, recorded_under}
+use Rattle.replay_spec.specs.Remade.{through}
+use Rattle.replay_spec.proofs.Last.{last}
+use Rattle.journal_records.specs.Records.{record_length}
+use Rattle.h3_trial.specs.Stub.{rules_with}
+use Rattle.h3_trial.specs.Stub as limits_of
+use Rattle.h3_trial.specs.Stub.{unmeasured, rules_of, fate_by}
+use Rattle.h3_trial.specs.Stub.{refusal_of_size}
+
+-- a decision's reply is neither want of memory nor a fault of the disk
+abbrev pub IsPlain : Decision → Type 0
+IsPlain (replies r) = fate_by r ≡ plain
+IsPlain (records r c inside) = fate_by r ≡ plain
+
+abbrev IsPlainIf : Option step.Reply → Type 0
+IsPlainIf None = Unit {0}
+IsPlainIf (Some r) = fate_by r ≡ plain
+
+plain_unless : (o : Option step.Reply) (d : Decision) → IsPlainIf o → IsPlain d → IsPlain (unless o d)
+plain_unless None d h k = k
+plain_unless (Some r) d h k = h
+
+plain_when : (b : Bool) (r : step.Reply) → fate_by r ≡ plain → IsPlainIf (when b r)
+plain_when false r h = tt
+plain_when true r h = h
+
+module _ (fuel life instances pages : ℕ) where
+  abbrev rules : Rules
+  rules = rules_with fuel life instances pages
+
+  plain_full : (how : How) (origin : Origin) (count : ℕ) → IsPlainIf (full rules how origin count)
+  plain_full (shows kind) (starts k) count = plain_when (nat_le instances count) (step.shelf_full count) refl
+  plain_full (shows kind) (answers i p) count = plain_when (nat_le pages count) (step.instance_full count) refl
+  plain_full finishes origin count = tt
+  plain_full ends origin count = tt
+
+  plain_room : (b : Book) (how : How) (bytes url : List ℕ) (inside : List TxName) (c : Option Change) → IsPlain (with_room rules b (reply_by how bytes url) inside c)
+  plain_room b (shows kind) bytes url inside None = refl
+  plain_room b (shows kind) bytes url inside (Some c) = refl
+  plain_room b finishes bytes url inside None = refl
+  plain_room b finishes bytes url inside (Some c) = refl
+  plain_room b ends bytes url inside None = refl
+  plain_room b ends bytes url inside (Some c) = refl
+
+  plain_stopped : (b : Book) (count : ℕ) (v : Visit) (s : Segment) (o : Outcome) → IsPlain (stopped rules b count v s o)
+  plain_stopped b count v s (paged how bytes) = plain_unless (full rules how v.origin count) _ (plain_full how v.origin count) (plain_room b how bytes _ s.entered _)
+  plain_stopped b count v s (faulted f) = refl
+  plain_stopped b count v s (out_of_fuel cost) = refl
+
+  plain_decision : (b : Book) (t : next.Ticket) (a : Admission) → IsPlain (decide rules b t a)
+  plain_decision b t (begins k s) =
+      let v = next.start_visit b t k s in
+      let o = next.comes_to v (tape.present s.script.cells fuel) in
+      plain_stopped b (length b.instances) v o o.outcome
+  plain_decision b t (resumes at) =
+      let v = next.page_visit b t at in
+      let o = next.comes_to v (tape.present at.instance.cells fuel) in
+      plain_stopped b (length at.instance.pages) v o o.outcome
+  plain_decision b t (refused r) = refl
+
+  plain_publish : (b : Book) (t : next.Ticket) → b.down ≡ None → IsPlain (publish_comes rules b t)
+  plain_publish b t up =
+      let decided : publish_comes rules b t ≡ decide rules b t (admit b t.target) = ap (λ (o : Option Doubt). unless (step.down_by o) (decide rules b t (admit b t.target))) up in
+      subst IsPlain (sym decided) (plain_decision b t (admit b t.target))
+
+pub records_plain : (r : limits_of.Rules) (b : Book) (t : next.Ticket) (x : step.Reply) (c : Change) (inside : List TxName) → b.down ≡ None → publish_comes (unmeasured r) b t ≡ records x c inside
+    → fate_by x ≡ plain
+records_plain r b t x c inside up is = subst IsPlain is (plain_publish r.fuel r.life r.instances r.pages b t up)
+
+-- what is told is the reply, whatever fate is read off it, and nothing is recorded
+pub record IsTold (rules : Rules) (b : Book) (x : step.Reply) : Type 0 where
+  pub settled : settle rules b (fate_by x) (replies x) ≡ (x, b)
+  pub unrecorded : recorded_under (fate_by x) (replies x) ≡ None
+
+told : (rules : Rules) (b : Book) (x : step.Reply) → IsTold rules b x
+told rules b (step.taken number nonce) = record { settled = refl; unrecorded = refl }
+told rules b (step.shown page url) = record { settled = refl; unrecorded = refl }
+told rules b (step.finished page) = record { settled = refl; unrecorded = refl }
+told rules b (step.ended page) = record { settled = refl; unrecorded = refl }
+told rules b (step.refusal r) = record { settled = refl; unrecorded = refl }
+told rules b (step.fault f) = record { settled = refl; unrecorded = refl }
+told rules b (step.out_of_fuel cost) = record { settled = refl; unrecorded = refl }
+told rules b (step.shelf_full count) = record { settled = refl; unrecorded = refl }
+told rules b (step.instance_full count) = record { settled = refl; unrecorded = refl }
+told rules b (step.disk_failed count) = record { settled = refl; unrecorded = refl }
+told rules b (step.down count) = record { settled = refl; unrecorded = refl }
+told rules b (step.oversize n) = record { settled = refl; unrecorded = refl }
+told rules b (step.journal_full n) = record { settled = refl; unrecorded = refl }
+told rules b step.worn = record { settled = refl; unrecorded = refl }
+told rules b step.memory = record { settled = refl; unrecorded = refl }
+told rules b (step.swept n) = record { settled = refl; unrecorded = refl }
+told rules b (step.live n) = record { settled = refl; unrecorded = refl }
+
+-- an event makes this of the book, with this reply, whatever nonce comes next, and this is recorded of it
+pub record Comes (rules : Rules) (b : Book) (event : step.Event) (fate : step.Fate) (x : step.Reply) (after : Book) (c : Option Change) : Type 0 where
+  pub step : (nonce : ℕ) → step.step rules b nonce event fate ≡ (x, after)
+  pub landed : lands rules b event fate ≡ c
+
+module _ (ss : List Named) (r : limits_of.Rules) (b : Book) where
+  abbrev pub over : Rules
+  over = rules_of ss r
+
+  -- a publish is decided as beside no journal, and then measured
+  measured : (t : next.Ticket) → publish_comes over b t ≡ through over.journal b (publish_comes (unmeasured r) b t)
+  measured t = last over b t
+
+  pub told_same : (t : next.Ticket) (x : step.Reply) → publish_comes (unmeasured r) b t ≡ replies x → publish_comes over b t ≡ replies x
+  told_same t x is = measured t ∙ ap (through over.journal b) is
+
+  pub too_long : (t : next.Ticket) (x y : step.Reply) (c : Change) (inside : List TxName) → publish_comes (unmeasured r) b t ≡ records x c inside
+      → refusal_of_size b.length (record_length c) ≡ Some y → publish_comes over b t ≡ replies y
+  too_long t x y c inside is long =
+      measured t ∙ (ap (through over.journal b) is ∙ ap (λ (o : Option step.Reply). unless o (records x c inside)) long)
+
+  pub short_enough : (t : next.Ticket) (x : step.Reply) (c : Change) (inside : List TxName) → publish_comes (unmeasured r) b t ≡ records x c inside
+      → refusal_of_size b.length (record_length c) ≡ None → publish_comes over b t ≡ records x c inside
+  short_enough t x c inside is short =
+      measured t ∙ (ap (through over.journal b) is ∙ ap (λ (o : Option step.Reply). unless o (records x c inside)) short)
+
+  -- a publish that only tells something; one that finds no memory
+  pub replied : (t : next.Ticket) (x : step.Reply) → publish_comes over b t ≡ replies x → Comes over b (step.publish t) (fate_by x) x (spend t.number b) None
+  unfolding step.step
+  replied t x is = record {
+    step = λ nonce. ap (settle over (spend t.number b) (fate_by x)) is ∙ (told over (spend t.number b) x).settled;
+    landed = ap (recorded_under (fate_by x)) is ∙ (told over b x).unrecorded;
+  }
+
+  pub wanting : (t : next.Ticket) → Comes over b (step.publish t) no_memory step.memory (spend t.number b) None
+  unfolding step.step
+  wanting t = record { step = λ nonce. refl; landed = refl }
+
+  -- one that lands, or leaves in doubt what it would have landed
+  pub landed : (t : next.Ticket) (x : step.Reply) (c : Change) (inside : List TxName) → publish_comes over b t ≡ records x c inside → fate_by x ≡ plain
+      → Comes over b (step.publish t) (fate_by x) x (land over c inside (spend t.number b)) (Some c)
+  unfolding step.step
+  landed t x c inside is fate = record {
+    step = λ nonce. ap (λ (f : step.Fate). settle over (spend t.number b) (step.fate_of over.journal f) (publish_comes over b t)) fate ∙ ap (settle over (spend t.number b) plain) is;
+    landed = ap (λ (f : step.Fate). recorded_under (step.fate_of over.journal f) (publish_comes over b t)) fate ∙ ap (recorded_under plain) is;
+  }
+
+  abbrev pub doubting : (count : ℕ) → Change → List TxName → Book → Book
+  doubting count c inside d = record d { down = Some (record { count = count; change = c; inside = inside }) }
+
+  pub doubted : (t : next.Ticket) (x : step.Reply) (c : Change) (inside : List TxName) (count : ℕ) → publish_comes over b t ≡ records x c inside
+      → Comes over b (step.publish t) (disk_fault count) (step.disk_failed count) (doubting count c inside (spend t.number b)) None
+  unfolding step.step
+  doubted t x c inside count is = record { step = λ nonce. ap (settle over (spend t.number b) (disk_fault count)) is; landed = refl }
+
+  -- a publish on a shelf that is down
+  pub down_publish : (t : next.Ticket) (d : Doubt) → b.down ≡ Some d → publish_comes over b t ≡ replies (step.down d.count)
+  down_publish t d is = ap (λ (o : Option Doubt). unless (step.down_by o) (decide over b t (admit b t.target))) is
+
+  -- a tick at or below the clock, and later ones
+  pub early : (tick : ℕ) → nat_le tick b.clock ≡ true → Comes over b (step.sweep tick) plain (step.swept 0) b None
+  unfolding step.step
+  early tick h = record { step = λ nonce. rw h refl; landed = rw h refl }
+
+  module _ (tick : ℕ) (late : nat_le tick b.clock ≡ false) where
+    told_late : (x : step.Reply) → sweep_comes over b tick ≡ replies x → Comes over b (step.sweep tick) (fate_by x) x b None
+    unfolding step.step
+    told_late x is = record {
+      step = λ nonce. rw late (ap (settle over b (fate_by x)) is ∙ (told over b x).settled);
+      landed = rw late (ap (recorded_under (fate_by x)) is ∙ (told over b x).unrecorded);
+    }
+
+    pub down_sweep : (d : Doubt) → b.down ≡ Some d → Comes over b (step.sweep tick) plain (step.down d.count) b None
+    down_sweep d is =
+        told_late (step.down d.count) (ap (λ (o : Option Doubt). unless (step.down_by o) (step.decide_sweep over tick b)) is)
+
+    pub wanting_sweep : Comes over b (step.sweep tick) no_memory step.memory b None
+    unfolding step.step
+    wanting_sweep = record { step = λ nonce. rw late refl; landed = rw late refl }
+
+    module _ (up : b.down ≡ None) where
+      -- the body of a tick's record has nine bytes
+      sweep_decided : sweep_comes over b tick ≡ unless (refusal_of_size b.length (record_length (sweeps tick))) (records (step.swept (freed tick b)) (sweeps tick) [])
+      sweep_decided = ap (λ (o : Option Doubt). unless (step.down_by o) (step.decide_sweep over tick b)) up
+
+      pub full_sweep : (x : step.Reply) → refusal_of_size b.length (record_length (sweeps tick)) ≡ Some x → Comes over b (step.sweep tick) (fate_by x) x b None
+      full_sweep x long =
+          told_late x (sweep_decided ∙ ap (λ (o : Option step.Reply). unless o (records (step.swept (freed tick b)) (sweeps tick) [])) long)
+
+      module _ (short : refusal_of_size b.length (record_length (sweeps tick)) ≡ None) where
+        recorded : sweep_comes over b tick ≡ records (step.swept (freed tick b)) (sweeps tick) []
+        recorded = sweep_decided ∙ ap (λ (o : Option step.Reply). unless o (records (step.swept (freed tick b)) (sweeps tick) [])) short
+
+        pub landed_sweep : Comes over b (step.sweep tick) plain (step.swept (freed tick b)) (land over (sweeps tick) [] b) (Some (sweeps tick))
+        unfolding step.step
+        landed_sweep = record {
+          step = λ nonce. rw late (ap (settle over b plain) recorded);
+          landed = rw late (ap (recorded_under plain) recorded);
+        }
+
+        pub doubted_sweep : (count : ℕ) → Comes over b (step.sweep tick) (disk_fault count) (step.disk_failed count) (doubting count (sweeps tick) [] b) None
+        unfolding step.step
+        doubted_sweep count = record {
+          step = λ nonce. rw late (ap (settle over b (disk_fault count)) recorded);
+          landed = rw late refl;
+        }
+
+  -- the takes
+  pub no_take : (target : Destination) (answer : Val) (x : step.Reply) → step.no_take b target ≡ Some x → fate_by x ≡ plain → Comes over b (step.take target answer) (fate_by x) x b None
+  unfolding step.step
+  no_take target answer x is fate = record {
+    step = λ nonce. ap (step.take_by b target nonce) fate ∙ ap (λ (o : Option step.Reply). step.take_unless o b nonce) is;
+    landed = refl;
+  }
+
+  pub wanting_take : (target : Destination) (answer : Val) → Comes over b (step.take target answer) no_memory step.memory b None
+  unfolding step.step
+  wanting_take target answer = record { step = λ nonce. refl; landed = refl }
+
+  pub taken : (target : Destination) (answer : Val) (nonce : ℕ) → step.no_take b target ≡ None → step.step over b nonce (step.take target answer) plain ≡ (step.taken b.drawn nonce, draw b)
+  unfolding step.step
+  taken target answer nonce is = ap (λ (o : Option step.Reply). step.take_unless o b nonce) is
