@@ -6,6 +6,7 @@ pub mod Order
 pub mod Shelves
 pub mod Publishing
 pub mod Sweeping
+pub mod Landing
 pub mod Openings
 pub mod Fitting
 pub mod Going

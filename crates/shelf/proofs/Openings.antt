@@ -193,3 +193,14 @@ reopened_has_crashed view scripts shelf rules b c nonce old new over setup stand
     (λ h. inl (crashed_as rules b c b nonce scripts lost (lost_is rules b.down b) setup h))
     (λ h. inr (crashed_as rules b c (if_kept scripts shelf b) nonce scripts kept (land_alike rules (rules_over scripts shelf) b.down b over) (setup_kept (rules_over scripts shelf) b.down b ∙ setup) h))
     (one b (if_kept scripts shelf b) stands.0 (λ image left. stands.1 image (among image left)))
+
+-- what was found makes a book, and so does what is begun
+pub found_begun : (scripts : List Named) (shelf : ℕ) (m : Making) (b : Book) → IsBook m b → IsBook (begun scripts shelf m) b
+found_begun scripts shelf m b (seen, is) = (seen, ap (begun scripts shelf) is)
+
+pub not_nothing : (m : Making) (b : Book) → IsBook m b → m ≢ nothing
+not_nothing m b (seen, is) none = let no : ⊥ = cc (none, is) in no
+
+-- the bytes and the bodies of an opened journal make the same
+pub same_books : (scripts : List Named) (shelf : ℕ) (bytes : List ℕ) (bodies : List (List ℕ)) → (records bytes ≡ Intact (stored bytes)) ⊎ (bytes ≡ []) → bodies ≡ stored bytes → book_in_bytes scripts shelf bytes ≡ book_of scripts shelf bodies
+same_books scripts shelf bytes bodies intact is = read_in_bytes scripts shelf bytes intact ∙ ap (book_of scripts shelf) (sym is)

@@ -41,7 +41,7 @@ module _ (ss : List Named) (r : limits_of.Rules) (b : Book) (t : Ticket) where
   abbrev Answers : Reply → Type 0
   Answers x = Comes (rules_of ss r) b (step.publish (ticket_of t)) (fate_by (reply_of x)) (reply_of x) (spend t.number b) None
 
-  told : (x : Reply) → before ≡ replies (reply_of x) → Answers x
+  pub told : (x : Reply) → before ≡ replies (reply_of x) → Answers x
   told x is = replied ss r b (ticket_of t) (reply_of x) (told_same ss r b (ticket_of t) (reply_of x) is)
 
   -- a refusal, or want of memory
@@ -257,3 +257,22 @@ unwritten_count journal c (reply.DiskFault count) old now h = size_count journal
 unwritten_count journal c (reply.Down count) old now h = tt
 unwritten_count journal c reply.Worn old now h = tt
 unwritten_count journal c reply.Memory old now h = tt
+
+pub plain_count : (x : Reply) (old now : ℕ) → fate_by (reply_of x) ≡ step.plain → TellsCount old now (reply_of x)
+plain_count (reply.Page bytes url) old now h = tt
+plain_count (reply.Finished bytes) old now h = tt
+plain_count (reply.Ended bytes) old now h = tt
+plain_count (reply.Refused why) old now h = tt
+plain_count (reply.Fault f) old now h = tt
+plain_count (reply.Fuel cost) old now h = tt
+plain_count (reply.ShelfFull count) old now h = tt
+plain_count (reply.InstanceFull count) old now h = tt
+plain_count (reply.Oversize n) old now h = tt
+plain_count (reply.JournalFull n) old now h = tt
+plain_count (reply.DiskFault count) old now h = absurd (let no : ⊥ = cc h in no)
+plain_count (reply.Down count) old now h = tt
+plain_count reply.Worn old now h = tt
+plain_count reply.Memory old now h = tt
+
+pub not_wanting : (x : Reply) → fate_by (reply_of x) ≡ step.plain → x ≡ reply.Memory → ⊥
+not_wanting x plain e = let fate : step.no_memory ≡ step.plain = ap (λ (y : Reply). fate_by (reply_of y)) (sym e) ∙ plain in cc fate

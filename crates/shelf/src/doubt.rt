@@ -1,6 +1,6 @@
 ghost use Rattle.std.specs.Prelude.{◌≡◌, option_map};
 
-use instance_book::Change;
+use instance_book::{Change, Prepared};
 
 /// A change whose record was being added when the disk failed.
 #[derive(Drop)]
@@ -22,10 +22,11 @@ pub struct Doubt {
 impl Doubt {
     ghost use Rattle.shelf.specs.Views.{doubt_of, doubt_by};
 
-    // A visit's change may have happened, if it has one.
-    pub(crate) fn of_visit(count: u64, change: Option<Change>) -> Option<Doubt>
-        ensures { option_map doubt_of result ≡ doubt_by count change }
+    // What was prepared for a visit may have happened, if it changes the book.
+    pub(crate) fn of_visit(count: u64, prepared: Prepared) -> Option<Doubt>
+        ensures { option_map doubt_of result ≡ doubt_by count prepared.change }
     {
+        let change = prepared.change;
         let change = change?;
         Some(Doubt {
             count,

@@ -72,7 +72,7 @@ impl<D: Disk, N: Nonces + Drop> Shelf<D, N> {
             &ticket,
             segment,
         ) {
-            Ok(prepared) => self.land(alloc, setup, ticket, prepared),
+            Ok(prepared) => self.land(alloc, setup, &ticket, prepared),
             Err(reply) => {
                 self.book.spend(ticket.number);
                 reply
@@ -81,24 +81,26 @@ impl<D: Disk, N: Nonces + Drop> Shelf<D, N> {
     }
 
     // Makes a prepared change, once its record is on the disk, and gives its reply.
-    fn land(&mut self, alloc: Global, setup: &Setup, ticket: Ticket, prepared: Prepared) -> Reply
+    fn land(&mut self, alloc: Global, setup: &Setup, ticket: &Ticket, prepared: Prepared) -> Reply
         requires in_order { IsInOrder D.view D.tells (scripts_of setup.now) self.old }
         requires up { self.old.down ≡ None }
-        requires out { IsOut setup.now self.old ticket }
+        requires out { IsOut setup.now self.old ticket.now }
         requires room { HasRoomFor prepared.change self.old.book }
         requires shown { HasStateBy (scripts_of setup.now) self.old.book.shelf (instances_of (scripts_of setup.now) self.old.book.instances) prepared.change }
-        requires decided { CarriesOut setup.now self.old ticket prepared }
-        ensures event { IsPublish N.nonce setup.now self.old self.new ticket result }
+        requires decided { CarriesOut setup.now self.old ticket.now prepared }
+        ensures event { IsPublish N.nonce setup.now self.old self.new ticket.now result }
         ensures in_order { IsInOrder D.view D.tells (scripts_of setup.now) self.new }
         ensures any_moment { IsTrue D.tells → HasMoments D.view (scripts_of setup.now) self.old self.new }
-        ensures told { TellsReply (decision_of setup.now self.old ticket) (reply_of result) }
-        ensures memory { SpendsOnly setup.now self.old self.new ticket result }
+        ensures told { TellsReply (decision_of setup.now self.old ticket.now) (reply_of result) }
+        ensures memory { SpendsOnly setup.now self.old self.new ticket.now result }
         ensures cause { TellsCount (view_of D.view self.old.journal).faults (view_of D.view self.new.journal).faults (reply_of result) }
         ensures later { (view_of D.view self.old.journal).faults ≤ (view_of D.view self.new.journal).faults }
         ensures nonces { self.new.nonces ≡ self.old.nonces }
         ensures rules { self.new.rules ≡ self.old.rules }
     {
         let _setup = setup;
+        // A nonce has 64 bits.
+        let _nonce = ticket.nonce;
         events_are_kept();
         events_stand_between();
         self.book.spend(ticket.number);
@@ -107,12 +109,15 @@ impl<D: Disk, N: Nonces + Drop> Shelf<D, N> {
         };
         let body = match written(alloc, &mut self.journal, &recorded(change)) {
             Ok(body) => body,
-            Err(reply) => return reply,
+            Err(reply) => {
+                drop(prepared);
+                return reply;
+            }
         };
         match added(&mut self.journal, body.as_slice()) {
             Ok(()) => self.book.install(prepared),
             Err(count) => {
-                self.down = Doubt::of_visit(count, prepared.change);
+                self.down = Doubt::of_visit(count, prepared);
                 Reply::DiskFault(count)
             }
         }

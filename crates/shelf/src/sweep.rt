@@ -39,7 +39,10 @@ impl<D: Disk, N: Nonces + Drop> Shelf<D, N> {
             return Err(Reply::Down(doubt.count));
         }
         let record = Recorded::Sweep { clock: tick };
-        let body = written(alloc, &mut self.journal, &record)?;
+        let body = match written(alloc, &mut self.journal, &record) {
+            Ok(body) => body,
+            Err(reply) => return Err(reply),
+        };
         match added(&mut self.journal, body.as_slice()) {
             Ok(()) => Ok(self.book.free_expired(tick)),
             Err(count) => {

@@ -55,7 +55,7 @@ returns-in-Some-clause-any_moment g c told =
     let t = c.args.ticket in
     let down = ap (λ (o : Option doubt_type.Doubt). option_map doubt_of o) c.in-Some.is in
     let comes = replied ss s.rules b (ticket_of t) (step.down c.in-Some.doubt.count) (down_publish ss s.rules b (ticket_of t) (doubt_of c.in-Some.doubt) down) in
-    quiet_run g.D.Disk.view g.D.Disk.tells ss s _ c.requires.in_order refl (c.spend.ensures.states ss) c.requires.in_order.sound (step.publish (ticket_of t)) step.plain (step.down c.in-Some.doubt.count) (spend t.number b)
+    quiet_run g.D.Disk.view g.D.Disk.tells ss s (record s { book = c.spend.new.self }) c.requires.in_order refl (c.spend.ensures.states ss) c.requires.in_order.sound (step.publish (ticket_of t)) step.plain (step.down c.in-Some.doubt.count) (spend t.number b)
     (c.spend.ensures.book ss (length_of s.journal) (option_map doubt_of s.down)) (comes.step 0) tt c.requires.out tt tt c.events_are_kept.ensures comes.landed refl refl c.requires.in_order.whole (no_call g.D.Disk.view g.D.Disk.tells s.journal)
     told (g.met.D.Disk.only_now s.journal.disk)
 
@@ -137,8 +137,8 @@ returns-in-Ok-clause-memory g c e =
 
 -- what was refused, or found no memory
 
-pub returns-in-Err-clause-event : goal.returns-in-Err-clause-event
-returns-in-Err-clause-event g c =
+pub returns-clause-event : goal.returns-clause-event
+returns-clause-event g c =
     let ss = scripts_of c.args.setup.now in
     let s = c.args.self.now in
     let t = c.args.ticket in
@@ -149,8 +149,8 @@ returns-in-Err-clause-event g c =
     let comes = answered ss s.rules (book_in ss s) t c.in-Err.reply decided in
     quiet_event g.N.Nonces.nonce ss s _ (step.publish (ticket_of t)) (reply_of c.in-Err.reply) (spend t.number (book_in ss s)) refl refl is (λ given. quiet c.in-Err.reply given) comes.step
 
-pub returns-in-Err-clause-in_order : goal.returns-in-Err-clause-in_order
-returns-in-Err-clause-in_order g c =
+pub returns-clause-in_order : goal.returns-clause-in_order
+returns-clause-in_order g c =
     let ss = scripts_of c.args.setup.now in
     let s = c.args.self.now in
     let t = c.args.ticket in
@@ -162,8 +162,8 @@ returns-in-Err-clause-in_order g c =
     quiet_order g.D.Disk.view g.D.Disk.tells ss s _ c.requires.in_order refl (λ all. c.spend-in-Err.ensures.states ss (c.prepared.ensures.states ss all)) c.requires.in_order.sound (step.publish (ticket_of t)) (fate_by (reply_of c.in-Err.reply)) (reply_of c.in-Err.reply)
     (spend t.number (book_in ss s)) is (comes.step 0) tt c.requires.out tt tt c.events_are_kept.ensures comes.landed refl refl c.requires.in_order.whole (no_call g.D.Disk.view g.D.Disk.tells s.journal)
 
-pub returns-in-Err-clause-any_moment : goal.returns-in-Err-clause-any_moment
-returns-in-Err-clause-any_moment g c told =
+pub returns-clause-any_moment : goal.returns-clause-any_moment
+returns-clause-any_moment g c told =
     let ss = scripts_of c.args.setup.now in
     let s = c.args.self.now in
     let t = c.args.ticket in
@@ -172,11 +172,11 @@ returns-in-Err-clause-any_moment g c told =
     let is = c.spend-in-Err.ensures.book ss l dn ∙ ap (spend t.number) (c.prepared.ensures.book ss l dn) in
     let decided = at_up ss s (λ b. Decides ss (unmeasured s.rules) b (step.publish_comes (unmeasured s.rules) b (ticket_of t)) (Err c.in-Err.reply)) c.in_default.is (c.in-Err.ensures.decided l) in
     let comes = answered ss s.rules (book_in ss s) t c.in-Err.reply decided in
-    quiet_run g.D.Disk.view g.D.Disk.tells ss s _ c.requires.in_order refl (λ all. c.spend-in-Err.ensures.states ss (c.prepared.ensures.states ss all)) c.requires.in_order.sound (step.publish (ticket_of t)) (fate_by (reply_of c.in-Err.reply)) (reply_of c.in-Err.reply)
+    quiet_run g.D.Disk.view g.D.Disk.tells ss s (record s { book = c.spend-in-Err.new.self }) c.requires.in_order refl (λ all. c.spend-in-Err.ensures.states ss (c.prepared.ensures.states ss all)) c.requires.in_order.sound (step.publish (ticket_of t)) (fate_by (reply_of c.in-Err.reply)) (reply_of c.in-Err.reply)
     (spend t.number (book_in ss s)) is (comes.step 0) tt c.requires.out tt tt c.events_are_kept.ensures comes.landed refl refl c.requires.in_order.whole (no_call g.D.Disk.view g.D.Disk.tells s.journal) told (g.met.D.Disk.only_now s.journal.disk)
 
-pub returns-in-Err-clause-refused : goal.returns-in-Err-clause-refused
-returns-in-Err-clause-refused g c =
+pub returns-clause-refused : goal.returns-clause-refused
+returns-clause-refused g c =
     let ss = scripts_of c.args.setup.now in
     let s = c.args.self.now in
     let b = book_in ss s in
@@ -186,8 +186,8 @@ returns-in-Err-clause-refused g c =
     let why : refusal_for c.args.setup.now s.book c.args.ticket.target ≡ refusal_of (admit b x) = ap refusal_of (admit_same ss s.book 0 (length_of s.journal) None (option_map doubt_of s.down) x) in
     subst (λ (o : Option step.Reply). IfSome o (λ r. reply_of c.in-Err.reply ≡ r)) (sym (up_refusal b x up ∙ ap step.refused_by (sym why))) told
 
-pub returns-in-Err-clause-none : goal.returns-in-Err-clause-none
-returns-in-Err-clause-none g c no_segment free =
+pub returns-clause-none : goal.returns-clause-none
+returns-clause-none g c no_segment free =
     let ss = scripts_of c.args.setup.now in
     let s = c.args.self.now in
     let b = book_in ss s in
@@ -197,8 +197,8 @@ returns-in-Err-clause-none g c no_segment free =
     let wants = c.prepared.ensures.none no_segment (ap refusal_of (admit_same ss s.book 0 (length_of s.journal) None (option_map doubt_of s.down) x) ∙ why) in
     same_error c.prepared.result c.in-Err.reply reply.Memory c.in-Err.is wants
 
-pub returns-in-Err-clause-held : goal.returns-in-Err-clause-held
-returns-in-Err-clause-held g c r is held =
+pub returns-clause-held : goal.returns-clause-held
+returns-clause-held g c r is held =
     let ss = scripts_of c.args.setup.now in
     let s = c.args.self.now in
     let t = c.args.ticket in
@@ -207,16 +207,16 @@ returns-in-Err-clause-held g c r is held =
     let prepares = at_up ss s (λ b. Prepares ss (unmeasured s.rules) b (step.publish_comes (unmeasured s.rules) b (ticket_of t)) (Err c.in-Err.reply)) c.in_default.is (c.in-Err.ensures.held r is here l) in
     told_answered ss s.rules (book_in ss s) (decision_of c.args.setup.now s t) c.in-Err.reply prepares
 
-pub returns-in-Err-clause-memory : goal.returns-in-Err-clause-memory
-returns-in-Err-clause-memory g c e =
+pub returns-clause-memory : goal.returns-clause-memory
+returns-clause-memory g c e =
     let ss = scripts_of c.args.setup.now in
     let s = c.args.self.now in
     let l = length_of s.journal in
     let dn = option_map doubt_of s.down in
     c.spend-in-Err.ensures.book ss l dn ∙ ap (spend c.args.ticket.number) (c.prepared.ensures.book ss l dn)
 
-pub returns-in-Err-clause-cause : goal.returns-in-Err-clause-cause
-returns-in-Err-clause-cause g c =
+pub returns-clause-cause : goal.returns-clause-cause
+returns-clause-cause g c =
     let ss = scripts_of c.args.setup.now in
     let s = c.args.self.now in
     no_count ss s.rules (book_of ss (length_of s.journal) None s.book) c.args.ticket c.in-Err.reply _ _ refl (c.in-Err.ensures.decided (length_of s.journal))

@@ -1,3 +1,0 @@
-pub mod Stub
-pub mod Reads
-pub mod Faults
