@@ -20,7 +20,7 @@ use Rattle.journal_records.specs.Records.{Record, begins, changes, begin_of, beg
 use Rattle.journal_records.specs.Reading.{read_record}
 use Rattle.journal_records.specs.Laws.{AreRecordsExact}
 use Rattle.journal_books.specs.Making.{Making, nothing, made, damaged, other, rules_over, are_told, first_by, next_by, with_body, with_bodies, begun, book_of, book_in_bytes}
-use Rattle.journal_books.specs.Standing.{IsBook, Makes, Between, Held, HoldIn, if_kept, Stands, StaysThroughout, IsOneOf}
+use Rattle.journal_books.specs.Standing.{IsBook, Makes, MakesIn, Between, Held, HoldIn, if_kept, Stands, StaysThroughout, IsOneOf}
 use Rattle.journal_books.specs.Spelling.{IsInRange}
 use Rattle.journal_books.specs.Keeping.{Keeps, AreNamed, first_body}
 use Rattle.journal_books.specs.Disks.{IsFit}
@@ -34,7 +34,8 @@ use Rattle.instance_book.specs.Views as kept_book
 use Rattle.instance_book.specs.Swept.{IsEmpty}
 use Rattle.instance_book.specs.Makes.{HasItsStates}
 use Rattle.book_recovery.specs.Found.{book_with, IsReopened, IsBookInOrder}
-use Rattle.shelf.specs.Opening.{IsCrashed, AReopenedShelfHasCrashed}
+use Rattle.shelf.specs.Opening.{IsCrashed, AReopenedShelfHasCrashed, AStandingDiskOpens}
+use Rattle.shelf.specs.declared.begin.BeginFault.TheVariants as fault
 
 -- what records make is nothing where there is none
 some_first : (scripts : List Named) (shelf place : ℕ) (o : Option Record) → first_by scripts shelf place o ≢ nothing
@@ -204,3 +205,22 @@ not_nothing m b (seen, is) none = let no : ⊥ = cc (none, is) in no
 -- the bytes and the bodies of an opened journal make the same
 pub same_books : (scripts : List Named) (shelf : ℕ) (bytes : List ℕ) (bodies : List (List ℕ)) → (records bytes ≡ Intact (stored bytes)) ⊎ (bytes ≡ []) → bodies ≡ stored bytes → book_in_bytes scripts shelf bytes ≡ book_of scripts shelf bodies
 same_books scripts shelf bytes bodies intact is = read_in_bytes scripts shelf bytes intact ∙ ap (book_of scripts shelf) (sym is)
+
+-- a disk that stands for a book makes one
+no_damage : (scripts : List Named) (shelf place : ℕ) (bytes : List ℕ) (b : Book) → MakesIn scripts shelf bytes b → book_in_bytes scripts shelf bytes ≡ damaged place → ⊥
+no_damage scripts shelf place bytes b (seen, makes) is = let no : ⊥ = cc (makes, is) in no
+
+no_other : (scripts : List Named) (shelf place : ℕ) (bytes : List ℕ) (b : Book) → MakesIn scripts shelf bytes b → book_in_bytes scripts shelf bytes ≡ other place → ⊥
+no_other scripts shelf place bytes b (seen, makes) is = let no : ⊥ = cc (makes, is) in no
+
+pub standing_opens : {D : Type 0} (view : D → View) → ((disk : D) → (view disk).images (view disk).seen) → AStandingDiskOpens view
+standing_opens view reads scripts shelf b old new fault.DiskFault stands among is = tt
+standing_opens view reads scripts shelf b old new fault.Memory stands among is = tt
+standing_opens view reads scripts shelf b old new (fault.Damaged place) stands among is =
+    let bytes = (view new).seen in
+    ⊎_elim (λ h. no_damage scripts shelf place bytes b h is) (λ h. no_damage scripts shelf place bytes (if_kept scripts shelf b) h is)
+    (make_books scripts shelf b (if_kept scripts shelf b) stands.0 bytes (stands.1 bytes (among bytes (reads new))))
+standing_opens view reads scripts shelf b old new (fault.Other place) stands among is =
+    let bytes = (view new).seen in
+    ⊎_elim (λ h. no_other scripts shelf place bytes b h is) (λ h. no_other scripts shelf place bytes (if_kept scripts shelf b) h is)
+    (make_books scripts shelf b (if_kept scripts shelf b) stands.0 bytes (stands.1 bytes (among bytes (reads new))))
