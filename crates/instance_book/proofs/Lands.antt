@@ -1,5 +1,5 @@
 -- What a prepared visit makes of a book is what the definitions make of it.
-use Rattle.std.proofs.Common.{◌≡◌, ◌∙◌, ap, sym, subst, ℕ, zero, suc, ◌+◌, ◌<◌, max, nat_le, List, [], ◌∷◌, length, slice_get, Option, Some, None, Result, Ok, Err, IfOk, IfErr, OnOk, refl, arith, true, false, inr}
+use Rattle.std.proofs.Common.{◌≡◌, ◌∙◌, ap, sym, subst, ℕ, ◌+◌, max, nat_le, List, [], ◌∷◌, length, slice_get, Option, Some, None, Result, Ok, Err, IfOk, IfErr, OnOk, refl, arith, true, false, inr}
 use Rattle.std.proofs.lemmas.Bool.Decides.{nat_tests}
 use Rattle.std.proofs.lemmas.Option.{get_or_from_slice_get}
 use Rattle.script_value.specs.declared.outcome.Reply.{Reply}

@@ -1,5 +1,5 @@
 -- What records that are told again make of a book.
-use Rattle.std.proofs.Common.{◌≡◌, ◌∙◌, ap, sym, subst, ℕ, ◌+◌, ◌<◌, max, Bool, true, false, List, [], ◌∷◌, length, slice_get, Option, Some, None, Result, Ok, Err, refl, arith}
+use Rattle.std.proofs.Common.{◌≡◌, ◌∙◌, ap, sym, ℕ, ◌<◌, max, Bool, true, false, List, [], ◌∷◌, length, slice_get, Option, Some, None, Result, Ok, Err, refl, arith}
 use Rattle.std.specs.Prelude.{IsOk, nat_lt, ◌&&◌}
 use Rattle.std.proofs.lemmas.Bool.{and_parts, and_from}
 use Rattle.std.proofs.lemmas.Bool.Decides.{nat_tests}
@@ -15,7 +15,7 @@ use Rattle.replay_spec.specs.Book as spec
 use Rattle.replay_spec.specs.Book.{Page, Instance, Book, instance_at, page_at}
 use Rattle.replay_spec.specs.Change.{put_instance, mend, without, done, shown_by, fresh, root_by, opened_by, land}
 use Rattle.replay_spec.specs.Admission.{when}
-use Rattle.replay_spec.specs.Recovery.{is_ok, stands_over, are_on, hold_over, page_of_numbers, ended_so, redone}
+use Rattle.replay_spec.specs.Recovery.{is_ok, stands_over, are_on, hold_over, ended_so, redone}
 use Rattle.replay_spec.proofs.Tests.{holds_is, on_is}
 use Rattle.instance_book.specs.declared.prepared.Opening.{Opening}
 use Rattle.instance_book.specs.declared.prepared.Change.TheVariants.{Opens}
@@ -25,7 +25,7 @@ use Rattle.instance_book.specs.declared.retold.ToldPage.{ToldPage}
 use Rattle.instance_book.specs.declared.ticket.Ticket.{Ticket}
 use Rattle.instance_book.specs.Views.{script_in, no_script}
 use Rattle.instance_book.specs.Changes.{begun_with, shown_with, ended_with, changed_by}
-use Rattle.instance_book.specs.Prepares.{first_page, first_instance, next_page, opening_by}
+use Rattle.instance_book.specs.Prepares.{next_page, opening_by}
 use Rattle.instance_book.specs.Swept.{swept}
 use Rattle.instance_book.specs.Told.{no_rules, counted_to, effects_in, IsOpenedBy, told_opening, told_extension, told_ending, told_finish, ended_in}
 use Rattle.instance_book.proofs.Lands.{mend_agrees, first_is}

@@ -1,17 +1,14 @@
 -- The states of pages.
-use Rattle.std.proofs.Common.{◌≡◌, ◌∙◌, ap, sym, subst, ℕ, zero, suc, ◌<◌, ◌≤◌, List, [], ◌∷◌, ◌++◌, length, map, reverse, slice_get, Option, Some, None, refl, arith, Contains, inl, inr}
-use Rattle.std.specs.List.{AllByRecursion}
-use Rattle.std.proofs.lemmas.Bool.Decides.{nat_tests}
+use Rattle.std.proofs.Common.{◌≡◌, ◌∙◌, ap, sym, subst, ℕ, zero, suc, ◌<◌, ◌≤◌, List, [], ◌∷◌, length, reverse, slice_get, Option, Some, None, refl, arith, Contains, inl, inr}
 use Rattle.std.proofs.lemmas.List.{reverse-append}
 use Rattle.std.proofs.lemmas.Option.{same_Some, get_or_from_slice_get}
-use Rattle.script_nodes.specs.Setup.{Named, Script}
+use Rattle.script_nodes.specs.Setup.{Named}
 use Rattle.page_names.specs.Names.{Destination, start, page}
 use Rattle.page_names.specs.Views.{target_of}
 use Rattle.page_names.specs.declared.names.PageName.{PageName}
 use Rattle.instance_cells.specs.Cells.{Effect, reads_of}
-use Rattle.instance_cells.specs.Views.{effect_of}
 use Rattle.script_value.specs.declared.outcome.TxName.{TxName}
-use Rattle.replay_spec.specs.Tape.{Reads, recorded, Tape, Answer}
+use Rattle.replay_spec.specs.Tape.{recorded, Tape}
 use Rattle.replay_spec.specs.Book.{Page, Instance, Book, at_number, page_at, instance_at, parent_of, chain}
 use Rattle.replay_spec.specs.Change.{put_page, put_in_order}
 use Rattle.replay_spec.specs.Admission.{Place, Admission, begins, resumes, refused, refusal_of, admit}
@@ -19,7 +16,7 @@ use Rattle.replay_spec.specs.Next.{Home, Visit, home, home_of, answered, newest,
 use Rattle.replay_spec.specs.Next as next
 use Rattle.replay_spec.specs.Invariant.{AreAncestors, Lineage, IsOrderly}
 use Rattle.replay_spec.proofs.Ancestors.{Grown, put_grown, ancestors_grown, lineage_grown, chain_is}
-use Rattle.replay_spec.proofs.Numbered.{put_length, number_of}
+use Rattle.replay_spec.proofs.Numbered.{put_length}
 use Rattle.replay_spec.proofs.Stand.{among_of}
 use Rattle.replay_spec.proofs.Admitted.{page_stands, start_is_no_page, page_is_no_start}
 use Rattle.machine_spec.specs.Machine.{Suspended}
@@ -40,8 +37,8 @@ use Rattle.instance_book.specs.Views.{page_of, pages_of, script_in, no_script, t
 use Rattle.instance_book.specs.Places.{arena_of, state_at, shown_of, shown_in, HasState, HaveStates, IsKeptAs, IsKept, IsNextIn, IsNextAt, OneMoreHasItsState}
 use Rattle.instance_book.specs.Changes.{OpensKept, HasStateBy}
 use Rattle.instance_book.specs.Fits.{IsStateBehind, GoesOnFrom, FitsAs, IsForSome}
-use Rattle.instance_book.specs.Prepares.{first_page, next_page, OpensAs, ExtendsAs, OpensTo, ExtendsTo, KeepsStateOf}
-use Rattle.instance_book.specs.Laws.{KeepsStateOver, KeepsStateAs, AShownPageHasItsState}
+use Rattle.instance_book.specs.Prepares.{OpensAs, ExtendsAs, KeepsStateOf}
+use Rattle.instance_book.specs.Laws.{KeepsStateAs, AShownPageHasItsState}
 use Rattle.instance_book.proofs.Seen.{all_put, all_at}
 
 -- what a page has among others it has among more

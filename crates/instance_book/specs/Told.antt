@@ -32,7 +32,7 @@ use Rattle.instance_book.specs.declared.retold.ToldPage.{ToldPage}
 use Rattle.instance_book.specs.declared.book.Book.{Book}
 use Rattle.instance_book.specs.declared.ticket.Ticket.{Ticket}
 use Rattle.instance_book.specs.Views.{instance_of, ticket_of, book_of}
-use Rattle.instance_book.specs.Places.{arena_of, state_at}
+use Rattle.instance_book.specs.Places.{arena_of}
 use Rattle.instance_book.specs.Makes.{Makes, HasItsStates}
 use Rattle.instance_book.specs.Changes.{opening_of, begun_with}
 use Rattle.instance_book.specs.Prepares.{rules_with, first_instance, opening_by, extension_by, OpensAs}

@@ -1,7 +1,7 @@
 //! The run of a ticket's segment.
 #![tactic(auto)]
 
-ghost use Rattle.std.specs.Prelude.{◌<◌, ◌^◌, IfOk};
+ghost use Rattle.std.specs.Prelude.{◌≡◌, ◌<◌, ◌^◌, IfOk};
 ghost use Rattle.script_value.specs.Views.{meaning};
 ghost use Rattle.script_nodes.specs.Views.{scripts_of};
 ghost use Rattle.send_suspend.specs.Segments.{newest, FitsFrom, Replays};

@@ -1,4 +1,4 @@
-use Rattle.std.proofs.Common.{◌≡◌, ◌∙◌, sym, refl, map, Some, None, true, false, length}
+use Rattle.std.proofs.Common.{◌≡◌, ◌∙◌, sym, refl, map, true, false, length}
 use Rattle.instance_cells.specs.Cells.{AreOn, Holds}
 use Rattle.instance_cells.specs.Views.{effect_of}
 use Rattle.instance_book.specs.Views.{page_of, instance_of}

@@ -1,10 +1,9 @@
-use Rattle.std.proofs.Common.{◌≡◌, ◌∙◌, ap, sym, subst, arith, refl, List, [], map, Some, None, ℕ}
-use Rattle.instance_cells.specs.Views.{effect_of}
+use Rattle.std.proofs.Common.{◌≡◌, ◌∙◌, ap, sym, subst, arith, refl, List, [], None, ℕ}
 use Rattle.replay_spec.specs.Book as spec
 use Rattle.replay_spec.specs.Book.{Instance, instance_at}
 use Rattle.replay_spec.specs.Change.{mend}
 use Rattle.stored_states.specs.Views.{suspended_of}
-use Rattle.instance_book.specs.Views.{instance_of, instances_of, page_of}
+use Rattle.instance_book.specs.Views.{instance_of, instances_of}
 use Rattle.instance_book.specs.Places.{IsNextAt}
 use Rattle.instance_book.specs.Changes.{shown_with}
 use Rattle.instance_book.specs.Prepares.{next_page, ExtendsAs}

@@ -1,5 +1,4 @@
 use Rattle.std.proofs.Common.{◌≡◌, ◌∙◌, ap, sym, subst, None, ℕ, refl}
-use Rattle.instance_cells.specs.Views.{effect_of}
 use Rattle.replay_spec.specs.Book as spec
 use Rattle.stored_states.specs.Views.{suspended_of}
 use Rattle.instance_book.specs.Changes.{changed_by, OpensKept}

@@ -1,4 +1,4 @@
-use Rattle.std.proofs.Common.{◌≡◌, ◌∙◌, ◌+◌, ap, map, refl, List, ℕ}
+use Rattle.std.proofs.Common.{◌∙◌, ap, map, refl, List, ℕ}
 use Rattle.script_value.specs.declared.outcome.Reply.{Reply}
 use Rattle.script_value.specs.declared.outcome.TxName.{TxName}
 use Rattle.instance_cells.specs.Views.{effect_of}

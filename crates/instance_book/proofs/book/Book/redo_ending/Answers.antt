@@ -1,4 +1,4 @@
-use Rattle.std.proofs.Common.{◌≡◌, subst, List, [], map, None}
+use Rattle.std.proofs.Common.{◌≡◌, subst, List, map, None}
 use Rattle.instance_cells.specs.Views.{effect_of}
 use Rattle.instance_cells.specs.declared.effect.Effect.{Effect}
 use Rattle.instance_book.specs.Views.{instance_of}
