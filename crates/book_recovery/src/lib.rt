@@ -1,8 +1,10 @@
 //! What the records of a journal make: the book of a shelf, whose scripts are run again.
 #![tactic(auto)]
 
+mod claim;
 mod found;
 mod read;
+mod remake;
 
 pub use found::Found;
 pub use read::read_book;

@@ -6,13 +6,13 @@ use Rattle.replay_spec.specs.Next.{home}
 use Rattle.instance_book.specs.Views.{page_of, pages_of, script_in}
 use Rattle.instance_book.specs.Places.{state_at, shown_of, shown_in, HasState}
 use Rattle.instance_book.proofs.States.{state_found}
-use Rattle.instance_book.proofs.admission.place_at.Goals as goal
+use Rattle.instance_book.proofs.admission.place_of_numbers.Goals as goal
 
 pub script_of-requires : goal.script_of-requires
 script_of-requires c = (c.in_ok-instance.ensures.states (scripts_of c.args.setup.now) c.args.book.now.shelf c.requires).placed
 
-pub returns-then-shown-page-clause-states : goal.returns-then-shown-page-clause-states
-returns-then-shown-page-clause-states c =
+pub returns-clause-states : goal.returns-clause-states
+returns-clause-states c =
     let scripts = scripts_of c.args.setup.now in
     let shelf = c.args.book.now.shelf in
     let i = c.in_ok-instance.instance.now in
@@ -21,7 +21,7 @@ returns-then-shown-page-clause-states c =
     let s = script_in scripts i.item.script in
     let kept = c.in_ok-instance.ensures.states scripts shelf c.requires in
     let its : named ≡ s = same_Some named s c.in_ok-script.ensures.its in
-    let has = state_found s (home s shelf i.number) (pages_of i.item.pages) c.args.page.now.page (shown_in i.item.pages) (shown_of p) kept.states (sym c.in_ok-shown.ensures.shown) in
+    let has = state_found s (home s shelf i.number) (pages_of i.item.pages) c.args.page (shown_in i.item.pages) (shown_of p) kept.states (sym c.in_ok-shown.ensures.shown) in
     record {
       script = sym c.in_ok-script.ensures.script;
       state = subst (λ (x : Named). HasState x (home x shelf i.number) (pages_of i.item.pages) (page_of p) (state_at p)) (sym its) has;
