@@ -8,8 +8,8 @@ use Rattle.replay_spec.proofs.Stand.{among_of}
 use Rattle.instance_book.specs.Fits.{FitsAs}
 use Rattle.instance_book.specs.declared.ticket.Ticket.{Ticket}
 use Rattle.shelf.specs.Going.{TicketsGoOnToFit}
-use Rattle.server_command.specs.Staff.{IsOpen}
-use Rattle.server_command.proofs.Kept.{among_other, of_among}
+use Rattle.play_desk.specs.Staff.{IsOpen}
+use Rattle.play_desk.proofs.Kept.{among_other, of_among}
 
 -- a run of events goes on by one
 goes_on : (ms : List Moment) (m : Moment) (b : Book) → AreLawful ms b → IsLawful m.event (book_after ms b)

@@ -12,9 +12,9 @@ use Rattle.script_value.specs.declared.outcome.Refusal.TheVariants.{Unknown}
 use Rattle.script_value.specs.declared.outcome.Reply.TheVariants.{Refused, Ended}
 use Rattle.script_nodes.specs.Setup.{Named}
 use Rattle.play_steps.specs.Transcript.{bad_line, transcript}
-use Rattle.server_command.specs.Target.{answer_to}
-use Rattle.server_command.specs.Desk.{first_desk}
-use Rattle.server_command.specs.Ledger.{Entry, reading, events_of}
+use Rattle.play_desk.specs.Target.{answer_to}
+use Rattle.play_desk.specs.Desk.{first_desk}
+use Rattle.play_desk.specs.Ledger.{Entry, reading, events_of}
 
 -- a visit of the script `s` without a query
 abbrev ticket : (number nonce : ℕ) → Ticket

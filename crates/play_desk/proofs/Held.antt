@@ -12,10 +12,10 @@ use Rattle.replay_spec.specs.Runs.{Shelf, shelf_step}
 use Rattle.replay_spec.specs.Invariant.{Among}
 use Rattle.replay_spec.specs.Laws.{Takes, IsLawful}
 use Rattle.replay_spec.proofs.Stand.{among_drawn, among_spent}
-use Rattle.server_command.specs.Target.{shelf_for}
-use Rattle.server_command.specs.Desk.{Desk, counting, first_desk, taken_by}
-use Rattle.server_command.proofs.Kept.{published, swept, of_among, among_other}
-use Rattle.server_command.proofs.Places.{at_set, none_there, same_Some}
+use Rattle.play_desk.specs.Target.{shelf_for}
+use Rattle.play_desk.specs.Desk.{Desk, counting, first_desk, taken_by}
+use Rattle.play_desk.proofs.Kept.{published, swept, of_among, among_other}
+use Rattle.play_desk.proofs.Places.{at_set, none_there, same_Some}
 
 -- The numbers that are out were drawn. What workers hold is out on its shelf, and of one shelf they hold different numbers.
 pub record AreOut (n : ℕ) (ss : List Shelf) (held : List (Option Ticket)) : Type 0 where

@@ -9,12 +9,12 @@ use Rattle.play_steps.specs.Rules.{Call, answered, event}
 use Rattle.play_steps.specs.declared.report.Report.{Report}
 use Rattle.play_steps.specs.declared.report.Report.TheVariants.{Replied}
 use Rattle.play_steps.specs.Transcript.{Run, End, done, bad_line, went, stopped, behind, goes_on, first_fate, later_fates, fits, called, published, got, swept, performed, text_of, transcript}
-use Rattle.server_command.specs.Desk.{Desk, desk_rules, desk_take, desk_publish, desk_sweep}
-use Rattle.server_command.specs.Ledger.{Entry, Ledger, ledger_of, ledger_rules, ledger_take, ledger_publish, ledger_sweep}
-use Rattle.server_command.specs.Laws.{AreRuns, AreLawfulRuns, TranscriptsAreRuns}
-use Rattle.server_command.proofs.ShelfRuns.{no_runs, no_lawful, runs_then, lawful_then}
-use Rattle.server_command.proofs.Held.{AreOut, first_orderly}
-use Rattle.server_command.proofs.Entering.{Enters, EntersOne, take_enters, publish_enters, sweep_enters}
+use Rattle.play_desk.specs.Desk.{Desk, desk_rules, desk_take, desk_publish, desk_sweep}
+use Rattle.play_desk.specs.Ledger.{Entry, Ledger, ledger_of, ledger_rules, ledger_take, ledger_publish, ledger_sweep}
+use Rattle.play_desk.specs.Laws.{AreRuns, AreLawfulRuns, TranscriptsAreRuns}
+use Rattle.play_desk.proofs.ShelfRuns.{no_runs, no_lawful, runs_then, lawful_then}
+use Rattle.play_desk.proofs.Held.{AreOut, first_orderly}
+use Rattle.play_desk.proofs.Entering.{Enters, EntersOne, take_enters, publish_enters, sweep_enters}
 
 -- a desk's run, as a ledger has it
 abbrev as_entered : Run desk_rules → List Reply → List Entry → Run ledger_rules

@@ -7,8 +7,8 @@ use Rattle.replay_spec.specs.Runs.{Shelf, after, answers_to}
 use Rattle.replay_spec.specs.Laws.{IsLawfulRun}
 use Rattle.play_steps.specs.Step.{Step}
 use Rattle.play_steps.specs.Transcript.{text_of, transcript}
-use Rattle.server_command.specs.Desk.{Desk, first_desk, desk_rules, counting}
-use Rattle.server_command.specs.Ledger.{Entry, reading, print_of, events_of}
+use Rattle.play_desk.specs.Desk.{Desk, first_desk, desk_rules, counting}
+use Rattle.play_desk.specs.Ledger.{Entry, reading, print_of, events_of}
 
 -- the events that were entered for the shelf of this number, with their fates, and what they were answered
 abbrev pub events_on : ℕ → List Entry → List (Event × Fate)
@@ -19,10 +19,17 @@ abbrev pub replies_on : ℕ → List Entry → List Reply
 replies_on k [] = []
 replies_on k (e ∷ entries) = if e.shelf == k then e.reply ∷ replies_on k entries else replies_on k entries
 
+-- shelves that only nonces beyond 64 bits tell apart
+pub record AreAlike (s t : Shelf) : Type 0 where
+  pub rules : t.rules ≡ s.rules
+  pub book : t.book ≡ s.book
+  pub nonces : counting t.nonces ≡ counting s.nonces
+
 -- each shelf's run over the events that were entered for it gives just the replies that were entered, and leaves the shelf so
 pub record AreRuns (entries : List Entry) (old new : List Shelf) : Type 0 where
   pub answered : (k : ℕ) (s : Shelf) → slice_get old k ≡ Some s → answers_to counting (events_on k entries) s ≡ replies_on k entries
-  pub left : (k : ℕ) (s : Shelf) → slice_get old k ≡ Some s → slice_get new k ≡ Some (after counting (events_on k entries) s)
+  pub left : (k : ℕ) (s : Shelf) → slice_get old k ≡ Some s
+      → (t : Shelf) × (slice_get new k ≡ Some t) × AreAlike (after counting (events_on k entries) s) t
 
 -- each publish of these runs spends a number that is out on its shelf
 abbrev pub AreLawfulRuns : List Entry → List Shelf → Type 0
@@ -38,7 +45,7 @@ pub record IsRunOfEvents (d : Desk) (number : ℕ) (steps : List (Option Step)) 
   pub all : map (λ e. e.reply) (events_of d number steps fates replies) ≡ replies
   pub held : (transcript desk_rules d number steps fates).state.held ≡ (reading d number steps fates replies).state.held
   pub runs : AreRuns (events_of d number steps fates replies) d.shelves (transcript desk_rules d number steps fates).state.shelves
-  pub lawful : (rules : Rules) (scripts : List Named) → d ≡ first_desk rules scripts
+  pub lawful : (rules : ℕ → Rules) (scripts : List Named) (count : ℕ) → d ≡ first_desk rules scripts count
       → AreLawfulRuns (events_of d number steps fates replies) d.shelves
 
 -- The printed transcript of lines, from any desk on, is the print of the replies of the runs of events that the lines are, and the

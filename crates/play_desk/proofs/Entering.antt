@@ -10,14 +10,14 @@ use Rattle.replay_spec.specs.Next.{Ticket}
 use Rattle.replay_spec.specs.Step.{take, publish, sweep, Fate, Reply, taken, swept}
 use Rattle.replay_spec.specs.Runs.{Shelf, shelf_step}
 use Rattle.replay_spec.proofs.Refused.{unchanged}
-use Rattle.server_command.specs.Target.{answer_to, path_and_query, shelf_for}
-use Rattle.server_command.specs.Desk as desk
-use Rattle.server_command.specs.Desk.{Desk, counting, told, desk_take, desk_publish, desk_sweep, taken_by, published_by, swept_by}
+use Rattle.play_desk.specs.Target.{answer_to, path_and_query, shelf_for}
+use Rattle.play_desk.specs.Desk as desk
+use Rattle.play_desk.specs.Desk.{Desk, counting, told, desk_take, desk_publish, desk_sweep, taken_by, published_by, swept_by}
 use Rattle.play_steps.specs.Rules.{Call, answered, event}
-use Rattle.server_command.specs.Ledger.{Entry, Ledger, ledger_of, entered, first_reply, holding, taken_in, take_on, take_at, ledger_take, publish_on, publish_held, ledger_publish, swept_in, ledger_sweep}
-use Rattle.server_command.specs.Laws.{AreRuns, AreLawfulRuns}
-use Rattle.server_command.proofs.ShelfRuns.{entry_of, one_run, one_lawful}
-use Rattle.server_command.proofs.Held.{AreOut, take_orderly, publish_orderly, publish_lawful, sweep_orderly}
+use Rattle.play_desk.specs.Ledger.{Entry, Ledger, ledger_of, entered, first_reply, holding, taken_in, take_on, take_at, ledger_take, publish_on, publish_held, ledger_publish, swept_in, ledger_sweep}
+use Rattle.play_desk.specs.Laws.{AreRuns, AreLawfulRuns}
+use Rattle.play_desk.proofs.ShelfRuns.{entry_of, one_run, one_lawful}
+use Rattle.play_desk.proofs.Held.{AreOut, take_orderly, publish_orderly, publish_lawful, sweep_orderly}
 
 -- a desk's event answers as the ledger's, given these replies, which enters these events
 pub record EntersOne {X : Type 0} (d : Desk) (x : X × Desk) (over : Ledger → X × Ledger) : Type 0 where

@@ -17,9 +17,9 @@ use Rattle.replay_spec.specs.Laws.{RefusedIsUnchanged}
 use Rattle.instance_book.specs.Views.{reply_of}
 use Rattle.shelf.specs.Views.{book_in, shelf_of, fate_by, swept_of, HasGiven, IsEvent}
 use Rattle.shelf.specs.declared.shelf.Shelf.{Shelf}
-use Rattle.server_command.specs.Desk.{counting}
-use Rattle.server_command.specs.Staff.{in_64_bits}
-use Rattle.server_command.proofs.Kept.{published, swept}
+use Rattle.play_desk.specs.Desk.{counting}
+use Rattle.play_desk.specs.Staff.{in_64_bits}
+use Rattle.play_desk.proofs.Kept.{published, swept}
 
 -- an event of a shelf that has given as many nonces as numbers were drawn, and so it is afterwards
 pub record Happens (scripts : List Named) (s new : Shelf Counting) (event : Event) (reply : spec.Reply) : Type 0 where

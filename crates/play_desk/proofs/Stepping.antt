@@ -22,13 +22,13 @@ use Rattle.instance_book.specs.Views.{ticket_of, reply_of}
 use Rattle.instance_book.specs.declared.ticket.Ticket.{Ticket}
 use Rattle.shelf.specs.Views.{shelf_of, fate_by, swept_of}
 use Rattle.play_steps.specs.Rules.{answered, event}
-use Rattle.server_command.specs.declared.staff.Staff.{Staff}
-use Rattle.server_command.specs.Target.{answer_to, path_and_query, shelf_for}
-use Rattle.server_command.specs.Desk as desk
-use Rattle.server_command.specs.Desk.{Desk, told, take_on, take_at, counting, desk_take, desk_publish, taken_by, published_by, swept_by, with_shelf, behind}
-use Rattle.server_command.specs.Staff.{IsHere, desk_of}
-use Rattle.server_command.proofs.Happening.{Happens}
-use Rattle.server_command.proofs.Places.{get_set}
+use Rattle.play_desk.specs.declared.staff.Staff.{Staff}
+use Rattle.play_desk.specs.Target.{answer_to, path_and_query, shelf_for}
+use Rattle.play_desk.specs.Desk as desk
+use Rattle.play_desk.specs.Desk.{Desk, told, take_on, take_at, counting, desk_take, desk_publish, taken_by, published_by, swept_by, with_shelf, behind}
+use Rattle.play_desk.specs.Staff.{IsHere, desk_of}
+use Rattle.play_desk.proofs.Happening.{Happens}
+use Rattle.play_desk.proofs.Places.{get_set}
 
 -- a reply that is told is the program's own
 told_is : (r : Reply) → told (reply_of r) ≡ r

@@ -1,6 +1,6 @@
 ghost use Rattle.std.specs.Prelude.{◌≡◌, IfOk};
 ghost use Rattle.script_value.specs.Views.{meaning};
-ghost use Rattle.server_command.specs.Target as spec;
+ghost use Rattle.play_desk.specs.Target as spec;
 
 use http_forms::answer_of;
 use script_value::Value;

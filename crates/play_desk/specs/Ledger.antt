@@ -7,12 +7,13 @@ use Rattle.script_value.specs.declared.outcome.Reply as outcome
 use Rattle.script_value.specs.declared.outcome.Reply.TheVariants.{Refused}
 use Rattle.page_names.specs.Names.{Destination, destination_of}
 use Rattle.replay_spec.specs.Next.{Ticket}
-use Rattle.replay_spec.specs.Step.{Event, take, publish, sweep, Fate, plain, Reply, taken, swept, memory}
+use Rattle.replay_spec.specs.Step.{Event, take, publish, sweep, crash, Fate, plain, Reply, taken, swept, live, memory}
+use Rattle.script_nodes.specs.Setup.{Named}
 use Rattle.play_steps.specs.Rules.{StageRules, Call, answered, event}
 use Rattle.play_steps.specs.Step.{Step}
 use Rattle.play_steps.specs.Transcript.{Run, text_of, transcript}
-use Rattle.server_command.specs.Target.{answer_to, path_and_query, shelf_for}
-use Rattle.server_command.specs.Desk.{Desk, told}
+use Rattle.play_desk.specs.Target.{answer_to, path_and_query, shelf_for}
+use Rattle.play_desk.specs.Desk.{Desk, told, is_fault, without_shelf}
 
 -- an event of the shelf of this number, its fate, and what it was answered
 pub record Entry : Type 0 where
@@ -21,8 +22,9 @@ pub record Entry : Type 0 where
   pub fate : Fate
   pub reply : Reply
 
--- how many shelves there are; the ticket that each worker holds; the replies to come; and what was entered
+-- the setup; how many shelves there are; the ticket that each worker holds; the replies to come; and what was entered
 pub record Ledger : Type 0 where
+  pub scripts : List Named
   pub count : ℕ
   pub held : List (Option Ticket)
   pub replies : List Reply
@@ -30,7 +32,7 @@ pub record Ledger : Type 0 where
 
 -- a ledger for as many shelves as a desk has, and for the workers that are at it
 abbrev pub ledger_of : Desk → List Reply → List Entry → Ledger
-ledger_of d replies entries = record { count = length d.shelves; held = d.held; replies = replies; entries = entries }
+ledger_of d replies entries = record { scripts = d.scripts; count = length d.shelves; held = d.held; replies = replies; entries = entries }
 
 -- the reply to the next event, and those to the events after it; replies that are not listed are `memory`
 abbrev pub first_reply : List Reply → Reply
@@ -100,17 +102,30 @@ ledger_sweep l k tick =
     then event (λ fate. swept_in (entered l k (sweep tick) fate) (first_reply l.replies))
     else answered (Err (Refused Unknown))
 
+-- a crash loses the tickets of its shelf
+abbrev pub crashed_in : Ledger → (shelf : ℕ) → Reply → ℕ × Ledger
+crashed_in l k (live count) = (count, record l { held = without_shelf l.count k 0 l.held })
+crashed_in l k r = (0, l)
+
+abbrev pub ledger_crash : Ledger → (shelf : ℕ) → Call Ledger Fate ℕ
+ledger_crash l k =
+    if nat_lt k l.count
+    then event (λ fate. crashed_in (entered l k (crash l.scripts) fate) k (first_reply l.replies))
+    else answered 0
+
 -- what a run's steps enter in a ledger
 abbrev pub ledger_rules : StageRules
 ledger_rules = record {
   State = Ledger;
   Fate = Fate;
   plain = plain;
+  fails = is_fault;
   shelves = λ l. l.count;
   holds = λ l worker. is_some (ticket_in l worker);
   take = ledger_take;
   publish = ledger_publish;
   sweep = ledger_sweep;
+  crash = ledger_crash;
 }
 
 -- the lines from this desk on, read with these fates and these replies to their events

@@ -5,10 +5,10 @@ use Rattle.std.proofs.lemmas.Option.{slice_get_within}
 use Rattle.replay_spec.specs.Step.{Event, Fate, Reply}
 use Rattle.replay_spec.specs.Runs.{Shelf, shelf_step, after, answers_to}
 use Rattle.replay_spec.specs.Laws.{IsLawful, IsLawfulRun}
-use Rattle.server_command.specs.Desk.{counting}
-use Rattle.server_command.specs.Ledger.{Entry}
-use Rattle.server_command.specs.Laws.{events_on, replies_on, AreRuns, AreLawfulRuns}
-use Rattle.server_command.proofs.Places.{get_set, get_other, same_Some}
+use Rattle.play_desk.specs.Desk.{counting}
+use Rattle.play_desk.specs.Ledger.{Entry}
+use Rattle.play_desk.specs.Laws.{events_on, replies_on, AreRuns, AreLawfulRuns}
+use Rattle.play_desk.proofs.Places.{get_set, get_other, same_Some}
 
 events_append : (k : ℕ) (a b : List Entry) → events_on k (a ++ b) ≡ events_on k a ++ events_on k b
 events_append k [] b = refl

@@ -17,12 +17,12 @@ use Rattle.instance_book.specs.Fits.{FitsAs}
 use Rattle.instance_book.specs.Views.{ticket_of, reply_of}
 use Rattle.instance_book.specs.declared.ticket.Ticket.{Ticket}
 use Rattle.shelf.specs.Views.{book_in, shelf_of, fate_by, swept_of, IsInOrder}
-use Rattle.server_command.specs.declared.staff.Staff.{Staff}
-use Rattle.server_command.specs.Staff.{IsOpen, IsHere, IsFit}
-use Rattle.server_command.proofs.Places.{at_set}
-use Rattle.server_command.proofs.Kept.{published, swept}
-use Rattle.server_command.proofs.Open.{leads_here, stays_open, still_out}
-use Rattle.server_command.proofs.Happening.{Happens, then_is}
+use Rattle.play_desk.specs.declared.staff.Staff.{Staff}
+use Rattle.play_desk.specs.Staff.{IsOpen, IsHere, IsFit}
+use Rattle.play_desk.proofs.Places.{at_set}
+use Rattle.play_desk.proofs.Kept.{published, swept}
+use Rattle.play_desk.proofs.Open.{leads_here, stays_open, still_out}
+use Rattle.play_desk.proofs.Happening.{Happens, then_is}
 
 -- what an event meets
 abbrev moment_of : List Named → Staff → Event → spec.Reply → Moment
