@@ -7,17 +7,17 @@ use Rattle.std.proofs.lemmas.Option.{slice_get_within}
 use Rattle.script_value.specs.Val.{Val}
 use Rattle.page_names.specs.Names.{Destination, destination_of}
 use Rattle.replay_spec.specs.Next.{Ticket}
-use Rattle.replay_spec.specs.Step.{take, publish, sweep, Fate, Reply, taken, swept}
-use Rattle.replay_spec.specs.Runs.{Shelf, shelf_step}
+use Rattle.replay_spec.specs.Step.{take, publish, sweep, crash, step, Fate, Reply, taken, swept, live}
+use Rattle.replay_spec.specs.Runs.{Shelf}
 use Rattle.replay_spec.proofs.Refused.{unchanged}
 use Rattle.play_desk.specs.Target.{answer_to, path_and_query, shelf_for}
 use Rattle.play_desk.specs.Desk as desk
-use Rattle.play_desk.specs.Desk.{Desk, counting, told, desk_take, desk_publish, desk_sweep, taken_by, published_by, swept_by}
+use Rattle.play_desk.specs.Desk.{Desk, counting, happening, told, desk_take, desk_publish, desk_sweep, desk_crash, taken_by, swept_by, crashed_by, without_shelf}
 use Rattle.play_steps.specs.Rules.{Call, answered, event}
-use Rattle.play_desk.specs.Ledger.{Entry, Ledger, ledger_of, entered, first_reply, holding, taken_in, take_on, take_at, ledger_take, publish_on, publish_held, ledger_publish, swept_in, ledger_sweep}
+use Rattle.play_desk.specs.Ledger.{Entry, Ledger, ledger_of, entered, first_reply, holding, taken_in, take_on, take_at, ledger_take, publish_on, publish_held, ledger_publish, swept_in, ledger_sweep, crashed_in, ledger_crash}
 use Rattle.play_desk.specs.Laws.{AreRuns, AreLawfulRuns}
 use Rattle.play_desk.proofs.ShelfRuns.{entry_of, one_run, one_lawful}
-use Rattle.play_desk.proofs.Held.{AreOut, take_orderly, publish_orderly, publish_lawful, sweep_orderly}
+use Rattle.play_desk.proofs.Held.{AreOut, take_orderly, publish_orderly, publish_lawful, sweep_orderly, crash_orderly, crashed_out}
 
 -- a desk's event answers as the ledger's, given these replies, which enters these events
 pub record EntersOne {X : Type 0} (d : Desk) (x : X × Desk) (over : Ledger → X × Ledger) : Type 0 where
@@ -75,7 +75,7 @@ take_on_enters d k worker target answer (Some s) here place =
       over_by = λ l fate. taken_in (entered l k (take target answer) fate) worker target answer (first_reply l.replies);
       same = λ later before. rw test refl;
       one = λ fate.
-          let x = shelf_step counting s (take target answer) fate in
+          let x = happening s (take target answer) fate in
           record {
             replies = x.0 ∷ [];
             entries = entry_of k s (take target answer) fate ∷ [];
@@ -112,7 +112,7 @@ publish_on_enters d k worker t (Some s) here place holds =
       over_by = λ l fate. (told (first_reply l.replies), holding (entered l k (publish t) fate) worker None);
       same = λ later before. rw test refl;
       one = λ fate.
-          let x = shelf_step counting s (publish t) fate in
+          let x = happening s (publish t) fate in
           record {
             replies = x.0 ∷ [];
             entries = entry_of k s (publish t) fate ∷ [];
@@ -168,7 +168,7 @@ sweep_on_enters d k tick (Some s) here =
       over_by = λ l fate. swept_in (entered l k (sweep tick) fate) (first_reply l.replies);
       same = λ later before. rw test refl;
       one = λ fate.
-          let x = shelf_step counting s (sweep tick) fate in
+          let x = happening s (sweep tick) fate in
           record {
             replies = x.0 ∷ [];
             entries = entry_of k s (sweep tick) fate ∷ [];
@@ -185,3 +185,42 @@ sweep_on_enters d k tick (Some s) here =
 
 pub sweep_enters : (d : Desk) (k tick : ℕ) → Enters d (desk_sweep d k tick) (λ l. ledger_sweep l k tick)
 sweep_enters d k tick = sweep_on_enters d k tick (slice_get d.shelves k) refl
+
+crashed_same : (d : Desk) (k : ℕ) (s : Shelf) (r : Reply) (later : List Reply) (entries : List Entry)
+    → crashed_in (ledger_of d later entries) k r ≡ (let x = crashed_by d k (r, s) in (x.0, ledger_of x.1 later entries))
+crashed_same d k s (live count) later entries = rw (length-set d.shelves k s) refl
+crashed_same d k s r later entries = rw (length-set d.shelves k s) refl
+
+crash_kept : (d : Desk) (k : ℕ) (s : Shelf) (fate : Fate)
+    → ◌≡◌ {A = List Shelf × List (Option Ticket)}
+    (let x = crashed_by d k (happening s (crash d.scripts) fate) in (x.1.shelves, x.1.held))
+    (slice_set d.shelves k (happening s (crash d.scripts) fate).1, without_shelf (length d.shelves) k 0 d.held)
+unfolding step
+crash_kept d k s fate = refl
+
+crash_on_enters : (d : Desk) (k : ℕ) (o : Option Shelf) → slice_get d.shelves k ≡ o → Enters d (desk.crash_on d k o) (λ l. ledger_crash l k)
+crash_on_enters d k None here = let test = not_there d.shelves k here in λ later before. rw test refl
+crash_on_enters d k (Some s) here =
+    let test = is_there d.shelves k s here in
+    record {
+      over_by = λ l fate. crashed_in (entered l k (crash l.scripts) fate) k (first_reply l.replies);
+      same = λ later before. rw test refl;
+      one = λ fate.
+          let x = happening s (crash d.scripts) fate in
+          record {
+            replies = x.0 ∷ [];
+            entries = entry_of k s (crash d.scripts) fate ∷ [];
+            is = λ later before. crashed_same d k x.1 x.0 later (before ++ entry_of k s (crash d.scripts) fate ∷ []);
+            all = refl;
+            runs = subst (λ (ss : List Shelf). AreRuns (entry_of k s (crash d.scripts) fate ∷ []) d.shelves ss) (sym (ap (λ (p : List Shelf × List (Option Ticket)). p.0) (crash_kept d k s fate)))
+                (one_run d.shelves k s (crash d.scripts) fate here);
+            lawful = λ n o. (
+              one_lawful d.shelves k s (crash d.scripts) fate x.0 here tt,
+              subst (λ (p : List Shelf × List (Option Ticket)). AreOut n p.0 p.1) (sym (crash_kept d k s fate))
+                  (subst (λ m. AreOut n (slice_set d.shelves k x.1) (without_shelf m k 0 d.held)) (sym o.count)
+                  (crash_orderly n d k s x.1 here (crashed_out s.rules s.book (counting s.nonces) d.scripts fate) o)),
+            );
+          };
+    }
+pub crash_enters : (d : Desk) (k : ℕ) → Enters d (desk_crash d k) (λ l. ledger_crash l k)
+crash_enters d k = crash_on_enters d k (slice_get d.shelves k) refl

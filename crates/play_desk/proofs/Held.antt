@@ -1,21 +1,21 @@
 -- What workers hold is out, and each publish of a desk's run is lawful.
-use Rattle.std.proofs.Common.{◌≡◌, ◌≢◌, ◌⊎◌, ◌∙◌, ap, sym, subst, refl, inl, inr, ⊎_elim, ℕ, ◌+◌, ◌<◌, zero, suc, ◌==◌, List, [], ◌∷◌, ◌++◌, length, slice_get, slice_set, Option, Some, None, not, filter, arith}
-use Rattle.std.proofs.lemmas.List.{length-set}
+use Rattle.std.proofs.Common.{◌≡◌, ◌≢◌, ◌⊎◌, ◌∙◌, ap, sym, subst, refl, inl, inr, ⊎_elim, ℕ, ◌+◌, ◌<◌, zero, suc, ◌==◌, Bool, true, false, if◌then◌else◌, List, [], ◌∷◌, ◌++◌, length, slice_get, slice_set, Option, Some, None, not, filter, arith}
+use Rattle.std.proofs.lemmas.List.{length-append, length-set}
 use Rattle.script_value.specs.Val.{Val}
 use Rattle.page_names.specs.Names.{Destination}
 use Rattle.script_nodes.specs.Setup.{Named}
 use Rattle.replay_spec.specs.Book.{Book, draw}
 use Rattle.replay_spec.specs.Rules.{Rules}
 use Rattle.replay_spec.specs.Next.{Ticket}
-use Rattle.replay_spec.specs.Step.{publish, sweep, Fate, Reply, taken}
-use Rattle.replay_spec.specs.Runs.{Shelf, shelf_step}
+use Rattle.replay_spec.specs.Step.{publish, sweep, crash, step, Fate, Reply, taken}
+use Rattle.replay_spec.specs.Runs.{Shelf, empty_shelf}
 use Rattle.replay_spec.specs.Invariant.{Among}
 use Rattle.replay_spec.specs.Laws.{Takes, IsLawful}
 use Rattle.replay_spec.proofs.Stand.{among_drawn, among_spent}
 use Rattle.play_desk.specs.Target.{shelf_for}
-use Rattle.play_desk.specs.Desk.{Desk, counting, first_desk, taken_by}
+use Rattle.play_desk.specs.Desk.{Desk, counting, happening, first_desk, first_shelves, taken_by, without_shelf}
 use Rattle.play_desk.proofs.Kept.{published, swept, of_among, among_other}
-use Rattle.play_desk.proofs.Places.{at_set, none_there, same_Some}
+use Rattle.play_desk.proofs.Places.{at_set, in_push, none_there, not_same, same_Some}
 
 -- The numbers that are out were drawn. What workers hold is out on its shelf, and of one shelf they hold different numbers.
 pub record AreOut (n : ℕ) (ss : List Shelf) (held : List (Option Ticket)) : Type 0 where
@@ -26,17 +26,29 @@ pub record AreOut (n : ℕ) (ss : List Shelf) (held : List (Option Ticket)) : Ty
   pub apart : (v w : ℕ) (t u : Ticket) → slice_get held v ≡ Some (Some t) → slice_get held w ≡ Some (Some u)
       → shelf_for n v t.target ≡ shelf_for n w u.target → t.number ≡ u.number → v ≡ w
 
-pub first_orderly : (rules : Rules) (scripts : List Named) → AreOut 1 (first_desk rules scripts).shelves (first_desk rules scripts).held
-first_orderly rules scripts = record {
-  count = refl;
-  below = nothing_out;
+-- on the first shelves nothing is out
+nothing_out : (rules : ℕ → Rules) (scripts : List Named) (n k : ℕ) (s : Shelf) → slice_get (first_shelves rules scripts n) k ≡ Some s → s.book.out ≡ []
+nothing_out rules scripts zero k s e = absurd (let no : None ≡ Some s = e in cc)
+nothing_out rules scripts (suc n) k s e =
+    elim (in_push (first_shelves rules scripts n) (empty_shelf (rules n) scripts n) k s e) [
+      | inl there ↦ nothing_out rules scripts n k s there
+      | inr is ↦ ap (λ (x : Shelf). x.book.out) (sym is)
+    ]
+
+count_first : (rules : ℕ → Rules) (scripts : List Named) (n : ℕ) → length (first_shelves rules scripts n) ≡ n
+count_first rules scripts zero = refl
+count_first rules scripts (suc n) =
+    let was = count_first rules scripts n in
+    omega (arith, was, length-append (first_shelves rules scripts n) (empty_shelf (rules n) scripts n ∷ []))
+
+pub first_orderly : (rules : ℕ → Rules) (scripts : List Named) (count : ℕ)
+    → AreOut count (first_desk rules scripts count).shelves (first_desk rules scripts count).held
+first_orderly rules scripts count = record {
+  count = count_first rules scripts count;
+  below = λ k s e m h. absurd (subst (Among m) (nothing_out rules scripts count k s e) h);
   out = λ w t h s e. absurd (none_there 16 w t h);
   apart = λ v w t u h g same e. absurd (none_there 16 v t h);
 }
-  where
-    nothing_out : (k : ℕ) (s : Shelf) → slice_get (first_desk rules scripts).shelves k ≡ Some s → (m : ℕ) → Among m s.book.out → m < s.book.drawn
-    nothing_out zero s e m h = absurd (subst (λ (x : Shelf). Among m x.book.out) (sym (same_Some _ s e)) h)
-    nothing_out (suc k) s e m h = absurd (let no : None ≡ Some s = e in cc)
 
 -- a place that is this one
 moved : (ss : List Shelf) (j k : ℕ) (s : Shelf) → j ≡ k → slice_get ss k ≡ Some s → slice_get ss j ≡ Some s
@@ -164,19 +176,67 @@ take_orderly n d k worker target answer nonce s new r here place took o =
 
 pub publish_orderly : (n : ℕ) (d : Desk) (k worker : ℕ) (t : Ticket) (fate : Fate) (s : Shelf) → slice_get d.shelves k ≡ Some s
     → k ≡ shelf_for n worker t.target → slice_get d.held worker ≡ Some (Some t) → AreOut n d.shelves d.held
-    → AreOut n (slice_set d.shelves k (shelf_step counting s (publish t) fate).1) (slice_set d.held worker None)
+    → AreOut n (slice_set d.shelves k (happening s (publish t) fate).1) (slice_set d.held worker None)
 publish_orderly n d k worker t fate s here place holds o =
     let kept = published s.rules s.book (counting s.nonces) t fate in
-    orderly_spent n d.shelves d.held k worker s (shelf_step counting s (publish t) fate).1 t here place holds kept.out kept.drawn o
+    orderly_spent n d.shelves d.held k worker s (happening s (publish t) fate).1 t here place holds kept.out kept.drawn o
 
 pub sweep_orderly : (n : ℕ) (d : Desk) (k tick : ℕ) (fate : Fate) (s : Shelf) → slice_get d.shelves k ≡ Some s → AreOut n d.shelves d.held
-    → AreOut n (slice_set d.shelves k (shelf_step counting s (sweep tick) fate).1) d.held
+    → AreOut n (slice_set d.shelves k (happening s (sweep tick) fate).1) d.held
 sweep_orderly n d k tick fate s here o =
     let kept = swept s.rules s.book (counting s.nonces) tick fate in
-    orderly_same n d.shelves d.held k s (shelf_step counting s (sweep tick) fate).1 here kept.out kept.drawn o
+    orderly_same n d.shelves d.held k s (happening s (sweep tick) fate).1 here kept.out kept.drawn o
 
 -- a publish of what a worker holds
 pub publish_lawful : (n : ℕ) (d : Desk) (k worker : ℕ) (t : Ticket) (s : Shelf) → slice_get d.shelves k ≡ Some s → k ≡ shelf_for n worker t.target
     → slice_get d.held worker ≡ Some (Some t) → AreOut n d.shelves d.held → IsLawful (publish t) s.book
 publish_lawful n d k worker t s here place holds o =
     of_among s.book.out t.number (o.out worker t holds s (moved d.shelves (shelf_for n worker t.target) k s (sym place) here))
+
+-- ---- a crash
+
+-- what is held behind it was held, and is of another shelf
+pub held_elsewhere : (n k from w : ℕ) (held : List (Option Ticket)) (t : Ticket) → slice_get (without_shelf n k from held) w ≡ Some (Some t)
+    → (slice_get held w ≡ Some (Some t)) × (shelf_for n (from + w) t.target ≢ k)
+held_elsewhere n k from w [] t h = absurd (let no : None ≡ Some (Some t) = h in cc)
+held_elsewhere n k from zero (o ∷ held) t h = at_first o h
+  where
+    unless : (b : Bool) (u : Ticket) → (shelf_for n from u.target == k) ≡ b → ◌≡◌ {A = Option (Option Ticket)} (Some (if b then None else Some u)) (Some (Some t))
+        → (Some (Some u) ≡ Some (Some t)) × (shelf_for n (from + zero) t.target ≢ k)
+    unless true u test e = absurd (cc)
+    unless false u test e =
+        let same : u ≡ t = same_Some u t (same_Some (Some u) (Some t) e) in
+        (e, subst (λ (x : Ticket). shelf_for n (from + zero) x.target ≢ k) same
+        (subst (λ m. shelf_for n m u.target ≢ k) (let is : from ≡ from + zero = omega arith in is) (λ is. not_same (shelf_for n from u.target) k test is)))
+
+    at_first : (o : Option Ticket) → slice_get (without_shelf n k from (o ∷ held)) zero ≡ Some (Some t)
+        → (slice_get (o ∷ held) zero ≡ Some (Some t)) × (shelf_for n (from + zero) t.target ≢ k)
+    at_first None e = absurd (let no : Some None ≡ Some (Some t) = e in cc)
+    at_first (Some u) e = unless (shelf_for n from u.target == k) u refl e
+held_elsewhere n k from (suc w) (o ∷ held) t h =
+    let later = held_elsewhere n k (from + 1) w held t h in
+    let is : from + 1 + w ≡ from + suc w = omega arith in
+    (later.0, subst (λ m. shelf_for n m t.target ≢ k) is later.1)
+
+-- nothing is out on a shelf that was opened again, and nobody holds a ticket of it
+pub crash_orderly : (n : ℕ) (d : Desk) (k : ℕ) (s new : Shelf) → slice_get d.shelves k ≡ Some s → new.book.out ≡ [] → AreOut n d.shelves d.held
+    → AreOut n (slice_set d.shelves k new) (without_shelf n k 0 d.held)
+crash_orderly n d k s new here none o = record {
+  count = length-set d.shelves k new ∙ o.count;
+  below = λ j x e m h. elim (at_set d.shelves k j new x e) [
+    | inl p ↦ absurd (subst (Among m) (ap (λ (y : Shelf). y.book.out) (sym p.1) ∙ none) h)
+    | inr p ↦ o.below j x p.1 m h
+  ];
+  out = λ w t h x e.
+      let was = held_elsewhere n k 0 w d.held t h in
+      elim (at_set d.shelves k (shelf_for n w t.target) new x e) [
+        | inl p ↦ absurd (was.1 (ap (λ i. shelf_for n i t.target) (let is : 0 + w ≡ w = omega arith in is) ∙ p.0))
+        | inr p ↦ o.out w t was.0 x p.1
+      ];
+  apart = λ v w t u g h same e. o.apart v w t u (held_elsewhere n k 0 v d.held t g).0 (held_elsewhere n k 0 w d.held u h).0 same e;
+}
+
+-- what a crash leaves out
+pub crashed_out : (rules : Rules) (b : Book) (nonce : ℕ) (scripts : List Named) (fate : Fate) → (step rules b nonce (crash scripts) fate).1.out ≡ []
+unfolding step
+crashed_out rules b nonce scripts fate = refl

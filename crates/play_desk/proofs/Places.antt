@@ -1,5 +1,7 @@
 -- Places of lists that are read and written.
-use Rattle.std.proofs.Common.{◌≡◌, ◌≢◌, ◌⊎◌, inl, inr, ap, sym, refl, ℕ, ◌<◌, zero, suc, List, [], ◌∷◌, length, replicate, slice_get, slice_set, Some, None, arith}
+use Rattle.std.proofs.Common.{◌≡◌, ◌≢◌, ◌⊎◌, inl, inr, ap, sym, refl, ℕ, ◌<◌, ◌==◌, ◌++◌, ◌∙◌, true, false, zero, suc, List, [], ◌∷◌, length, replicate, slice_get, slice_set, Some, None, arith}
+
+use Rattle.std.proofs.lemmas.Bool.{eq-eqb}
 
 pub get_set : {A : Type 0} (xs : List A) (i : ℕ) (x : A) → i < length xs → slice_get (slice_set xs i x) i ≡ Some x
 get_set [] i x h = absurd (omega arith)
@@ -37,3 +39,13 @@ none_there (suc n) (suc w) t h = none_there n w t h
 
 pub same_Some : {A : Type 0} (x y : A) → Some x ≡ Some y → x ≡ y
 same_Some x y e = cc
+
+-- what stands in a list with one more
+pub in_push : {A : Type 0} (xs : List A) (x : A) (k : ℕ) (u : A) → slice_get (xs ++ x ∷ []) k ≡ Some u → (slice_get xs k ≡ Some u) ⊎ (x ≡ u)
+in_push [] x zero u e = inr (same_Some x u e)
+in_push [] x (suc k) u e = absurd (let no : None ≡ Some u = e in cc)
+in_push (y ∷ xs) x zero u e = inl e
+in_push (y ∷ xs) x (suc k) u e = in_push xs x k u e
+
+pub not_same : (a b : ℕ) → (a == b) ≡ false → a ≢ b
+not_same a b test is = absurd (let yes = eq-eqb a b is in let no : true ≡ false = sym yes ∙ test in cc)

@@ -3,18 +3,18 @@ use Rattle.std.proofs.Common.{◌≡◌, ◌∙◌, ap, sym, subst, refl, ℕ, �
 use Rattle.std.proofs.lemmas.List.{map-append}
 use Rattle.script_value.specs.declared.outcome.Reply as outcome
 use Rattle.replay_spec.specs.Step.{Fate, Reply}
-use Rattle.play_steps.specs.Step.{Step, take, publish, get, tick, lines_in}
+use Rattle.play_steps.specs.Step.{Step, take, publish, get, tick, crash, lines_in}
 use Rattle.play_steps.specs.Reports.{take_report, sweep_report}
 use Rattle.play_steps.specs.Rules.{Call, answered, event}
 use Rattle.play_steps.specs.declared.report.Report.{Report}
-use Rattle.play_steps.specs.declared.report.Report.TheVariants.{Replied}
+use Rattle.play_steps.specs.declared.report.Report.TheVariants.{Replied, Reopened}
 use Rattle.play_steps.specs.Transcript.{Run, End, done, bad_line, went, stopped, behind, goes_on, first_fate, later_fates, fits, called, published, got, swept, performed, text_of, transcript}
-use Rattle.play_desk.specs.Desk.{Desk, desk_rules, desk_take, desk_publish, desk_sweep}
-use Rattle.play_desk.specs.Ledger.{Entry, Ledger, ledger_of, ledger_rules, ledger_take, ledger_publish, ledger_sweep}
+use Rattle.play_desk.specs.Desk.{Desk, desk_rules, desk_take, desk_publish, desk_sweep, desk_crash}
+use Rattle.play_desk.specs.Ledger.{Entry, Ledger, ledger_of, ledger_rules, ledger_take, ledger_publish, ledger_sweep, ledger_crash}
 use Rattle.play_desk.specs.Laws.{AreRuns, AreLawfulRuns, TranscriptsAreRuns}
 use Rattle.play_desk.proofs.ShelfRuns.{no_runs, no_lawful, runs_then, lawful_then}
 use Rattle.play_desk.proofs.Held.{AreOut, first_orderly}
-use Rattle.play_desk.proofs.Entering.{Enters, EntersOne, take_enters, publish_enters, sweep_enters}
+use Rattle.play_desk.proofs.Entering.{Enters, EntersOne, take_enters, publish_enters, sweep_enters, crash_enters}
 
 -- a desk's run, as a ledger has it
 abbrev as_entered : Run desk_rules → List Reply → List Entry → Run ledger_rules
@@ -177,12 +177,17 @@ step_follows (tick time) d fates =
     again d (swept desk_rules time (length d.shelves) 0 d fates) (λ l. swept ledger_rules time (length d.shelves) 0 l fates)
     (λ l. swept ledger_rules time l.count 0 l fates) (swept_follows time (length d.shelves) 0 d fates) (λ later before. refl)
 
+step_follows (crash shelf) d fates =
+    after_call d (desk_crash d shelf) (λ l. ledger_crash l shelf) fates (λ live. went desk_rules (Reopened shelf live ∷ []))
+    (λ live. went ledger_rules (Reopened shelf live ∷ [])) (crash_enters d shelf) (λ live. told_follows (Reopened shelf live ∷ []))
+
 -- a step fits the ledger where it fits the desk
 same_fits : (step : Step) (d : Desk) (later : List Reply) (before : List Entry) → fits ledger_rules step (ledger_of d later before) ≡ fits desk_rules step d
 same_fits (take worker target) d later before = refl
 same_fits (publish worker) d later before = refl
 same_fits (get worker target) d later before = refl
 same_fits (tick time) d later before = refl
+same_fits (crash shelf) d later before = refl
 
 run_follows : (steps : List (Option Step)) (d : Desk) (number : ℕ) (fates : List Fate)
     → Follows d (transcript desk_rules d number steps fates) (λ l. transcript ledger_rules l number steps fates)
@@ -228,8 +233,8 @@ transcripts_are_runs d number steps fates =
         held = sym (ap (λ (x : Run ledger_rules). x.state.held) is);
         runs = subst (λ (es : List Entry). AreRuns es d.shelves (transcript desk_rules d number steps fates).state.shelves)
             (sym (ap (λ (x : Run ledger_rules). x.state.entries) is)) h.runs;
-        lawful = λ rules scripts from_first.
+        lawful = λ rules scripts count from_first.
             subst (λ (es : List Entry). AreLawfulRuns es d.shelves) (sym (ap (λ (x : Run ledger_rules). x.state.entries) is))
-            (h.lawful 1 (subst (λ (e : Desk). AreOut 1 e.shelves e.held) (sym from_first) (first_orderly rules scripts))).0;
+            (h.lawful count (subst (λ (e : Desk). AreOut count e.shelves e.held) (sym from_first) (first_orderly rules scripts count))).0;
       },
     )

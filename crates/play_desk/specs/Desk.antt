@@ -47,7 +47,7 @@ in_64_bits s = record s { nonces = counting s.nonces }
 
 -- an event of a shelf: its reply, and the shelf behind it
 abbrev pub happening : Shelf → Event → Fate → spec.Reply × Shelf
-happening s event fate = let x = shelf_step counting s event fate in (x.0, in_64_bits x.1)
+happening s what fate = let x = shelf_step counting s what fate in (x.0, in_64_bits x.1)
 
 -- so many shelves of these scripts, from number 0 on, with nothing on them
 abbrev pub first_shelves : (rules : ℕ → Rules) → List Named → (count : ℕ) → List Shelf

@@ -29,15 +29,16 @@ publishing n m r = record { shelf = 0; event = event.publish (ticket n m); fate 
 -- A publish is of the ticket that the worker's take was given, and a path that names nothing is no event and takes no reply.
 -- Nothing is read behind a line that does not fit.
 pub lines_are_events :
-    (rules : Rules) (scripts : List Named)
-    → reading (first_desk rules scripts) 1 (map Some (take 0 (codes "/servlets/s") ∷ take 1 (codes "/") ∷ publish 0 ∷ publish 0 ∷ tick 60 ∷ [])) []
+    (rules : ℕ → Rules) (scripts : List Named)
+    → reading (first_desk rules scripts 1) 1 (map Some (take 0 (codes "/servlets/s") ∷ take 1 (codes "/") ∷ publish 0 ∷ publish 0 ∷ tick 60 ∷ [])) []
     (taken 7 8 ∷ ended (codes "bye") ∷ memory ∷ [])
     ≡ record {
       told = Taken 0 7 ∷ Replied 1 (Refused Unknown) ∷ Replied 0 (Ended (codes "bye")) ∷ [];
       end = bad_line 4;
       state = record {
+        scripts = scripts;
         count = 1;
-        held = (first_desk rules scripts).held;
+        held = (first_desk rules scripts 1).held;
         replies = memory ∷ [];
         entries = taking plain (taken 7 8) ∷ publishing 7 8 (ended (codes "bye")) ∷ [];
       };
@@ -48,16 +49,16 @@ lines_are_events rules scripts = refl
 
 -- a get whose take is given a ticket is two events
 pub a_get_is_two_events :
-    (rules : Rules) (scripts : List Named)
-    → events_of (first_desk rules scripts) 1 (map Some (get 2 (codes "/servlets/s") ∷ [])) [] (taken 3 4 ∷ shown (codes "p") (codes "u") ∷ [])
+    (rules : ℕ → Rules) (scripts : List Named)
+    → events_of (first_desk rules scripts 1) 1 (map Some (get 2 (codes "/servlets/s") ∷ [])) [] (taken 3 4 ∷ shown (codes "p") (codes "u") ∷ [])
     ≡ taking plain (taken 3 4) ∷ publishing 3 4 (shown (codes "p") (codes "u")) ∷ []
 unfolding transcript destination_of named_by percent_decode
 a_get_is_two_events rules scripts = refl
 
 -- a take that is given no ticket is an event too, and the worker may take again; a tick is a sweep of the shelf
 pub refusals_are_events :
-    (rules : Rules) (scripts : List Named)
-    → events_of (first_desk rules scripts) 1 (map Some (take 0 (codes "/servlets/s") ∷ get 0 (codes "/servlets/s") ∷ tick 60 ∷ [])) (no_memory ∷ [])
+    (rules : ℕ → Rules) (scripts : List Named)
+    → events_of (first_desk rules scripts 1) 1 (map Some (take 0 (codes "/servlets/s") ∷ get 0 (codes "/servlets/s") ∷ tick 60 ∷ [])) (no_memory ∷ [])
     (memory ∷ memory ∷ swept 0 ∷ [])
     ≡ taking no_memory memory ∷ taking plain memory ∷ record { shelf = 0; event = event.sweep 60; fate = plain; reply = swept 0 } ∷ []
 unfolding transcript destination_of named_by percent_decode
@@ -65,8 +66,8 @@ refusals_are_events rules scripts = refl
 
 -- and the fate of the event behind it is not that of a path that names nothing
 pub what_names_nothing_takes_no_fate :
-    (rules : Rules) (scripts : List Named)
-    → events_of (first_desk rules scripts) 1 (map Some (take 0 (codes "/") ∷ take 0 (codes "/servlets/s") ∷ [])) (no_memory ∷ []) (memory ∷ [])
+    (rules : ℕ → Rules) (scripts : List Named)
+    → events_of (first_desk rules scripts 1) 1 (map Some (take 0 (codes "/") ∷ take 0 (codes "/servlets/s") ∷ [])) (no_memory ∷ []) (memory ∷ [])
     ≡ taking no_memory memory ∷ []
 unfolding transcript destination_of named_by percent_decode
 what_names_nothing_takes_no_fate rules scripts = refl
