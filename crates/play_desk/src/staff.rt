@@ -1,15 +1,15 @@
-ghost use Rattle.std.specs.Prelude.{◌≡◌, ◌≢◌, ◌<◌, ◌^◌, ◌×◌, ℕ, true, IfOk, is_some, length, map, option_map, replicate, slice_get, slice_set, vec_len, Some, None};
+ghost use Rattle.std.specs.Prelude.{◌≡◌, ◌<◌, ◌^◌, ℕ, true, IfOk, is_some, length, map, option_map, replicate, slice_get, slice_set, vec_len, Some, None};
 ghost use Rattle.script_nodes.specs.Views.{scripts_of};
 ghost use Rattle.page_names.specs.Names.{destination_of};
 ghost use Rattle.page_names.specs.Views.{target_of};
 ghost use Rattle.instance_book.specs.Fits.{IsForSome};
 ghost use Rattle.instance_book.specs.Views.{ticket_of};
-ghost use Rattle.instance_book.specs.declared.ticket.Ticket as tickets;
+ghost use Rattle.play_desk.specs.Staff.{KeepsOthers};
 ghost use Rattle.shelf.specs.Views.{IsRunIfAny};
 ghost use Rattle.play_desk.specs.Desk as spec;
 ghost use Rattle.play_desk.specs.Desk.{without_shelf};
 ghost use Rattle.play_desk.specs.Target.{shelf_for};
-ghost use Rattle.play_desk.specs.Staff.{IsFit, PublishesTicket, StaysThere, SweepsShelf, TakesTicket, desk_of, place_of};
+ghost use Rattle.play_desk.specs.Staff.{IsFit, PublishesTicket, StaysThere, SweepsShelf, TakesTicket, desk_of};
 
 use crate::answer::answer_to;
 use http_forms::path_and_query;
@@ -86,8 +86,7 @@ fn is_of(count: usize, place: usize, worker: u32, held: &Option<Ticket>) -> bool
 pub fn lose_tickets(tickets: &mut [Option<Ticket>; 16], count: usize, place: usize)
     requires { 0 < count }
     ensures held { map (option_map ticket_of) tickets.new ≡ without_shelf count place 0 (map (option_map ticket_of) tickets.old) }
-    ensures kept { (w : ℕ) (t : tickets.Ticket) → slice_get tickets.new w ≡ Some (Some t)
-        → (slice_get tickets.old w ≡ Some (Some t)) × (place_of count w t ≢ place) }
+    ensures kept { KeepsOthers count place tickets.old tickets.new }
 {
     for worker in 0..16u32 {
         if is_of(count, place, worker, &tickets[worker as usize]) {
