@@ -1,5 +1,5 @@
 -- What shelves with their workers stand for, and what holds of them between the steps of a run.
-use Rattle.std.specs.Prelude.{◌≡◌, ◌≢◌, ◌≤◌, ◌-◌, ◌+◌, ◌^◌, ℕ, Bool, true, false, List, map, length, min, sum, slice_get, Contains, Option, Some, None, Result, option_map, is_some}
+use Rattle.std.specs.Prelude.{◌≡◌, ◌≢◌, ◌≤◌, ◌-◌, ◌+◌, ◌^◌, ℕ, Bool, true, false, List, map, length, min, sum_by, slice_get, Contains, Option, Some, None, Result, option_map, is_some}
 use Rattle.server_limits.specs.Limits.{most_shelves}
 use Rattle.web_outside.specs.Causes.{Rose}
 use Rattle.web_outside.specs.Counted.{counted}
@@ -34,12 +34,15 @@ abbrev pub shelf_at : {D : Type 0} → List Named → Shelf D Counting → runs.
 shelf_at scripts s = shelf_of scripts (counted s.nonces 0) s
 
 -- the shelves with their workers' tickets
-abbrev pub desk_of : {D : Type 0} → Setup → Staff D → Desk
-desk_of setup s = record {
-  scripts = scripts_of setup;
-  shelves = map (shelf_at (scripts_of setup)) s.shelves.items;
-  held = map (option_map ticket_of) s.tickets;
+abbrev pub desk_with : {D : Type 0} → List Named → List (Shelf D Counting) → List (Option Ticket) → Desk
+desk_with scripts shelves tickets = record {
+  scripts = scripts;
+  shelves = map (shelf_at scripts) shelves;
+  held = map (option_map ticket_of) tickets;
 }
+
+abbrev pub desk_of : {D : Type 0} → Setup → Staff D → Desk
+desk_of setup s = desk_with (scripts_of setup) s.shelves.items s.tickets
 
 -- the number is out; and the ticket is for the visit that its target was admitted as when it was taken, on the book that the
 -- shelf had then, which had the same setup
@@ -78,7 +81,7 @@ abbrev pub numbers_in : {D : Type 0} → List (Shelf D Counting) → List ℕ
 numbers_in shelves = map (λ x. x.rules.number) shelves
 
 abbrev pub faults_in : {D : Type 0} → (D → View) → List (Shelf D Counting) → ℕ
-faults_in view shelves = sum (map (λ x. (view x.journal.disk).faults) shelves)
+faults_in view shelves = sum_by (λ x. (view x.journal.disk).faults) shelves
 
 -- each has a number of its own
 abbrev pub HaveOwnNumbers : {D : Type 0} → List (Shelf D Counting) → Type 0
@@ -87,15 +90,19 @@ HaveOwnNumbers shelves =
 
 -- Each shelf is served, under a number of its own. What workers hold are tickets that are open on their shelves, on each of
 -- different numbers.
-pub record IsFit {D : Type 0} (view : D → View) (tells : Bool) (scripts : List Named) (s : Staff D) : Type 0 where
-  pub served : (k : ℕ) (x : Shelf D Counting) → slice_get s.shelves.items k ≡ Some x → IsServed view tells scripts x
-  pub numbers : HaveOwnNumbers s.shelves.items
-  pub few : length s.shelves.items ≤ most_shelves
-  pub count : length s.tickets ≡ 16
-  pub tickets : (w : ℕ) (t : Ticket) → slice_get s.tickets w ≡ Some (Some t)
-      → IsOpenAt scripts s.shelves.items (place_of (length s.shelves.items) w t) t
-  pub apart : (v w : ℕ) (t u : Ticket) → slice_get s.tickets v ≡ Some (Some t) → slice_get s.tickets w ≡ Some (Some u)
-      → place_of (length s.shelves.items) v t ≡ place_of (length s.shelves.items) w u → t.number ≡ u.number → v ≡ w
+pub record AreFit {D : Type 0} (view : D → View) (tells : Bool) (scripts : List Named) (shelves : List (Shelf D Counting))
+    (tickets : List (Option Ticket)) : Type 0 where
+  pub served : (k : ℕ) (x : Shelf D Counting) → slice_get shelves k ≡ Some x → IsServed view tells scripts x
+  pub numbers : HaveOwnNumbers shelves
+  pub few : length shelves ≤ most_shelves
+  pub count : length tickets ≡ 16
+  pub are_open : (w : ℕ) (t : Ticket) → slice_get tickets w ≡ Some (Some t)
+      → IsOpenAt scripts shelves (place_of (length shelves) w t) t
+  pub apart : (v w : ℕ) (t u : Ticket) → slice_get tickets v ≡ Some (Some t) → slice_get tickets w ≡ Some (Some u)
+      → place_of (length shelves) v t ≡ place_of (length shelves) w u → t.number ≡ u.number → v ≡ w
+
+abbrev pub IsFit : {D : Type 0} → (D → View) → Bool → List Named → Staff D → Type 0
+IsFit view tells scripts s = AreFit view tells scripts s.shelves.items s.tickets
 
 -- how often a rack and disks that are out of it have failed, up to the type's end
 abbrev pub total : (rack disks : ℕ) → ℕ

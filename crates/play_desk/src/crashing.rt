@@ -1,4 +1,4 @@
-ghost use Rattle.std.specs.Prelude.{◌≡◌, ◌≤◌, ◌<◌, ℕ, IsTrue, IfOk, IsErrOf, vec_len};
+ghost use Rattle.std.specs.Prelude.{◌≡◌, ◌≤◌, ◌<◌, ℕ, IsTrue, IfOk, IsErrOf, length};
 ghost use Rattle.web_outside.specs.Causes.{Rose};
 ghost use Rattle.script_nodes.specs.Views.{scripts_of};
 ghost use Rattle.play_desk.specs.Opening.{CrashesShelf};
@@ -22,7 +22,7 @@ pub fn crash<D: Disk, R: Rack<D>>(
     rack: &mut R,
     place: u32,
 ) -> Result<u32, Reopen>
-    requires place { place < vec_len staff.old.shelves }
+    requires place { place < length staff.old.shelves.items }
     requires fit { IsFit D.view D.tells (scripts_of setup.now) staff.old }
     requires home { IsHome staff.old.shelves.items (R.view rack.old).out }
     ensures step { IsTrue R.tells → IsTrue D.tells →

@@ -1,4 +1,4 @@
-ghost use Rattle.std.specs.Prelude.{◌≡◌, ◌<◌, ◌^◌, ℕ, true, IfOk, is_some, length, map, option_map, replicate, slice_get, slice_set, vec_len, Some, None};
+ghost use Rattle.std.specs.Prelude.{◌≡◌, ◌<◌, ◌^◌, ℕ, true, IfOk, is_some, length, map, option_map, replicate, slice_get, slice_set, Some, None};
 ghost use Rattle.script_nodes.specs.Views.{scripts_of};
 ghost use Rattle.page_names.specs.Names.{destination_of};
 ghost use Rattle.page_names.specs.Views.{target_of};
@@ -178,7 +178,7 @@ pub fn sweep<D: Disk>(
     place: u32,
     tick: u64,
 ) -> Result<u32, Reply>
-    requires place { place < vec_len staff.old.shelves }
+    requires place { place < length staff.old.shelves.items }
     requires tick { tick < 2 ^ 62 }
     requires fit { IsFit D.view D.tells (scripts_of setup.now) staff.old }
     ensures step { SweepsShelf D.view setup.now staff.old place tick result staff.new }
