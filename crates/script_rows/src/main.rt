@@ -4,8 +4,10 @@
 mod read;
 mod rows;
 mod runs;
+mod states;
 mod syntax;
 mod text;
+mod twins;
 mod values;
 
 use std::io;
