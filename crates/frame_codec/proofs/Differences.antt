@@ -1,5 +1,5 @@
 -- Differences of states are exact.
-use Rattle.std.proofs.Common.{◌≡◌, ℕ, ◌==◌, if◌then◌else◌, Bool, true, false, List, [], ◌∷◌, ◌++◌, length, take, reverse, Option, Some, None, refl, sym, ap, subst, ◌∙◌}
+use Rattle.std.proofs.Common.{arith, inl, inr, ◌≤◌, ◌≡◌, ℕ, ◌==◌, if◌then◌else◌, Bool, true, false, List, [], ◌∷◌, ◌++◌, length, take, reverse, Option, Some, None, refl, sym, ap, subst, ◌∙◌}
 use Rattle.std.specs.Prelude.{IsTrue, map, unwrap_or}
 use Rattle.std.specs.List.{AllByRecursion}
 use Rattle.std.proofs.lemmas.List.{append-nil, reverse-reverse, map-append, take-map}
@@ -7,13 +7,13 @@ use Rattle.std.proofs.lemmas.Bool.{false≢true}
 use Rattle.std.proofs.lemmas.Option.{none-some}
 use Rattle.script_value.specs.Val.{Val}
 use Rattle.web_cells.specs.Shadows.{binding, all_bound, last_shadow, Rise}
-use Rattle.web_cells.specs.Own.{BindsAllOf}
+use Rattle.web_cells.specs.Own.{IsOwn, BindsAllOf}
 use Rattle.web_cells.proofs.Shadowed.{last_binds}
 use Rattle.web_cells.proofs.Owned as own
 use Rattle.script_nodes.specs.Arena.{Arena}
 use Rattle.wire_bytes.specs.Spelling.{u32_bytes}
 use Rattle.wire_bytes.specs.Reading.{read_u32}
-use Rattle.value_bytes.specs.Spelling.{values_bytes, list_bytes, HaveBytes, FitsList}
+use Rattle.value_bytes.specs.Spelling.{values_bytes, list_bytes, HaveBytes, FitsList, HasBytes}
 use Rattle.value_bytes.specs.Reading.{read_list, read_values}
 use Rattle.value_bytes.specs.Laws.{IsExact}
 use Rattle.value_bytes.proofs.Numbers.{u32_exact}
@@ -26,7 +26,7 @@ use Rattle.frame_codec.specs.Spelling.{frame_bytes, shadow_bytes, IsShort, Frame
 use Rattle.frame_codec.specs.Walk.{frames_fit, shadows_fit}
 use Rattle.frame_codec.specs.Stored.{IsStored}
 use Rattle.frame_codec.specs.Reading.{read_both, read_frame, read_shadow}
-use Rattle.frame_codec.specs.Deltas.{Delta, IsDelta, joined, delta_bytes, DeltaHasBytes, DeltaParts, read_delta_parts, as_delta, read_delta, SpellsDelta, HasNoDelta, DeltasAreOne}
+use Rattle.frame_codec.specs.Deltas.{Delta, Shares, IsDelta, joined, delta_bytes, DeltaHasBytes, DeltaParts, read_delta_parts, as_delta, read_delta, SpellsDelta, HasNoDelta, DeltasAreOne, EachDeltaHasBytes}
 use Rattle.frame_codec.proofs.Frames.{both_bytes, BothFit, both_exact, values_exact, frame_exact, shadow_exact, LetFits, IsRead}
 use Rattle.frame_codec.proofs.Walks.{lets_fit, walk_fits, fits_walk}
 use Rattle.frame_codec.proofs.Cells.{cells_fit, fit_cells}
@@ -119,6 +119,34 @@ delta_back a p s d stored is has =
     let frames = frames_are_read a p s d stored is has in
     ap (λ (b : List ℕ). read_delta a b) (sym (append-nil (delta_bytes d)))
     ∙ ap (λ o. as_delta o) ((parts_exact a).back (parts_of d) [] (has.env_shared, (has.env, (has.frames_shared, (frames, has.shadows)))))
+
+-- ---- what differs has a spelling
+
+fits_rest : {A : Type 0} (P : A → Type 0) (xs ys : List A) (n : ℕ) (rest : List A) → Shares xs ys n rest → FitsList P ys → IsShort n × FitsList P rest
+fits_rest P xs ys n rest h fit =
+    let len = shared.within xs ys n rest h in
+    let few = fit.0 in
+    let all = all_behind P (take n xs) rest (subst (λ (l : List _). AllByRecursion P l) (shared.whole xs ys n rest h) fit.1) in
+    (omega (arith, len, few), (omega (arith, len, few), all))
+
+own_fit : (p ss own : List (ℕ × Val)) → IsOwn p ss own → AllByRecursion ShadowHasBytes ss → AllByRecursion ShadowHasBytes own × (length own ≤ length ss)
+own_fit p [] own i h = subst (λ (l : List (ℕ × Val)). AllByRecursion ShadowHasBytes l × (length l ≤ 0)) (sym i) (tt, omega arith)
+own_fit p (s ∷ ss) own (inl i) h =
+    let more = own_fit p ss own i.1 h.1 in
+    let few = more.1 in (more.0, omega (arith, few))
+own_fit p (s ∷ ss) own (inr i) h =
+    let more = own_fit p ss i.1.0 i.1.1.1 h.1 in
+    let few = more.1 in
+    subst (λ (l : List (ℕ × Val)). AllByRecursion ShadowHasBytes l × (length l ≤ length (s ∷ ss))) (sym i.1.1.0) ((h.0, more.0), omega (arith, few))
+
+pub each_has_bytes : EachDeltaHasBytes
+each_has_bytes p s d has is =
+    let env = fits_rest HasBytes p.env s.env d.env_shared d.env is.env has.env in
+    let frames = fits_rest FrameHasBytes (reverse p.frames) (reverse s.frames) d.frames_shared d.frames is.frames has.frames in
+    let shadows = own_fit p.shadows s.shadows d.shadows is.shadows has.shadows.1 in
+    let few = shadows.1 in
+    let short = has.shadows.0 in
+    record { env_shared = env.0; env = env.1; frames_shared = frames.0; frames = frames.1; shadows = (omega (arith, few, short), shadows.0) }
 
 -- ---- a state of the program that fits
 

@@ -13,6 +13,13 @@ whole [] ys (suc n) rest h = absurd h
 whole (x ∷ xs) [] (suc n) rest h = absurd h
 whole (x ∷ xs) (y ∷ ys) (suc n) rest h = let more = whole xs ys n rest h.1 in λ i. sym h.0 i ∷ more i
 
+-- it is no longer than the second list
+pub within : {A : Type 0} (xs ys : List A) (n : ℕ) (rest : List A) → Shares xs ys n rest → n + length rest ≡ length ys
+within xs ys zero rest h = let same = ap (λ (l : List _). length l) h.0 in omega (arith, same)
+within [] ys (suc n) rest h = absurd h
+within (x ∷ xs) [] (suc n) rest h = absurd h
+within (x ∷ xs) (y ∷ ys) (suc n) rest h = let more = within xs ys n rest h.1 in omega (arith, more)
+
 -- there is one longest front
 pub one : {A : Type 0} (xs ys : List A) (n m : ℕ) (r q : List A) → Shares xs ys n r → Shares xs ys m q → (n ≡ m) × (r ≡ q)
 one xs ys zero zero r q h k = (refl, sym h.0 ∙ k.0)

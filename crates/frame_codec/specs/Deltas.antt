@@ -9,7 +9,7 @@ use Rattle.wire_bytes.specs.Reading.{read_u32}
 use Rattle.value_bytes.specs.Spelling.{values_bytes, list_bytes, HaveBytes, FitsList}
 use Rattle.value_bytes.specs.Reading.{Reader, read_list, read_values}
 use Rattle.machine_spec.specs.Machine.{Frame, Suspended}
-use Rattle.frame_codec.specs.Spelling.{frame_bytes, shadow_bytes, IsShort, FrameHasBytes, ShadowHasBytes}
+use Rattle.frame_codec.specs.Spelling.{frame_bytes, shadow_bytes, IsShort, FrameHasBytes, ShadowHasBytes, StateHasBytes}
 use Rattle.frame_codec.specs.Stored.{IsStored}
 use Rattle.frame_codec.specs.Reading.{read_both, read_frame, read_shadow}
 
@@ -97,3 +97,7 @@ HasNoDelta a p bytes =
 -- a state has one difference from its parent
 abbrev pub DeltasAreOne : Type 0
 DeltasAreOne = (p s : Suspended) (d e : Delta) → IsDelta p s d → IsDelta p s e → d ≡ e
+
+-- what differs between a state that has a spelling and its parent's has one
+abbrev pub EachDeltaHasBytes : Type 0
+EachDeltaHasBytes = (p s : Suspended) (d : Delta) → StateHasBytes s → IsDelta p s d → DeltaHasBytes d

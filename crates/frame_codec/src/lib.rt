@@ -2,7 +2,7 @@
 #![tactic(auto)]
 
 ghost use Rattle.frame_codec.specs.Laws.{AreStatesExact, EachKeptIsStored};
-ghost use Rattle.frame_codec.specs.Deltas.{DeltasAreOne};
+ghost use Rattle.frame_codec.specs.Deltas.{DeltasAreOne, EachDeltaHasBytes};
 
 mod delta_bytes;
 mod difference;
@@ -36,4 +36,9 @@ pub fn what_is_kept_is_stored()
 /// A state has one difference from its parent.
 pub fn deltas_are_one()
     ensures { DeltasAreOne }
+{}
+
+/// What differs between a state that has a spelling and its parent's has one too.
+pub fn each_delta_has_bytes()
+    ensures { EachDeltaHasBytes }
 {}

@@ -1,4 +1,4 @@
-use crate::{read, runs, states, syntax, text, twins, values};
+use crate::{differences, read, runs, states, syntax, text, twins, values};
 use std::alloc::{AllocError, Global};
 
 // What is asked of a text: the word of a row, and the rest of its line.
@@ -26,6 +26,8 @@ fn answer(alloc: Global, word: &str, row: &str) -> Result<String, AllocError> {
         "bytes" => states::bytes_told(alloc, asked),
         "state" => states::read_told(alloc, asked),
         "cuts" => states::cuts_told(alloc, asked),
+        "differs" => differences::difference_told(alloc, asked),
+        "against" => differences::read_told(alloc, asked),
         "changes" => states::changes_told(alloc, asked),
         "page" => values::page_told(alloc, asked),
         "measure" => values::measures_told(alloc, asked),

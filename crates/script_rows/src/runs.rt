@@ -100,7 +100,7 @@ pub struct Asked {
 }
 
 /// What a row asks for, its answers standing behind `<-`, or the first fault of the script or of the answers.
-pub fn asked(alloc: Global, row: &str) -> Result<Result<Asked, String>, AllocError> {
+pub fn question_of(alloc: Global, row: &str) -> Result<Result<Asked, String>, AllocError> {
     let (fuel, row) = fuel_of(row);
     let (text, answers) = row.split_once(" <- ").unwrap_or((row, ""));
     let script = match script_of(alloc, text)? {
@@ -119,7 +119,7 @@ pub fn asked(alloc: Global, row: &str) -> Result<Result<Asked, String>, AllocErr
 
 // What the script of a row comes to over its answers, or the first fault of either. The machine of stored frames comes to the same.
 fn ran(alloc: Global, row: &str) -> Result<Result<Rerun, String>, AllocError> {
-    let asked = match asked(alloc, row)? {
+    let asked = match question_of(alloc, row)? {
         Ok(asked) => asked,
         Err(fault) => return Ok(Err(fault)),
     };

@@ -1,4 +1,4 @@
-use crate::runs::asked;
+use crate::runs::question_of;
 use crate::syntax::script_of;
 use crate::twins::chain_of;
 use frame_codec::{decode, encode, is_spelled, length};
@@ -14,8 +14,8 @@ struct Kept {
     bytes: Bytes,
 }
 
-// The spelling of a state, if it has one.
-fn spelling(alloc: Global, state: &Suspended) -> Result<Option<Bytes>, AllocError> {
+/// The spelling of a state, if it has one.
+pub fn spelling(alloc: Global, state: &Suspended) -> Result<Option<Bytes>, AllocError> {
     if is_spelled(state) {
         Ok(Some(encode(alloc, state)?))
     } else {
@@ -24,8 +24,8 @@ fn spelling(alloc: Global, state: &Suspended) -> Result<Option<Bytes>, AllocErro
 }
 
 // What is kept of the script of a row behind its answers, or why nothing is.
-fn kept(alloc: Global, row: &str) -> Result<Result<Kept, String>, AllocError> {
-    let asked = match asked(alloc, row)? {
+fn kept_at_last(alloc: Global, row: &str) -> Result<Result<Kept, String>, AllocError> {
+    let asked = match question_of(alloc, row)? {
         Ok(asked) => asked,
         Err(fault) => return Ok(Err(fault)),
     };
@@ -46,8 +46,8 @@ fn kept(alloc: Global, row: &str) -> Result<Result<Kept, String>, AllocError> {
     Ok(Ok(Kept { script, bytes }))
 }
 
-// Bytes as two hexadecimal digits each.
-fn digits(alloc: Global, bytes: &[u8]) -> Result<String, AllocError> {
+/// Bytes as two hexadecimal digits each.
+pub fn digits(alloc: Global, bytes: &[u8]) -> Result<String, AllocError> {
     let mut told = String::new(alloc);
     for byte in bytes {
         told.push_str(format!(in alloc; "{byte:02x}")?.as_str())?;
@@ -55,8 +55,8 @@ fn digits(alloc: Global, bytes: &[u8]) -> Result<String, AllocError> {
     Ok(told)
 }
 
-// The bytes of pairs of hexadecimal digits, with spaces between them or not; none where there is anything else.
-fn bytes_of(alloc: Global, digits: &str) -> Result<Option<Vec<u8>>, AllocError> {
+/// The bytes of pairs of hexadecimal digits, with spaces between them or not; none where there is anything else.
+pub fn bytes_of(alloc: Global, digits: &str) -> Result<Option<Vec<u8>>, AllocError> {
     let mut bytes = Vec::new(alloc);
     let mut high = None;
     for digit in digits.chars().filter(|digit| *digit != ' ') {
@@ -79,7 +79,7 @@ fn bytes_of(alloc: Global, digits: &str) -> Result<Option<Vec<u8>>, AllocError> 
 
 /// What is kept of a script at the page behind its answers: how many bytes, and these bytes.
 pub fn bytes_told(alloc: Global, row: &str) -> Result<String, AllocError> {
-    match kept(alloc, row)? {
+    match kept_at_last(alloc, row)? {
         Ok(kept) => {
             let count = kept.bytes.len();
             let digits = digits(alloc, kept.bytes.as_slice())?;
@@ -90,24 +90,24 @@ pub fn bytes_told(alloc: Global, row: &str) -> Result<String, AllocError> {
 }
 
 // How bytes are read.
-enum Told {
+enum Reading {
     None,
     State,
     Misread,
 }
 
 // How bytes are read: as no state, as one that they spell, or as one that other bytes spell.
-fn told(alloc: Global, script: &Script, bytes: &[u8]) -> Result<Told, AllocError> {
+fn reading_of(alloc: Global, script: &Script, bytes: &[u8]) -> Result<Reading, AllocError> {
     let Some(state) = decode(alloc, script, bytes)? else {
-        return Ok(Told::None);
+        return Ok(Reading::None);
     };
     match spelling(alloc, &state)? {
         Some(spelled) => Ok(if spelled.as_slice() == bytes {
-            Told::State
+            Reading::State
         } else {
-            Told::Misread
+            Reading::Misread
         }),
-        None => Ok(Told::Misread),
+        None => Ok(Reading::Misread),
     }
 }
 
@@ -123,10 +123,10 @@ pub fn read_told(alloc: Global, row: &str) -> Result<String, AllocError> {
     };
     String::from_str(
         alloc,
-        match told(alloc, &script, bytes.as_slice())? {
-            Told::None => "none",
-            Told::State => "state",
-            Told::Misread => "misread",
+        match reading_of(alloc, &script, bytes.as_slice())? {
+            Reading::None => "none",
+            Reading::State => "state",
+            Reading::Misread => "misread",
         },
     )
 }
@@ -139,11 +139,11 @@ struct Counts {
 }
 
 impl Counts {
-    fn count(&mut self, told: Told) {
-        match told {
-            Told::None => (),
-            Told::State => self.states = self.states.saturating_add(1),
-            Told::Misread => self.misread = self.misread.saturating_add(1),
+    fn count(&mut self, reading: Reading) {
+        match reading {
+            Reading::None => (),
+            Reading::State => self.states = self.states.saturating_add(1),
+            Reading::Misread => self.misread = self.misread.saturating_add(1),
         }
     }
 
@@ -156,7 +156,7 @@ impl Counts {
 
 /// How many of the beginnings of a page's state, and of what it is with one byte more, are states.
 pub fn cuts_told(alloc: Global, row: &str) -> Result<String, AllocError> {
-    let kept = match kept(alloc, row)? {
+    let kept = match kept_at_last(alloc, row)? {
         Ok(kept) => kept,
         Err(fault) => return Ok(fault),
     };
@@ -166,12 +166,12 @@ pub fn cuts_told(alloc: Global, row: &str) -> Result<String, AllocError> {
     };
     let mut front = Vec::new(alloc);
     for byte in kept.bytes.as_slice() {
-        counts.count(told(alloc, &kept.script, front.as_slice())?);
+        counts.count(reading_of(alloc, &kept.script, front.as_slice())?);
         front.push(*byte)?;
     }
     for behind in 0..=255_u8 {
         front.push(behind)?;
-        counts.count(told(alloc, &kept.script, front.as_slice())?);
+        counts.count(reading_of(alloc, &kept.script, front.as_slice())?);
         front.pop();
     }
     counts.told(alloc)
@@ -191,7 +191,7 @@ fn count_changes(
         };
         *byte = value;
         if changed.as_slice() != kept.bytes.as_slice() {
-            counts.count(told(alloc, &kept.script, changed.as_slice())?);
+            counts.count(reading_of(alloc, &kept.script, changed.as_slice())?);
         }
     }
     Ok(())
@@ -199,7 +199,7 @@ fn count_changes(
 
 /// How many of the changes of one byte of a page's state are states.
 pub fn changes_told(alloc: Global, row: &str) -> Result<String, AllocError> {
-    let kept = match kept(alloc, row)? {
+    let kept = match kept_at_last(alloc, row)? {
         Ok(kept) => kept,
         Err(fault) => return Ok(fault),
     };

@@ -4,7 +4,7 @@ ghost use Rattle.stored_states.specs.Views.{Keeps};
 ghost use Rattle.send_suspend.specs.Segments.{FitsFrom};
 ghost use Rattle.cek_machine.specs.Machines.{IsReady};
 
-use crate::runs::{Asked, asked, end_told, tape, url};
+use crate::runs::{Asked, end_told, question_of, tape, url};
 use cek_machine::{Machine, Steps};
 use instance_cells::{Cells, Effect};
 use plain_rerun::rerun;
@@ -257,7 +257,12 @@ impl Chain {
 }
 
 /// What a script comes to over answers, up to the first segment that waits for none.
-pub fn chain_of(alloc: Global, script: &Script, answers: &[Value], fuel: u64) -> Result<Chain, AllocError>
+pub fn chain_of(
+    alloc: Global,
+    script: &Script,
+    answers: &[Value],
+    fuel: u64,
+) -> Result<Chain, AllocError>
     ensures { IfOk result (λ chain. IfSome chain.from (λ f. FitsFrom script.now f)) }
 {
     let fuel = fuel.min(MOST);
@@ -316,7 +321,10 @@ impl Twins {
     // Whether both engines came to the same stop, effects, transactions and cost.
     fn are_alike(&self) -> bool {
         are_ends_alike(&self.plain.end, &self.machine.outcome)
-            && are_effects_alike(self.plain.effects.as_slice(), self.machine.effects.as_slice())
+            && are_effects_alike(
+                self.plain.effects.as_slice(),
+                self.machine.effects.as_slice(),
+            )
             && self.plain.entered.as_slice() == self.machine.entered.as_slice()
             && self.plain.left.as_slice() == self.machine.left.as_slice()
             && self.plain.cost == self.machine.cost
@@ -348,12 +356,17 @@ impl Twins {
 /// Whether both engines agree on each segment of a row.
 pub fn engines_agree(alloc: Global, asked: &Asked) -> Result<bool, AllocError> {
     let chain = chain_of(alloc, &asked.script, asked.answers.as_slice(), asked.fuel)?;
-    Ok(chain.segments.iter().all(|twins| twins.are_alike() && twins.is_within()))
+    Ok(
+        chain
+            .segments
+            .iter()
+            .all(|twins| twins.are_alike() && twins.is_within()),
+    )
 }
 
 /// How each segment of a row stops, by both engines.
 pub fn each_told(alloc: Global, row: &str) -> Result<String, AllocError> {
-    let asked = match asked(alloc, row)? {
+    let asked = match question_of(alloc, row)? {
         Ok(asked) => asked,
         Err(fault) => return Ok(fault),
     };
@@ -370,7 +383,7 @@ pub fn each_told(alloc: Global, row: &str) -> Result<String, AllocError> {
 
 /// How many segments a row has, and how the last of them stops, by both engines.
 pub fn last_told(alloc: Global, row: &str) -> Result<String, AllocError> {
-    let asked = match asked(alloc, row)? {
+    let asked = match question_of(alloc, row)? {
         Ok(asked) => asked,
         Err(fault) => return Ok(fault),
     };
@@ -404,7 +417,7 @@ fn told_behind(
 
 /// How the first page of a row goes on with each of its answers, from what was kept there, by both engines.
 pub fn again_told(alloc: Global, row: &str) -> Result<String, AllocError> {
-    let asked = match asked(alloc, row)? {
+    let asked = match question_of(alloc, row)? {
         Ok(asked) => asked,
         Err(fault) => return Ok(fault),
     };
