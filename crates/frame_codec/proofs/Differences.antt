@@ -26,7 +26,7 @@ use Rattle.frame_codec.specs.Spelling.{frame_bytes, shadow_bytes, IsShort, Frame
 use Rattle.frame_codec.specs.Walk.{frames_fit, shadows_fit}
 use Rattle.frame_codec.specs.Stored.{IsStored}
 use Rattle.frame_codec.specs.Reading.{read_both, read_frame, read_shadow}
-use Rattle.frame_codec.specs.Deltas.{Delta, Shares, IsDelta, joined, delta_bytes, DeltaHasBytes, DeltaParts, read_delta_parts, as_delta, read_delta, SpellsDelta, HasNoDelta, DeltasAreOne, EachDeltaHasBytes}
+use Rattle.frame_codec.specs.Deltas.{Delta, Shares, IsDelta, GoesOnFrom, joined, delta_bytes, DeltaHasBytes, DeltaParts, read_delta_parts, as_delta, read_delta, SpellsDelta, HasNoDelta, DeltasAreOne, EachDeltaHasBytes}
 use Rattle.frame_codec.proofs.Frames.{both_bytes, BothFit, both_exact, values_exact, frame_exact, shadow_exact, LetFits, IsRead}
 use Rattle.frame_codec.proofs.Walks.{lets_fit, walk_fits, fits_walk}
 use Rattle.frame_codec.proofs.Cells.{cells_fit, fit_cells}
@@ -219,12 +219,12 @@ another_spelling a p j bytes said e hp read join differs other s d stored all is
     other (subst (λ (x : Delta). DeltaHasBytes x × (bytes ≡ delta_bytes x)) (sym same) (has, whole))
 
 -- where they spell it
-pub spelled_so : (a : Arena) (p j : Suspended) (bytes : List ℕ) (said e : Delta) → j ≡ joined p said → IsStored a j → IsDelta p j e
-    → (BindsAllOf p.shadows j.shadows → joined p e ≡ j) → DeltaHasBytes e × (bytes ≡ delta_bytes e) → SpellsDelta a p bytes e
-spelled_so a p j bytes said e join stored differs back has =
+pub spelled_so : (a : Arena) (p j : Suspended) (bytes : List ℕ) (said e : Delta) → Rise p.shadows → j ≡ joined p said → IsStored a j → IsDelta p j e
+    → (GoesOnFrom p j → joined p e ≡ j) → DeltaHasBytes e × (bytes ≡ delta_bytes e) → SpellsDelta a p bytes e
+spelled_so a p j bytes said e hp join stored differs back has =
     let all : BindsAllOf p.shadows j.shadows =
     subst (λ (x : Suspended). BindsAllOf p.shadows x.shadows) (sym join) (bound_still p.shadows said.shadows) in
-    let same : j ≡ joined p e = sym (back all) in
+    let same : j ≡ joined p e = sym (back (record { rises = hp; rise = stored.shadows.rise; all = all })) in
     record {
       whole = has.1;
       has = has.0;

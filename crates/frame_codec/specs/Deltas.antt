@@ -1,7 +1,7 @@
 -- What differs between a page's state and its parent's, and how it is written.
 use Rattle.std.specs.Prelude.{◌≡◌, ℕ, zero, suc, List, [], ◌∷◌, ◌++◌, take, reverse, Option, Some, None, ⊤}
 use Rattle.script_value.specs.Val.{Val}
-use Rattle.web_cells.specs.Shadows.{all_bound}
+use Rattle.web_cells.specs.Shadows.{all_bound, Rise}
 use Rattle.web_cells.specs.Own.{IsOwn, BindsAllOf}
 use Rattle.script_nodes.specs.Arena.{Arena}
 use Rattle.wire_bytes.specs.Spelling.{u32_bytes}
@@ -40,6 +40,12 @@ pub record IsDelta (p s : Suspended) (d : Delta) : Type 0 where
   pub env : Shares p.env s.env d.env_shared d.env
   pub frames : Shares (reverse p.frames) (reverse s.frames) d.frames_shared d.frames
   pub shadows : IsOwn p.shadows s.shadows d.shadows
+
+-- The cells of both rise, and what the parent binds is bound.
+pub record GoesOnFrom (p s : Suspended) : Type 0 where
+  pub rises : Rise p.shadows
+  pub rise : Rise s.shadows
+  pub all : BindsAllOf p.shadows s.shadows
 
 -- the parent's state with a difference from it
 abbrev pub joined : Suspended → Delta → Suspended

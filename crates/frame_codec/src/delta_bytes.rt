@@ -1,4 +1,5 @@
 ghost use Rattle.std.specs.Prelude.{◌≡◌, ◌↔◌, IsTrue, IfOk, IfSome, IsNone, option_map};
+ghost use Rattle.web_cells.specs.Shadows.{Rise};
 ghost use Rattle.stored_states.specs.Views.{suspended_of};
 ghost use Rattle.value_bytes.specs.Views.{Reads};
 ghost use Rattle.frame_codec.specs.Stored.{IsStored};
@@ -118,10 +119,10 @@ pub fn decode_delta(
     parent: &Suspended,
     bytes: &[u8],
 ) -> Result<Option<Delta>, AllocError>
+    requires { Rise parent.now.shades }
     ensures spelled { IfOk result (λ found. IfSome found (λ d. SpellsDelta script.now (suspended_of parent.now) bytes.now (delta_of d))) }
     ensures none { IfOk result (λ found. IsNone found → HasNoDelta script.now (suspended_of parent.now) bytes.now) }
 {
-    parent.shades.rise();
     let Some(said) = read_delta(alloc, script, bytes)? else {
         return Ok(None);
     };

@@ -1,7 +1,6 @@
 ghost use Rattle.std.specs.Prelude.{◌≡◌, IfOk, take};
-ghost use Rattle.web_cells.specs.Own.{BindsAllOf};
 ghost use Rattle.stored_states.specs.Views.{suspended_of};
-ghost use Rattle.frame_codec.specs.Deltas.{IsDelta, joined};
+ghost use Rattle.frame_codec.specs.Deltas.{IsDelta, GoesOnFrom, joined};
 ghost use Rattle.frame_codec.specs.DeltaViews.{delta_of};
 
 use crate::difference::Delta;
@@ -34,13 +33,11 @@ fn difference(alloc: Global, parent: &Suspended, state: &Suspended) -> Result<De
 
 /// What differs between a state and its parent's: the longest front that they share is left out.
 ///
-/// With it the parent's state is the state again, where this binds each web cell that its parent binds.
+/// With it the parent's state is the state again, where the web cells of both rise and this binds each that its parent binds.
 pub fn delta(alloc: Global, parent: &Suspended, state: &Suspended) -> Result<Delta, AllocError>
     ensures delta { IfOk result (λ d. IsDelta (suspended_of parent.now) (suspended_of state.now) (delta_of d)) }
-    ensures back { IfOk result (λ d. BindsAllOf parent.now.shades state.now.shades → joined (suspended_of parent.now) (delta_of d) ≡ suspended_of state.now) }
+    ensures back { IfOk result (λ d. GoesOnFrom (suspended_of parent.now) (suspended_of state.now) → joined (suspended_of parent.now) (delta_of d) ≡ suspended_of state.now) }
 {
-    parent.shades.rise();
-    state.shades.rise();
     Ok(difference(alloc, parent, state)?)
 }
 

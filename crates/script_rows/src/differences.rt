@@ -1,7 +1,7 @@
 use crate::runs::question_of;
 use crate::states::{bytes_of, digits, spelling};
 use crate::twins::{Chain, chain_of};
-use frame_codec::{decode_delta, delta, encode_delta, is_delta_spelled, join};
+use frame_codec::{Delta, decode_delta, delta, encode_delta, is_delta_spelled, is_stored, join};
 use script_nodes::Script;
 use script_value::Bytes;
 use std::alloc::{AllocError, Global};
@@ -50,6 +50,20 @@ fn spelled(
     }
 }
 
+// The difference that bytes spell from a parent that has a spelling, if they spell one.
+fn read(
+    alloc: Global,
+    script: &Script,
+    parent: &Suspended,
+    bytes: &[u8],
+) -> Result<Option<Delta>, AllocError> {
+    if is_stored(script, parent) {
+        decode_delta(alloc, script, parent, bytes)
+    } else {
+        Ok(None)
+    }
+}
+
 // Whether a state is the parent's with the difference that these bytes spell.
 fn is_joined(
     alloc: Global,
@@ -58,7 +72,7 @@ fn is_joined(
     state: &Suspended,
     bytes: &[u8],
 ) -> Result<bool, AllocError> {
-    let Some(difference) = decode_delta(alloc, script, parent, bytes)? else {
+    let Some(difference) = read(alloc, script, parent, bytes)? else {
         return Ok(false);
     };
     let joined = join(alloc, parent, &difference)?;
@@ -103,7 +117,7 @@ pub fn read_told(alloc: Global, row: &str) -> Result<String, AllocError> {
     let Some(parent) = visited.page(0) else {
         return String::from_str(alloc, "no page");
     };
-    let found = decode_delta(alloc, &visited.script, parent, bytes.as_slice())?;
+    let found = read(alloc, &visited.script, parent, bytes.as_slice())?;
     String::from_str(
         alloc,
         if found.is_some() {

@@ -1,13 +1,13 @@
 -- The bindings that a page has of its own.
 use Rattle.std.proofs.Common.{◌≡◌, ◌==◌, ℕ, ◌+◌, ◌<◌, ◌≤◌, List, [], ◌∷◌, ◌++◌, Option, Some, None, Bool, true, false, refl, sym, ap, subst, ◌∙◌, arith, append_assoc, inl, inr}
-use Rattle.std.specs.Prelude.{if◌then◌else◌, map, length, take, drop, get_or, Result, Ok, Err, OnOk, OnErr}
+use Rattle.std.specs.Prelude.{if◌then◌else◌, map, length, take, drop, get_or}
 use Rattle.std.proofs.lemmas.List.{map-append, append-nil, take_more, drop_more, drop_all}
 use Rattle.std.proofs.lemmas.Bool.Decides.{nat_tests}
 use Rattle.script_value.specs.Val.{Val}
 use Rattle.script_value.specs.Views.{meaning}
 use Rattle.web_cells.specs.Shadows.{bound_to, binding, all_bound, last_shadow, AreAbove, Rise}
 use Rattle.web_cells.specs.Own.{IsBoundSo, IsOwn, OwnGiveBack, OwnAreOne}
-use Rattle.web_cells.specs.Views.{pair_of, Binds}
+use Rattle.web_cells.specs.Views.{pair_of}
 use Rattle.web_cells.specs.declared.shades.Shadow.{Shadow}
 use Rattle.web_cells.proofs.Shadowed.{last_binds, rise}
 
@@ -187,10 +187,3 @@ all_found p whole items own i le same h =
     let none : map pair_of (drop i items) ≡ [] = ap (λ (l : List Shadow). map pair_of l) (drop_all i items le) in
     let found : IsOwn p (map pair_of items) (map pair_of own ++ []) = h [] (subst (λ (l : Bindings). IsOwn p l []) (sym none) refl) in
     subst (λ (l : Bindings). IsOwn p l (map pair_of own)) same (subst (λ (l : Bindings). IsOwn p (map pair_of items) l) (append-nil (map pair_of own)) found)
-
--- ---- a shadow keeps the cells rising
-
-pub still_rise : {T E : Type 0} (r : Result T E) (s : Shadow) (old new : List Shadow) → OnOk r (Binds s old new) → OnErr r (new ≡ old)
-    → Rise (map pair_of old) → Rise (map pair_of new)
-still_rise (Ok x) s old new bound same h = subst Rise (sym bound) (rise s.cell (meaning s.value) (map pair_of old) h)
-still_rise (Err e) s old new bound same h = subst (λ (l : List Shadow). Rise (map pair_of l)) (sym same) h

@@ -1,6 +1,6 @@
 ghost use Rattle.std.specs.Prelude.{◌≡◌, ◌↔◌, List, map, IfOk, IsTrue};
 ghost use Rattle.web_cells.specs.Shadows.{all_bound};
-ghost use Rattle.web_cells.specs.Own.{IsBoundSo, IsOwn, BindsAllOf};
+ghost use Rattle.web_cells.specs.Own.{IsBoundSo, IsOwn};
 ghost use Rattle.web_cells.specs.Views.{pair_of};
 
 use crate::shades::{Shades, Shadow};
@@ -55,13 +55,10 @@ impl Shades {
         }
     }
 
-    /// What of these bindings a parent has not, or has with another value. With it the parent's bindings give these back, where each web cell that the parent binds is bound here.
+    /// What of these bindings a parent has not, or has with another value. With it the parent's bindings give these back, where the cells of both rise and each web cell that the parent binds is bound here.
     pub fn own(&self, alloc: Global, parent: &Shades) -> Result<Own, AllocError>
-        ensures own { IfOk result (λ own. IsOwn parent.now self.now own) }
-        ensures back { IfOk result (λ own. BindsAllOf parent.now self.now → all_bound own parent.now ≡ self.now) }
+        ensures { IfOk result (λ own. IsOwn parent.now self.now own) }
     {
-        self.rise();
-        parent.rise();
         let mut own = Vec::new(alloc);
         for shadow in self.as_slice() {
             if !parent.binds(shadow) {

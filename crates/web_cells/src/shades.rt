@@ -1,7 +1,7 @@
 ghost use Rattle.std.specs.Prelude.{◌≡◌, ℕ, ◌<◌, ◌≤◌, List, [], map, length, drop, option_map, IfOk, OnOk, OnErr, IsTrue, ◌↔◌};
 ghost use Rattle.script_value.specs.Val.{Val};
 ghost use Rattle.script_value.specs.Views.{meaning};
-ghost use Rattle.web_cells.specs.Shadows.{bound_to, binding, Rise};
+ghost use Rattle.web_cells.specs.Shadows.{bound_to, binding};
 ghost use Rattle.web_cells.specs.Views.{pair_of, Binds};
 ghost use Rattle.web_cells.specs.Places.{Below, NotBelow, IsAt};
 
@@ -35,10 +35,6 @@ impl Model for Shades {
     ghost coded = { coded_list (coded× coded_ℕ val_code) };
 
     ghost view = { λ s. map pair_of s.shadows.items };
-
-    ghost use Rattle.web_cells.specs.Shadows.{Rise};
-
-    ghost invariant = { λ s. Rise (map pair_of s.shadows.items) };
 }
 
 // How many of the first are of lower cells: the place of the cell.
@@ -145,12 +141,5 @@ impl Shades {
         ensures { map pair_of result.now ≡ self.now }
     {
         self.shadows.as_slice()
-    }
-
-    /// The cells of the bindings rise, so that each has one binding at most. It does nothing.
-    pub fn rise(&self)
-        ensures { Rise self.now }
-    {
-        let _ = &self.shadows;
     }
 }

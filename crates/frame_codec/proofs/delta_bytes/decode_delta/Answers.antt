@@ -14,17 +14,17 @@ pub returns-then-not-is_stored-clause-none : goal.returns-then-not-is_stored-cla
 returns-then-not-is_stored-clause-none c =
     let read = sym c.in_ok-said.ensures ∙ ap (λ o. option_map delta_of o) c.in-Some.is in
     λ e. not_stored c.args.script.now (suspended_of c.args.parent.now) (suspended_of c.in_ok-state.state) c.args.bytes.now (delta_of c.in-Some.said)
-    c.rise.ensures read c.in_ok-state.ensures (λ s. false≢true (c.if-not-is_stored.ensures.1 s))
+    c.requires read c.in_ok-state.ensures (λ s. false≢true (c.if-not-is_stored.ensures.1 s))
 
 pub returns-then-branch-clause-spelled : goal.returns-then-branch-clause-spelled
 returns-then-branch-clause-spelled c =
     spelled_so c.args.script.now (suspended_of c.args.parent.now) (suspended_of c.in_ok-state.state) c.args.bytes.now (delta_of c.in-Some.said)
-    (delta_of c.in_ok-delta.delta) c.in_ok-state.ensures (c.if-not-is_stored.ensures.0 refl) c.in_ok-delta.ensures.delta c.in_ok-delta.ensures.back
+    (delta_of c.in_ok-delta.delta) c.requires c.in_ok-state.ensures (c.if-not-is_stored.ensures.0 refl) c.in_ok-delta.ensures.delta c.in_ok-delta.ensures.back
     (c.in_ok-has_these_bytes.ensures.0 c.if-branch.true)
 
 pub returns-clause-none : goal.returns-clause-none
 returns-clause-none c =
     let read = sym c.in_ok-said.ensures ∙ ap (λ o. option_map delta_of o) c.in-Some.is in
     λ e. another_spelling c.args.script.now (suspended_of c.args.parent.now) (suspended_of c.in_ok-state.state) c.args.bytes.now (delta_of c.in-Some.said)
-    (delta_of c.in_ok-delta.delta) c.rise.ensures read c.in_ok-state.ensures c.in_ok-delta.ensures.delta
+    (delta_of c.in_ok-delta.delta) c.requires read c.in_ok-state.ensures c.in_ok-delta.ensures.delta
     (λ h. false≢true (sym c.if-branch.false ∙ c.in_ok-has_these_bytes.ensures.1 h))

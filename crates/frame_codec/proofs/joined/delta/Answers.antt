@@ -5,5 +5,5 @@ use Rattle.frame_codec.proofs.joined.delta.Goals as goal
 
 pub returns-clause-back : goal.returns-clause-back
 returns-clause-back c =
-    λ all. joins (suspended_of c.args.parent.now) (suspended_of c.args.state.now) (delta_of c.in_ok-difference.field-0) c.rise.ensures c.rise-2.ensures all
+    λ on. joins (suspended_of c.args.parent.now) (suspended_of c.args.state.now) (delta_of c.in_ok-difference.field-0) on.rises on.rise on.all
     c.in_ok-difference.ensures

@@ -4,7 +4,7 @@ use Rattle.script_value.specs.Val.{Val}
 use Rattle.web_cells.specs.Own.{IsOwn}
 use Rattle.web_cells.specs.Views.{pair_of}
 use Rattle.web_cells.specs.declared.shades.Shadow.{Shadow}
-use Rattle.web_cells.proofs.Owned.{passed, kept, all_found, give_back}
+use Rattle.web_cells.proofs.Owned.{passed, kept, all_found}
 use Rattle.web_cells.proofs.shades.Shades.own.Goals as goal
 use Rattle.web_cells.proofs.shades.Shades.own.Goals.{then-not-binds+in_ok-try_clone+in_ok-push, else-not-binds}
 
@@ -30,9 +30,5 @@ found c =
     all_found c.args.parent.now c.args.self.now c.as_slice-shadow-items.result.now c.loop-shadow.own.items c.loop-shadow.shadow-index
     c.loop-shadow-test.false c.as_slice-shadow-items.ensures c.loop-shadow.invariant
 
-pub returns-clause-own : goal.returns-clause-own
-returns-clause-own c = subst (λ (l : List (ℕ × Val)). IsOwn c.args.parent.now c.args.self.now l) (sym c.of.ensures) (found c)
-
-pub returns-clause-back : goal.returns-clause-back
-returns-clause-back c =
-    λ all. give_back c.args.parent.now c.args.self.now c.of.result c.rise-2.ensures c.rise.ensures all (returns-clause-own c)
+pub returns : goal.returns
+returns c = subst (λ (l : List (ℕ × Val)). IsOwn c.args.parent.now c.args.self.now l) (sym c.of.ensures) (found c)
