@@ -1,0 +1,4 @@
+pub mod Entries
+pub mod Openings
+pub mod Sound
+pub mod Passes
