@@ -1,5 +1,6 @@
 -- What the entries of a history stand for.
-use Rattle.std.specs.Prelude.{ℕ}
+use Rattle.std.specs.Prelude.{◌≡◌, ℕ, List, [], ◌∷◌, ◌++◌, map, ◌⊎◌, ◌≤◌, ◌<◌, Result, Ok}
+use Rattle.script_value.specs.declared.outcome.Reply.{Reply}
 use Rattle.script_value.specs.Views.{meaning}
 use Rattle.page_names.specs.Views.{target_of}
 use Rattle.replay_spec.specs.Step as step
@@ -7,6 +8,7 @@ use Rattle.replay_spec.specs.Step.{Event}
 use Rattle.instance_book.specs.Views.{ticket_of, reply_of}
 use Rattle.shelf.specs.Views.{taken_of, swept_of}
 use Rattle.shelf_history.specs.Histories.{Entry}
+use Rattle.site.specs.declared.entry.KeptEntry.{KeptEntry}
 use Rattle.site.specs.declared.entry.Did.{Did}
 use Rattle.site.specs.declared.entry.Did.TheVariants.{Take, Publish, Sweep}
 
@@ -14,8 +16,24 @@ abbrev pub entry : (caller : ℕ) → Event → step.Reply → Entry
 entry caller event reply = record { caller = caller; event = event; reply = reply }
 
 -- what was done, and what it was answered
-abbrev pub entry_of : (caller : ℕ) → Did → Entry
-entry_of caller (Take target answer told) =
+abbrev pub done_by : (caller : ℕ) → Did → Entry
+done_by caller (Take target answer told) =
     entry caller (step.take (target_of target.value) (meaning answer.value)) (taken_of told.value)
-entry_of caller (Publish ticket told) = entry caller (step.publish (ticket_of ticket.value)) (reply_of told.value)
-entry_of caller (Sweep tick told) = entry caller (step.sweep tick) (swept_of told.value)
+done_by caller (Publish ticket told) = entry caller (step.publish (ticket_of ticket.value)) (reply_of told.value)
+done_by caller (Sweep tick told) = entry caller (step.sweep tick) (swept_of told.value)
+
+abbrev pub entry_of : KeptEntry → Entry
+entry_of e = done_by e.caller e.did
+
+abbrev pub entries_of : List KeptEntry → List Entry
+entries_of es = map entry_of es
+
+-- this is the next entry
+abbrev pub Comes : (caller : ℕ) → Event → step.Reply → (old new : List KeptEntry) → Type 0
+Comes caller event reply old new =
+    (e : KeptEntry) × (e.caller ≡ caller) × (entry_of e ≡ entry caller event reply) × (new ≡ old ++ e ∷ [])
+
+-- a tick that is over does nothing; the sweep to a later one is the next entry
+abbrev pub Sweeps : (caller tick : ℕ) → Result ℕ Reply → (clock : ℕ) → (old new : List KeptEntry) → Type 0
+Sweeps caller tick result clock old new =
+    ((tick ≤ clock) × (new ≡ old) × (result ≡ Ok 0)) ⊎ ((clock < tick) × Comes caller (step.sweep tick) (swept_of result) old new)

@@ -2,3 +2,4 @@ pub mod Entries
 pub mod Openings
 pub mod Sound
 pub mod Passes
+pub mod Sites

@@ -1,5 +1,5 @@
 -- What holds of a shelf between turns.
-use Rattle.std.specs.Prelude.{◌≡◌, ◌⊎◌, ◌≤◌, ◌<◌, ◌^◌, ℕ, Bool, IsTrue, List, None}
+use Rattle.std.specs.Prelude.{◌≡◌, ◌⊎◌, ◌≤◌, ◌<◌, ◌^◌, ◌+◌, length, ℕ, Bool, IsTrue, List, None}
 use mathlib.Core.List.{IsPrefix}
 use Rattle.page_names.specs.Views.{target_of}
 use Rattle.web_disk.specs.View.{View, LeavesOnly}
@@ -10,6 +10,7 @@ use Rattle.instance_book.specs.declared.ticket.Ticket.{Ticket}
 use Rattle.instance_book.specs.Views.{ticket_of}
 use Rattle.instance_book.specs.Fits.{FitsAs, IsForSome}
 use Rattle.shelf_history.specs.Histories.{Entry, Owes, IsOpened}
+use Rattle.shelf_history.specs.Laws.{tickets_taken}
 use Rattle.shelf_history.specs.Kept.{IsKept}
 use Rattle.shelf.specs.declared.shelf.Shelf.{Shelf}
 use Rattle.shelf.specs.Views.{IsInOrder, shelf_of}
@@ -51,6 +52,6 @@ module _ {D N : Type 0} (view : D → View) (tells : Bool) (coming : N → ℕ �
   -- left what makes the book of a beginning of it.
   pub record StandsFor (o : Opening D N) (disk : D) (nonces : N) (es : List Entry) : Type 0 where
     pub legal : HasLegal view coming o (view disk).faults es
-    pub nonces_are : (k : ℕ) → coming nonces k ≡ source_of coming o ((given_by o es) k)
+    pub coming_is : (k : ℕ) → coming nonces k ≡ source_of coming o (length (tickets_taken es) + k)
     pub stands : IsTrue tells → Stands (scripts_in o) o.shelf.value.rules.number (view disk) (book_then coming o es)
     pub ever : IsTrue tells → LeavesOnly (view o.shelf.value.journal.disk) (view disk) (IsLeft o es)
