@@ -1,3 +1,5 @@
 pub mod Replies
 pub mod Sounds
 pub mod Holding
+pub mod Turns
+pub mod Seats

@@ -29,9 +29,11 @@ abbrev pub entries_of : List KeptEntry → List Entry
 entries_of es = map entry_of es
 
 -- this is the next entry
-abbrev pub Comes : (caller : ℕ) → Event → step.Reply → (old new : List KeptEntry) → Type 0
-Comes caller event reply old new =
-    (e : KeptEntry) × (e.caller ≡ caller) × (entry_of e ≡ entry caller event reply) × (new ≡ old ++ e ∷ [])
+pub record Comes (caller : ℕ) (event : Event) (reply : step.Reply) (old new : List KeptEntry) : Type 0 where
+  pub entry_made : KeptEntry
+  pub caller_is : entry_made.caller ≡ caller
+  pub entry_is : entry_of entry_made ≡ entry caller event reply
+  pub is : new ≡ old ++ entry_made ∷ []
 
 -- a tick that is over does nothing; the sweep to a later one is the next entry
 abbrev pub Sweeps : (caller tick : ℕ) → Result ℕ Reply → (clock : ℕ) → (old new : List KeptEntry) → Type 0

@@ -1,5 +1,5 @@
 -- What the calls of a site do to a pass.
-use Rattle.std.specs.Prelude.{◌≡◌, ◌⊎◌, ◌≤◌, ◌%◌, ℕ, Bool, List, length, Option, Some, None, nat_lt, if◌then◌else◌, slice_get, Result, Ok, Err}
+use Rattle.std.specs.Prelude.{◌≡◌, ◌⊎◌, ◌≤◌, ◌%◌, ℕ, Bool, List, [], ◌∷◌, length, Option, Some, None, nat_lt, if◌then◌else◌, slice_get, Result, Ok, Err}
 use Rattle.script_value.specs.Val.{Val}
 use Rattle.script_value.specs.declared.outcome.Reply.{Reply}
 use Rattle.script_value.specs.declared.outcome.Reply.TheVariants.{Refused}
@@ -13,6 +13,9 @@ use Rattle.site.specs.declared.entry.KeptEntry.{KeptEntry}
 use Rattle.site.specs.declared.opening.Opening.{Opening}
 use Rattle.site.specs.declared.pass.SitePass.{SitePass}
 use Rattle.site.specs.declared.site.Site.{Site}
+use Rattle.stored_states.specs.declared.segment.Segment.{Segment}
+use Rattle.shelf.specs.Views.{IsRunIfAny}
+use Rattle.site.specs.Openings.{scripts_in}
 use Rattle.site.specs.Passes.{IsSeat, HoldsTicket, Took, Published}
 
 -- The shelf that a target is on, among so many: a page is on the one that it names, and a start on the one that its worker
@@ -26,6 +29,12 @@ module _ {D N : Type 0} where
   pub record IsOwn (site : Site D N) (pass : SitePass D N) : Type 0 where
     pub of : IsOf site.row pass.row
     pub seats : (k : ℕ) (a : Spot (Opening D N) KeptEntry) → slice_get pass.row k ≡ Some a → IsSeat site.setup pass.worker a.known
+
+  -- the segment is that of the ticket's run, under the limits of the shelf at this place
+  abbrev pub IsRunThere : ℕ → SitePass D N → Ticket → Option Segment → Type 0
+  IsRunThere k pass t segment =
+      (a : Spot (Opening D N) KeptEntry) (o : Opening D N) → slice_get pass.row k ≡ Some a → a.known.opening ≡ o ∷ []
+      → IsRunIfAny (scripts_in o) o.shelf.value.rules.fuel t segment
 
 module _ {D N : Type 0} (view : D → View) (tells : Bool) (coming : N → ℕ → ℕ) where
   -- what a take on the shelf of the target comes to, where it is on one
@@ -44,6 +53,11 @@ module _ {D N : Type 0} (view : D → View) (tells : Bool) (coming : N → ℕ �
     pub spot : Spot (Opening D N) KeptEntry
     pub at : slice_get pass.row shelf ≡ Some spot
     pub holds : HoldsTicket view tells coming spot.known t
+
+  -- so at this place
+  abbrev pub HoldsThere : ℕ → SitePass D N → Ticket → Type 0
+  HoldsThere k pass t =
+      (a : Spot (Opening D N) KeptEntry) → slice_get pass.row k ≡ Some a → HoldsTicket view tells coming a.known t
 
   -- a publish of its ticket
   abbrev pub PublishesAt : SitePass D N → Ticket → Reply → SitePass D N → Type 0

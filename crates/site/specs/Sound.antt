@@ -1,5 +1,8 @@
 -- What holds of a shelf between turns.
-use Rattle.std.specs.Prelude.{◌≡◌, ◌⊎◌, ◌≤◌, ◌<◌, ◌^◌, ◌+◌, length, ℕ, Bool, IsTrue, List, None}
+use Rattle.std.specs.Prelude.{◌≡◌, ◌⊎◌, ◌≤◌, ◌<◌, ◌^◌, ◌+◌, length, ℕ, Bool, IsTrue, List, None, Result, IfOk}
+use Rattle.script_value.specs.Val.{Val}
+use Rattle.script_value.specs.declared.outcome.Reply.{Reply}
+use Rattle.page_names.specs.Names.{Destination}
 use mathlib.Core.List.{IsPrefix}
 use Rattle.page_names.specs.Views.{target_of}
 use Rattle.web_disk.specs.View.{View, LeavesOnly}
@@ -47,6 +50,11 @@ module _ {D N : Type 0} (view : D → View) (tells : Bool) (coming : N → ℕ �
     pub scripts : (book_then coming o front).scripts ≡ scripts_in o
     pub admitted : refusal_of (admit (book_then coming o front) (target_of t.target)) ≡ None
     pub fits : FitsAs (scripts_in o) (book_then coming o front) t (admit (book_then coming o front) (target_of t.target))
+
+  -- where a take gave a ticket, its caller holds it, and it is for this target and answer
+  pub record Gives (o : Opening D N) (es : List Entry) (caller : ℕ) (target : Destination) (answer : Val) (result : Result Ticket Reply) : Type 0 where
+    pub held : IfOk result (λ t. Holds o es caller t)
+    pub ticket : IfOk result (λ t. ((ticket_of t).target ≡ target) × ((ticket_of t).answer ≡ answer))
 
   -- What is handed back with a history: it is legal, and the disk stands for its book; a crash at any moment since the opening
   -- left what makes the book of a beginning of it.

@@ -34,7 +34,7 @@ impl<D: Disk, N: Nonces + Drop> KeptShelf<D, N> {
     ghost use Rattle.shelf.specs.Views.{IsInOrder, IsRunIfAny, book_in, taken_of, swept_of};
     ghost use Rattle.site.specs.Entries.{entries_of, Comes, Sweeps};
     ghost use Rattle.site.specs.Openings.{scripts_in, book_then};
-    ghost use Rattle.site.specs.Sound.{IsSound, Holds, StandsFor};
+    ghost use Rattle.site.specs.Sound.{IsSound, Holds, Gives, StandsFor};
 
     /// A shelf that was opened under this setup, with no entry yet.
     pub fn new(setup: &Setup, shelf: Shelf<D, N>) -> KeptShelf<D, N>
@@ -73,8 +73,7 @@ impl<D: Disk, N: Nonces + Drop> KeptShelf<D, N> {
         ensures sound { IsSound D.view D.tells N.nonce self.new.opened self.new.shelf (entries_of self.new.history) }
         ensures opened { self.new.opened ≡ self.old.opened }
         ensures entry { Comes by (step.take (target_of target.now) (meaning answer)) (taken_of result) self.old.history self.new.history }
-        ensures held { IfOk result (λ t. Holds D.view D.tells N.nonce self.old.opened (entries_of self.new.history) by t) }
-        ensures ticket { IfOk result (λ t. ((ticket_of t).target ≡ target_of target.now) × ((ticket_of t).answer ≡ meaning answer)) }
+        ensures gives { Gives D.view D.tells N.nonce self.old.opened (entries_of self.new.history) by (target_of target.now) (meaning answer) result }
     {
         let asked = Snapshot::of(&answer);
         let told = self.shelf.take(alloc, setup, target, answer);

@@ -25,8 +25,8 @@ impl<D: Disk, N: Nonces + Drop> Site<D, N> {
     ghost use Rattle.script_value.specs.Views.{meaning};
     ghost use Rattle.page_names.specs.Views.{target_of};
     ghost use Rattle.lock_row.specs.Spots.{At};
-    ghost use Rattle.site.specs.Passes.{Took};
-    ghost use Rattle.site.specs.Sites.{IsOwn, shelf_for, TakesAt};
+    ghost use Rattle.site.specs.Passes.{Took, Published, Swept};
+    ghost use Rattle.site.specs.Sites.{IsOwn, HoldsThere, IsRunThere, shelf_for, TakesAt};
 
     /// How many shelves there are.
     pub fn shelves(&self) -> usize
@@ -76,6 +76,64 @@ impl<D: Disk, N: Nonces + Drop> Site<D, N> {
             &mut pass.row,
             shelf,
             |kept: &mut KeptShelf<D, N>| kept.take(alloc, &self.setup, by, target, answer),
+        );
+        match told {
+            Ok(told) => told,
+            Err(Worn) => Err(Reply::Worn),
+        }
+    }
+
+    fn publish_at<R: Wait>(
+        &self,
+        rt: &R,
+        alloc: Global,
+        pass: &mut SitePass<D, N>,
+        shelf: usize,
+        ticket: Ticket,
+        segment: Option<Segment>,
+    ) -> Reply
+        requires own { IsOwn self.now pass.old }
+        requires shelf { shelf < length self.now.row.homes }
+        requires held { HoldsThere D.view D.tells N.nonce shelf pass.old ticket }
+        requires segment { IsRunThere shelf pass.old ticket segment }
+        ensures own { IsOwn self.now pass.new }
+        ensures worker { pass.new.worker ≡ pass.old.worker }
+        ensures published { At shelf (λ v w. Published D.view D.tells N.nonce v ticket result w) pass.old.row pass.new.row }
+    {
+        let by = u64::from(pass.worker);
+        let told = self.row.turn(
+            rt,
+            &mut pass.row,
+            shelf,
+            |kept: &mut KeptShelf<D, N>| kept.publish(alloc, &self.setup, by, ticket, segment),
+        );
+        match told {
+            Ok(told) => told,
+            Err(Worn) => Reply::Worn,
+        }
+    }
+
+    fn sweep_at<R: Wait>(
+        &self,
+        rt: &R,
+        alloc: Global,
+        pass: &mut SitePass<D, N>,
+        shelf: usize,
+        tick: u64,
+    ) -> Result<u32, Reply>
+        requires own { IsOwn self.now pass.old }
+        requires shelf { shelf < length self.now.row.homes }
+        requires tick { tick < 2 ^ 62 }
+        ensures own { IsOwn self.now pass.new }
+        ensures worker { pass.new.worker ≡ pass.old.worker }
+        ensures swept { At shelf (λ v w. Swept D.view D.tells N.nonce v tick result w) pass.old.row pass.new.row }
+    {
+        let by = u64::from(pass.worker);
+        let told = self.row.turn(
+            rt,
+            &mut pass.row,
+            shelf,
+            |kept: &mut KeptShelf<D, N>| kept.sweep(alloc, by, tick),
         );
         match told {
             Ok(told) => told,

@@ -1,4 +1,4 @@
-use Rattle.std.proofs.Common.{◌≡◌, ◌≤◌, ◌∷◌, ◌++◌, [], List, IsTrue, Contains, sym, subst, ap, ◌∙◌}
+use Rattle.std.proofs.Common.{◌≡◌, ◌≤◌, ◌∷◌, ◌++◌, [], List, IsTrue, Contains, refl, sym, subst, ap, ◌∙◌}
 use Rattle.script_nodes.specs.Views.{scripts_of}
 use Rattle.page_names.specs.Views.{target_of}
 use Rattle.replay_spec.specs.Admission.{admit}
@@ -9,6 +9,7 @@ use Rattle.lock_row.proofs.Places.{map_snoc}
 use Rattle.shelf.specs.Views.{IsInOrder, IsEvent, book_in}
 use Rattle.shelf.specs.Events.{HasMoments}
 use Rattle.shelf_history.specs.Histories.{Entry}
+use Rattle.site.specs.declared.entry.Did.TheVariants.{Publish}
 use Rattle.site.specs.Entries.{entry, entry_of, entries_of}
 use Rattle.site.specs.Sound.{IsSound}
 use Rattle.site.proofs.Sounds.{kept_push, ever_push, sound_push}
@@ -50,3 +51,11 @@ returns-clause-sound g c =
     subst (λ (l : List Entry). IsSound {D = g.row.D.Denot} {N = g.row.N.Denot} view tells coming o t l) (sym grown)
     (sound_push {D = g.row.D.Denot} {N = g.row.N.Denot} view tells coming o s t es p c.args.by event r order told.rules told.later behind
     (λ shown. ever_push {D = g.row.D.Denot} {N = g.row.N.Denot} view tells coming o s t es p c.images_make_books.ensures (entry c.args.by event r) (run shown) (ap (λ z. z.book) behind.shelf) shown))
+
+pub returns-clause-entry : goal.returns-clause-entry
+returns-clause-entry g c = record {
+  entry_made = record { caller = c.args.by; did = Publish c.of-owed.result c.of.result };
+  caller_is = refl;
+  entry_is = λ i. entry c.args.by (step.publish (ticket_of (c.of-owed.ensures i))) (reply_of (c.of.ensures i));
+  is = c.push.ensures.behind;
+}

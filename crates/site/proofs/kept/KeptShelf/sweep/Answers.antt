@@ -1,8 +1,9 @@
-use Rattle.std.proofs.Common.{◌≡◌, ◌≤◌, ◌∷◌, ◌++◌, [], List, IsTrue, sym, subst, ap, ◌∙◌}
+use Rattle.std.proofs.Common.{◌≡◌, ◌≤◌, ◌∷◌, ◌++◌, [], List, IsTrue, rules, arith, inr, refl, sym, subst, ap, ◌∙◌}
 use Rattle.replay_spec.specs.Step as step
 use Rattle.lock_row.proofs.Places.{map_snoc}
 use Rattle.shelf.specs.Views.{swept_of}
 use Rattle.shelf_history.specs.Histories.{Entry}
+use Rattle.site.specs.declared.entry.Did.TheVariants.{Sweep}
 use Rattle.site.specs.Entries.{entry, entry_of, entries_of}
 use Rattle.site.specs.Openings.{scripts_in}
 use Rattle.site.specs.Sound.{IsSound}
@@ -29,3 +30,17 @@ returns-clause-sound g c =
     subst (λ (l : List Entry). IsSound {D = g.row.D.Denot} {N = g.row.N.Denot} view tells coming o t l) (sym grown)
     (sound_push {D = g.row.D.Denot} {N = g.row.N.Denot} view tells coming o s t es p c.args.by event r (told.in_order ss p.in_order) told.rules told.later behind
     (λ shown. ever_push {D = g.row.D.Denot} {N = g.row.N.Denot} view tells coming o s t es p c.images_make_books.ensures (entry c.args.by event r) (told.any_moment shown ss p.in_order) (ap (λ z. z.book) behind.shelf) shown))
+
+pub returns-clause-swept : goal.returns-clause-swept
+returns-clause-swept g c =
+    let clock = ap (λ z. z.book.clock) c.requires.sound.kept.shelf in
+    let last : _ = c.if-tick-clock.false in
+    inr (
+      (let a = clock in let b = last in search (rules, arith)),
+      record {
+        entry_made = record { caller = c.args.by; did = Sweep c.args.tick c.of.result };
+        caller_is = refl;
+        entry_is = λ i. entry c.args.by (step.sweep c.args.tick) (swept_of (c.of.ensures i));
+        is = c.push.ensures.behind;
+      },
+    )

@@ -1,4 +1,4 @@
-use Rattle.std.proofs.Common.{rules, arith, ◌≡◌, ◌≤◌, ◌∷◌, ◌++◌, [], List, sym, subst, ap, ◌∙◌}
+use Rattle.std.proofs.Common.{rules, arith, ◌≡◌, ◌≤◌, ◌∷◌, ◌++◌, [], List, refl, sym, subst, ap, ◌∙◌}
 use Rattle.std.specs.Prelude.{IfOk}
 use Rattle.script_value.specs.Views.{meaning}
 use Rattle.script_nodes.specs.Setup.{Named}
@@ -10,15 +10,13 @@ use Rattle.instance_book.specs.Fits.{FitsAs, IsForSome}
 use Rattle.lock_row.proofs.Places.{map_snoc}
 use Rattle.shelf.specs.Views.{IsInOrder, IsEvent, book_in, taken_of}
 use Rattle.shelf_history.specs.Histories.{Entry}
+use Rattle.site.specs.declared.entry.Did.TheVariants.{Take}
 use Rattle.site.specs.Entries.{entry, entry_of, entries_of}
 use Rattle.site.specs.Openings.{count_of}
 use Rattle.site.specs.Sound.{IsSound, Holds}
 use Rattle.site.proofs.Sounds.{kept_push, ever_same, take_told, sound_push}
 use Rattle.site.proofs.Holding.{holds_told, told_ticket}
 use Rattle.site.proofs.kept.KeptShelf.take.Goals as goal
-
-pub returns-clause-ticket : goal.returns-clause-ticket
-returns-clause-ticket g c = told_ticket {D = g.row.D.Denot} {N = g.row.N.Denot} g.N.Nonces.nonce c.args.setup.now c.args.self.now.shelf c.args.target.now c.args.answer c.take-told.result c.take-told.ensures.ticket
 
 -- the history behind the take
 grown : (g : _) (c : goal.After-push g) → entries_of c.push.new.self ≡ entries_of c.args.self.now.history ++ entry c.args.by (step.take (target_of c.args.target.now) (meaning c.args.answer)) (taken_of c.take-told.result) ∷ []
@@ -49,8 +47,8 @@ returns-clause-sound g c =
     (sound_push {D = g.row.D.Denot} {N = g.row.N.Denot} view tells coming o s t es p c.args.by (step.take target answer) r order told.rules later behind
     (ever_same {D = g.row.D.Denot} {N = g.row.N.Denot} view tells coming o s t es p (entry c.args.by (step.take target answer) r) told.journal))
 
-pub returns-clause-held : goal.returns-clause-held
-returns-clause-held g c =
+pub returns-clause-gives : goal.returns-clause-gives
+returns-clause-gives g c =
     let view = g.D.Disk.view in
     let tells = g.D.Disk.tells in
     let coming = g.N.Nonces.nonce in
@@ -69,5 +67,17 @@ returns-clause-held g c =
     let fits = subst (λ (z : _). IfOk c.take-told.result (λ x. FitsAs (scripts_of z) (book_in {D = g.row.D.Denot} {N = g.row.N.Denot} (scripts_of z) t) x (admit (book_in {D = g.row.D.Denot} {N = g.row.N.Denot} (scripts_of z) t) (target_of x.target)))) c.requires.setup told.fits in
     let runs = subst (λ (z : _). IfOk c.take-told.result (IsForSome (scripts_of z))) c.requires.setup told.runs in
     let is = told_ticket {D = g.row.D.Denot} {N = g.row.N.Denot} coming c.args.setup.now s c.args.target.now c.args.answer c.take-told.result told.ticket in
-    subst (λ (l : List Entry). IfOk c.take-told.result (λ x. Holds {D = g.row.D.Denot} {N = g.row.N.Denot} view tells coming o l c.args.by x)) (sym (grown g c))
-    (holds_told {D = g.row.D.Denot} {N = g.row.N.Denot} view tells coming o s t es p c.args.by _ _ target answer c.take-told.result does behind is fits runs)
+    record {
+      held =
+          subst (λ (l : List Entry). IfOk c.take-told.result (λ x. Holds {D = g.row.D.Denot} {N = g.row.N.Denot} view tells coming o l c.args.by x)) (sym (grown g c))
+          (holds_told {D = g.row.D.Denot} {N = g.row.N.Denot} view tells coming o s t es p c.args.by _ _ target answer c.take-told.result does behind is fits runs);
+      ticket = is;
+    }
+
+pub returns-clause-entry : goal.returns-clause-entry
+returns-clause-entry g c = record {
+  entry_made = record { caller = c.args.by; did = Take c.of.result c.of-asked.result c.of-2.result };
+  caller_is = refl;
+  entry_is = λ i. entry c.args.by (step.take (target_of (c.of.ensures i)) (meaning (c.of-asked.ensures i))) (taken_of (c.of-2.ensures i));
+  is = c.push.ensures.behind;
+}
