@@ -1,5 +1,5 @@
 -- The locks of a row, and what a pass knows at each.
-use Rattle.std.specs.Prelude.{◌≡◌, ℕ, List, Some, slice_get, slice_set, map}
+use Rattle.std.specs.Prelude.{◌≡◌, ℕ, List, [], ◌∷◌, Some, slice_get, slice_set, map}
 use Rattle.atomic_table.specs.Seated.{TableId}
 use Rattle.shelf_lock.specs.declared.view.View.{View}
 
@@ -41,3 +41,8 @@ module _ {O E : Type 0} where
   abbrev pub At : ℕ → (View O E → View O E → Type 0) → List (Spot O E) → List (Spot O E) → Type 0
   At place R old new =
       (a : Spot O E) × (w : View O E) × (slice_get old place ≡ Some a) × (new ≡ slice_set old place (spot a.table w)) × R a.known w
+
+-- the caller of the first seat, and 0 where there is none
+abbrev pub caller_at : {O E : Type 0} → List (Spot O E) → ℕ
+caller_at [] = 0
+caller_at (s ∷ ss) = s.known.caller

@@ -17,6 +17,21 @@ impl<V: Kept> Model for RowPass<V> {
     ghost view = { λ p. map (λ q. spot q.seat.table_id q.seat.me.0) p.seats.items };
 }
 
+impl<V: Kept> RowPass<V> {
+    ghost use Rattle.std.specs.Prelude.{◌≡◌};
+    ghost use Rattle.lock_row.specs.Spots.{caller_at};
+
+    /// Its caller's number, by its first seat; 0 for a pass without seats.
+    pub fn caller(&self) -> u64
+        ensures { result ≡ caller_at self.now }
+    {
+        match self.seats.first() {
+            Some(seat) => seat.caller,
+            None => 0,
+        }
+    }
+}
+
 /// What a pass had seen of each value. It makes no entry and takes no turn.
 #[derive(Drop)]
 pub struct RowNote<V: Kept> {

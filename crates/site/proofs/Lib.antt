@@ -3,3 +3,4 @@ pub mod Sounds
 pub mod Holding
 pub mod Turns
 pub mod Seats
+pub mod Ticks

@@ -9,6 +9,7 @@ use Rattle.web_disk.specs.View.{View}
 use Rattle.shelf_lock.specs.declared.view.View as lock
 use Rattle.shelf_lock.specs.declared.view.Role.TheVariants.{Outside}
 use Rattle.shelf_lock.specs.Order.{posed}
+use Rattle.lock_row.specs.Spots.{Spot}
 use Rattle.replay_spec.specs.Step as step
 use Rattle.instance_book.specs.declared.ticket.Ticket.{Ticket}
 use Rattle.instance_book.specs.Views.{ticket_of, reply_of}
@@ -26,15 +27,20 @@ use Rattle.site.specs.Sound.{Holds}
 abbrev pub Known : Type 0 → Type 0 → Type 0
 Known D N = lock.View (Opening D N) KeptEntry
 
+-- what a pass of a site knows of each shelf
+abbrev pub Spots : Type 0 → Type 0 → Type 0
+Spots D N = List (Spot (Opening D N) KeptEntry)
+
 -- the history that it has seen
 abbrev pub seen_by : {D N : Type 0} → Known D N → List Entry
 seen_by v = entries_of v.seen
 
--- the seat of a worker at a shelf of this setup
-pub record IsSeat {D N : Type 0} (setup : Setup) (worker : ℕ) (v : Known D N) : Type 0 where
+-- the seat of a worker at a shelf that was opened under this setup, with this fuel for a visit
+pub record IsSeat {D N : Type 0} (setup : Setup) (fuel worker : ℕ) (v : Known D N) : Type 0 where
   pub opening : Opening D N
   pub opening_is : v.opening ≡ opening ∷ []
   pub setup_is : opening.setup.value ≡ setup
+  pub fuel_is : opening.shelf.value.rules.fuel ≡ fuel
   pub caller_is : v.caller ≡ worker
 
 module _ {D N : Type 0} (view : D → View) (tells : Bool) (coming : N → ℕ → ℕ) where

@@ -10,5 +10,5 @@ mod site;
 pub use entry::{Did, KeptEntry};
 pub use kept::KeptShelf;
 pub use opening::Opening;
-pub use pass::SitePass;
+pub use pass::{SiteNote, SitePass};
 pub use site::Site;

@@ -1,11 +1,8 @@
 use crate::kept::KeptShelf;
-use lock_row::RowPass;
-use web_disk::Disk;
-use web_outside::Nonces;
+use lock_row::{RowNote, RowPass};
 
-/// What one worker has seen of each shelf.
-#[derive(Drop)]
-pub struct SitePass<D: Disk, N: Nonces + Drop> {
-    pub(crate) row: RowPass<KeptShelf<D, N>>,
-    pub(crate) worker: u32,
-}
+/// What one worker has seen of each shelf. Its caller is the worker's number.
+pub type SitePass<D, N> = RowPass<KeptShelf<D, N>>;
+
+/// What a worker had seen of each shelf.
+pub type SiteNote<D, N> = RowNote<KeptShelf<D, N>>;
