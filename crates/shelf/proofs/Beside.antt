@@ -1,5 +1,5 @@
 -- A book beside one journal and beside another: admission and the visits look at neither.
-use Rattle.std.proofs.Common.{◌≡◌, ap, sym, subst, refl, ℕ, List, length, Option, Some, None, Result}
+use Rattle.std.proofs.Common.{◌≡◌, ap, subst, refl, ℕ, List, length, Option, None, Result}
 use Rattle.script_value.specs.declared.outcome.Reply.{Reply}
 use Rattle.script_nodes.specs.Setup.{Named}
 use Rattle.page_names.specs.Names.{Destination, start, page}

@@ -1,5 +1,5 @@
 -- A prepared visit lands, by what became of its record.
-use Rattle.std.proofs.Common.{◌≡◌, ◌∙◌, ap, sym, subst, refl, ℕ, ◌+◌, ◌≤◌, ◌^◌, Bool, IsTrue, List, length, Option, Some, None, option_map, Result, Ok, Err, arith}
+use Rattle.std.proofs.Common.{◌≡◌, ◌∙◌, ap, sym, subst, refl, ℕ, ◌+◌, ◌≤◌, ◌^◌, List, length, Option, Some, None, option_map, Err, arith}
 use Rattle.script_value.specs.declared.outcome.Reply.{Reply}
 use Rattle.script_nodes.specs.Setup.{Named}
 use Rattle.page_journal.specs.Settled.{length_of}
@@ -13,16 +13,16 @@ use Rattle.instance_book.specs.declared.book.Book.{Book}
 use Rattle.instance_book.specs.declared.prepared.Change.{Change}
 use Rattle.instance_book.specs.declared.prepared.Prepared.{Prepared}
 use Rattle.instance_book.specs.declared.ticket.Ticket.{Ticket}
-use Rattle.instance_book.specs.Views.{book_of, ticket_of, reply_of, instances_of}
-use Rattle.instance_book.specs.Changes.{change_of, inside_of, put_into, HasStateBy}
+use Rattle.instance_book.specs.Views.{book_of, ticket_of, reply_of}
+use Rattle.instance_book.specs.Changes.{change_of, inside_of, put_into}
 use Rattle.instance_book.specs.Makes.{Makes, MakesUnder}
 use Rattle.instance_book.specs.Prepares.{IsCarriedOut}
 use Rattle.shelf.specs.declared.shelf.Shelf.{Shelf}
 use Rattle.shelf.specs.declared.doubt.Doubt as doubt_type
 use Rattle.shelf.specs.Views.{unmeasured, rules_of, doubt_of, doubt_by, book_in, fate_by}
-use Rattle.shelf.specs.Recording.{IsShort, IsBody, IsWritten, CanBeWritten}
+use Rattle.shelf.specs.Recording.{IsBody, IsWritten}
 use Rattle.shelf.proofs.Steps.{Comes, landed, doubted, doubting, short_enough}
-use Rattle.shelf.proofs.Publishing.{told, unwritten, not_refused, size_is, can_be_written, replies_is, records_is, nothing_put, landed_book, is_plain}
+use Rattle.shelf.proofs.Publishing.{told, unwritten, not_refused, size_is, replies_is, records_is, nothing_put, landed_book, is_plain}
 
 module _ {D N : Type 0} (ss : List Named) (s : Shelf D N) (t : Ticket) (p : Prepared) (up : s.down ≡ None)
     (decided : IsCarriedOut ss (unmeasured s.rules) (book_in ss s) (publish_comes (unmeasured s.rules) (book_in ss s) (ticket_of t)) p) (spent : Book) (spending : Makes (spend t.number) s.book spent) where

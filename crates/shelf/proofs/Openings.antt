@@ -1,10 +1,10 @@
 -- What opening a disk finds and leaves.
-use Rattle.std.proofs.Common.{Result, Ok, Err, IfOk, ◌≡◌, ◌≢◌, ◌⊎◌, inl, inr, ⊎_elim, ℕ, ◌+◌, ◌≤◌, ◌<◌, ◌^◌, ◌==◌, ◌&&◌, Bool, true, false, List, [], ◌∷◌, ◌++◌, length, Option, Some, None, option_map, if◌then◌else◌, refl, sym, ◌∙◌, ap, subst, arith}
+use Rattle.std.proofs.Common.{◌≡◌, ◌≢◌, ◌⊎◌, inl, inr, ⊎_elim, ℕ, ◌+◌, ◌≤◌, ◌==◌, ◌&&◌, Bool, true, false, List, [], ◌∷◌, length, Option, Some, None, if◌then◌else◌, refl, sym, ◌∙◌, ap, subst, arith}
 use Rattle.script_nodes.specs.Setup.{Named}
-use Rattle.web_disk.specs.View.{View, LeavesOnly, AreAmong}
+use Rattle.web_disk.specs.View.{View, LeavesOnly}
 use Rattle.page_journal.specs.Records.{records, Intact, stored, at_rest}
 use Rattle.page_journal.specs.Scanned.{IsQuiet}
-use Rattle.page_journal.specs.Settled.{IsSettled, view_of, bodies_in, length_of}
+use Rattle.page_journal.specs.Settled.{IsSettled, bodies_in, length_of}
 use Rattle.page_journal.specs.declared.journal.Journal.{Journal}
 use Rattle.page_journal.proofs.Mending.{leaves_then}
 use Rattle.replay_spec.specs.Book.{Doubt, Book, Change, reopened, reopened_with}
@@ -20,20 +20,18 @@ use Rattle.journal_records.specs.Records.{Record, begins, changes, begin_of, beg
 use Rattle.journal_records.specs.Reading.{read_record}
 use Rattle.journal_records.specs.Laws.{AreRecordsExact}
 use Rattle.journal_books.specs.Making.{Making, nothing, made, damaged, other, rules_over, are_told, first_by, next_by, with_body, with_bodies, begun, book_of, book_in_bytes}
-use Rattle.journal_books.specs.Standing.{IsBook, Makes, MakesIn, Between, Held, HoldIn, if_kept, Stands, StaysThroughout, IsOneOf}
+use Rattle.journal_books.specs.Standing.{IsBook, Makes, MakesIn, Held, if_kept, StaysThroughout, IsOneOf}
 use Rattle.journal_books.specs.Spelling.{IsInRange}
 use Rattle.journal_books.specs.Keeping.{Keeps, AreNamed, first_body}
 use Rattle.journal_books.specs.Disks.{IsFit}
-use Rattle.journal_books.specs.Laws.{AreOver}
 use Rattle.journal_books.proofs.Fitting.{made_fits}
 use Rattle.journal_books.proofs.Kept.{fresh_kept}
 use Rattle.journal_books.proofs.Between.{read_as, make_books}
 use Rattle.journal_books.proofs.Standings.{settled_stands}
 use Rattle.instance_book.specs.declared.book.Book.{Book as RustBook}
-use Rattle.instance_book.specs.Views as kept_book
 use Rattle.instance_book.specs.Swept.{IsEmpty}
 use Rattle.instance_book.specs.Makes.{HasItsStates}
-use Rattle.book_recovery.specs.Found.{book_with, IsReopened, IsBookInOrder}
+use Rattle.book_recovery.specs.Found.{book_with, IsBookInOrder}
 use Rattle.shelf.specs.Opening.{IsCrashed, AReopenedShelfHasCrashed, AStandingDiskOpens}
 use Rattle.shelf.specs.declared.begin.BeginFault.TheVariants as fault
 

@@ -1,14 +1,12 @@
 -- A shelf in order goes on to be, and a step of its book is one of the shelf.
-use Rattle.std.proofs.Common.{◌≡◌, ◌∙◌, ap, sym, subst, refl, ℕ, ◌+◌, ◌≤◌, Bool, IsTrue, false, List, ◌∷◌, [], length, Option, Some, None}
+use Rattle.std.proofs.Common.{◌≡◌, ◌∙◌, ap, sym, subst, refl, ℕ, ◌+◌, Bool, IsTrue, false, List, None}
 use Rattle.script_value.specs.declared.outcome.Reply.{Reply}
 use Rattle.script_value.specs.declared.outcome.Reply.TheVariants as reply
 use Rattle.script_nodes.specs.Setup.{Named}
-use Rattle.page_names.specs.Names.{Destination}
 use Rattle.web_disk.specs.View.{View}
 use Rattle.page_journal.specs.Settled as journal
 use Rattle.page_journal.specs.Settled.{is_broken}
-use Rattle.page_journal.specs.declared.journal.Journal.{Journal}
-use Rattle.replay_spec.specs.Book.{Change, Book}
+use Rattle.replay_spec.specs.Book.{Book}
 use Rattle.replay_spec.specs.Runs.{drawn_by, shelf_step}
 use Rattle.replay_spec.specs.Runs as runs
 use Rattle.replay_spec.specs.Step as step

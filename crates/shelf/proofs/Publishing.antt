@@ -1,6 +1,6 @@
 -- What a publish comes to, by what is prepared for it and by its record.
-use Rattle.std.proofs.Common.{◌≡◌, ◌∙◌, ap, sym, subst, refl, ℕ, ◌+◌, ◌≤◌, ◌<◌, ◌^◌, min, Bool, true, false, List, length, Option, Some, None, IfSome, Result, Ok, Err, Contains, if◌then◌else◌, arith}
-use Rattle.std.specs.Prelude.{nat_lt, ⊤}
+use Rattle.std.proofs.Common.{◌≡◌, ◌∙◌, ap, sym, subst, refl, ℕ, ◌+◌, ◌≤◌, ◌<◌, ◌^◌, Bool, true, false, List, length, Option, Some, None, IfSome, Result, Ok, Err, Contains, if◌then◌else◌, arith}
+use Rattle.std.specs.Prelude.{nat_lt}
 use Rattle.std.proofs.lemmas.Bool.Decides.{nat_tests}
 use Rattle.std.proofs.lemmas.Option.{same_Some}
 use Rattle.script_value.specs.declared.outcome.Refusal.{Refusal}
@@ -17,21 +17,21 @@ use Rattle.replay_spec.specs.Step.{Decision, replies, records, carried_out, publ
 use Rattle.replay_spec.specs.Invariant.{IsOrderly}
 use Rattle.replay_spec.specs.Remade.{NameTheirCells}
 use Rattle.server_limits.specs.Limits.{most_fuel, most_life}
-use Rattle.journal_records.specs.Records.{Record, changes, body_of, IsInGrammar, are_shallow, body_length, record_length, PartsFit}
+use Rattle.journal_records.specs.Records.{changes, body_of, are_shallow, body_length, record_length}
 use Rattle.journal_books.specs.Spelling.{IsInRange}
 use Rattle.journal_books.proofs.Spelled.{recorded_spelled}
 use Rattle.instance_book.specs.declared.prepared.Change.{Change as RustChange}
 use Rattle.instance_book.specs.declared.prepared.Change.TheVariants.{Opens, Extends, Ends, Finishes}
 use Rattle.instance_book.specs.declared.prepared.Prepared.{Prepared}
 use Rattle.instance_book.specs.declared.ticket.Ticket.{Ticket}
-use Rattle.instance_book.specs.Views.{ticket_of, reply_of, instances_of}
-use Rattle.instance_book.specs.Changes.{change_of, inside_of, decision_by, decision_of, put_into, HasStateBy}
+use Rattle.instance_book.specs.Views.{ticket_of, reply_of}
+use Rattle.instance_book.specs.Changes.{change_of, inside_of, decision_by, put_into, HasStateBy}
 use Rattle.instance_book.specs.Prepares.{IsRecord, IsCarriedOut, Prepares}
 use Rattle.shelf.specs.declared.rules.Rules as limits_of
 use Rattle.shelf.specs.Views.{unmeasured, rules_of, fate_by}
 use Rattle.shelf.specs.Preparing.{Decides}
 use Rattle.shelf.specs.Events.{TellsReply, TellsCount, no_publish}
-use Rattle.shelf.specs.Recording.{refusal_of_size, IsShort, CanBeWritten, IsBody, IsWritten, IsOfByte}
+use Rattle.shelf.specs.Recording.{refusal_of_size, IsShort, CanBeWritten, IsWritten, IsOfByte}
 use Rattle.shelf.proofs.Steps.{Comes, replied, wanting, told_same, too_long, short_enough, records_plain, replies_plain}
 
 module _ (ss : List Named) (r : limits_of.Rules) (b : Book) (t : Ticket) where

@@ -1,12 +1,12 @@
 -- What the calls of a shelf leave of it.
-use Rattle.std.proofs.Common.{◌≡◌, ◌∙◌, ap, sym, subst, refl, ℕ, ◌+◌, ◌≤◌, ◌^◌, ◌++◌, ◌∷◌, [], Bool, IsTrue, false, List, length, Option, Some, None, option_map}
+use Rattle.std.proofs.Common.{◌≡◌, ◌∙◌, ap, sym, subst, refl, ◌+◌, ◌≤◌, ◌^◌, ◌++◌, ◌∷◌, [], Bool, IsTrue, false, List, length, Option, Some, None, option_map}
 use Rattle.script_nodes.specs.Setup.{Named}
 use Rattle.web_disk.specs.View.{View, LeavesOnly}
 use Rattle.page_journal.specs.Holding.{MayHold}
 use Rattle.page_journal.specs.Settled as journal
 use Rattle.page_journal.specs.Settled.{IsSettled, view_of, bodies_in, length_of, is_broken}
 use Rattle.page_journal.specs.declared.journal.Journal.{Journal}
-use Rattle.replay_spec.specs.Book.{Change, Doubt, Book, reopened}
+use Rattle.replay_spec.specs.Book.{Change, Book, reopened}
 use Rattle.replay_spec.specs.Runs.{lands}
 use Rattle.replay_spec.specs.Step as step
 use Rattle.replay_spec.specs.Laws.{IsLawful}
@@ -24,15 +24,14 @@ use Rattle.shelf.specs.declared.rules.Rules as limits_of
 use Rattle.shelf.specs.declared.shelf.Shelf.{Shelf}
 use Rattle.shelf.specs.Ranges.{AreInRange}
 use Rattle.shelf.specs.declared.doubt.Doubt as doubt_type
-use Rattle.shelf.specs.Views.{rules_of, doubt_of, book_in, fate_by, IsInOrder}
+use Rattle.shelf.specs.Views.{rules_of, doubt_of, book_in, IsInOrder}
 use Rattle.shelf.specs.Events.{HasMoments}
-use Rattle.shelf.proofs.Standing.{OnlyNow, CountsNow, IsQuietCall, quiet_fit, quiet_moments, recorded_moments, added_fit, doubted_fit, stake_landed, stake_doubted}
-use Rattle.shelf.proofs.Order.{JournalStays, order_behind}
+use Rattle.shelf.proofs.Standing.{OnlyNow, CountsNow, IsQuietCall, quiet_fit, quiet_moments, recorded_moments, added_fit, doubted_fit}
+use Rattle.shelf.proofs.Order.{order_behind}
 
 module _ {D N : Type 0} (view : D → View) (tells : Bool) (ss : List Named) (s t : Shelf D N) (order : IsInOrder view tells ss s) (limits : t.rules ≡ s.rules) (places : HasItsStates ss s.book → HasItsStates ss t.book)
     (sound : journal.IsSound t.journal) (event : step.Event) (fate : step.Fate) (x : step.Reply) (d : Book) (is : book_in ss t ≡ d) (stepped : step.step (rules_of ss s.rules) (book_in ss s) 0 event fate ≡ (x, d))
     (setup : KeepsSetup event (book_in ss s)) (lawful : IsLawful event (book_in ss s)) (named : GivesNamed event) (tick : GivesTick event) (events : EventsAreKept) where
-
   there : (step.step (rules_of ss s.rules) (book_in ss s) 0 event fate).1 ≡ d
   there = ap (λ (y : step.Reply × Book). y.1) stepped
 

@@ -2,7 +2,7 @@
 use Rattle.std.proofs.Common.{◌≡◌, ℕ, ◌+◌, ◌≤◌, ◌^◌, Bool, List, [], ◌∷◌, ◌++◌, length, Option, Some, None, option_map, IsTrue, inl, refl, sym, ◌∙◌, ap, subst, arith}
 use Rattle.script_nodes.specs.Setup.{Named}
 use Rattle.web_disk.specs.View.{View, NoNewImage, Elapses, LeavesOnly}
-use Rattle.page_journal.specs.Records.{stored, at_rest}
+use Rattle.page_journal.specs.Records.{stored}
 use Rattle.page_journal.specs.Holding.{MayHold}
 use Rattle.page_journal.specs.Settled.{IsSettled, view_of, bodies_in, length_of}
 use Rattle.page_journal.specs.declared.journal.Journal.{Journal}
@@ -14,7 +14,7 @@ use Rattle.replay_spec.specs.Runs.{lands, doubted}
 use Rattle.replay_spec.specs.Laws.{IsLawful}
 use Rattle.replay_spec.specs.Remade.{KeepsSetup}
 use Rattle.journal_records.specs.Records.{IsInGrammar, changes}
-use Rattle.journal_books.specs.Standing.{Between, Hold, Held, if_kept, Stands, Throughout, HasRoom}
+use Rattle.journal_books.specs.Standing.{Between, Hold, if_kept, Stands, Throughout, HasRoom}
 use Rattle.journal_books.specs.Keeping.{Keeps, body_by, with_landed, IsSpelled, at_stake, stake_of}
 use Rattle.journal_books.specs.Disks.{IsFit}
 use Rattle.journal_books.specs.Laws.{AreOver, EventsAreKept, EventsStandBetween}
@@ -58,7 +58,6 @@ throughout_alike scripts shelf a b c old new same (k, run) =
 
 module _ {D : Type 0} (view : D → View) (tells : Bool) (scripts : List Named) (shelf : ℕ) (rules : Rules) (b : Book) (event : Event) (fate : Fate) (old : Journal D)
     (less : rules.fuel ≤ most_fuel) (is_over : AreOver rules scripts shelf) (setup : KeepsSetup event b) (lawful : IsLawful event b) (events : EventsAreKept) where
-
   -- behind an event that leaves no record, with a book that differs in what is out alone
   module _ (d : Book) (is : (step rules b 0 event fate).1 ≡ d) (none : lands rules b event fate ≡ None) (same : reopened b ≡ reopened d) (down : b.down ≡ d.down) (new : Journal D) (call : IsQuietCall view tells old new) (told : IsTrue tells) where
     quiet_keeps : Keeps scripts shelf (bodies_in view old) b → Keeps scripts shelf (bodies_in view new) d
@@ -84,7 +83,6 @@ module _ {D : Type 0} (view : D → View) (tells : Bool) (scripts : List Named) 
   module _ (up : b.down ≡ None) (between : EventsStandBetween) (c : Change) (spelled : IsInGrammar (changes c)) (room : length_of old + 5 + length (body_by c) ≤ 2 ^ 30) (mid new : Journal D) (call : IsQuietCall view tells old mid) (d : Book)
       (is : (step rules b 0 event fate).1 ≡ d) (fit : IsFit view scripts shelf old b)
       (run : LeavesOnly (view_of view mid) (view_of view new) (MayHold (bodies_in view mid) (body_by c))) where
-
     has_room : HasRoom (bodies_in view old) (Some (body_by c))
     has_room = let s = fit.settled up in omega (arith, s.end, room)
 

@@ -1,6 +1,5 @@
 -- What the events of a shelf come to.
-use Rattle.std.proofs.Common.{◌≡◌, ◌≢◌, ◌∙◌, ap, sym, subst, refl, ℕ, ◌+◌, ◌-◌, ◌^◌, ◌==◌, max, nat_le, Bool, true, false, List, [], ◌∷◌, length, Option, Some, None, Result, Ok, Err, IfSome, arith}
-use Rattle.std.specs.Prelude.{nat_lt}
+use Rattle.std.proofs.Common.{◌≡◌, ◌∙◌, ap, sym, subst, refl, ℕ, ◌^◌, ◌==◌, nat_le, Bool, true, false, List, [], length, Option, Some, None}
 use Rattle.script_value.specs.Val.{Val}
 use Rattle.script_value.specs.declared.outcome.Refusal.{Refusal}
 use Rattle.script_value.specs.declared.outcome.TxName.{TxName}
@@ -11,7 +10,7 @@ use Rattle.replay_spec.specs.Tape.{How, shows, finishes, ends, Outcome, paged, f
 use Rattle.replay_spec.specs.Eval.{Segment}
 use Rattle.replay_spec.specs.Book.{Change, sweeps, Doubt, Book, draw, spend}
 use Rattle.replay_spec.specs.Change.{land}
-use Rattle.replay_spec.specs.Rules.{Journal, Rules}
+use Rattle.replay_spec.specs.Rules.{Rules}
 use Rattle.replay_spec.specs.Admission.{when, or_else, Admission, begins, resumes, refused, refusal_of, admit}
 use Rattle.replay_spec.specs.Next as next
 use Rattle.replay_spec.specs.Next.{Origin, starts, answers, Visit}

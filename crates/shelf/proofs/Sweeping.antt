@@ -1,10 +1,9 @@
 -- What a sweep comes to, by its record.
-use Rattle.std.proofs.Common.{◌≡◌, ◌∙◌, ap, sym, subst, refl, ℕ, ◌+◌, ◌-◌, ◌≤◌, ◌<◌, ◌^◌, max, Bool, true, false, nat_le, List, [], length, Option, Some, None, Result, Ok, Err, arith}
-use Rattle.std.proofs.lemmas.Bool.Decides.{nat_tests}
+use Rattle.std.proofs.Common.{◌≡◌, ◌∙◌, ap, sym, ℕ, ◌+◌, ◌-◌, max, false, nat_le, List, [], length, Some, None, Ok, Err, arith}
 use Rattle.script_value.specs.declared.outcome.Reply.{Reply}
 use Rattle.script_value.specs.declared.outcome.Reply.TheVariants as reply
 use Rattle.script_nodes.specs.Setup.{Named}
-use Rattle.replay_spec.specs.Book.{Change, sweeps, Book}
+use Rattle.replay_spec.specs.Book.{sweeps, Book}
 use Rattle.replay_spec.specs.Change.{land}
 use Rattle.replay_spec.specs.Step as step
 use Rattle.replay_spec.specs.Step.{freed}
@@ -14,7 +13,7 @@ use Rattle.instance_book.specs.Views.{reply_of}
 use Rattle.shelf.specs.declared.rules.Rules as limits_of
 use Rattle.shelf.specs.Views.{rules_of, fate_by}
 use Rattle.shelf.specs.Recording.{IsWritten}
-use Rattle.shelf.proofs.Steps.{Comes, wanting_sweep, full_sweep, landed_sweep, doubted_sweep}
+use Rattle.shelf.proofs.Steps.{Comes, wanting_sweep, full_sweep, landed_sweep}
 use Rattle.shelf.proofs.Publishing.{not_refused}
 
 module _ (ss : List Named) (r : limits_of.Rules) (b : Book) (tick : ℕ) (late : nat_le tick b.clock ≡ false) (up : b.down ≡ None) where

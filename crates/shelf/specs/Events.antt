@@ -23,7 +23,7 @@ use Rattle.instance_book.specs.declared.prepared.Prepared.{Prepared}
 use Rattle.instance_book.specs.Views.{ticket_of, ticket_for, reply_of}
 use Rattle.instance_book.specs.Prepares.{IsCarriedOut}
 use Rattle.shelf.specs.declared.shelf.Shelf.{Shelf}
-use Rattle.shelf.specs.Views.{unmeasured, book_in, IsInOrder, refusal_now, taken_of, swept_of, IsEvent, HoldNow}
+use Rattle.shelf.specs.Views.{unmeasured, book_in, IsInOrder, taken_of, swept_of, IsEvent, HoldNow}
 
 -- a take is one event
 abbrev pub IsTake : {D N : Type 0} → (coming : N → ℕ → ℕ) → Setup → (old new : Shelf D N) → Target → Value → Result Ticket Reply → Type 0

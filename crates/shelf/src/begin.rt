@@ -47,7 +47,12 @@ fn fault_by(fault: JournalFault) -> BeginFault
 }
 
 // Adds the first record, which tells the shelf's number and the scripts.
-fn start<D: Disk>(alloc: Global, journal: &mut Journal<D>, setup: &Setup, number: u32) -> Result<(), BeginFault>
+fn start<D: Disk>(
+    alloc: Global,
+    journal: &mut Journal<D>,
+    setup: &Setup,
+    number: u32,
+) -> Result<(), BeginFault>
     requires sound { IsSound journal.old }
     requires whole { is_broken journal.old ≡ false }
     requires settled { IsTrue D.tells → IsSettled D.view journal.old }
@@ -78,7 +83,12 @@ fn start<D: Disk>(alloc: Global, journal: &mut Journal<D>, setup: &Setup, number
 }
 
 // Makes the book of the records; a journal without records gets its first one.
-fn open<D: Disk>(alloc: Global, journal: &mut Journal<D>, setup: &Setup, number: u32) -> Result<Book, BeginFault>
+fn open<D: Disk>(
+    alloc: Global,
+    journal: &mut Journal<D>,
+    setup: &Setup,
+    number: u32,
+) -> Result<Book, BeginFault>
     requires sound { IsSound journal.old }
     requires whole { is_broken journal.old ≡ false }
     requires settled { IsTrue D.tells → IsSettled D.view journal.old }

@@ -64,14 +64,7 @@ impl<D: Disk, N: Nonces + Drop> Shelf<D, N> {
             self.book.spend(ticket.number);
             return Reply::Down(count);
         }
-        match prepared(
-            alloc,
-            &mut self.book,
-            self.rules,
-            setup,
-            &ticket,
-            segment,
-        ) {
+        match prepared(alloc, &mut self.book, self.rules, setup, &ticket, segment) {
             Ok(prepared) => self.land(alloc, setup, &ticket, prepared),
             Err(reply) => {
                 self.book.spend(ticket.number);

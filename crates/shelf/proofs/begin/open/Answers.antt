@@ -1,9 +1,9 @@
-use Rattle.std.proofs.Common.{◌≡◌, ◌≢◌, ◌+◌, ◌++◌, ◌∷◌, [], List, ℕ, length, sym, ◌∙◌, ap, subst, arith}
+use Rattle.std.proofs.Common.{◌≡◌, ◌++◌, ◌∷◌, [], List, ℕ, sym, ◌∙◌, ap, subst, arith}
 use Rattle.script_nodes.specs.Views.{scripts_of}
 use Rattle.page_journal.specs.Records.{stored}
-use Rattle.page_journal.specs.Settled.{bodies_in, length_of, IsSettled}
+use Rattle.page_journal.specs.Settled.{bodies_in, length_of}
 use Rattle.journal_records.specs.Records.{begun_length}
-use Rattle.journal_books.specs.Making.{nothing, made, begun, book_of}
+use Rattle.journal_books.specs.Making.{nothing, begun, book_of}
 use Rattle.journal_books.specs.Standing.{IsBook, Makes}
 use Rattle.journal_books.specs.Keeping.{first_body}
 use Rattle.book_recovery.specs.declared.found.Found.{Found}

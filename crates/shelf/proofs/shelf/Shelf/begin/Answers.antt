@@ -1,4 +1,3 @@
-use Rattle.std.proofs.Common.{◌≡◌, ap, sym, subst, refl, sym}
 use Rattle.script_nodes.specs.Views.{scripts_of}
 use Rattle.page_journal.specs.Settled.{bodies_in, length_of}
 use Rattle.journal_books.proofs.Standings.{stays_by, one_of}

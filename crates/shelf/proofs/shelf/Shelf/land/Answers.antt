@@ -1,4 +1,4 @@
-use Rattle.std.proofs.Common.{◌≡◌, ◌∙◌, ap, sym, subst, refl, ℕ, ◌+◌, ◌<◌, ◌^◌, ◌++◌, ◌∷◌, [], List, length, Option, Some, None, option_map, IsTrue, Result, Ok, Err, arith}
+use Rattle.std.proofs.Common.{◌≡◌, ◌∙◌, ap, sym, subst, refl, ℕ, ◌+◌, ◌<◌, ◌^◌, ◌++◌, ◌∷◌, [], List, length, Some, option_map, IsTrue, Ok, Err, arith}
 use Rattle.script_value.specs.declared.outcome.Reply.{Reply}
 use Rattle.script_nodes.specs.Views.{scripts_of}
 use Rattle.web_disk.specs.View.{LeavesOnly}
@@ -10,13 +10,12 @@ use Rattle.journal_records.specs.Records.{Record, changes, record_length}
 use Rattle.journal_books.specs.Keeping.{body_by}
 use Rattle.instance_book.specs.Views.{ticket_of, reply_of}
 use Rattle.instance_book.specs.Changes.{change_of, inside_of, HasStateBy}
-use Rattle.shelf.specs.declared.doubt.Doubt as doubt_type
-use Rattle.shelf.specs.Views.{rules_of, unmeasured, book_in, doubt_of, fate_by}
+use Rattle.shelf.specs.Views.{rules_of, book_in, doubt_of, fate_by}
 use Rattle.shelf.specs.Recording.{CanBeWritten, IsBody, IsWritten}
 use Rattle.shelf.proofs.Standing.{no_call, stake_landed, stake_doubted}
 use Rattle.shelf.proofs.Order.{quiet, quiet_event}
 use Rattle.shelf.proofs.Shelves.{quiet_order, quiet_run, recorded_run, added_order, doubted_order}
-use Rattle.shelf.proofs.Publishing.{records_is, can_be_written, unwritten_count, plain_count, not_wanting}
+use Rattle.shelf.proofs.Publishing.{records_is, can_be_written, plain_count, not_wanting}
 use Rattle.shelf.proofs.Landing.{not_down, idle_comes, idle_book, unwritten_comes, unwritten_book, reply_plain, has_room, landed_there, landed_comes, landed_is, doubted_there, doubted_comes, doubted_is, down_there}
 use Rattle.shelf.proofs.shelf.Shelf.land.Goals as goal
 
@@ -160,8 +159,8 @@ returns-in-Ok-added-clause-in_order g c =
     let run : IsTrue g.D.Disk.tells → LeavesOnly (g.D.Disk.view c.written.new.journal.disk) (g.D.Disk.view c.added.new.journal.disk) (MayHold (bodies_in g.D.Disk.view c.written.new.journal) (body_by (change_of ch))) =
     λ told. subst (λ (x : List ℕ). LeavesOnly (g.D.Disk.view c.written.new.journal.disk) (g.D.Disk.view c.added.new.journal.disk) (MayHold (bodies_in g.D.Disk.view c.written.new.journal) x)) slice (c.added.ensures.any_moment told) in
     let added : IsTrue g.D.Disk.tells → IsSettled g.D.Disk.view c.added.new.journal × (bodies_in g.D.Disk.view c.added.new.journal ≡ bodies_in g.D.Disk.view c.written.new.journal ++ body_by (change_of ch) ∷ []) = λ told.
-        let both = c.in-Ok-added.ensures.ok told in
-        (both.0, both.1 ∙ ap (λ (x : List ℕ). bodies_in g.D.Disk.view c.written.new.journal ++ x ∷ []) slice) in
+    let both = c.in-Ok-added.ensures.ok told in
+    (both.0, both.1 ∙ ap (λ (x : List ℕ). bodies_in g.D.Disk.view c.written.new.journal ++ x ∷ []) slice) in
     added_order g.D.Disk.view g.D.Disk.tells ss s _ c.requires.in_order refl (λ all. c.install-in-Ok-added.ensures.states ss shown (c.spend.ensures.states ss all)) c.added.ensures.sound (step.publish (ticket_of t)) (fate_by (reply_of c.install-in-Ok-added.result)) (reply_of c.install-in-Ok-added.result) (landed_there ss s t p c.requires.up c.requires.decided c.spend.new.self c.spend.ensures.book ch c.in-Some.is body written) is (comes.step 0) tt c.requires.out tt tt c.events_are_kept.ensures c.requires.up c.events_stand_between.ensures (change_of ch)
     written.spelled (has_room ss s t p c.requires.up c.requires.decided c.spend.new.self c.spend.ensures.book ch c.in-Some.is body written) c.written.new.journal (record { settled = λ told settled. c.written.ensures.settled told; seen = c.written.ensures.seen; images = c.written.ensures.images; time = c.written.ensures.time }) run comes.landed (not_down ss s t p c.requires.up c.requires.decided c.spend.new.self c.spend.ensures.book) c.in-Ok-added.ensures.whole added
 
@@ -266,4 +265,3 @@ returns-clause-any_moment g c told =
     λ told. subst (λ (x : List ℕ). LeavesOnly (g.D.Disk.view c.written.new.journal.disk) (g.D.Disk.view c.added.new.journal.disk) (MayHold (bodies_in g.D.Disk.view c.written.new.journal) x)) slice (c.added.ensures.any_moment told) in
     recorded_run g.D.Disk.view g.D.Disk.tells ss s (record s { journal = c.added.new.journal; book = c.spend.new.self; down = c.of_visit.result }) c.requires.in_order refl (c.spend.ensures.states ss) c.added.ensures.sound (step.publish (ticket_of t)) (step.disk_fault n) (step.disk_failed n) (doubted_there ss s t p c.requires.up c.requires.decided c.spend.new.self c.spend.ensures.book ch c.in-Some.is body written n) is (comes.step 0) tt c.requires.out tt tt c.events_are_kept.ensures c.requires.up c.events_stand_between.ensures (change_of ch)
     written.spelled (has_room ss s t p c.requires.up c.requires.decided c.spend.new.self c.spend.ensures.book ch c.in-Some.is body written) c.written.new.journal (record { settled = λ told settled. c.written.ensures.settled told; seen = c.written.ensures.seen; images = c.written.ensures.images; time = c.written.ensures.time }) run told (g.met.D.Disk.only_now s.journal.disk) (stake_doubted (rules_of ss s.rules) (book_in ss s) (doubted_there ss s t p c.requires.up c.requires.decided c.spend.new.self c.spend.ensures.book ch c.in-Some.is body written n) (step.publish (ticket_of t)) (step.disk_fault n) _ comes.landed (ap (λ (x : step.Reply × Book). x.1) (comes.step 0)) refl)
-

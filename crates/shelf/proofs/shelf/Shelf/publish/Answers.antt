@@ -1,4 +1,4 @@
-use Rattle.std.proofs.Common.{◌≡◌, ◌∙◌, ap, sym, subst, refl, ℕ, Option, Some, None, option_map, IfSome, Ok, Err, Contains}
+use Rattle.std.proofs.Common.{◌≡◌, ◌∙◌, ap, sym, subst, refl, Option, None, option_map, IfSome, Err, Contains}
 use Rattle.script_value.specs.declared.outcome.Reply.TheVariants as reply
 use Rattle.script_nodes.specs.Views.{scripts_of}
 use Rattle.page_names.specs.Views.{target_of}
@@ -11,17 +11,17 @@ use Rattle.instance_book.specs.Admissions.{refusal_for}
 use Rattle.instance_book.specs.Views.{book_of, ticket_of, reply_of}
 use Rattle.instance_book.specs.Prepares.{IsCarriedOut, Prepares}
 use Rattle.shelf.specs.declared.doubt.Doubt as doubt_type
-use Rattle.shelf.specs.Views.{rules_of, unmeasured, book_in, doubt_of, fate_by}
+use Rattle.shelf.specs.Views.{unmeasured, book_in, doubt_of, fate_by}
 use Rattle.shelf.specs.Preparing.{Decides}
-use Rattle.shelf.specs.Events.{decision_of, TellsReply, no_publish, HasMoments}
+use Rattle.shelf.specs.Events.{decision_of, TellsReply, no_publish}
 use Rattle.shelf.proofs.Beside.{admit_same, fits_at, holds_at, orderly_at}
 use Rattle.shelf.proofs.Steps.{replied, down_publish}
 use Rattle.shelf.proofs.Standing.{no_call}
 use Rattle.shelf.proofs.Order.{quiet, quiet_event}
 use Rattle.shelf.proofs.Shelves.{quiet_order, quiet_run, same_order, at_up}
-use Rattle.shelf.proofs.Publishing.{answered, told_answered, no_count, up_refusal, down_refusal, refused_ok, refused_err, not_refused_by, same_error}
+use Rattle.shelf.proofs.Publishing.{answered, told_answered, no_count, up_refusal, refused_ok, refused_err, not_refused_by, same_error}
 use Rattle.shelf.proofs.Fitting.{event_from, moments_from, shown_at}
-use Rattle.shelf.proofs.Now.{if_some, if_none}
+use Rattle.shelf.proofs.Now.{if_none}
 use Rattle.shelf.proofs.shelf.Shelf.publish.Goals as goal
 
 -- a shelf that is down

@@ -1,8 +1,8 @@
-use Rattle.std.proofs.Common.{◌≡◌, ◌∙◌, ap, sym, subst, refl, ℕ, ◌+◌, ◌-◌, ◌≤◌, ◌^◌, ◌++◌, ◌∷◌, [], nat_le, true, false, arith, length, List, Option, Some, None, option_map, IsTrue, Ok, Err}
+use Rattle.std.proofs.Common.{◌≡◌, ◌∙◌, ap, subst, refl, ℕ, ◌+◌, ◌-◌, ◌≤◌, ◌^◌, ◌++◌, ◌∷◌, [], nat_le, true, false, arith, length, List, Option, Some, option_map, IsTrue}
 use Rattle.std.proofs.lemmas.Bool.Decides.{nat_tests}
 use Rattle.web_disk.specs.View.{LeavesOnly}
 use Rattle.page_journal.specs.Holding.{MayHold}
-use Rattle.page_journal.specs.Settled.{length_of, view_of, bodies_in, IsSettled}
+use Rattle.page_journal.specs.Settled.{length_of, bodies_in, IsSettled}
 use Rattle.replay_spec.specs.Book.{Book, sweeps}
 use Rattle.replay_spec.specs.Step as step
 use Rattle.journal_records.specs.Records.{changes, record_length}
@@ -56,7 +56,6 @@ returns-in-Some-clause-any_moment g c told ss order =
     quiet_run g.D.Disk.view g.D.Disk.tells ss s s order refl (λ all. all) order.sound (step.sweep c.args.tick) step.plain (step.down c.in-Some.doubt.count) b refl (comes.step 0) tt tt tt c.requires.tick c.events_are_kept.ensures comes.landed refl refl order.whole
     (no_call g.D.Disk.view g.D.Disk.tells s.journal) told (g.met.D.Disk.only_now s.journal.disk)
 
-
 pub returns-in-Err-clause-event : goal.returns-in-Err-clause-event
 returns-in-Err-clause-event g c ss =
     let s = c.args.self.now in
@@ -96,7 +95,7 @@ returns-in-Err-clause-any_moment g c told ss order =
     (λ none. c.written.ensures.whole ∙ order.whole none) (record { settled = λ told settled. c.written.ensures.settled told; seen = c.written.ensures.seen; images = c.written.ensures.images; time = c.written.ensures.time }) told (g.met.D.Disk.only_now s.journal.disk)
 
 pub returns-in-Err-clause-cause : goal.returns-in-Err-clause-cause
-returns-in-Err-clause-cause g c  =
+returns-in-Err-clause-cause g c =
     unwritten_count (length_of c.args.self.now.journal) (sweeps c.args.tick) c.in-Err.reply _ _ c.in-Err.ensures.written
 
 pub returns-in-Ok-added-clause-event : goal.returns-in-Ok-added-clause-event
@@ -144,8 +143,8 @@ returns-in-Ok-added-clause-in_order g c ss order =
     let run : IsTrue g.D.Disk.tells → LeavesOnly (g.D.Disk.view c.written.new.journal.disk) (g.D.Disk.view c.added.new.journal.disk) (MayHold (bodies_in g.D.Disk.view c.written.new.journal) (body_by (sweeps c.args.tick))) =
     λ told. subst (λ (x : List ℕ). LeavesOnly (g.D.Disk.view c.written.new.journal.disk) (g.D.Disk.view c.added.new.journal.disk) (MayHold (bodies_in g.D.Disk.view c.written.new.journal) x)) slice (c.added.ensures.any_moment told) in
     let added : IsTrue g.D.Disk.tells → IsSettled g.D.Disk.view c.added.new.journal × (bodies_in g.D.Disk.view c.added.new.journal ≡ bodies_in g.D.Disk.view c.written.new.journal ++ body_by (sweeps c.args.tick) ∷ []) = λ told.
-        let both = c.in-Ok-added.ensures.ok told in
-        (both.0, both.1 ∙ ap (λ (x : List ℕ). bodies_in g.D.Disk.view c.written.new.journal ++ x ∷ []) slice) in
+    let both = c.in-Ok-added.ensures.ok told in
+    (both.0, both.1 ∙ ap (λ (x : List ℕ). bodies_in g.D.Disk.view c.written.new.journal ++ x ∷ []) slice) in
     added_order g.D.Disk.view g.D.Disk.tells ss s _ order refl (c.free_expired.ensures.states ss) c.added.ensures.sound (step.sweep c.args.tick) step.plain (step.swept c.free_expired.result) after refl (comes.step 0) tt tt tt c.requires.tick c.events_are_kept.ensures c.in_default.is c.events_stand_between.ensures (sweeps c.args.tick)
     written.spelled room c.written.new.journal (record { settled = λ told settled. c.written.ensures.settled told; seen = c.written.ensures.seen; images = c.written.ensures.images; time = c.written.ensures.time }) run comes.landed up c.in-Ok-added.ensures.whole added
 
@@ -239,4 +238,3 @@ returns-clause-any_moment g c told ss order =
     λ told. subst (λ (x : List ℕ). LeavesOnly (g.D.Disk.view c.written.new.journal.disk) (g.D.Disk.view c.added.new.journal.disk) (MayHold (bodies_in g.D.Disk.view c.written.new.journal) x)) slice (c.added.ensures.any_moment told) in
     recorded_run g.D.Disk.view g.D.Disk.tells ss s (record s { journal = c.added.new.journal; down = Some (record { count = n; change = Sweeps c.args.tick }) }) order refl (λ all. all) c.added.ensures.sound (step.sweep c.args.tick) (step.disk_fault n) (step.disk_failed n) d is (comes.step 0) tt tt tt c.requires.tick c.events_are_kept.ensures c.in_default.is c.events_stand_between.ensures (sweeps c.args.tick)
     written.spelled room c.written.new.journal (record { settled = λ told settled. c.written.ensures.settled told; seen = c.written.ensures.seen; images = c.written.ensures.images; time = c.written.ensures.time }) run told (g.met.D.Disk.only_now s.journal.disk) (stake_doubted (rules_of ss s.rules) b d (step.sweep c.args.tick) (step.disk_fault n) _ comes.landed (ap (λ (x : step.Reply × Book). x.1) (comes.step 0)) refl)
-

@@ -6,13 +6,11 @@ use Rattle.script_nodes.specs.Views.{scripts_of}
 use Rattle.page_names.specs.Names.{Destination}
 use Rattle.page_names.specs.Views.{target_of}
 use Rattle.replay_spec.specs.Book.{Book, draw}
-use Rattle.replay_spec.specs.Admission.{Admission, refusal_of, admit}
+use Rattle.replay_spec.specs.Admission.{refusal_of, admit}
 use Rattle.replay_spec.specs.Next as next
 use Rattle.replay_spec.specs.Step as step
 use Rattle.page_journal.specs.Settled.{length_of}
-use Rattle.instance_book.specs.Views.{book_of}
 use Rattle.instance_book.specs.Fits.{FitsAs}
-use Rattle.instance_book.proofs.States.{some_visit}
 use Rattle.shelf.specs.declared.doubt.Doubt as doubt_type
 use Rattle.shelf.specs.Views.{rules_of, book_in, shelf_of, doubt_of}
 use Rattle.shelf.proofs.Beside.{admit_same, fits_at}
