@@ -105,3 +105,9 @@ in_order law scripts shelf bodies named bytes n (found.Made b) seen way is =
 in_order law scripts shelf bodies named bytes n (found.Damaged place) seen way is = tt
 in_order law scripts shelf bodies named bytes n (found.Other place) seen way is = tt
 in_order law scripts shelf bodies named bytes n found.Memory seen way is = tt
+
+-- what was kept of a reader under its own setup
+pub kept_under : (setup : Setup) (shelf : ℕ) (r : Reader) → r.setup.now ≡ setup → r.shelf ≡ shelf → IsKept (scripts_of r.setup.now) r.shelf r.seen r.found
+    → IsKept (scripts_of setup) shelf r.seen r.found
+kept_under setup shelf r same number h =
+    subst (λ (n : ℕ). IsKept (scripts_of setup) n r.seen r.found) number (subst (λ (s : Setup). IsKept (scripts_of s) r.shelf r.seen r.found) same h)
