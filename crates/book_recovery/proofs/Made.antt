@@ -8,7 +8,7 @@ use Rattle.replay_spec.specs.Rules.{Rules}
 use Rattle.replay_spec.specs.Change.{logged_by, longer_by, put_in_order}
 use Rattle.replay_spec.specs.Admission.{is_one}
 use Rattle.replay_spec.specs.Recovery.{Made, nothing_made, number_in, is_repeated, with_number, remade, taken_in, redone, redo}
-use Rattle.replay_spec.specs.Invariant.{Among, AreOrderly}
+use Rattle.replay_spec.specs.Invariant.{Among}
 use Rattle.replay_spec.specs.Remade.{IsOrderlyMade}
 use Rattle.replay_spec.proofs.Stand.{orderly_less}
 use Rattle.replay_spec.proofs.Recovered.{made_orderly}
@@ -18,11 +18,11 @@ use Rattle.instance_book.specs.declared.book.Book as kept
 use Rattle.instance_book.specs.Orders.{numbers_of}
 use Rattle.instance_book.specs.Makes.{HasItsStates}
 use Rattle.instance_book.specs.Swept.{IsEmpty}
-use Rattle.instance_book.specs.Told.{no_rules, book_beside, counted_to, Counts, IsReopened}
+use Rattle.instance_book.specs.Told.{no_rules, book_beside, Counts, IsReopened}
 use Rattle.journal_records.specs.Records.{Record, begins, changes, ChangeFits, IsInGrammar, body_of, begin_of, texts_of, record_length, begun_length}
 use Rattle.journal_records.specs.Reading.{read_record}
 use Rattle.journal_records.specs.Laws.{AreRecordsExact, IsBodyOf}
-use Rattle.journal_books.specs.Making.{Making, nothing, made, damaged, rules_over, has_script, first_by, next_by, with_body}
+use Rattle.journal_books.specs.Making.{Making, made, damaged, rules_over, first_by, next_by, with_body}
 use Rattle.journal_books.specs.Laws.{OnlyItsBeginBegins}
 use Rattle.book_recovery.specs.Remaking.{IsReadyFor, IsMadeBy, number_by}
 use Rattle.book_recovery.specs.Reading.{seen_by, made_in, IsUnderWay, IsMadeAnew, IsRedoneBy, Sees, is_later, IsMadeAs, IsNothing}

@@ -1,5 +1,5 @@
 -- What a reader has made of all records.
-use Rattle.std.proofs.Common.{◌≡◌, ◌∙◌, ap, sym, subst, ℕ, ◌+◌, ◌≤◌, ◌^◌, List, [], ◌∷◌, length, None, refl, arith, length-append}
+use Rattle.std.proofs.Common.{◌≡◌, ◌∙◌, ap, sym, subst, ℕ, ◌+◌, List, [], ◌∷◌, length, refl, arith, length-append}
 use Rattle.script_nodes.specs.Setup.{Named}
 use Rattle.script_nodes.specs.Views.{scripts_of}
 use Rattle.script_nodes.specs.declared.setup.Setup.{Setup}
@@ -7,7 +7,6 @@ use Rattle.page_journal.specs.Records.{framed, frames, at_rest}
 use Rattle.page_journal.specs.Taken.{TakesAll}
 use Rattle.page_journal.proofs.Frames.{length-framed, length-at_rest}
 use Rattle.replay_spec.specs.Book.{Book, reopened}
-use Rattle.replay_spec.specs.Recovery.{Made}
 use Rattle.replay_spec.specs.Invariant.{IsOrderly}
 use Rattle.replay_spec.specs.Remade.{NameTheirCells}
 use Rattle.instance_book.specs.declared.in_order.InOrder.{InOrder}
@@ -20,8 +19,8 @@ use Rattle.journal_books.specs.Laws.{BodiesMakeFittingBooks}
 use Rattle.book_recovery.specs.declared.found.Found.{Found}
 use Rattle.book_recovery.specs.declared.found.Found.TheVariants as found
 use Rattle.book_recovery.specs.declared.reader.Reader.{Reader}
-use Rattle.book_recovery.specs.Found.{Finds, IsBookInOrder, IsFoundInOrder}
-use Rattle.book_recovery.specs.Reading.{seen_by, Gives, IsMadeAs, IsUnderWay, IsKept, IsTaken}
+use Rattle.book_recovery.specs.Found.{Finds, IsFoundInOrder}
+use Rattle.book_recovery.specs.Reading.{seen_by, Gives, IsUnderWay, IsKept, IsTaken}
 
 pub all_taken : (setup : Setup) (shelf place : ℕ) (bodies : List (List ℕ)) (old new : Reader) → TakesAll IsTaken old place bodies new → old.setup.now ≡ setup → old.shelf ≡ shelf
     → (m : Making) → Gives (scripts_of setup) (place + 1) old.found old.seen m

@@ -3,7 +3,7 @@ use Rattle.std.specs.Prelude.{◌≡◌, ℕ, ◌+◌, Bool, true, false, List, 
 use Rattle.script_nodes.specs.Setup.{Named}
 use Rattle.script_nodes.specs.Views.{scripts_of}
 use Rattle.value_bytes.specs.Laws.{AreBytes}
-use Rattle.replay_spec.specs.Book.{Change, reopened}
+use Rattle.replay_spec.specs.Book.{reopened}
 use Rattle.replay_spec.specs.Admission.{is_one}
 use Rattle.replay_spec.specs.Recovery.{Made, remade, redone, redo, with_number}
 use Rattle.replay_spec.specs.Remade.{IsOrderlyMade}

@@ -1,4 +1,4 @@
-use Rattle.std.proofs.Common.{◌≡◌, ◌∙◌, sym, Some, Option, refl, rules}
+use Rattle.std.proofs.Common.{◌≡◌, sym, Some, refl, rules}
 use Rattle.script_nodes.specs.Views.{scripts_of}
 use Rattle.journal_records.specs.Views.{logged_of}
 use Rattle.journal_records.specs.Reading.{read_record}

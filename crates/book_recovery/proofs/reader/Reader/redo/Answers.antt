@@ -1,9 +1,8 @@
-use Rattle.std.proofs.Common.{◌≡◌, ◌∙◌, ap, sym, subst, arith, ℕ, Some, Option, false, true, None, refl}
+use Rattle.std.proofs.Common.{◌≡◌, ◌∙◌, ap, sym, subst, arith, ℕ, false, true, None, refl}
 use Rattle.script_nodes.specs.Views.{scripts_of}
 use Rattle.journal_records.specs.Views.{logged_of}
 use Rattle.replay_spec.specs.Book.{Book}
 use Rattle.replay_spec.specs.Admission.{is_one}
-use Rattle.instance_book.specs.Told.{book_beside}
 use Rattle.std.proofs.lemmas.Option.{same_Some}
 use Rattle.book_recovery.specs.Remaking.{number_by}
 use Rattle.book_recovery.specs.Reading.{seen_by}
