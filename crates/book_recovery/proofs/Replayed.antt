@@ -1,5 +1,5 @@
 -- What the record of a page makes of a book.
-use Rattle.std.proofs.Common.{◌≡◌, ◌∙◌, ap, sym, subst, ℕ, ◌+◌, List, [], map, length, slice_get, Option, Some, None, IfSome, refl}
+use Rattle.std.proofs.Common.{◌≡◌, ◌∙◌, ap, sym, subst, ℕ, List, map, length, slice_get, Option, Some, None, IfSome, refl}
 use Rattle.std.proofs.lemmas.Option.{same_Some}
 use Rattle.script_value.specs.Val.{Val}
 use Rattle.script_value.specs.Views.{meaning}
@@ -11,13 +11,12 @@ use Rattle.instance_cells.specs.Views.{effect_of}
 use Rattle.instance_cells.specs.declared.effect.Effect as rust
 use Rattle.replay_spec.specs.Tape.{recorded, present}
 use Rattle.replay_spec.specs.Eval as eval
-use Rattle.replay_spec.specs.Book.{Page, Instance, Change, Book, instance_at, page_at}
+use Rattle.replay_spec.specs.Book.{Instance, Change, Book, instance_at, page_at}
 use Rattle.replay_spec.specs.Change.{land}
 use Rattle.replay_spec.specs.Admission.{◌>>=◌, Place}
 use Rattle.replay_spec.specs.Next as next
 use Rattle.replay_spec.specs.Next.{Visit, tape_for, comes_to, start_visit, page_visit}
 use Rattle.replay_spec.specs.Recovery.{again, remade, redone, page_of_numbers}
-use Rattle.replay_spec.specs.Invariant.{AreOrderly}
 use Rattle.replay_spec.proofs.Admitted.{came_from}
 use Rattle.machine_spec.specs.Machine.{Suspended}
 use Rattle.machine_spec.specs.Laws.{IsStateOf}
@@ -31,9 +30,9 @@ use Rattle.instance_book.specs.declared.ticket.Ticket.{Ticket}
 use Rattle.instance_book.specs.declared.book.Book as kept
 use Rattle.instance_book.specs.Views.{ticket_of}
 use Rattle.instance_book.specs.Places.{arena_of}
-use Rattle.instance_book.specs.Swept.{cells_at, cells_in}
+use Rattle.instance_book.specs.Swept.{cells_at}
 use Rattle.instance_book.specs.Prepares.{IsOnCells}
-use Rattle.instance_book.specs.Told.{no_rules, book_beside, counted_to, effects_in, told_start, told_answer, told_opening, told_extension, HasStartState, HasAnswerState}
+use Rattle.instance_book.specs.Told.{no_rules, book_beside, effects_in, told_start, told_answer, told_opening, told_extension}
 use Rattle.instance_book.proofs.Seen.{cells_seen}
 use Rattle.ticket_runs.specs.Runs.{IsRunAs}
 use Rattle.book_recovery.specs.declared.claim.Claim.{Claim}

@@ -4,7 +4,10 @@
 mod claim;
 mod found;
 mod read;
+mod reader;
 mod remake;
+mod setup_cells;
+mod sound;
 
 pub use found::Found;
 pub use read::read_book;

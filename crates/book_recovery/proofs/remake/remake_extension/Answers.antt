@@ -1,5 +1,4 @@
-use Rattle.std.proofs.Common.{◌≡◌, ◌∙◌, ap, sym, subst, refl, ℕ, List, Option, Some, None, IfSome, IfNone}
-use Rattle.script_value.specs.declared.outcome.TxName.{TxName}
+use Rattle.std.proofs.Common.{◌≡◌, ◌∙◌, ap, sym, subst, refl, ℕ, Option, Some, None, IfSome, IfNone}
 use Rattle.script_nodes.specs.Views.{scripts_of}
 use Rattle.replay_spec.specs.Book.{Change, page_at}
 use Rattle.replay_spec.specs.Change.{land}

@@ -1,6 +1,5 @@
-use Rattle.std.proofs.Common.{◌≡◌, ◌∙◌, ap, sym, subst, refl, List, Option, Some, None, IfSome, IfNone, slice_get, length as size}
+use Rattle.std.proofs.Common.{◌≡◌, ◌∙◌, ap, subst, refl, List, Option, Some, None, IfSome, IfNone, slice_get, length as size}
 use Rattle.script_value.specs.Val.{Val}
-use Rattle.script_value.specs.declared.outcome.TxName.{TxName}
 use Rattle.script_nodes.specs.Views.{scripts_of}
 use Rattle.replay_spec.specs.Book.{Change}
 use Rattle.replay_spec.specs.Change.{land}

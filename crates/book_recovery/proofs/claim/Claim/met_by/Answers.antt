@@ -1,7 +1,5 @@
-use Rattle.std.proofs.Common.{◌≡◌, subst, refl, List, map, true, false}
+use Rattle.std.proofs.Common.{◌≡◌, refl, map, true, false}
 use Rattle.instance_cells.specs.Views.{effect_of}
-use Rattle.instance_cells.specs.declared.effect.Effect.{Effect}
-use Rattle.script_value.specs.declared.outcome.TxName.{TxName}
 use Rattle.book_recovery.specs.Claims.{IsMet}
 use Rattle.book_recovery.proofs.Claimed.{met_again, unmet_again}
 use Rattle.book_recovery.proofs.claim.Claim.met_by.Goals as goal
