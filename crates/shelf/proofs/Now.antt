@@ -34,65 +34,9 @@ use Rattle.instance_book.specs.Swept.{cells_in}
 use Rattle.instance_book.specs.Places.{arena_of}
 use Rattle.instance_book.specs.Fits.{GoesOnFrom, IsFor, FitsAs}
 use Rattle.instance_book.specs.Laws.{KeepsStateOver, KeepsStateAs}
-use Rattle.shelf.specs.Views.{IsSegmentOf, IsRunOver, HaveTheirCells}
-
--- a script is its nodes in pre-order
-pub arena_is : (a : Arena) → IsScript a → a ≡ arena_of (script_of a)
-arena_is a i = ap (λ (ns : List Node). record a { nodes = ns }) i.numbered
-
--- what a visit goes on from fits its script
-pub fits_from : EachStateFits → (a : Arena) → IsScript a → (v : Visit) → v.script.script ≡ script_of a → (o : Origin) → GoesOnFrom v (origin_of o) → FitsFrom a o
-fits_from law a i v e origin.Start goes = tt
-fits_from law a i v e (origin.Page d) goes =
-    let same : arena_of v.script.script ≡ a = ap arena_of e ∙ sym (arena_is a i) in
-    law a (page_tape (home_of v) goes.ancestors goes.page) (suspended_of d) (subst (λ (b : Arena). IsStateOf b (page_tape (home_of v) goes.ancestors goes.page) (suspended_of d)) same goes.state)
-
--- an origin that is the same is gone on from the same
-pub replays_alike : (o p : Origin) (a : Arena) (x : Answer) (r : Segment) → origin_of o ≡ origin_of p → Replays o a x r → Replays p a x r
-replays_alike origin.Start origin.Start a x r e h = h
-replays_alike origin.Start (origin.Page d) a x r e h = absurd (cc)
-replays_alike (origin.Page d) origin.Start a x r e h = absurd (cc)
-replays_alike (origin.Page d) (origin.Page c) a x r e h = λ t is. h t (subst (λ (s : Suspended). IsStateOf a t s) (sym (same_Some (suspended_of d) (suspended_of c) e)) is)
-
--- one page more, and then the newest segment
-one_more : (h : Home) (ps : List Page) (p : Page) (x : Answer) → tape_of h (ps ++ p ∷ []) x ≡ longer x (page_tape h ps p)
-one_more h [] p x = refl
-one_more h (q ∷ ps) p x = ap (λ (xs : List Answer). record { first = (answered h q).segment; later = xs ++ x ∷ [] }) (mapped ps)
-  where
-    mapped : (ps : List Page) → map (answered h) (ps ++ p ∷ []) ≡ map (answered h) ps ++ answered h p ∷ []
-    mapped [] = refl
-    mapped (r ∷ ps) = ap (λ (xs : List Answer). answered h r ∷ xs) (mapped ps)
-
--- a segment is that of a visit over these cells, and its state is kept over the visit's tape
-pub record IsRunAs (v : Visit) (cells : List Val) (fuel : ℕ) (r : Segment) : Type 0 where
-  pub comes : segment_of r ≡ comes_to v (present cells fuel)
-  pub state : KeepsStateOver v r
-
-over_tape : (v : Visit) (a : Arena) (cells : List Val) (fuel : ℕ) (r : Segment) (tape : Reads → Tape) → v.script.script ≡ script_of a → a ≡ arena_of v.script.script
-    → ((reads : Reads) → tape reads ≡ tape_for v reads) → IsLastOver a r tape (present cells fuel) → IsRunAs v cells fuel r
-over_tape v a cells fuel r tape e same is last =
-    let read : Reads = recorded (reads_of (map effect_of r.effects.items)) in
-    record {
-      comes = last.0.0 ∙ (ap (λ (t : Tape). run (script_of a) t) (is (present cells fuel)) ∙ ap (λ (s : Script). run s (tape_for v (present cells fuel))) (sym e));
-      state = subst (λ (t : Tape). Keeps r.outcome (λ d. IsStateOf (arena_of v.script.script) t d)) (is read)
-          (subst (λ (b : Arena). Keeps r.outcome (λ d. IsStateOf b (tape read) d)) same last.1.1);
-    }
-
-runs_from : (v : Visit) (a : Arena) (cells : List Val) (fuel : ℕ) (r : Segment) → v.script.script ≡ script_of a → a ≡ arena_of v.script.script
-    → (o : Origin) → GoesOnFrom v (origin_of o) → Replays o a (next.newest v (present cells fuel)) r → IsRunAs v cells fuel r
-runs_from v a cells fuel r e same origin.Start goes replays =
-    over_tape v a cells fuel r (λ reads. tape_of (home_of v) [] (next.newest v reads)) e same
-    (λ reads. ap (λ (ps : List Page). tape_of (home_of v) ps (next.newest v reads)) (sym goes)) replays
-runs_from v a cells fuel r e same (origin.Page d) goes replays =
-    let t = page_tape (home_of v) goes.ancestors goes.page in
-    over_tape v a cells fuel r (λ reads. longer (next.newest v reads) t) e same
-    (λ reads. sym (ap (λ (ps : List Page). tape_of (home_of v) ps (next.newest v reads)) goes.chain ∙ one_more (home_of v) goes.ancestors goes.page (next.newest v reads)))
-    (replays t (subst (λ (b : Arena). IsStateOf b t (suspended_of d)) (sym same) goes.state))
-
--- the answer of a ticket that is for a visit is the visit's
-answer_is : (scripts : List Named) (t : Ticket) (v : Visit) (cells : List Val) (fuel : ℕ) → v.ticket ≡ ticket_of t → IsFor scripts t v
-    → newest (meaning t.answer) t.number t.url cells fuel ≡ next.newest v (present cells fuel)
-answer_is scripts t v cells fuel e fits = rw (fits.url, e) refl
+use Rattle.ticket_runs.specs.Runs.{IsRunOver}
+use Rattle.ticket_runs.proofs.Replayed.{IsLike, run_like}
+use Rattle.shelf.specs.Views.{IsSegmentOf, HaveTheirCells}
 
 -- pages that were shown are past
 are_past : (h : Home) (ps : List Page) → ArePast (map (answered h) ps)
@@ -114,14 +58,8 @@ on_cells law v reads n whole e =
 module _ (b : Book) (t : Ticket) (name : List ℕ) (a : Arena) (i : IsScript a) (named : Named) (its : named.script ≡ script_of a) (found : slice_get b.scripts t.script ≡ Some named) (fuel : ℕ) (over : List Val) (r : Segment)
     (is : IsRunOver b.scripts fuel t over r) where
   -- the run of the visit that the ticket is for
-  run_as : (v : Visit) → v.ticket ≡ ticket_of t → IsFor b.scripts t v → IsRunAs v over fuel r
-  run_as v e fits =
-      let script : v.script.script ≡ script_of a = ap (λ (s : Named). s.script) (same_Some v.script named (sym fits.script ∙ found)) ∙ its in
-      let same : a ≡ arena_of v.script.script = arena_is a i ∙ ap arena_of (sym script) in
-      let mine : arena_of named.script ≡ a = ap arena_of its ∙ sym (arena_is a i) in
-      runs_from v a over fuel r script same t.from fits.from
-      (subst (λ (x : Answer). Replays t.from a x r) (answer_is b.scripts t v over fuel e fits)
-      (subst (λ (c : Arena). Replays t.from c (newest (meaning t.answer) t.number t.url over fuel) r) mine (is named found)))
+  run_as : (v : Visit) → v.ticket ≡ ticket_of t → IsFor b.scripts t v → IsLike v over fuel r
+  run_as v e fits = run_like b.scripts t a i named its found fuel over r is v e fits
 
   whole_of : (v : Visit) → IsFor b.scripts t v → OnCells (length named.script.web) (length named.script.cells) named.script.body
       → OnCells (length v.script.script.web) (length v.script.script.cells) v.script.script.body
@@ -191,10 +129,6 @@ gone_segment b t name n fuel s (resumes at) gone adm =
     let there = ap (option_map (λ (i : Instance). i.cells)) (page_stands b name n at adm).here in
     absurd (cc (gone, there))
 gone_segment b t name n fuel s (refused r) gone adm = tt
-
-pub if_ok : {X E : Type 0} {P Q : X → Type 0} (r : Result X E) → IfOk r P → ((x : X) → P x → Q x) → IfOk r Q
-if_ok (Ok x) h f = f x h
-if_ok (Err e) h f = tt
 
 pub if_some : {X : Type 0} (o : Option X) (x : X) (P : X → Type 0) → o ≡ Some x → P x → IfSome o P
 if_some o x P e p = subst (λ z. IfSome z P) (sym e) p

@@ -21,7 +21,6 @@ use Rattle.journal_books.specs.Disks.{IsFit}
 use Rattle.journal_books.specs.Spelling.{IsInRange}
 use Rattle.stored_states.specs.Views.{segment_of}
 use Rattle.stored_states.specs.declared.segment.Segment as ran
-use Rattle.send_suspend.specs.Segments.{newest, Replays}
 use Rattle.replay_spec.specs.Tape.{present}
 use Rattle.replay_spec.specs.Eval.{Segment}
 use Rattle.replay_spec.specs.Book as spec
@@ -44,6 +43,7 @@ use Rattle.instance_book.specs.Places.{arena_of}
 use Rattle.instance_book.specs.Fits.{FitsAs}
 use Rattle.instance_book.specs.Prepares.{rules_with}
 use Rattle.instance_book.specs.Laws.{KeepsStateAs}
+use Rattle.ticket_runs.specs.Runs.{IsRunOver}
 use Rattle.shelf.specs.declared.doubt.Doubt.{Doubt}
 use Rattle.shelf.specs.declared.doubt.Doubted.{Doubted}
 use Rattle.shelf.specs.declared.doubt.Doubted.TheVariants.{Visits, Sweeps}
@@ -150,12 +150,7 @@ FitsNow setup s t = FitsAs (scripts_of setup) (book_in (scripts_of setup) s) t (
 abbrev pub IsOut : {D N : Type 0} → Setup → Shelf D N → Ticket → Type 0
 IsOut setup s t = Contains (book_in (scripts_of setup) s).out t.number
 
--- the segment of the ticket over these cells, which goes on from what the ticket goes on from; and over the ticket's own cells
-abbrev pub IsRunOver : List Named → (fuel : ℕ) → Ticket → (cells : List Val) → ran.Segment → Type 0
-IsRunOver scripts fuel t cells r =
-    (named : Named) → slice_get scripts t.script ≡ Some named
-    → Replays t.from (arena_of named.script) (newest (meaning t.answer) t.number t.url cells fuel) r
-
+-- the segment of the ticket over the ticket's own cells
 abbrev pub IsRunOf : List Named → (fuel : ℕ) → Ticket → ran.Segment → Type 0
 IsRunOf scripts fuel t r = IsRunOver scripts fuel t t.cells r
 

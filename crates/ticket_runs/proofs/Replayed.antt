@@ -62,9 +62,9 @@ one_more h (q ∷ ps) p x = ap (λ (xs : List Answer). record { first = (answere
     mapped (r ∷ ps) = ap (λ (xs : List Answer). answered h r ∷ xs) (mapped ps)
 
 -- a segment is that of a visit over these cells, and its state is kept over the visit's tape
-record IsLike (v : Visit) (cells : List Val) (fuel : ℕ) (r : Segment) : Type 0 where
-  comes : segment_of r ≡ comes_to v (present cells fuel)
-  state : KeepsStateOver v r
+pub record IsLike (v : Visit) (cells : List Val) (fuel : ℕ) (r : Segment) : Type 0 where
+  pub comes : segment_of r ≡ comes_to v (present cells fuel)
+  pub state : KeepsStateOver v r
 
 over_tape : (v : Visit) (a : Arena) (cells : List Val) (fuel : ℕ) (r : Segment) (tape : Reads → Tape) → v.script.script ≡ script_of a
     → a ≡ arena_of v.script.script → ((reads : Reads) → tape reads ≡ tape_for v reads) → IsLastOver a r tape (present cells fuel)
@@ -94,6 +94,19 @@ answer_is : (scripts : List Named) (t : Ticket) (v : Visit) (cells : List Val) (
 answer_is scripts t v cells fuel e fits = rw (fits.url, e) refl
 
 -- the run of a visit that the ticket is for
+pub run_like : (scripts : List Named) (t : Ticket) (a : Arena) → IsScript a → (named : Named) → named.script ≡ script_of a
+    → slice_get scripts t.script ≡ Some named
+    → (fuel : ℕ) (over : List Val) (r : Segment) → IsRunOver scripts fuel t over r
+    → (v : Visit) → v.ticket ≡ ticket_of t → IsFor scripts t v → IsLike v over fuel r
+run_like scripts t a i named its found fuel over r is v e fits =
+    let script : v.script.script ≡ script_of a = ap (λ (s : Named). s.script) (same_Some v.script named (sym fits.script ∙ found)) ∙ its in
+    let same : a ≡ arena_of v.script.script = arena_is a i ∙ ap arena_of (sym script) in
+    let mine : arena_of named.script ≡ a = ap arena_of its ∙ sym (arena_is a i) in
+    runs_from v a over fuel r script same t.from fits.from
+    (subst (λ (x : Answer). Replays t.from a x r) (answer_is scripts t v over fuel e fits)
+    (subst (λ (c : Arena). Replays t.from c (newest (meaning t.answer) t.number t.url over fuel) r) mine (is named found)))
+
+-- and its effects are on the cells of its script
 pub run_as : (scripts : List Named) (t : Ticket) (a : Arena) → IsScript a → (named : Named) → named.script ≡ script_of a
     → slice_get scripts t.script ≡ Some named → EffectsAreOnCells
     → OnCells (length a.web) (length a.cells) (script_of a).body
@@ -101,11 +114,7 @@ pub run_as : (scripts : List Named) (t : Ticket) (a : Arena) → IsScript a → 
     → (v : Visit) → v.ticket ≡ ticket_of t → IsFor scripts t v → IsRunAs v over fuel r
 run_as scripts t a i named its found law whole fuel over r is v e fits =
     let script : v.script.script ≡ script_of a = ap (λ (s : Named). s.script) (same_Some v.script named (sym fits.script ∙ found)) ∙ its in
-    let same : a ≡ arena_of v.script.script = arena_is a i ∙ ap arena_of (sym script) in
-    let mine : arena_of named.script ≡ a = ap arena_of its ∙ sym (arena_is a i) in
-    let like = runs_from v a over fuel r script same t.from fits.from
-    (subst (λ (x : Answer). Replays t.from a x r) (answer_is scripts t v over fuel e fits)
-    (subst (λ (c : Arena). Replays t.from c (newest (meaning t.answer) t.number t.url over fuel) r) mine (is named found))) in
+    let like = run_like scripts t a i named its found fuel over r is v e fits in
     let here : OnCells (length v.script.script.web) (length v.script.script.cells) v.script.script.body =
     subst (λ (s : Script). OnCells (length s.web) (length s.cells) s.body) (sym script) whole in
     let on = law v.script.script (tape_for v (present over fuel)) (length v.script.script.web) (length v.script.script.cells) here in

@@ -7,7 +7,7 @@ use Rattle.replay_spec.specs.Step.{publish_comes}
 use Rattle.instance_book.specs.Admissions.{book_under}
 use Rattle.instance_book.specs.Views.{book_of, ticket_of}
 use Rattle.shelf.specs.Views.{unmeasured}
-use Rattle.shelf.proofs.Now.{if_ok}
+use Rattle.ticket_runs.proofs.Replayed.{if_ok}
 use Rattle.shelf.proofs.Beside.{admit_same, fits_at, segment_at, prepares_by}
 use Rattle.shelf.proofs.Publishing.{decides}
 use Rattle.shelf.proofs.prepare.prepared.Goals as goal

@@ -14,7 +14,8 @@ use Rattle.instance_book.proofs.Seen.{cells_seen}
 use Rattle.instance_book.proofs.States.{some_visit}
 use Rattle.stored_states.specs.Views.{segment_of}
 use Rattle.shelf.specs.Views.{HoldIn}
-use Rattle.shelf.proofs.Now.{gone_segment, start_segment, start_on, keeps_state, held_segment, rerun_segment, page_on, if_ok, if_some, of_some}
+use Rattle.ticket_runs.proofs.Replayed.{if_ok}
+use Rattle.shelf.proofs.Now.{gone_segment, start_segment, start_on, keeps_state, held_segment, rerun_segment, page_on, if_some, of_some}
 use Rattle.shelf.proofs.second.segment_now.Goals as goal
 
 pub returns-in_default-target-clause-segment : goal.returns-in_default-target-clause-segment
@@ -123,7 +124,7 @@ returns-clause-segment c =
     let named = c.in-Some.named.now in
     let page = c.in-Page.page in
     let here : cells_in page.instance b ≡ Some c.in-Some-cells.cells.now = sym (cells_seen (scripts_of c.args.setup.now) 0 None page.instance c.args.book.now) ∙ sym c.in-Some-cells.ensures in
-    if_ok c.run_ticket.result c.run_ticket.ensures (λ r is. rerun_segment b t (name_of c.in-Page.field-0) named.script c.root-root.ensures.script (named_of named) refl (sym c.in-Some.ensures) c.args.fuel c.in-Some-cells.cells.now r is page c.in-Some-cells.cells.now here
+    if_ok c.run_ticket.result c.run_ticket.ensures.run (λ r is. rerun_segment b t (name_of c.in-Page.field-0) named.script c.root-root.ensures.script (named_of named) refl (sym c.in-Some.ensures) c.args.fuel c.in-Some-cells.cells.now r is page c.in-Some-cells.cells.now here
     (admit b (target_of t.target)) (ap (λ (x : Target). admit b (target_of x)) (sym c.in-Page.is)) c.requires.fits refl)
 
 pub returns-clause-state : goal.returns-clause-state
@@ -131,7 +132,7 @@ returns-clause-state c =
     let b = book_under c.args.setup.now c.args.book.now in
     let t = c.args.ticket.now in
     let named = c.in-Some.named.now in
-    if_ok c.run_ticket.result c.run_ticket.ensures (λ r is. keeps_state b t (name_of c.in-Page.field-0) named.script c.root-root.ensures.script (named_of named) refl (sym c.in-Some.ensures) c.args.fuel c.in-Some-cells.cells.now r is (admit b (target_of t.target)) c.requires.fits)
+    if_ok c.run_ticket.result c.run_ticket.ensures.run (λ r is. keeps_state b t (name_of c.in-Page.field-0) named.script c.root-root.ensures.script (named_of named) refl (sym c.in-Some.ensures) c.args.fuel c.in-Some-cells.cells.now r is (admit b (target_of t.target)) c.requires.fits)
 
 pub returns-clause-on : goal.returns-clause-on
 returns-clause-on c =
@@ -140,7 +141,7 @@ returns-clause-on c =
     let named = c.in-Some.named.now in
     let page = c.in-Page.page in
     let here : cells_in page.instance b ≡ Some c.in-Some-cells.cells.now = sym (cells_seen (scripts_of c.args.setup.now) 0 None page.instance c.args.book.now) ∙ sym c.in-Some-cells.ensures in
-    if_ok c.run_ticket.result c.run_ticket.ensures (λ r is. subst (λ (x : Target). AreOnBy c.args.book.now t (target_of x) (map effect_of r.effects.items)) (sym c.in-Page.is)
+    if_ok c.run_ticket.result c.run_ticket.ensures.run (λ r is. subst (λ (x : Target). AreOnBy c.args.book.now t (target_of x) (map effect_of r.effects.items)) (sym c.in-Page.is)
     (if_some (cells_at page.instance c.args.book.now) c.in-Some-cells.cells.now (λ (vs : List Val). AreOn (length vs) (map effect_of r.effects.items)) (sym c.in-Some-cells.ensures)
     (page_on b t (name_of c.in-Page.field-0) named.script c.root-root.ensures.script (named_of named) refl (sym c.in-Some.ensures) c.args.fuel c.in-Some-cells.cells.now r is page c.in-Some-cells.cells.now here
     c.effects_are_on_cells.ensures (admit b (target_of t.target)) c.root-root.ensures.cells c.requires.cells (ap (λ (x : Target). admit b (target_of x)) (sym c.in-Page.is)) c.requires.admitted c.requires.fits)))
