@@ -1,0 +1,77 @@
+-- What the calls of a row do.
+use Rattle.std.specs.Prelude.{◌≡◌, ℕ, ◌<◌, ◌≤◌, ◌^◌, List, [], ◌∷◌, length, Some, slice_get}
+use Rattle.std.specs.Fn.{Once}
+use denote.Ref.{MutBor}
+use mathlib.Core.List.{IsPrefix}
+use Rattle.shelf_lock.specs.declared.kept.Kept.{Ghosts}
+use Rattle.shelf_lock.specs.declared.view.View.{View}
+use Rattle.shelf_lock.specs.declared.view.Role.TheVariants.{Outside}
+use Rattle.shelf_lock.specs.Order.{made_by, posed, longer, both, Told, Each, MadeBelow}
+use Rattle.shelf_lock.specs.Turns.{MayCall, KeepsEach}
+use Rattle.shelf_lock.specs.declared.rule.Start.{Start}
+use Rattle.lock_row.specs.Spots.{Spot, spot}
+
+module _ {S O E : Type 0} (g : Ghosts S O E) where
+  -- a value that may be put behind a lock: it has no entry
+  abbrev pub IsFresh : S → Type 0
+  IsFresh x = g.sound x × (g.history x ≡ []) × (g.first x ≤ 2 ^ 62)
+
+  -- a value that was put there, and came back as nothing had been done
+  abbrev pub ComesBack : S → S → Type 0
+  ComesBack x y = g.sound y × (g.opening y ≡ g.opening x) × (g.history y ≡ []) × (g.first y ≡ g.first x)
+
+  -- f may be called in a turn at this place
+  abbrev pub MayCallAt : {F A : Type 0} → Once F (MutBor S × Unit {0}) (A × (MutBor S × Unit {0})) → F → ℕ → List (Spot O E) → Type 0
+  MayCallAt call f place pass = (a : Spot O E) → slice_get pass place ≡ Some a → MayCall g call f a.known
+
+  -- and keeps what a turn has to keep
+  abbrev pub KeepsEachAt : {F A : Type 0} → Once F (MutBor S × Unit {0}) (A × (MutBor S × Unit {0})) → F → ℕ → List (Spot O E) → Type 0
+  KeepsEachAt call f place pass = (a : Spot O E) → slice_get pass place ≡ Some a → KeepsEach g call f a.known
+
+  -- The pass has then seen the longer history of both. What it and the note had seen begin it, and it has no further entry of
+  -- the pass's caller.
+  abbrev pub Hears : Spot O E → Spot O E → Spot O E → Type 0
+  Hears note a b =
+      (b ≡ spot a.table (posed Outside (longer a.known.seen note.known.seen) a.known))
+      × IsPrefix a.known.seen b.known.seen × IsPrefix note.known.seen b.known.seen
+      × (made_by g.caller b.known.caller b.known.seen ≡ made_by g.caller a.known.caller a.known.seen)
+
+  -- What a value that was given back tells of a seat at its lock: what the caller had seen begins its history, and has all of
+  -- the caller's entries; so of each that the seat had heard of.
+  abbrev pub TellsOf : S → View O E → Type 0
+  TellsOf x v = Told g (g.history x) (v.caller, v.seen) × Each (Told g (g.history x)) v.heard
+
+  -- the same of the lock that it was behind, which was made with this
+  abbrev pub IsClosed : Start S → S → Type 0
+  IsClosed start x =
+      g.sound x × (g.opening x ≡ g.opening start.value.value) × MadeBelow g start.seats (g.history x)
+
+  -- a value that was given back: of this opening, and of so many callers
+  pub record IsBack (opening : List O) (seats : ℕ) (x : S) : Type 0 where
+    pub sound : g.sound x
+    pub opening_is : opening ≡ g.opening x ∷ []
+    pub callers : MadeBelow g seats (g.history x)
+
+module _ {O E : Type 0} where
+  -- a note of what the pass has seen at a lock
+  abbrev pub IsNoteOf : Spot O E → Spot O E → Type 0
+  IsNoteOf a note = (note.table ≡ a.table) × (note.known.seen ≡ a.known.seen)
+
+  -- what is then told of this seat is told of both
+  abbrev pub Absorbs : Spot O E → Spot O E → Spot O E → Type 0
+  Absorbs other a b = b ≡ spot a.table (both a.known other.known)
+
+  -- a caller that has seen nothing yet
+  abbrev pub IsNewFor : ℕ → Spot O E → Type 0
+  IsNewFor caller s = (s.known.caller ≡ caller) × (s.known.seen ≡ []) × (s.known.heard ≡ [])
+
+-- a walk from the last place on, so far: from this place on each was changed so, and the others are as they were
+abbrev pub ZipsFrom : {A B : Type 0} → (B → A → A → Type 0) → ℕ → List A → List B → List A → Type 0
+ZipsFrom {A} {B} R from old others new =
+    ((k : ℕ) → from ≤ k → (a : A) (n : B) → slice_get old k ≡ Some a → slice_get others k ≡ Some n → (b : A) × (slice_get new k ≡ Some b) × R n a b)
+    × ((k : ℕ) → k < from → slice_get new k ≡ slice_get old k)
+
+-- each place of a list and of two others, so
+abbrev pub ZipsAll : {A B : Type 0} → (B → A → A → Type 0) → List A → List B → List A → Type 0
+ZipsAll {A} {B} R old others new =
+    (k : ℕ) (a : A) (n : B) → slice_get old k ≡ Some a → slice_get others k ≡ Some n → (b : A) × (slice_get new k ≡ Some b) × R n a b

@@ -1,0 +1,9 @@
+//! A row of locks, and passes that have a seat at each of them.
+#![tactic(auto)]
+
+mod row;
+mod seats;
+mod sharing;
+
+pub use row::LockRow;
+pub use seats::{RowNote, RowPass};

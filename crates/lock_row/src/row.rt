@@ -1,0 +1,188 @@
+//! The locks.
+ghost use Rattle.std.specs.Prelude.{◌≡◌, ℕ, ◌<◌, ◌≤◌, ◌+◌, [], ◌∷◌, Some, IfOk, MatchResult, vec_len, vec_capacity, reverse, length, slice_get, map};
+ghost use Rattle.std.specs.List.{AllZip};
+ghost use Rattle.lock_row.specs.Spots.{Spot, spot, home, home_of, IsOf, IsNoteIn, At};
+ghost use Rattle.lock_row.specs.Rows.{MayCallAt, KeepsEachAt, Hears, TellsOf, IsBack, IsClosed, IsNoteOf, Absorbs, ZipsAll};
+ghost use Rattle.shelf_lock.specs.Order.{Begins, GoesOn, posed, longer, both};
+ghost use Rattle.shelf_lock.specs.Turns.{Turned, FoundWorn};
+ghost use Rattle.shelf_lock.specs.declared.view.Role.TheVariants.{Outside};
+
+use crate::seats::{RowNote, RowPass};
+use shelf_lock::{Kept, Note, Pass, ShelfLock, Worn};
+use std::alloc::{AllocError, Global};
+use std::marker::Model;
+use std::sync::Wait;
+
+/// Values, each behind a lock of its own. Contracts see where the locks are, and how many callers each has.
+#[derive(Drop)]
+pub struct LockRow<V: Kept> {
+    pub(crate) locks: Vec<ShelfLock<V>>,
+    // Where the values go when the row is closed.
+    pub(crate) room: Vec<V>,
+    pub(crate) seats: u32,
+}
+
+impl<V: Kept> Model for LockRow<V> {
+    ghost use Rattle.std.specs.Prelude.{◌≡◌, ◌≤◌, [], ◌∷◌, ℕ, Some, slice_get, map, vec_len, vec_capacity};
+    ghost use Rattle.lock_row.specs.Spots.{Homes, home};
+
+    ghost Value = { Homes V.Opening };
+
+    ghost view = { λ s. record {
+        homes = map (λ l. home l.board.shared.table_id (V.opening l.board.shared.key.value.value ∷ [])) s.locks.items;
+        seats = s.seats;
+    } };
+
+    ghost invariant = { λ s. (s.room.items ≡ []) × (vec_len s.room ≡ 0) × (vec_len s.locks ≤ vec_capacity s.room)
+        × ((k : ℕ) (l : _) → slice_get s.locks.items k ≡ Some l → l.board.shared.key.seats ≡ s.seats) };
+}
+
+impl<V: Kept> LockRow<V> {
+    /// How many locks there are.
+    pub fn len(&self) -> usize
+        ensures { result ≡ length self.now.homes }
+    {
+        self.locks.len()
+    }
+
+    /// Calls `f` on the value at this place, while no other pass has it, and gives the answer of `f`. It may wait for other
+    /// passes. The pass has then seen the value's history.
+    pub fn turn<R: Wait, A, F: FnOnce(&mut V) -> A>(
+        &self,
+        rt: &R,
+        pass: &mut RowPass<V>,
+        place: usize,
+        f: F,
+    ) -> Result<A, Worn>
+        requires own { IsOf self.now pass.old }
+        requires place { place < length self.now.homes }
+        requires callable { MayCallAt V.Kept F.FnOnce f place pass.old }
+        requires keeps { KeepsEachAt V.Kept F.FnOnce f place pass.old }
+        ensures own { IsOf self.now pass.new }
+        ensures turned { MatchResult result
+            (λ a. At place (λ v w. Turned V.Kept F.FnOnce f v a w) pass.old pass.new)
+            (λ _. At place (λ v w. FoundWorn V.Kept v w) pass.old pass.new) }
+    {
+        self.locks[place].turn(rt, &mut pass.seats[place], f)
+    }
+
+    fn note_at(&self, pass: &mut RowPass<V>, place: usize) -> Note<V>
+        requires own { IsOf self.now pass.old }
+        requires place { place < length self.now.homes }
+        ensures same { pass.new ≡ pass.old }
+        ensures note { (a : _) × (slice_get pass.old place ≡ Some a) × (result.seat.table_id ≡ a.table) × (result.seat.me.0.seen ≡ a.known.seen) }
+    {
+        self.locks[place].split(&mut pass.seats[place])
+    }
+
+    fn hear_at(&self, pass: &mut RowPass<V>, place: usize, note: Note<V>)
+        requires own { IsOf self.now pass.old }
+        requires place { place < length self.now.homes }
+        requires note { (a : _) × (slice_get pass.old place ≡ Some a) × (note.seat.table_id ≡ a.table) }
+        ensures own { IsOf self.now pass.new }
+        ensures heard { At place (λ v w. (w ≡ posed Outside (longer v.seen note.seat.me.0.seen) v)
+            × GoesOn V.Kept v.caller w.seen (v.seen ∷ note.seat.me.0.seen ∷ [])) pass.old pass.new }
+    {
+        self.locks[place].join(&mut pass.seats[place], note);
+    }
+
+    fn absorb_at(&self, pass: &mut RowPass<V>, place: usize, other: Pass<V>)
+        requires own { IsOf self.now pass.old }
+        requires place { place < length self.now.homes }
+        requires other { (a : _) × (slice_get pass.old place ≡ Some a) × (other.seat.table_id ≡ a.table) }
+        ensures own { IsOf self.now pass.new }
+        ensures both { At place (λ v w. w ≡ both v other.seat.me.0) pass.old pass.new }
+    {
+        self.locks[place].absorb(&mut pass.seats[place], other);
+    }
+
+    /// A note of what the pass has seen. Want of memory changes nothing.
+    pub fn tell(&self, alloc: Global, pass: &mut RowPass<V>) -> Result<RowNote<V>, AllocError>
+        requires own { IsOf self.now pass.old }
+        ensures same { pass.new ≡ pass.old }
+        ensures own { IfOk result (λ n. IsNoteIn self.now n) }
+        ensures note { IfOk result (λ n. (k : ℕ) (m : _) → slice_get n k ≡ Some m
+            → (a : _) × (slice_get pass.old k ≡ Some a) × IsNoteOf a m) }
+    {
+        let places = self.len();
+        let mut notes = Vec::with_capacity(alloc, places)?;
+        for place in 0..places {
+            notes.push_reserved(self.note_at(pass, place));
+        }
+        Ok(RowNote { notes })
+    }
+
+    /// Hears a note: of each value the pass has then seen what the note's maker had, if that is longer. Both are of one
+    /// history.
+    pub fn hear(&self, pass: &mut RowPass<V>, note: RowNote<V>)
+        requires own { IsOf self.now pass.old × IsNoteIn self.now note }
+        ensures own { IsOf self.now pass.new }
+        ensures heard { ZipsAll (Hears V.Kept) pass.old note pass.new }
+    {
+        let RowNote { mut notes } = note;
+        while let Some(note) = notes.pop() {
+            self.hear_at(pass, notes.len(), note);
+        }
+        notes.destroy_empty();
+    }
+
+    // Takes another pass in: what is then told of this one is told of both.
+    fn absorb(&self, pass: &mut RowPass<V>, other: RowPass<V>)
+        requires own { IsOf self.now pass.old × IsOf self.now other }
+        ensures own { IsOf self.now pass.new }
+        ensures both { ZipsAll Absorbs pass.old other pass.new }
+    {
+        let RowPass { mut seats } = other;
+        while let Some(seat) = seats.pop() {
+            self.absorb_at(pass, seats.len(), seat);
+        }
+        seats.destroy_empty();
+    }
+
+    /// Waits for each value, and gives them all back, in the order of the places. It takes no memory. Each history tells of
+    /// each pass, and of no further caller.
+    pub fn close<R: Wait>(self, rt: &R, mut passes: Vec<RowPass<V>>) -> Vec<V>
+        requires some { 0 < length passes.items }
+        requires own { (j : ℕ) (p : _) → slice_get passes.items j ≡ Some p → IsOf self p }
+        ensures back { AllZip (λ h x. IsBack V.Kept h.opening self.seats x) self.homes result.items }
+        ensures told { (k : ℕ) (x : _) → slice_get result.items k ≡ Some x
+            → (j : ℕ) (p : _) → slice_get passes.items j ≡ Some p
+            → (a : _) → slice_get p k ≡ Some a → Begins V.Kept (V.history x) a.known }
+    {
+        let mut first = passes.pop().unwrap();
+        while let Some(other) = passes.pop() {
+            self.absorb(&mut first, other);
+        }
+        passes.destroy_empty();
+        let LockRow {
+            locks,
+            room,
+            seats: _,
+        } = self;
+        let RowPass { seats } = first;
+        let mut values = room;
+        shut(rt, locks, seats, &mut values);
+        values.reverse();
+        values
+    }
+}
+
+// Closes each lock with its seat, from the last on.
+fn shut<V: Kept, R: Wait>(
+    rt: &R,
+    mut locks: Vec<ShelfLock<V>>,
+    mut seats: Vec<Pass<V>>,
+    values: &mut Vec<V>,
+)
+    requires own { map (λ p. p.seat.table_id) seats.items ≡ map (λ l. l.board.shared.table_id) locks.items }
+    requires room { (values.old.items ≡ []) × (vec_len values.old ≡ 0) × (vec_len locks ≤ vec_capacity values.old) }
+    ensures closed { AllZip (λ l x. IsClosed V.Kept l.board.shared.key x) locks.items (reverse values.new.items) }
+    ensures told { AllZip (λ p x. Begins V.Kept (V.history x) p.seat.me.0) seats.items (reverse values.new.items) }
+{
+    while let Some(lock) = locks.pop() {
+        let seat = seats.pop().unwrap();
+        values.push_reserved(lock.close_with(rt, seat));
+    }
+    locks.destroy_empty();
+    seats.destroy_empty();
+}

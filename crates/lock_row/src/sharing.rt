@@ -1,0 +1,1 @@
+//! Values are put behind locks.

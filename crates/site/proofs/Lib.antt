@@ -1,0 +1,6 @@
+pub mod Replies
+pub mod Sounds
+pub mod Holding
+pub mod Turns
+pub mod Seats
+pub mod Ticks

@@ -1,0 +1,5 @@
+pub mod Entries
+pub mod Openings
+pub mod Sound
+pub mod Passes
+pub mod Sites
