@@ -11,3 +11,5 @@ pub mod Stepping
 pub mod Counting
 pub mod Losing
 pub mod Reopening
+pub mod Removing
+pub mod Outage
