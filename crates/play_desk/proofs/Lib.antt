@@ -9,3 +9,7 @@ pub mod Happening
 pub mod Fitting
 pub mod Stepping
 pub mod Counting
+pub mod Losing
+pub mod Reopening
+pub mod Removing
+pub mod Outage
