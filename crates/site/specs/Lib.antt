@@ -3,3 +3,4 @@ pub mod Openings
 pub mod Sound
 pub mod Passes
 pub mod Sites
+pub mod Ends
