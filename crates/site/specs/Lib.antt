@@ -4,3 +4,4 @@ pub mod Sound
 pub mod Passes
 pub mod Sites
 pub mod Ends
+pub mod Rules
