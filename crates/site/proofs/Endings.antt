@@ -1,5 +1,5 @@
 -- Notes, and the end of a site.
-use Rattle.std.proofs.Common.{◌≡◌, ℕ, zero, suc, List, [], ◌∷◌, Some, slice_get, refl, sym, ◌∙◌, ap, subst}
+use Rattle.std.proofs.Common.{◌≡◌, ℕ, List, [], ◌∷◌, Some, slice_get, refl, sym, ◌∙◌, ap}
 use Rattle.std.specs.List.{AllZip}
 use mathlib.Core.List.{IsPrefix}
 use Rattle.shelf_lock.specs.declared.view.Role.TheVariants.{Outside}
@@ -7,12 +7,11 @@ use Rattle.shelf_lock.specs.Order.{made_by, posed, longer}
 use Rattle.lock_row.specs.Spots.{Spot, spot, IsOf, IsNoteIn, caller_at}
 use Rattle.lock_row.specs.Rows.{ZipsAll}
 use Rattle.lock_row.proofs.Places.{homes, same_at, same_table, tables_of, one_of}
-use Rattle.shelf_history.specs.Histories.{own_of}
 use Rattle.site.specs.declared.entry.KeptEntry.{KeptEntry}
 use Rattle.site.specs.declared.opening.Opening.{Opening}
 use Rattle.site.specs.declared.site.Site.{Site}
 use Rattle.site.specs.Entries.{entries_of}
-use Rattle.site.specs.Passes.{Spots, IsSeat}
+use Rattle.site.specs.Passes.{Spots}
 use Rattle.site.specs.Sites.{IsOwn}
 use Rattle.site.specs.Ends.{HearsOf}
 use Rattle.site.proofs.Turns.{own_map, prefix_map}

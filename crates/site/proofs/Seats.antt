@@ -43,8 +43,8 @@ module _ {D N : Type 0} where
       let changed : slice_get new k ≡ Some (spot at.0.table at.1) = there k R old new at in
       dite (ℕ_discrete j k)
       (λ (same : j ≡ k).
-          let is : spot at.0.table at.1 ≡ b = one_of (sym changed ∙ (ap (slice_get new) (sym same) ∙ here)) in
-          subst (λ (s : Spot (Opening D N) KeptEntry). IsSeat setup fuel worker s.known) is (seat_on setup fuel worker at.0.known at.1 opening caller (seats k at.0 at.2)))
+      let is : spot at.0.table at.1 ≡ b = one_of (sym changed ∙ (ap (slice_get new) (sym same) ∙ here)) in
+      subst (λ (s : Spot (Opening D N) KeptEntry). IsSeat setup fuel worker s.known) is (seat_on setup fuel worker at.0.known at.1 opening caller (seats k at.0 at.2)))
       (λ (ne : j ≢ k). seats j b (sym (apart_stays old j k (spot at.0.table at.1) ne) ∙ (ap (λ l. slice_get l j) (sym at.3) ∙ here)))
 
   caller_set : (old : Spots D N) (k : ℕ) (a : Spot (Opening D N) KeptEntry) (w : Known D N) → slice_get old k ≡ Some a → w.caller ≡ a.known.caller → caller_at (set old k (spot a.table w)) ≡ caller_at old
