@@ -1,1 +1,4 @@
 pub mod Found
+pub mod Claims
+pub mod Remaking
+pub mod Reading

@@ -6,6 +6,10 @@ ghost use Rattle.journal_books.specs.Making.{book_of};
 ghost use Rattle.book_recovery.specs.Found.{Finds, IsFoundInOrder};
 
 use crate::found::Found;
+use crate::setup_cells::each_names_its_cells;
+use crate::sound::SoundReader;
+use journal_books::bodies_make_fitting_books;
+use journal_records::records_are_exact;
 use page_journal::{DiskFault, Journal};
 use script_nodes::Setup;
 use std::alloc::Global;
@@ -36,9 +40,10 @@ pub fn read_book<D: Disk>(
     ensures cause { OnErr result
         (HasFailed (view_of D.view journal.old) (view_of D.view journal.new)) }
 {
-    let _journal = &journal;
-    let _setup = setup;
-    let _shelf = shelf;
-    let _alloc = alloc;
-    Ok(Found::Memory)
+    records_are_exact();
+    bodies_make_fitting_books();
+    each_names_its_cells(setup);
+    let mut reader = SoundReader::new(alloc, setup, shelf);
+    journal.for_each(&mut reader)?;
+    Ok(reader.finish())
 }

@@ -4,19 +4,17 @@ ghost use Rattle.instance_book.specs.Admissions.{refusal_for};
 ghost use Rattle.instance_book.specs.Fits.{IsForSome};
 ghost use Rattle.instance_book.specs.Changes.{HasRoomFor};
 ghost use Rattle.instance_book.specs.Makes.{HasItsStates};
-ghost use Rattle.shelf.specs.Views.{IsInOrder};
 
 use crate::texts::{datum, is_datum, setup, target, text_of};
 use instance_book::{Book, Prepared, Ticket};
 use page_names::Target;
 use script_nodes::{SendKind, Setup};
 use script_value::{Bytes, Items, Reply};
-use shelf::{Rules, Shelf, run_ticket};
+use shelf::run_ticket;
 use std::alloc::Global;
 use std::test::Fail;
 use stored_states::{Outcome, Segment, Suspended};
 use web_cells::Shades;
-use web_outside::{Counting, Nonces};
 
 const READS: &str =
     "(define c (make-instance-cell 5)) (let ((n (instance-cell-ref c))) (send/suspend (lambda (u) (list 'p u (number->string n)))))";
@@ -195,66 +193,5 @@ fn a_copy_of_a_book_goes_its_own_way(rt: HostRuntime) -> Result<(), Fail> {
     let reply = installed(alloc, &mut book, &setup, false)?;
     assert!(rt; has_page(&book.try_clone(alloc)?, &reply)?);
     assert_eq!(rt; left_behind_a_copy(alloc, &book)?, (0, 1));
-    Ok(())
-}
-
-const RULES: Rules = Rules {
-    number: 7,
-    shelves: 8,
-    fuel: 100_000,
-    life: 3_600,
-    instances: 256,
-    pages: 64,
-};
-
-// A source whose next nonce is 10.
-fn from_ten() -> Counting {
-    let mut nonces = Counting::new();
-    for _ in 0..10 {
-        let _ = nonces.next();
-    }
-    nonces
-}
-
-// An empty shelf, for the scripts of a setup.
-fn empty_shelf(alloc: Global, setup: &Setup) -> Shelf<Counting>
-    ensures { IsInOrder (scripts_of setup.now) result }
-{
-    let _ = setup;
-    Shelf::begin(alloc, from_ten(), RULES)
-}
-
-// The number and the nonce that a take of a start draws.
-fn drawn(alloc: Global, shelf: &mut Shelf<Counting>, setup: &Setup) -> Result<(u64, u64), Fail>
-    requires { IsInOrder (scripts_of setup.now) shelf.old }
-    ensures { IsInOrder (scripts_of setup.now) shelf.new }
-{
-    match shelf.take(alloc, setup, &target("/servlets/s")?, datum(alloc, "3")?) {
-        Ok(ticket) => Ok((ticket.number, ticket.nonce)),
-        Err(_) => Err(Fail::from("no ticket")),
-    }
-}
-
-// A copy of a shelf, for the scripts of a setup.
-fn copied(alloc: Global, shelf: &Shelf<Counting>, setup: &Setup) -> Result<Shelf<Counting>, Fail>
-    requires { IsInOrder (scripts_of setup.now) shelf.now }
-    ensures { IfOk result (IsInOrder (scripts_of setup.now)) }
-{
-    let _ = setup;
-    Ok(shelf.try_clone(alloc)?)
-}
-
-#[test]
-fn a_copy_of_a_shelf_draws_alike_and_goes_its_own_way(rt: HostRuntime) -> Result<(), Fail> {
-    let alloc = rt.alloc();
-    let setup = setup(alloc, &[("s", READS)])?;
-    let mut shelf = empty_shelf(alloc, &setup);
-    assert_eq!(rt; drawn(alloc, &mut shelf, &setup)?, (0, 10));
-    let mut copy = copied(alloc, &shelf, &setup)?;
-    assert_eq!(rt; drawn(alloc, &mut copy, &setup)?, (1, 11));
-    assert_eq!(rt; drawn(alloc, &mut copy, &setup)?, (2, 12));
-    assert_eq!(rt; drawn(alloc, &mut shelf, &setup)?, (1, 11));
-    assert_eq!(rt; copy.close().next(), 13);
-    assert_eq!(rt; shelf.close().next(), 12);
     Ok(())
 }

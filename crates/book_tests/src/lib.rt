@@ -1,4 +1,4 @@
-//! Tests of copies of the book, the shelf and what they give, and of setups: what no row of steps says.
+//! Tests of copies of the book and what it gives, and of setups: what no row of steps says.
 #![tactic(auto)]
 
 #[cfg(test)]

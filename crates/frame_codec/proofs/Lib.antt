@@ -9,3 +9,5 @@ pub mod Lengths
 pub mod Written
 pub mod Turns
 pub mod Kept
+pub mod Fronts
+pub mod Differences

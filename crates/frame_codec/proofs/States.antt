@@ -29,20 +29,20 @@ all_outside P (x ∷ xs) ys h =
     let more = all_outside P xs (x ∷ ys) h in
     ((more.1.0, more.0), more.1.1)
 
-all_reversed : {A : Type 0} (P : A → Type 0) (xs : List A) → AllByRecursion P xs → AllByRecursion P (reverse xs)
+pub all_reversed : {A : Type 0} (P : A → Type 0) (xs : List A) → AllByRecursion P xs → AllByRecursion P (reverse xs)
 all_reversed P xs h = (all_outside P (reverse xs) [] (subst (λ (ys : List _). AllByRecursion P ys) (sym (reverse-reverse xs)) h)).0
 
-all_both : {A : Type 0} (P Q : A → Type 0) (xs : List A) → AllByRecursion P xs → AllByRecursion Q xs → AllByRecursion (λ x. P x × Q x) xs
+pub all_both : {A : Type 0} (P Q : A → Type 0) (xs : List A) → AllByRecursion P xs → AllByRecursion Q xs → AllByRecursion (λ x. P x × Q x) xs
 all_both P Q [] p q = tt
 all_both P Q (x ∷ xs) p q = ((p.0, q.0), all_both P Q xs p.1 q.1)
 
-all_first : {A : Type 0} (P Q : A → Type 0) (xs : List A) → AllByRecursion (λ x. P x × Q x) xs → AllByRecursion P xs
+pub all_first : {A : Type 0} (P Q : A → Type 0) (xs : List A) → AllByRecursion (λ x. P x × Q x) xs → AllByRecursion P xs
 all_first P Q [] h = tt
 all_first P Q (x ∷ xs) h = (h.0.0, all_first P Q xs h.1)
 
 -- ---- the parts of a state
 
-abbrev Parts : Type 0
+abbrev pub Parts : Type 0
 Parts = List Val × (List Frame × List (ℕ × Val))
 
 abbrev lists_bytes : List Frame × List (ℕ × Val) → List ℕ
@@ -63,13 +63,13 @@ parts_exact a =
     (list_exact frame_bytes (IsRead a) (read_frame a) (frame_exact a)) (list_exact shadow_bytes ShadowHasBytes read_shadow shadow_exact) in
     both_exact values_bytes HaveBytes read_values lists_bytes (ListsFit a) (read_both (read_list (read_frame a)) (read_list read_shadow)) values_exact lists
 
-abbrev parts_of : Suspended → Parts
+abbrev pub parts_of : Suspended → Parts
 parts_of d = (d.env, (reverse d.frames, d.shadows))
 
-abbrev state_of : Parts → Suspended
+abbrev pub state_of : Parts → Suspended
 state_of x = record { env = x.0; frames = reverse x.1.0; shadows = x.1.1 }
 
-state_again : (d : Suspended) → state_of (parts_of d) ≡ d
+pub state_again : (d : Suspended) → state_of (parts_of d) ≡ d
 state_again d = ap (λ (fs : List Frame). record { env = d.env; frames = fs; shadows = d.shadows }) (reverse-reverse d.frames)
 
 stored_parts : (a : Arena) (d : Suspended) → IsStored a d → PartsFit a (parts_of d)
@@ -80,7 +80,7 @@ stored_parts a d s =
 
 -- ---- back
 
-if_true : {A : Type 0} (b : Bool) (x y : A) → b ≡ true → cond b x y ≡ x
+pub if_true : {A : Type 0} (b : Bool) (x y : A) → b ≡ true → cond b x y ≡ x
 if_true true x y e = refl
 if_true false x y e = absurd cc
 
@@ -99,7 +99,7 @@ state_back a d s =
 
 -- ---- what is read
 
-both_true : (b c : Bool) → (b && c) ≡ true → (b ≡ true) × (c ≡ true)
+pub both_true : (b c : Bool) → (b && c) ≡ true → (b ≡ true) × (c ≡ true)
 both_true true c e = (refl, e)
 both_true false c e = absurd cc
 

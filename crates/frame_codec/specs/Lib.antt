@@ -4,4 +4,6 @@ pub mod Reading
 pub mod Walk
 pub mod Laws
 pub mod Views
+pub mod Deltas
+pub mod DeltaViews
 pub mod Vectors

@@ -8,11 +8,12 @@ use Rattle.script_value.specs.declared.outcome.Op.TheVariants as op
 use Rattle.script_nodes.specs.declared.script.Node.TheVariants as node
 use Rattle.script_nodes.specs.declared.script.SendKind.TheVariants.{Suspend}
 use Rattle.script_nodes.specs.Arena.{Arena}
-use Rattle.machine_spec.specs.Machine.{Suspended, in_binding, in_operand, in_turn, in_seq, in_count}
+use Rattle.machine_spec.specs.Machine.{Suspended, in_binding, in_operand, in_turn, in_seq, in_count, in_isolate}
 use Rattle.value_bytes.specs.Reading.{read_within}
 use Rattle.frame_codec.specs.Spelling.{state_bytes, frame_bytes}
 use Rattle.frame_codec.specs.Walk.{frames_fit, shadows_fit}
 use Rattle.frame_codec.specs.Reading.{read_frame, read_state}
+use Rattle.frame_codec.specs.Deltas.{Delta, IsDelta, joined, delta_bytes}
 
 -- a script that binds what stands in the query that a page is answered with, under the name n
 abbrev pub asks : Arena
@@ -86,3 +87,29 @@ falling = refl
 
 no_cell : shadows_fit 0 2 ((2, truth true) ∷ []) ≡ false
 no_cell = refl
+
+-- A page within a transaction, in the second part of a sequence there: against the page in the first part, only the last frame
+-- differs.
+abbrev in_a_transaction : ℕ → Suspended
+in_a_transaction k = record {
+  env = [];
+  frames = in_seq 10 k ∷ in_isolate 9 (record { ticket = 1; entry = 0 }) ∷ in_seq 0 1 ∷ [];
+  shadows = [];
+}
+
+abbrev its_difference : Delta
+its_difference = record { env_shared = 0; env = []; frames_shared = 2; frames = in_seq 10 1 ∷ []; shadows = [] }
+
+it_is_that : IsDelta (in_a_transaction 0) (in_a_transaction 1) its_difference
+it_is_that = record {
+  env = (refl, tt);
+  frames = (refl, (refl, (refl, λ e. cc)));
+  shadows = refl;
+}
+
+with_it : joined (in_a_transaction 0) its_difference ≡ in_a_transaction 1
+with_it = refl
+
+its_bytes : delta_bytes its_difference
+    ≡ 0 ∷ 0 ∷ 0 ∷ 0 ∷ 0 ∷ 0 ∷ 0 ∷ 0 ∷ 2 ∷ 0 ∷ 0 ∷ 0 ∷ 1 ∷ 0 ∷ 0 ∷ 0 ∷ 2 ∷ 10 ∷ 0 ∷ 0 ∷ 0 ∷ 1 ∷ 0 ∷ 0 ∷ 0 ∷ 0 ∷ 0 ∷ 0 ∷ 0 ∷ []
+its_bytes = refl

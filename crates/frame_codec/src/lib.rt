@@ -2,14 +2,22 @@
 #![tactic(auto)]
 
 ghost use Rattle.frame_codec.specs.Laws.{AreStatesExact, EachKeptIsStored};
+ghost use Rattle.frame_codec.specs.Deltas.{DeltasAreOne, EachDeltaHasBytes};
 
+mod delta_bytes;
+mod difference;
 mod fit;
+mod joined;
 mod read;
+mod shared;
 mod size;
 mod spelled;
 mod state;
 mod write;
 
+pub use delta_bytes::{decode_delta, encode_delta, is_delta_spelled, is_stored};
+pub use difference::Delta;
+pub use joined::{delta, join};
 pub use size::length;
 pub use spelled::is_spelled;
 pub use state::decode;
@@ -23,4 +31,14 @@ pub fn states_are_exact()
 /// What is kept of a script at a page fits it, with its bindings of web cells: where it has a spelling, it is read back.
 pub fn what_is_kept_is_stored()
     ensures { EachKeptIsStored }
+{}
+
+/// A state has one difference from its parent.
+pub fn deltas_are_one()
+    ensures { DeltasAreOne }
+{}
+
+/// What differs between a state that has a spelling and its parent's has one too.
+pub fn each_delta_has_bytes()
+    ensures { EachDeltaHasBytes }
 {}

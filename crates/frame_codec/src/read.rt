@@ -122,7 +122,7 @@ fn read_frame(alloc: Global, script: &Script, cursor: &mut Cursor<'_>) -> Result
 
 // A list of frames. They are kept one by one, so that no count is trusted.
 #[tactic(auto, using(value_bytes::proofs::Turns::one_more, value_bytes::proofs::Turns::no_more, value_bytes::proofs::Turns::at_end))]
-fn read_frames(
+pub fn read_frames(
     alloc: Global,
     script: &Script,
     cursor: &mut Cursor<'_>,
@@ -148,7 +148,7 @@ fn read_shadow(alloc: Global, cursor: &mut Cursor<'_>) -> Result<Shadow, Unread>
 
 // A list of bindings. They are kept one by one, so that no count is trusted.
 #[tactic(auto, using(value_bytes::proofs::Turns::one_more, value_bytes::proofs::Turns::no_more, value_bytes::proofs::Turns::at_end))]
-fn read_shadows(alloc: Global, cursor: &mut Cursor<'_>) -> Result<Vec<Shadow>, Unread>
+pub fn read_shadows(alloc: Global, cursor: &mut Cursor<'_>) -> Result<Vec<Shadow>, Unread>
     ensures { Reads (λ ss. map pair_of ss.items) result cursor.new (read_list spec.read_shadow cursor.old) }
 {
     let count = number_32(cursor)?;

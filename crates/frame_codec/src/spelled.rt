@@ -70,7 +70,7 @@ fn frame_has_bytes(frame: &Frame) -> bool
     }
 }
 
-fn frames_have_bytes(frames: &[Frame]) -> bool
+pub fn frames_have_bytes(frames: &[Frame]) -> bool
     ensures { IsTrue result ↔ FitsList FrameHasBytes (map frame_of frames.now) }
 {
     if frames.len() > MOST {
@@ -91,7 +91,7 @@ fn shadow_has_bytes(shadow: &Shadow) -> bool
     has_bytes(&shadow.value)
 }
 
-fn shadows_have_bytes(shadows: &[Shadow]) -> bool
+pub fn shadows_have_bytes(shadows: &[Shadow]) -> bool
     ensures { IsTrue result ↔ FitsList ShadowHasBytes (map pair_of shadows.now) }
 {
     if shadows.len() > MOST {

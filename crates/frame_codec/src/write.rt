@@ -114,7 +114,7 @@ fn write_each_frame(writer: &mut Writer, frames: &[Frame]) -> Result<(), AllocEr
 }
 
 // How many frames, and each of them.
-fn write_frames(writer: &mut Writer, frames: &[Frame]) -> Result<(), AllocError>
+pub fn write_frames(writer: &mut Writer, frames: &[Frame]) -> Result<(), AllocError>
     requires { FitsList FrameHasBytes (map frame_of frames.now) }
     ensures { OnOk result (writer.new ≡ writer.old ++ list_bytes frame_bytes (map frame_of frames.now)) }
 {
@@ -141,7 +141,7 @@ fn write_each_shadow(writer: &mut Writer, shadows: &[Shadow]) -> Result<(), Allo
 }
 
 // How many bindings, and each of them.
-fn write_shadows(writer: &mut Writer, shadows: &[Shadow]) -> Result<(), AllocError>
+pub fn write_shadows(writer: &mut Writer, shadows: &[Shadow]) -> Result<(), AllocError>
     requires { FitsList ShadowHasBytes (map pair_of shadows.now) }
     ensures { OnOk result (writer.new ≡ writer.old ++ list_bytes shadow_bytes (map pair_of shadows.now)) }
 {

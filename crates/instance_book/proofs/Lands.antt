@@ -1,5 +1,5 @@
 -- What a prepared visit makes of a book is what the definitions make of it.
-use Rattle.std.proofs.Common.{◌≡◌, ◌∙◌, ap, sym, subst, ℕ, zero, suc, ◌+◌, ◌<◌, max, nat_le, List, [], ◌∷◌, length, slice_get, Option, Some, None, Result, Ok, Err, IfOk, IfErr, OnOk, refl, arith, true, false, inr}
+use Rattle.std.proofs.Common.{◌≡◌, ◌∙◌, ap, sym, subst, ℕ, ◌+◌, max, nat_le, List, [], ◌∷◌, length, slice_get, Option, Some, None, Result, Ok, Err, IfOk, IfErr, OnOk, refl, arith, true, false, inr}
 use Rattle.std.proofs.lemmas.Bool.Decides.{nat_tests}
 use Rattle.std.proofs.lemmas.Option.{get_or_from_slice_get}
 use Rattle.script_value.specs.declared.outcome.Reply.{Reply}
@@ -34,7 +34,7 @@ use Rattle.stored_states.specs.Views.{segment_of, state_of}
 use Rattle.stored_states.specs.declared.segment.Segment as stored
 
 -- two changes of the instance that is there which agree on it
-mend_agrees : (n : ℕ) (f g : Instance → Instance) (is : List Instance) (i : Instance) → instance_at n is ≡ Some i → f i ≡ g i → mend n f is ≡ mend n g is
+pub mend_agrees : (n : ℕ) (f g : Instance → Instance) (is : List Instance) (i : Instance) → instance_at n is ≡ Some i → f i ≡ g i → mend n f is ≡ mend n g is
 mend_agrees n f g [] i h e = refl
 mend_agrees n f g (j ∷ js) i h e = grind (arith, nat_tests, h, e, mend_agrees n f g js i)
 
@@ -82,7 +82,7 @@ finishes_as scripts r (Some (Ends x)) is = tt
 finishes_as scripts r (Some (Finishes f)) is = refl
 
 -- the instance of a start that showed its first page
-first_is : (scripts : List Named) (t : Ticket) (s : Named) (effects : List Effect) (inside left : List TxName) (kind : SendKind) (deadline : ℕ)
+pub first_is : (scripts : List Named) (t : Ticket) (s : Named) (effects : List Effect) (inside left : List TxName) (kind : SendKind) (deadline : ℕ)
     → script_in scripts t.script ≡ s → t.cells ≡ s.script.cells
     → first_instance scripts t effects inside left deadline ≡ shown_by effects left kind (first_page t effects inside deadline) (fresh s t.number)
 first_is scripts t s effects inside left Suspend deadline script cells = rw (script, cells) refl

@@ -4,3 +4,4 @@ pub mod Seen
 pub mod States
 pub mod Lands
 pub mod Admitted
+pub mod Recorded

@@ -1,17 +1,14 @@
 -- The states of pages.
-use Rattle.std.proofs.Common.{◌≡◌, ◌∙◌, ap, sym, subst, ℕ, zero, suc, ◌<◌, ◌≤◌, List, [], ◌∷◌, ◌++◌, length, map, reverse, slice_get, Option, Some, None, refl, arith, Contains, inl, inr}
-use Rattle.std.specs.List.{AllByRecursion}
-use Rattle.std.proofs.lemmas.Bool.Decides.{nat_tests}
+use Rattle.std.proofs.Common.{◌≡◌, ◌∙◌, ap, sym, subst, ℕ, zero, suc, ◌<◌, ◌≤◌, List, [], ◌∷◌, length, reverse, slice_get, Option, Some, None, refl, arith, Contains, inl, inr}
 use Rattle.std.proofs.lemmas.List.{reverse-append}
 use Rattle.std.proofs.lemmas.Option.{same_Some, get_or_from_slice_get}
-use Rattle.script_nodes.specs.Setup.{Named, Script}
+use Rattle.script_nodes.specs.Setup.{Named}
 use Rattle.page_names.specs.Names.{Destination, start, page}
 use Rattle.page_names.specs.Views.{target_of}
 use Rattle.page_names.specs.declared.names.PageName.{PageName}
 use Rattle.instance_cells.specs.Cells.{Effect, reads_of}
-use Rattle.instance_cells.specs.Views.{effect_of}
 use Rattle.script_value.specs.declared.outcome.TxName.{TxName}
-use Rattle.replay_spec.specs.Tape.{Reads, recorded, Tape, Answer}
+use Rattle.replay_spec.specs.Tape.{recorded, Tape}
 use Rattle.replay_spec.specs.Book.{Page, Instance, Book, at_number, page_at, instance_at, parent_of, chain}
 use Rattle.replay_spec.specs.Change.{put_page, put_in_order}
 use Rattle.replay_spec.specs.Admission.{Place, Admission, begins, resumes, refused, refusal_of, admit}
@@ -19,7 +16,7 @@ use Rattle.replay_spec.specs.Next.{Home, Visit, home, home_of, answered, newest,
 use Rattle.replay_spec.specs.Next as next
 use Rattle.replay_spec.specs.Invariant.{AreAncestors, Lineage, IsOrderly}
 use Rattle.replay_spec.proofs.Ancestors.{Grown, put_grown, ancestors_grown, lineage_grown, chain_is}
-use Rattle.replay_spec.proofs.Numbered.{put_length, number_of}
+use Rattle.replay_spec.proofs.Numbered.{put_length}
 use Rattle.replay_spec.proofs.Stand.{among_of}
 use Rattle.replay_spec.proofs.Admitted.{page_stands, start_is_no_page, page_is_no_start}
 use Rattle.machine_spec.specs.Machine.{Suspended}
@@ -40,8 +37,8 @@ use Rattle.instance_book.specs.Views.{page_of, pages_of, script_in, no_script, t
 use Rattle.instance_book.specs.Places.{arena_of, state_at, shown_of, shown_in, HasState, HaveStates, IsKeptAs, IsKept, IsNextIn, IsNextAt, OneMoreHasItsState}
 use Rattle.instance_book.specs.Changes.{OpensKept, HasStateBy}
 use Rattle.instance_book.specs.Fits.{IsStateBehind, GoesOnFrom, FitsAs, IsForSome}
-use Rattle.instance_book.specs.Prepares.{first_page, next_page, OpensAs, ExtendsAs, OpensTo, ExtendsTo, KeepsStateOf}
-use Rattle.instance_book.specs.Laws.{KeepsStateOver, KeepsStateAs, AShownPageHasItsState}
+use Rattle.instance_book.specs.Prepares.{OpensAs, ExtendsAs, KeepsStateOf}
+use Rattle.instance_book.specs.Laws.{KeepsStateAs, AShownPageHasItsState}
 use Rattle.instance_book.proofs.Seen.{all_put, all_at}
 
 -- what a page has among others it has among more
@@ -106,7 +103,7 @@ below_length (y ∷ ys) zero x h = omega arith
 below_length (y ∷ ys) (suc k) x h = omega (arith, below_length ys k x h)
 
 -- the first page of a start
-first_kept : (scripts : List Named) (b : Book) (t : Ticket) (k : ℕ) (s : Named) (effects : List Effect) (inside : List TxName) (d : Suspended) (o : Opening)
+pub first_kept : (scripts : List Named) (b : Book) (t : Ticket) (k : ℕ) (s : Named) (effects : List Effect) (inside : List TxName) (d : Suspended) (o : Opening)
     → slice_get scripts t.script ≡ Some s → OpensAs t effects inside d o
     → IsStateOf (arena_of s.script) (tape_for (start_visit b (ticket_of t) k s) (recorded (reads_of effects))) d → OpensKept scripts b.shelf o
 first_kept scripts b t k s effects inside d o found made state =
@@ -126,12 +123,12 @@ first_kept scripts b t k s effects inside d o found made state =
       });
     }
 
--- the next page of an answer
-next_kept : (b : Book) (t : Ticket) (at : Place) (n : PageName) (effects : List Effect) (inside : List TxName) (d : Suspended) (x : Extension)
-    → IsOrderly b → Contains b.out t.number → instance_at n.instance b.instances ≡ Some at.instance → page_at n.page at.instance.pages ≡ Some at.page → ExtendsAs t n.instance n.page effects inside d x
+-- the next page of an answer: it is new, and the page that it answers has its ancestors there
+pub next_kept : (b : Book) (t : Ticket) (at : Place) (k m : ℕ) (effects : List Effect) (inside : List TxName) (d : Suspended) (x : Extension)
+    → Lineage at.instance.pages at.page → page_at t.number at.instance.pages ≡ None → instance_at k b.instances ≡ Some at.instance → page_at m at.instance.pages ≡ Some at.page → ExtendsAs t k m effects inside d x
     → IsStateOf (arena_of at.instance.script.script) (tape_for (page_visit b (ticket_of t) at) (recorded (reads_of effects))) d → IsNextAt b.shelf b.instances x.instance x.show.page
-next_kept b t at n effects inside d x orderly out here shown made state i found =
-    let same : at.instance ≡ i = same_Some at.instance i (sym here ∙ (ap (λ (m : ℕ). instance_at m b.instances) (sym made.instance) ∙ found)) in
+next_kept b t at k m effects inside d x h free here shown made state i found =
+    let same : at.instance ≡ i = same_Some at.instance i (sym here ∙ (ap (λ (n : ℕ). instance_at n b.instances) (sym made.instance) ∙ found)) in
     subst (λ (j : Instance). IsNextIn b.shelf j (page_of x.show.page) (state_at x.show.page)) same next
   where
     p : Page
@@ -143,17 +140,14 @@ next_kept b t at n effects inside d x orderly out here shown made state i found 
     s : Named
     s = at.instance.script
 
-    h : Lineage ps at.page
-    h = orderly.instances.lineage n.instance at.instance here n.page at.page shown
-
     next : IsNextIn b.shelf at.instance p (state_at x.show.page)
     next =
         let number : p.number ≡ t.number = ap (λ (q : Page). q.number) made.page in
-        let parent : p.parent ≡ Some n.page = ap (λ (q : Page). q.parent) made.page in
-        let unused : page_at p.number ps ≡ None = subst (λ (m : ℕ). page_at m ps ≡ None) (sym number) (orderly.instances.no_page t.number (inl (among_of b.out t.number out)) n.instance at.instance here) in
+        let parent : p.parent ≡ Some m = ap (λ (q : Page). q.parent) made.page in
+        let unused : page_at p.number ps ≡ None = subst (λ (n : ℕ). page_at n ps ≡ None) (sym number) free in
         let grown : Grown ps (put_page p ps) = put_grown p ps unused in
         let mine : AreAncestors (put_page p ps) p (at.page ∷ h.ancestors) =
-        (subst (λ (o : Option ℕ). parent_of (put_page p ps) o ≡ Some at.page) (sym parent) (grown n.page at.page shown), ancestors_grown ps (put_page p ps) grown at.page h.ancestors h.are) in
+        (subst (λ (o : Option ℕ). parent_of (put_page p ps) o ≡ Some at.page) (sym parent) (grown m at.page shown), ancestors_grown ps (put_page p ps) grown at.page h.ancestors h.are) in
         let home_at : Home = home s b.shelf at.instance.number in
         let all : reverse (at.page ∷ h.ancestors) ≡ chain ps at.page = sym (chain_is ps at.page h.ancestors h.are h.few) in
         let tape : page_tape home_at (reverse (at.page ∷ h.ancestors)) p ≡ tape_for (page_visit b (ticket_of t) at) (recorded (reads_of effects)) =
@@ -193,7 +187,9 @@ module _ (b : Book) (orderly : IsOrderly b) (t : Ticket) (out : Contains b.out t
   page_keeps name n (resumes at) adm ok fits over (Some (Extends x)) (inl none) = absurd none
   page_keeps name n (resumes at) adm ok fits over (Some (Extends x)) (inr from) =
       let stands = page_stands b name n at adm in
-      next_kept b t at n (segment_of r).effects r.entered.items from.0 x orderly out stands.here stands.shown from.1.1 (keeps_state r.outcome _ from.0 over from.1.0)
+      let h = orderly.instances.lineage n.instance at.instance stands.here n.page at.page stands.shown in
+      let free = orderly.instances.no_page t.number (inl (among_of b.out t.number out)) n.instance at.instance stands.here in
+      next_kept b t at n.instance n.page (segment_of r).effects r.entered.items from.0 x h free stands.here stands.shown from.1.1 (keeps_state r.outcome _ from.0 over from.1.0)
 
   keeps_by : (d : Destination) (a : Admission) → admit b d ≡ a → refusal_of a ≡ None → FitsAs b.scripts b t a → KeepsStateAs b t a r
       → (c : Option Change) → KeepsStateOf t r d c → HasStateBy b.scripts b.shelf b.instances c

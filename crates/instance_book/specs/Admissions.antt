@@ -12,6 +12,7 @@ use Rattle.page_names.specs.declared.names.ScriptName.{ScriptName}
 use Rattle.page_names.specs.declared.names.Target.{Target}
 use Rattle.replay_spec.specs.Book as book
 use Rattle.replay_spec.specs.Admission as spec
+use Rattle.replay_spec.specs.Recovery.{page_of_numbers}
 use Rattle.replay_spec.specs.Next as next
 use Rattle.replay_spec.specs.Next.{home}
 use Rattle.instance_book.specs.declared.numbered.Numbered.{Numbered}
@@ -59,6 +60,11 @@ place_for setup b name page = spec.place_at (book_under setup b) (name_of name) 
 
 abbrev pub IsPlaceAt : Setup → Book → ScriptName → PageName → Option Place → Type 0
 IsPlaceAt setup b name page p = option_map (place_of (scripts_of setup)) p ≡ place_for setup b name page
+
+-- what stands under these numbers in the book
+abbrev pub IsPlaceOf : Setup → Book → (instance page : ℕ) → Option Place → Type 0
+IsPlaceOf setup b instance page p =
+    option_map (place_of (scripts_of setup)) p ≡ page_of_numbers (book_under setup b) instance page
 
 -- what a target is admitted as in the book, and why it is not
 abbrev pub admission_for : Setup → Book → Target → spec.Admission

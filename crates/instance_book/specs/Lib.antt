@@ -12,3 +12,4 @@ pub mod Prepares
 pub mod Segments
 pub mod Copies
 pub mod Laws
+pub mod Told

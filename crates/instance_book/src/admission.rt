@@ -6,7 +6,7 @@ ghost use Rattle.replay_spec.specs.Admission as spec;
 ghost use Rattle.replay_spec.specs.Names.{first_closed};
 ghost use Rattle.instance_book.specs.Views.{instance_of, page_of};
 ghost use Rattle.instance_book.specs.Makes.{HasItsStates};
-ghost use Rattle.instance_book.specs.Admissions.{IsWhyNot, named_if, IsPlaceAt, IsStartOf, IsAdmittedAs, IsKeptAt, ResumesKept};
+ghost use Rattle.instance_book.specs.Admissions.{IsWhyNot, named_if, IsPlaceOf, IsPlaceAt, IsStartOf, IsAdmittedAs, IsKeptAt, ResumesKept};
 
 use crate::book::Book;
 use crate::instance::KeptInstance;
@@ -80,6 +80,27 @@ fn script_of<'a>(setup: &'a Setup, instance: &Numbered<KeptInstance>) -> Option<
     setup.get(instance.item.script)
 }
 
+// The page of this number in the instance of this number.
+pub(crate) fn place_of_numbers<'a>(
+    book: &'a Book,
+    setup: &'a Setup,
+    instance: u64,
+    page: u64,
+) -> Option<Place<'a>>
+    requires { HasItsStates (scripts_of setup.now) book.now }
+    ensures place { IsPlaceOf setup.now book.now instance page result }
+    ensures states { IfSome result (IsKeptAt (scripts_of setup.now) book.now.shelf) }
+{
+    let instance = book.instances.instance(instance)?;
+    let script = script_of(setup, instance)?;
+    let shown = instance.item.pages.page(page)?;
+    Some(Place {
+        script,
+        instance,
+        page: shown,
+    })
+}
+
 // The page of this script's name, this shelf, instance and number, and this nonce.
 fn place_at<'a>(
     book: &'a Book,
@@ -91,18 +112,12 @@ fn place_at<'a>(
     ensures place { IsPlaceAt setup.now book.now name.now page.now result }
     ensures states { IfSome result (IsKeptAt (scripts_of setup.now) book.now.shelf) }
 {
-    let instance = book.instances.instance(page.instance)?;
-    let script = script_of(setup, instance)?;
-    let shown = instance.item.pages.page(page.page)?;
+    let place = place_of_numbers(book, setup, page.instance, page.page)?;
     if page.shelf == book.shelf
-        && script.name.as_bytes() == name.as_bytes()
-        && shown.item.nonce == page.nonce
+        && place.script.name.as_bytes() == name.as_bytes()
+        && place.page.item.nonce == page.nonce
     {
-        return Some(Place {
-            script,
-            instance,
-            page: shown,
-        });
+        return Some(place);
     }
     None
 }

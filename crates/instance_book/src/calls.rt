@@ -96,7 +96,7 @@ impl Book {
     }
 
     // The ticket of a start of this script.
-    fn start_ticket(
+    pub(crate) fn start_ticket(
         &self,
         alloc: Global,
         setup: &Setup,
@@ -129,7 +129,7 @@ impl Book {
     }
 
     // The ticket of an answer to this page.
-    fn page_ticket(
+    pub(crate) fn page_ticket(
         &self,
         alloc: Global,
         setup: &Setup,

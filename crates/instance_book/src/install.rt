@@ -42,7 +42,7 @@ impl Opening {
 
 impl Book {
     // The change, for which there is room.
-    fn change(&mut self, change: Option<Change>)
+    pub(crate) fn change(&mut self, change: Option<Change>)
         requires { HasRoomFor change self.old }
         ensures book { MakesUnder (λ scripts. changed_by scripts change) self.old self.new }
         ensures states { KeepsStatesBy change self.old self.new }

@@ -20,7 +20,9 @@ mod page;
 mod pages;
 mod prepare;
 mod prepared;
+mod retold;
 mod ticket;
+mod told;
 
 pub use after::{After, Show};
 pub use book::Book;
@@ -29,6 +31,7 @@ pub use instance::KeptInstance;
 pub use numbered::Numbered;
 pub use page::KeptPage;
 pub use prepared::{Change, Ending, Extension, Finish, Opening, Prepared};
+pub use retold::ToldPage;
 pub use ticket::Ticket;
 
 /// Where each page of an instance has the state of its chain, so it is with one more page whose state is that of its chain.

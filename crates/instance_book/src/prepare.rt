@@ -16,7 +16,8 @@ use crate::in_order::InOrder;
 use crate::instance::KeptInstance;
 use crate::numbered::Numbered;
 use crate::page::KeptPage;
-use crate::prepared::{Change, Ending, Extension, Finish, Opening, Prepared};
+use crate::prepared::{Change, Ending, Extension, Finish, Prepared};
+use crate::retold::ToldPage;
 use crate::ticket::Ticket;
 use expiry::{LONGEST_LIFE, deadline};
 use instance_cells::Effect;
@@ -54,7 +55,7 @@ fn closed_after(
 }
 
 // The values that were read.
-fn reads_in(alloc: Global, effects: &[Effect]) -> Result<Items, AllocError>
+pub(crate) fn reads_in(alloc: Global, effects: &[Effect]) -> Result<Items, AllocError>
     ensures { IfOk result (λ reads. reads ≡ reads_of (map effect_of effects.now)) }
 {
     let mut reads = Items::new(alloc);
@@ -102,7 +103,7 @@ fn unchanged(reply: Reply) -> Prepared
 }
 
 // The instance of a start, which has room for its page.
-fn begun(
+pub(crate) fn begun(
     alloc: Global,
     ticket: &Ticket,
     effects: &[Effect],
@@ -126,7 +127,12 @@ fn begun(
 
 impl KeptInstance {
     // What a segment leaves of the instance.
-    fn after(&self, alloc: Global, effects: &[Effect], left: &[TxName]) -> Result<After, AllocError>
+    pub(crate) fn after(
+        &self,
+        alloc: Global,
+        effects: &[Effect],
+        left: &[TxName],
+    ) -> Result<After, AllocError>
         requires { AreOn (length self.now.cells) (map effect_of effects.now) }
         ensures { IfOk result (IsLeftBy effects.now left.now self.now) }
     {
@@ -137,7 +143,7 @@ impl KeptInstance {
     }
 
     // What a segment makes of the instance that showed a page behind this one.
-    fn shows(
+    pub(crate) fn shows(
         &self,
         alloc: Global,
         ticket: &Ticket,
@@ -300,30 +306,19 @@ impl Book {
         ensures opens { IfOk result (OpensOn ticket.now page kind effects.items inside.items left.items life self.old) }
     {
         let reply = shown(alloc, page, ticket)?;
-        let reads = reads_in(alloc, &effects)?;
-        let instance = begun(alloc, ticket, &effects, &left)?;
-        self.instances.make_room()?;
+        let told = ToldPage {
+            kind,
+            effects,
+            inside,
+            left,
+            deadline: deadline(self.clock, life),
+            state,
+        };
+        let opening = self.opened(alloc, ticket, told)?;
         Ok(Prepared {
             reply,
             logged: ticket.number + 1,
-            change: Some(Change::Opens(Opening {
-                effects,
-                left,
-                kind,
-                page: Numbered {
-                    number: ticket.number,
-                    item: KeptPage {
-                        nonce: ticket.nonce,
-                        parent: None,
-                        answer: Value::List(Items::new(alloc)),
-                        reads,
-                        inside,
-                        deadline: deadline(self.clock, life),
-                        state,
-                    },
-                },
-                instance,
-            })),
+            change: Some(Change::Opens(opening)),
         })
     }
 

@@ -1,11 +1,10 @@
 -- What nests shallow, is of the program's types and has short bytes has a spelling.
-use Rattle.std.proofs.Common.{◌≡◌, ℕ, ◌+◌, ◌≤◌, ◌<◌, ◌^◌, List, [], ◌∷◌, ◌++◌, length, Bool, true, false, refl, arith, length-append}
-use Rattle.std.specs.Prelude.{◌&&◌, ⊤}
+use Rattle.std.proofs.Common.{◌≡◌, ℕ, ◌≤◌, ◌<◌, ◌^◌, List, [], ◌∷◌, length, Bool, true, false, refl, arith, length-append}
+use Rattle.std.specs.Prelude.{◌&&◌}
 use Rattle.std.specs.List.{flat_map, list_all, AllByRecursion}
 use Rattle.std.proofs.lemmas.Bool.Decides.{nat_tests}
-use Rattle.script_value.specs.Val.{Val, Vals, number, truth, text, symbol, list, no_vals, val, items_of}
+use Rattle.script_value.specs.Val.{Val, Vals, number, truth, text, symbol, list, no_vals, val}
 use Rattle.instance_cells.specs.Cells.{Effect, read, set, add}
-use Rattle.wire_bytes.specs.Spelling.{u32_bytes}
 use Rattle.value_bytes.specs.Spelling.{value_bytes, all_bytes, count_of, Fits, AllFit, HasBytes}
 use Rattle.journal_records.specs.Fields.{effect_bytes, EffectFits, is_shallow, is_shallow_effect, IsTyped, AreTyped, IsTypedEffect}
 

@@ -185,7 +185,7 @@ fn names_fit(names: &[TxName]) -> bool
 }
 
 // What its type says of it.
-pub(crate) fn name_fits(name: &TxName) -> bool
+fn name_fits(name: &TxName) -> bool
     ensures { IsTrue result ↔ NameFits name.now }
 {
     let _ticket = name.ticket;

@@ -9,7 +9,6 @@ ghost use Rattle.journal_records.specs.Reading.{page_change};
 ghost use Rattle.journal_records.specs.Records.{IfChanges, are_shallow, PartsFit};
 ghost use Rattle.journal_records.specs.Views.{lent_page, lent_ending, lent_finish, recorded_of};
 
-use crate::grammar::name_fits;
 use crate::recorded::{Recorded, RecordedEnded, RecordedFinish, RecordedOrigin, RecordedPage};
 use instance_cells::Effect;
 use script_value::{TxName, Value};
@@ -130,6 +129,13 @@ fn see_names(names: &[TxName])
     ensures { AllByRecursion NameFits names.now }
 {
     for name in names {
-        name_fits(name);
+        see_name(name);
     }
+}
+
+fn see_name(name: &TxName)
+    ensures { NameFits name.now }
+{
+    let _ticket = name.ticket;
+    let _entry = name.entry;
 }

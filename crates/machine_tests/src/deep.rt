@@ -1,7 +1,14 @@
-use crate::runs::{script, segment};
-use script_value::Value;
-use send_suspend::{Origin, Outcome};
+ghost use Rattle.std.specs.Prelude.{◌≡◌, ◌<◌, ◌^◌};
+
+use core_syntax::expand;
+use instance_cells::Cells;
+use script_nodes::Script;
+use script_value::{Str, Value};
+use send_suspend::{Origin, Outcome, Segment, Steps, run_segment};
+use sexp_reader::read_all;
 use std::alloc::{AllocError, Global};
+use std::marker::Brand;
+use std::sync::ledger::{Blank, Ledger};
 use std::test::Fail;
 
 // A page within so many bindings, each in the body of the one before.
@@ -14,17 +21,46 @@ fn nested(alloc: Global, depth: u32) -> Result<String, AllocError> {
     Ok(text)
 }
 
+fn counted<L: Ledger>(
+    alloc: Global,
+    blank: Blank,
+    script: &Script,
+    fuel: u64,
+) -> Result<Segment, AllocError>
+    requires name { blank.name ≡ L.name }
+    requires parts { blank.parts ≡ L.parts }
+    requires one { blank.parts ≡ 1 }
+    requires fuel { fuel < 2 ^ 63 }
+{
+    let (book, share) = blank.open::<L>();
+    let mut steps = Steps::from_ledger(book, share);
+    let cells = Cells::of(alloc, script.instance_defaults().as_slice())?;
+    let url = Str::new(String::from_str(alloc, "/0")?);
+    let nothing = Value::Truth(false);
+    run_segment(
+        alloc,
+        script,
+        Origin::Start,
+        &nothing,
+        &cells,
+        0,
+        &url,
+        fuel,
+        &mut steps,
+    )
+}
+
+// What a script comes to from its start.
+fn started(alloc: Global, script: &Script, fuel: u64) -> Result<Segment, AllocError>
+    requires { fuel < 2 ^ 63 }
+{
+    counted::<Brand>(alloc, Blank::new(1), script, fuel)
+}
+
 // Whether a script ends with a page.
 fn ends(alloc: Global, text: &str, fuel: u32) -> Result<bool, Fail> {
-    let script = script(alloc, text)?;
-    let run = segment(
-        alloc,
-        &script,
-        Origin::Start,
-        &Value::Truth(false),
-        0,
-        fuel as u64,
-    )?;
+    let script = expand(alloc, read_all(alloc, text.as_bytes())?.as_slice())?;
+    let run = started(alloc, &script, fuel as u64)?;
     Ok(match &run.outcome {
         Outcome::Ended(_) => true,
         _ => false,

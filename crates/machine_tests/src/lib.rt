@@ -1,11 +1,5 @@
-//! Tests of the machine of stored frames, beside the slow engine.
+//! Tests of the machine of stored frames, where scripts nest deep or run long.
 #![tactic(auto)]
 
 #[cfg(test)]
 mod deep;
-#[cfg(test)]
-mod frames;
-#[cfg(test)]
-mod runs;
-#[cfg(test)]
-mod twins;

@@ -1,11 +1,14 @@
 //! Answers rows, one a line: a word that says what is asked, and a text. Each row is written back with its answer.
 #![tactic(auto)]
 
+mod differences;
 mod read;
 mod rows;
 mod runs;
+mod states;
 mod syntax;
 mod text;
+mod twins;
 mod values;
 
 use std::io;

@@ -1,5 +1,6 @@
 use crate::read::data;
 use crate::syntax::script_of;
+use crate::twins::engines_agree;
 use instance_cells::{Cells, Effect};
 use plain_rerun::rerun;
 use script_nodes::{Script, SendKind};
@@ -10,8 +11,8 @@ use std::alloc::{AllocError, Global};
 /// What a segment of these runs may cost, where a row says nothing of it.
 const FUEL: u64 = 100_000;
 
-// The URL `/NUMBER`.
-fn url(alloc: Global, number: u64) -> Result<Str, AllocError> {
+/// The URL `/NUMBER`.
+pub fn url(alloc: Global, number: u64) -> Result<Str, AllocError> {
     Ok(Str::new(format!(in alloc; "/{number}")?))
 }
 
@@ -30,8 +31,8 @@ fn ran_behind(
     })
 }
 
-// The tape of these segments and an answer, over these cells.
-fn tape<'t>(
+/// The tape of these segments and an answer, over these cells.
+pub fn tape<'t>(
     past: &'t [Answer],
     answer: &'t Value,
     url: &'t Str,
@@ -90,8 +91,16 @@ fn fuel_of(row: &str) -> (u64, &str) {
     }
 }
 
-// What the script of a row comes to over the answers behind `<-`, or the first fault of either.
-fn ran(alloc: Global, row: &str) -> Result<Result<Rerun, String>, AllocError> {
+/// What a row asks for: a script over answers, and what each of its segments may cost.
+#[derive(Drop)]
+pub struct Asked {
+    pub script: Script,
+    pub answers: Vec<Value>,
+    pub fuel: u64,
+}
+
+/// What a row asks for, its answers standing behind `<-`, or the first fault of the script or of the answers.
+pub fn question_of(alloc: Global, row: &str) -> Result<Result<Asked, String>, AllocError> {
     let (fuel, row) = fuel_of(row);
     let (text, answers) = row.split_once(" <- ").unwrap_or((row, ""));
     let script = match script_of(alloc, text)? {
@@ -99,13 +108,34 @@ fn ran(alloc: Global, row: &str) -> Result<Result<Rerun, String>, AllocError> {
         Err(fault) => return Ok(Err(fault)),
     };
     match data(alloc, answers.as_bytes())? {
-        Ok(answers) => Ok(Ok(run_over(alloc, &script, answers, fuel)?)),
+        Ok(answers) => Ok(Ok(Asked {
+            script,
+            answers,
+            fuel,
+        })),
         Err(fault) => Ok(Err(fault)),
     }
 }
 
-// How a run stopped.
-fn end_told(alloc: Global, end: &PlainEnd) -> Result<String, AllocError> {
+// What the script of a row comes to over its answers, or the first fault of either. The machine of stored frames comes to the same.
+fn ran(alloc: Global, row: &str) -> Result<Result<Rerun, String>, AllocError> {
+    let asked = match question_of(alloc, row)? {
+        Ok(asked) => asked,
+        Err(fault) => return Ok(Err(fault)),
+    };
+    if !engines_agree(alloc, &asked)? {
+        return Ok(Err(String::from_str(alloc, "the engines differ")?));
+    }
+    let Asked {
+        script,
+        answers,
+        fuel,
+    } = asked;
+    Ok(Ok(run_over(alloc, &script, answers, fuel)?))
+}
+
+/// How a run stopped.
+pub fn end_told(alloc: Global, end: &PlainEnd) -> Result<String, AllocError> {
     let (word, page) = match end {
         PlainEnd::Shown { page, kind } => match kind {
             SendKind::Suspend => ("shown", page),

@@ -1,6 +1,8 @@
-//! The transactions that an instance has closed.
+//! The transactions that a page is inside, and those that an instance has closed.
 #![tactic(auto)]
 
 mod closed;
+mod entered;
 
 pub use closed::Closed;
+pub use entered::inside;

@@ -1,4 +1,5 @@
 pub mod Shadows
+pub mod Own
 pub mod Laws
 pub mod Places
 pub mod Views

@@ -1,9 +1,7 @@
-use Rattle.std.proofs.Common.{◌≤◌, ◌+◌, ◌*◌, map, drop}
-use Rattle.std.specs.Prelude.{◌↔◌}
-use Rattle.script_value.specs.Val.{vals_of, depth_all}
+use Rattle.std.proofs.Common.{◌+◌, ◌*◌, map, drop}
+use Rattle.script_value.specs.Val.{vals_of}
 use Rattle.script_value.specs.Views.{meaning}
-use Rattle.journal_records.specs.Fields.{AreTyped}
-use Rattle.journal_records.proofs.Nesting.{NestsAs}
+use Rattle.journal_records.proofs.Levels.{NestsAs}
 use Rattle.journal_records.proofs.nesting.+nests.Given as goal
 
 abbrev pub decreases-nests_within : goal.decreases-nests_within

@@ -2,7 +2,6 @@ use Rattle.std.proofs.Common.{◌≡◌, ◌∙◌, ap, sym, Some}
 use Rattle.std.proofs.lemmas.Option.{get_or_from_slice_get}
 use Rattle.script_nodes.specs.Setup.{Named}
 use Rattle.script_nodes.specs.Views.{scripts_of, named_of}
-use Rattle.machine_spec.specs.Machine.{Suspended}
 use Rattle.replay_spec.specs.Next as next
 use Rattle.instance_book.specs.Views.{script_in, no_script}
 use Rattle.instance_book.specs.Places.{state_at}

@@ -1,4 +1,4 @@
-use Rattle.std.proofs.Common.{◌≡◌, ◌∙◌, ◌++◌, ◌∷◌, [], ◌<◌, ap, map, subst, length, get_or, ◌≤◌, List, refl}
+use Rattle.std.proofs.Common.{◌≡◌, ◌∙◌, ◌++◌, ◌∷◌, [], ◌<◌, ap, map, subst, length, get_or, ◌≤◌, List}
 use Rattle.replay_spec.specs.Book.{Page}
 use Rattle.machine_spec.specs.Machine.{Suspended}
 use Rattle.instance_book.specs.Views.{page_of}

@@ -1,0 +1,4 @@
+pub mod Claimed
+pub mod Replayed
+pub mod Made
+pub mod Took

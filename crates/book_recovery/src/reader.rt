@@ -1,0 +1,176 @@
+ghost use Rattle.std.specs.Prelude.{◌≡◌, ◌<◌, ◌≤◌, ◌+◌, ◌^◌, length, IfOk, IfSome, OnOk};
+ghost use Rattle.script_nodes.specs.Views.{scripts_of};
+ghost use Rattle.instance_book.specs.Makes.{HasItsStates};
+ghost use Rattle.journal_records.specs.Records.{IsInGrammar};
+ghost use Rattle.journal_records.specs.Views.{logged_of};
+ghost use Rattle.book_recovery.specs.Remaking.{IsReadyFor, number_by};
+ghost use Rattle.book_recovery.specs.Reading.{is_begin};
+
+use crate::found::Found;
+use crate::remake::remake;
+use instance_book::{Book, InOrder, Numbered};
+use journal_books::only_its_begin_begins;
+use journal_records::{Logged, Origin, decode, records_are_exact};
+use script_nodes::Setup;
+use std::alloc::{AllocError, Global};
+use std::mem;
+
+/// Makes the book of a shelf from the records of its journal, one by one.
+#[derive(Drop)]
+pub struct Reader<'s> {
+    pub alloc: Global,
+    pub setup: &'s Setup,
+    pub shelf: u32,
+    /// The numbers that records told of.
+    pub seen: InOrder<()>,
+    /// What was made so far.
+    pub found: Found,
+}
+
+// The number that a record uses, if it is one of a change of pages.
+fn number_of(logged: &Logged) -> Option<u64>
+    requires { IsInGrammar (logged_of logged.now) }
+    ensures number { result ≡ number_by (logged_of logged.now) }
+    ensures low { IfSome result (λ n. n < 2 ^ 62) }
+{
+    match logged {
+        Logged::Begin { .. } => None,
+        Logged::Page(page) => Some(page.ticket),
+        Logged::Ended(ended) => Some(ended.ticket),
+        Logged::Finish(finish) => Some(finish.ticket),
+        Logged::Sweep { .. } => None,
+    }
+}
+
+impl Reader<'_> {
+    ghost use Rattle.book_recovery.specs.declared.found.Found.TheVariants as found;
+    ghost use Rattle.book_recovery.specs.Reading.{IsUnderWay, IsMadeAnew, IsRedoneBy, Sees, is_later, is_begin, GivesWith, IsKept, IsSoundReader, IsSameReader, IsTaken};
+
+    // Whether a record may follow others: it is a change, and a start is of a script of the setup.
+    fn is_later(&self, logged: &Logged) -> bool
+        ensures { result ≡ is_later (length (scripts_of self.now.setup.now)) (logged_of logged.now) }
+    {
+        match logged {
+            Logged::Begin { .. } => false,
+            Logged::Page(page) => match &page.origin {
+                Origin::Start { script } => (*script as usize) < self.setup.len(),
+                Origin::Answer { .. } => true,
+            },
+            Logged::Ended(_) => true,
+            Logged::Finish(_) => true,
+            Logged::Sweep { .. } => true,
+        }
+    }
+
+    // The book where a record of a new number is made again.
+    fn remade(&self, book: Book, logged: Logged) -> Result<Book, AllocError>
+        requires fits { IsInGrammar (logged_of logged) }
+        requires ready { IsReadyFor (scripts_of self.now.setup.now) (number_by (logged_of logged)) book }
+        requires logged { book.logged ≤ 2 ^ 62 }
+        ensures made { IfOk result (λ b. IsMadeAnew (scripts_of self.now.setup.now) (logged_of logged) book b) }
+        ensures states { IfOk result (HasItsStates (scripts_of self.now.setup.now)) }
+    {
+        let mut book = book;
+        remake(self.alloc, self.setup, &mut book, logged)?;
+        book.reopen();
+        Ok(book)
+    }
+
+    // The book with one record more, which is passed over where its number was seen.
+    fn redo(&mut self, book: Book, logged: Logged) -> Result<Book, AllocError>
+        requires fits { IsInGrammar (logged_of logged) }
+        requires kept { IsUnderWay (scripts_of self.old.setup.now) self.old.shelf self.old.seen book }
+        ensures made { IfOk result (λ b. IsRedoneBy (scripts_of self.old.setup.now) self.old.seen (logged_of logged) book b) }
+        ensures states { IfOk result (HasItsStates (scripts_of self.old.setup.now)) }
+        ensures sees { OnOk result (Sees (logged_of logged) self.old.seen self.new.seen) }
+        ensures same { IsSameReader self.old self.new }
+    {
+        let Some(number) = number_of(&logged) else {
+            return Ok(self.remade(book, logged)?);
+        };
+        if self.seen.has(number) {
+            let mut book = book;
+            book.pass_over(number);
+            book.reopen();
+            return Ok(book);
+        }
+        self.seen.make_room()?;
+        self.seen.put(Numbered { number, item: () });
+        Ok(self.remade(book, logged)?)
+    }
+
+    // What a later record makes.
+    fn later(&mut self, place: u64, book: Book, body: &[u8]) -> Found
+        requires kept { IsUnderWay (scripts_of self.old.setup.now) self.old.shelf self.old.seen book }
+        requires room { place + 6 + length body.now ≤ 2 ^ 30 }
+        ensures gives { GivesWith (scripts_of self.old.setup.now) self.old.shelf place body.now
+            (found.Made book) result self.old.seen self.new.seen }
+        ensures kept { IsKept (scripts_of self.old.setup.now) self.old.shelf self.new.seen result }
+        ensures same { IsSameReader self.old self.new }
+    {
+        records_are_exact();
+        let logged = match decode(self.alloc, body) {
+            Ok(Some(logged)) => logged,
+            Ok(None) => return Found::Damaged { place },
+            Err(_) => return Found::Memory,
+        };
+        if !self.is_later(&logged) {
+            return Found::Damaged { place };
+        }
+        match self.redo(book, logged) {
+            Ok(book) => Found::Made(book),
+            Err(_) => Found::Memory,
+        }
+    }
+
+    // What the first record makes.
+    fn first(&self, place: u64, body: &[u8]) -> Found
+        ensures gives { GivesWith (scripts_of self.now.setup.now) self.now.shelf place body.now
+            found.Nothing result self.now.seen self.now.seen }
+        ensures kept { IsKept (scripts_of self.now.setup.now) self.now.shelf self.now.seen found.Nothing
+            → IsKept (scripts_of self.now.setup.now) self.now.shelf self.now.seen result }
+    {
+        only_its_begin_begins();
+        let logged = match decode(self.alloc, body) {
+            Ok(Some(logged)) => logged,
+            Ok(None) => return Found::Damaged { place },
+            Err(_) => return Found::Memory,
+        };
+        if logged.begins(self.shelf, self.setup) {
+            return Found::Made(Book::empty(self.alloc, self.shelf));
+        }
+        if is_begin(&logged) {
+            return Found::Other { place };
+        }
+        Found::Damaged { place }
+    }
+
+    /// Takes the body of the record whose gate is at this place.
+    pub fn take(&mut self, place: u64, body: &[u8])
+        requires sound { IsSoundReader self.old }
+        requires room { place + 6 + length body.now ≤ 2 ^ 30 }
+        ensures taken { IsTaken self.old place body.now self.new }
+        ensures sound { IsSoundReader self.new }
+    {
+        match mem::replace(&mut self.found, Found::Memory) {
+            Found::Nothing => self.found = self.first(place, body),
+            Found::Made(book) => self.found = self.later(place, book, body),
+            Found::Damaged { place } => self.found = Found::Damaged { place },
+            Found::Other { place } => self.found = Found::Other { place },
+            Found::Memory => (),
+        }
+    }
+}
+
+// Whether a journal begins with a record.
+fn is_begin(logged: &Logged) -> bool
+    ensures { result ≡ is_begin (logged_of logged.now) }
+{
+    match logged {
+        Logged::Begin { .. } => true,
+        Logged::Page(_) => false,
+        Logged::Ended(_) => false,
+        Logged::Finish(_) => false,
+        Logged::Sweep { .. } => false,
+    }
+}

@@ -1,0 +1,18 @@
+use script_value::Items;
+use stored_states::Frame;
+use web_cells::Own;
+
+/// What differs between a page's state and that of its parent.
+#[derive(Drop)]
+pub struct Delta {
+    /// How many variables, from the outermost on, are the parent's.
+    pub env_shared: usize,
+    /// The other variables.
+    pub env: Items,
+    /// How many frames, from the outermost on, are the parent's.
+    pub frames_shared: usize,
+    /// The other frames.
+    pub frames: Vec<Frame>,
+    /// The bindings of web cells that the parent has not, or has with another value.
+    pub shadows: Own,
+}

@@ -1,0 +1,76 @@
+ghost use Rattle.std.specs.Prelude.{◌≡◌, IfOk, take};
+ghost use Rattle.stored_states.specs.Views.{suspended_of};
+ghost use Rattle.frame_codec.specs.Deltas.{IsDelta, GoesOnFrom, joined};
+ghost use Rattle.frame_codec.specs.DeltaViews.{delta_of};
+
+use crate::difference::Delta;
+use crate::shared::{add_frames, add_values, front, shared_frames, shared_values};
+use script_value::Items;
+use std::alloc::{AllocError, Global};
+use stored_states::{Frame, Suspended};
+
+// What differs between a state and its parent's.
+fn difference(alloc: Global, parent: &Suspended, state: &Suspended) -> Result<Delta, AllocError>
+    ensures { IfOk result (λ d. IsDelta (suspended_of parent.now) (suspended_of state.now) (delta_of d)) }
+{
+    let variables = state.env.as_slice();
+    let env_shared = shared_values(parent.env.as_slice(), variables);
+    let mut env = Items::new(alloc);
+    add_values(alloc, &mut env, &variables[env_shared..])?;
+    let all = state.frames.as_slice();
+    let frames_shared = shared_frames(parent.frames.as_slice(), all);
+    let mut frames = Vec::new(alloc);
+    add_frames(alloc, &mut frames, &all[frames_shared..])?;
+    let shadows = state.shades.own(alloc, &parent.shades)?;
+    Ok(Delta {
+        env_shared,
+        env,
+        frames_shared,
+        frames,
+        shadows,
+    })
+}
+
+/// What differs between a state and its parent's: the longest front that they share is left out.
+///
+/// With it the parent's state is the state again, where the web cells of both rise and this binds each that its parent binds.
+pub fn delta(alloc: Global, parent: &Suspended, state: &Suspended) -> Result<Delta, AllocError>
+    ensures delta { IfOk result (λ d. IsDelta (suspended_of parent.now) (suspended_of state.now) (delta_of d)) }
+    ensures back { IfOk result (λ d. GoesOnFrom (suspended_of parent.now) (suspended_of state.now) → joined (suspended_of parent.now) (delta_of d) ≡ suspended_of state.now) }
+{
+    Ok(difference(alloc, parent, state)?)
+}
+
+// The first variables of a state, or all where there are fewer.
+fn front_values(alloc: Global, values: &Items, count: usize) -> Result<Items, AllocError>
+    ensures { IfOk result (λ copies. copies ≡ take count values.now) }
+{
+    let mut copies = Items::new(alloc);
+    add_values(alloc, &mut copies, front(values.as_slice(), count))?;
+    Ok(copies)
+}
+
+// The first frames of a state, or all where there are fewer.
+fn front_frames(alloc: Global, frames: &[Frame], count: usize) -> Result<Vec<Frame>, AllocError>
+    ensures { IfOk result (λ copies. copies.items ≡ take count frames.now) }
+{
+    let mut copies = Vec::new(alloc);
+    add_frames(alloc, &mut copies, front(frames, count))?;
+    Ok(copies)
+}
+
+/// The parent's state with what differs.
+pub fn join(alloc: Global, parent: &Suspended, delta: &Delta) -> Result<Suspended, AllocError>
+    ensures { IfOk result (λ state. suspended_of state ≡ joined (suspended_of parent.now) (delta_of delta.now)) }
+{
+    let mut env = front_values(alloc, &parent.env, delta.env_shared)?;
+    add_values(alloc, &mut env, delta.env.as_slice())?;
+    let mut frames = front_frames(alloc, parent.frames.as_slice(), delta.frames_shared)?;
+    add_frames(alloc, &mut frames, delta.frames.as_slice())?;
+    let shades = parent.shades.with(alloc, &delta.shadows)?;
+    Ok(Suspended {
+        env,
+        frames,
+        shades,
+    })
+}

@@ -1,0 +1,24 @@
+use Rattle.std.proofs.Common.{◌≡◌, subst, List, [], map, None}
+use Rattle.instance_cells.specs.Views.{effect_of}
+use Rattle.instance_cells.specs.declared.effect.Effect.{Effect}
+use Rattle.instance_book.specs.Told.{book_beside, ended_in, IsEndedIn}
+use Rattle.instance_book.proofs.Recorded.{finish_passed, finish_redone}
+use Rattle.instance_book.proofs.book.Book.redo_finish.Goals as goal
+
+pub returns-in_default-clause-redone : goal.returns-in_default-clause-redone
+returns-in_default-clause-redone c scripts length =
+    let b = book_beside scripts length c.args.self.now in
+    finish_passed c.args.number c.args.instance c.args.page c.args.answer (map effect_of c.args.effects.items) [] b (book_beside scripts length c.pass_over.new.self)
+    (subst (λ (es : List Effect). ended_in b c.args.instance c.args.page (map effect_of es) ≡ None) c.deref.ensures.value (c.in_default.ensures scripts length))
+    (c.pass_over.ensures.book scripts length None)
+
+pub returns-clause-redone : goal.returns-clause-redone
+returns-clause-redone c scripts length =
+    let b = book_beside scripts length c.args.self.now in
+    let there : IsEndedIn c.args.self.now c.args.instance c.args.page (map effect_of c.args.effects.items) c.in-Some._ended.now =
+    subst (λ (es : List Effect). IsEndedIn c.args.self.now c.args.instance c.args.page (map effect_of es) c.in-Some._ended.now) c.deref.ensures.value c.in-Some.ensures in
+    finish_redone c.args.number c.args.instance c.args.page c.args.answer (map effect_of c.args.effects.items) [] b (book_beside scripts length c.pass_over-2.new.self) (book_beside scripts length c.change.new.self)
+    (there.so scripts length) (c.change.ensures.book scripts length None) (c.pass_over-2.ensures.book scripts length None)
+
+pub returns-clause-states : goal.returns-clause-states
+returns-clause-states c scripts all = c.pass_over-2.ensures.states scripts (c.change.ensures.states scripts tt all)

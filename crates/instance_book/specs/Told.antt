@@ -1,0 +1,179 @@
+-- What a record that is told again makes of a book.
+use Rattle.std.specs.Prelude.{◌≡◌, ℕ, ◌+◌, max, List, [], length, map, Option, Some, None, slice_get}
+use Rattle.std.specs.Borrow.{Bor}
+use Rattle.script_value.specs.Val.{list, no_vals}
+use Rattle.script_value.specs.Views.{meaning}
+use Rattle.script_value.specs.declared.outcome.TxName.{TxName}
+use Rattle.script_value.specs.declared.value.Value.{Value}
+use Rattle.script_nodes.specs.Setup.{Named}
+use Rattle.script_nodes.specs.Views.{scripts_of}
+use Rattle.script_nodes.specs.declared.script.SendKind.{SendKind}
+use Rattle.script_nodes.specs.declared.setup.Setup.{Setup}
+use Rattle.page_names.specs.Names.{start}
+use Rattle.instance_cells.specs.Cells.{Effect, AreOn, reads_of}
+use Rattle.instance_cells.specs.Views.{effect_of}
+use Rattle.replay_spec.specs.Tape.{recorded}
+use Rattle.replay_spec.specs.Book as spec
+use Rattle.replay_spec.specs.Book.{instance_at, page_at, reopened}
+use Rattle.replay_spec.specs.Rules.{Rules}
+use Rattle.replay_spec.specs.Change.{land}
+use Rattle.replay_spec.specs.Admission.{◌>>=◌, Place}
+use Rattle.replay_spec.specs.Next as next
+use Rattle.replay_spec.specs.Next.{tape_for, start_visit, page_visit}
+use Rattle.replay_spec.specs.Recovery.{page_of_numbers, ended_so, remade, redone}
+use Rattle.replay_spec.specs.Invariant.{Lineage}
+use Rattle.machine_spec.specs.Machine.{Suspended}
+use Rattle.machine_spec.specs.Laws.{IsStateOf}
+use Rattle.stored_states.specs.Views.{suspended_of}
+use Rattle.instance_book.specs.declared.numbered.Numbered.{Numbered}
+use Rattle.instance_book.specs.declared.instance.KeptInstance.{KeptInstance}
+use Rattle.instance_book.specs.declared.prepared.Opening.{Opening}
+use Rattle.instance_book.specs.declared.retold.ToldPage.{ToldPage}
+use Rattle.instance_book.specs.declared.book.Book.{Book}
+use Rattle.instance_book.specs.declared.ticket.Ticket.{Ticket}
+use Rattle.instance_book.specs.Views.{instance_of, ticket_of, book_of}
+use Rattle.instance_book.specs.Places.{arena_of}
+use Rattle.instance_book.specs.Makes.{Makes, HasItsStates}
+use Rattle.instance_book.specs.Changes.{opening_of, begun_with}
+use Rattle.instance_book.specs.Prepares.{rules_with, first_instance, opening_by, extension_by, OpensAs}
+use Rattle.instance_book.specs.Fits.{IsFor, FitsStart}
+use Rattle.instance_book.specs.Admissions.{book_under}
+
+-- the ticket of a record's start, and of its answer
+abbrev pub told_start : Named → (number nonce : ℕ) → next.Ticket
+told_start s number nonce = record { target = start s.name; answer = list no_vals; number = number; nonce = nonce }
+
+abbrev pub told_answer : Place → Value → (number nonce : ℕ) → next.Ticket
+told_answer at answer number nonce =
+    record { target = start at.instance.script.name; answer = meaning answer; number = number; nonce = nonce }
+
+-- the ticket is for a start of the script of this place, which the setup has
+pub record StartsAgain (setup : Setup) (b : Book) (script number nonce : ℕ) (t : Ticket) : Type 0 where
+  pub named : Named
+  pub found : slice_get (scripts_of setup) script ≡ Some named
+  pub ticket : ticket_of t ≡ told_start named number nonce
+  pub fits : FitsStart (scripts_of setup) (book_under setup b) t script named
+
+-- the ticket is for an answer to the page that stands there, and has the cells of its instance
+pub record AnswersAgain (setup : Setup) (b : Book) (instance page : ℕ) (answer : Value) (number nonce : ℕ) (t : Ticket) : Type 0 where
+  pub at : Place
+  pub found : page_of_numbers (book_under setup b) instance page ≡ Some at
+  pub ticket : ticket_of t ≡ told_answer at answer number nonce
+  pub fits : IsFor (scripts_of setup) t (page_visit (book_under setup b) (ticket_of t) at)
+  pub cells : t.cells ≡ at.instance.cells
+
+-- what a record is landed under beside no journal: its length is measured by whoever keeps one
+abbrev pub no_rules : Rules
+no_rules = rules_with 0 0 0 0
+
+-- the book beside a journal of this length, where nothing is in doubt
+abbrev pub book_beside : List Named → (length : ℕ) → Book → spec.Book
+book_beside scripts length b = book_of scripts length None b
+
+-- Whatever the setup, the change is made again, or passed over, as recovery decides.
+abbrev pub IsRedone : spec.Change → (old new : Book) → Type 0
+IsRedone c old new =
+    (scripts : List Named) (length : ℕ)
+    → let b = book_beside scripts length old in book_beside scripts length new ≡ redone no_rules c (remade b c) b
+
+-- a record of this number counts
+abbrev pub counted_to : ℕ → spec.Book → spec.Book
+counted_to number b = record b { logged = max b.logged (number + 1) }
+
+abbrev pub Counts : ℕ → (old new : Book) → Type 0
+Counts number old new = Makes (counted_to number) old new
+
+-- the book is as after a crash
+abbrev pub IsReopened : (old new : Book) → Type 0
+IsReopened old new =
+    (scripts : List Named) (length : ℕ) → book_beside scripts length new ≡ reopened (book_beside scripts length old)
+
+-- the page's effects, as the definitions have them
+abbrev pub effects_in : ToldPage → List Effect
+effects_in p = map effect_of p.effects.items
+
+-- a start's page begins an instance so
+pub record IsOpenedAs (t : Ticket) (effects : List Effect) (inside left : List TxName) (kind : SendKind) (deadline : ℕ) (d : Suspended) (o : Opening) : Type 0 where
+  pub opening : opening_of o ≡ opening_by t effects left kind deadline
+  pub inside_is : o.page.item.inside.items ≡ inside
+  pub begun : (scripts : List Named) → begun_with scripts o ≡ first_instance scripts t effects inside left deadline
+  pub kept : OpensAs t effects inside d o
+
+abbrev pub IsOpenedBy : Ticket → ToldPage → Opening → Type 0
+IsOpenedBy t p o = IsOpenedAs t (effects_in p) p.inside.items p.left.items p.kind p.deadline (suspended_of p.state) o
+
+-- the opening of a ticket's page, and its extension
+abbrev pub told_opening : Ticket → ToldPage → spec.Change
+told_opening t p = spec.opens (opening_by t (effects_in p) p.left.items p.kind p.deadline)
+
+abbrev pub told_extension : Ticket → (instance answered : ℕ) → ToldPage → spec.Change
+told_extension t instance answered p =
+    spec.extends (extension_by t instance answered (effects_in p) p.left.items p.kind p.deadline)
+
+-- it lands, where the ticket is for a start of a script of the setup
+abbrev pub LandsOpening : Ticket → ToldPage → (old new : Book) → Type 0
+LandsOpening t p old new =
+    (scripts : List Named) (length : ℕ) (named : Named) → slice_get scripts t.script ≡ Some named → t.cells ≡ named.script.cells
+    → book_beside scripts length new ≡ land no_rules (told_opening t p) p.inside.items (book_beside scripts length old)
+
+-- it lands, where the instance is there
+abbrev pub LandsExtension : Ticket → (instance answered : ℕ) → ToldPage → (old new : Book) → Type 0
+LandsExtension t instance answered p old new =
+    (scripts : List Named) (length : ℕ) (i : spec.Instance)
+    → let b = book_beside scripts length old in instance_at instance b.instances ≡ Some i
+    → book_beside scripts length new ≡ land no_rules (told_extension t instance answered p) p.inside.items b
+
+-- the page has the state of a start of its script
+abbrev pub HasStartState : List Named → Book → Ticket → ToldPage → Type 0
+HasStartState scripts b t p =
+    (named : Named) × ((slice_get scripts t.script ≡ Some named)
+    × IsStateOf (arena_of named.script) (tape_for (start_visit (book_beside scripts 0 b) (ticket_of t) t.script named) (recorded (reads_of (effects_in p)))) (suspended_of p.state))
+
+-- the page is new in its instance, and has the state of the chain of the page that it answers
+pub record HasAnswerState (scripts : List Named) (b : Book) (t : Ticket) (instance answered : ℕ) (p : ToldPage) : Type 0 where
+  pub at : Place
+  pub here : instance_at instance (book_beside scripts 0 b).instances ≡ Some at.instance
+  pub shown : page_at answered at.instance.pages ≡ Some at.page
+  pub lineage : Lineage at.instance.pages at.page
+  pub unused : page_at t.number at.instance.pages ≡ None
+  pub state :
+      IsStateOf (arena_of at.instance.script.script) (tape_for (page_visit (book_beside scripts 0 b) (ticket_of t) at) (recorded (reads_of (effects_in p)))) (suspended_of p.state)
+
+-- so each page goes on to have its own
+abbrev pub KeepsStartStates : Ticket → ToldPage → (old new : Book) → Type 0
+KeepsStartStates t p old new =
+    (scripts : List Named) → HasStartState scripts old t p → HasItsStates scripts old → HasItsStates scripts new
+
+abbrev pub KeepsAnswerStates : Ticket → (instance answered : ℕ) → ToldPage → (old new : Book) → Type 0
+KeepsAnswerStates t instance answered p old new =
+    (scripts : List Named) → HasAnswerState scripts old t instance answered p → HasItsStates scripts old → HasItsStates scripts new
+
+-- the ending and the finish of a record
+abbrev pub told_ending : (number instance page : ℕ) → Value → List Effect → List TxName → spec.Change
+told_ending number instance page answer effects left = spec.ends (record {
+  number = number;
+  instance = instance;
+  page = page;
+  answer = meaning answer;
+  effects = effects;
+  left = left;
+})
+
+abbrev pub told_finish : (number instance page : ℕ) → Value → List Effect → spec.Change
+told_finish number instance page answer effects =
+    spec.finishes (record { number = number; instance = instance; page = page; answer = meaning answer; effects = effects })
+
+-- the page is there and these effects are on its instance's cells, and hold over them
+abbrev pub ended_in : spec.Book → (instance page : ℕ) → List Effect → Option (List TxName)
+ended_in b instance page effects = page_of_numbers b instance page >>= (λ at. ended_so effects at.instance.cells)
+
+-- it is this instance then, and where it is none there is none
+pub record IsEndedIn (b : Book) (instance page : ℕ) (effects : List Effect) (i : Numbered KeptInstance) : Type 0 where
+  pub here : (scripts : List Named) → instance_at instance (book_beside scripts 0 b).instances ≡ Some (instance_of scripts i)
+  pub so : (scripts : List Named) (length : ℕ) → ended_in (book_beside scripts length b) instance page effects ≡ Some []
+  pub on : AreOn (length i.item.cells) effects
+
+abbrev pub EndsIn : Book → (instance page : ℕ) → List Effect → Option (Bor (Numbered KeptInstance)) → Type 0
+EndsIn b instance page effects (Some i) = IsEndedIn b instance page effects i.now
+EndsIn b instance page effects None =
+    (scripts : List Named) (length : ℕ) → ended_in (book_beside scripts length b) instance page effects ≡ None

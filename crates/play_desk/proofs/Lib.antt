@@ -1,0 +1,11 @@
+pub mod Places
+pub mod Kept
+pub mod ShelfRuns
+pub mod Held
+pub mod Entering
+pub mod Transcribed
+pub mod Open
+pub mod Happening
+pub mod Fitting
+pub mod Stepping
+pub mod Counting

@@ -1,0 +1,129 @@
+use crate::runs::question_of;
+use crate::states::{bytes_of, digits, spelling};
+use crate::twins::{Chain, chain_of};
+use frame_codec::{Delta, decode_delta, delta, encode_delta, is_delta_spelled, is_stored, join};
+use script_nodes::Script;
+use script_value::Bytes;
+use std::alloc::{AllocError, Global};
+use stored_states::{Outcome, Suspended};
+
+// A script, and the pages that were shown over the answers of a row.
+#[derive(Drop)]
+struct Visited {
+    script: Script,
+    chain: Chain,
+}
+
+// The pages of a row, or the first fault of its script or its answers.
+fn pages_of(alloc: Global, row: &str) -> Result<Result<Visited, String>, AllocError> {
+    let asked = match question_of(alloc, row)? {
+        Ok(asked) => asked,
+        Err(fault) => return Ok(Err(fault)),
+    };
+    let chain = chain_of(alloc, &asked.script, asked.answers.as_slice(), asked.fuel)?;
+    let script = asked.script;
+    Ok(Ok(Visited { script, chain }))
+}
+
+impl Visited {
+    // What is kept at the page that was shown so many pages before the last.
+    fn page(&self, before: usize) -> Option<&Suspended> {
+        let twins = self.chain.segments.iter().rev().nth(before)?;
+        match &twins.machine.outcome {
+            Outcome::Shown { state, .. } => Some(state),
+            _ => None,
+        }
+    }
+}
+
+// The spelling of what differs between two states, if it has one.
+fn spelled(
+    alloc: Global,
+    parent: &Suspended,
+    state: &Suspended,
+) -> Result<Option<Bytes>, AllocError> {
+    let difference = delta(alloc, parent, state)?;
+    if is_delta_spelled(&difference) {
+        Ok(Some(encode_delta(alloc, &difference)?))
+    } else {
+        Ok(None)
+    }
+}
+
+// The difference that bytes spell from a parent that has a spelling, if they spell one.
+fn read(
+    alloc: Global,
+    script: &Script,
+    parent: &Suspended,
+    bytes: &[u8],
+) -> Result<Option<Delta>, AllocError> {
+    if is_stored(script, parent) {
+        decode_delta(alloc, script, parent, bytes)
+    } else {
+        Ok(None)
+    }
+}
+
+// Whether a state is the parent's with the difference that these bytes spell.
+fn is_joined(
+    alloc: Global,
+    script: &Script,
+    parent: &Suspended,
+    state: &Suspended,
+    bytes: &[u8],
+) -> Result<bool, AllocError> {
+    let Some(difference) = read(alloc, script, parent, bytes)? else {
+        return Ok(false);
+    };
+    let joined = join(alloc, parent, &difference)?;
+    let mine = spelling(alloc, state)?;
+    let other = spelling(alloc, &joined)?;
+    Ok(match (&mine, &other) {
+        (Some(mine), Some(other)) => mine.as_slice() == other.as_slice(),
+        _ => false,
+    })
+}
+
+/// What differs between the last page of a row and the one before it: how many bytes, and these bytes.
+pub fn difference_told(alloc: Global, row: &str) -> Result<String, AllocError> {
+    let visited = match pages_of(alloc, row)? {
+        Ok(visited) => visited,
+        Err(fault) => return Ok(fault),
+    };
+    let (Some(state), Some(parent)) = (visited.page(0), visited.page(1)) else {
+        return String::from_str(alloc, "no pages");
+    };
+    let Some(bytes) = spelled(alloc, parent, state)? else {
+        return String::from_str(alloc, "no spelling");
+    };
+    if !is_joined(alloc, &visited.script, parent, state, bytes.as_slice())? {
+        return String::from_str(alloc, "another state");
+    }
+    let count = bytes.len();
+    let digits = digits(alloc, bytes.as_slice())?;
+    format!(in alloc; "{count} {digits}")
+}
+
+/// Whether the bytes that stand first in a row, in hexadecimal digits without spaces, are a difference from its last page.
+pub fn read_told(alloc: Global, row: &str) -> Result<String, AllocError> {
+    let (digits, row) = row.split_once(' ').unwrap_or((row, ""));
+    let Some(bytes) = bytes_of(alloc, digits)? else {
+        return String::from_str(alloc, "no bytes");
+    };
+    let visited = match pages_of(alloc, row)? {
+        Ok(visited) => visited,
+        Err(fault) => return Ok(fault),
+    };
+    let Some(parent) = visited.page(0) else {
+        return String::from_str(alloc, "no page");
+    };
+    let found = read(alloc, &visited.script, parent, bytes.as_slice())?;
+    String::from_str(
+        alloc,
+        if found.is_some() {
+            "difference"
+        } else {
+            "none"
+        },
+    )
+}
