@@ -3,7 +3,6 @@
 
 mod row;
 mod seats;
-mod sharing;
 
 pub use row::LockRow;
 pub use seats::{RowNote, RowPass};

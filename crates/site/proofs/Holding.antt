@@ -1,5 +1,5 @@
 -- Tickets that callers hold.
-use Rattle.std.proofs.Common.{◌≡◌, ℕ, ◌+◌, Bool, List, [], ◌∷◌, ◌++◌, Contains, None, refl, sym, ◌∙◌, ap, subst}
+use Rattle.std.proofs.Common.{◌≡◌, ℕ, ◌+◌, Bool, List, [], ◌∷◌, ◌++◌, Contains, refl, sym, ◌∙◌, ap, subst}
 use Rattle.std.specs.Prelude.{Result, Ok, Err, IfOk}
 use mathlib.Core.List.{IsPrefix}
 use Rattle.script_value.specs.Val.{Val}
@@ -10,10 +10,8 @@ use Rattle.page_names.specs.Views.{target_of}
 use Rattle.web_disk.specs.View.{View}
 use Rattle.replay_spec.specs.Book.{Book}
 use Rattle.replay_spec.specs.Admission.{admit, refusal_of}
-use Rattle.replay_spec.specs.Next as next
 use Rattle.replay_spec.specs.Step as step
 use Rattle.replay_spec.specs.Step.{Reply, taken, take, plain}
-use Rattle.replay_spec.specs.Runs.{drawn_by}
 use Rattle.replay_spec.specs.Invariant.{IsOrderly}
 use Rattle.instance_book.specs.declared.ticket.Ticket.{Ticket}
 use Rattle.instance_book.specs.Views.{ticket_of}
@@ -36,7 +34,7 @@ use Rattle.shelf.specs.Events.{IsTicketOf}
 use Rattle.shelf.specs.Going.{TicketsGoOnToFit}
 use Rattle.site.specs.declared.opening.Opening.{Opening}
 use Rattle.site.specs.Entries.{entry}
-use Rattle.site.specs.Openings.{scripts_in, start_of, source_of, count_of, HasLegal, book_then}
+use Rattle.site.specs.Openings.{scripts_in, start_of, source_of, count_of, book_then}
 use Rattle.site.specs.Sound.{IsSound, Holds}
 use Rattle.site.proofs.Replies.{take_admits}
 use Rattle.site.proofs.Sounds.{prefix_all}

@@ -4,3 +4,4 @@ pub mod Holding
 pub mod Turns
 pub mod Seats
 pub mod Ticks
+pub mod Endings

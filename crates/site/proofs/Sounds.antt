@@ -1,5 +1,5 @@
 -- A shelf between turns: as it was opened, and one event more.
-use Rattle.std.proofs.Common.{◌≡◌, ◌⊎◌, inl, inr, ℕ, ◌≤◌, ◌<◌, ◌^◌, ◌+◌, length, Bool, List, [], ◌∷◌, ◌++◌, IsTrue, refl, sym, ◌∙◌, ap, subst, arith, append_assoc}
+use Rattle.std.proofs.Common.{◌≡◌, inl, inr, ℕ, ◌≤◌, ◌<◌, ◌^◌, ◌+◌, length, Bool, List, [], ◌∷◌, ◌++◌, IsTrue, refl, sym, ◌∙◌, ap, subst, arith, append_assoc}
 use Rattle.std.proofs.lemmas.List.{append-nil}
 use mathlib.Core.List.{IsPrefix}
 use Rattle.web_disk.specs.View.{View, LeavesOnly}
@@ -12,14 +12,12 @@ use Rattle.script_value.specs.Val.{Val}
 use Rattle.page_names.specs.Names.{Destination}
 use Rattle.replay_spec.specs.Step as step
 use Rattle.replay_spec.specs.Step.{Event}
-use Rattle.replay_spec.specs.Runs as runs
 use Rattle.replay_spec.specs.Runs.{drawn_by, shelf_step}
 use Rattle.shelf_history.specs.Histories.{Entry, MayCome, fate_by}
 use Rattle.shelf_history.specs.Laws.{tickets_taken}
 use Rattle.shelf_history.specs.Kept.{IsKept}
 use Rattle.shelf_history.proofs.Keeping.{kept_on, kept_sound}
 use Rattle.shelf.specs.declared.shelf.Shelf.{Shelf}
-use Rattle.shelf.specs.Views as views
 use Rattle.shelf.specs.Views.{IsInOrder, IsEvent, book_in, shelf_of, rules_of}
 use Rattle.shelf.specs.Events.{TellsCount, HasMoments}
 use Rattle.site.specs.declared.opening.Opening.{Opening}

@@ -1,5 +1,5 @@
 -- A tick, shelf after shelf.
-use Rattle.std.proofs.Common.{◌≡◌, ◌≢◌, ◌≤◌, ℕ, List, [], ◌∷◌, ◌++◌, length, length-append, Some, slice_get, refl, ap, sym, ◌∙◌, subst, arith}
+use Rattle.std.proofs.Common.{◌≡◌, ◌≢◌, ℕ, List, [], ◌∷◌, ◌++◌, length, length-append, Some, slice_get, refl, ap, sym, ◌∙◌, subst, arith}
 use Rattle.std.specs.Prelude.{Bool, Result}
 use Rattle.std.proofs.lemmas.Option.{slice_get_within}
 use Rattle.shelf_lock.proofs.Prefixes.{snoc_each}

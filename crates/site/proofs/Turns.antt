@@ -1,5 +1,5 @@
 -- What a turn at one lock tells its pass.
-use Rattle.std.proofs.Common.{◌≡◌, ◌⊎◌, ◌==◌, ◌≤◌, inl, inr, ℕ, Bool, true, false, cond, List, [], ◌∷◌, ◌++◌, map, Contains, refl, sym, ◌∙◌, ap, subst, arith}
+use Rattle.std.proofs.Common.{◌≡◌, ◌==◌, ◌≤◌, inl, inr, ℕ, Bool, true, false, cond, List, [], ◌∷◌, ◌++◌, map, refl, sym, ◌∙◌, ap, subst}
 use Rattle.std.specs.Prelude.{Result, Ok, Err, IfOk, MatchResult}
 use Rattle.std.proofs.lemmas.List.{append-nil}
 use Rattle.std.proofs.lemmas.List.Elements.{Contains-push}
@@ -12,7 +12,6 @@ use Rattle.shelf_lock.specs.Order.{posed, made_by, Adds}
 use Rattle.lock_row.proofs.Places.{map_snoc}
 use Rattle.script_value.specs.Val.{Val}
 use Rattle.script_value.specs.declared.outcome.Reply as answers
-use Rattle.script_value.specs.declared.outcome.Reply.TheVariants.{Worn}
 use Rattle.page_names.specs.Names.{Destination}
 use Rattle.replay_spec.specs.Step as step
 use Rattle.replay_spec.specs.Step.{Event}
@@ -20,8 +19,7 @@ use Rattle.instance_book.specs.declared.ticket.Ticket.{Ticket}
 use Rattle.instance_book.specs.Views.{ticket_of, reply_of}
 use Rattle.shelf.specs.Views.{taken_of, swept_of}
 use Rattle.shelf_history.specs.Histories.{Entry, own_of, IsLegal}
-use Rattle.shelf_history.specs.Laws.{take_of}
-use Rattle.shelf_history.specs.Passes.{IsSeenBy, Goes, publish_of}
+use Rattle.shelf_history.specs.Passes.{IsSeenBy, Goes}
 use Rattle.shelf_history.proofs.Going.{go_on}
 use Rattle.shelf_history.proofs.Behind.{never_back}
 use Rattle.shelf_history.proofs.Passing.{turn}
@@ -33,8 +31,7 @@ use Rattle.site.specs.declared.opening.Opening.{Opening}
 use Rattle.site.specs.Entries.{entry, done_by, entry_of, entries_of, Comes, Sweeps}
 use Rattle.site.specs.Openings.{start_of, source_of, count_of, book_then}
 use Rattle.site.specs.Sound.{IsSound, Holds, Gives}
-use Rattle.site.specs.Passes.{Known, seen_by, GoesFrom, HoldsTicket, IsWorn, Took, Published, HasReached, Swept}
-use Rattle.site.proofs.Holding.{holds_on}
+use Rattle.site.specs.Passes.{Known, seen_by, GoesFrom, HoldsTicket, Took, Published, HasReached, Swept}
 
 -- an entry is its caller's
 caller_done : (caller : ℕ) (d : Did) → (done_by caller d).caller ≡ caller

@@ -13,7 +13,6 @@ use Rattle.lock_row.specs.Spots.{Spot}
 use Rattle.replay_spec.specs.Step as step
 use Rattle.instance_book.specs.declared.ticket.Ticket.{Ticket}
 use Rattle.instance_book.specs.Views.{ticket_of, reply_of}
-use Rattle.shelf.specs.Views.{swept_of}
 use Rattle.shelf_history.specs.Histories.{Entry}
 use Rattle.shelf_history.specs.Laws.{take_of}
 use Rattle.shelf_history.specs.Passes.{Goes, publish_of}

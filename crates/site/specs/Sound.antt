@@ -7,7 +7,6 @@ use mathlib.Core.List.{IsPrefix}
 use Rattle.page_names.specs.Views.{target_of}
 use Rattle.web_disk.specs.View.{View, LeavesOnly}
 use Rattle.journal_books.specs.Standing.{MakesIn, if_kept, Stands}
-use Rattle.replay_spec.specs.Book.{Book}
 use Rattle.replay_spec.specs.Admission.{refusal_of, admit}
 use Rattle.instance_book.specs.declared.ticket.Ticket.{Ticket}
 use Rattle.instance_book.specs.Views.{ticket_of}

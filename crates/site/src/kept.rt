@@ -2,13 +2,13 @@
 use crate::entry::{Did, KeptEntry};
 use crate::opening::Opening;
 use instance_book::Ticket;
+use journal_books::images_make_books;
 use page_names::Target;
 use past::History;
 use script_nodes::Setup;
 use script_value::{Reply, Value};
 use send_suspend::Segment;
 use shelf::{Shelf, tickets_go_on_to_fit};
-use journal_books::images_make_books;
 use shelf_lock::Kept;
 use std::alloc::Global;
 use std::snapshot::Snapshot;

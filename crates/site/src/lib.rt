@@ -5,10 +5,12 @@ mod entry;
 mod kept;
 mod opening;
 mod pass;
+mod running;
 mod site;
 
 pub use entry::{Did, KeptEntry};
 pub use kept::KeptShelf;
 pub use opening::Opening;
 pub use pass::{SiteNote, SitePass};
+pub use running::Running;
 pub use site::Site;

@@ -1,6 +1,6 @@
 //! The shelves of a site.
 use crate::kept::KeptShelf;
-use crate::pass::SitePass;
+use crate::pass::{SiteNote, SitePass};
 use instance_book::Ticket;
 use lock_row::LockRow;
 use page_names::Target;
@@ -24,11 +24,16 @@ pub struct Site<D: Disk, N: Nonces + Drop> {
 }
 
 impl<D: Disk, N: Nonces + Drop> Site<D, N> {
-    ghost use Rattle.std.specs.Prelude.{◌≡◌, ◌<◌, ◌^◌, length, Some, IfOk, OnErr};
+    ghost use Rattle.std.specs.Prelude.{◌≡◌, ◌<◌, ◌^◌, length, Some, IfOk, OnErr, ℕ, slice_get, List};
+    ghost use Rattle.std.specs.List.{AllZip};
+    ghost use Rattle.shelf_history.specs.Passes.{IsSeenBy};
+    ghost use Rattle.site.specs.Entries.{entries_of};
+    ghost use Rattle.site.specs.Ends.{HearsOf, IsBack};
+    ghost use Rattle.lock_row.specs.Rows.{IsNoteOf, ZipsAll};
     ghost use Rattle.script_value.specs.Views.{meaning};
     ghost use Rattle.page_names.specs.Views.{target_of};
-    ghost use Rattle.lock_row.specs.Spots.{At};
-    ghost use Rattle.site.specs.Passes.{Took, Published, Swept};
+    ghost use Rattle.lock_row.specs.Spots.{At, IsNoteIn};
+    ghost use Rattle.site.specs.Passes.{Took, Published, Swept, seen_by};
     ghost use Rattle.site.specs.Sites.{IsOwn, HoldsThere, HoldsAt, IsRunThere, IsRunAt, shelf_for, TakesAt, PublishesAt, VisitsAt, Ticks};
     ghost use Rattle.script_nodes.specs.Views.{scripts_of};
     ghost use Rattle.instance_book.specs.Fits.{IsForSome};
@@ -240,5 +245,49 @@ impl<D: Disk, N: Nonces + Drop> Site<D, N> {
             answers.push_reserved(self.sweep_at(rt, alloc, pass, shelf, tick));
         }
         Ok(answers)
+    }
+
+    /// A note of what the pass has seen. It makes no entry; want of memory changes nothing.
+    pub fn tell(
+        &self,
+        alloc: Global,
+        pass: &mut SitePass<D, N>,
+    ) -> Result<SiteNote<D, N>, AllocError>
+        requires own { IsOwn self.now pass.old }
+        ensures same { pass.new ≡ pass.old }
+        ensures own { IfOk result (λ n. IsNoteIn self.now.row n) }
+        ensures note { IfOk result (λ n. (k : ℕ) (m : _) → slice_get n k ≡ Some m
+            → (a : _) × (slice_get pass.old k ≡ Some a) × IsNoteOf a m) }
+    {
+        self.row.tell(alloc, pass)
+    }
+
+    /// Hears a note: of each shelf the pass has then seen what the note's maker had, if that is longer. Both are of one
+    /// history, and the pass makes no entry.
+    pub fn hear(&self, pass: &mut SitePass<D, N>, note: SiteNote<D, N>)
+        requires own { IsOwn self.now pass.old }
+        requires note { IsNoteIn self.now.row note }
+        ensures own { IsOwn self.now pass.new }
+        ensures heard { ZipsAll HearsOf pass.old note pass.new }
+    {
+        self.row.hear(pass, note);
+    }
+
+    /// Waits for each shelf, and gives them all back, in their order. It takes no memory. Each has a legal history, of which
+    /// each pass has seen a beginning with all entries of its caller, and no others than these callers have any.
+    pub fn close<R: Wait>(self, rt: &R, passes: Vec<SitePass<D, N>>) -> Vec<KeptShelf<D, N>>
+        requires some { 0 < length passes.items }
+        requires own { (j : ℕ) (p : _) → slice_get passes.items j ≡ Some p → IsOwn self p }
+        ensures back { AllZip (λ h x. IsBack D.view D.tells N.nonce h.opening self.row.seats x) self.row.homes result.items }
+        ensures told { (k : ℕ) (x : _) → slice_get result.items k ≡ Some x
+            → (j : ℕ) (p : _) → slice_get passes.items j ≡ Some p
+            → (a : _) → slice_get p k ≡ Some a → IsSeenBy a.known.caller (seen_by a.known) (entries_of x.history) }
+    {
+        let Site {
+            setup: _,
+            fuel: _,
+            row,
+        } = self;
+        row.close(rt, passes)
     }
 }

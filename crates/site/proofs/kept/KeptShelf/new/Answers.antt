@@ -1,8 +1,7 @@
-use Rattle.std.proofs.Common.{rules, arith, ◌≡◌, ◌<◌, ◌^◌, ℕ, List, [], sym, subst, ap}
+use Rattle.std.proofs.Common.{rules, ◌≡◌, ◌<◌, ◌^◌, ℕ, List, [], sym, subst}
 use Rattle.script_nodes.specs.Views.{scripts_of}
 use Rattle.replay_spec.specs.Book.{reopened}
 use Rattle.shelf.specs.Views.{IsInOrder, book_in}
-use Rattle.shelf_history.specs.Histories.{Entry}
 use Rattle.site.specs.declared.opening.Opening.{Opening}
 use Rattle.site.specs.Openings.{count_of}
 use Rattle.site.specs.Entries.{entries_of}

@@ -1,4 +1,4 @@
-use Rattle.std.proofs.Common.{◌≡◌, ◌≤◌, ◌∷◌, ◌++◌, [], List, IsTrue, Contains, refl, sym, subst, ap, ◌∙◌}
+use Rattle.std.proofs.Common.{◌≡◌, ◌∷◌, ◌++◌, [], List, IsTrue, Contains, refl, sym, subst, ap, ◌∙◌}
 use Rattle.script_nodes.specs.Views.{scripts_of}
 use Rattle.page_names.specs.Views.{target_of}
 use Rattle.replay_spec.specs.Admission.{admit}

@@ -1,18 +1,12 @@
-use Rattle.std.proofs.Common.{rules, arith, ◌≡◌, ◌<◌, ◌^◌, inl, inr, ℕ, List, [], ◌∷◌, Some, slice_get, refl, sym, ◌∙◌, subst, ap, length}
-use Rattle.std.specs.Prelude.{Ok, Err, IfOk}
-use Rattle.script_value.specs.declared.outcome.Reply.TheVariants.{Worn}
-use Rattle.script_value.specs.Views.{meaning}
-use Rattle.page_names.specs.Views.{target_of}
+use Rattle.std.proofs.Common.{rules, arith, ◌≡◌, ◌<◌, ◌^◌, inr, ℕ, refl, sym, ◌∙◌, subst, ap, length}
 use Rattle.replay_spec.specs.Step as step
 use Rattle.instance_book.specs.Views.{ticket_of, reply_of}
-use Rattle.shelf.specs.Views.{taken_of, swept_of, IsRunIfAny}
+use Rattle.shelf.specs.Views.{IsRunIfAny}
 use Rattle.script_nodes.specs.Views.{scripts_of}
-use Rattle.shelf_lock.specs.Turns.{Turned, FoundWorn}
-use Rattle.site.specs.Entries.{entries_of, Comes, Sweeps}
-use Rattle.site.specs.Openings.{book_then, scripts_in}
-use Rattle.site.specs.Sound.{IsSound, Holds, Gives}
+use Rattle.site.specs.Entries.{entries_of, Comes}
+use Rattle.site.specs.Sound.{IsSound, Holds}
 use Rattle.site.proofs.Holding.{holds_on}
-use Rattle.site.proofs.Turns.{Turn, took, published, swept, goes_none, adds_one, adds_swept, match_ok, match_err, seen_so, from_did}
+use Rattle.site.proofs.Turns.{Turn, published, goes_none, adds_one, match_ok, match_err, seen_so, from_did}
 use Rattle.site.proofs.Seats.{setup_at, own_on, same_opening}
 use Rattle.site.proofs.site.Site.publish_at.Goals as goal
 
@@ -49,8 +43,7 @@ turn-told-requires-clause-keeps g c = λ a at x told y reached did.
     let sound : IsSound {D = g.row.D.Denot} {N = g.row.N.Denot} view tells coming did.left.now.opened did.left.now.shelf (entries_of did.left.now.history) = search rules in
     let opened : did.left.now.opened ≡ did.shown.now.opened = search rules in
     let comes-there : Comes by (step.publish (ticket_of c.args.ticket)) (reply_of told) did.shown.now.history did.left.now.history = search rules in
-    let comes : Comes by (step.publish (ticket_of c.args.ticket)) (reply_of told) x.history y.history = subst (λ (z : _). Comes by (step.publish (ticket_of c.args.ticket)) (reply_of told) z.history y.history) did.shows (subst (λ (z : _). Comes by (step.publish (ticket_of c.args.ticket)) (reply_of told) did.shown.now.history z.history) did.leaves comes-there) in
-    (
+    let comes : Comes by (step.publish (ticket_of c.args.ticket)) (reply_of told) x.history y.history = subst (λ (z : _). Comes by (step.publish (ticket_of c.args.ticket)) (reply_of told) z.history y.history) did.shows (subst (λ (z : _). Comes by (step.publish (ticket_of c.args.ticket)) (reply_of told) did.shown.now.history z.history) did.leaves comes-there) in (
       subst (λ (z : _). IsSound {D = g.row.D.Denot} {N = g.row.N.Denot} view tells coming z.opened z.shelf (entries_of z.history)) did.leaves sound,
       sym (ap (λ z. z.opened) did.leaves) ∙ (opened ∙ ap (λ z. z.opened) did.shows),
       refl,

@@ -1,19 +1,9 @@
-use Rattle.std.proofs.Common.{rules, arith, ◌≡◌, ◌<◌, ◌^◌, inl, inr, ℕ, List, [], ◌∷◌, Some, slice_get, refl, sym, ◌∙◌, subst, ap, length}
-use Rattle.std.specs.Prelude.{Ok, Err, IfOk}
-use Rattle.script_value.specs.declared.outcome.Reply.TheVariants.{Worn}
-use Rattle.script_value.specs.Views.{meaning}
-use Rattle.page_names.specs.Views.{target_of}
-use Rattle.replay_spec.specs.Step as step
-use Rattle.instance_book.specs.Views.{ticket_of, reply_of}
-use Rattle.shelf.specs.Views.{taken_of, swept_of, IsRunIfAny}
-use Rattle.script_nodes.specs.Views.{scripts_of}
-use Rattle.shelf_lock.specs.Turns.{Turned, FoundWorn}
-use Rattle.site.specs.Entries.{entries_of, Comes, Sweeps}
-use Rattle.site.specs.Openings.{book_then, scripts_in}
-use Rattle.site.specs.Sound.{IsSound, Holds, Gives}
-use Rattle.site.proofs.Holding.{holds_on}
-use Rattle.site.proofs.Turns.{Turn, took, published, swept, goes_none, adds_one, adds_swept, match_ok, match_err, seen_so, from_did}
-use Rattle.site.proofs.Seats.{setup_at, own_on, same_opening}
+use Rattle.std.proofs.Common.{rules, arith, ◌≡◌, ◌<◌, ◌^◌, inr, refl, sym, ◌∙◌, subst, ap, length}
+use Rattle.site.specs.Entries.{entries_of, Sweeps}
+use Rattle.site.specs.Openings.{book_then}
+use Rattle.site.specs.Sound.{IsSound}
+use Rattle.site.proofs.Turns.{Turn, swept, goes_none, adds_swept, match_ok, match_err, from_did}
+use Rattle.site.proofs.Seats.{setup_at, own_on}
 use Rattle.site.proofs.site.Site.sweep_at.Goals as goal
 
 pub turn-told-requires-clause-callable : goal.turn-told-requires-clause-callable
@@ -40,8 +30,7 @@ turn-told-requires-clause-keeps g c = λ a at x told y reached did.
     let sound : IsSound {D = g.row.D.Denot} {N = g.row.N.Denot} view tells coming did.left.now.opened did.left.now.shelf (entries_of did.left.now.history) = search rules in
     let opened : did.left.now.opened ≡ did.shown.now.opened = search rules in
     let sweeps-there : Sweeps by c.args.tick told (book_then {D = g.row.D.Denot} {N = g.row.N.Denot} coming did.shown.now.opened (entries_of did.shown.now.history)).clock did.shown.now.history did.left.now.history = search rules in
-    let sweeps : Sweeps by c.args.tick told (book_then {D = g.row.D.Denot} {N = g.row.N.Denot} coming x.opened (entries_of x.history)).clock x.history y.history = subst (λ (z : _). Sweeps by c.args.tick told (book_then {D = g.row.D.Denot} {N = g.row.N.Denot} coming z.opened (entries_of z.history)).clock z.history y.history) did.shows (subst (λ (z : _). Sweeps by c.args.tick told (book_then {D = g.row.D.Denot} {N = g.row.N.Denot} coming did.shown.now.opened (entries_of did.shown.now.history)).clock did.shown.now.history z.history) did.leaves sweeps-there) in
-    (
+    let sweeps : Sweeps by c.args.tick told (book_then {D = g.row.D.Denot} {N = g.row.N.Denot} coming x.opened (entries_of x.history)).clock x.history y.history = subst (λ (z : _). Sweeps by c.args.tick told (book_then {D = g.row.D.Denot} {N = g.row.N.Denot} coming z.opened (entries_of z.history)).clock z.history y.history) did.shows (subst (λ (z : _). Sweeps by c.args.tick told (book_then {D = g.row.D.Denot} {N = g.row.N.Denot} coming did.shown.now.opened (entries_of did.shown.now.history)).clock did.shown.now.history z.history) did.leaves sweeps-there) in (
       subst (λ (z : _). IsSound {D = g.row.D.Denot} {N = g.row.N.Denot} view tells coming z.opened z.shelf (entries_of z.history)) did.leaves sound,
       sym (ap (λ z. z.opened) did.leaves) ∙ (opened ∙ ap (λ z. z.opened) did.shows),
       refl,

@@ -7,7 +7,15 @@ use Rattle.site.proofs.Ticks.{ticks_first, ticks_on}
 use Rattle.site.proofs.site.Site.tick.Goals as goal
 
 pub loop-shelf-init : goal.loop-shelf-init
-loop-shelf-init g c = (c.requires.own, ?, search (rules, arith), search (rules, arith), search (rules, arith))
+loop-shelf-init g c = (
+  c.requires.own,
+  (let none : c.in_ok-answers.answers.items ≡ [] = search rules in
+      subst (λ l. TicksSoFar {D = g.row.D.Denot} {N = g.row.N.Denot} g.D.Disk.view g.D.Disk.tells g.N.Nonces.nonce c.args.pass.now c.args.tick l c.args.pass.now) (sym none)
+      (ticks_first {D = g.row.D.Denot} {N = g.row.N.Denot} g.D.Disk.view g.D.Disk.tells g.N.Nonces.nonce c.args.pass.now c.args.tick)),
+  search (rules, arith),
+  search (rules, arith),
+  search (rules, arith),
+)
 
 pub loop-shelf-preserved : goal.loop-shelf-preserved
 loop-shelf-preserved g c =

@@ -1,1 +1,0 @@
-//! Values are put behind locks.
