@@ -1,0 +1,83 @@
+#!/bin/sh
+# Times the journal on this folder's disk, or in the folder that the first word names. First how many visits a second are
+# published, by `play --journal` over 5,000 steps that each leave a record, beside a bare loop of write, sync, write, sync of
+# as many bytes a round (sync_loop.c, by `cc -O2`); the better of three runs of each, in turn. Then how long `serve` takes
+# from its start until it listens, over journals of 10,000 and of 20,000 records, and how many bytes a record has. No part
+# of the gate. Needs cc, and a date that knows %N.
+
+here=$(CDPATH='' cd -- "$(dirname -- "$0")/.." && pwd) || exit 1
+program=$here/crates/script_server/out/script_server
+work=$(mktemp -d "${1:-$here}/hovgyelit-journal.XXXXXX") || exit 1
+server=
+trap '[ -z "$server" ] || kill "$server" 2>/dev/null; rm -rf "$work"' EXIT
+trap 'exit 1' HUP INT TERM
+
+fail() {
+    echo "$1" >&2
+    exit 1
+}
+
+milliseconds() {
+    echo $(($(date +%s%N) / 1000000))
+}
+
+# A setup of the example `sum`, and steps that each leave a record: of every three one starts an instance, one answers its
+# page, and one answers the page after that, which ends. Instances expire every thousand steps, so that none is refused.
+steps() {
+    printf 'script sum %d\n' "$(wc -c <"$here/examples/sum.scm")"
+    cat "$here/examples/sum.scm"
+    printf '\nsteps\n'
+    awk -v steps="$1" '
+        function page(i, k, query) { return sprintf("/servlets/sum;0*%d*%d*%016x%s", i, k, k, query) }
+        BEGIN {
+            for (j = 0; j < steps; j++) {
+                first = j - j % 3
+                target = "/servlets/sum"
+                if (j % 3 == 1) target = page(first, first, "?n=3")
+                if (j % 3 == 2) target = page(first, first + 1, "?n=4")
+                printf "get %d %s\n", j % 16, target
+                if (j % 9000 == 8999) printf "tick %d\n", j
+            }
+        }'
+}
+
+played() {
+    rm -rf "$work/journal"
+    before=$(milliseconds)
+    "$program" play --instances 4096 --life 1 --journal "$work/journal" <"$work/steps" >"$work/replies" || fail "play ended badly"
+    took=$(($(milliseconds) - before))
+    grep -q -v '^[0-9]* 200\|^<\|^$\|^shelf' "$work/replies" && fail "a visit was refused: $(grep -m 1 -v '^[0-9]* 200\|^<\|^$\|^shelf' "$work/replies")"
+    echo $((5000 * 1000 / (took + 1)))
+}
+
+better() {
+    [ "$1" -gt "$2" ] && echo "$1" || echo "$2"
+}
+
+"$here/hovgyelit" check -- "$here/examples/sum.scm" >/dev/null || exit 1
+cc -O2 -o "$work/loop" "$here/bench/sync_loop.c" || exit 1
+steps 5000 >"$work/steps"
+ours=0 bare=0
+for turn in 1 2 3; do
+    ours=$(better "$(played)" "$ours")
+    bytes=$((($(wc -c <"$work/journal/shelf-0") + 2500) / 5000))
+    bare=$(better "$("$work/loop" "$work/file" 5000 "$bytes")" "$bare")
+done
+echo "published a second: $ours; rounds of a bare loop: $bare ($((ours * 100 / bare)) percent); bytes a record: $bytes"
+
+for count in 10000 20000; do
+    steps "$count" >"$work/steps"
+    played >/dev/null
+    sed '/^steps$/,$d' "$work/steps" >"$work/setup"
+    before=$(milliseconds)
+    "$program" serve --port 0 --instances 4096 --life 1 --journal "$work/journal" <"$work/setup" >/dev/null 2>"$work/told" &
+    server=$!
+    until grep -q listening "$work/told" 2>/dev/null; do
+        kill -0 "$server" 2>/dev/null || fail "it does not listen: $(cat "$work/told")"
+        sleep 0.01
+    done
+    echo "opened $count records in $(($(milliseconds) - before)) ms ($(wc -c <"$work/journal/shelf-0") bytes)"
+    kill "$server"
+    wait "$server" 2>/dev/null
+    server=
+done
