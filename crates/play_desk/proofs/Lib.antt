@@ -13,3 +13,4 @@ pub mod Losing
 pub mod Reopening
 pub mod Removing
 pub mod Outage
+pub mod Closing
