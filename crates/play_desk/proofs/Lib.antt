@@ -13,3 +13,5 @@ pub mod Losing
 pub mod Reopening
 pub mod Removing
 pub mod Outage
+pub mod Closing
+pub mod Beginning

@@ -173,6 +173,7 @@ fn taken_empty<D: Disk, R: Rack<D>>(
     ensures rack { OpensOne number result (R.view rack.old) (R.view rack.new) }
     ensures disk { IsErrOf result OpenCause.Disk → Rose (R.view rack.old).faults (R.view rack.new).faults }
     ensures later { CountStays (R.view rack.old).faults 0 (R.view rack.new).faults (disk_faults D.view result) }
+    ensures rack_later { OnOk result ((R.view rack.old).faults ≤ (R.view rack.new).faults) }
 {
     let mut disk = match taken(alloc, directory, rack, number) {
         Ok(disk) => disk,
@@ -210,6 +211,7 @@ pub fn opened<D: Disk, R: Rack<D>>(
     ensures rack { OpensOne rules.number result (R.view rack.old) (R.view rack.new) }
     ensures disk { IsErrOf result OpenCause.Disk → Rose (R.view rack.old).faults (R.view rack.new).faults }
     ensures later { CountStays (R.view rack.old).faults 0 (R.view rack.new).faults (faults_left D.view result) }
+    ensures rack_later { OnOk result ((R.view rack.old).faults ≤ (R.view rack.new).faults) }
 {
     let disk = taken_empty(alloc, directory, rack, rules.number)?;
     match begun(alloc, setup, rack, disk, Counting::new(), rules) {

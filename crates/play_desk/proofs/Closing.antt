@@ -1,0 +1,106 @@
+-- What is left where the last of the shelves goes home.
+use Rattle.std.proofs.Common.{◌≡◌, ◌≢◌, ◌∙◌, ap, sym, subst, refl, ℕ, ◌≤◌, zero, suc, Bool, List, [], ◌∷◌, ◌++◌, length, map, slice_get, Option, Some, None, arith, append_assoc}
+use Rattle.std.specs.Prelude.{IsTrue}
+use Rattle.std.proofs.lemmas.List.{map-append}
+use mathlib.Core.Logic.{dite}
+use mathlib.Core.List.{IsPrefix}
+use native.Mathlib.Decide.{ℕ_discrete}
+use Rattle.web_outside.specs.declared.nonces.Counting.{Counting}
+use Rattle.web_disk.specs.View.{View, RackView, AreAmong}
+use Rattle.script_nodes.specs.Setup.{Named}
+use Rattle.replay_spec.specs.Runs as runs
+use Rattle.journal_books.specs.Standing.{Between, HoldIn, Stands, if_kept}
+use Rattle.instance_book.specs.declared.ticket.Ticket.{Ticket}
+use Rattle.shelf.specs.Views.{book_in}
+use Rattle.shelf.specs.declared.shelf.Shelf.{Shelf}
+use Rattle.play_desk.specs.Opening.{CountStays, GivesOne, HoldImages, HoldTheBooks}
+use Rattle.play_desk.specs.Staff.{AreFit, HaveOwnNumbers, IsHome, desk_with, faults_in, numbers_in, shelf_at, total}
+use Rattle.play_desk.proofs.Places.{same_Some}
+use Rattle.play_desk.proofs.Fitting.{number_at}
+use Rattle.play_desk.proofs.Outage.{home_out, stays_out}
+use Rattle.play_desk.proofs.Removing.{out_of}
+
+-- what stands last, and the others
+pub at_last : {A : Type 0} (xs : List A) (x : A) → slice_get (xs ++ x ∷ []) (length xs) ≡ Some x
+at_last [] x = refl
+at_last (y ∷ xs) x = at_last xs x
+
+out_last : {A : Type 0} (xs : List A) (x : A) → out_of (xs ++ x ∷ []) (length xs) ≡ xs
+out_last [] x = refl
+out_last (y ∷ xs) x = ap (λ ys. y ∷ ys) (out_last xs x)
+
+-- what stands in a front of a list stands in the list
+pub in_front : {A : Type 0} (xs rest : List A) (k : ℕ) (x : A) → slice_get xs k ≡ Some x → slice_get (xs ++ rest) k ≡ Some x
+in_front [] rest k x e = absurd (let no : None ≡ Some x = e in cc)
+in_front (y ∷ xs) rest zero x e = e
+in_front (y ∷ xs) rest (suc k) x e = in_front xs rest k x e
+
+pub at_front : {A : Type 0} (xs all : List A) (x : A) → IsPrefix (xs ++ x ∷ []) all → slice_get all (length xs) ≡ Some x
+at_front xs all x p = subst (λ ys. slice_get ys (length xs) ≡ Some x) p.1 (in_front (xs ++ x ∷ []) p.0 (length xs) x (at_last xs x))
+
+pub front_less : {A : Type 0} (xs all : List A) (x : A) → IsPrefix (xs ++ x ∷ []) all → IsPrefix xs all
+front_less xs all x p = (x ∷ p.0, sym (append_assoc xs (x ∷ []) p.0) ∙ p.1)
+
+own_front : {D : Type 0} (xs all : List (Shelf D Counting)) → IsPrefix xs all → HaveOwnNumbers all → HaveOwnNumbers xs
+own_front {D = D} xs all p own j k n a b = own j k n (there j a) (there k b)
+  where
+    there : (i : ℕ) → slice_get (numbers_in xs) i ≡ Some n → slice_get (numbers_in all) i ≡ Some n
+    there i e =
+        subst (λ (ys : List (Shelf D Counting)). slice_get (numbers_in ys) i ≡ Some n) p.1
+        (subst (λ (ns : List ℕ). slice_get ns i ≡ Some n) (sym (map-append (λ s. s.rules.number) xs p.0)) (in_front (numbers_in xs) (numbers_in p.0) i n e))
+
+-- its disk went home, and those of the others are out
+pub home_last : {D : Type 0} (xs all : List (Shelf D Counting)) (x : Shelf D Counting) (old new : RackView) → IsPrefix (xs ++ x ∷ []) all
+    → HaveOwnNumbers all → IsHome (xs ++ x ∷ []) old.out → GivesOne x.rules.number old new → IsHome xs new.out
+home_last {D = D} xs all x old new p own home given =
+    subst (λ (ys : List (Shelf D Counting)). IsHome ys new.out) (out_last xs x)
+    (home_out (xs ++ x ∷ []) (length xs) x old new (at_last xs x) (own_front (xs ++ x ∷ []) all p own) home given)
+
+-- the counts of the others stand beside it
+pub stays_last : {D : Type 0} (view : D → View) (xs : List (Shelf D Counting)) (x : Shelf D Counting) (rack now : ℕ)
+    → CountStays rack (view x.journal.disk).faults now 0 → total rack (faults_in view (xs ++ x ∷ [])) ≤ total now (faults_in view xs)
+stays_last {D = D} view xs x rack now stays =
+    subst (λ (ys : List (Shelf D Counting)). total rack (faults_in view (xs ++ x ∷ [])) ≤ total now (faults_in view ys)) (out_last xs x)
+    (stays_out view (xs ++ x ∷ []) (length xs) x rack now (at_last xs x) stays)
+
+-- its disk and those that went home before hold what they held
+pub images_last : {D : Type 0} (view : D → View) (xs all : List (Shelf D Counting)) (x : Shelf D Counting) (old new : RackView)
+    → IsPrefix (xs ++ x ∷ []) all → HaveOwnNumbers all → GivesOne x.rules.number old new
+    → AreAmong (new.holds x.rules.number) (view x.journal.disk).images
+    → ((k : ℕ) (s : Shelf D Counting) → suc (length xs) ≤ k → slice_get all k ≡ Some s → AreAmong (old.holds s.rules.number) (view s.journal.disk).images)
+    → (k : ℕ) (s : Shelf D Counting) → length xs ≤ k → slice_get all k ≡ Some s → AreAmong (new.holds s.rules.number) (view s.journal.disk).images
+images_last {D = D} view xs all x old new p own given held others k s le e =
+    let here = at_front xs all x p in
+    dite (ℕ_discrete k (length xs))
+    (λ same. subst (λ (z : Shelf D Counting). AreAmong (new.holds z.rules.number) (view z.journal.disk).images)
+        (same_Some x s (sym here ∙ ap (slice_get all) (sym same) ∙ e)) held)
+    (λ other.
+        let apart : s.rules.number ≢ x.rules.number = λ is.
+        other (own k (length xs) x.rules.number (number_at all k s e ∙ ap Some is) (number_at all (length xs) x here)) in
+        λ image h. others k s (omega arith) e image (given.others s.rules.number apart image h))
+
+-- ---- books
+
+-- what was mapped to what stands in a place
+from_mapped : {A B : Type 0} (f : A → B) (xs : List A) (k : ℕ) (y : B) → slice_get (map f xs) k ≡ Some y
+    → (x : A) × (slice_get xs k ≡ Some x) × (f x ≡ y)
+from_mapped f [] k y e = absurd (let no : None ≡ Some y = e in cc)
+from_mapped f (x ∷ xs) zero y e = (x, refl, same_Some (f x) y e)
+from_mapped f (x ∷ xs) (suc k) y e = from_mapped f xs k y e
+
+stands_at : (scripts : List Named) (view : View) (number : ℕ) (s : runs.Shelf) (holds : ℕ → List ℕ → Type 0) → s.book.shelf ≡ number
+    → Stands scripts number view s.book → AreAmong (holds number) view.images
+    → (b : Between scripts s.book.shelf s.book (if_kept scripts s.book.shelf s.book)) × HoldIn b (holds s.book.shelf)
+stands_at scripts view number s holds is stands among =
+    subst (λ n. (b : Between scripts n s.book (if_kept scripts n s.book)) × HoldIn b (holds n)) (sym is)
+    (stands.0, λ image h. stands.1 image (among image h))
+
+-- the disks of shelves that are fit stand for their books
+pub books_stand : {D : Type 0} (view : D → View) (tells : Bool) (scripts : List Named) (xs : List (Shelf D Counting)) (ts : List (Option Ticket))
+    (holds : ℕ → List ℕ → Type 0) → IsTrue tells → AreFit view tells scripts xs ts → HoldImages view xs holds
+    → HoldTheBooks (desk_with scripts xs ts) holds
+books_stand view tells scripts xs ts holds told fit images k s e =
+    let x = from_mapped (shelf_at scripts) xs k s e in
+    let order = (fit.served k x.0 x.1).in_order in
+    subst (λ (z : runs.Shelf). (b : Between scripts z.book.shelf z.book (if_kept scripts z.book.shelf z.book)) × HoldIn b (holds z.book.shelf)) x.2
+    (stands_at scripts (view x.0.journal.disk) x.0.rules.number (shelf_at scripts x.0) holds order.number (order.fit told).stands (images k x.0 x.1))
