@@ -68,104 +68,78 @@ class Server:
 
 
 class Known:
-    """What the replies told so far."""
+    """What the replies told so far: of each page its URL, the heading that it shows and, inside the payment's transaction,
+    the family of the pages inside the same one."""
 
     def __init__(self):
-        # Of each page its URL; what it is known to answer at least; of pages that are closed or revoked their word.
         self.pages = {}
         self.nonces = {}
-        self.dead = {}
-        self.maybe_dead = set()
+        self.family = {}
+        # Families that are closed, and those whose closing may have happened though its reply was lost.
+        self.closed = set()
+        self.doubted = set()
 
-    def note(self, body):
-        """The page that a reply shows, if it shows one that waits."""
+    def note(self, body, answered=None):
+        """The page that a reply shows, if it shows one that waits: an answer to this page, or a start."""
+        heading = re.search(rb"<h1>([^<]*)</h1>", body)
         found = URL.search(body)
+        if heading and heading.group(1) == b"Paid":
+            self.closed.add(self.family[answered])
         if not found:
             return None
         url = found.group(0)
         key = found.group(2, 4)
         if self.nonces.setdefault(key, url) != url:
             fail("%r was told as %r before" % (url, self.nonces[key]))
-        self.pages[url] = found.group(1)
+        self.pages[url] = (found.group(1), heading.group(1) if heading else b"")
+        if heading and heading.group(1) == b"Card":
+            self.family[url] = url
+        if heading and heading.group(1) == b"Pay":
+            self.family[url] = self.family[answered]
         return url
 
 
-def answer_of(script):
-    return {b"sum": b"?n=%d" % CHANCE.randrange(100), b"quiz": b"?count=3&word=x", b"pay": b"?card=1",
-            b"shop": b"?name=x", b"booking": b"?who=x", b"hotel": b"?room=1&name=x"}[script]
+ANSWERS = {b"sum": b"?n=7", b"quiz": b"?count=3&word=x", b"pay": b"?card=1"}
+
+
+def answer(server, known, url):
+    """An answer to this page, whose reply has to be such as was told before."""
+    script, heading = known.pages[url]
+    family = known.family.get(url)
+    closed = family in known.closed
+    doubted = family in known.doubted
+    if heading == b"Pay":
+        known.doubted.add(family)
+    status, body = server.ask(url + ANSWERS[script])
+    if closed and (status, body) != (410, b"closed\n"):
+        fail("%r was closed and answers %d %r" % (url, status, body[:40]))
+    if status == 200:
+        known.note(body, url)
+    elif status not in (410, 503):
+        fail("%r was shown and answers %d %r" % (url, status, body[:40]))
+    elif status == 410 and not closed and not doubted:
+        fail("%r was shown and answers %d %r" % (url, status, body[:40]))
 
 
 def visit(server, known):
     """One random visit, whose reply is noted."""
-    walk = CHANCE.random()
-    if walk < 0.25 or not known.pages:
-        script = CHANCE.choice([b"sum", b"quiz"])
-        status, body = server.ask(b"/servlets/" + script)
+    if CHANCE.random() < 0.3 or not known.pages:
+        status, body = server.ask(b"/servlets/" + CHANCE.choice([b"sum", b"quiz", b"pay", b"pay"]))
         if status == 200:
             known.note(body)
         return
-    if walk < 0.45:
-        pay_once(server, known)
-        return
-    url = CHANCE.choice(list(known.pages)[-400:])
-    status, body = server.ask(url + answer_of(known.pages[url]))
-    if url in known.dead:
-        if status != 410 or known.dead[url] not in body:
-            fail("%r was %r and answers %d %r" % (url, known.dead[url], status, body[:40]))
-        return
-    if status == 200:
-        known.note(body)
-    elif status not in (503, 500) and url not in known.maybe_dead:
-        fail("%r answers %d %r" % (url, status, body[:40]))
-
-
-def pay_once(server, known):
-    """A payment to its end. Behind its last page the two pages inside the transaction are closed for good. While the reply
-    that closes is on its way they may be either."""
-    status, body = server.ask(b"/servlets/pay")
-    if status != 200:
-        return
-    cart = known.note(body)
-    status, body = server.ask(cart)
-    if status != 200:
-        return
-    card = known.note(body)
-    status, body = server.ask(card + b"?card=1")
-    if status != 200:
-        return
-    pay = known.note(body)
-    known.maybe_dead.update((card, pay))
-    status, body = server.ask(pay)
-    if status != 200:
-        return
-    known.note(body)
-    for url in (card, pay):
-        known.dead[url] = b"closed"
-
-
-def look(server, known, urls):
-    """Each of these pages answers as what was told says."""
-    for url in urls:
-        status, body = server.ask(url + answer_of(known.pages[url]))
-        if url in known.dead:
-            if status != 410 or known.dead[url] not in body:
-                fail("%r was %r and answers %d %r" % (url, known.dead[url], status, body[:40]))
-        elif status == 200:
-            known.note(body)
-        elif not (status == 410 and url in known.maybe_dead) and status != 503:
-            fail("%r was shown and answers %d %r" % (url, status, body[:40]))
+    answer(server, known, CHANCE.choice(list(known.pages)[-60:]))
 
 
 def main():
-    known, told, served = Known(), 0, 0
+    known, served = Known(), 0
     for life in range(TIMES + 1):
         server = Server()
-        recent = list(known.pages)[-40:]
-        some = CHANCE.sample(list(known.pages), min(60, len(known.pages)))
-        look(server, known, recent + some)
+        for url in list(known.pages)[-30:] + CHANCE.sample(list(known.pages), min(30, len(known.pages))):
+            answer(server, known, url)
         if life == TIMES:
             break
-        killer = threading.Timer(0.05 + CHANCE.random() * 0.4, server.kill)
+        killer = threading.Timer(0.02 + CHANCE.random() * 0.3, server.kill)
         killer.start()
         try:
             while True:
@@ -176,11 +150,12 @@ def main():
         killer.join()
         if life % 20 == 19:
             print("killed %d times: %d visits, %d pages told" % (life + 1, served, len(known.pages)), flush=True)
-    look(server, known, list(known.pages))
+    for url in list(known.pages):
+        answer(server, known, url)
     server.kill()
     size = sum(os.path.getsize(os.path.join(FOLDER, "journal", f)) for f in os.listdir(FOLDER + "/journal"))
-    print("%d visits, %d pages told, %d closed: all as they were told; %d bytes of journal"
-          % (served, len(known.pages), len(known.dead), size))
+    print("%d visits, %d pages told, %d transactions closed: all as they were told; %d bytes of journal"
+          % (served, len(known.pages), len(known.closed), size))
 
 
 main()

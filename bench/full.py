@@ -48,7 +48,7 @@ while True:
     if status != 200:
         break
     pages.append(URL.search(body).group(0))
-    status, body = ask(port, pages[-1] + b"?n=" + b"7" * 2000)
+    status, body = ask(port, pages[-1] + b"?n=7&more=" + b"7" * 2000)
     if status != 200:
         break
     pages.append(URL.search(body).group(0))
