@@ -1,13 +1,11 @@
 -- What stands there while empty shelves are opened, one behind the other.
-use Rattle.std.proofs.Common.{◌≡◌, ◌≢◌, ◌∙◌, ⊎_elim, ap, sym, subst, refl, ℕ, ◌+◌, ◌-◌, ◌^◌, ◌<◌, ◌≤◌, zero, suc, Bool, true, false, List, [], ◌∷◌, ◌++◌, length, length-append, map, replicate, slice_get, Option, Some, None, Ok, arith}
+use Rattle.std.proofs.Common.{◌≡◌, ◌≢◌, ◌∙◌, ⊎_elim, ap, sym, subst, refl, ℕ, ◌+◌, ◌^◌, ◌<◌, ◌≤◌, zero, suc, Bool, true, false, List, [], ◌∷◌, ◌++◌, length, length-append, map, replicate, slice_get, Option, Some, None, arith}
 use Rattle.std.specs.Prelude.{IsTrue}
-use Rattle.std.proofs.lemmas.Bool.{cases_eq}
 use Rattle.std.proofs.lemmas.List.{length-map, map-append}
 use Rattle.std.proofs.lemmas.List.Sums.{sum_by-append, sum_by-cons}
 use Rattle.std.proofs.lemmas.Option.{slice_get_within}
 use mathlib.Core.Logic.{dite}
 use native.Mathlib.Decide.{ℕ_discrete}
-use Rattle.web_outside.specs.Causes.{Rose}
 use Rattle.web_outside.specs.declared.nonces.Counting.{Counting}
 use Rattle.web_disk.specs.View.{View, RackView, AreAmong}
 use Rattle.script_nodes.specs.Setup.{Named}
@@ -92,24 +90,24 @@ module _ {D : Type 0} (view : D → View) (rack_tells tells : Bool) (scripts : L
   -- why the next was not opened
   pub closed_by : (limit : ℕ) (why : OpenCause) → AreOpened view rack_tells tells scripts rules first count xs now → count < limit
       → IsTrue rack_tells → IsTrue tells → IsRefusedBy (now.holds count) why → IsClosedBy first.holds limit count why
-  closed_by limit cause.NotEmpty o low rack_told told h = (low, record {
-    before = o.empty rack_told told;
-    image = h.0;
-    held = o.rest count (omega arith) h.0 h.1;
-    some = h.2;
-  })
+  closed_by limit cause.NotEmpty o low rack_told told h = (
+    low,
+    record {
+      before = o.empty rack_told told;
+      image = h.0;
+      held = o.rest count (omega arith) h.0 h.1;
+      some = h.2;
+    },
+  )
   closed_by limit (cause.Damaged place) o low rack_told told h = h
   closed_by limit (cause.Other place) o low rack_told told h = h
   closed_by limit cause.Disk o low rack_told told h = low
   closed_by limit cause.Memory o low rack_told told h = low
 
+  -- then the count did not fall
   pub later_closed : (mid new : ℕ) → AreOpened view rack_tells tells scripts rules first count xs now → CountStays now.faults 0 mid 0
       → total mid (faults_in view xs) ≤ new → first.faults ≤ new
   later_closed mid new o stays le = (let beside = stays (faults_in view xs) in omega (arith, o.later, beside, le))
-
-  pub rose_closed : (mid new : ℕ) → AreOpened view rack_tells tells scripts rules first count xs now → Rose now.faults mid
-      → total mid (faults_in view xs) ≤ new → Rose first.faults new
-  rose_closed mid new o rose le = omega (arith, o.later, rose, le)
 
   -- with the next there is one more
   pub opened_more : (ys : List (Shelf D Counting)) (next : RackView) → AreOpened view rack_tells tells scripts rules first count xs now

@@ -11,7 +11,6 @@ use Rattle.script_nodes.specs.Setup.{Named}
 use Rattle.replay_spec.specs.Runs as runs
 use Rattle.journal_books.specs.Standing.{Between, HoldIn, Stands, if_kept}
 use Rattle.instance_book.specs.declared.ticket.Ticket.{Ticket}
-use Rattle.shelf.specs.Views.{book_in}
 use Rattle.shelf.specs.declared.shelf.Shelf.{Shelf}
 use Rattle.play_desk.specs.Opening.{CountStays, GivesOne, HoldImages, HoldTheBooks}
 use Rattle.play_desk.specs.Staff.{AreFit, HaveOwnNumbers, IsHome, desk_with, faults_in, numbers_in, shelf_at, total}
@@ -73,11 +72,11 @@ images_last {D = D} view xs all x old new p own given held others k s le e =
     let here = at_front xs all x p in
     dite (ℕ_discrete k (length xs))
     (λ same. subst (λ (z : Shelf D Counting). AreAmong (new.holds z.rules.number) (view z.journal.disk).images)
-        (same_Some x s (sym here ∙ ap (slice_get all) (sym same) ∙ e)) held)
+    (same_Some x s (sym here ∙ ap (slice_get all) (sym same) ∙ e)) held)
     (λ other.
-        let apart : s.rules.number ≢ x.rules.number = λ is.
-        other (own k (length xs) x.rules.number (number_at all k s e ∙ ap Some is) (number_at all (length xs) x here)) in
-        λ image h. others k s (omega arith) e image (given.others s.rules.number apart image h))
+    let apart : s.rules.number ≢ x.rules.number = λ is.
+    other (own k (length xs) x.rules.number (number_at all k s e ∙ ap Some is) (number_at all (length xs) x here)) in
+    λ image h. others k s (omega arith) e image (given.others s.rules.number apart image h))
 
 -- ---- books
 

@@ -1,17 +1,15 @@
 -- How shelves are opened on the disks of a rack, and closed.
-use Rattle.std.specs.Prelude.{⊤, ◌≡◌, ◌≢◌, ◌⊎◌, ◌≤◌, ◌<◌, ◌+◌, ◌-◌, ◌^◌, ℕ, min, Bool, true, false, IsTrue, List, [], ◌∷◌, ◌++◌, length, slice_get, Some, Result, Ok, Err}
+use Rattle.std.specs.Prelude.{⊤, ◌≡◌, ◌≢◌, ◌⊎◌, ◌≤◌, ◌<◌, ◌+◌, ℕ, Bool, true, false, IsTrue, List, [], ◌∷◌, ◌++◌, slice_get, Some, Result, Ok, Err}
 use Rattle.web_outside.specs.Causes.{Rose}
 use Rattle.web_outside.specs.declared.nonces.Counting.{Counting}
 use Rattle.web_disk.specs.View.{View, RackView, AreAmong}
 use Rattle.script_nodes.specs.Setup.{Named}
 use Rattle.script_nodes.specs.declared.setup.Setup.{Setup}
-use Rattle.replay_spec.specs.Book.{Book}
 use Rattle.replay_spec.specs.Rules as runs
 use Rattle.replay_spec.specs.Rules.{empty_book}
 use Rattle.replay_spec.specs.Runs as runs_spec
 use Rattle.replay_spec.specs.Runs.{empty_shelf}
 use Rattle.replay_spec.specs.Step.{lost, kept}
-use Rattle.journal_records.specs.Records.{IsInGrammar, begin_of}
 use Rattle.journal_books.specs.Making.{damaged, other, book_in_bytes}
 use Rattle.journal_books.specs.Standing.{Between, HoldIn, IsOneOf, if_kept}
 use Rattle.shelf.specs.Views.{book_in, rules_of}

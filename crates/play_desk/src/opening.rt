@@ -7,9 +7,9 @@ ghost use Rattle.web_outside.specs.Causes.{Rose};
 ghost use Rattle.play_desk.specs.Opening.{BeginsEmpty, CountRose, CountStays, Finds, GivesOne, HasCrashed, IsOutside, OpensEmpty, OpensOne, TakesEmpty, TakesOrLeaves, cause_of, disk_faults, faults_left, reopen_of};
 ghost use Rattle.play_desk.specs.Staff.{IsServed};
 
+use journal_books::images_make_books;
 use play_steps::Reopen;
 use script_nodes::Setup;
-use journal_books::images_make_books;
 use shelf::{BeginFault, Rules, Shelf, a_reopened_shelf_has_crashed};
 use std::alloc::Global;
 use web_disk::{Disk, Rack, RackFault};

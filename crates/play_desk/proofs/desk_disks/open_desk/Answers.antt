@@ -1,4 +1,4 @@
-use Rattle.std.proofs.Common.{◌≡◌, ◌<◌, ◌≤◌, ◌∙◌, ap, sym, subst, ℕ, List, length, arith}
+use Rattle.std.proofs.Common.{◌≡◌, ◌≤◌, ◌∙◌, ap, sym, subst, List, arith}
 use Rattle.script_nodes.specs.Views.{scripts_of}
 use Rattle.journal_records.specs.Records.{IsInGrammar, begin_of}
 use Rattle.web_outside.specs.declared.nonces.Counting.{Counting}
@@ -6,7 +6,7 @@ use Rattle.shelf.specs.declared.rules.Rules.{Rules}
 use Rattle.shelf.specs.declared.shelf.Shelf.{Shelf}
 use Rattle.play_desk.specs.Desk.{first_desk}
 use Rattle.play_desk.specs.Opening.{GivesOne, IsRefusedBy, OpensNext, rules_at}
-use Rattle.play_desk.specs.Staff.{AreFit, HaveOwnNumbers, IsHome, desk_with, faults_in, total}
+use Rattle.play_desk.specs.Staff.{HaveOwnNumbers, IsHome, desk_with, faults_in, total}
 use Rattle.play_desk.proofs.Beginning.{closed_by, desk_opened, fit_opened, later_closed, next_home, opened_more, own_opened, still_home}
 use Rattle.play_desk.proofs.desk_disks.open_desk.Goals as goal
 
