@@ -188,7 +188,7 @@ next_fits x all scripts shelf place body m (Some (changes c)) e are h = by_test 
           range = λ bytes. redone_range (rules_over scripts shelf) c (taken_in m c) m.book (x.exact body (changes c) (are bytes) e).fits (h.range bytes).0 (h.range bytes).1;
           long = λ bytes fits.
               let is : length body ≡ length (body_by c) = ap length (x.exact body (changes c) (are bytes) e).spelled in
-              let size : record_length c ≡ length body = x.measured c (omega (arith, is, fits)) ∙ sym is in
+              let size : record_length c ≡ length body = x.measured c (x.exact body (changes c) (are bytes) e).fits (omega (arith, is, fits)) ∙ sym is in
               let before = h.long bytes (omega (arith, fits)) in
               let now : longer_by (rules_over scripts shelf).journal m.book c ≡ m.book.length + (record_length c + 5) = refl in
               omega (arith, rules.2, now, before, size);

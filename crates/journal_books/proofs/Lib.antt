@@ -3,6 +3,7 @@ pub mod Fitting
 pub mod Remade
 pub mod Kept
 pub mod Between
+pub mod Typed
 pub mod Spelled
 pub mod Ranges
 pub mod Readings

@@ -1,7 +1,7 @@
 -- What a publish records can be written.
 use Rattle.std.proofs.Common.{◌≡◌, ℕ, ◌+◌, ◌≤◌, ◌<◌, ◌^◌, List, [], ◌∷◌, ◌++◌, length, Bool, true, false, Option, Some, None, refl, sym, ap, subst, ◌∙◌, inl, inr, arith, length-append}
-use Rattle.std.specs.Prelude.{nat_lt, ⊤}
-use Rattle.std.specs.List.{flat_map, AllByRecursion}
+use Rattle.std.specs.Prelude.{nat_lt, if◌then◌else◌, ⊤}
+use Rattle.std.specs.List.{flat_map, list_all, AllByRecursion}
 use Rattle.std.proofs.lemmas.Bool.{cases_lt}
 use Rattle.std.proofs.lemmas.Bool.Decides.{nat_tests}
 use Rattle.script_value.specs.declared.outcome.TxName.{TxName}
@@ -12,7 +12,7 @@ use Rattle.value_bytes.specs.Spelling.{value_bytes, FitsList}
 use Rattle.replay_spec.specs.Tape.{present, How, shows, Outcome, paged, faulted}
 use Rattle.replay_spec.specs.Tape as tape
 use Rattle.replay_spec.specs.Eval.{Segment}
-use Rattle.replay_spec.specs.Book.{Ending, Finish, Change, opens, extends, ends, finishes, sweeps, Doubt, Book}
+use Rattle.replay_spec.specs.Book.{Extension, Ending, Finish, Change, opens, extends, ends, finishes, sweeps, Doubt, Book}
 use Rattle.replay_spec.specs.Rules.{Journal, Rules}
 use Rattle.replay_spec.specs.Admission.{when, or_else, Admission, begins, resumes, refused, admit}
 use Rattle.replay_spec.specs.Next.{Ticket, Origin, starts, answers, Visit, comes_to, start_visit, page_visit, url_for}
@@ -23,13 +23,14 @@ use Rattle.replay_spec.proofs.Stand.{among_of}
 use Rattle.replay_spec.proofs.Going.{Records}
 use Rattle.replay_spec.proofs.Orderly.{recorded_orderly}
 use Rattle.replay_spec.proofs.Again.{recorded_remade}
-use Rattle.journal_records.specs.Fields.{numbers_end, name_bytes, NameFits, effect_bytes, EffectFits, send_byte, origin_bytes}
-use Rattle.journal_records.specs.Records.{Page, changes, IsInGrammar, opening_page, extension_page, page_bytes, ending_bytes, finish_bytes, effects_bytes, names_bytes, record_length, journal_rules}
+use Rattle.journal_records.specs.Fields.{numbers_end, name_bytes, NameFits, effect_bytes, EffectFits, send_byte, origin_bytes, is_shallow, is_shallow_effect, IsTypedEffect}
+use Rattle.journal_records.specs.Records.{Page, changes, IsInGrammar, opening_page, extension_page, page_bytes, ending_bytes, finish_bytes, effects_bytes, names_bytes, are_shallow, body_length, record_length, PartsFit, journal_rules}
 use Rattle.journal_books.specs.Making.{has_script}
 use Rattle.journal_books.specs.Keeping.{body_by}
-use Rattle.journal_books.specs.Spelling.{IsInRange, AreLimits, IsTicket, PartsFit}
+use Rattle.journal_books.specs.Spelling.{IsInRange, AreLimits, IsTicket}
 use Rattle.journal_books.specs.Laws.{WhatIsRecordedIsSpelled}
 use Rattle.journal_books.proofs.Remade.{script_there}
+use Rattle.journal_books.proofs.Typed.{both_true, value_fits, effects_typed}
 
 -- a page's record has the nonce of its ticket, and this deadline
 abbrev pub Tells : Ticket → (deadline : ℕ) → Change → Type 0
@@ -122,21 +123,31 @@ names_long : (ts : List TxName) → length ts ≤ length (flat_map name_bytes ts
 unfolding name_bytes
 names_long ts = several name_bytes (λ t. omega arith) ts
 
--- what was not too long has a short body
-short : (scripts : List Named) (shelf : ℕ) (o : Option Journal) (b : Book) (c : Change) → o ≡ Some (journal_rules shelf scripts) → too_long o b c ≡ None → length (body_by c) < 2 ^ 32
+-- no value of a change nests too deep, and its body is short
+pub record IsShort (c : Change) : Type 0 where
+  pub shallow : are_shallow c ≡ true
+  pub low : length (body_by c) < 2 ^ 32
+
+-- what was not too long is so
+short : (scripts : List Named) (shelf : ℕ) (o : Option Journal) (b : Book) (c : Change) → o ≡ Some (journal_rules shelf scripts) → too_long o b c ≡ None → IsShort c
 short scripts shelf o b c is none =
     let here : too_long (Some (journal_rules shelf scripts)) b c ≡ None = ap (λ (p : Option Journal). too_long p b c) (sym is) ∙ none in
     by_test (nat_lt 1048576 (record_length c)) refl here
   where
-    by_test : (t : Bool) → nat_lt 1048576 (record_length c) ≡ t → when t (Reply.oversize (record_length c)) ≡ None → length (body_by c) < 2 ^ 32
+    by_depth : (t : Bool) → are_shallow c ≡ t → (if t then body_length (changes c) else 2 ^ 63) ≤ 1048576 → IsShort c
+    by_depth true e low = record { shallow = e; low = omega (arith, low) }
+    by_depth false e low = absurd (omega (arith, low))
+
+    by_test : (t : Bool) → nat_lt 1048576 (record_length c) ≡ t → when t (Reply.oversize (record_length c)) ≡ None → IsShort c
     by_test true e f = absurd (let no : ⊥ = cc in no)
     by_test false e f =
         let low : record_length c ≤ 1048576 = grind (arith, nat_tests, e) in
-        omega (arith, low)
+        by_depth (are_shallow c) refl low
 
 -- the parts of a short body have counts
-effects_fit : (es : List Effect) (n : ℕ) → length (effects_bytes es) ≤ n → n < 2 ^ 32 → AllByRecursion EffectFits es → FitsList EffectFits es
-effects_fit es n within low h = (omega (arith, effects_long es, within, low), h)
+effects_fit : (es : List Effect) (n : ℕ) → length (effects_bytes es) ≤ n → n < 2 ^ 32 → list_all is_shallow_effect es ≡ true → AllByRecursion IsTypedEffect es → FitsList EffectFits es
+effects_fit es n within low shallow h =
+    (omega (arith, effects_long es, within, low), effects_typed es n (omega (arith, within)) low shallow h)
 
 names_fit : (ts : List TxName) (n : ℕ) → length (names_bytes ts) ≤ n → n < 2 ^ 32 → AllByRecursion NameFits ts → FitsList NameFits ts
 names_fit ts n within low h = (omega (arith, names_long ts, within, low), h)
@@ -155,7 +166,27 @@ page_long p =
     let e = length-append (names_bytes p.left) last in
     (omega (arith, a, b, c, d), omega (arith, a, b, c, d, e))
 
-ending_long : (x : Ending) → (length (effects_bytes x.effects) ≤ length (ending_bytes x)) × (length (names_bytes x.left) ≤ length (ending_bytes x))
+-- the page of an answer, with how long the answer is
+extension_long : (x : Extension)
+    → (length (effects_bytes x.effects) ≤ length (page_bytes (extension_page x)))
+    × (length (names_bytes x.left) ≤ length (page_bytes (extension_page x)))
+    × (length (value_bytes x.answer) ≤ length (page_bytes (extension_page x)))
+extension_long x =
+    let p = extension_page x in
+    let three = effects_bytes p.effects ++ (names_bytes p.left ++ (send_byte p.kind ∷ [] ++ u64_bytes p.deadline)) in
+    let two = origin_bytes p.origin ++ three in
+    let a = length-append (u64_bytes p.ticket) (u64_bytes p.nonce ++ two) in
+    let b = length-append (u64_bytes p.nonce) two in
+    let c = length-append (origin_bytes p.origin) three in
+    let d = length-append (u64_bytes x.instance) (u64_bytes x.page ++ value_bytes x.answer) in
+    let e = length-append (u64_bytes x.page) (value_bytes x.answer) in
+    let long = page_long p in
+    (long.0, long.1, omega (arith, a, b, c, d, e))
+
+ending_long : (x : Ending)
+    → (length (effects_bytes x.effects) ≤ length (ending_bytes x))
+    × (length (names_bytes x.left) ≤ length (ending_bytes x))
+    × (length (value_bytes x.answer) ≤ length (ending_bytes x))
 ending_long x =
     let four = effects_bytes x.effects ++ names_bytes x.left in
     let three = value_bytes x.answer ++ four in
@@ -166,9 +197,10 @@ ending_long x =
     let c = length-append (u64_bytes x.page) three in
     let d = length-append (value_bytes x.answer) four in
     let e = length-append (effects_bytes x.effects) (names_bytes x.left) in
-    (omega (arith, a, b, c, d, e), omega (arith, a, b, c, d, e))
+    (omega (arith, a, b, c, d, e), omega (arith, a, b, c, d, e), omega (arith, a, b, c, d, e))
 
-finish_long : (f : Finish) → length (effects_bytes f.effects) ≤ length (finish_bytes f)
+finish_long : (f : Finish)
+    → (length (effects_bytes f.effects) ≤ length (finish_bytes f)) × (length (value_bytes f.answer) ≤ length (finish_bytes f))
 finish_long f =
     let three = value_bytes f.answer ++ effects_bytes f.effects in
     let two = u64_bytes f.page ++ three in
@@ -177,48 +209,52 @@ finish_long f =
     let b = length-append (u64_bytes f.instance) two in
     let c = length-append (u64_bytes f.page) three in
     let d = length-append (value_bytes f.answer) (effects_bytes f.effects) in
-    omega (arith, a, b, c, d)
+    (omega (arith, a, b, c, d), omega (arith, a, b, c, d))
 
 fits_by : (rules : Rules) (b : Book) (t : Ticket) (c : Change) → IsOrderly b → IsInRange b → AreLimits rules b.scripts → IsTicket b t → IsOrderlyChange b.clock b.instances c → IsOf t.number c
-    → Tells t (b.clock + rules.life) c → has_script (length b.scripts) c ≡ true → length (body_by c) < 2 ^ 32 → PartsFit c → IsInGrammar (changes c)
-fits_by rules b t (opens o) g range limits ticket orderly is tells script low parts =
+    → Tells t (b.clock + rules.life) c → has_script (length b.scripts) c ≡ true → IsShort c → PartsFit c → IsInGrammar (changes c)
+fits_by rules b t (opens o) g range limits ticket orderly is tells script brief parts =
     let long = page_long (opening_page o) in
     record {
       ticket = let out = g.below t.number (among_of b.out t.number ticket.out) in omega (arith, is, out, range.drawn);
       nonce = let n = ticket.nonce in omega (arith, tells.0, n);
       origin = let within : o.script < length b.scripts = grind (arith, nat_tests, script) in omega (arith, within, limits.few);
-      effects = effects_fit o.effects (length (page_bytes (opening_page o))) long.0 (omega (arith, low)) parts.0;
-      left = names_fit o.left (length (page_bytes (opening_page o))) long.1 (omega (arith, low)) parts.1;
+      effects = effects_fit o.effects (length (page_bytes (opening_page o))) long.0 (omega (arith, brief.low)) brief.shallow parts.0;
+      left = names_fit o.left (length (page_bytes (opening_page o))) long.1 (omega (arith, brief.low)) parts.1;
       deadline = omega (arith, tells.1, range.clock, limits.life);
     }
-fits_by rules b t (extends x) g range limits ticket orderly is tells script low parts =
-    let long = page_long (extension_page x) in
+fits_by rules b t (extends x) g range limits ticket orderly is tells script brief parts =
+    let long = extension_long x in
+    let shallow = both_true (is_shallow x.answer) (list_all is_shallow_effect x.effects) brief.shallow in
     let numbers = below b x.instance x.page g range.drawn orderly in
     record {
       ticket = let out = g.below t.number (among_of b.out t.number ticket.out) in omega (arith, is, out, range.drawn);
       nonce = let n = ticket.nonce in omega (arith, tells.0, n);
-      origin = record { instance = numbers.0; page = numbers.1; answer = parts.0 };
-      effects = effects_fit x.effects (length (page_bytes (extension_page x))) long.0 (omega (arith, low)) parts.1;
-      left = names_fit x.left (length (page_bytes (extension_page x))) long.1 (omega (arith, low)) parts.2;
+      origin = record { instance = numbers.0; page = numbers.1; answer = value_fits x.answer (omega (arith, long.2, brief.low)) shallow.0 parts.0 };
+      effects = effects_fit x.effects (length (page_bytes (extension_page x))) long.0 (omega (arith, brief.low)) shallow.1 parts.1;
+      left = names_fit x.left (length (page_bytes (extension_page x))) long.1 (omega (arith, brief.low)) parts.2;
       deadline = omega (arith, tells.1, range.clock, limits.life);
     }
-fits_by rules b t (ends e) g range limits ticket orderly is tells script low parts =
+fits_by rules b t (ends e) g range limits ticket orderly is tells script brief parts =
     let long = ending_long e in
+    let shallow = both_true (is_shallow e.answer) (list_all is_shallow_effect e.effects) brief.shallow in
     let numbers = below b e.instance e.page g range.drawn orderly in
     record {
       ticket = let out = g.below t.number (among_of b.out t.number ticket.out) in omega (arith, is, out, range.drawn);
-      answered = record { instance = numbers.0; page = numbers.1; answer = parts.0 };
-      effects = effects_fit e.effects (length (ending_bytes e)) long.0 (omega (arith, low)) parts.1;
-      left = names_fit e.left (length (ending_bytes e)) long.1 (omega (arith, low)) parts.2;
+      answered = record { instance = numbers.0; page = numbers.1; answer = value_fits e.answer (omega (arith, long.2, brief.low)) shallow.0 parts.0 };
+      effects = effects_fit e.effects (length (ending_bytes e)) long.0 (omega (arith, brief.low)) shallow.1 parts.1;
+      left = names_fit e.left (length (ending_bytes e)) long.1 (omega (arith, brief.low)) parts.2;
     }
-fits_by rules b t (finishes f) g range limits ticket orderly is tells script low parts =
+fits_by rules b t (finishes f) g range limits ticket orderly is tells script brief parts =
+    let long = finish_long f in
+    let shallow = both_true (is_shallow f.answer) (list_all is_shallow_effect f.effects) brief.shallow in
     let numbers = below b f.instance f.page g range.drawn orderly in
     record {
       ticket = let out = g.below t.number (among_of b.out t.number ticket.out) in omega (arith, is, out, range.drawn);
-      answered = record { instance = numbers.0; page = numbers.1; answer = parts.0 };
-      effects = effects_fit f.effects (length (finish_bytes f)) (finish_long f) (omega (arith, low)) parts.1;
+      answered = record { instance = numbers.0; page = numbers.1; answer = value_fits f.answer (omega (arith, long.1, brief.low)) shallow.0 parts.0 };
+      effects = effects_fit f.effects (length (finish_bytes f)) long.0 (omega (arith, brief.low)) shallow.1 parts.1;
     }
-fits_by rules b t (sweeps tick) g range limits ticket orderly is tells script low parts = parts
+fits_by rules b t (sweeps tick) g range limits ticket orderly is tells script brief parts = absurd tells
 
 pub recorded_spelled : WhatIsRecordedIsSpelled
 recorded_spelled scripts shelf rules b t r c inside less journal g names range limits ticket is parts =

@@ -13,11 +13,11 @@ use Rattle.replay_spec.specs.Invariant.{IsOrderly}
 use Rattle.replay_spec.specs.Remade.{NameTheirCells, KeepsSetup, AreUnder, AreTakenIn}
 use Rattle.replay_spec.specs.Laws.{IsLawful, Moment, AreLawful, book_after, changes_of}
 use Rattle.server_limits.specs.Limits.{most_fuel}
-use Rattle.journal_records.specs.Records.{begins, changes, IsInGrammar, begin_of, journal_rules}
+use Rattle.journal_records.specs.Records.{begins, changes, IsInGrammar, begin_of, PartsFit, journal_rules}
 use Rattle.journal_books.specs.Making.{made, other, rules_over, first_by, book_of}
 use Rattle.journal_books.specs.Standing.{Makes, MakesIn, HasRoom, Between, Held, if_kept}
 use Rattle.journal_books.specs.Keeping.{AreAllBytes, IsRecoverable, Keeps, AreNamed, body_by, first_body, with_landed, IsSpelled, AreSpelled, stake_of}
-use Rattle.journal_books.specs.Spelling.{IsInRange, AreLimits, GivesTick, IsTicket, PartsFit}
+use Rattle.journal_books.specs.Spelling.{IsInRange, AreLimits, GivesTick, IsTicket}
 
 -- The record that a journal of this shelf and setup begins with makes an empty book, and any other Begin is of another.
 abbrev pub OnlyItsBeginBegins : Type 0
@@ -112,8 +112,8 @@ FreshJournalsSuffice =
     → Makes scripts shelf (first_body scripts shelf ∷ map body_by (changes_of ms b)) (book_after ms b)
     × AreTakenIn rules (changes_of ms b) (nothing_made rules scripts shelf)
 
--- What a publish records can be written, on a book in range, where its values can: it is not too long, and its numbers are
--- such as records tell.
+-- What a publish records can be written, on a book in range, where its parts are such as the program's types give: it is not
+-- too long, so no value nests too deep and no part is too long for its count; and its numbers are such as records tell.
 abbrev pub WhatIsRecordedIsSpelled : Type 0
 WhatIsRecordedIsSpelled =
     (scripts : List Named) (shelf : ℕ) (rules : Rules) (b : Book) (t : Ticket) (r : Reply) (c : Change)

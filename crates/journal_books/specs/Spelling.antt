@@ -1,14 +1,13 @@
 -- Which records a shelf can write.
 use Rattle.std.specs.Prelude.{◌≤◌, ◌<◌, ◌^◌, List, length, Option, Some, None, Contains, ⊤}
-use Rattle.std.specs.List.{AllByRecursion}
 use Rattle.script_nodes.specs.Setup.{Named}
-use Rattle.value_bytes.specs.Spelling.{HasBytes}
-use Rattle.replay_spec.specs.Book.{Change, opens, extends, ends, finishes, sweeps, Doubt, Book}
+use Rattle.replay_spec.specs.Book.{Change, sweeps, Doubt, Book}
 use Rattle.replay_spec.specs.Rules.{Rules}
 use Rattle.replay_spec.specs.Next.{Ticket}
 use Rattle.replay_spec.specs.Step.{Event, sweep}
 use Rattle.server_limits.specs.Limits.{most_life}
-use Rattle.journal_records.specs.Fields.{numbers_end, EffectFits, NameFits}
+use Rattle.journal_records.specs.Fields.{numbers_end}
+pub use Rattle.journal_records.specs.Records.{PartsFit}
 
 -- a tick that is in doubt is such as records tell
 abbrev pub IsTickInRange : Change → Type 0
@@ -39,11 +38,3 @@ GivesTick _ = ⊤
 pub record IsTicket (b : Book) (t : Ticket) : Type 0 where
   pub out : Contains b.out t.number
   pub nonce : t.nonce < 2 ^ 64
-
--- each value that a change tells of has a spelling, and each name of a transaction
-abbrev pub PartsFit : Change → Type 0
-PartsFit (opens o) = AllByRecursion EffectFits o.effects × AllByRecursion NameFits o.left
-PartsFit (extends x) = HasBytes x.answer × AllByRecursion EffectFits x.effects × AllByRecursion NameFits x.left
-PartsFit (ends e) = HasBytes e.answer × AllByRecursion EffectFits e.effects × AllByRecursion NameFits e.left
-PartsFit (finishes f) = HasBytes f.answer × AllByRecursion EffectFits f.effects
-PartsFit (sweeps tick) = tick < numbers_end

@@ -1,4 +1,6 @@
 pub mod Codec
 pub mod Chains
 pub mod Exact
+pub mod Levels
+pub mod Measured
 pub mod Sizes

@@ -17,5 +17,6 @@ pub record AreRecordsExact : Type 0 where
   pub exact : (bytes : List ℕ) (r : Record) → AreBytes bytes → read_record bytes ≡ Some r → IsBodyOf bytes r
   -- no body is the front of another one
   pub prefix : HasNoPrefix body_of IsInGrammar
-  -- a length below 2^63 is that of the body
-  pub measured : (c : Change) → length (body_of (changes c)) < 2 ^ 63 → record_length c ≡ length (body_of (changes c))
+  -- where a change has a body, a length below 2^63 is that of the body
+  pub measured : (c : Change) → IsInGrammar (changes c) → length (body_of (changes c)) < 2 ^ 63
+      → record_length c ≡ length (body_of (changes c))

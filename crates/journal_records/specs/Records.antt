@@ -1,5 +1,6 @@
 -- Records of a journal: how each is written, and which can be.
-use Rattle.std.specs.Prelude.{ℕ, ◌<◌, ◌+◌, ◌^◌, List, [], ◌∷◌, ◌++◌, length, map, min}
+use Rattle.std.specs.Prelude.{ℕ, Bool, true, ◌&&◌, ◌<◌, ◌+◌, ◌^◌, List, [], ◌∷◌, ◌++◌, length, map, min, if◌then◌else◌, ⊤}
+use Rattle.std.specs.List.{list_all, AllByRecursion}
 use Rattle.script_value.specs.declared.outcome.TxName.{TxName}
 use Rattle.instance_cells.specs.Cells.{Effect}
 use Rattle.script_nodes.specs.declared.script.SendKind.{SendKind}
@@ -8,7 +9,7 @@ use Rattle.replay_spec.specs.Book.{Opening, Extension, Ending, Finish, Change, o
 use Rattle.replay_spec.specs.Rules.{Journal}
 use Rattle.wire_bytes.specs.Spelling.{u32_bytes, u64_bytes}
 use Rattle.value_bytes.specs.Spelling.{value_bytes, list_bytes, FitsList}
-use Rattle.journal_records.specs.Fields.{numbers_end, deadlines_end, name_bytes, NameFits, effect_bytes, EffectFits, send_byte, script_bytes, ScriptFits, Origin, start, answered, origin_bytes, OriginFits, AnswerFits}
+use Rattle.journal_records.specs.Fields.{numbers_end, deadlines_end, name_bytes, NameFits, effect_bytes, EffectFits, send_byte, script_bytes, ScriptFits, Origin, start, answered, origin_bytes, OriginFits, AnswerFits, is_shallow, is_shallow_effect, IsTyped, IsTypedEffect}
 
 -- what a record says: a journal of this shelf begins, with these names and texts of its scripts; or the book changes
 pub data Record : Type 0 where
@@ -118,8 +119,30 @@ IsInGrammar (changes c) = ChangeFits c
 abbrev pub body_length : Record → ℕ
 body_length r = min (length (body_of r)) (2 ^ 63)
 
+-- whether the values of a change nest no deeper than one may that is written
+abbrev pub are_shallow : Change → Bool
+are_shallow (opens o) = list_all is_shallow_effect o.effects
+are_shallow (extends x) = is_shallow x.answer && list_all is_shallow_effect x.effects
+are_shallow (ends e) = is_shallow e.answer && list_all is_shallow_effect e.effects
+are_shallow (finishes f) = is_shallow f.answer && list_all is_shallow_effect f.effects
+are_shallow (sweeps tick) = true
+
+-- the length of a change's record; where a value nests deeper, the record has no body, and counts as 2^63
 abbrev pub record_length : Change → ℕ
-record_length c = body_length (changes c)
+record_length c = if are_shallow c then body_length (changes c) else 2 ^ 63
+
+-- what the program's types say of the parts of a change that came of a run
+abbrev pub PartsFit : Change → Type 0
+PartsFit (opens o) = AllByRecursion IsTypedEffect o.effects × AllByRecursion NameFits o.left
+PartsFit (extends x) = IsTyped x.answer × AllByRecursion IsTypedEffect x.effects × AllByRecursion NameFits x.left
+PartsFit (ends e) = IsTyped e.answer × AllByRecursion IsTypedEffect e.effects × AllByRecursion NameFits e.left
+PartsFit (finishes f) = IsTyped f.answer × AllByRecursion IsTypedEffect f.effects
+PartsFit (sweeps tick) = ⊤
+
+-- a fact of the change that a record tells of
+abbrev pub IfChanges : Record → (Change → Type 0) → Type 0
+IfChanges (begins shelf scripts) P = ⊤
+IfChanges (changes c) P = P c
 
 -- the names and the texts of scripts
 abbrev pub texts_of : List Named → List (List ℕ × List ℕ)

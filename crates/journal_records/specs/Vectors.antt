@@ -1,7 +1,7 @@
 -- Worked rows.
-use Rattle.std.specs.Prelude.{◌≡◌, ℕ, ◌-◌, ◌^◌, Bool, not, is_some, List, [], ◌∷◌, ◌++◌, length, map, pos, negsuc, true, false, Some, None, codes, refl}
+use Rattle.std.specs.Prelude.{◌≡◌, ℕ, zero, suc, ◌-◌, ◌^◌, Bool, not, is_some, List, [], ◌∷◌, ◌++◌, length, map, pos, negsuc, true, false, Some, None, codes, refl}
 use Rattle.std.specs.List.{list_all}
-use Rattle.script_value.specs.Val.{number, truth}
+use Rattle.script_value.specs.Val.{Val, number, truth, list, no_vals, val}
 use Rattle.instance_cells.specs.Cells.{read, set, add}
 use Rattle.script_nodes.specs.declared.script.SendKind.TheVariants.{Suspend, Forward}
 use Rattle.script_nodes.specs.Setup.{Script}
@@ -201,3 +201,18 @@ kind_0 = refl
 kind_6 : read_record (6 ∷ 0 ∷ 0 ∷ 0 ∷ 0 ∷ 0 ∷ 0 ∷ 0 ∷ 0 ∷ []) ≡ None
 unfolding read_record
 kind_6 = refl
+
+-- a value that is one level too deep has no length of its own
+abbrev nested : ℕ → Val
+nested zero = truth true
+nested (suc n) = list (val (nested n) no_vals)
+
+deep_finish : record_length (finishes (record { number = 5; instance = 3; page = 4; answer = nested 201; effects = [] })) ≡ 2 ^ 63
+deep_finish = refl
+
+deep_effect : record_length (finishes (record { number = 5; instance = 3; page = 4; answer = truth true; effects = set 1 (nested 201) ∷ [] })) ≡ 2 ^ 63
+deep_effect = refl
+
+-- and one that nests as deep as it may has 5 bytes a level
+deepest_finish : record_length (finishes (record { number = 5; instance = 3; page = 4; answer = nested 200; effects = [] })) ≡ 1030
+deepest_finish = refl

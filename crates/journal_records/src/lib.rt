@@ -7,6 +7,7 @@ mod grammar;
 mod laws;
 mod logged;
 mod measure;
+mod nesting;
 mod recorded;
 
 pub use decoding::decode;
@@ -14,5 +15,5 @@ pub use encoding::{encode, encode_begin};
 pub use grammar::{can_begin, is_in_grammar};
 pub use laws::records_are_exact;
 pub use logged::{Logged, LoggedEnded, LoggedFinish, LoggedPage, LoggedScript, Origin};
-pub use measure::body_length;
+pub use measure::{body_length, record_length};
 pub use recorded::{Recorded, RecordedEnded, RecordedFinish, RecordedOrigin, RecordedPage};

@@ -1,13 +1,14 @@
-ghost use Rattle.std.specs.Prelude.{◌≡◌, ◌+◌, ◌*◌, ◌^◌, min, length, map};
+ghost use Rattle.std.specs.Prelude.{◌≡◌, ◌<◌, ◌+◌, ◌*◌, ◌^◌, min, length, map};
 ghost use Rattle.instance_cells.specs.Views.{effect_of};
 ghost use Rattle.value_bytes.specs.Spelling.{list_bytes};
 ghost use Rattle.wire_bytes.specs.Spelling.{byte_string};
 ghost use Rattle.journal_records.specs.Fields.{effect_bytes, script_bytes, origin_bytes};
-ghost use Rattle.journal_records.specs.Records.{effects_bytes, names_bytes, page_bytes, ending_bytes, finish_bytes};
+ghost use Rattle.journal_records.specs.Records.{effects_bytes, names_bytes, page_bytes, ending_bytes, finish_bytes, IfChanges, PartsFit};
 ghost use Rattle.journal_records.specs.Records as spec;
 ghost use Rattle.journal_records.specs.Views.{script_of, lent_origin, lent_page, lent_ending, lent_finish, recorded_of};
 
 use crate::logged::LoggedScript;
+use crate::nesting::nests_shallow;
 use crate::recorded::{Recorded, RecordedEnded, RecordedFinish, RecordedOrigin, RecordedPage};
 use instance_cells::Effect;
 use script_value::TxName;
@@ -28,6 +29,19 @@ pub fn body_length(record: &Recorded<'_>) -> u64
         Recorded::Ended(ended) => ended_length(ended),
         Recorded::Finish(finish) => finish_length(finish),
         Recorded::Sweep { .. } => 9,
+    }
+}
+
+/// How long the body of a change's record is, in bytes; 2^63 where a value of it nests deeper than one may that is written,
+/// since it has no body then, and one above 2^63 as 2^63. It takes no memory.
+pub fn record_length(record: &Recorded<'_>) -> u64
+    ensures length { IfChanges (recorded_of record.now) (λ c. result ≡ spec.record_length c) }
+    ensures parts { result < 2 ^ 63 → IfChanges (recorded_of record.now) PartsFit }
+{
+    if nests_shallow(record) {
+        body_length(record)
+    } else {
+        MOST
     }
 }
 

@@ -1,5 +1,5 @@
 -- The events that the calls of a shelf are.
-use Rattle.std.specs.Prelude.{◌≡◌, ℕ, List, Option, Some, None, Result, Err, IfSome, ⊤}
+use Rattle.std.specs.Prelude.{◌≡◌, ℕ, Bool, List, Option, Some, None, Result, Err, IfSome, ⊤}
 use Rattle.script_value.specs.Views.{meaning}
 use Rattle.script_value.specs.declared.value.Value.{Value}
 use Rattle.script_value.specs.declared.outcome.Reply.{Reply}
@@ -7,86 +7,113 @@ use Rattle.script_value.specs.declared.outcome.Reply.TheVariants as reply
 use Rattle.script_nodes.specs.Setup.{Named}
 use Rattle.script_nodes.specs.Views.{scripts_of}
 use Rattle.script_nodes.specs.declared.setup.Setup.{Setup}
+use Rattle.page_names.specs.Names.{Destination}
 use Rattle.page_names.specs.Views.{target_of}
 use Rattle.page_names.specs.declared.names.Target.{Target}
 use Rattle.stored_states.specs.declared.segment.Segment.{Segment}
+use Rattle.web_outside.specs.Causes.{Rose}
+use Rattle.web_disk.specs.View.{View}
+use Rattle.journal_books.specs.Standing.{if_kept, Throughout}
 use Rattle.replay_spec.specs.Book as spec
 use Rattle.replay_spec.specs.Rules as spec_rules
+use Rattle.replay_spec.specs.Admission.{or_else, refusal_of, admit}
 use Rattle.replay_spec.specs.Step as step
-use Rattle.replay_spec.specs.Step.{Decision, replies, records, take, publish, sweep, no_take, publish_comes}
+use Rattle.replay_spec.specs.Step.{Decision, replies, records, take, publish, sweep, down_by, refused_by, no_take, publish_comes}
 use Rattle.instance_book.specs.declared.ticket.Ticket.{Ticket}
 use Rattle.instance_book.specs.declared.prepared.Prepared.{Prepared}
 use Rattle.instance_book.specs.Views.{ticket_of, ticket_for, reply_of}
 use Rattle.instance_book.specs.Prepares.{Prepares}
 use Rattle.shelf.specs.declared.shelf.Shelf.{Shelf}
-use Rattle.shelf.specs.Views.{rules_of, book_in, refusal_now, taken_of, swept_of, IsEvent, HoldNow}
+use Rattle.shelf.specs.Views.{unmeasured, book_in, IsInOrder, refusal_now, taken_of, swept_of, IsEvent, HoldNow}
 
 -- a take is one event
-abbrev pub IsTake : {N : Type 0} → (coming : N → ℕ → ℕ) → Setup → (old new : Shelf N) → Target → Value → Result Ticket Reply → Type 0
+abbrev pub IsTake : {D N : Type 0} → (coming : N → ℕ → ℕ) → Setup → (old new : Shelf D N) → Target → Value → Result Ticket Reply → Type 0
 IsTake coming setup old new target answer result =
     IsEvent coming (scripts_of setup) old new (take (target_of target) (meaning answer)) (taken_of result)
 
 -- its ticket has the next number and nonce
-abbrev pub IsTicketOf : {N : Type 0} → (coming : N → ℕ → ℕ) → Setup → Shelf N → Target → Value → Ticket → Type 0
+abbrev pub IsTicketOf : {D N : Type 0} → (coming : N → ℕ → ℕ) → Setup → Shelf D N → Target → Value → Ticket → Type 0
 IsTicketOf coming setup s target answer t =
     ticket_of t ≡ ticket_for target answer (book_in (scripts_of setup) s).drawn (coming s.nonces 0)
 
 -- what stands against a take is its answer
-abbrev pub TellsWhyNot : {N : Type 0} → Setup → Shelf N → Target → Result Ticket Reply → Type 0
+abbrev pub TellsWhyNot : {D N : Type 0} → Setup → Shelf D N → Target → Result Ticket Reply → Type 0
 TellsWhyNot setup s target result = IfSome (no_take (book_in (scripts_of setup) s) (target_of target)) (λ r. taken_of result ≡ r)
 
 -- a publish is one event
-abbrev pub IsPublish : {N : Type 0} → (coming : N → ℕ → ℕ) → Setup → (old new : Shelf N) → Ticket → Reply → Type 0
+abbrev pub IsPublish : {D N : Type 0} → (coming : N → ℕ → ℕ) → Setup → (old new : Shelf D N) → Ticket → Reply → Type 0
 IsPublish coming setup old new ticket result =
     IsEvent coming (scripts_of setup) old new (publish (ticket_of ticket)) (reply_of result)
 
--- what it comes to
-abbrev pub decision_of : {N : Type 0} → Setup → Shelf N → Ticket → Decision
-decision_of setup s t = publish_comes (rules_of s.rules) (book_in (scripts_of setup) s) (ticket_of t)
+-- what it comes to, before its record is measured
+abbrev pub decision_of : {D N : Type 0} → Setup → Shelf D N → Ticket → Decision
+decision_of setup s t = publish_comes (unmeasured s.rules) (book_in (scripts_of setup) s) (ticket_of t)
 
 -- what is prepared for it, or its refusal; want of memory may stand for any
 abbrev pub Decides : List Named → spec_rules.Rules → spec.Book → Decision → Result Prepared Reply → Type 0
 Decides scripts rules b d (Err reply.Memory) = ⊤
 Decides scripts rules b d result = Prepares scripts rules b d result
 
-abbrev pub IsDecided : {N : Type 0} → Setup → Shelf N → Ticket → Result Prepared Reply → Type 0
+abbrev pub IsDecided : {D N : Type 0} → Setup → Shelf D N → Ticket → Result Prepared Reply → Type 0
 IsDecided setup s t result =
-    Decides (scripts_of setup) (rules_of s.rules) (book_in (scripts_of setup) s) (decision_of setup s t) result
+    Decides (scripts_of setup) (unmeasured s.rules) (book_in (scripts_of setup) s) (decision_of setup s t) result
 
 -- where no second run is due, want of memory is told only of what changes the book
-abbrev pub IsDecidedIfHeld : {N : Type 0} → Setup → Shelf N → Ticket → Option Segment → Result Prepared Reply → Type 0
+abbrev pub IsDecidedIfHeld : {D N : Type 0} → Setup → Shelf D N → Ticket → Option Segment → Result Prepared Reply → Type 0
 IsDecidedIfHeld setup s t segment result =
     (r : Segment) → segment ≡ Some r → HoldNow (book_in (scripts_of setup) s) t r
-    → Prepares (scripts_of setup) (rules_of s.rules) (book_in (scripts_of setup) s) (decision_of setup s t) result
+    → Prepares (scripts_of setup) (unmeasured s.rules) (book_in (scripts_of setup) s) (decision_of setup s t) result
 
--- a decision that changes nothing is told
+-- a decision that changes nothing, whatever is measured, is told
 abbrev pub TellsReply : Decision → step.Reply → Type 0
 TellsReply (replies x) r = r ≡ x
 TellsReply (records x c inside) r = ⊤
 
-abbrev pub IsToldIfHeld : {N : Type 0} → Setup → Shelf N → Ticket → Option Segment → Reply → Type 0
+abbrev pub IsToldIfHeld : {D N : Type 0} → Setup → Shelf D N → Ticket → Option Segment → Reply → Type 0
 IsToldIfHeld setup s t segment result =
     (r : Segment) → segment ≡ Some r → HoldNow (book_in (scripts_of setup) s) t r → TellsReply (decision_of setup s t) (reply_of result)
 
--- a target that is not admitted is told so
-abbrev pub TellsRefusal : {N : Type 0} → Setup → Shelf N → Target → Reply → Type 0
-TellsRefusal setup s target result = IfSome (refusal_now setup s target) (λ r. result ≡ reply.Refused r)
+-- why a publish is refused before its segment is looked at: the shelf is down, or the target is not admitted
+abbrev pub no_publish : spec.Book → Destination → Option step.Reply
+no_publish b target = or_else (down_by b.down) (refused_by (refusal_of (admit b target)))
 
-abbrev pub IsRefused : {N : Type 0} → Setup → Shelf N → Target → Result Prepared Reply → Type 0
+-- and that is its answer, whatever memory there is
+abbrev pub TellsRefusal : {D N : Type 0} → Setup → Shelf D N → Target → Reply → Type 0
+TellsRefusal setup s target result =
+    IfSome (no_publish (book_in (scripts_of setup) s) (target_of target)) (λ r. reply_of result ≡ r)
+
+-- where there was no memory for the run of an admitted target, that is the answer
+abbrev pub WantsIfNone : {D N : Type 0} → Setup → Shelf D N → Ticket → Option Segment → Reply → Type 0
+WantsIfNone setup s t segment result =
+    segment ≡ None → no_publish (book_in (scripts_of setup) s) (target_of t.target) ≡ None → result ≡ reply.Memory
+
+-- what is prepared where the shelf is not down
+abbrev pub IsRefused : {D N : Type 0} → Setup → Shelf D N → Target → Result Prepared Reply → Type 0
 IsRefused setup s target result = IfSome (refusal_now setup s target) (λ r. result ≡ Err (reply.Refused r))
 
-abbrev pub WantsMemory : {N : Type 0} → Setup → Shelf N → Ticket → Option Segment → Result Prepared Reply → Type 0
+abbrev pub WantsMemory : {D N : Type 0} → Setup → Shelf D N → Ticket → Option Segment → Result Prepared Reply → Type 0
 WantsMemory setup s t segment result = segment ≡ None → refusal_now setup s t.target ≡ None → result ≡ Err reply.Memory
 
 -- want of memory changes nothing else than that the number is spent
-abbrev pub SpendsOnly : {N : Type 0} → Setup → (old new : Shelf N) → Ticket → Reply → Type 0
+abbrev pub SpendsOnly : {D N : Type 0} → Setup → (old new : Shelf D N) → Ticket → Reply → Type 0
 SpendsOnly setup old new t result =
     result ≡ reply.Memory → book_in (scripts_of setup) new ≡ spec.spend t.number (book_in (scripts_of setup) old)
 
--- where there was no memory for the run of an admitted target, that is the answer
-abbrev pub WantsIfNone : {N : Type 0} → Setup → Shelf N → Ticket → Option Segment → Reply → Type 0
-WantsIfNone setup s t segment result = segment ≡ None → refusal_now setup s t.target ≡ None → result ≡ reply.Memory
-
 -- a sweep is one event, whatever the setup
-abbrev pub IsSweep : {N : Type 0} → (coming : N → ℕ → ℕ) → (old new : Shelf N) → (tick : ℕ) → Result ℕ Reply → Type 0
+abbrev pub IsSweep : {D N : Type 0} → (coming : N → ℕ → ℕ) → (old new : Shelf D N) → (tick : ℕ) → Result ℕ Reply → Type 0
 IsSweep coming old new tick result = (scripts : List Named) → IsEvent coming scripts old new (sweep tick) (swept_of result)
+
+-- A crash at any moment of a call on a shelf that was in order leaves what makes the book before it, or the book behind it with
+-- what is in doubt then.
+abbrev pub HasMoments : {D N : Type 0} → (D → View) → List Named → (old new : Shelf D N) → Type 0
+HasMoments view scripts old new =
+    Throughout scripts old.rules.number (book_in scripts old) (if_kept scripts old.rules.number (book_in scripts new))
+    (view old.journal.disk) (view new.journal.disk)
+
+abbrev pub HasAllMoments : {D N : Type 0} → (D → View) → Bool → (old new : Shelf D N) → Type 0
+HasAllMoments view tells old new = (scripts : List Named) → IsInOrder view tells scripts old → HasMoments view scripts old new
+
+-- a fault that is told has the disk's count of now, which rose
+abbrev pub TellsCount : (before now : ℕ) → step.Reply → Type 0
+TellsCount before now (step.disk_failed count) = (count ≡ now) × Rose before now
+TellsCount before now _ = ⊤

@@ -1,7 +1,8 @@
 -- What the program's shelf stands for in the definitions.
-use Rattle.std.specs.Prelude.{◌≡◌, ℕ, ◌+◌, List, map, length, Option, Some, None, IfSome, Contains, slice_get, Result, Ok, Err, ⊤}
+use Rattle.std.specs.Prelude.{◌≡◌, ◌≤◌, ℕ, ◌+◌, Bool, false, IsTrue, List, [], map, length, Option, Some, None, option_map, IfSome, Contains, slice_get, Result, Ok, Err, ⊤}
 use Rattle.script_value.specs.Val.{Val}
 use Rattle.script_value.specs.Views.{meaning}
+use Rattle.script_value.specs.declared.outcome.TxName.{TxName}
 use Rattle.script_value.specs.declared.outcome.Reply.{Reply}
 use Rattle.script_value.specs.declared.outcome.Refusal.{Refusal}
 use Rattle.script_nodes.specs.Setup.{Named}
@@ -12,6 +13,12 @@ use Rattle.page_names.specs.Views.{target_of}
 use Rattle.page_names.specs.declared.names.Target.{Target}
 use Rattle.instance_cells.specs.Cells.{Effect, Holds}
 use Rattle.instance_cells.specs.Views.{effect_of}
+use Rattle.web_disk.specs.View.{View}
+use Rattle.page_journal.specs.Settled as journal
+use Rattle.page_journal.specs.Settled.{is_broken, length_of}
+use Rattle.journal_records.specs.Records.{journal_rules}
+use Rattle.journal_books.specs.Disks.{IsFit}
+use Rattle.journal_books.specs.Spelling.{IsInRange}
 use Rattle.stored_states.specs.Views.{segment_of}
 use Rattle.stored_states.specs.declared.segment.Segment as ran
 use Rattle.send_suspend.specs.Segments.{newest, Replays}
@@ -26,54 +33,74 @@ use Rattle.replay_spec.specs.Step as step
 use Rattle.replay_spec.specs.Runs as runs
 use Rattle.replay_spec.specs.Runs.{drawn_by, shelf_step}
 use Rattle.replay_spec.specs.Invariant.{IsOrderly}
+use Rattle.replay_spec.specs.Remade.{NameTheirCells}
 use Rattle.instance_book.specs.declared.ticket.Ticket.{Ticket}
 use Rattle.instance_book.specs.Views.{book_of, ticket_of, reply_of}
+use Rattle.instance_book.specs.Changes.{change_of, inside_of}
 use Rattle.instance_book.specs.Makes.{HasItsStates}
 use Rattle.instance_book.specs.Swept.{cells_in}
 use Rattle.instance_book.specs.Places.{arena_of}
 use Rattle.instance_book.specs.Fits.{FitsAs}
 use Rattle.instance_book.specs.Prepares.{rules_with}
 use Rattle.instance_book.specs.Laws.{KeepsStateAs}
+use Rattle.shelf.specs.declared.doubt.Doubt.{Doubt}
+use Rattle.shelf.specs.declared.doubt.Doubted.{Doubted}
+use Rattle.shelf.specs.declared.doubt.Doubted.TheVariants.{Visits, Sweeps}
 use Rattle.shelf.specs.declared.rules.Rules.{Rules}
 use Rattle.shelf.specs.declared.shelf.Shelf.{Shelf}
 
--- what the events of a shelf run under: it keeps no journal
-abbrev pub rules_of : Rules → spec_rules.Rules
-rules_of r = rules_with r.fuel r.life r.instances r.pages
+-- what the events of a shelf run under, before the record of a change is measured
+abbrev pub unmeasured : Rules → spec_rules.Rules
+unmeasured r = rules_with r.fuel r.life r.instances r.pages
 
--- The book of the shelf under this setup: of a shelf without a journal the length is 0, and nothing is in doubt.
-abbrev pub book_in : {N : Type 0} → List Named → Shelf N → Book
-book_in scripts s = book_of scripts 0 None s.book
+-- and with its journal, which these scripts begin
+abbrev pub rules_of : List Named → Rules → spec_rules.Rules
+rules_of scripts r = record (unmeasured r) { journal = Some (journal_rules r.number scripts) }
+
+-- a change that may have happened, and the transactions that its page is inside
+abbrev pub doubted_of : Doubted → spec.Change
+doubted_of (Visits c) = change_of c
+doubted_of (Sweeps tick) = spec.sweeps tick
+
+abbrev pub doubted_inside : Doubted → List TxName
+doubted_inside (Visits c) = inside_of c
+doubted_inside (Sweeps tick) = []
+
+abbrev pub doubt_of : Doubt → spec.Doubt
+doubt_of d = record { count = d.count; change = doubted_of d.change; inside = doubted_inside d.change }
+
+-- the book of the shelf under this setup, beside its journal, with what is in doubt
+abbrev pub book_in : {D N : Type 0} → List Named → Shelf D N → Book
+book_in scripts s = book_of scripts (length_of s.journal) (option_map doubt_of s.down) s.book
 
 -- the shelf, whose source has given so many nonces
-abbrev pub shelf_of : {N : Type 0} → List Named → (given : ℕ) → Shelf N → runs.Shelf
-shelf_of scripts given s = record { rules = rules_of s.rules; book = book_in scripts s; nonces = given }
+abbrev pub shelf_of : {D N : Type 0} → List Named → (given : ℕ) → Shelf D N → runs.Shelf
+shelf_of scripts given s = record { rules = rules_of scripts s.rules; book = book_in scripts s; nonces = given }
 
 -- behind so many nonces of this source these are to come
 abbrev pub HasGiven : (source : ℕ → ℕ) → (given : ℕ) → (coming : ℕ → ℕ) → Type 0
 HasGiven source given coming = (k : ℕ) → coming k ≡ source (given + k)
 
--- each instance is of a script of the setup and each page has the state of its chain, and the book is orderly
-pub record IsInOrder {N : Type 0} (scripts : List Named) (s : Shelf N) : Type 0 where
+-- What holds of a shelf between its calls, on a disk of this view: each instance is of a script of the setup and each page has
+-- the state of its chain; the book is orderly, of cells and numbers that records tell, and of the shelf's number; where
+-- nothing is in doubt, the journal can go on; and where the disk tells its bytes, it stands for the book.
+pub record IsInOrder {D N : Type 0} (view : D → View) (tells : Bool) (scripts : List Named) (s : Shelf D N) : Type 0 where
   pub states : HasItsStates scripts s.book
   pub orderly : IsOrderly (book_in scripts s)
+  pub named : NameTheirCells (book_in scripts s)
+  pub range : IsInRange (book_in scripts s)
+  pub number : s.book.shelf ≡ s.rules.number
+  pub few : length scripts ≤ 256
+  pub sound : journal.IsSound s.journal
+  pub whole : s.down ≡ None → is_broken s.journal ≡ false
+  pub fit : IsTrue tells → IsFit view scripts s.rules.number s.journal (book_in scripts s)
 
--- under each setup; one that was in order goes on to be; and a copy of a shelf
-abbrev pub IsAlwaysInOrder : {N : Type 0} → Shelf N → Type 0
-IsAlwaysInOrder s = (scripts : List Named) → IsInOrder scripts s
+-- under some setup; one that was in order goes on to be, under each
+abbrev pub IsInSomeOrder : {D N : Type 0} → (D → View) → Bool → Shelf D N → Type 0
+IsInSomeOrder view tells s = (scripts : List Named) × IsInOrder view tells scripts s
 
-abbrev pub StaysInOrder : {N : Type 0} → (old new : Shelf N) → Type 0
-StaysInOrder old new = (scripts : List Named) → IsInOrder scripts old → IsInOrder scripts new
-
-abbrev pub HasSameBook : {N : Type 0} → (s copy : Shelf N) → Type 0
-HasSameBook s copy = (scripts : List Named) → book_in scripts copy ≡ book_in scripts s
-
-abbrev pub HasSameNonces : {N : Type 0} → (coming : N → ℕ → ℕ) → (s copy : Shelf N) → Type 0
-HasSameNonces coming s copy = (k : ℕ) → coming copy.nonces k ≡ coming s.nonces k
-
--- a shelf with nothing in it, of this number
-abbrev pub IsEmpty : {N : Type 0} → Rules → Shelf N → Type 0
-IsEmpty rules s = (scripts : List Named) → shelf_of scripts 0 s ≡ runs.empty_shelf (rules_of rules) scripts rules.number
+abbrev pub StaysInOrder : {D N : Type 0} → (D → View) → Bool → (old new : Shelf D N) → Type 0
+StaysInOrder view tells old new = (scripts : List Named) → IsInOrder view tells scripts old → IsInOrder view tells scripts new
 
 -- what a take and a sweep answer
 abbrev pub taken_of : Result Ticket Reply → step.Reply
@@ -87,6 +114,7 @@ swept_of (Err r) = reply_of r
 -- the fate of an event is read off its reply
 abbrev pub fate_by : step.Reply → step.Fate
 fate_by step.memory = step.no_memory
+fate_by (step.disk_failed count) = step.disk_fault count
 fate_by _ = step.plain
 
 -- the event takes the one shelf to the other, with this reply, where this is the source of its nonces
@@ -94,24 +122,24 @@ abbrev pub IsStep : (source : ℕ → ℕ) → runs.Shelf → step.Event → ste
 IsStep source s event reply next = shelf_step source s event (fate_by reply) ≡ (reply, next)
 
 -- The event takes the shelf on, whatever its source is and has given, and the source goes on with it.
-pub record IsEvent {N : Type 0} (coming : N → ℕ → ℕ) (scripts : List Named) (old new : Shelf N) (event : step.Event) (reply : step.Reply) : Type 0 where
+pub record IsEvent {D N : Type 0} (coming : N → ℕ → ℕ) (scripts : List Named) (old new : Shelf D N) (event : step.Event) (reply : step.Reply) : Type 0 where
   pub step : (source : ℕ → ℕ) (given : ℕ) → HasGiven source given (coming old.nonces)
       → IsStep source (shelf_of scripts given old) event reply (shelf_of scripts (drawn_by reply given) new)
   pub nonces : (source : ℕ → ℕ) (given : ℕ) → HasGiven source given (coming old.nonces) → HasGiven source (drawn_by reply given) (coming new.nonces)
 
 -- what a target is admitted as, and why it is not
-abbrev pub admission_now : {N : Type 0} → Setup → Shelf N → Target → Admission
+abbrev pub admission_now : {D N : Type 0} → Setup → Shelf D N → Target → Admission
 admission_now setup s target = admit (book_in (scripts_of setup) s) (target_of target)
 
-abbrev pub refusal_now : {N : Type 0} → Setup → Shelf N → Target → Option Refusal
+abbrev pub refusal_now : {D N : Type 0} → Setup → Shelf D N → Target → Option Refusal
 refusal_now setup s target = refusal_of (admission_now setup s target)
 
 -- where the ticket's target is admitted now, the ticket is for the visit of it
-abbrev pub FitsNow : {N : Type 0} → Setup → Shelf N → Ticket → Type 0
+abbrev pub FitsNow : {D N : Type 0} → Setup → Shelf D N → Ticket → Type 0
 FitsNow setup s t = FitsAs (scripts_of setup) (book_in (scripts_of setup) s) t (admission_now setup s t.target)
 
 -- its number is out
-abbrev pub IsOut : {N : Type 0} → Setup → Shelf N → Ticket → Type 0
+abbrev pub IsOut : {D N : Type 0} → Setup → Shelf D N → Ticket → Type 0
 IsOut setup s t = Contains (book_in (scripts_of setup) s).out t.number
 
 -- the segment of the ticket over these cells, which goes on from what the ticket goes on from; and over the ticket's own cells
@@ -128,7 +156,7 @@ abbrev pub IsRunIfAny : List Named → (fuel : ℕ) → Ticket → Option ran.Se
 IsRunIfAny scripts fuel t None = ⊤
 IsRunIfAny scripts fuel t (Some r) = IsRunOf scripts fuel t r
 
-abbrev pub IsRunFor : {N : Type 0} → Setup → Shelf N → Ticket → Option ran.Segment → Type 0
+abbrev pub IsRunFor : {D N : Type 0} → Setup → Shelf D N → Ticket → Option ran.Segment → Type 0
 IsRunFor setup s t segment = IsRunIfAny (scripts_of setup) s.rules.fuel t segment
 
 -- no second run is due: a start's cells are its own, and the effects hold over the cells of an answered page's instance

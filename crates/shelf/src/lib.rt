@@ -1,18 +1,25 @@
-//! One shelf: a book, a source of nonces and the limits that its visits run under. Each call is one event of the shelf.
+//! One shelf: a book, the journal that has what made it, a source of nonces and the limits that its visits run under. Each call is one event of the shelf.
 #![tactic(auto)]
 
 ghost use Rattle.shelf.specs.Going.{TicketsGoOnToFit};
+ghost use Rattle.shelf.specs.Opening.{AReopenedShelfHasCrashed};
 
-mod copies;
+mod begin;
+mod doubt;
 mod publish;
 mod rules;
 mod second;
 mod shelf;
+mod sweep;
+mod take;
 
+pub use begin::BeginFault;
+pub use doubt::{Doubt, Doubted};
 use replay_spec::{orderly_books_stay, pages_stay};
 pub use rules::Rules;
 pub use second::run_ticket;
 pub use shelf::Shelf;
+use web_disk::Disk;
 
 /// A ticket that fits the book of its take goes on to fit: a page that was shown stays as it is while its instance lives, so
 /// what `publish` asks of a ticket is kept by every lawful event of the shelf, whatever stands in its journal.
@@ -22,3 +29,9 @@ pub fn tickets_go_on_to_fit()
     orderly_books_stay();
     pages_stay();
 }
+
+/// A shelf that is opened on what a crash left of a shelf in order is that shelf behind the event crash, what was in doubt
+/// lost or kept.
+pub fn a_reopened_shelf_has_crashed<D: Disk>()
+    ensures { AReopenedShelfHasCrashed D.view }
+{}

@@ -1,15 +1,78 @@
-ghost use Rattle.std.specs.Prelude.{◌≤◌};
+ghost use Rattle.std.specs.Prelude.{◌≡◌, ◌<◌, ◌≤◌, ◌^◌};
 ghost use Rattle.server_limits.specs.Limits.{most_fuel, most_life};
 
+use crate::doubt::Doubt;
 use crate::rules::Rules;
 use instance_book::Book;
+use page_journal::Journal;
+use web_disk::Disk;
 
-/// One shelf, in memory.
+/// One shelf: its book in memory, and on a disk the journal of what made it.
 #[derive(Drop)]
-pub struct Shelf<N> {
+pub struct Shelf<D: Disk, N> {
+    pub(crate) journal: Journal<D>,
     pub(crate) book: Book,
+    // What may have happened when the disk failed.
+    pub(crate) down: Option<Doubt>,
     pub(crate) nonces: N,
     pub(crate) rules: Rules,
     ghost fuel: { rules.fuel ≤ most_fuel },
     ghost life: { rules.life ≤ most_life },
+}
+
+impl<D: Disk, N> Shelf<D, N> {
+    ghost use Rattle.page_journal.specs.Settled.{IsSound, view_of, length_of};
+    ghost use Rattle.instance_book.specs.Makes.{count_of};
+
+    /// The book of the shelf.
+    pub fn book(&self) -> &Book
+        ensures { result.now ≡ self.now.book }
+    {
+        &self.book
+    }
+
+    /// How many instances are live.
+    pub fn live(&self) -> u32
+        ensures { result ≡ count_of self.now.book }
+    {
+        self.book.live()
+    }
+
+    /// The limits of the shelf.
+    pub fn rules(&self) -> Rules
+        ensures rules { result ≡ self.now.rules }
+        ensures fuel { result.fuel < 2 ^ 63 }
+    {
+        self.rules
+    }
+
+    /// How long the journal is, in bytes.
+    pub fn length(&self) -> u64
+        requires { IsSound self.now.journal }
+        ensures { result ≡ length_of self.now.journal }
+    {
+        self.journal.len()
+    }
+
+    /// How often a call of the disk has failed, up to the type's end.
+    pub fn faults(&self) -> u64
+        ensures { result ≡ (view_of D.view self.now.journal).faults }
+    {
+        self.journal.faults()
+    }
+
+    /// Gives back the disk, which stands for the book, with what is in doubt or without it, and the source of the nonces.
+    pub fn close(self) -> (D, N)
+        ensures disk { result.0 ≡ self.journal.disk }
+        ensures nonces { result.1 ≡ self.nonces }
+    {
+        let Shelf {
+            journal,
+            book: _,
+            down: _,
+            nonces,
+            rules: _,
+        } = self;
+        (journal.close(), nonces)
+    }
 }

