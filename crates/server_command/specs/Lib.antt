@@ -4,3 +4,4 @@ pub mod Output
 pub mod Serving
 pub mod Opening
 pub mod Command
+pub mod Telling

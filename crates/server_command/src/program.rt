@@ -1,30 +1,32 @@
-ghost use Rattle.std.specs.Prelude.{◌≡◌, ◌≢◌, ◌≤◌, ◌++◌, ◌∷◌, [], List, ℕ, Some, None, Ok, Err, codes, IfOk, string_bytes};
-ghost use Rattle.std.specs.Fmt.{decimal};
-ghost use Rattle.std.specs.Io.KnownBytes.{Keeps};
+ghost use Rattle.std.specs.Prelude.{◌≡◌, ◌≢◌, ◌≤◌, List, ℕ, Some, None, length, IsTrue};
 ghost use Rattle.web_outside.specs.Causes.{Rose};
 ghost use Rattle.web_outside.specs.Pieces.{HandsAllOn, HandsOn};
 ghost use Rattle.script_nodes.specs.Views.{scripts_of};
-ghost use Rattle.setup_reader.specs.Views.{fault_of, parsed_of};
+ghost use Rattle.setup_reader.specs.Limits.{AreShort};
+ghost use Rattle.setup_reader.specs.Views.{parsed_of};
 ghost use Rattle.command_words.specs.Plain.{AreInRange, CanServe, IsInRange, IsPlain};
 ghost use Rattle.command_words.specs.declared.Command.{Command as Asked};
-ghost use Rattle.request_workers.specs.Tallies.{count_of};
-ghost use Rattle.server_command.specs.declared.program.Status.{Status};
 ghost use Rattle.server_command.specs.Command as spec;
-ghost use Rattle.server_command.specs.Command.{Came, ComesServing, Counts, Ends, Explained, IsComplete, IsDoneUnlessFault, Outputs, OutputsFor, PlaysSteps, TellsFault, TellsFaultLine, TellsLine, texts, asked_in, asked_of, met_of, unread_line, unread_status};
-ghost use Rattle.server_command.specs.Output.{PrintsTo, ending_of, sinks_of};
-ghost use Rattle.server_command.specs.Serving.{Faults, LeavesInput, LeavesServing, TellsCount, count_line, faults_of, outside, serves_over, views};
+ghost use Rattle.server_command.specs.Command.{Came, CameServing, Ends, Explained, IsComplete, Outputs, OutputsFor, PlaysSteps, texts, asked_in, asked_of, met_of};
+ghost use Rattle.server_command.specs.Opening.{CanBegin};
+ghost use Rattle.server_command.specs.Output.{Chances, ending_of, sinks_of};
+ghost use Rattle.server_command.specs.Racks.{KeepsHome, racks_of};
+ghost use Rattle.server_command.specs.Serving.{Faults, LeavesInput, LeavesServing, faults_of, outside, serves_over, views};
+ghost use Rattle.server_command.specs.Telling.{TellsEnd, unopened_again, unopened_first};
 
-use crate::desk::{new_desk, transcripts_are_runs};
+use crate::opening::Unopened;
 use crate::serving::{ServeFault, serve};
-use command_words::{Command, Options, Service, WordsFault, read_words};
-use play_steps::{PlayEnd, play};
-use request_workers::Tally;
-use script_nodes::Setup;
-use setup_reader::{Ending, Parsed, SetupError, SetupFault, fault_line};
-use std::alloc::{AllocError, Global};
-use web_outside::{
-    Clock, Door, Gate, InputFault, Nonces, Seeds, Sink, Source, read_all, write_all, write_or_drop,
+use crate::telling::{
+    hand_on, no_memory, tell_count, tell_fault, tell_line, tell_tally, tell_unopened, tell_unread,
 };
+use command_words::{Command, Options, Service, WordsFault, read_words};
+use play_desk::{OpenFault, OpenWhy, open_desk, transcripts_are_runs};
+use play_steps::{PlayEnd, Reopen, play};
+use script_nodes::Setup;
+use setup_reader::{Ending, Parsed, SetupFault};
+use std::alloc::Global;
+use web_disk::{Disk, Rack};
+use web_outside::{Clock, Door, Gate, Nonces, Seeds, Sink, Source, read_all, write_or_drop};
 
 /// How a command ended.
 #[derive(Clone, Copy, Debug, PartialEq, Eq)]
@@ -88,11 +90,11 @@ fn unopened_first(fault: OpenFault) -> Unopened
 {
     let OpenFault { shelf, why } = fault;
     match why {
-        Unfit::Disk => Unopened::Disk { shelf },
-        Unfit::NotEmpty => Unopened::NotEmpty { shelf },
-        Unfit::Damaged { place } => Unopened::Damaged { shelf, place },
-        Unfit::Other { place } => Unopened::Other { shelf, place },
-        Unfit::Memory => Unopened::Memory,
+        OpenWhy::Disk => Unopened::Disk { shelf },
+        OpenWhy::NotEmpty => Unopened::NotEmpty { shelf },
+        OpenWhy::Damaged { place } => Unopened::Damaged { shelf, place },
+        OpenWhy::Other { place } => Unopened::Other { shelf, place },
+        OpenWhy::Memory => Unopened::Memory,
     }
 }
 
@@ -171,7 +173,9 @@ fn run_setup<O: Sink, D: Disk, R: Rack<D>>(
     output: &mut O,
     rack: &mut R,
 ) -> Status
-    requires { IsInRange (asked_of job.now) }
+    requires range { IsInRange (asked_of job.now) }
+    requires few { length (scripts_of parsed.now.setup) ≤ 15 }
+    requires short { AreShort (scripts_of parsed.now.setup) }
     ensures outputs { OutputsFor (racks_of (IsTrue R.tells × IsTrue D.tells) (R.view rack.old) (R.view rack.new))
         (asked_of job.now) (Ok (parsed_of parsed.now)) result (sinks_of (O.view output.old) (O.view output.new)) }
     ensures handed { HandsAllOn (O.view output.old) (O.view output.new) }
@@ -248,7 +252,9 @@ fn serve_setup<O: Sink, D: Disk, R: Rack<D>, A: Door, C: Clock, N: Nonces + Drop
     seeds: &mut S,
     gate: &G,
 ) -> Status
-    requires { CanServe service.now }
+    requires can { CanServe service.now }
+    requires few { length (scripts_of setup.now) ≤ 15 }
+    requires short { AreShort (scripts_of setup.now) }
     ensures outputs { let o = outside (views D.view D.tells A.Porch.Link.view A.Porch.view N.nonce (C.shows clock.now))
         (racks_of (IsTrue R.tells × IsTrue D.tells) (R.view rack.old) (R.view rack.new))
         (A.view door.old) (A.view door.new) (S.view seeds.old) in

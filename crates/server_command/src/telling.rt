@@ -1,4 +1,4 @@
-ghost use Rattle.std.specs.Prelude.{◌≡◌, ◌≢◌, ◌≤◌, ◌++◌, ◌×◌, ◌∷◌, [], Some, codes, IfOk, IsSome, string_bytes};
+ghost use Rattle.std.specs.Prelude.{◌≡◌, ◌≢◌, ◌≤◌, ◌++◌, ◌∷◌, [], Some, codes, IfOk, string_bytes};
 ghost use Rattle.std.specs.Fmt.{decimal};
 ghost use Rattle.std.specs.Io.KnownBytes.{Keeps};
 ghost use Rattle.web_outside.specs.Pieces.{HandsAllOn, HandsOn};
@@ -6,10 +6,11 @@ ghost use Rattle.script_nodes.specs.Views.{scripts_of};
 ghost use Rattle.setup_reader.specs.Views.{fault_of};
 ghost use Rattle.request_workers.specs.Tallies.{count_of};
 ghost use Rattle.server_command.specs.declared.program.Status.{Status};
-ghost use Rattle.server_command.specs.Command.{Counts, IsDoneUnlessFault, TellsFault, TellsFaultLine, TellsLine, TellsUnopened, unopened_line, unopened_status, unread_line, unread_status};
+ghost use Rattle.server_command.specs.Command.{Counts, IsDoneUnlessFault, TellsFault, TellsFaultLine, TellsLine, unread_line, unread_status};
 ghost use Rattle.server_command.specs.Output.{PrintsTo, sinks_of};
 ghost use Rattle.server_command.specs.Racks.{damaged, disk_line, not_empty, other, unfit_line};
 ghost use Rattle.server_command.specs.Serving.{TellsCount, count_line};
+ghost use Rattle.server_command.specs.Telling.{TellsUnopened, unopened_line, unopened_status};
 
 use crate::opening::Unopened;
 use crate::program::Status;
@@ -189,7 +190,7 @@ fn other_error(alloc: Global, shelf: u32, place: u64) -> Result<String, AllocErr
 
 // The line that tells why a shelf was not opened, where that is no want of memory.
 fn unopened_error(alloc: Global, why: Unopened) -> Result<String, AllocError>
-    ensures { IfOk result (λ text. IsSome (unopened_line why) × (Some (string_bytes text) ≡ unopened_line why)) }
+    ensures { IfOk result (λ text. unopened_line why ≡ Some (string_bytes text)) }
 {
     match why {
         Unopened::Disk { shelf } => disk_error(alloc, shelf),
