@@ -1,5 +1,5 @@
 -- Runs of steps go on where they stopped.
-use Rattle.std.proofs.Common.{◌≡◌, ℕ, ◌+◌, suc, [], ◌∷◌, List, ◌++◌, Some, None, Bool, true, false, refl, ap, ◌∙◌, arith, if◌then◌else◌}
+use Rattle.std.proofs.Common.{◌≡◌, ℕ, ◌+◌, [], ◌∷◌, List, ◌++◌, Some, None, Bool, true, false, refl, ap, ◌∙◌, arith, if◌then◌else◌}
 use Rattle.play_steps.specs.Rules.{StageRules}
 use Rattle.play_steps.specs.Step.{lines_in, lines_before}
 use Rattle.play_steps.specs.Transcript.{transcript, Run, End, done, bad_line, goes_on, behind, stopped, performed, fits}

@@ -4,3 +4,4 @@ pub mod Runs
 pub mod Sweeping
 pub mod Goes
 pub mod Spelled
+pub mod Risings

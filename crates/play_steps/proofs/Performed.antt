@@ -1,56 +1,104 @@
 -- The steps of a worker, by their calls.
-use Rattle.std.proofs.Common.{◌≡◌, ℕ, List, [], ◌∷◌, ◌++◌, append_assoc, Result, Ok, Err, ap, sym, ◌∙◌, refl}
+use Rattle.std.proofs.Common.{◌≡◌, ◌≤◌, inl, inr, ℕ, List, [], ◌∷◌, ◌++◌, append_assoc, Bool, true, false, ◌||◌, Result, Ok, Err, Vec, ap, sym, ◌∙◌, refl, subst, MatchResult, IfOk, IsTrue, Some}
+use Rattle.std.specs.declared.alloc.Global.{Global}
+use Rattle.web_outside.specs.Causes.{Rose}
 use Rattle.script_value.specs.declared.outcome.Reply.{Reply}
 use Rattle.play_steps.specs.Reports.{take_report}
-use Rattle.play_steps.specs.Rules.{StageRules, Call, answered, event, Comes, Takes, Publishes}
-use Rattle.play_steps.specs.Step.{take, publish, get}
+use Rattle.play_steps.specs.Rules.{StageRules, Call, answered, event, Comes, Crashes}
+use Rattle.play_steps.specs.Step.{Step, take, publish, get, crash, is_told}
 use Rattle.play_steps.specs.Transcript.{Run, called, went, got}
-use Rattle.play_steps.specs.Played.{Came}
-use Rattle.play_steps.specs.declared.report.Report.TheVariants.{Replied}
+use Rattle.play_steps.specs.Played.{Spot, HasRisen, Came, TellsCrash, Performs}
+use Rattle.play_steps.specs.declared.report.Report.{Report}
+use Rattle.play_steps.specs.declared.report.Report.TheVariants.{Replied, Reopened}
+use Rattle.play_steps.specs.declared.stage.Reopen.{Reopen}
+use Rattle.play_steps.specs.declared.stage.Reopen.TheVariants as reopen
+use Rattle.play_steps.specs.declared.performing.Halt.{Halt}
+use Rattle.play_steps.specs.declared.performing.Halt.TheVariants as halt
+use Rattle.play_steps.proofs.Risings.{rises_then}
 
 -- the fates that a call uses, and what stands behind it
-pub record Called (r : StageRules) {A : Type 0} (call : Call r.State r.Fate A) (s : r.State) (result : A) (t : r.State) : Type 0 where
+pub record Called (r : StageRules) {A : Type 0} (call : Call r.State r.Fate A) (s : Spot r) (result : A) (t : Spot r) : Type 0 where
   pub fates : List r.Fate
   pub is : (next : A → r.State → List r.Fate → Run r) (later : List r.Fate)
-      → called r call s (fates ++ later) next ≡ next result t later
+      → called r call s.state (fates ++ later) next ≡ next result t.state later
+  pub risen : HasRisen r fates s.faults t.faults
 
-pub comes_called : (r : StageRules) {A : Type 0} (call : Call r.State r.Fate A) (s t : r.State) (result : A)
-    → Comes call s result t → Called r call s result t
-comes_called r (answered a) s t result h =
-    record { fates = []; is = λ next later. ap (λ x. next x s later) h.0 ∙ ap (λ x. next result x later) (sym h.1) }
-comes_called r {A = A} (event by) s t result h =
-    record { fates = h.0 ∷ []; is = λ next later. ap (λ (x : A × r.State). next x.0 x.1 later) h.1 }
+only_fate : (b : Bool) → (b || false) ≡ true → b ≡ true
+only_fate true e = refl
+only_fate false e = e
 
-pub took : (r : StageRules) (s t : r.State) (worker : ℕ) (target : List ℕ) (result : Result ℕ Reply)
-    → Takes r s worker target result t → Came r s (take worker target) (take_report worker result ∷ []) t
-took r s t worker target result one =
-    let call = comes_called r (r.take s worker target) s t result one in
-    record { fates = call.fates; is = call.is (λ x. went r (take_report worker x ∷ [])) }
+pub comes_called : (r : StageRules) {A : Type 0} (call : Call r.State r.Fate A) (s t : Spot r) (rose : Type 0) (result : A)
+    → Comes r.fails rose call s.state result t.state → s.faults ≤ t.faults → (rose → Rose s.faults t.faults) → Called r call s result t
+comes_called r (answered a) s t rose result h le up = record {
+  fates = [];
+  is = λ next later. ap (λ x. next x s.state later) h.0 ∙ ap (λ x. next result x later) (sym h.1);
+  risen = record { later = le; fails = λ none. let no : ⊥ = cc in absurd no };
+}
+comes_called r {A = A} (event by) s t rose result h le up = record {
+  fates = h.0 ∷ [];
+  is = λ next later. ap (λ (x : A × r.State). next x.0 x.1 later) h.1;
+  risen = record { later = le; fails = λ some. up (h.2 (only_fate (r.fails h.0) some)) };
+}
 
-pub published : (r : StageRules) (s t : r.State) (worker : ℕ) (reply : Reply)
-    → Publishes r s worker reply t → Came r s (publish worker) (Replied worker reply ∷ []) t
-published r s t worker reply one =
-    let call = comes_called r (r.publish s worker) s t reply one in
-    record { fates = call.fates; is = call.is (λ x. went r (Replied worker x ∷ [])) }
+pub took : (r : StageRules) (s t : Spot r) (worker : ℕ) (target : List ℕ) (result : Result ℕ Reply)
+    → Called r (r.take s.state worker target) s result t → Came r s (take worker target) (take_report worker result ∷ []) t
+took r s t worker target result call =
+    record { fates = call.fates; is = call.is (λ x. went r (take_report worker x ∷ [])); risen = call.risen }
+
+pub published : (r : StageRules) (s t : Spot r) (worker : ℕ) (reply : Reply)
+    → Called r (r.publish s.state worker) s reply t → Came r s (publish worker) (Replied worker reply ∷ []) t
+published r s t worker reply call =
+    record { fates = call.fates; is = call.is (λ x. went r (Replied worker x ∷ [])); risen = call.risen }
 
 -- a get whose take was given a number
-pub got_number : (r : StageRules) (s mid t : r.State) (worker : ℕ) (target : List ℕ) (number : ℕ) (reply : Reply)
-    → Takes r s worker target (Ok number) mid → Publishes r mid worker reply t
+pub got_number : (r : StageRules) (s mid t : Spot r) (worker : ℕ) (target : List ℕ) (number : ℕ) (reply : Reply)
+    → Called r (r.take s.state worker target) s (Ok number) mid → Called r (r.publish mid.state worker) mid reply t
     → Came r s (get worker target) (Replied worker reply ∷ []) t
-got_number r s mid t worker target number reply one two =
-    let first = comes_called r (r.take s worker target) s mid (Ok number) one in
-    let second = comes_called r (r.publish mid worker) mid t reply two in
-    record {
-      fates = first.fates ++ second.fates;
-      is = λ later.
-          ap (λ fates. called r (r.take s worker target) s fates (got r worker)) (append_assoc first.fates second.fates later)
-          ∙ first.is (got r worker) (second.fates ++ later)
-          ∙ second.is (λ x. went r (Replied worker x ∷ [])) later;
-    }
+got_number r s mid t worker target number reply first second = record {
+  fates = first.fates ++ second.fates;
+  is = λ later.
+      ap (λ fates. called r (r.take s.state worker target) s.state fates (got r worker)) (append_assoc first.fates second.fates later)
+      ∙ first.is (got r worker) (second.fates ++ later)
+      ∙ second.is (λ x. went r (Replied worker x ∷ [])) later;
+  risen = rises_then r first.fates second.fates s.faults mid.faults t.faults first.risen second.risen;
+}
 
 -- a get whose take was refused
-pub got_refusal : (r : StageRules) (s t : r.State) (worker : ℕ) (target : List ℕ) (reply : Reply)
-    → Takes r s worker target (Err reply) t → Came r s (get worker target) (Replied worker reply ∷ []) t
-got_refusal r s t worker target reply one =
-    let call = comes_called r (r.take s worker target) s t (Err reply) one in
-    record { fates = call.fates; is = call.is (got r worker) }
+pub got_refusal : (r : StageRules) (s t : Spot r) (worker : ℕ) (target : List ℕ) (reply : Reply)
+    → Called r (r.take s.state worker target) s (Err reply) t → Came r s (get worker target) (Replied worker reply ∷ []) t
+got_refusal r s t worker target reply call =
+    record { fates = call.fates; is = call.is (got r worker); risen = call.risen }
+
+pub crashed : (r : StageRules) (s t : Spot r) (shelf live : ℕ)
+    → Called r (r.crash s.state shelf) s live t → Came r s (crash shelf) (Reopened shelf live ∷ []) t
+crashed r s t shelf live call =
+    record { fates = call.fates; is = call.is (λ x. went r (Reopened shelf x ∷ [])); risen = call.risen }
+
+-- what a step told is told, or there was no memory for it
+pub tells : (r : StageRules) (s t : Spot r) (step : Step) (told : List Report) (result : Result (Vec Report Global) Halt)
+    → MatchResult result (λ reports. reports.items ≡ told) (λ why. why ≡ halt.Memory) → Came r s step told t → Performs r step result s t
+tells r s t step told (Ok reports) is came = subst (λ (x : List Report). Came r s step x t) (sym is) came
+tells r s t step told (Err halt.Memory) is came = inl (told, came)
+tells r s t step told (Err (halt.Reopen shelf why)) is came = absurd (let no : ⊥ = cc in no)
+
+-- what is known of a crash is known of a disk that tells
+pub told_crash : (disk_tells : Bool) (step : Step) (shelf : ℕ) → crash shelf ≡ step → is_told disk_tells (Some step ∷ []) ≡ true → IsTrue disk_tells
+told_crash true step shelf is known = refl
+told_crash false step shelf is known =
+    absurd (let no = subst (λ (x : Step). is_told false (Some x ∷ []) ≡ true) (sym is) known in let never : ⊥ = cc in never)
+
+-- a shelf that crashed was opened again or not
+pub crash_performs : (r : StageRules) (s t : Spot r) (shelf : ℕ) (opened : Result ℕ Reopen) (result : Result (Vec Report Global) Halt)
+    → TellsCrash shelf opened result → IfOk opened (λ live. Crashes r (Rose s.faults t.faults) s.state shelf live t.state)
+    → s.faults ≤ t.faults → Performs r (crash shelf) result s t
+crash_performs r s t shelf (Ok live) result told comes le =
+    tells r s t (crash shelf) _ result told
+    (crashed r s t shelf live (comes_called r (r.crash s.state shelf) s t (Rose s.faults t.faults) live comes le (λ rose. rose)))
+crash_performs r s t shelf (Err reopen.Memory) result told comes le =
+    subst (λ (x : Result (Vec Report Global) Halt). Performs r (crash shelf) x s t) (sym told) (inr (shelf, refl))
+crash_performs r s t shelf (Err reopen.Disk) result told comes le =
+    subst (λ (x : Result (Vec Report Global) Halt). Performs r (crash shelf) x s t) (sym told) refl
+crash_performs r s t shelf (Err (reopen.Damaged place)) result told comes le =
+    subst (λ (x : Result (Vec Report Global) Halt). Performs r (crash shelf) x s t) (sym told) refl
+crash_performs r s t shelf (Err (reopen.Other place)) result told comes le =
+    subst (λ (x : Result (Vec Report Global) Halt). Performs r (crash shelf) x s t) (sym told) refl

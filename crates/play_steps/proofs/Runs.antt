@@ -1,14 +1,18 @@
 -- A run, step after step.
-use Rattle.std.proofs.Common.{◌≡◌, ◌+◌, ◌++◌, ℕ, List, [], ◌∷◌, Option, Some, None, true, false, if◌then◌else◌, append_assoc, append-nil, sym, ap, ◌∙◌, refl, subst}
+use Rattle.std.proofs.Common.{◌≡◌, ◌+◌, ◌++◌, ℕ, List, [], ◌∷◌, Option, Some, None, true, false, if◌then◌else◌, append_assoc, append-nil, Bool, ⊎_elim, inl, inr, sym, ap, ◌∙◌, refl, subst}
 use Rattle.std.specs.Io.KnownBytes.{Appends}
 use Rattle.web_outside.specs.Pieces.{AppendsPart}
 use Rattle.web_outside.proofs.Writes.{appends_none, appends_then, longer_part, whole_part}
 use Rattle.play_steps.specs.Rules.{StageRules}
-use Rattle.play_steps.specs.Step.{Step, lines_in}
+use Rattle.play_steps.specs.Step.{Step, take, publish, get, tick, crash, is_told, lines_in}
 use Rattle.play_steps.specs.Texts.{report_text, print}
 use Rattle.play_steps.specs.Transcript.{Run, went, stopped, behind, goes_on, done, bad_line, transcript, fits, performed, text_of}
-use Rattle.play_steps.specs.Played.{Scene, Came, Goes, Plays, Halts}
+use Rattle.play_steps.specs.Played.{Scene, Spot, HasRisen, Goes, Plays, Halts, Loses, HaltsBy, Leaves, end_of}
 use Rattle.play_steps.specs.declared.report.Report.{Report}
+use Rattle.play_steps.specs.declared.stage.Reopen.TheVariants as reopen
+use Rattle.play_steps.specs.declared.performing.Halt.{Halt}
+use Rattle.play_steps.specs.declared.performing.Halt.TheVariants as halt
+use Rattle.play_steps.proofs.Risings.{stays_risen, rises_then}
 
 -- reports, and then a run behind others
 pub joined : (r : StageRules) (told more : List Report) (run : Run r) → behind r told (behind r more run) ≡ behind r (told ++ more) run
@@ -29,34 +33,44 @@ pub record Reached (r : StageRules) (all : List (Option Step)) (start here : Sce
   pub told : List Report
   pub written : Appends start.written here.written (print told)
   pub is : (rest : List (Option Step)) (later : List r.Fate)
-      → transcript r start.state 1 (front ++ rest) (fates ++ later) ≡ behind r told (transcript r here.state number rest later)
+      → transcript r start.spot.state 1 (front ++ rest) (fates ++ later) ≡ behind r told (transcript r here.spot.state number rest later)
+  pub risen : HasRisen r fates start.spot.faults here.spot.faults
 
 pub begin : (r : StageRules) (all : List (Option Step)) (start : Scene r) → Reached r all start start 1 all
 begin r all start =
-    record { front = []; cut = refl; fates = []; told = []; written = appends_none start.written; is = λ rest later. refl }
+    record {
+      front = [];
+      cut = refl;
+      fates = [];
+      told = [];
+      written = appends_none start.written;
+      is = λ rest later. refl;
+      risen = stays_risen r start.spot.faults;
+    }
 
 -- one step of a run
-one : (r : StageRules) (s t : r.State) (number : ℕ) (step : Step) (rest : List (Option Step)) (told : List Report)
+one : (r : StageRules) (s t : Spot r) (number : ℕ) (step : Step) (rest : List (Option Step)) (told : List Report)
     (g : Goes r step told s t) (later : List r.Fate)
-    → transcript r s number (Some step ∷ rest) (g.came.fates ++ later) ≡ behind r told (transcript r t (number + lines_in step) rest later)
+    → transcript r s.state number (Some step ∷ rest) (g.came.fates ++ later)
+    ≡ behind r told (transcript r t.state (number + lines_in step) rest later)
 unfolding transcript
 one r s t number step rest told g later =
     let next : Run r → Run r = λ x. goes_on r x.end x (transcript r x.state (number + lines_in step) rest x.fates) in
-    ap (λ b. if b then next (performed r step s (g.came.fates ++ later)) else stopped r number s (g.came.fates ++ later)) g.fitting
+    ap (λ b. if b then next (performed r step s.state (g.came.fates ++ later)) else stopped r number s.state (g.came.fates ++ later)) g.fitting
     ∙ ap next (g.came.is later)
 
 -- the steps so far and one more
-more : (r : StageRules) (all : List (Option Step)) (start here : Scene r) (t : r.State) (number : ℕ) (step : Step)
-    (left : List (Option Step)) (told : List Report) (g : Goes r step told here.state t)
+more : (r : StageRules) (all : List (Option Step)) (start here : Scene r) (t : Spot r) (number : ℕ) (step : Step)
+    (left : List (Option Step)) (told : List Report) (g : Goes r step told here.spot t)
     (reached : Reached r all start here number (Some step ∷ left)) (rest : List (Option Step)) (later : List r.Fate)
-    → transcript r start.state 1 ((reached.front ++ Some step ∷ []) ++ rest) ((reached.fates ++ g.came.fates) ++ later)
-    ≡ behind r (reached.told ++ told) (transcript r t (number + lines_in step) rest later)
+    → transcript r start.spot.state 1 ((reached.front ++ Some step ∷ []) ++ rest) ((reached.fates ++ g.came.fates) ++ later)
+    ≡ behind r (reached.told ++ told) (transcript r t.state (number + lines_in step) rest later)
 more r all start here t number step left told g reached rest later =
-    ap (λ steps. transcript r start.state 1 steps ((reached.fates ++ g.came.fates) ++ later)) (append_assoc reached.front (Some step ∷ []) rest)
-    ∙ ap (transcript r start.state 1 (reached.front ++ Some step ∷ rest)) (append_assoc reached.fates g.came.fates later)
+    ap (λ steps. transcript r start.spot.state 1 steps ((reached.fates ++ g.came.fates) ++ later)) (append_assoc reached.front (Some step ∷ []) rest)
+    ∙ ap (transcript r start.spot.state 1 (reached.front ++ Some step ∷ rest)) (append_assoc reached.fates g.came.fates later)
     ∙ reached.is (Some step ∷ rest) (g.came.fates ++ later)
-    ∙ ap (behind r reached.told) (one r here.state t number step rest told g later)
-    ∙ joined r reached.told told (transcript r t (number + lines_in step) rest later)
+    ∙ ap (behind r reached.told) (one r here.spot t number step rest told g later)
+    ∙ joined r reached.told told (transcript r t.state (number + lines_in step) rest later)
 
 -- what was written so far, and what is written behind it
 pub both_written : (r : StageRules) (start here there : Scene r) (told : List Report) (more : List ℕ)
@@ -66,7 +80,7 @@ both_written r start here there told more one two =
     appends_then start.written here.written there.written (print told) more one two
 
 pub one_more : (r : StageRules) (all : List (Option Step)) (start here there : Scene r) (number : ℕ) (step : Step)
-    (left : List (Option Step)) (told : List Report) → Goes r step told here.state there.state
+    (left : List (Option Step)) (told : List Report) → Goes r step told here.spot there.spot
     → Reached r all start here number (Some step ∷ left) → Appends here.written there.written (print told)
     → Reached r all start there (number + lines_in step) left
 one_more r all start here there number step left told g reached written = record {
@@ -76,7 +90,8 @@ one_more r all start here there number step left told g reached written = record
   told = reached.told ++ told;
   written = subst (Appends start.written there.written) (sym (print_joined reached.told told))
       (both_written r start here there reached.told (print told) reached.written written);
-  is = more r all start here there.state number step left told g reached;
+  is = more r all start here there.spot number step left told g reached;
+  risen = rises_then r reached.fates g.came.fates start.spot.faults here.spot.faults there.spot.faults reached.risen g.came.risen;
 }
 
 over : (r : StageRules) (s : r.State) (number : ℕ) (fates : List r.Fate) → transcript r s number [] fates ≡ went r [] s fates
@@ -106,11 +121,11 @@ alone r told run e =
 
 -- the whole run, where what is left gives a run that tells nothing
 rest_is : (r : StageRules) (all : List (Option Step)) (start here : Scene r) (number : ℕ) (left : List (Option Step))
-    (reached : Reached r all start here number left) (run : Run r) → run.told ≡ [] → transcript r here.state number left [] ≡ run
-    → transcript r start.state 1 all reached.fates ≡ record { told = reached.told; end = run.end; state = run.state; fates = run.fates }
+    (reached : Reached r all start here number left) (run : Run r) → run.told ≡ [] → transcript r here.spot.state number left [] ≡ run
+    → transcript r start.spot.state 1 all reached.fates ≡ record { told = reached.told; end = run.end; state = run.state; fates = run.fates }
 rest_is r all start here number left reached run silent e =
-    none_more r start.state all reached.fates
-    ∙ ap (λ steps. transcript r start.state 1 steps (reached.fates ++ [])) reached.cut
+    none_more r start.spot.state all reached.fates
+    ∙ ap (λ steps. transcript r start.spot.state 1 steps (reached.fates ++ [])) reached.cut
     ∙ reached.is left [] ∙ ap (behind r reached.told) e ∙ alone r reached.told run silent
 
 pub at_end : (r : StageRules) (all : List (Option Step)) (start here : Scene r) (number : ℕ)
@@ -118,51 +133,53 @@ pub at_end : (r : StageRules) (all : List (Option Step)) (start here : Scene r) 
 at_end r all start here number reached = record {
   fates = reached.fates;
   told = reached.told;
-  is = rest_is r all start here number [] reached (went r [] here.state []) refl (over r here.state number []);
+  is = rest_is r all start here number [] reached (went r [] here.spot.state []) refl (over r here.spot.state number []);
   written = reached.written;
+  risen = reached.risen;
 }
 
 stands : (r : StageRules) (all : List (Option Step)) (start here : Scene r) (number : ℕ) (left : List (Option Step))
-    → transcript r here.state number left [] ≡ stopped r number here.state []
+    → transcript r here.spot.state number left [] ≡ stopped r number here.spot.state []
     → Reached r all start here number left → Plays r all (bad_line number) start here
 stands r all start here number left is reached = record {
   fates = reached.fates;
   told = reached.told;
-  is = rest_is r all start here number left reached (stopped r number here.state []) refl is;
+  is = rest_is r all start here number left reached (stopped r number here.spot.state []) refl is;
   written = reached.written;
+  risen = reached.risen;
 }
 
 pub at_line : (r : StageRules) (all : List (Option Step)) (start here : Scene r) (number : ℕ) (left : List (Option Step))
     → Reached r all start here number (None ∷ left) → Plays r all (bad_line number) start here
-at_line r all start here number left = stands r all start here number (None ∷ left) (no_step r here.state number left [])
+at_line r all start here number left = stands r all start here number (None ∷ left) (no_step r here.spot.state number left [])
 
 pub at_step : (r : StageRules) (all : List (Option Step)) (start here : Scene r) (number : ℕ) (step : Step)
-    (left : List (Option Step)) → fits r step here.state ≡ false
+    (left : List (Option Step)) → fits r step here.spot.state ≡ false
     → Reached r all start here number (Some step ∷ left) → Plays r all (bad_line number) start here
 at_step r all start here number step left h =
-    stands r all start here number (Some step ∷ left) (no_fit r here.state number step left [] h)
+    stands r all start here number (Some step ∷ left) (no_fit r here.spot.state number step left [] h)
 
 -- the steps so far, alone
 pub so_far : (r : StageRules) (all : List (Option Step)) (start here : Scene r) (number : ℕ) (left : List (Option Step))
     (reached : Reached r all start here number left)
-    → transcript r start.state 1 reached.front reached.fates ≡ went r reached.told here.state []
+    → transcript r start.spot.state 1 reached.front reached.fates ≡ went r reached.told here.spot.state []
 so_far r all start here number left reached =
-    none_more r start.state reached.front reached.fates
-    ∙ ap (λ steps. transcript r start.state 1 steps (reached.fates ++ [])) (sym (append-nil reached.front))
-    ∙ reached.is [] [] ∙ ap (behind r reached.told) (over r here.state number [])
-    ∙ alone r reached.told (went r [] here.state []) refl
+    none_more r start.spot.state reached.front reached.fates
+    ∙ ap (λ steps. transcript r start.spot.state 1 steps (reached.fates ++ [])) (sym (append-nil reached.front))
+    ∙ reached.is [] [] ∙ ap (behind r reached.told) (over r here.spot.state number [])
+    ∙ alone r reached.told (went r [] here.spot.state []) refl
 
 -- the transcript of all begins with the text of the steps so far and of the next
-pub begins : (r : StageRules) (all : List (Option Step)) (start here : Scene r) (t : r.State) (number : ℕ) (step : Step)
-    (left : List (Option Step)) (told : List Report) (g : Goes r step told here.state t)
+pub begins : (r : StageRules) (all : List (Option Step)) (start here : Scene r) (t : Spot r) (number : ℕ) (step : Step)
+    (left : List (Option Step)) (told : List Report) (g : Goes r step told here.spot t)
     (reached : Reached r all start here number (Some step ∷ left))
-    → text_of (transcript r start.state 1 all (reached.fates ++ g.came.fates))
-    ≡ (print reached.told ++ print told) ++ text_of (transcript r t (number + lines_in step) left [])
+    → text_of (transcript r start.spot.state 1 all (reached.fates ++ g.came.fates))
+    ≡ (print reached.told ++ print told) ++ text_of (transcript r t.state (number + lines_in step) left [])
 begins r all start here t number step left told g reached =
-    let later = transcript r t (number + lines_in step) left [] in
+    let later = transcript r t.state (number + lines_in step) left [] in
     ap (λ (x : Run r). print x.told)
-    (none_more r start.state all (reached.fates ++ g.came.fates)
-    ∙ ap (λ steps. transcript r start.state 1 steps ((reached.fates ++ g.came.fates) ++ []))
+    (none_more r start.spot.state all (reached.fates ++ g.came.fates)
+    ∙ ap (λ steps. transcript r start.spot.state 1 steps ((reached.fates ++ g.came.fates) ++ []))
     (reached.cut ∙ sym (append_assoc reached.front (Some step ∷ []) left))
     ∙ more r all start here t number step left told g reached left [])
     ∙ print_joined (reached.told ++ told) later.told
@@ -170,14 +187,14 @@ begins r all start here t number step left told g reached =
 
 -- the run halted behind this front of the text of the next step
 unfoldable pub halted : (r : StageRules) (all : List (Option Step)) (start here there : Scene r) (number : ℕ) (step : Step)
-    (left : List (Option Step)) (told : List Report) → Goes r step told here.state there.state
+    (left : List (Option Step)) (told : List Report) → Goes r step told here.spot there.spot
     → Reached r all start here number (Some step ∷ left)
     → (shown hidden : List ℕ) → print told ≡ shown ++ hidden → Appends here.written there.written shown
     → Halts r all shown start there
 halted r all start here there number step left told g reached shown hidden split written =
     let whole = both_written r start here there reached.told shown reached.written written in
-    let later = text_of (transcript r there.state (number + lines_in step) left []) in
-    let text = begins r all start here there.state number step left told g reached
+    let later = text_of (transcript r there.spot.state (number + lines_in step) left []) in
+    let text = begins r all start here there.spot number step left told g reached
     ∙ ap (λ w. (print reached.told ++ w) ++ later) split
     ∙ ap (λ w. w ++ later) (sym (append_assoc (print reached.told) shown hidden)) in
     record {
@@ -187,8 +204,9 @@ halted r all start here there number step left told g reached shown hidden split
       cut = reached.cut;
       fates = reached.fates;
       told = reached.told;
-      middle = here.state;
+      middle = here.spot;
       is = so_far r all start here number (Some step ∷ left) reached;
+      risen = reached.risen;
       fitting = g.fitting;
       last = told;
       came = g.came;
@@ -202,3 +220,70 @@ halted r all start here there number step left told g reached shown hidden split
       later = later;
       all = text ∙ append_assoc (print reached.told ++ shown) hidden later;
     }
+
+-- the run lost a shelf, which crashed
+pub lost : (r : StageRules) (all : List (Option Step)) (start here there : Scene r) (number shelf : ℕ) (left : List (Option Step))
+    → fits r (crash shelf) here.spot.state ≡ true → Reached r all start here number (Some (crash shelf) ∷ left)
+    → there.written ≡ here.written → Loses r all shelf start there
+lost r all start here there number shelf left fitting reached same = record {
+  front = reached.front;
+  rest = left;
+  cut = reached.cut;
+  fates = reached.fates;
+  told = reached.told;
+  middle = here.spot;
+  is = so_far r all start here number (Some (crash shelf) ∷ left) reached;
+  risen = reached.risen;
+  fitting = fitting;
+  written = subst (λ w. Appends start.written w (print reached.told)) (sym same) reached.written;
+}
+
+lost_at : (r : StageRules) (all : List (Option Step)) (start here there : Scene r) (number : ℕ) (step : Step) (shelf : ℕ)
+    (left : List (Option Step)) → step ≡ crash shelf → fits r step here.spot.state ≡ true
+    → Reached r all start here number (Some step ∷ left) → there.written ≡ here.written → Loses r all shelf start there
+lost_at r all start here there number step shelf left is fitting reached same =
+    lost r all start here there number shelf left (ap (λ (x : Step). fits r x here.spot.state) (sym is) ∙ fitting)
+    (subst (λ (x : Step). Reached r all start here number (Some x ∷ left)) is reached) same
+
+-- the run halted at a step, of which nothing was told
+pub stops : (r : StageRules) (all : List (Option Step)) (start here there : Scene r) (number : ℕ) (step : Step)
+    (left : List (Option Step)) (why : Halt) → fits r step here.spot.state ≡ true → HaltsBy r step why here.spot there.spot
+    → there.written ≡ here.written → Reached r all start here number (Some step ∷ left) → Leaves r all (end_of why) start there
+stops r all start here there number step left halt.Memory fitting halts same reached =
+    ⊎_elim
+    (λ tells.
+    let nothing = subst (λ w. Appends here.written w []) (sym same) (appends_none here.written) in
+    inl (halted r all start here there number step left tells.0 (record { fitting = fitting; came = tells.1 }) reached [] (print tells.0) refl nothing))
+    (λ crashes. inr (crashes.0, lost_at r all start here there number step crashes.0 left crashes.1 fitting reached same)) halts
+stops r all start here there number step left (halt.Reopen shelf reopen.Memory) fitting halts same reached = absurd halts
+stops r all start here there number step left (halt.Reopen shelf reopen.Disk) fitting halts same reached =
+    lost_at r all start here there number step shelf left halts fitting reached same
+stops r all start here there number step left (halt.Reopen shelf (reopen.Damaged place)) fitting halts same reached =
+    lost_at r all start here there number step shelf left halts fitting reached same
+stops r all start here there number step left (halt.Reopen shelf (reopen.Other place)) fitting halts same reached =
+    lost_at r all start here there number step shelf left halts fitting reached same
+
+first_told : (step : Step) (left : List (Option Step)) → is_told false (Some step ∷ left) ≡ true → is_told false (Some step ∷ []) ≡ true
+first_told (take worker target) left known = refl
+first_told (publish worker) left known = refl
+first_told (get worker target) left known = refl
+first_told (tick time) left known = refl
+first_told (crash shelf) left known = absurd (let no : ⊥ = cc in no)
+
+rest_told : (step : Option Step) (left : List (Option Step)) → is_told false (step ∷ left) ≡ true → is_told false left ≡ true
+rest_told None left known = known
+rest_told (Some (take worker target)) left known = known
+rest_told (Some (publish worker)) left known = known
+rest_told (Some (get worker target)) left known = known
+rest_told (Some (tick time)) left known = known
+rest_told (Some (crash shelf)) left known = absurd (let no : ⊥ = cc in no)
+
+-- what is known of the steps of a run is known of the next one
+pub next_told : (disk_tells : Bool) (front left : List (Option Step)) (all : List (Option Step)) (step : Step) → all ≡ front ++ Some step ∷ left
+    → is_told disk_tells all ≡ true → is_told disk_tells (Some step ∷ []) ≡ true
+next_told true front left all step cut known = refl
+next_told false [] left all step cut known =
+    let whole = subst (λ (x : List (Option Step)). is_told false x ≡ true) cut known in first_told step left whole
+next_told false (s ∷ front) left all step cut known =
+    let whole = subst (λ (x : List (Option Step)). is_told false x ≡ true) cut known in
+    next_told false front left (front ++ Some step ∷ left) step refl (rest_told s (front ++ Some step ∷ left) whole)

@@ -11,7 +11,7 @@ use Rattle.script_value.specs.Texts.{lacks}
 use Rattle.script_value.proofs.Options.{bound}
 use Rattle.script_value.proofs.Cuts.{behind_spelled, cut_spelled, cut_found, lacking}
 use Rattle.script_value.proofs.Numerals.{number_spelled, number_found, decimal_digits}
-use Rattle.play_steps.specs.Step.{Step, take, publish, get, tick, worker_of, is_target, is_target_byte, aim_of, take_of, publish_of, get_of, tick_of, first_of, step_of, first_step, steps_of, line_of, lines_in, lines_of, newlines, IsStep, AreSteps}
+use Rattle.play_steps.specs.Step.{Step, take, publish, get, tick, crash, worker_of, is_target, is_target_byte, aim_of, take_of, publish_of, get_of, tick_of, crash_of, first_of, step_of, first_step, steps_of, line_of, lines_of, newlines, IsStep, AreSteps}
 use Rattle.play_steps.specs.Laws.{LinesAreSteps, LinesAreCounted}
 use Rattle.play_steps.proofs.Lines.{one_line, first_cut, cut_first, steps_first, steps_none, steps_nil}
 
@@ -68,6 +68,16 @@ tick_spelled line s e =
     subst (λ (x : Step). (line ≡ line_of x) × IsStep x) same
     (behind_spelled (codes "tick ") line rest.0 rest.1 ∙ ap (λ ds. codes "tick " ++ ds) number.0, number.1)
 
+crash_spelled : (line : List ℕ) (s : Step) → crash_of line ≡ Some s → (line ≡ line_of s) × IsStep s
+unfolding crash_of
+crash_spelled line s e =
+    let rest = bound (behind (codes "crash ") line) _ s e in
+    let shelf = bound (number_below (2 ^ 32) rest.0) _ s rest.2 in
+    let number = number_spelled (2 ^ 32) rest.0 shelf.0 (omega arith) shelf.1 in
+    let same : crash shelf.0 ≡ s = cc in
+    subst (λ (x : Step). (line ≡ line_of x) × IsStep x) same
+    (behind_spelled (codes "crash ") line rest.0 rest.1 ∙ ap (λ ds. codes "crash " ++ ds) number.0, number.1)
+
 either : (a b : Option Step) (s : Step) → first_of a b ≡ Some s → (a ≡ Some s) ⊎ (b ≡ Some s)
 either None b s e = inr e
 either (Some t) b s e = inl e
@@ -77,9 +87,14 @@ unfolding step_of
 step_spelled line s e =
     ⊎_elim (take_spelled line s)
     (λ no_take. ⊎_elim (publish_spelled line s)
-    (λ no_publish. ⊎_elim (get_spelled line s) (tick_spelled line s) (either (get_of line) (tick_of line) s no_publish))
-    (either (publish_of line) (first_of (get_of line) (tick_of line)) s no_take))
-    (either (take_of line) (first_of (publish_of line) (first_of (get_of line) (tick_of line))) s e)
+    (λ no_publish. ⊎_elim (get_spelled line s)
+    (λ no_get. ⊎_elim (tick_spelled line s) (crash_spelled line s) (either (tick_of line) (crash_of line) s no_get))
+    (either (get_of line) ticks s no_publish))
+    (either (publish_of line) (first_of (get_of line) ticks) s no_take))
+    (either (take_of line) (first_of (publish_of line) (first_of (get_of line) ticks)) s e)
+  where
+    ticks : Option Step
+    ticks = first_of (tick_of line) (crash_of line)
 
 -- what is spelled so is read
 
@@ -92,11 +107,12 @@ aim_found worker target small is =
     rw (parts, number, is) refl
 
 step_found : (s : Step) → IsStep s → step_of (line_of s) ≡ Some s
-unfolding step_of take_of publish_of get_of tick_of
+unfolding step_of take_of publish_of get_of tick_of crash_of
 step_found (take worker target) is = let aim = aim_found worker target is.0 is.1 in rw aim refl
 step_found (publish worker) is = let number = number_found 16 worker (omega arith) is in rw number refl
 step_found (get worker target) is = let aim = aim_found worker target is.0 is.1 in rw aim refl
 step_found (tick time) is = let number = number_found (2 ^ 62) time (omega arith) is in rw number refl
+step_found (crash shelf) is = let number = number_found (2 ^ 32) shelf (omega arith) is in rw number refl
 
 -- no newline stands in a line
 
@@ -114,6 +130,7 @@ lineless (take worker target) is = aim_lacks worker target is.0 is.1
 lineless (publish worker) is = digits_lack worker (omega arith)
 lineless (get worker target) is = aim_lacks worker target is.0 is.1
 lineless (tick time) is = digits_lack time (omega arith)
+lineless (crash shelf) is = digits_lack shelf (omega arith)
 
 not_true : (b : Bool) → not b ≡ true → b ≡ false
 not_true false e = refl

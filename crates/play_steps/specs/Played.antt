@@ -1,37 +1,80 @@
 -- What a run of steps leaves behind.
-use Rattle.std.specs.Prelude.{[], ◌≡◌, ◌<◌, ℕ, length, List, ◌∷◌, ◌++◌, Option, Some, true, false, IfOk, IsOkAnd, Result, Vec}
+use Rattle.std.specs.Prelude.{[], ◌≡◌, ◌⊎◌, ◌<◌, ◌≤◌, ℕ, length, List, ◌∷◌, ◌++◌, Option, Some, true, false, IfOk, IsOkAnd, MatchResult, Result, Ok, Err, Vec}
+use Rattle.std.specs.List.{list_any}
 use Rattle.std.specs.declared.alloc.Global.{Global}
 use Rattle.std.specs.Io.KnownBytes.{Appends}
+use Rattle.web_outside.specs.Causes.{Rose}
 use Rattle.web_outside.specs.Pieces.{AppendsPart, IsCutShort}
 use Rattle.play_steps.specs.Rules.{StageRules}
-use Rattle.play_steps.specs.Step.{Step}
+use Rattle.play_steps.specs.Step.{Step, crash}
 use Rattle.play_steps.specs.Texts.{print}
 use Rattle.play_steps.specs.Transcript.{End, done, bad_line, went, fits, performed, text_of, transcript}
+use Rattle.play_steps.specs.declared.stage.Reopen.{Reopen}
+use Rattle.play_steps.specs.declared.stage.Reopen.TheVariants as reopen
 use Rattle.play_steps.specs.declared.report.Report.{Report}
+use Rattle.play_steps.specs.declared.report.Report.TheVariants.{Reopened}
+use Rattle.play_steps.specs.declared.performing.Halt.{Halt}
+use Rattle.play_steps.specs.declared.performing.Halt.TheVariants as halt
 use Rattle.play_steps.specs.declared.run.PlayEnd.{PlayEnd}
-use Rattle.play_steps.specs.declared.run.PlayEnd.TheVariants.{Done, Line, Write, Memory}
+use Rattle.play_steps.specs.declared.run.PlayEnd.TheVariants.{Done, Line, Write, Memory, Reopen as Lost}
 use Rattle.play_steps.specs.declared.run.Turn.{Turn}
-use Rattle.play_steps.specs.declared.run.Turn.TheVariants.{Went, NoFit, Write as TurnWrite, Memory as TurnMemory}
+use Rattle.play_steps.specs.declared.run.Turn.TheVariants.{Went, NoFit, Write as TurnWrite, Halted}
 
--- what a sink was given, where it tells it, and a stage's state
+-- a stage's state, and how often its devices have failed
+pub record Spot (r : StageRules) : Type 0 where
+  pub state : r.State
+  pub faults : ℕ
+
+abbrev pub spot : (r : StageRules) → r.State → ℕ → Spot r
+spot r s faults = record { state = s; faults = faults }
+
+-- what a sink was given, where it tells it, and where a stage stands
 pub record Scene (r : StageRules) : Type 0 where
   pub written : Option (List ℕ)
-  pub state : r.State
+  pub spot : Spot r
 
-abbrev pub scene : (r : StageRules) → Option (List ℕ) → r.State → Scene r
-scene r written s = record { written = written; state = s }
+abbrev pub scene : (r : StageRules) → Option (List ℕ) → r.State → ℕ → Scene r
+scene r written s faults = record { written = written; spot = spot r s faults }
+
+-- the count of faults did not fall, and it rose where one of these fates fails
+pub record HasRisen (r : StageRules) (fates : List r.Fate) (before now : ℕ) : Type 0 where
+  pub later : before ≤ now
+  pub fails : list_any r.fails fates ≡ true → Rose before now
 
 -- a step tells this and leaves this state, for some fates of its events: for these and no more, whatever fates stand behind them
-pub record Came (r : StageRules) (s : r.State) (step : Step) (told : List Report) (t : r.State) : Type 0 where
+pub record Came (r : StageRules) (s : Spot r) (step : Step) (told : List Report) (t : Spot r) : Type 0 where
   pub fates : List r.Fate
-  pub is : (later : List r.Fate) → performed r step s (fates ++ later) ≡ went r told t later
+  pub is : (later : List r.Fate) → performed r step s.state (fates ++ later) ≡ went r told t.state later
+  pub risen : HasRisen r fates s.faults t.faults
 
 -- a list has grown by these, where there was memory for it before and still is
 abbrev pub Lengthens : {A E : Type 0} → Result (Vec A Global) E → List A → Result (Vec A Global) E → Type 0
 Lengthens list more longer = IfOk longer (λ whole. IsOkAnd list (λ front. whole.items ≡ front.items ++ more))
 
--- a step was performed so, and this is what it told, or there was no memory for that
-pub record Performs {E : Type 0} (r : StageRules) (step : Step) (result : Result (Vec Report Global) E) (s t : r.State) : Type 0 where
+-- a step was performed, and told this
+abbrev pub Tells : (r : StageRules) → Step → Spot r → Spot r → Type 0
+Tells r step s t = (told : List Report) × Came r s step told t
+
+-- Why a step was not told: there was no memory for that, or none to open a shelf again that crashed, or another cause not to open
+-- it.
+abbrev pub HaltsBy : (r : StageRules) → Step → Halt → Spot r → Spot r → Type 0
+HaltsBy r step halt.Memory s t = Tells r step s t ⊎ ((shelf : ℕ) × (step ≡ crash shelf))
+HaltsBy r step (halt.Reopen shelf reopen.Memory) s t = ⊥
+HaltsBy r step (halt.Reopen shelf _) s t = step ≡ crash shelf
+
+-- a step was performed so, and this is what it told, or why it told nothing
+abbrev pub Performs : (r : StageRules) → Step → Result (Vec Report Global) Halt → Spot r → Spot r → Type 0
+Performs r step (Ok reports) s t = Came r s step reports.items t
+Performs r step (Err halt) s t = HaltsBy r step halt s t
+
+-- what a crash told: how many instances are live, where there was memory for it, or why the shelf was not opened again
+abbrev pub TellsCrash : (shelf : ℕ) → Result ℕ Reopen → Result (Vec Report Global) Halt → Type 0
+TellsCrash shelf (Ok live) result = MatchResult result (λ reports. reports.items ≡ Reopened shelf live ∷ []) (λ why. why ≡ halt.Memory)
+TellsCrash shelf (Err reopen.Memory) result = result ≡ Err halt.Memory
+TellsCrash shelf (Err why) result = result ≡ Err (halt.Reopen shelf why)
+
+-- the sweeps of a tick are performed so, and this is what they told, or there was no memory for that
+pub record SweepsAll {E : Type 0} (r : StageRules) (step : Step) (result : Result (Vec Report Global) E) (s t : Spot r) : Type 0 where
   pub told : List Report
   pub came : Came r s step told t
   pub is : IfOk result (λ reports. reports.items ≡ told)
@@ -40,8 +83,9 @@ pub record Performs {E : Type 0} (r : StageRules) (step : Step) (result : Result
 pub record Plays (r : StageRules) (steps : List (Option Step)) (end : End) (before after : Scene r) : Type 0 where
   pub fates : List r.Fate
   pub told : List Report
-  pub is : transcript r before.state 1 steps fates ≡ record { told = told; end = end; state = after.state; fates = [] }
+  pub is : transcript r before.spot.state 1 steps fates ≡ record { told = told; end = end; state = after.spot.state; fates = [] }
   pub written : Appends before.written after.written (print told)
+  pub risen : HasRisen r fates before.spot.faults after.spot.faults
 
 -- For some fates the run came to a step that fits, performed it and halted there. The sink grew by the whole transcript of the
 -- steps before it and by this front of its own text, and so by a front of the transcript of all.
@@ -52,36 +96,58 @@ pub record Halts (r : StageRules) (steps : List (Option Step)) (shown : List ℕ
   pub cut : steps ≡ front ++ Some step ∷ rest
   pub fates : List r.Fate
   pub told : List Report
-  pub middle : r.State
-  pub is : transcript r before.state 1 front fates ≡ went r told middle []
-  pub fitting : fits r step middle ≡ true
+  pub middle : Spot r
+  pub is : transcript r before.spot.state 1 front fates ≡ went r told middle.state []
+  pub risen : HasRisen r fates before.spot.faults middle.faults
+  pub fitting : fits r step middle.state ≡ true
   pub last : List Report
-  pub came : Came r middle step last after.state
+  pub came : Came r middle step last after.spot
   pub hidden : List ℕ
   pub split : print last ≡ shown ++ hidden
   pub written : Appends before.written after.written (print told ++ shown)
-  pub part : AppendsPart before.written after.written (text_of (transcript r before.state 1 steps (fates ++ came.fates)))
+  pub part : AppendsPart before.written after.written (text_of (transcript r before.spot.state 1 steps (fates ++ came.fates)))
   pub later : List ℕ
-  pub all : text_of (transcript r before.state 1 steps (fates ++ came.fates)) ≡ (print told ++ shown) ++ (hidden ++ later)
+  pub all : text_of (transcript r before.spot.state 1 steps (fates ++ came.fates)) ≡ (print told ++ shown) ++ (hidden ++ later)
+
+-- For some fates the run came to a crash of this shelf, which fits, and the shelf was not opened again. The sink grew by the whole
+-- transcript of the steps before it, and by nothing of that step.
+pub record Loses (r : StageRules) (steps : List (Option Step)) (shelf : ℕ) (before after : Scene r) : Type 0 where
+  pub front : List (Option Step)
+  pub rest : List (Option Step)
+  pub cut : steps ≡ front ++ Some (crash shelf) ∷ rest
+  pub fates : List r.Fate
+  pub told : List Report
+  pub middle : Spot r
+  pub is : transcript r before.spot.state 1 front fates ≡ went r told middle.state []
+  pub risen : HasRisen r fates before.spot.faults middle.faults
+  pub fitting : fits r (crash shelf) middle.state ≡ true
+  pub written : Appends before.written after.written (print told)
 
 -- what a run of steps leaves, by its end; where a text could not be written, some of it is missing
 abbrev pub Leaves : (r : StageRules) → List (Option Step) → PlayEnd → Scene r → Scene r → Type 0
 Leaves r steps Done before after = Plays r steps done before after
 Leaves r steps (Line number) before after = Plays r steps (bad_line number) before after
 Leaves r steps Write before after = (shown : List ℕ) × (h : Halts r steps shown before after) × (0 < length h.hidden)
-Leaves r steps Memory before after = Halts r steps [] before after
+Leaves r steps Memory before after = Halts r steps [] before after ⊎ ((shelf : ℕ) × Loses r steps shelf before after)
+Leaves r steps (Lost shelf reopen.Memory) before after = ⊥
+Leaves r steps (Lost shelf _) before after = Loses r steps shelf before after
+
+-- the end of a run that halts so
+abbrev pub end_of : Halt → PlayEnd
+end_of halt.Memory = Memory
+end_of (halt.Reopen shelf why) = Lost shelf why
 
 -- the step fits, and is performed so
-pub record Goes (r : StageRules) (step : Step) (told : List Report) (s t : r.State) : Type 0 where
-  pub fitting : fits r step s ≡ true
+pub record Goes (r : StageRules) (step : Step) (told : List Report) (s t : Spot r) : Type 0 where
+  pub fitting : fits r step s.state ≡ true
   pub came : Came r s step told t
 
 -- what one step leaves, by what it came to
 abbrev pub Turns : (r : StageRules) → Step → Turn → Scene r → Scene r → Type 0
 Turns r step Went before after =
-    (told : List Report) × Goes r step told before.state after.state × Appends before.written after.written (print told)
-Turns r step NoFit before after = (fits r step before.state ≡ false) × (after ≡ before)
+    (told : List Report) × Goes r step told before.spot after.spot × Appends before.written after.written (print told)
+Turns r step NoFit before after = (fits r step before.spot.state ≡ false) × (after ≡ before)
 Turns r step TurnWrite before after =
-    (told : List Report) × Goes r step told before.state after.state × IsCutShort before.written after.written (print told)
-Turns r step TurnMemory before after =
-    (told : List Report) × Goes r step told before.state after.state × (after.written ≡ before.written)
+    (told : List Report) × Goes r step told before.spot after.spot × IsCutShort before.written after.written (print told)
+Turns r step (Halted why) before after =
+    (fits r step before.spot.state ≡ true) × HaltsBy r step why before.spot after.spot × (after.written ≡ before.written)

@@ -1,5 +1,6 @@
 -- What a stage's calls do.
-use Rattle.std.specs.Prelude.{◌≡◌, ℕ, Bool, List, Result}
+use Rattle.std.specs.Prelude.{◌≡◌, ◌≤◌, ℕ, Bool, true, List, Result}
+use Rattle.web_outside.specs.Causes.{Rose}
 use Rattle.script_value.specs.declared.outcome.Reply.{Reply}
 
 -- What a call comes to: an answer that is no event and changes nothing, or an event, whose fate decides its answer and the state
@@ -8,30 +9,51 @@ pub data Call (State Fate Answer : Type 0) : Type 0 where
   answered : (answer : Answer) → Call State Fate Answer
   event : (by : Fate → Answer × State) → Call State Fate Answer
 
--- What each call comes to. Most fates are plain.
+-- What each call comes to. Most fates are plain; a fate that fails is that of an event at which a device failed. A crash answers how
+-- many instances are live behind it.
 pub record StageRules : Type 1 where
   pub State : Type 0
   pub Fate : Type 0
   pub plain : Fate
+  pub fails : Fate → Bool
   pub shelves : State → ℕ
   pub holds : State → ℕ → Bool
   pub take : State → ℕ → List ℕ → Call State Fate (Result ℕ Reply)
   pub publish : State → ℕ → Call State Fate Reply
   pub sweep : State → ℕ → ℕ → Call State Fate (Result ℕ Reply)
+  pub crash : State → ℕ → Call State Fate ℕ
 
--- a call answers this and leaves this state: for some fate, where it is an event
-abbrev pub Comes : {State Fate Answer : Type 0} → Call State Fate Answer → State → Answer → State → Type 0
-Comes (answered answer) old result new = (answer ≡ result) × (new ≡ old)
-Comes {Fate = Fate} (event by) old result new = (fate : Fate) × (by fate ≡ (result, new))
+-- A call answers this and leaves this state: for some fate, where it is an event. The fate fails only where that rose.
+abbrev pub Comes : {State Fate Answer : Type 0} → (fails : Fate → Bool) → (rose : Type 0) → Call State Fate Answer
+    → State → Answer → State → Type 0
+Comes fails rose (answered a) old result new = (a ≡ result) × (new ≡ old)
+Comes {Fate = Fate} fails rose (event by) old result new =
+    (fate : Fate) × (by fate ≡ (result, new)) × (fails fate ≡ true → rose)
 
 -- so does a worker's take of a target
-abbrev pub Takes : (r : StageRules) → r.State → (worker : ℕ) → (target : List ℕ) → Result ℕ Reply → r.State → Type 0
-Takes r old worker target result new = Comes (r.take old worker target) old result new
+abbrev pub Takes : (r : StageRules) → (rose : Type 0) → r.State → (worker : ℕ) → (target : List ℕ) → Result ℕ Reply → r.State → Type 0
+Takes r rose old worker target result new = Comes r.fails rose (r.take old worker target) old result new
 
 -- a worker's publish
-abbrev pub Publishes : (r : StageRules) → r.State → (worker : ℕ) → Reply → r.State → Type 0
-Publishes r old worker reply new = Comes (r.publish old worker) old reply new
+abbrev pub Publishes : (r : StageRules) → (rose : Type 0) → r.State → (worker : ℕ) → Reply → r.State → Type 0
+Publishes r rose old worker reply new = Comes r.fails rose (r.publish old worker) old reply new
 
--- and a sweep of a shelf
-abbrev pub Sweeps : (r : StageRules) → r.State → (shelf tick : ℕ) → Result ℕ Reply → r.State → Type 0
-Sweeps r old shelf tick result new = Comes (r.sweep old shelf tick) old result new
+-- a sweep of a shelf
+abbrev pub Sweeps : (r : StageRules) → (rose : Type 0) → r.State → (shelf tick : ℕ) → Result ℕ Reply → r.State → Type 0
+Sweeps r rose old shelf tick result new = Comes r.fails rose (r.sweep old shelf tick) old result new
+
+-- and a crash of a shelf
+abbrev pub Crashes : (r : StageRules) → (rose : Type 0) → r.State → (shelf live : ℕ) → r.State → Type 0
+Crashes r rose old shelf live new = Comes r.fails rose (r.crash old shelf) old live new
+
+-- over any devices the count of faults rose
+abbrev pub RoseOver : {Devices : Type 0} → (before now : Devices → ℕ) → Type 0
+RoseOver {Devices = Devices} before now = (devices : Devices) → Rose (before devices) (now devices)
+
+-- over any devices it did not fall
+abbrev pub StaysUp : {Devices : Type 0} → (before now : Devices → ℕ) → Type 0
+StaysUp {Devices = Devices} before now = (devices : Devices) → before devices ≤ now devices
+
+-- a stage is at home with any devices that it was at home with
+abbrev pub StaysHome : {Devices : Type 0} → (before now : Devices → Type 0) → Type 0
+StaysHome {Devices = Devices} before now = (devices : Devices) → before devices → now devices

@@ -1,7 +1,7 @@
 -- The steps, and the lines that spell them.
-use Rattle.std.specs.Prelude.{◌≡◌, ℕ, ◌^◌, ◌+◌, ◌<◌, ◌==◌, zero, suc, ◌&&◌, not, Bool, true, List, [], ◌∷◌, ◌++◌, Option, Some, None, length, nat_le, codes, unwrap_or, option_map, if◌then◌else◌}
+use Rattle.std.specs.Prelude.{◌≡◌, ℕ, ◌^◌, ◌+◌, ◌<◌, ◌==◌, zero, suc, ◌&&◌, ◌||◌, not, Bool, true, false, List, [], ◌∷◌, ◌++◌, Option, Some, None, length, nat_le, codes, unwrap_or, option_map, if◌then◌else◌}
 use Rattle.std.specs.Fmt.{decimal}
-use Rattle.std.specs.List.{list_all}
+use Rattle.std.specs.List.{list_all, list_any}
 use Rattle.script_value.specs.Pieces.{◌>>=◌, cut_at, behind, number_below}
 
 pub data Step : Type 0 where
@@ -9,6 +9,7 @@ pub data Step : Type 0 where
   publish : (worker : ℕ) → Step
   get : (worker : ℕ) → (target : List ℕ) → Step
   tick : (time : ℕ) → Step
+  crash : (shelf : ℕ) → Step
 
 -- 0 to 15, in decimal
 abbrev pub worker_of : List ℕ → Option ℕ
@@ -57,6 +58,13 @@ tick_of line = do
   time ← number_below (2 ^ 62) rest
   Some (tick time)
 
+-- `crash S`
+unfoldable pub crash_of : List ℕ → Option Step
+crash_of line = do
+  rest ← behind (codes "crash ") line
+  shelf ← number_below (2 ^ 32) rest
+  Some (crash shelf)
+
 -- the first of them that is some
 abbrev pub first_of : Option Step → Option Step → Option Step
 first_of (Some s) o = Some s
@@ -64,7 +72,8 @@ first_of None o = o
 
 -- the step that a line is
 unfoldable pub step_of : List ℕ → Option Step
-step_of line = first_of (take_of line) (first_of (publish_of line) (first_of (get_of line) (tick_of line)))
+step_of line =
+    first_of (take_of line) (first_of (publish_of line) (first_of (get_of line) (first_of (tick_of line) (crash_of line))))
 
 -- the step at the front, and the bytes behind its lines
 unfoldable pub first_step : List ℕ → Option (Step × List ℕ)
@@ -79,6 +88,7 @@ lines_in (take worker target) = 1
 lines_in (publish worker) = 1
 lines_in (get worker target) = 1
 lines_in (tick time) = 1
+lines_in (crash shelf) = 1
 
 -- how many newlines there are
 abbrev pub newlines : List ℕ → ℕ
@@ -108,19 +118,30 @@ line_of (take worker target) = codes "take " ++ (decimal worker ++ 32 ∷ target
 line_of (publish worker) = codes "publish " ++ decimal worker
 line_of (get worker target) = codes "get " ++ (decimal worker ++ 32 ∷ target)
 line_of (tick time) = codes "tick " ++ decimal time
+line_of (crash shelf) = codes "crash " ++ decimal shelf
 
 -- the lines of steps, each ended by a newline
 abbrev pub lines_of : List Step → List ℕ
 lines_of [] = []
 lines_of (s ∷ steps) = line_of s ++ 10 ∷ lines_of steps
 
--- the worker, the target and the time of a step are in their ranges
+-- the worker, the target, the time and the shelf of a step are in their ranges
 abbrev pub IsStep : Step → Type 0
 IsStep (take worker target) = (worker < 16) × (is_target target ≡ true)
 IsStep (publish worker) = worker < 16
 IsStep (get worker target) = (worker < 16) × (is_target target ≡ true)
 IsStep (tick time) = time < 2 ^ 62
+IsStep (crash shelf) = shelf < 2 ^ 32
 
 abbrev pub AreSteps : List Step → Type 0
 AreSteps [] = Unit {0}
 AreSteps (s ∷ steps) = IsStep s × AreSteps steps
+
+-- whether it is a crash
+abbrev pub is_crash : Option Step → Bool
+is_crash (Some (crash shelf)) = true
+is_crash _ = false
+
+-- whether all that these steps do is known: their disks tell what they hold, or none of them crashes
+abbrev pub is_told : (tells : Bool) → List (Option Step) → Bool
+is_told tells steps = tells || not (list_any is_crash steps)

@@ -5,7 +5,7 @@ use Rattle.script_value.specs.declared.outcome.Reply.{Reply}
 use Rattle.reply_words.specs.Words.{Told, page, word, status_number, told}
 use Rattle.reply_words.specs.declared.status.ReplyStatus.{ReplyStatus}
 use Rattle.play_steps.specs.declared.report.Report.{Report}
-use Rattle.play_steps.specs.declared.report.Report.TheVariants.{Taken, Replied, Swept, Unswept}
+use Rattle.play_steps.specs.declared.report.Report.TheVariants.{Taken, Replied, Swept, Unswept, Reopened}
 
 -- a reply with a status and a word
 abbrev pub line_text : ℕ → ReplyStatus → List ℕ → List ℕ
@@ -35,12 +35,17 @@ swept_text shelf count = codes "shelf " ++ decimal shelf ++ codes " swept " ++ d
 abbrev pub unswept_text : ℕ → Reply → List ℕ
 unswept_text shelf reply = codes "shelf " ++ reply_text shelf reply
 
--- a number that was taken, a reply, and the line of a shelf that was swept, with the number of instances that went, or was not
+abbrev pub reopened_text : ℕ → ℕ → List ℕ
+reopened_text shelf live = codes "shelf " ++ decimal shelf ++ codes " live " ++ decimal live ++ codes "\n"
+
+-- A number that was taken, a reply, and the line of a shelf: that was swept, with the number of instances that went, or was not;
+-- or that was opened again, with the number of its live instances.
 unfoldable pub report_text : Report → List ℕ
 report_text (Taken worker number) = taken_text worker number
 report_text (Replied worker reply) = reply_text worker reply
 report_text (Swept shelf count) = swept_text shelf count
 report_text (Unswept shelf reply) = unswept_text shelf reply
+report_text (Reopened shelf live) = reopened_text shelf live
 
 -- reports, one behind another
 abbrev pub print : List Report → List ℕ

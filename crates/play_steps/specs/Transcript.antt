@@ -1,12 +1,12 @@
 -- The whole run of steps over a stage's rules: what is told, how it ends, and what it leaves.
-use Rattle.std.specs.Prelude.{ℕ, zero, suc, ◌+◌, Bool, true, not, List, [], ◌∷◌, ◌++◌, Option, Some, None, Result, Ok, Err, if◌then◌else◌}
+use Rattle.std.specs.Prelude.{ℕ, zero, suc, ◌+◌, Bool, true, not, nat_lt, List, [], ◌∷◌, ◌++◌, Option, Some, None, Result, Ok, Err, if◌then◌else◌}
 use Rattle.script_value.specs.declared.outcome.Reply.{Reply}
 use Rattle.play_steps.specs.Reports.{take_report, sweep_report}
 use Rattle.play_steps.specs.Rules.{StageRules, Call, answered, event}
-use Rattle.play_steps.specs.Step.{Step, take, publish, get, tick, lines_in}
+use Rattle.play_steps.specs.Step.{Step, take, publish, get, tick, crash, lines_in}
 use Rattle.play_steps.specs.Texts.{print}
 use Rattle.play_steps.specs.declared.report.Report.{Report}
-use Rattle.play_steps.specs.declared.report.Report.TheVariants.{Replied}
+use Rattle.play_steps.specs.declared.report.Report.TheVariants.{Replied, Reopened}
 
 -- where a run ends: behind the last step, or at the line of this number
 pub data End : Type 0 where
@@ -50,12 +50,13 @@ abbrev pub later_fates : (r : StageRules) → List r.Fate → List r.Fate
 later_fates r [] = []
 later_fates r (f ∷ fates) = fates
 
--- a worker's step fits where the worker holds a ticket to publish, or none to take
+-- a worker's step fits where the worker holds a ticket to publish, or none to take; a crash, where there is the shelf
 abbrev pub fits : (r : StageRules) → Step → r.State → Bool
 fits r (take worker target) s = not (r.holds s worker)
 fits r (publish worker) s = r.holds s worker
 fits r (get worker target) s = not (r.holds s worker)
 fits r (tick time) s = true
+fits r (crash shelf) s = nat_lt shelf (r.shelves s)
 
 -- a call, and what stands behind its answer; an event takes one fate
 abbrev pub called : (r : StageRules) → {A : Type 0} → Call r.State r.Fate A → r.State → List r.Fate
@@ -86,6 +87,7 @@ performed r (take worker target) s fates =
 performed r (publish worker) s fates = published r worker s fates
 performed r (get worker target) s fates = called r (r.take s worker target) s fates (got r worker)
 performed r (tick time) s fates = swept r time (r.shelves s) 0 s fates
+performed r (crash shelf) s fates = called r (r.crash s shelf) s fates (λ live. went r (Reopened shelf live ∷ []))
 
 -- the steps from this state and this line on
 unfoldable pub transcript : (r : StageRules) → r.State → ℕ → List (Option Step) → List r.Fate → Run r

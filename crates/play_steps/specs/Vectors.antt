@@ -5,10 +5,11 @@ use Rattle.script_value.specs.declared.outcome.Fault.TheVariants as faults
 use Rattle.script_value.specs.declared.outcome.Refusal.TheVariants as refusals
 use Rattle.script_value.specs.declared.outcome.Reply.{Reply}
 use Rattle.script_value.specs.declared.outcome.Reply.TheVariants as replies
+use Rattle.play_steps.specs.declared.report.Report.TheVariants as reports
 use Rattle.play_steps.specs.Reports.{take_report, sweep_report}
 use Rattle.play_steps.specs.Rules.{StageRules, Call, answered, event}
-use Rattle.play_steps.specs.Step.{take, publish, get, tick, aim_of, take_of, publish_of, get_of, tick_of, step_of, first_step, steps_of, lines_of}
-use Rattle.play_steps.specs.Texts.{reply_text, report_text, print}
+use Rattle.play_steps.specs.Step.{take, publish, get, tick, crash, aim_of, take_of, publish_of, get_of, tick_of, crash_of, step_of, first_step, steps_of, lines_of}
+use Rattle.play_steps.specs.Texts.{reply_text, report_text}
 use Rattle.play_steps.specs.Transcript.{Run, End, done, bad_line, text_of, transcript}
 
 -- lines, each ended by a newline
@@ -18,9 +19,9 @@ lines (l ∷ ls) = l ++ 10 ∷ lines ls
 
 -- one line of each kind
 pub each_kind :
-    map step_of (codes "take 0 /a" ∷ codes "publish 15" ∷ codes "get 9 !~" ∷ codes "tick 60" ∷ [])
-    ≡ Some (take 0 (codes "/a")) ∷ Some (publish 15) ∷ Some (get 9 (codes "!~")) ∷ Some (tick 60) ∷ []
-unfolding step_of take_of publish_of get_of tick_of aim_of
+    map step_of (codes "take 0 /a" ∷ codes "publish 15" ∷ codes "get 9 !~" ∷ codes "tick 60" ∷ codes "crash 0" ∷ [])
+    ≡ Some (take 0 (codes "/a")) ∷ Some (publish 15) ∷ Some (get 9 (codes "!~")) ∷ Some (tick 60) ∷ Some (crash 0) ∷ []
+unfolding step_of take_of publish_of get_of tick_of crash_of aim_of
 each_kind = refl
 
 -- there is no worker 16, and a number has no leading zero and no sign
@@ -28,7 +29,7 @@ pub no_workers :
     map step_of (codes "take 16 /" ∷ codes "take 05 /" ∷ codes "publish 16" ∷ codes "publish 00" ∷ codes "get 016 /" ∷ codes "get +1 /"
     ∷ codes "publish -1" ∷ codes "publish" ∷ codes "publish " ∷ codes "take  /" ∷ [])
     ≡ None ∷ None ∷ None ∷ None ∷ None ∷ None ∷ None ∷ None ∷ None ∷ None ∷ []
-unfolding step_of take_of publish_of get_of tick_of aim_of
+unfolding step_of take_of publish_of get_of tick_of crash_of aim_of
 no_workers = refl
 
 -- a target has a byte or more, each from `!` to `~`; spaces are single, and none ends a line
@@ -36,14 +37,14 @@ pub no_targets :
     map step_of (codes "take 0" ∷ codes "take 0 " ∷ codes "get 0 " ∷ codes "take 0  /" ∷ codes "take  0 /" ∷ codes "get 0 /a /b" ∷ codes "get 0 /a "
     ∷ codes " get 0 /a" ∷ (codes "get 0 /" ++ 127 ∷ []) ∷ (codes "get 0 /" ++ 9 ∷ []) ∷ (codes "take 0 /" ++ 13 ∷ []) ∷ [])
     ≡ None ∷ None ∷ None ∷ None ∷ None ∷ None ∷ None ∷ None ∷ None ∷ None ∷ None ∷ []
-unfolding step_of take_of publish_of get_of tick_of aim_of
+unfolding step_of take_of publish_of get_of tick_of crash_of aim_of
 no_targets = refl
 
 -- the first time and the last
 pub times :
     map step_of (codes "tick 0" ∷ codes "tick 4611686018427387903" ∷ [])
     ≡ Some (tick 0) ∷ Some (tick 4611686018427387903) ∷ []
-unfolding step_of take_of publish_of get_of tick_of aim_of
+unfolding step_of take_of publish_of get_of tick_of crash_of aim_of
 times = refl
 
 -- 2^62 is no time, nor what is beyond 2^64, and a time has no leading zero
@@ -51,20 +52,34 @@ pub no_times :
     map step_of (codes "tick 4611686018427387904" ∷ codes "tick 18446744073709551616" ∷ codes "tick 00" ∷ codes "tick 07" ∷ codes "tick"
     ∷ codes "tick " ∷ codes "tick 1 " ∷ codes "tick 0x1" ∷ codes "tick 1 2" ∷ [])
     ≡ None ∷ None ∷ None ∷ None ∷ None ∷ None ∷ None ∷ None ∷ None ∷ []
-unfolding step_of take_of publish_of get_of tick_of aim_of
+unfolding step_of take_of publish_of get_of tick_of crash_of aim_of
 no_times = refl
+
+-- the last number of 32 bits is one of a shelf, which need not be there
+pub shelves :
+    map step_of (codes "crash 15" ∷ codes "crash 4294967295" ∷ [])
+    ≡ Some (crash 15) ∷ Some (crash 4294967295) ∷ []
+unfolding step_of take_of publish_of get_of tick_of crash_of aim_of
+shelves = refl
+
+pub no_shelves :
+    map step_of (codes "crash 4294967296" ∷ codes "crash 00" ∷ codes "crash 01" ∷ codes "crash" ∷ codes "crash " ∷ codes "crash  0"
+    ∷ codes "crash 0 " ∷ codes "crash -1" ∷ codes "crash a" ∷ codes "crash0" ∷ [])
+    ≡ None ∷ None ∷ None ∷ None ∷ None ∷ None ∷ None ∷ None ∷ None ∷ None ∷ []
+unfolding step_of take_of publish_of get_of tick_of crash_of aim_of
+no_shelves = refl
 
 -- other words
 pub no_steps :
-    map step_of ([] ∷ codes "GET 0 /" ∷ codes "put 0 /" ∷ codes "crash 0" ∷ codes "gets 0 /" ∷ codes "publish0" ∷ [])
+    map step_of ([] ∷ codes "GET 0 /" ∷ codes "put 0 /" ∷ codes "Crash 0" ∷ codes "gets 0 /" ∷ codes "publish0" ∷ [])
     ≡ None ∷ None ∷ None ∷ None ∷ None ∷ None ∷ []
-unfolding step_of take_of publish_of get_of tick_of aim_of
+unfolding step_of take_of publish_of get_of tick_of crash_of aim_of
 no_steps = refl
 
 -- the lines of steps
 pub spelled :
-    lines_of (take 3 (codes "/a") ∷ publish 3 ∷ get 10 (codes "/b?c") ∷ tick 4611686018427387903 ∷ [])
-    ≡ lines (codes "take 3 /a" ∷ codes "publish 3" ∷ codes "get 10 /b?c" ∷ codes "tick 4611686018427387903" ∷ [])
+    lines_of (take 3 (codes "/a") ∷ publish 3 ∷ get 10 (codes "/b?c") ∷ tick 4611686018427387903 ∷ crash 10 ∷ [])
+    ≡ lines (codes "take 3 /a" ∷ codes "publish 3" ∷ codes "get 10 /b?c" ∷ codes "tick 4611686018427387903" ∷ codes "crash 10" ∷ [])
 unfolding digits
 spelled = refl
 
@@ -72,7 +87,7 @@ spelled = refl
 pub an_open_line :
     map steps_of (codes "publish 1\npublish 2" ∷ codes "publish 1\n\npublish 2\n" ∷ [])
     ≡ (Some (publish 1) ∷ None ∷ []) ∷ (Some (publish 1) ∷ None ∷ []) ∷ []
-unfolding steps_of first_step step_of take_of publish_of get_of tick_of aim_of
+unfolding steps_of first_step step_of take_of publish_of get_of tick_of crash_of aim_of
 an_open_line = refl
 
 pub no_lines : steps_of [] ≡ []
@@ -113,10 +128,11 @@ pub not_served :
 unfolding reply_text digits
 not_served = refl
 
--- a number that was taken, a shelf that was swept, and the replies in their places
+-- a number that was taken, a shelf that was swept, and the replies in their places; a shelf that was opened again
 pub other_texts :
-    map report_text (take_report 4 (Ok 120) ∷ take_report 4 (Err replies.Worn) ∷ sweep_report 10 (Ok 0) ∷ sweep_report 10 (Err (replies.Down 3)) ∷ [])
-    ≡ codes "4 taken 120\n" ∷ codes "4 503 worn\n" ∷ codes "shelf 10 swept 0\n" ∷ codes "shelf 10 503 down\n" ∷ []
+    map report_text (take_report 4 (Ok 120) ∷ take_report 4 (Err replies.Worn) ∷ sweep_report 10 (Ok 0) ∷ sweep_report 10 (Err (replies.Down 3))
+    ∷ reports.Reopened 15 4096 ∷ [])
+    ≡ codes "4 taken 120\n" ∷ codes "4 503 worn\n" ∷ codes "shelf 10 swept 0\n" ∷ codes "shelf 10 503 down\n" ∷ codes "shelf 15 live 4096\n" ∷ []
 unfolding report_text reply_text digits
 other_texts = refl
 
@@ -151,6 +167,15 @@ abbrev swept : Desk → ℕ → Luck → Result ℕ Reply × Desk
 swept d time good = (Ok time, record { next = d.next + 1; holders = d.holders })
 swept d time bad = (Err (replies.Down 1), d)
 
+-- a crash takes each ticket, and a bad one the number too
+abbrev crashed : Desk → Luck → ℕ × Desk
+crashed d good = (d.next, record { next = d.next; holders = [] })
+crashed d bad = (0, record { next = 0; holders = [] })
+
+abbrev is_bad : Luck → Bool
+is_bad good = false
+is_bad bad = true
+
 -- a target that begins with `#` names nothing
 abbrev names_nothing : List ℕ → Bool
 names_nothing [] = false
@@ -166,16 +191,21 @@ desk_publish d w = event (λ luck. shown d w luck)
 abbrev desk_sweep : Desk → ℕ → ℕ → Call Desk Luck (Result ℕ Reply)
 desk_sweep d shelf time = event (λ luck. swept d time luck)
 
+abbrev desk_crash : Desk → ℕ → Call Desk Luck ℕ
+desk_crash d shelf = event (λ luck. crashed d luck)
+
 abbrev desk : StageRules
 desk = record {
   State = Desk;
   Fate = Luck;
   plain = good;
+  fails = is_bad;
   shelves = λ d. 2;
   holds = λ d w. is_among w d.holders;
   take = desk_take;
   publish = desk_publish;
   sweep = desk_sweep;
+  crash = desk_crash;
 }
 
 abbrev at : ℕ → List ℕ → Desk
@@ -192,21 +222,21 @@ of_lines ls fates = seen (transcript desk (at 0 []) 1 (steps_of (lines ls)) fate
 pub two_workers :
     of_lines (codes "take 0 /a" ∷ codes "take 1 /a" ∷ codes "take 2 /b" ∷ codes "publish 1" ∷ codes "publish 0" ∷ []) []
     ≡ (lines (codes "0 taken 0" ∷ codes "1 taken 1" ∷ codes "2 taken 2" ∷ codes "1 200 2" ∷ codes "hi" ∷ codes "0 200 2" ∷ codes "hi" ∷ []), done, at 3 (2 ∷ []), [])
-unfolding transcript steps_of first_step step_of take_of publish_of get_of tick_of aim_of report_text reply_text digits
+unfolding transcript steps_of first_step step_of take_of publish_of get_of tick_of crash_of aim_of report_text reply_text digits
 two_workers = refl
 
 -- Fates are one an event: of a get whose take is refused one is used, and of another two. What is left is left.
 pub fates_of_gets :
     of_lines (codes "get 0 /a" ∷ codes "get 0 /a" ∷ codes "get 0 /a" ∷ []) (bad ∷ good ∷ bad ∷ good ∷ good ∷ bad ∷ [])
     ≡ (lines (codes "0 503 worn" ∷ codes "0 503 memory" ∷ codes "0 200 2" ∷ codes "hi" ∷ []), done, at 2 [], bad ∷ [])
-unfolding transcript steps_of first_step step_of take_of publish_of get_of tick_of aim_of report_text reply_text digits
+unfolding transcript steps_of first_step step_of take_of publish_of get_of tick_of crash_of aim_of report_text reply_text digits
 fates_of_gets = refl
 
 -- a tick sweeps the shelves in their order, also behind one that is not swept; a fate that is not listed is plain
 pub a_tick :
     of_lines (codes "tick 7" ∷ codes "tick 8" ∷ []) (bad ∷ good ∷ good ∷ [])
     ≡ (lines (codes "shelf 0 503 down" ∷ codes "shelf 1 swept 7" ∷ codes "shelf 0 swept 8" ∷ codes "shelf 1 swept 8" ∷ []), done, at 3 [], [])
-unfolding transcript steps_of first_step step_of take_of publish_of get_of tick_of aim_of report_text reply_text digits
+unfolding transcript steps_of first_step step_of take_of publish_of get_of tick_of crash_of aim_of report_text reply_text digits
 a_tick = refl
 
 -- a publish needs a ticket, and a take or a get needs that the worker holds none; a refused take gives none
@@ -219,19 +249,27 @@ pub not_fitting :
     ∷ (lines (codes "0 503 worn" ∷ codes "1 taken 0" ∷ []), bad_line 3, at 1 (1 ∷ []), [])
     ∷ (lines (codes "1 503 worn" ∷ codes "1 taken 0" ∷ codes "shelf 0 swept 0" ∷ codes "shelf 1 swept 0" ∷ []), bad_line 4, at 3 (1 ∷ []), [])
     ∷ (lines (codes "shelf 0 503 down" ∷ codes "shelf 1 swept 0" ∷ codes "1 taken 1" ∷ []), bad_line 3, at 2 (1 ∷ []), []) ∷ []
-unfolding transcript steps_of first_step step_of take_of publish_of get_of tick_of aim_of report_text reply_text digits
+unfolding transcript steps_of first_step step_of take_of publish_of get_of tick_of crash_of aim_of report_text reply_text digits
 not_fitting = refl
 
 -- a line that is no step ends the run: the replies before it stand, and nothing behind it is played
 pub a_bad_line :
     of_lines (codes "get 0 /a" ∷ codes "get 16 /a" ∷ codes "get 0 /a" ∷ []) (good ∷ good ∷ bad ∷ [])
     ≡ (lines (codes "0 200 2" ∷ codes "hi" ∷ []), bad_line 2, at 1 [], bad ∷ [])
-unfolding transcript steps_of first_step step_of take_of publish_of get_of tick_of aim_of report_text reply_text digits
+unfolding transcript steps_of first_step step_of take_of publish_of get_of tick_of crash_of aim_of report_text reply_text digits
 a_bad_line = refl
 
 -- a take that names nothing is answered without an event: the fates are there for those behind it
 pub no_event :
     of_lines (codes "take 0 #a" ∷ codes "get 0 #a" ∷ codes "get 0 /a" ∷ []) (bad ∷ good ∷ [])
     ≡ (lines (codes "0 404 unknown" ∷ codes "0 404 unknown" ∷ codes "0 503 worn" ∷ []), done, at 0 [], good ∷ [])
-unfolding transcript steps_of first_step step_of take_of publish_of get_of tick_of aim_of report_text reply_text digits
+unfolding transcript steps_of first_step step_of take_of publish_of get_of tick_of crash_of aim_of report_text reply_text digits
 no_event = refl
+
+-- A crash takes one fate, and its tickets are gone; the shelf 2 is not there, and the run ends at its line.
+pub crashes :
+    of_lines (codes "take 0 /a" ∷ codes "take 1 /a" ∷ codes "crash 1" ∷ codes "take 0 /b" ∷ codes "crash 0" ∷ codes "crash 2" ∷ codes "tick 1" ∷ [])
+    (good ∷ good ∷ good ∷ good ∷ bad ∷ bad ∷ [])
+    ≡ (lines (codes "0 taken 0" ∷ codes "1 taken 1" ∷ codes "shelf 1 live 2" ∷ codes "0 taken 2" ∷ codes "shelf 0 live 0" ∷ []), bad_line 6, at 0 [], bad ∷ [])
+unfolding transcript steps_of first_step step_of take_of publish_of get_of tick_of crash_of aim_of report_text reply_text digits
+crashes = refl

@@ -1,10 +1,11 @@
 -- What the program's values stand for.
 use Rattle.play_steps.specs.declared.step.Step as code
 use Rattle.play_steps.specs.declared.step.Step.TheVariants as steps
-use Rattle.play_steps.specs.Step.{Step, take, publish, get, tick}
+use Rattle.play_steps.specs.Step.{Step, take, publish, get, tick, crash}
 
 abbrev pub meaning : code.Step → Step
 meaning (steps.Take worker target) = take worker target.now
 meaning (steps.Publish worker) = publish worker
 meaning (steps.Get worker target) = get worker target.now
 meaning (steps.Tick time) = tick time
+meaning (steps.Crash shelf) = crash shelf

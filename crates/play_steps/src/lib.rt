@@ -9,10 +9,10 @@ mod run;
 mod stage;
 mod step;
 
-pub use performing::{fits, perform};
+pub use performing::{Halt, fits, perform};
 pub use report::{Report, print};
 pub use run::{PlayEnd, play};
-pub use stage::Stage;
+pub use stage::{Reopen, Stage};
 pub use step::{Step, read_step};
 
 /// Over any stage, a run of steps and then of others is the run of the first, and then that of the

@@ -1,15 +1,43 @@
-ghost use Rattle.std.specs.Prelude.{◌≡◌, ◌<◌, ◌^◌, ◌∷◌, [], IfOk, true};
-ghost use Rattle.play_steps.specs.Step.{IsStep, tick};
+ghost use Rattle.std.specs.Prelude.{◌≡◌, ◌≤◌, ◌<◌, ◌^◌, ◌∷◌, [], ℕ, Some, IsErrOf, MatchResult, true};
+ghost use Rattle.web_outside.specs.Causes.{Rose};
+ghost use Rattle.play_steps.specs.Step.{IsStep, is_told, tick};
+ghost use Rattle.play_steps.specs.Rules.{StaysHome, StaysUp};
 ghost use Rattle.play_steps.specs.Transcript.{fits};
 ghost use Rattle.play_steps.specs.Views.{meaning};
-ghost use Rattle.play_steps.specs.Played.{Lengthens, Performs};
+ghost use Rattle.play_steps.specs.Played.{Lengthens, Performs, SweepsAll, TellsCrash, spot};
+ghost use Rattle.play_steps.specs.declared.performing.Halt.TheVariants.{Memory as HaltMemory};
 
 use crate::report::Report;
-use crate::stage::Stage;
+use crate::stage::{Reopen, Stage};
 use crate::step::Step;
-use std::alloc::{AllocError, Global};
+use std::alloc::{AllocError, AllocFailed, Global};
 
-/// Whether the step fits what the workers hold.
+/// Why a step told nothing.
+#[derive(Clone, Copy, Debug, PartialEq, Eq)]
+pub enum Halt {
+    /// There was no memory for it.
+    Memory,
+    /// The shelf's disk crashed, and the shelf was not opened again, for another cause.
+    Reopen { shelf: u32, why: Reopen },
+}
+
+impl From<AllocError> for Halt {
+    ghost from_gives = { λ _ halt. halt ≡ HaltMemory };
+
+    fn from(_: AllocError) -> Self {
+        Halt::Memory
+    }
+}
+
+impl<T: Drop> From<AllocFailed<T>> for Halt {
+    ghost from_gives = { λ _ halt. halt ≡ HaltMemory };
+
+    fn from(_: AllocFailed<T>) -> Self {
+        Halt::Memory
+    }
+}
+
+/// Whether the step fits what the workers hold, and the shelves that there are.
 pub fn fits<T: Stage>(stage: &T, step: &Step) -> bool
     requires { IsStep (meaning step.now) }
     ensures { result ≡ fits T.rules (meaning step.now) (T.state stage.now) }
@@ -19,12 +47,13 @@ pub fn fits<T: Stage>(stage: &T, step: &Step) -> bool
         Step::Publish { worker } => stage.holds(*worker),
         Step::Get { worker, .. } => !stage.holds(*worker),
         Step::Tick { .. } => true,
+        Step::Crash { shelf } => *shelf < stage.shelves(),
     }
 }
 
 // One report alone.
-fn one(alloc: Global, report: Report) -> Result<Vec<Report>, AllocError>
-    ensures { IfOk result (λ reports. reports.items ≡ report ∷ []) }
+fn one(alloc: Global, report: Report) -> Result<Vec<Report>, Halt>
+    ensures { MatchResult result (λ reports. reports.items ≡ report ∷ []) (λ halt. halt ≡ Halt.Memory) }
 {
     let mut reports = Vec::new(alloc);
     reports.push(report)?;
@@ -46,7 +75,11 @@ fn and_report(
 // Sweeps every shelf in order, also where there is no memory for what is told.
 fn sweep_all<T: Stage>(alloc: Global, stage: &mut T, time: u64) -> Result<Vec<Report>, AllocError>
     requires { time < 2 ^ 62 }
-    ensures { Performs T.rules (tick time) result (T.state stage.old) (T.state stage.new) }
+    ensures swept { (devices : T.Devices) → SweepsAll T.rules (tick time) result
+        (spot T.rules (T.state stage.old) (T.faults stage.old devices))
+        (spot T.rules (T.state stage.new) (T.faults stage.new devices)) }
+    ensures home { StaysHome (T.at_home stage.old) (T.at_home stage.new) }
+    ensures later { StaysUp (T.faults stage.old) (T.faults stage.new) }
 {
     let count = stage.shelves();
     let mut told = Ok(Vec::new(alloc));
@@ -57,16 +90,38 @@ fn sweep_all<T: Stage>(alloc: Global, stage: &mut T, time: u64) -> Result<Vec<Re
     told
 }
 
+// What a crash told: how many instances are live, or why the shelf was not opened again.
+fn crash_report(alloc: Global, shelf: u32, opened: Result<u32, Reopen>) -> Result<Vec<Report>, Halt>
+    ensures { TellsCrash shelf opened result }
+{
+    match opened {
+        Ok(live) => one(alloc, Report::Reopened { shelf, live }),
+        Err(Reopen::Memory) => Err(Halt::Memory),
+        Err(why) => Err(Halt::Reopen { shelf, why }),
+    }
+}
+
 /// Performs a step that fits, and gives what its events told. Every event of the step takes place,
-/// also where there is no memory for that.
+/// also where there is no memory for that; but of a shelf that is not opened again nothing more is
+/// known.
 pub fn perform<T: Stage>(
     alloc: Global,
     stage: &mut T,
+    devices: &mut T::Devices,
     step: &Step,
-) -> Result<Vec<Report>, AllocError>
+) -> Result<Vec<Report>, Halt>
     requires range { IsStep (meaning step.now) }
     requires fitting { fits T.rules (meaning step.now) (T.state stage.old) ≡ true }
-    ensures { Performs T.rules (meaning step.now) result (T.state stage.old) (T.state stage.new) }
+    requires home { T.at_home stage.old devices.old }
+    ensures came { is_told T.tells (Some (meaning step.now) ∷ []) ≡ true →
+        Performs T.rules (meaning step.now) result
+        (spot T.rules (T.state stage.old) (T.faults stage.old devices.old))
+        (spot T.rules (T.state stage.new) (T.faults stage.new devices.new)) }
+    ensures home { T.at_home stage.new devices.new }
+    ensures later { T.faults stage.old devices.old ≤ T.faults stage.new devices.new }
+    ensures disk { (shelf : ℕ) → IsErrOf result (Halt.Reopen shelf Reopen.Disk) →
+        Rose (T.faults stage.old devices.old) (T.faults stage.new devices.new) }
+    ensures why { (shelf : ℕ) → IsErrOf result (Halt.Reopen shelf Reopen.Memory) → ⊥ }
 {
     match step {
         Step::Take { worker, target } => {
@@ -102,6 +157,10 @@ pub fn perform<T: Stage>(
                 },
             ),
         },
-        Step::Tick { time } => sweep_all(alloc, stage, *time),
+        Step::Tick { time } => Ok(sweep_all(alloc, stage, *time)?),
+        Step::Crash { shelf } => {
+            let opened = stage.crash(devices, *shelf);
+            crash_report(alloc, *shelf, opened)
+        }
     }
 }

@@ -18,6 +18,8 @@ pub enum Report {
     Swept { shelf: u32, count: u32 },
     /// The shelf was not swept, and why not.
     Unswept { shelf: u32, reply: Reply },
+    /// The shelf's disk crashed, and the shelf was opened again with so many live instances.
+    Reopened { shelf: u32, live: u32 },
 }
 
 impl Report {
@@ -51,6 +53,7 @@ impl Report {
             Report::Replied { worker, reply } => reply_text(alloc, *worker, reply),
             Report::Swept { shelf, count } => swept_text(alloc, *shelf, *count),
             Report::Unswept { shelf, reply } => unswept_text(alloc, *shelf, reply),
+            Report::Reopened { shelf, live } => reopened_text(alloc, *shelf, *live),
         }
     }
 }
@@ -122,4 +125,11 @@ fn unswept_text(alloc: Global, shelf: u32, reply: &Reply) -> Result<Vec<u8>, All
     let mut text = b"shelf ".to_vec(alloc)?;
     text.extend_from_slice(line.as_slice())?;
     Ok(text)
+}
+
+fn reopened_text(alloc: Global, shelf: u32, live: u32) -> Result<Vec<u8>, AllocError>
+    ensures { IfOk result (λ text. text.items ≡ spec.reopened_text shelf live) }
+{
+    let line = format!(in alloc; "shelf {shelf} live {live}\n")?;
+    Ok(line.as_bytes().to_vec(alloc)?)
 }

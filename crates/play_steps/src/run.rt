@@ -1,14 +1,14 @@
-ghost use Rattle.std.specs.Prelude.{◌≡◌, ◌≤◌};
+ghost use Rattle.std.specs.Prelude.{◌≡◌, ◌≤◌, ◌∷◌, [], ℕ, Some, true, false};
 ghost use Rattle.web_outside.specs.Causes.{Rose};
-ghost use Rattle.play_steps.specs.Step.{IsStep, steps_of};
-ghost use Rattle.play_steps.specs.Played.{scene, Leaves, Turns};
+ghost use Rattle.play_steps.specs.Step.{IsStep, is_told, steps_of};
+ghost use Rattle.play_steps.specs.Played.{end_of, scene, Leaves, Turns};
 ghost use Rattle.play_steps.specs.Views.{meaning};
 
-use crate::performing::{fits, perform};
+use crate::performing::{Halt, fits, perform};
 use crate::report::print;
-use crate::stage::Stage;
+use crate::stage::{Reopen, Stage};
 use crate::step::{Step, read_step};
-use std::alloc::{AllocError, Global};
+use std::alloc::Global;
 use web_outside::{Sink, write_all};
 
 /// Why a run ended.
@@ -20,8 +20,22 @@ pub enum PlayEnd {
     Line(u64),
     /// A reply could not be written whole.
     Write,
-    /// There was no memory for what a step told, or for its text.
+    /// There was no memory for what a step told, or for its text, or to open a shelf again.
     Memory,
+    /// This shelf's disk crashed, and the shelf was not opened again, for another cause than memory.
+    Reopen { shelf: u32, why: Reopen },
+}
+
+impl PlayEnd {
+    // The end of a run that halts so.
+    fn of(halt: Halt) -> PlayEnd
+        ensures { result ≡ end_of halt }
+    {
+        match halt {
+            Halt::Memory => PlayEnd::Memory,
+            Halt::Reopen { shelf, why } => PlayEnd::Reopen { shelf, why },
+        }
+    }
 }
 
 // What one step came to.
@@ -29,26 +43,40 @@ enum Turn {
     Went,
     NoFit,
     Write,
-    Memory,
+    Halted(Halt),
 }
 
 // Plays one step.
-fn play_step<T: Stage, O: Sink>(alloc: Global, stage: &mut T, step: &Step, sink: &mut O) -> Turn
-    requires { IsStep (meaning step.now) }
-    ensures turned { Turns T.rules (meaning step.now) result
-        (scene T.rules (O.view sink.old).written (T.state stage.old))
-        (scene T.rules (O.view sink.new).written (T.state stage.new)) }
+fn play_step<T: Stage, O: Sink>(
+    alloc: Global,
+    stage: &mut T,
+    devices: &mut T::Devices,
+    step: &Step,
+    sink: &mut O,
+) -> Turn
+    requires range { IsStep (meaning step.now) }
+    requires home { T.at_home stage.old devices.old }
+    ensures turned { is_told T.tells (Some (meaning step.now) ∷ []) ≡ true →
+        Turns T.rules (meaning step.now) result
+        (scene T.rules (O.view sink.old).written (T.state stage.old) (T.faults stage.old devices.old))
+        (scene T.rules (O.view sink.new).written (T.state stage.new) (T.faults stage.new devices.new)) }
     ensures write { result ≡ Turn.Write → Rose (O.view sink.old).faults (O.view sink.new).faults }
     ensures later { (O.view sink.old).faults ≤ (O.view sink.new).faults }
+    ensures home { T.at_home stage.new devices.new }
+    ensures devices_later { T.faults stage.old devices.old ≤ T.faults stage.new devices.new }
+    ensures disk { (shelf : ℕ) → result ≡ Turn.Halted (Halt.Reopen shelf Reopen.Disk) →
+        Rose (T.faults stage.old devices.old) (T.faults stage.new devices.new) }
+    ensures why { (shelf : ℕ) → result ≡ Turn.Halted (Halt.Reopen shelf Reopen.Memory) → ⊥ }
 {
     if !fits(stage, step) {
         return Turn::NoFit;
     }
-    let Ok(told) = perform(alloc, stage, step) else {
-        return Turn::Memory;
+    let told = match perform(alloc, stage, devices, step) {
+        Ok(told) => told,
+        Err(halt) => return Turn::Halted(halt),
     };
     let Ok(text) = print(alloc, &told) else {
-        return Turn::Memory;
+        return Turn::Halted(Halt::Memory);
     };
     match write_all(sink, &text) {
         Ok(()) => Turn::Went,
@@ -59,16 +87,30 @@ fn play_step<T: Stage, O: Sink>(alloc: Global, stage: &mut T, step: &Step, sink:
 /// Plays the steps, and writes what each prints.
 ///
 /// For some fates of their events, the sink grows by the transcript of the steps over the stage's
-/// rules, and the stage is left in its last state. A line that is no step, or does not fit, ends the
-/// run. A failed write and want of memory for a text end it at a step that was performed, behind the
-/// whole text of all before it.
-pub fn play<T: Stage, O: Sink>(alloc: Global, stage: &mut T, text: &[u8], sink: &mut O) -> PlayEnd
-    ensures ended { Leaves T.rules (steps_of text.now) result
-        (scene T.rules (O.view sink.old).written (T.state stage.old))
-        (scene T.rules (O.view sink.new).written (T.state stage.new)) }
+/// rules, and the stage is left in its last state; where disks tell nothing, and a step is a crash,
+/// this is not said. A line that is no step, or does not fit, ends the run. A failed write and want
+/// of memory for a text end it at a step that was performed, behind the whole text of all before it.
+/// A shelf that crashed and was not opened again ends it there, behind the same.
+pub fn play<T: Stage, O: Sink>(
+    alloc: Global,
+    stage: &mut T,
+    devices: &mut T::Devices,
+    text: &[u8],
+    sink: &mut O,
+) -> PlayEnd
+    requires { T.at_home stage.old devices.old }
+    ensures ended { is_told T.tells (steps_of text.now) ≡ true →
+        Leaves T.rules (steps_of text.now) result
+        (scene T.rules (O.view sink.old).written (T.state stage.old) (T.faults stage.old devices.old))
+        (scene T.rules (O.view sink.new).written (T.state stage.new) (T.faults stage.new devices.new)) }
     ensures write { result ≡ PlayEnd.Write
         → Rose (O.view sink.old).faults (O.view sink.new).faults }
     ensures later { (O.view sink.old).faults ≤ (O.view sink.new).faults }
+    ensures home { T.at_home stage.new devices.new }
+    ensures devices_later { T.faults stage.old devices.old ≤ T.faults stage.new devices.new }
+    ensures disk { (shelf : ℕ) → result ≡ PlayEnd.Reopen shelf Reopen.Disk →
+        Rose (T.faults stage.old devices.old) (T.faults stage.new devices.new) }
+    ensures why { (shelf : ℕ) → result ≡ PlayEnd.Reopen shelf Reopen.Memory → ⊥ }
 {
     let mut number = 1u64;
     let mut rest = text;
@@ -76,11 +118,11 @@ pub fn play<T: Stage, O: Sink>(alloc: Global, stage: &mut T, text: &[u8], sink: 
         let Some((step, after)) = read_step(rest) else {
             return PlayEnd::Line(number);
         };
-        match play_step(alloc, stage, &step, sink) {
+        match play_step(alloc, stage, devices, &step, sink) {
             Turn::Went => {}
             Turn::NoFit => return PlayEnd::Line(number),
             Turn::Write => return PlayEnd::Write,
-            Turn::Memory => return PlayEnd::Memory,
+            Turn::Halted(halt) => return PlayEnd::of(halt),
         }
         rest = after;
         number += step.lines();

@@ -1,15 +1,41 @@
-ghost use Rattle.std.specs.Prelude.{◌≡◌, ℕ, ◌<◌, ◌^◌, true, false, IfOk};
-ghost use Rattle.play_steps.specs.Rules.{StageRules, Takes, Publishes, Sweeps};
+ghost use Rattle.std.specs.Prelude.{◌≡◌, ◌≤◌, ℕ, ◌<◌, ◌^◌, Bool, true, false, IsTrue, IfOk, IsErrOf};
+ghost use Rattle.web_outside.specs.Causes.{Rose};
+ghost use Rattle.play_steps.specs.Rules.{StageRules, Takes, Publishes, Sweeps, Crashes, RoseOver, StaysUp, StaysHome};
 
 use script_value::Reply;
 
+/// Why a shelf was not opened again.
+#[derive(Clone, Copy, Debug, PartialEq, Eq)]
+pub enum Reopen {
+    /// A device failed.
+    Disk,
+    /// What stands at this place of its journal is no record.
+    Damaged { place: u64 },
+    /// The record at this place is that of another setup, another shelf or another program.
+    Other { place: u64 },
+    /// There was no memory for it.
+    Memory,
+}
+
 /// What performs the events of a run's steps: shelves, and the tickets that sixteen workers hold.
 pub trait Stage {
+    /// Where shelves that crash find their disks. It is lent for each call that needs it.
+    type Devices;
+
     /// What its events do.
     ghost rules: { StageRules };
 
+    /// Whether its disks tell what they hold. Files cannot; then nothing is known of what a crash leaves.
+    ghost tells: { Bool };
+
     /// The state that it stands for.
     ghost state: { Self → rules.State };
+
+    /// What it and its devices owe each other.
+    ghost at_home: { Self → Self.Devices → Type 0 };
+
+    /// How often its disks and its devices failed, up to the type's end.
+    ghost faults: { Self → Self.Devices → ℕ };
 
     /// How many shelves there are.
     fn shelves(&self) -> u32
@@ -25,20 +51,42 @@ pub trait Stage {
     fn take(&mut self, worker: u32, target: &[u8]) -> Result<u64, Reply>
         requires worker { worker < 16 }
         requires free { rules.holds (state self.old) worker ≡ false }
-        ensures step { Takes rules (state self.old) worker target.now result (state self.new) }
-        ensures held { IfOk result (λ _. rules.holds (state self.new) worker ≡ true) };
+        ensures step { Takes rules (RoseOver (faults self.old) (faults self.new))
+            (state self.old) worker target.now result (state self.new) }
+        ensures held { IfOk result (λ _. rules.holds (state self.new) worker ≡ true) }
+        ensures home { StaysHome (at_home self.old) (at_home self.new) }
+        ensures later { StaysUp (faults self.old) (faults self.new) };
 
     /// Runs the visit that the worker's ticket is for, and spends the ticket.
     fn publish(&mut self, worker: u32) -> Reply
         requires worker { worker < 16 }
         requires held { rules.holds (state self.old) worker ≡ true }
-        ensures { Publishes rules (state self.old) worker result (state self.new) };
+        ensures step { Publishes rules (RoseOver (faults self.old) (faults self.new))
+            (state self.old) worker result (state self.new) }
+        ensures home { StaysHome (at_home self.old) (at_home self.new) }
+        ensures later { StaysUp (faults self.old) (faults self.new) };
 
     /// Sweeps the shelf at the tick, in seconds: frees what is over by then, so many instances; or
     /// the reply that says why not.
     fn sweep(&mut self, shelf: u32, tick: u64) -> Result<u32, Reply>
         requires shelf { shelf < rules.shelves (state self.old) }
         requires tick { tick < 2 ^ 62 }
-        ensures step { Sweeps rules (state self.old) shelf tick result (state self.new) }
-        ensures shelves { rules.shelves (state self.new) ≡ rules.shelves (state self.old) };
+        ensures step { Sweeps rules (RoseOver (faults self.old) (faults self.new))
+            (state self.old) shelf tick result (state self.new) }
+        ensures shelves { rules.shelves (state self.new) ≡ rules.shelves (state self.old) }
+        ensures home { StaysHome (at_home self.old) (at_home self.new) }
+        ensures later { StaysUp (faults self.old) (faults self.new) };
+
+    /// Lets the shelf's disk crash, and opens the shelf again on what is left there: with so many live
+    /// instances; or why not. Where disks tell nothing, nothing is known of what is left.
+    fn crash(&mut self, devices: &mut Self::Devices, shelf: u32) -> Result<u32, Reopen>
+        requires shelf { shelf < rules.shelves (state self.old) }
+        requires home { at_home self.old devices.old }
+        ensures step { IsTrue tells → IfOk result (λ live. Crashes rules
+            (Rose (faults self.old devices.old) (faults self.new devices.new))
+            (state self.old) shelf live (state self.new)) }
+        ensures home { at_home self.new devices.new }
+        ensures later { faults self.old devices.old ≤ faults self.new devices.new }
+        ensures disk { IsErrOf result Reopen.Disk →
+            Rose (faults self.old devices.old) (faults self.new devices.new) };
 }

@@ -17,6 +17,8 @@ pub enum Step<'a> {
     Get { worker: u32, target: &'a [u8] },
     /// Each shelf is swept at this time, in seconds.
     Tick { time: u64 },
+    /// The shelf's disk crashes, and the shelf is opened again.
+    Crash { shelf: u32 },
 }
 
 impl Step<'_> {
@@ -25,7 +27,11 @@ impl Step<'_> {
         ensures { result ≡ spec.lines_in (meaning self.now) }
     {
         match self {
-            Step::Take { .. } | Step::Publish { .. } | Step::Get { .. } | Step::Tick { .. } => 1,
+            Step::Take { .. }
+            | Step::Publish { .. }
+            | Step::Get { .. }
+            | Step::Tick { .. }
+            | Step::Crash { .. } => 1,
         }
     }
 }
@@ -37,6 +43,14 @@ fn worker_of(digits: &[u8]) -> Option<u32>
 {
     let worker = small_number(digits)?;
     if worker < 16 { Some(worker) } else { None }
+}
+
+// The number of a shelf.
+fn shelf_of(digits: &[u8]) -> Option<u32>
+    ensures spelled { result ≡ number_below (2 ^ 32) digits.now }
+    ensures range { IfSome result (λ shelf. shelf < 2 ^ 32) }
+{
+    small_number(digits)
 }
 
 // A time below 2^62.
@@ -119,6 +133,15 @@ fn tick_of(line: &[u8]) -> Option<Step>
     Some(Step::Tick { time })
 }
 
+#[tactic(auto, unfolding(crate::specs::Step::crash_of))]
+fn crash_of(line: &[u8]) -> Option<Step>
+    ensures spelled { option_map meaning result ≡ spec.crash_of line.now }
+    ensures range { IfSome result (λ step. spec.IsStep (meaning step)) }
+{
+    let shelf = shelf_of(behind(b"crash ", line)?)?;
+    Some(Step::Crash { shelf })
+}
+
 // The step that a line is.
 #[tactic(auto, unfolding(crate::specs::Step::step_of))]
 fn parse(line: &[u8]) -> Option<Step>
@@ -134,12 +157,15 @@ fn parse(line: &[u8]) -> Option<Step>
     if let Some(step) = get_of(line) {
         return Some(step);
     }
-    tick_of(line)
+    if let Some(step) = tick_of(line) {
+        return Some(step);
+    }
+    crash_of(line)
 }
 
 /// The step at the front of these bytes, and the bytes behind its lines. A step is a line:
-/// `take W TARGET`, `publish W` or `get W TARGET` of a worker from 0 to 15, or `tick T` of a time
-/// below 2^62, in seconds.
+/// `take W TARGET`, `publish W` or `get W TARGET` of a worker from 0 to 15, `tick T` of a time
+/// below 2^62, in seconds, or `crash S` of a shelf.
 #[tactic(auto, unfolding(crate::specs::Step::first_step))]
 pub fn read_step(bytes: &[u8]) -> Option<(Step<'_>, &[u8])>
     ensures spelled { option_map (λ found. (meaning found.0, found.1.now)) result ≡ spec.first_step bytes.now }

@@ -1,36 +1,70 @@
-use Rattle.std.proofs.Common.{◌≡◌, [], ◌∷◌, IfOk, subst, rules}
-use Rattle.play_steps.specs.Step.{Step, take, publish, get}
+use Rattle.std.proofs.Common.{◌≡◌, [], ◌∷◌, MatchResult, subst, rules}
+use Rattle.play_steps.specs.Step.{Step, take, publish, get, crash}
 use Rattle.play_steps.specs.Views.{meaning}
-use Rattle.play_steps.specs.Played.{Performs}
+use Rattle.play_steps.specs.Played.{Performs, spot}
 use Rattle.play_steps.specs.declared.report.Report.{Report}
-use Rattle.play_steps.proofs.Performed.{took, published, got_number, got_refusal}
+use Rattle.play_steps.specs.declared.performing.Halt.{Halt}
+use Rattle.play_steps.specs.declared.performing.Halt.TheVariants as halt
+use Rattle.play_steps.proofs.Performed.{comes_called, took, published, got_number, got_refusal, tells, told_crash, crash_performs}
 use Rattle.play_steps.proofs.performing.perform.Goals as goal
 
-pub returns-in-Take : goal.returns-in-Take
-returns-in-Take g c =
-    let r = g.T.Stage.rules in
+pub returns-in-Take-clause-came : goal.returns-in-Take-clause-came
+returns-in-Take-clause-came g c known =
     let step : take c.in-Take.worker c.in-Take.target.now ≡ meaning c.args.step.now = search rules in
-    let told = subst (λ (x : Report). IfOk c.one.result (λ reports. reports.items ≡ x ∷ [])) c.of_take.ensures c.one.ensures in
-    subst (λ (s : Step). Performs r s c.one.result (g.T.Stage.state c.args.stage.now) (g.T.Stage.state c.take-taken.new.self)) step
-    (record { told = _; came = took r _ _ _ _ _ c.take-taken.ensures.step; is = told })
-
-pub returns-in-Publish : goal.returns-in-Publish
-returns-in-Publish g c =
     let r = g.T.Stage.rules in
+    let devices = c.args.devices.now in
+    let new = c.take-taken.new.self in
+    let call = c.take-taken.ensures in
+    let told = subst (λ (x : Report). MatchResult c.one.result (λ reports. reports.items ≡ x ∷ []) (λ (why : Halt). why ≡ halt.Memory)) c.of_take.ensures c.one.ensures in
+    subst (λ (s : Step). Performs r s c.one.result (spot r (g.T.Stage.state c.args.stage.now) (g.T.Stage.faults c.args.stage.now devices))
+    (spot r (g.T.Stage.state new) (g.T.Stage.faults new devices))) step
+    (tells r _ _ _ _ c.one.result told (took r _ _ _ _ _ (comes_called r _ _ _ _ _ call.step (call.later devices) (λ rose. rose devices))))
+
+pub returns-in-Publish-clause-came : goal.returns-in-Publish-clause-came
+returns-in-Publish-clause-came g c known =
+    let r = g.T.Stage.rules in
+    let devices = c.args.devices.now in
+    let new = c.publish-reply.new.self in
     let step : publish c.in-Publish.worker ≡ meaning c.args.step.now = search rules in
-    subst (λ (s : Step). Performs r s c.one-in-Publish.result (g.T.Stage.state c.args.stage.now) (g.T.Stage.state c.publish-reply.new.self)) step
-    (record { told = _; came = published r _ _ _ _ c.publish-reply.ensures; is = c.one-in-Publish.ensures })
+    let call = c.publish-reply.ensures in
+    subst (λ (s : Step). Performs r s c.one-in-Publish.result (spot r (g.T.Stage.state c.args.stage.now) (g.T.Stage.faults c.args.stage.now devices))
+    (spot r (g.T.Stage.state new) (g.T.Stage.faults new devices))) step
+    (tells r _ _ _ _ c.one-in-Publish.result c.one-in-Publish.ensures
+    (published r _ _ _ _ (comes_called r _ _ _ _ _ call.step (call.later devices) (λ rose. rose devices))))
 
-pub returns-in-Ok : goal.returns-in-Ok
-returns-in-Ok g c =
+pub returns-in-Ok-clause-came : goal.returns-in-Ok-clause-came
+returns-in-Ok-clause-came g c known =
     let r = g.T.Stage.rules in
+    let devices = c.args.devices.now in
+    let new = c.publish-shown.new.self in
     let step : get c.in-Get.worker c.in-Get.target.now ≡ meaning c.args.step.now = search rules in
-    subst (λ (s : Step). Performs r s c.one-in-Ok.result (g.T.Stage.state c.args.stage.now) (g.T.Stage.state c.publish-shown.new.self)) step
-    (record { told = _; came = got_number r _ _ _ _ _ _ _ c.in-Ok.ensures.step c.publish-shown.ensures; is = c.one-in-Ok.ensures })
+    let first = c.in-Ok.ensures in
+    let second = c.publish-shown.ensures in
+    subst (λ (s : Step). Performs r s c.one-in-Ok.result (spot r (g.T.Stage.state c.args.stage.now) (g.T.Stage.faults c.args.stage.now devices))
+    (spot r (g.T.Stage.state new) (g.T.Stage.faults new devices))) step
+    (tells r _ _ _ _ c.one-in-Ok.result c.one-in-Ok.ensures
+    (got_number r _ (spot r (g.T.Stage.state c.take.new.self) (g.T.Stage.faults c.take.new.self devices)) _ _ _ _ _
+    (comes_called r _ _ _ _ _ first.step (first.later devices) (λ rose. rose devices))
+    (comes_called r _ _ _ _ _ second.step (second.later devices) (λ rose. rose devices))))
 
-pub returns-in-Err : goal.returns-in-Err
-returns-in-Err g c =
+pub returns-in-Err-clause-came : goal.returns-in-Err-clause-came
+returns-in-Err-clause-came g c known =
     let r = g.T.Stage.rules in
+    let devices = c.args.devices.now in
+    let new = c.take.new.self in
     let step : get c.in-Get.worker c.in-Get.target.now ≡ meaning c.args.step.now = search rules in
-    subst (λ (s : Step). Performs r s c.one-in-Err.result (g.T.Stage.state c.args.stage.now) (g.T.Stage.state c.take.new.self)) step
-    (record { told = _; came = got_refusal r _ _ _ _ _ c.in-Err.ensures.step; is = c.one-in-Err.ensures })
+    let call = c.in-Err.ensures in
+    subst (λ (s : Step). Performs r s c.one-in-Err.result (spot r (g.T.Stage.state c.args.stage.now) (g.T.Stage.faults c.args.stage.now devices))
+    (spot r (g.T.Stage.state new) (g.T.Stage.faults new devices))) step
+    (tells r _ _ _ _ c.one-in-Err.result c.one-in-Err.ensures
+    (got_refusal r _ _ _ _ _ (comes_called r _ _ _ _ _ call.step (call.later devices) (λ rose. rose devices))))
+
+pub returns-in-Crash-clause-came : goal.returns-in-Crash-clause-came
+returns-in-Crash-clause-came g c known =
+    let r = g.T.Stage.rules in
+    let step : crash c.in-Crash.shelf ≡ meaning c.args.step.now = search rules in
+    let call = c.crash-opened.ensures in
+    let new = c.crash-opened.new in
+    subst (λ (s : Step). Performs r s c.crash_report.result (spot r (g.T.Stage.state c.args.stage.now) (g.T.Stage.faults c.args.stage.now c.args.devices.now))
+    (spot r (g.T.Stage.state new.self) (g.T.Stage.faults new.self new.devices))) step
+    (crash_performs r _ _ _ _ _ c.crash_report.ensures (call.step (told_crash g.T.Stage.tells _ _ step known)) call.later)

@@ -1,17 +1,21 @@
-use Rattle.std.proofs.Common.{◌≤◌, ◌+◌, length}
-use Rattle.play_steps.specs.Step.{steps_of}
+use Rattle.std.proofs.Common.{◌≡◌, ◌≤◌, ◌+◌, length, true}
+use Rattle.play_steps.specs.Step.{steps_of, is_told}
 use Rattle.play_steps.specs.Played.{scene}
 use Rattle.play_steps.proofs.Runs.{Reached}
 use Rattle.play_steps.proofs.run.play.Given as goal
 
 abbrev pub invariant-loop-rest : goal.invariant-loop-rest
 invariant-loop-rest g l =
-    let rules = g.T.Stage.rules in
+    let stage = g.T.Stage in
     record {
-      reached : Reached rules (steps_of l.text) (scene rules (g.O.Sink.view l.initial.sink).written (g.T.Stage.state l.initial.stage))
-          (scene rules (g.O.Sink.view l.sink).written (g.T.Stage.state l.stage)) l.number (steps_of l.rest);
+      reached : is_told stage.tells (steps_of l.text) ≡ true
+          → Reached stage.rules (steps_of l.text)
+          (scene stage.rules (g.O.Sink.view l.initial.sink).written (stage.state l.initial.stage) (stage.faults l.initial.stage l.initial.devices))
+          (scene stage.rules (g.O.Sink.view l.sink).written (stage.state l.stage) (stage.faults l.stage l.devices)) l.number (steps_of l.rest);
       numbered : l.number + length l.rest ≤ length l.text + 1;
       later : (g.O.Sink.view l.initial.sink).faults ≤ (g.O.Sink.view l.sink).faults;
+      home : stage.at_home l.stage l.devices;
+      devices_later : stage.faults l.initial.stage l.initial.devices ≤ stage.faults l.stage l.devices;
     }
 
 abbrev pub decreases-loop-rest : goal.decreases-loop-rest
