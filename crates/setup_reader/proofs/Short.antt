@@ -22,7 +22,7 @@ short_name name is =
 
 are_short : (before scripts : List Named) → AreScripts before scripts → AreShort scripts
 are_short before [] are = tt
-are_short before (s ∷ ss) are = (short_name s.name are.0.named, (are.0.spelled.short, are_short (before ++ s ∷ []) ss are.1.1))
+are_short before (s ∷ ss) are = (short_name s.name are.0.named, are.0.spelled.short, are_short (before ++ s ∷ []) ss are.1.1)
 
 pub answer_few : {X : Type 0} (view : X → Parsed) (ending : Ending) (input : List ℕ) (r : Result X SetupFault) → Gives view r (setup_of ending input)
     → IfOk r (λ x. length (view x).scripts ≤ 15)
