@@ -133,11 +133,6 @@ pub record ReadToEnd (met : Met) : Type 0 where
 
 -- ---- what hangs on the disks
 
--- what is said of steps that are played is said where the disks tell their bytes
-abbrev pub Known : Racks → Command → Type 0 → Type 0
-Known rack (Play o) P = rack.tells → P
-Known rack asked P = P
-
 -- what the words ask for, with the setup of an input that is not too long
 abbrev pub with_setup : Command → Result Parsed Fault → Option (Command × Parsed)
 with_setup asked (Err e) = None
@@ -160,6 +155,10 @@ Settles rack (Some (Play o, setup)) = rack.tells
 Settles rack (Some (Serve s, setup)) = rack.tells
 Settles rack _ = ⊤
 
+-- what hangs on disks is said where they tell their bytes
+abbrev pub Known : Racks → Command → (bytes : List ℕ) → Type 0 → Type 0
+Known rack asked bytes P = Settles rack (with_setup asked (setup_of (ending_of asked) bytes)) → P
+
 -- the disks that were given back stand for the books that the steps of a setup left
 abbrev pub StandFor : Racks → Command → Result Parsed Fault → Chances → Type 0
 StandFor rack (Play o) (Ok setup) chances =
@@ -178,15 +177,15 @@ pub record Gives (rack : Racks) (asked : Command) (bytes : List ℕ) (chances : 
 -- what a command leaves that has read its whole input
 abbrev pub Leaves : Racks → Command → (bytes : List ℕ) → Status → Chances → Sinks → Type 0
 Leaves rack asked bytes status.Done chances out =
-    Known rack asked (Gives rack asked bytes chances 0 out × StandFor rack asked (setup_of (ending_of asked) bytes) chances)
+    Known rack asked bytes (Gives rack asked bytes chances 0 out × StandFor rack asked (setup_of (ending_of asked) bytes) chances)
 Leaves rack asked bytes status.Setup chances out = Gives rack asked bytes chances 3 out
 Leaves rack asked bytes status.Line chances out =
-    Known rack asked (Gives rack asked bytes chances 4 out × StandFor rack asked (setup_of (ending_of asked) bytes) chances)
+    Known rack asked bytes (Gives rack asked bytes chances 4 out × StandFor rack asked (setup_of (ending_of asked) bytes) chances)
 Leaves rack asked bytes status.Write chances out =
-    Rose out.before out.after × Known rack asked (BreaksOff (output_of asked bytes chances) out)
-Leaves rack asked bytes status.Disk chances out = RackFailed rack × Known rack asked (Loses asked bytes chances out)
-Leaves rack asked bytes status.Journal chances out = Known rack asked (Gives rack asked bytes chances 8 out)
-Leaves rack asked bytes status.Memory chances out = Known rack asked (Pauses asked bytes chances (codes "error 10 memory\n") out)
+    Rose out.before out.after × Known rack asked bytes (BreaksOff (output_of asked bytes chances) out)
+Leaves rack asked bytes status.Disk chances out = RackFailed rack × Known rack asked bytes (Loses asked bytes chances out)
+Leaves rack asked bytes status.Journal chances out = Known rack asked bytes (Gives rack asked bytes chances 8 out)
+Leaves rack asked bytes status.Memory chances out = Known rack asked bytes (Pauses asked bytes chances (codes "error 10 memory\n") out)
 Leaves rack asked bytes _ chances out = ⊥
 
 -- the same, for some chances
@@ -195,38 +194,47 @@ Outputs rack asked bytes status out = (chances : Chances) × Leaves rack asked b
 
 -- it was done with the whole input
 abbrev pub HasDone : Command → Chances → Status → Met → Type 0
-HasDone asked chances status met =
-    ReadToEnd met × IfSome met.input (λ bytes. Leaves met.rack asked bytes status chances met.output)
+HasDone asked chances how met =
+    ReadToEnd met × IfSome met.input (λ bytes. Leaves met.rack asked bytes how chances met.output)
 
 -- why a command that was asked for ends so, and what it wrote
 abbrev pub Comes : Command → Chances → Status → Met → Type 0
+Comes asked chances status.Done met = HasDone asked chances status.Done met
+Comes asked chances status.Setup met = HasDone asked chances status.Setup met
+Comes asked chances status.Line met = HasDone asked chances status.Line met
+Comes asked chances status.Write met = HasDone asked chances status.Write met × Rose met.output.before met.output.after
+Comes asked chances status.Disk met = HasDone asked chances status.Disk met × RackFailed met.rack
+Comes asked chances status.Journal met = HasDone asked chances status.Journal met
 Comes asked chances status.Memory met =
     IfSome met.input (λ bytes. Leaves met.rack asked bytes status.Memory chances met.output) × ConsumesSome met.input met.unread
 Comes asked chances status.Read met = IsUnread fault.Failed met
 Comes asked chances status.Long met = IsUnread fault.Long met
-Comes asked chances status met = HasDone asked chances status met
+Comes asked chances _ met = ⊥
 
 -- the whole input was read, and its links were served or not
 abbrev pub HasServed : Serves → Service → Chances → Status → Met → Type 0
-HasServed serves s chances status met =
-    ReadToEnd met × IfSome met.input (λ bytes. LeavesInput serves s bytes chances status met.output met.door met.seeds)
+HasServed serves s chances how met =
+    ReadToEnd met × IfSome met.input (λ bytes. LeavesInput serves s bytes chances how met.output met.door met.seeds)
 
 -- why a serving ends so, and what it wrote
 abbrev pub ComesServing : Serves → Service → Chances → Status → Met → Type 0
+ComesServing serves s chances status.Done met = HasServed serves s chances status.Done met
+ComesServing serves s chances status.Setup met = HasServed serves s chances status.Setup met
 ComesServing serves s chances status.Write met = HasServed serves s chances status.Write met × Rose met.output.before met.output.after
 ComesServing serves s chances status.Disk met = HasServed serves s chances status.Disk met × RackFailed met.rack
+ComesServing serves s chances status.Journal met = HasServed serves s chances status.Journal met
 ComesServing serves s chances status.Door met = HasServed serves s chances status.Door met × HaveRisen met.door
 ComesServing serves s chances status.Key met = HasServed serves s chances status.Key met × HaveRisen met.seeds
 ComesServing serves s chances status.Memory met =
     IsUnread fault.Memory met × (serves.unopened ⊎ HasServed serves s chances status.Memory met)
 ComesServing serves s chances status.Read met = IsUnread fault.Failed met × serves.unopened
 ComesServing serves s chances status.Long met = IsUnread fault.Long met × serves.unopened
-ComesServing serves s chances status met = HasServed serves s chances status met
+ComesServing serves s chances _ met = ⊥
 
 abbrev pub ComesTo : Serves → Command → Chances → Status → Met → Type 0
-ComesTo serves Check chances status met = Comes Check chances status met
-ComesTo serves (Play o) chances status met = Comes (Play o) chances status met
-ComesTo serves (Serve s) chances status met = ComesServing serves s chances status met
+ComesTo serves Check chances how met = Comes Check chances how met
+ComesTo serves (Play o) chances how met = Comes (Play o) chances how met
+ComesTo serves (Serve s) chances how met = ComesServing serves s chances how met
 
 -- words without a command, or want of memory for them, leave the input unread
 abbrev pub Refuses : Option Command → Status → Met → Type 0
