@@ -1,5 +1,5 @@
 -- Words that clap takes hold each value that their command needs, in its range.
-use Rattle.std.proofs.Common.{◌≡◌, ◌∙◌, ◌≤◌, ℕ, Bool, cond, true, false, sym, ap, subst, List, [], ◌∷◌, drop, Option, Some, None, is_some, option_map, refl, codes}
+use Rattle.std.proofs.Common.{◌≡◌, ◌∙◌, ◌<◌, ◌≤◌, length, ℕ, Bool, cond, true, false, sym, ap, subst, List, [], ◌∷◌, drop, Option, Some, None, is_some, option_map, refl, codes}
 use Rattle.std.specs.Prelude.{option_and_then, slice_get}
 use Rattle.std.specs.List.{AllByRecursion as Each, find, fold}
 use Rattle.std.specs.Option.{option_map_or}
@@ -21,10 +21,10 @@ use Rattle.clap.specs.declared.error.kind.ErrorKind.TheVariants.{MissingRequired
 use Rattle.clap.proofs.OnLiterals.{clap_on_literals}
 use Rattle.clap.proofs.ValueTestLemmas.{accepts-Accepts}
 use Rattle.command_words.specs.App.{app, check_shape, play_shape, serve_shape}
-use Rattle.server_limits.specs.Limits.{most_connections, most_fuel, most_instances, most_life, most_pages}
+use Rattle.server_limits.specs.Limits.{most_connections, most_fuel, most_instances, most_life, most_pages, most_shelves}
 use Rattle.command_words.specs.Options.{Item, Kind, directory, flag, number, play_items, serve_items}
 use Rattle.command_words.specs.Plain.{AreInRange, CanServe, IsInRange}
-use Rattle.command_words.specs.Reads.{Holds, HoldsAs, HoldsAsked, HoldsFor, HoldsNumber, asked_as, asked_from, for_check, for_play, for_serve, number_at, options_at, service_at}
+use Rattle.command_words.specs.Reads.{Holds, HoldsAs, HoldsAsked, HoldsFor, HoldsNumber, HoldsText, asked_as, asked_from, for_check, for_play, for_serve, number_at, options_at, service_at, text_at}
 use Rattle.command_words.specs.declared.Command.{Command}
 use Rattle.command_words.specs.declared.Command.TheVariants.{Check, Play, Serve}
 use Rattle.command_words.proofs.Found.{HasDefault}
@@ -105,7 +105,7 @@ value_in s table words i l in_table there = by_row (row_of i.default refl)
 
 holds_as : (kind : Kind) (c : List Rule) (a : Rule) (rows : List Row) (id : Text) → Fits c kind id a → Value a rows id → HoldsAs kind rows id
 holds_as (number low high) c a rows id fits v = number_in a rows id low high fits.1 v
-holds_as directory c a rows id fits v = (v.text, v.one)
+holds_as directory c a rows id fits v = (v.text, v.first, accepted_by a vp.NonEmptyString v.text fits.1 v.passes)
 holds_as flag c a rows id fits v = (v.text, v.one)
 
 holds_each : (s : Shape) (whole table : List Item) (words : List Text) → Level s words → Each (IsIn s.rules whole) table
@@ -118,19 +118,19 @@ holds_each s whole (i ∷ table) words l all there = (
 
 play_known : AllKnown (built_sub play_shape).rules
 unfolding clap_on_literals
-play_known = (record { does = sets_value refl refl; by_id = refl }, (record { does = sets_value refl refl; by_id = refl }, (record { does = sets_value refl refl; by_id = refl }, (record { does = sets_value refl refl; by_id = refl }, (record { does = shows_help refl; by_id = refl }, tt)))))
+play_known = (record { does = sets_value refl refl; by_id = refl }, (record { does = sets_value refl refl; by_id = refl }, (record { does = sets_value refl refl; by_id = refl }, (record { does = sets_value refl refl; by_id = refl }, (record { does = sets_value refl refl; by_id = refl }, (record { does = sets_value refl refl; by_id = refl }, (record { does = shows_help refl; by_id = refl }, tt)))))))
 
 play_holds : (words : List Text) → level_fault (built_sub play_shape) [] nothing_held words false [] ≡ [] → HoldsFor (codes "play") (rows_after (built_sub play_shape).rules [] words)
 play_holds words fine =
     for_play refl
     (holds_each (built_sub play_shape) play_items play_items words (level_sound (built_sub play_shape) words refl play_known fine) play_in
-    (λ e. cc, (λ e. cc, (λ e. cc, (λ e. cc, tt)))))
+    (λ e. cc, (λ e. cc, (λ e. cc, (λ e. cc, (λ e. cc, (λ e. cc, tt)))))))
 
 -- ---- `serve`
 
 serve_known : AllKnown (built_sub serve_shape).rules
 unfolding clap_on_literals
-serve_known = (record { does = sets_value refl refl; by_id = refl }, (record { does = sets_value refl refl; by_id = refl }, (record { does = sets_value refl refl; by_id = refl }, (record { does = sets_value refl refl; by_id = refl }, (record { does = sets_value refl refl; by_id = refl }, (record { does = sets_value refl refl; by_id = refl }, (record { does = shows_help refl; by_id = refl }, tt)))))))
+serve_known = (record { does = sets_value refl refl; by_id = refl }, (record { does = sets_value refl refl; by_id = refl }, (record { does = sets_value refl refl; by_id = refl }, (record { does = sets_value refl refl; by_id = refl }, (record { does = sets_value refl refl; by_id = refl }, (record { does = sets_value refl refl; by_id = refl }, (record { does = sets_value refl refl; by_id = refl }, (record { does = sets_value refl refl; by_id = refl }, (record { does = shows_help refl; by_id = refl }, tt)))))))))
 
 no_port : (rows : List Row) → is_given (codes "port") rows ≡ false → check_fault (built_sub serve_shape) rows false ≡ MissingRequiredArgument ∷ []
 unfolding clap_on_literals
@@ -158,7 +158,7 @@ serve_holds words fine =
     let port = port_row (rows_after (built_sub serve_shape).rules [] words) l.checked in
     for_serve refl
     (holds_each (built_sub serve_shape) serve_items serve_items words l serve_in
-    (λ e. cc, (λ e. cc, (λ e. cc, (λ e. cc, (λ e. port, (λ e. cc, tt)))))))
+    (λ e. cc, (λ e. cc, (λ e. cc, (λ e. cc, (λ e. cc, (λ e. cc, (λ e. port, (λ e. cc, tt)))))))))
 
 -- ---- the command
 
@@ -206,19 +206,24 @@ holds words fine =
 number_range : (low high : ℕ) (rows : List Row) (id : Text) → HoldsNumber low high rows id → (low ≤ number_at rows id) × (number_at rows id ≤ high)
 number_range low high rows id h = rw h.1 (h.2.2, h.2.3)
 
+text_range : (rows : List Row) (id : Text) → HoldsText rows id → 0 < length (text_at rows id)
+text_range rows id h = rw h.1 h.2
+
 options_range : (rows : List Row) → Holds play_items rows → AreInRange (options_at rows)
 options_range rows h = record {
   fuel = number_range 1 most_fuel rows (codes "fuel") h.0;
   life = number_range 1 most_life rows (codes "life") h.1.0;
   instances = number_range 1 most_instances rows (codes "instances") h.1.1.0;
   pages = number_range 1 most_pages rows (codes "pages") h.1.1.1.0;
+  journal = text_range rows (codes "journal") h.1.1.1.1.0;
+  shelves = number_range 1 most_shelves rows (codes "shelves") h.1.1.1.1.1.0;
 }
 
 service_range : (rows : List Row) → Holds serve_items rows → CanServe (service_at rows)
 service_range rows h = record {
-  options = options_range rows (h.0, (h.1.0, (h.1.1.0, (h.1.1.1.0, tt))));
-  port = (number_range 0 65535 rows (codes "port") h.1.1.1.1.0).1;
-  connections = number_range 1 most_connections rows (codes "connections") h.1.1.1.1.1.0;
+  options = options_range rows (h.0, (h.1.0, (h.1.1.0, (h.1.1.1.0, (h.1.1.1.1.0, (h.1.1.1.1.1.0, tt))))));
+  port = (number_range 0 65535 rows (codes "port") h.1.1.1.1.1.1.0).1;
+  connections = number_range 1 most_connections rows (codes "connections") h.1.1.1.1.1.1.1.0;
 }
 
 for_range : (name : Text) (rows : List Row) (asked : Command) → HoldsFor name rows → asked_as name rows ≡ Some asked → IsInRange asked

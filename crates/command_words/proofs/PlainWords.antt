@@ -13,16 +13,16 @@ use Rattle.clap.specs.Walk.{Row, Rule, Text, is_empty, nothing_held, with_defaul
 use Rattle.clap.proofs.OnLiterals.{clap_on_literals}
 use Rattle.command_words.specs.App.{app, play_shape, serve_shape}
 use Rattle.command_words.specs.Options.{ArePlain, IsOneOf, IsPlainText, Item, Kind, Setting, directory, flag, given, number, number_of, play_items, serve_items, spelled, text_of}
-use Rattle.command_words.specs.Options.{connections, fuel, instances, life, pages, port}
+use Rattle.command_words.specs.Options.{connections, fuel, instances, journal, life, pages, port, shelves}
 use Rattle.command_words.specs.Plain.{ArePlainFor, IsPlain, chosen, service_chosen}
-use Rattle.command_words.specs.Reads.{asked_from, number_at, options_at, service_at, value_number}
+use Rattle.command_words.specs.Reads.{asked_from, number_at, options_at, service_at, text_at, value_number}
 use Rattle.command_words.specs.declared.Command.{Command}
 use Rattle.command_words.specs.declared.Command.TheVariants.{Check, Play, Serve}
 use Rattle.command_words.specs.declared.Options.{Options}
 use Rattle.command_words.specs.declared.Service.{Service}
 use Rattle.command_words.proofs.Rows.{find_row}
 use Rattle.command_words.proofs.Uses.{IsFor, Stands, built_rule, no_plus, setting_row, settings_go}
-use Rattle.command_words.proofs.Found.{IsNamed, Tells, given_tells, tells, tells_one}
+use Rattle.command_words.proofs.Found.{IsNamed, Tells, given_tells, tells, tells_first, tells_one}
 use Rattle.command_words.proofs.Tables.{IsIn, at_item, built_sub, has_default, is_number, is_numeric, play_in, serve_in}
 use Rattle.command_words.proofs.Levels.{Enters, default_kinds, enters_play, enters_serve, entering, level_goes}
 
@@ -125,8 +125,13 @@ command_goes name word s table set enters all p defaults at_start checked =
 each_named : (c : List Rule) (table : List Item) (set : List Setting) → Each (IsIn c table) table → ArePlain table set → Each (λ t. IsNamed t.item) set
 each_named c table set all p = each_to _ (λ t. IsNamed t.item) set (λ t x. x.named) (each_in (IsIn c table) table set all p.known)
 
-options_same : (a b : Options) → a.fuel ≡ b.fuel → a.life ≡ b.life → a.instances ≡ b.instances → a.pages ≡ b.pages → a ≡ b
-options_same a b f l i p = λ at. record { fuel = f at; life = l at; instances = i at; pages = p at }
+words_told : (c : List Rule) (table : List Item) (i : Item) (set : List Setting) → IsIn c table i → Each (λ t. IsNamed t.item) set
+    → (i.default ≡ None → is_some (given i.name set) ≡ true) → text_at (ends_with c set) i.name ≡ text_of i set
+words_told c table i set in_table named there = ap (λ o. unwrap_or o []) (tells_first _ i.name _ (text_told c table i set in_table named there))
+
+options_same : (a b : Options) → a.fuel ≡ b.fuel → a.life ≡ b.life → a.instances ≡ b.instances → a.pages ≡ b.pages → a.journal ≡ b.journal
+    → a.shelves ≡ b.shelves → a ≡ b
+options_same a b f l i p j s = λ at. record { fuel = f at; life = l at; instances = i at; pages = p at; journal = j at; shelves = s at }
 
 -- the options that `play` and `serve` share
 options_told : (c : List Rule) (table : List Item) (set : List Setting) → Each (IsIn c table) play_items → ArePlain table set → Each (λ t. IsNamed t.item) set
@@ -137,6 +142,8 @@ options_told c table set shared p named =
     (number_told c table life set shared.1.0 refl p named (λ e. cc))
     (number_told c table instances set shared.1.1.0 refl p named (λ e. cc))
     (number_told c table pages set shared.1.1.1.0 refl p named (λ e. cc))
+    (words_told c table journal set shared.1.1.1.1.0 named (λ e. cc))
+    (number_told c table shelves set shared.1.1.1.1.1.0 refl p named (λ e. cc))
 
 -- ---- `check`
 
@@ -148,7 +155,7 @@ check_means name = (refl, refl)
 
 play_defaults : Each (λ a. default_kinds (is_empty a.defaults) a ≡ []) (built_sub play_shape).rules
 unfolding clap_on_literals
-play_defaults = (refl, (refl, (refl, (refl, (refl, tt)))))
+play_defaults = (refl, (refl, (refl, (refl, (refl, (refl, (refl, tt)))))))
 
 play_checked : (rows : List Row) → check_fault (built_sub play_shape) rows false ≡ []
 unfolding clap_on_literals
@@ -165,7 +172,7 @@ play_means name set p =
 
 serve_defaults : Each (λ a. default_kinds (is_empty a.defaults) a ≡ []) (built_sub serve_shape).rules
 unfolding clap_on_literals
-serve_defaults = (refl, (refl, (refl, (refl, (refl, (refl, (refl, tt)))))))
+serve_defaults = (refl, (refl, (refl, (refl, (refl, (refl, (refl, (refl, (refl, tt)))))))))
 
 -- the port is what is required
 serve_checked : (rows : List Row) → is_given (codes "port") rows ≡ true → check_fault (built_sub serve_shape) rows false ≡ []
@@ -173,7 +180,7 @@ unfolding clap_on_literals
 serve_checked rows e = simp e
 
 port_given : (set : List Setting) → Each (λ t. IsNamed t.item) set → ArePlain serve_items set → is_given (codes "port") (ends_with (built_sub serve_shape).rules set) ≡ true
-port_given set named p = by_given (given (codes "port") set) refl (p.there.1.1.1.1.0 refl)
+port_given set named p = by_given (given (codes "port") set) refl (p.there.1.1.1.1.1.1.0 refl)
   where
     by_given : (o : Option Text) → given (codes "port") set ≡ o → is_some o ≡ true → is_given (codes "port") (ends_with (built_sub serve_shape).rules set) ≡ true
     by_given None e some = cc
@@ -189,10 +196,10 @@ serve_means name set p =
     let named = each_named rules serve_items set serve_in p in
     let goes = command_goes name (codes "serve") serve_shape serve_items set enters_serve serve_in p serve_defaults (record { fine = refl; got = refl })
     (serve_checked (ends_with rules set) (port_given set named p)) in
-    let shared : Each (IsIn rules serve_items) play_items = (serve_in.0, (serve_in.1.0, (serve_in.1.1.0, (serve_in.1.1.1.0, tt)))) in
+    let shared : Each (IsIn rules serve_items) play_items = (serve_in.0, (serve_in.1.0, (serve_in.1.1.0, (serve_in.1.1.1.0, (serve_in.1.1.1.1.0, (serve_in.1.1.1.1.1.0, tt)))))) in
     let told = service_same (service_at (ends_with rules set)) (service_chosen set) (options_told rules serve_items set shared p named)
-    (number_told rules serve_items port set serve_in.1.1.1.1.0 refl p named p.there.1.1.1.1.0)
-    (number_told rules serve_items connections set serve_in.1.1.1.1.1.0 refl p named (λ e. cc)) in
+    (number_told rules serve_items port set serve_in.1.1.1.1.1.1.0 refl p named p.there.1.1.1.1.1.1.0)
+    (number_told rules serve_items connections set serve_in.1.1.1.1.1.1.1.0 refl p named (λ e. cc)) in
     (goes.0, ap asked_from goes.1 ∙ ap (λ v. Some (Serve v)) told)
 
 -- ---- all

@@ -4,7 +4,7 @@ use Rattle.std.specs.List.{AllByRecursion as Each}
 use Rattle.std.specs.Fmt.{decimal}
 use Rattle.std.specs.Str.{bytes_eq}
 use Rattle.std.specs.Str.Parse.{digits_value}
-use Rattle.server_limits.specs.Limits.{most_connections, most_fuel, most_instances, most_life, most_pages}
+use Rattle.server_limits.specs.Limits.{most_connections, most_fuel, most_instances, most_life, most_pages, most_shelves}
 
 abbrev pub Text : Type 0
 Text = List ℕ
@@ -33,6 +33,13 @@ instances = record { name = codes "instances"; kind = number 1 most_instances; d
 abbrev pub pages : Item
 pages = record { name = codes "pages"; kind = number 1 most_pages; default = Some (codes "64") }
 
+-- where the journals stand; `-` is no directory, and they stand in memory then
+abbrev pub journal : Item
+journal = record { name = codes "journal"; kind = directory; default = Some (codes "-") }
+
+abbrev pub shelves : Item
+shelves = record { name = codes "shelves"; kind = number 1 most_shelves; default = Some (codes "1") }
+
 abbrev pub port : Item
 port = record { name = codes "port"; kind = number 0 65535; default = None }
 
@@ -41,11 +48,11 @@ connections = record { name = codes "connections"; kind = number 1 most_connecti
 
 -- the options of `play`
 abbrev pub play_items : List Item
-play_items = fuel ∷ life ∷ instances ∷ pages ∷ []
+play_items = fuel ∷ life ∷ instances ∷ pages ∷ journal ∷ shelves ∷ []
 
 -- the options of `serve`: those of `play`, and two of its own
 abbrev pub serve_items : List Item
-serve_items = fuel ∷ life ∷ instances ∷ pages ∷ port ∷ connections ∷ []
+serve_items = fuel ∷ life ∷ instances ∷ pages ∷ journal ∷ shelves ∷ port ∷ connections ∷ []
 
 -- ---- options as they are written
 

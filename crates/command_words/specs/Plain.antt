@@ -1,8 +1,8 @@
 -- Plain words, and what they ask for.
-use Rattle.std.specs.Prelude.{⊤, ◌≡◌, ◌≤◌, ◌∷◌, List, [], codes}
-use Rattle.server_limits.specs.Limits.{AreConnections, AreInstances, ArePages, IsFuel, IsLife}
-use Rattle.command_words.specs.Options.{ArePlain, Setting, Text, number_of, play_items, serve_items, spelled}
-use Rattle.command_words.specs.Options.{connections, fuel, instances, life, pages, port}
+use Rattle.std.specs.Prelude.{⊤, ◌≡◌, ◌<◌, ◌≤◌, ◌∷◌, List, [], codes, length}
+use Rattle.server_limits.specs.Limits.{AreConnections, AreInstances, ArePages, AreShelves, IsFuel, IsLife}
+use Rattle.command_words.specs.Options.{ArePlain, Setting, Text, number_of, play_items, serve_items, spelled, text_of}
+use Rattle.command_words.specs.Options.{connections, fuel, instances, journal, life, pages, port, shelves}
 use Rattle.command_words.specs.declared.Command.{Command}
 use Rattle.command_words.specs.declared.Command.TheVariants.{Check, Play, Serve}
 use Rattle.command_words.specs.declared.Options.{Options}
@@ -15,6 +15,8 @@ chosen s = record {
   life = number_of life s;
   instances = number_of instances s;
   pages = number_of pages s;
+  journal = text_of journal s;
+  shelves = number_of shelves s;
 }
 
 abbrev pub service_chosen : List Setting → Service
@@ -44,6 +46,8 @@ pub record AreInRange (o : Options) : Type 0 where
   pub life : IsLife o.life
   pub instances : AreInstances o.instances
   pub pages : ArePages o.pages
+  pub journal : 0 < length o.journal
+  pub shelves : AreShelves o.shelves
 
 pub record CanServe (s : Service) : Type 0 where
   pub options : AreInRange s.options

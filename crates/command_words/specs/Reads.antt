@@ -1,10 +1,10 @@
 -- What a parse found, as a command.
-use Rattle.std.specs.Prelude.{◌≡◌, ◌<◌, ℕ, List, [], codes, Option, Some, None, unwrap_or, option_and_then, if◌then◌else◌}
+use Rattle.std.specs.Prelude.{◌≡◌, ◌<◌, ℕ, List, [], codes, length, Option, Some, None, unwrap_or, option_and_then, if◌then◌else◌}
 use Rattle.std.specs.List.{AllByRecursion as Each}
 use Rattle.std.specs.Str.{bytes_eq}
 use Rattle.std.specs.Str.Parse.{digits_value, without_leading_plus}
 use Rattle.clap.specs.Values.{IsUnsignedIn}
-use Rattle.clap.specs.Walk.{Row, one_of, rows_of}
+use Rattle.clap.specs.Walk.{Row, first_of, one_of, rows_of}
 use Rattle.clap.specs.Matches.{found_of}
 use Rattle.clap.specs.declared.parser.matches.ArgMatches.{ArgMatches}
 use Rattle.command_words.specs.Options.{Item, Kind, Text, directory, flag, number, play_items, serve_items}
@@ -23,12 +23,17 @@ value_number text = digits_value 10 (without_leading_plus text)
 abbrev pub number_at : List Row → Text → ℕ
 number_at rows id = value_number (unwrap_or (one_of id rows) [])
 
+abbrev pub text_at : List Row → Text → Text
+text_at rows id = unwrap_or (first_of id rows) []
+
 abbrev pub options_at : List Row → Options
 options_at rows = record {
   fuel = number_at rows (codes "fuel");
   life = number_at rows (codes "life");
   instances = number_at rows (codes "instances");
   pages = number_at rows (codes "pages");
+  journal = text_at rows (codes "journal");
+  shelves = number_at rows (codes "shelves");
 }
 
 abbrev pub service_at : List Row → Service
@@ -55,10 +60,14 @@ asked_from = option_and_then (λ p. asked_as p.0 p.1)
 abbrev pub HoldsNumber : ℕ → ℕ → List Row → Text → Type 0
 HoldsNumber low high rows id = (t : Text) × (one_of id rows ≡ Some t) × IsUnsignedIn low high t
 
+-- a text of one byte or more
+abbrev pub HoldsText : List Row → Text → Type 0
+HoldsText rows id = (t : Text) × (first_of id rows ≡ Some t) × (0 < length t)
+
 -- a value that the option takes
 abbrev pub HoldsAs : Kind → List Row → Text → Type 0
 HoldsAs (number low high) rows id = HoldsNumber low high rows id
-HoldsAs directory rows id = (t : Text) × (one_of id rows ≡ Some t)
+HoldsAs directory rows id = HoldsText rows id
 HoldsAs flag rows id = (t : Text) × (one_of id rows ≡ Some t)
 
 -- a value for each option of the table

@@ -8,20 +8,23 @@ ghost use Rattle.clap.specs.Faults.{fault_of};
 ghost use Rattle.clap.specs.Walk.{rule_of};
 ghost use Rattle.clap.specs.declared.builder.command.Command.TheViews.{out-Command as fields_of};
 ghost use Rattle.command_words.specs.App.{app, bare_top, play_shape, rule_for, serve_shape, texts, value_rule, with_rules};
-ghost use Rattle.command_words.specs.Options.{connections, fuel, instances, life, pages, play_items, port, serve_items};
+ghost use Rattle.command_words.specs.Options.{connections, fuel, instances, journal, life, pages, play_items, port, serve_items, shelves};
 ghost use Rattle.command_words.specs.Plain.{IsInRange, IsPlain};
-ghost use Rattle.command_words.specs.Reads.{AsksFor, Holds, HoldsAsked, HoldsNoNumber, asked_from, options_at, number_at, rows_in, service_at};
+ghost use Rattle.command_words.specs.Reads.{AsksFor, Holds, HoldsAsked, HoldsNoNumber, HoldsText, asked_from, options_at, number_at, rows_in, service_at, text_at};
 ghost use Rattle.command_words.specs.declared.Command.{Command};
 
 use clap::builder::ValueParser;
 use clap::error::ErrorKind;
 use clap::{Arg, ArgAction, ArgMatches, value_parser};
-use server_limits::{MOST_CONNECTIONS, MOST_FUEL, MOST_INSTANCES, MOST_LIFE, MOST_PAGES};
+use script_value::Str;
+use server_limits::{
+    MOST_CONNECTIONS, MOST_FUEL, MOST_INSTANCES, MOST_LIFE, MOST_PAGES, MOST_SHELVES,
+};
 use std::alloc::{AllocError, Global};
 use thiserror::Error;
 
 /// What the options that `play` and `serve` share say, each in its range.
-#[derive(Clone, Copy, Debug, PartialEq, Eq)]
+#[derive(Drop)]
 pub struct Options {
     /// The most that a segment may cost, 1 to `MOST_FUEL`.
     pub fuel: u64,
@@ -31,10 +34,14 @@ pub struct Options {
     pub instances: u32,
     /// The most pages of an instance, 1 to `MOST_PAGES`.
     pub pages: u32,
+    /// The directory of the journals, of one byte or more. Where it is `-`, they stand in memory.
+    pub journal: Str,
+    /// How many shelves there are, 1 to `MOST_SHELVES`.
+    pub shelves: u32,
 }
 
 /// What the options of `serve` say, each in its range.
-#[derive(Clone, Copy, Debug, PartialEq, Eq)]
+#[derive(Drop)]
 pub struct Service {
     /// Those that it shares with `play`.
     pub options: Options,
@@ -45,7 +52,7 @@ pub struct Service {
 }
 
 /// What the words ask for.
-#[derive(Clone, Copy, Debug, PartialEq, Eq)]
+#[derive(Drop)]
 pub enum Command {
     /// Reads a setup and tells how many scripts it has.
     Check,
@@ -139,6 +146,27 @@ fn pages_arg<'a>(alloc: Global) -> Arg<'a>
     .default_value("64")
 }
 
+/// `--journal DIR`
+fn journal_arg<'a>(alloc: Global) -> Arg<'a>
+    ensures rule { rule_of result ≡ rule_for journal }
+    ensures local { result.global ≡ false }
+{
+    value_arg(alloc, "journal", ValueParser::NonEmptyString).default_value("-")
+}
+
+/// `--shelves N`
+fn shelves_arg<'a>(alloc: Global) -> Arg<'a>
+    ensures rule { rule_of result ≡ rule_for shelves }
+    ensures local { result.global ≡ false }
+{
+    value_arg(
+        alloc,
+        "shelves",
+        value_parser!(u64).range(1..=MOST_SHELVES as i64),
+    )
+    .default_value("1")
+}
+
 /// `--port N`
 fn port_arg<'a>(alloc: Global) -> Arg<'a>
     ensures rule { rule_of result ≡ rule_for port }
@@ -172,7 +200,9 @@ fn with_options<'a>(
         .arg(fuel_arg(alloc))?
         .arg(life_arg(alloc))?
         .arg(instances_arg(alloc))?
-        .arg(pages_arg(alloc))
+        .arg(pages_arg(alloc))?
+        .arg(journal_arg(alloc))?
+        .arg(shelves_arg(alloc))
 }
 
 fn play_command<'a>(alloc: Global) -> Result<clap::Command<'a>, AllocError>
@@ -247,6 +277,16 @@ fn number(matches: &ArgMatches<'_>, id: &str) -> Result<u64, WordsFault>
     matches.get_one::<u64>(id).ok_or(WordsFault::Usage)
 }
 
+fn text(alloc: Global, matches: &ArgMatches<'_>, id: &str) -> Result<Str, WordsFault>
+    ensures value { IfOk result (λ t. t ≡ text_at (rows_in matches.now) id.now) }
+    ensures refused { result ≡ Err WordsFault.Usage → HoldsText (rows_in matches.now) id.now → ⊥ }
+{
+    let Some(found) = matches.get_str(id) else {
+        return Err(WordsFault::Usage);
+    };
+    Ok(Str::new(String::from_str(alloc, found)?))
+}
+
 fn options_of(alloc: Global, matches: &ArgMatches<'_>) -> Result<Options, WordsFault>
     ensures value { IfOk result (λ o. o ≡ options_at (rows_in matches.now)) }
     ensures refused { result ≡ Err WordsFault.Usage → Holds play_items (rows_in matches.now) → ⊥ }
@@ -256,6 +296,8 @@ fn options_of(alloc: Global, matches: &ArgMatches<'_>) -> Result<Options, WordsF
         life: number(matches, "life")?,
         instances: short_number(matches, "instances")?,
         pages: short_number(matches, "pages")?,
+        journal: text(alloc, matches, "journal")?,
+        shelves: short_number(matches, "shelves")?,
     })
 }
 

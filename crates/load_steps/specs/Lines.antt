@@ -11,7 +11,7 @@ visit_line word worker target = word ++ codes " " ++ decimal worker ++ codes " "
 
 -- the line of a step, without the newline
 abbrev pub line_of : LoadStep → List ℕ
-line_of (Crash shelf) = codes "crash " ++ decimal shelf
+line_of (Crash shelf) = play.line_of (play.crash shelf)
 line_of (Tick time) = play.line_of (play.tick time)
 line_of (Publish worker) = play.line_of (play.publish worker)
 line_of (Take worker target) = play.line_of (play.take worker target)

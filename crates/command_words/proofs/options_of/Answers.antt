@@ -1,5 +1,6 @@
-use Rattle.std.proofs.Common.{arith}
-use Rattle.server_limits.specs.Limits.{most_fuel, most_instances, most_life, most_pages}
+use Rattle.std.proofs.Common.{rules, ◌≡◌, ap, arith, Err}
+use Rattle.server_limits.specs.Limits.{most_fuel, most_instances, most_life, most_pages, most_shelves}
+use Rattle.command_words.proofs.Reading.{same_error}
 use Rattle.command_words.proofs.options_of.Goals as goal
 
 pub returns-in_err-number-clause-refused : goal.returns-in_err-number-clause-refused
@@ -13,3 +14,11 @@ returns-in_err-short_number-clause-refused c = λ usage held. c.in_err-short_num
 
 pub returns-in_err-short_number-2-clause-refused : goal.returns-in_err-short_number-2-clause-refused
 returns-in_err-short_number-2-clause-refused c = λ usage held. c.in_err-short_number-2.ensures.refused 1 most_pages (omega arith) held.1.1.1.0
+
+pub returns-in_err-text-clause-refused : goal.returns-in_err-text-clause-refused
+returns-in_err-text-clause-refused c =
+    let is : c.from_residual-in_err-text.result ≡ Err c.in_err-text.field-0.0 = search rules in
+    λ usage held. c.in_err-text.ensures.refused (ap (λ x. Err x) (same_error _ _ _ is usage)) held.1.1.1.1.0
+
+pub returns-in_err-short_number-3-clause-refused : goal.returns-in_err-short_number-3-clause-refused
+returns-in_err-short_number-3-clause-refused c = λ usage held. c.in_err-short_number-3.ensures.refused 1 most_shelves (omega arith) held.1.1.1.1.1.0
