@@ -23,14 +23,11 @@ use Rattle.replay_spec.specs.Step.{Fate}
 use Rattle.play_steps.specs.Transcript.{End, done, bad_line}
 use Rattle.server_command.specs.declared.program.Status.{Status}
 use Rattle.server_command.specs.declared.program.Status.TheVariants as status
-use Rattle.server_command.specs.Laws.{TranscriptsAreRuns}
-use Rattle.server_command.specs.Output.{output_of, counted, ending_of, ended, served, written, run_of, Answers, nothing}
-use Rattle.server_command.specs.Command.{Met, ReadToEnd, Whole, Paused, Leaves, Outputs, Comes, ComesServing, ComesTo, Came, Refuses, Explains, Explained, IsUnread, EndsAs, Ends, EndsWell, IsLawful, ServesWell, asked_unless, asked_in, code_of, due, due_to, unread_line, unread_status}
-use Rattle.server_command.specs.Serving.{Serves, HaveRisen, LeavesInput}
-use Rattle.setup_reader.specs.declared.setup.Ending.TheVariants.{Input}
-use Rattle.setup_reader.specs.Setup.{setup_of}
-use Rattle.server_command.proofs.Endings.{whole_input, always, tells}
-use Rattle.server_command.proofs.Playing.{plays_events}
+use Rattle.server_command.specs.Racks.{Racks}
+use Rattle.server_command.specs.Output.{Chances, nothing}
+use Rattle.server_command.specs.Command.{Met, ReadToEnd, HasDone, HasServed, Leaves, Outputs, Comes, ComesServing, CameServing, ComesTo, Came, Refuses, Explains, Explained, IsUnread, asked_unless, asked_in, unread_line, unread_status}
+use Rattle.server_command.specs.Serving.{Serves, RackFailed, LeavesInput}
+use Rattle.server_command.proofs.Endings.{whole_input, always, tells, no_chances}
 
 read_to_end : (met : Met) (bytes : List ℕ) → Consumes met.input met.unread bytes → IsAtEnd met.unread → length bytes ≤ 16777216 → ReadToEnd met
 read_to_end met bytes read end short = record { end = end; short = whole_input met.input met.unread bytes (λ b. length b ≤ 16777216) read end short }

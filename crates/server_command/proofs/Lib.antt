@@ -1,7 +1,8 @@
-pub mod Causes
-pub mod Endings
-pub mod Openings
-pub mod Playing
 pub mod Racks
+pub mod Endings
+pub mod Causes
+pub mod Playing
+pub mod Dues
 pub mod Servings
+pub mod Openings
 pub mod Shelves

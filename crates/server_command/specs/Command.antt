@@ -1,5 +1,5 @@
 -- What the command answers.
-use Rattle.std.specs.Prelude.{⊤, ◌≡◌, ◌⊎◌, ◌≤◌, ◌++◌, ◌∷◌, [], ℕ, List, length, map, nat_le, slice_get, Option, Some, None, IfSome, Result, Ok, Err, codes, if◌then◌else◌}
+use Rattle.std.specs.Prelude.{⊤, ◌≡◌, ◌⊎◌, ◌≤◌, ◌++◌, ◌∷◌, [], ℕ, List, length, map, nat_le, slice_get, Option, Some, None, IfSome, IsTrue, Result, Ok, Err, codes, if◌then◌else◌}
 use Rattle.std.specs.Borrow.{Bor}
 use Rattle.std.specs.Fmt.{decimal}
 use Rattle.std.specs.Io.KnownBytes.{IsAtEnd}
@@ -151,8 +151,8 @@ TakesDisks rack _ disks = ⊤
 
 -- it takes none, or they tell their bytes
 abbrev pub Settles : Racks → Option (Command × Parsed) → Type 0
-Settles rack (Some (Play o, setup)) = rack.tells
-Settles rack (Some (Serve s, setup)) = rack.tells
+Settles rack (Some (Play o, setup)) = IsTrue rack.tells
+Settles rack (Some (Serve s, setup)) = IsTrue rack.tells
 Settles rack _ = ⊤
 
 -- what hangs on disks is said where they tell their bytes
@@ -350,8 +350,8 @@ AreFit unfit holds = (shelf : ℕ) (image : List ℕ) → holds shelf image → 
 
 abbrev pub JournalsOpen : Command → List Named → Racks → Type 0
 JournalsOpen Check scripts rack = ⊤
-JournalsOpen (Play o) scripts rack = rack.tells × AreFit unfit_new rack.before.holds
-JournalsOpen (Serve s) scripts rack = rack.tells × AreFit (unfit_left scripts) rack.before.holds
+JournalsOpen (Play o) scripts rack = IsTrue rack.tells × AreFit unfit_new rack.before.holds
+JournalsOpen (Serve s) scripts rack = IsTrue rack.tells × AreFit (unfit_left scripts) rack.before.holds
 
 -- neither the rack nor the door nor the seeds failed, where they are asked for
 abbrev pub GoesWell : Command → Met → Type 0

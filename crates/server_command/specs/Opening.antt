@@ -1,5 +1,5 @@
 -- What opening the shelves of a server comes to.
-use Rattle.std.specs.Prelude.{⊥, ⊤, ◌≡◌, ◌≤◌, ◌<◌, ◌+◌, ℕ, Bool, true, false, List, map, length, Some, None, Result, Ok, Err}
+use Rattle.std.specs.Prelude.{⊤, ◌≡◌, ◌≤◌, ◌<◌, ◌+◌, ℕ, Bool, true, false, List, map, length, Some, None, Result, Ok, Err}
 use Rattle.web_outside.specs.Causes.{Rose}
 use Rattle.web_disk.specs.View.{View, RackView, AreAmong}
 use Rattle.script_nodes.specs.Setup.{Named}
@@ -50,6 +50,12 @@ unopened_by shelf (fault.Damaged place) = unopened.Damaged shelf place
 unopened_by shelf (fault.Other place) = unopened.Other shelf place
 unopened_by shelf fault.DiskFault = unopened.Disk shelf
 unopened_by shelf fault.Memory = unopened.Memory
+
+-- why disks were not taken
+abbrev pub IsUntaken : (risen : Type 0) → Unopened → Type 0
+IsUntaken risen (unopened.Disk shelf) = risen
+IsUntaken risen unopened.Memory = ⊤
+IsUntaken risen _ = ⊥
 
 -- why a shelf was not opened on a disk that holds this
 abbrev pub IsRefusedAt : (told risen : Type 0) → List Named → (shelf : ℕ) → (image : List ℕ) → Unopened → Type 0

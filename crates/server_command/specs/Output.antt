@@ -153,7 +153,7 @@ Pauses asked input chances line out = (text : List ℕ) × Before asked input ch
 
 -- what stands before it is told that this shelf was not opened: nothing; or whole replies to the steps before a crash of it
 pub data BeforeOpening (asked : Command) (input : List ℕ) (chances : Chances) (shelf : ℕ) : List ℕ → Type 0 where
-  at_first : BeforeOpening asked input chances shelf []
+  at_first : (o : Options) → asked ≡ Play o → BeforeOpening asked input chances shelf []
   at_crash : (o : Options) (setup : Parsed) (text : List ℕ) → asked ≡ Play o → setup_of Steps input ≡ Ok setup
       → Replied o setup chances.fates (λ step. step ≡ crash shelf) text → BeforeOpening asked input chances shelf text
 
@@ -161,8 +161,3 @@ pub data BeforeOpening (asked : Command) (input : List ℕ) (chances : Chances) 
 abbrev pub Loses : Command → (input : List ℕ) → Chances → Sinks → Type 0
 Loses asked input chances out =
     (shelf : ℕ) × (text : List ℕ) × BeforeOpening asked input chances shelf text × Tells text (disk_line shelf) out
-
--- The sink grew by replies to the steps before a crash, and then by the line that the shelf's disk holds what no shelf left there.
-abbrev pub Spoiled : Command → (input : List ℕ) → Chances → Sinks → Type 0
-Spoiled asked input chances out =
-    (shelf : ℕ) × (why : Unfit) × (text : List ℕ) × BeforeOpening asked input chances shelf text × Tells text (unfit_line shelf why) out

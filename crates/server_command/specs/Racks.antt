@@ -8,13 +8,13 @@ use Rattle.journal_books.specs.Making as making
 use Rattle.journal_books.specs.Making.{Making, book_in_bytes}
 use Rattle.journal_books.specs.Standing.{Between, Held, if_kept}
 
--- a rack and its disks: that they tell their bytes, and what contracts see of the rack before and behind
+-- a rack and its disks: whether they tell their bytes, and what contracts see of the rack before and behind
 pub record Racks : Type 1 where
-  pub tells : Type 0
+  pub tells : Bool
   pub before : RackView
   pub after : RackView
 
-abbrev pub racks_of : (tells : Type 0) → (before after : RackView) → Racks
+abbrev pub racks_of : (tells : Bool) → (before after : RackView) → Racks
 racks_of tells before after = record { tells = tells; before = before; after = after }
 
 -- each disk that is home stays so, or comes back

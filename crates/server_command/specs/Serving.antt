@@ -1,5 +1,5 @@
 -- What serving a setup over HTTP comes to.
-use Rattle.std.specs.Prelude.{⊤, ◌≡◌, ◌==◌, ◌⊎◌, ◌++◌, ◌∷◌, [], ℕ, ◌+◌, List, Bool, length, Option, Some, None, All, IfSome, Result, Ok, Err, Vec, codes, slice_get, if◌then◌else◌}
+use Rattle.std.specs.Prelude.{⊤, ◌≡◌, ◌==◌, ◌⊎◌, ◌++◌, ◌∷◌, [], ℕ, ◌+◌, List, Bool, length, Option, Some, None, All, IfSome, IsTrue, Result, Ok, Err, Vec, codes, slice_get, if◌then◌else◌}
 use Rattle.std.specs.declared.alloc.Global.{Global}
 use Rattle.std.specs.Fmt.{decimal}
 use Rattle.web_outside.specs.Causes.{Rose}
@@ -178,9 +178,9 @@ pub record Served {D P L N : Type 0} (o : Outside D P L N) (s : Service) (script
   pub last : Vec (Shelf D N) Global
   pub shelves : length sources ≡ s.options.shelves
   pub drawn : IfSome (o.seeds.gives s.options.shelves) (λ given. given ≡ sources)
-  pub opened : AreOpened o.rack.tells o.views.nonce (λ k. rules_for s.options k scripts) scripts 0 images sources first.items
+  pub opened : AreOpened (IsTrue o.rack.tells) o.views.nonce (λ k. rules_for s.options k scripts) scripts 0 images sources first.items
   pub served : ServedFrom o.views o.before o.after s scripts sources first last end count
-  pub stands : o.rack.tells → AllStand scripts o.rack.after.holds last.items
+  pub stands : IsTrue o.rack.tells → AllStand scripts o.rack.after.holds last.items
 
 -- what a serving may come to, over what its disks held: links were served to their end and counted so; they were served until a
 -- porch failed; or no door was opened, and so none was closed
@@ -201,12 +201,12 @@ serves_over o = record {
 -- each shelf was opened on what its disk held
 abbrev pub Opens : Racks → Service → List Named → List (List ℕ) → Type 0
 Opens rack s scripts images =
-    rack.tells → AreTaken (unfit_left scripts) rack.before.holds s.options.shelves images × (first_unfit (unfit_left scripts) 0 images ≡ None)
+    IsTrue rack.tells → AreTaken (unfit_left scripts) rack.before.holds s.options.shelves images × (first_unfit (unfit_left scripts) 0 images ≡ None)
 
 -- this shelf is the first that was not opened, for what its disk held
 abbrev pub Shuts : Racks → Service → List Named → List (List ℕ) → (shelf : ℕ) → Unfit → Type 0
 Shuts rack s scripts images shelf why =
-    rack.tells → AreTaken (unfit_left scripts) rack.before.holds s.options.shelves images
+    IsTrue rack.tells → AreTaken (unfit_left scripts) rack.before.holds s.options.shelves images
     × (first_unfit (unfit_left scripts) 0 images ≡ Some (shelf, why))
 
 -- ---- how it ended

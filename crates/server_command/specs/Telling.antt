@@ -1,5 +1,5 @@
 -- How it is told that a shelf was not opened, or that a run of steps ended.
-use Rattle.std.specs.Prelude.{⊥, ◌≡◌, ◌⊎◌, ℕ, List, Option, Some, None, codes}
+use Rattle.std.specs.Prelude.{◌≡◌, ◌⊎◌, ℕ, List, Option, Some, None, codes}
 use Rattle.std.specs.Io.KnownBytes.{Keeps}
 use Rattle.play_steps.specs.declared.run.PlayEnd.{PlayEnd}
 use Rattle.play_steps.specs.declared.run.PlayEnd.TheVariants as ends

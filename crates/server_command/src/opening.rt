@@ -1,5 +1,5 @@
-ghost use Rattle.std.specs.Prelude.{⊥, ◌≡◌, ◌≤◌, ◌<◌, ◌+◌, ◌×◌, [], ℕ, true, length, slice_get, Some, None, IsTrue, IfOk, IfErr, OnOk, OnErr, vec_len};
-ghost use Rattle.std.specs.Vec.Deque.{deque_len};
+ghost use Rattle.std.specs.Prelude.{◌&&◌, ◌≡◌, ◌≤◌, ◌<◌, ◌+◌, [], ℕ, true, length, slice_get, Some, None, IsTrue, IfOk, IfErr, OnOk, OnErr, vec_len};
+ghost use Rattle.std.specs.VecDeque.{deque_len};
 ghost use Rattle.web_outside.specs.Causes.{Rose};
 ghost use Rattle.script_nodes.specs.Views.{scripts_of};
 ghost use Rattle.journal_records.specs.Records.{IsInGrammar, begin_of};
@@ -10,7 +10,7 @@ ghost use Rattle.server_command.specs.Output.{rules_for};
 ghost use Rattle.server_command.specs.Racks.{KeepsHome};
 ghost use Rattle.server_command.specs.Serial.{AreInOrder};
 ghost use Rattle.server_command.specs.Serving.{AllStand, IsOpened};
-ghost use Rattle.server_command.specs.Opening.{AreOut, CanBegin, HasOpened, HasTaken, IsRefused, IsRefusedAt, OpensOn, RefusesOn, TakesBack, seen_on, unopened_by};
+ghost use Rattle.server_command.specs.Opening.{AreOut, CanBegin, HasOpened, HasTaken, IsRefused, IsRefusedAt, IsUntaken, OpensOn, RefusesOn, TakesBack, seen_on, unopened_by};
 
 use command_words::Options;
 use script_nodes::Setup;
@@ -82,7 +82,9 @@ fn give_all<D: Disk, R: Rack<D>>(rack: &mut R, disks: VecDeque<D>, first: u32)
 {
     let mut disks = disks;
     let mut number = first;
-    while let Some(disk) = disks.pop_front() {
+    // A count is below 2^64, so it does not fall where that of a disk is added.
+    let _count = rack.faults();
+    'giving: while let Some(disk) = disks.pop_front() {
         rack.give(number, disk);
         number += 1;
     }
@@ -97,15 +99,14 @@ fn take_all<D: Disk, R: Rack<D>>(
     count: u32,
 ) -> Result<VecDeque<D>, Unopened>
     requires { count ≤ 16 }
-    ensures taken { IfOk result (λ disks. HasTaken (IsTrue R.tells × IsTrue D.tells) (R.view rack.old) (R.view rack.new)
+    ensures taken { IfOk result (λ disks. HasTaken (IsTrue (R.tells && D.tells)) (R.view rack.old) (R.view rack.new)
         count (seen_on D.view disks.items)) }
     ensures home { OnErr result (KeepsHome (R.view rack.old) (R.view rack.new)) }
-    ensures refused { (images : List (List ℕ)) → IfErr result (IsRefused (IsTrue R.tells × IsTrue D.tells)
-        (Rose (R.view rack.old).faults (R.view rack.new).faults) [] images) }
+    ensures refused { IfErr result (IsUntaken (Rose (R.view rack.old).faults (R.view rack.new).faults)) }
     ensures later { (R.view rack.old).faults ≤ (R.view rack.new).faults }
 {
     let mut disks = VecDeque::with_capacity(alloc, count as usize)?;
-    for number in 0..count {
+    'taking: for number in 0..count {
         match rack.take(alloc, directory, number) {
             Ok(disk) => disks.push_back_reserved(disk),
             Err(fault) => {
@@ -129,12 +130,13 @@ pub fn close_all<D: Disk, R: Rack<D>, N: Nonces + Drop>(
     requires few { vec_len shelves ≤ 16 }
     requires in_order { AreInOrder D.view D.tells (scripts_of setup.now) shelves.items }
     ensures back { TakesBack (R.view rack.old) (R.view rack.new) 0 (vec_len shelves) }
-    ensures stand { IsTrue R.tells × IsTrue D.tells → AreOut (R.view rack.old) (vec_len shelves)
+    ensures stand { IsTrue (R.tells && D.tells) → AreOut (R.view rack.old) (vec_len shelves)
         → AllStand (scripts_of setup.now) (R.view rack.new).holds shelves.items }
 {
     let _ = setup;
     let mut shelves = shelves;
-    while let Some(shelf) = shelves.pop() {
+    let _count = rack.faults();
+    'closing: while let Some(shelf) = shelves.pop() {
         let (disk, nonces) = shelf.close();
         drop(nonces);
         rack.give(shelves.len() as u32, disk);
@@ -154,19 +156,20 @@ fn begin_one<D: Disk, R: Rack<D>, N: Nonces + Drop>(
     requires range { ranges.AreInRange rules }
     requires few { length (scripts_of setup.now) ≤ 256 }
     requires begins { IsInGrammar (begin_of rules.number (scripts_of setup.now)) }
-    ensures opened { IfOk result (λ s. IsOpened (IsTrue R.tells × IsTrue D.tells) N.nonce (rules_of (scripts_of setup.now) rules)
+    ensures opened { IfOk result (λ s. IsOpened (IsTrue (R.tells && D.tells)) N.nonce (rules_of (scripts_of setup.now) rules)
         (scripts_of setup.now) rules.number (D.view disk).seen source.now s) }
     ensures in_order { IfOk result (IsInOrder D.view D.tells (scripts_of setup.now)) }
     ensures rules { IfOk result (λ s. s.rules ≡ rules) }
     ensures same { OnOk result (rack.new ≡ rack.old) }
     ensures back { OnErr result (TakesBack (R.view rack.old) (R.view rack.new) rules.number 1) }
-    ensures refused { IfErr result (IsRefusedAt (IsTrue R.tells × IsTrue D.tells)
+    ensures refused { IfErr result (IsRefusedAt (IsTrue (R.tells && D.tells))
         (Rose (R.view rack.old).faults (R.view rack.new).faults) (scripts_of setup.now) rules.number (D.view disk).seen) }
 {
     match Shelf::begin(alloc, disk, source.again(), setup, rules) {
         Ok(shelf) => Ok(shelf),
         Err((fault, disk, nonces)) => {
             drop(nonces);
+            let _count = rack.faults();
             rack.give(rules.number, disk);
             Err(unopened(rules.number, fault))
         }
@@ -187,11 +190,11 @@ fn begin_all<D: Disk, R: Rack<D>, N: Nonces + Drop>(
     requires begins { CanBegin options.now.shelves (scripts_of setup.now) }
     requires count { deque_len disks ≡ options.now.shelves }
     requires sources { length sources.now ≡ options.now.shelves }
-    ensures opened { IfOk result (λ shelves. HasOpened D.view D.tells (IsTrue R.tells × IsTrue D.tells) N.nonce
+    ensures opened { IfOk result (λ shelves. HasOpened D.view D.tells (IsTrue (R.tells && D.tells)) N.nonce
         (λ k. rules_for options.now k (scripts_of setup.now)) (scripts_of setup.now) (seen_on D.view disks.items) sources.now shelves.items) }
     ensures same { OnOk result (rack.new ≡ rack.old) }
     ensures back { OnErr result (TakesBack (R.view rack.old) (R.view rack.new) 0 options.now.shelves) }
-    ensures refused { IfErr result (IsRefused (IsTrue R.tells × IsTrue D.tells)
+    ensures refused { IfErr result (IsRefused (IsTrue (R.tells && D.tells))
         (Rose (R.view rack.old).faults (R.view rack.new).faults) (scripts_of setup.now) (seen_on D.view disks.items)) }
 {
     let mut disks = disks;
@@ -200,7 +203,7 @@ fn begin_all<D: Disk, R: Rack<D>, N: Nonces + Drop>(
         return Err(Unopened::Memory);
     };
     let mut number = 0;
-    for source in sources {
+    'beginning: for source in sources {
         let Some(disk) = disks.pop_front() else {
             unreachable!()
         };
@@ -231,9 +234,9 @@ pub fn open_all<D: Disk, R: Rack<D>, N: Nonces + Drop>(
     requires few { length (scripts_of setup.now) ≤ 256 }
     requires begins { CanBegin options.now.shelves (scripts_of setup.now) }
     requires sources { length sources.now ≡ options.now.shelves }
-    ensures opened { IfOk result (λ shelves. OpensOn D.view D.tells (IsTrue R.tells × IsTrue D.tells) N.nonce
+    ensures opened { IfOk result (λ shelves. OpensOn D.view D.tells (IsTrue (R.tells && D.tells)) N.nonce
         (λ k. rules_for options.now k (scripts_of setup.now)) (scripts_of setup.now) sources.now (R.view rack.old) (R.view rack.new) shelves.items) }
-    ensures refused { IfErr result (RefusesOn (IsTrue R.tells × IsTrue D.tells) (scripts_of setup.now) options.now.shelves
+    ensures refused { IfErr result (RefusesOn (IsTrue (R.tells && D.tells)) (scripts_of setup.now) options.now.shelves
         (R.view rack.old) (R.view rack.new)) }
     ensures later { (R.view rack.old).faults ≤ (R.view rack.new).faults }
 {

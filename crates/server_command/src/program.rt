@@ -1,4 +1,4 @@
-ghost use Rattle.std.specs.Prelude.{◌≡◌, ◌≢◌, ◌≤◌, List, ℕ, Some, None, length, IsTrue};
+ghost use Rattle.std.specs.Prelude.{◌&&◌, ◌≡◌, ◌≢◌, ◌≤◌, List, ℕ, Some, None, length, IsTrue};
 ghost use Rattle.web_outside.specs.Causes.{Rose};
 ghost use Rattle.web_outside.specs.Pieces.{HandsAllOn, HandsOn};
 ghost use Rattle.script_nodes.specs.Views.{scripts_of};
@@ -138,7 +138,7 @@ fn play_all<O: Sink, D: Disk, R: Rack<D>>(
     requires range { AreInRange options.now }
     requires few { length (scripts_of setup.now) ≤ 256 }
     requires begins { CanBegin options.now.shelves (scripts_of setup.now) }
-    ensures outputs { PlaysSteps (racks_of (IsTrue R.tells × IsTrue D.tells) (R.view rack.old) (R.view rack.new)) options.now
+    ensures outputs { PlaysSteps (racks_of (R.tells && D.tells) (R.view rack.old) (R.view rack.new)) options.now
         (scripts_of setup.now) steps.now result (sinks_of (O.view output.old) (O.view output.new)) }
     ensures handed { HandsAllOn (O.view output.old) (O.view output.new) }
     ensures later { (O.view output.old).faults ≤ (O.view output.new).faults }
@@ -176,7 +176,7 @@ fn run_setup<O: Sink, D: Disk, R: Rack<D>>(
     requires range { IsInRange (asked_of job.now) }
     requires few { length (scripts_of parsed.now.setup) ≤ 15 }
     requires short { AreShort (scripts_of parsed.now.setup) }
-    ensures outputs { OutputsFor (racks_of (IsTrue R.tells × IsTrue D.tells) (R.view rack.old) (R.view rack.new))
+    ensures outputs { OutputsFor (racks_of (R.tells && D.tells) (R.view rack.old) (R.view rack.new))
         (asked_of job.now) (Ok (parsed_of parsed.now)) result (sinks_of (O.view output.old) (O.view output.new)) }
     ensures handed { HandsAllOn (O.view output.old) (O.view output.new) }
     ensures later { (O.view output.old).faults ≤ (O.view output.new).faults }
@@ -199,7 +199,7 @@ fn run_input<O: Sink, D: Disk, R: Rack<D>>(
     rack: &mut R,
 ) -> Status
     requires { IsInRange (asked_of job.now) }
-    ensures outputs { Outputs (racks_of (IsTrue R.tells × IsTrue D.tells) (R.view rack.old) (R.view rack.new))
+    ensures outputs { Outputs (racks_of (R.tells && D.tells) (R.view rack.old) (R.view rack.new))
         (asked_of job.now) input.now result (sinks_of (O.view output.old) (O.view output.new)) }
     ensures handed { HandsAllOn (O.view output.old) (O.view output.new) }
     ensures later { (O.view output.old).faults ≤ (O.view output.new).faults }
@@ -226,7 +226,7 @@ fn run_job<I: Source, O: Sink, D: Disk, R: Rack<D>>(
     ensures comes { (words : List (List ℕ)) (door : Faults) (seeds : Faults)
         → Came (asked_of job.now) result
         (met_of words (I.view input.old) (I.view input.new)
-        (sinks_of (O.view output.old) (O.view output.new)) (racks_of (IsTrue R.tells × IsTrue D.tells) (R.view rack.old) (R.view rack.new)) door seeds) }
+        (sinks_of (O.view output.old) (O.view output.new)) (racks_of (R.tells && D.tells) (R.view rack.old) (R.view rack.new)) door seeds) }
     ensures handed { HandsAllOn (O.view output.old) (O.view output.new) }
     ensures later { (O.view output.old).faults ≤ (O.view output.new).faults }
     ensures input_later { (I.view input.old).faults ≤ (I.view input.new).faults }
@@ -256,7 +256,7 @@ fn serve_setup<O: Sink, D: Disk, R: Rack<D>, A: Door, C: Clock, N: Nonces + Drop
     requires few { length (scripts_of setup.now) ≤ 15 }
     requires short { AreShort (scripts_of setup.now) }
     ensures outputs { let o = outside (views D.view D.tells A.Porch.Link.view A.Porch.view N.nonce (C.shows clock.now))
-        (racks_of (IsTrue R.tells × IsTrue D.tells) (R.view rack.old) (R.view rack.new))
+        (racks_of (R.tells && D.tells) (R.view rack.old) (R.view rack.new))
         (A.view door.old) (A.view door.new) (S.view seeds.old) in
         (images : List (List ℕ)) × LeavesServing (serves_over o) service.now (scripts_of setup.now) images result
         (sinks_of (O.view output.old) (O.view output.new))
@@ -299,7 +299,7 @@ fn serve_input<O: Sink, D: Disk, R: Rack<D>, A: Door, C: Clock, N: Nonces + Drop
 ) -> Status
     requires { CanServe service.now }
     ensures outputs { let o = outside (views D.view D.tells A.Porch.Link.view A.Porch.view N.nonce (C.shows clock.now))
-        (racks_of (IsTrue R.tells × IsTrue D.tells) (R.view rack.old) (R.view rack.new))
+        (racks_of (R.tells && D.tells) (R.view rack.old) (R.view rack.new))
         (A.view door.old) (A.view door.new) (S.view seeds.old) in
         (chances : Chances) × LeavesInput (serves_over o) service.now input.now chances result
         (sinks_of (O.view output.old) (O.view output.new))
@@ -344,12 +344,12 @@ fn run_service<I: Source, O: Sink, D: Disk, R: Rack<D>, A: Door, C: Clock, N: No
 ) -> Status
     requires { CanServe service.now }
     ensures comes { let o = outside (views D.view D.tells A.Porch.Link.view A.Porch.view N.nonce (C.shows clock.now))
-        (racks_of (IsTrue R.tells × IsTrue D.tells) (R.view rack.old) (R.view rack.new))
+        (racks_of (R.tells && D.tells) (R.view rack.old) (R.view rack.new))
         (A.view door.old) (A.view door.new) (S.view seeds.old) in
         (words : List (List ℕ)) → CameServing (serves_over o) service.now result
         (met_of words (I.view input.old) (I.view input.new)
         (sinks_of (O.view output.old) (O.view output.new))
-        (racks_of (IsTrue R.tells × IsTrue D.tells) (R.view rack.old) (R.view rack.new))
+        (racks_of (R.tells && D.tells) (R.view rack.old) (R.view rack.new))
         (faults_of (A.view door.old).faults (A.view door.new).faults)
         (faults_of (S.view seeds.old).faults (S.view seeds.new).faults)) }
     ensures handed { HandsAllOn (O.view output.old) (O.view output.new) }
@@ -380,12 +380,12 @@ fn run<I: Source, O: Sink, D: Disk, R: Rack<D>, A: Door, C: Clock, N: Nonces + D
     gate: &G,
 ) -> Status
     ensures explained { let o = outside (views D.view D.tells A.Porch.Link.view A.Porch.view N.nonce (C.shows clock.now))
-        (racks_of (IsTrue R.tells × IsTrue D.tells) (R.view rack.old) (R.view rack.new))
+        (racks_of (R.tells && D.tells) (R.view rack.old) (R.view rack.new))
         (A.view door.old) (A.view door.new) (S.view seeds.old) in
         Explained (serves_over o) result
         (met_of (texts words.now) (I.view input.old) (I.view input.new)
         (sinks_of (O.view output.old) (O.view output.new))
-        (racks_of (IsTrue R.tells × IsTrue D.tells) (R.view rack.old) (R.view rack.new))
+        (racks_of (R.tells && D.tells) (R.view rack.old) (R.view rack.new))
         (faults_of (A.view door.old).faults (A.view door.new).faults)
         (faults_of (S.view seeds.old).faults (S.view seeds.new).faults)) }
     ensures handed { HandsAllOn (O.view output.old) (O.view output.new) }
@@ -433,19 +433,19 @@ pub fn command<T, I: Source, O: Sink, D: Disk, R: Rack<D>, A: Door, C: Clock, N:
     // How it ended, and what was written, by the fates of its visits; the status is the one that is due to the words and the
     // input by these fates, but for faults of the input and the output and for want of memory.
     ensures ended { let o = outside (views D.view D.tells A.Porch.Link.view A.Porch.view N.nonce (C.shows clock.now))
-        (racks_of (IsTrue R.tells × IsTrue D.tells) (R.view rack.old) (R.view rack.new))
+        (racks_of (R.tells && D.tells) (R.view rack.old) (R.view rack.new))
         (A.view door.old) (A.view door.new) (S.view seeds.old) in
         Ends (serves_over o) result
         (met_of (texts words.now) (I.view input.old) (I.view input.new)
         (sinks_of (O.view output.old) (O.view output.new))
-        (racks_of (IsTrue R.tells × IsTrue D.tells) (R.view rack.old) (R.view rack.new))
+        (racks_of (R.tells && D.tells) (R.view rack.old) (R.view rack.new))
         (faults_of (A.view door.old).faults (A.view door.new).faults)
         (faults_of (S.view seeds.old).faults (S.view seeds.new).faults)) }
     // Plain words over a lawful input end well, at a step that does not fit, or for want of memory, where nothing outside fails.
     ensures complete { IsComplete result
         (met_of (texts words.now) (I.view input.old) (I.view input.new)
         (sinks_of (O.view output.old) (O.view output.new))
-        (racks_of (IsTrue R.tells × IsTrue D.tells) (R.view rack.old) (R.view rack.new))
+        (racks_of (R.tells && D.tells) (R.view rack.old) (R.view rack.new))
         (faults_of (A.view door.old).faults (A.view door.new).faults)
         (faults_of (S.view seeds.old).faults (S.view seeds.new).faults)) }
     // All that was written was handed on, unless the output failed; a run that ends well has handed on all in any case.

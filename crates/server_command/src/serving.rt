@@ -1,4 +1,4 @@
-ghost use Rattle.std.specs.Prelude.{⊥, ◌≡◌, ◌≤◌, ◌×◌, ◌∷◌, [], List, ℕ, length, IfOk, IfSome, IsErrOf, IsTrue, OnOk, OnErr, vec_len};
+ghost use Rattle.std.specs.Prelude.{◌&&◌, ◌≡◌, ◌≤◌, ◌∷◌, [], List, ℕ, length, IfOk, IfSome, IsErrOf, IsTrue, OnOk, OnErr, vec_len};
 ghost use Rattle.web_outside.specs.Causes.{Rose};
 ghost use Rattle.script_nodes.specs.Views.{scripts_of};
 ghost use Rattle.command_words.specs.Plain.{CanServe};
@@ -127,7 +127,7 @@ pub fn serve<
     requires few { length (scripts_of setup.now) ≤ 256 }
     requires begins { CanBegin service.now.options.shelves (scripts_of setup.now) }
     ensures served { let o = outside (views D.view D.tells A.Porch.Link.view A.Porch.view N.nonce (C.shows clock.now))
-        (racks_of (IsTrue R.tells × IsTrue D.tells) (R.view rack.old) (R.view rack.new)) (A.view door.old) (A.view door.new) (S.view seeds.old) in
+        (racks_of (R.tells && D.tells) (R.view rack.old) (R.view rack.new)) (A.view door.old) (A.view door.new) (S.view seeds.old) in
         (images : List (List ℕ)) × ServesBy (serves_over o) service.now (scripts_of setup.now) images result }
     ensures key { IsErrOf result ServeFault.Key → Rose (S.view seeds.old).faults (S.view seeds.new).faults }
     ensures door { IsErrOf result ServeFault.Door → Rose (A.view door.old).faults (A.view door.new).faults }

@@ -1,0 +1,157 @@
+-- Lists of shelves: opened one behind the other, visited at a place, swept in order, closed from the last to the first.
+use Rattle.std.proofs.Common.{◌≡◌, ◌≢◌, ◌<◌, ◌≤◌, ◌+◌, ◌++◌, ◌∷◌, ◌∙◌, ◌⊎◌, inl, inr, ⊎_elim, ℕ, zero, suc, List, [], length, Bool, true, IsTrue, Option, Some, None, Result, refl, sym, ap, subst, arith}
+use Rattle.std.specs.Prelude.{slice_get, slice_set}
+use Rattle.std.proofs.lemmas.Option.{slice_get_within}
+use Rattle.web_disk.specs.View.{View, RackView, AreAmong}
+use Rattle.script_value.specs.declared.outcome.Reply.{Reply}
+use Rattle.script_nodes.specs.Setup.{Named}
+use Rattle.replay_spec.specs.Book.{Book}
+use Rattle.replay_spec.specs.Rules.{Rules}
+use Rattle.journal_books.specs.Standing.{Stands}
+use Rattle.shelf.specs.declared.shelf.Shelf.{Shelf}
+use Rattle.shelf.specs.Views.{book_in, IsInOrder}
+use Rattle.server_command.specs.Racks.{StandsAt, first_unfit, unfit_left}
+use Rattle.server_command.specs.Serial.{AreInOrder, AreSwept, IsDone, IsSwept}
+use Rattle.server_command.specs.Serving.{AllStand, AreOpened, IsOpened}
+use Rattle.server_command.specs.Opening.{AreOut}
+use Rattle.server_command.proofs.Racks.{made_fits}
+use Rattle.server_command.proofs.Openings.{Gives, GivesDownTo, gives_before, same_or_not}
+
+same_some : {A : Type 0} (x y : A) → Some x ≡ Some y → x ≡ y
+same_some x y e = cc
+
+-- what stands at a place of a list that has one more
+at_more : {A : Type 0} (xs : List A) (x y : A) (k : ℕ) → slice_get (xs ++ x ∷ []) k ≡ Some y → (slice_get xs k ≡ Some y) ⊎ ((k ≡ length xs) × (x ≡ y))
+at_more [] x y zero e = inr (refl, same_some x y e)
+at_more [] x y (suc k) e = absurd (let no : None ≡ Some y = e in cc)
+at_more (z ∷ xs) x y zero e = inl e
+at_more (z ∷ xs) x y (suc k) e = elim (at_more xs x y k e) [ inl h ↦ inl h | inr h ↦ inr (ap suc h.0, h.1) ]
+
+pub last_is : {A : Type 0} (xs ys : List A) (x : A) → slice_get (xs ++ x ∷ ys) (length xs) ≡ Some x
+last_is [] ys x = refl
+last_is (z ∷ xs) ys x = last_is xs ys x
+
+-- and at a place of a list of which one was changed
+at_changed : {A : Type 0} (xs : List A) (k j : ℕ) (x y : A) → slice_get (slice_set xs k x) j ≡ Some y
+    → ((j ≡ k) × (x ≡ y)) ⊎ ((j ≢ k) × (slice_get xs j ≡ Some y))
+at_changed [] k j x y e = absurd (let no : None ≡ Some y = e in cc)
+at_changed (z ∷ xs) zero zero x y e = inl (refl, same_some x y e)
+at_changed (z ∷ xs) zero (suc j) x y e = inr ((λ h. omega arith), e)
+at_changed (z ∷ xs) (suc k) zero x y e = inr ((λ h. omega arith), e)
+at_changed (z ∷ xs) (suc k) (suc j) x y e = elim (at_changed xs k j x y e) [ inl h ↦ inl (ap suc h.0, h.1) | inr h ↦ inr ((λ s. h.0 (omega (arith, s))), h.1) ]
+
+-- ---- opened
+
+pub opened_more : {D N : Type 0} (told : Type 0) (nonce : N → ℕ → ℕ) (rules : ℕ → Rules) (scripts : List Named) (k n : ℕ) (images : List (List ℕ)) (sources : List N)
+    (shelves : List (Shelf D N)) (image : List ℕ) (source : N) (s : Shelf D N) → k + length images ≡ n → AreOpened told nonce rules scripts k images sources shelves
+    → IsOpened told nonce (rules n) scripts n image source s → AreOpened told nonce rules scripts k (images ++ image ∷ []) (sources ++ source ∷ []) (shelves ++ s ∷ [])
+opened_more told nonce rules scripts k n [] [] [] image source s is opened here =
+    (subst (λ m. IsOpened told nonce (rules m) scripts m image source s) (omega (arith, is)) here, tt)
+opened_more told nonce rules scripts k n (i ∷ images) (z ∷ sources) (x ∷ shelves) image source s is opened here =
+    (opened.0, opened_more told nonce rules scripts (k + 1) n images sources shelves image source s (omega (arith, is)) opened.1 here)
+opened_more told nonce rules scripts k n [] [] (x ∷ shelves) image source s is opened here = absurd opened
+opened_more told nonce rules scripts k n [] (z ∷ sources) shelves image source s is opened here = absurd opened
+opened_more told nonce rules scripts k n (i ∷ images) [] shelves image source s is opened here = absurd opened
+opened_more told nonce rules scripts k n (i ∷ images) (z ∷ sources) [] image source s is opened here = absurd opened
+
+-- each disk of a shelf that was opened is fit
+pub opened_fits : {D N : Type 0} (told : Type 0) (nonce : N → ℕ → ℕ) (rules : ℕ → Rules) (scripts : List Named) (k : ℕ) (images : List (List ℕ)) (sources : List N)
+    (shelves : List (Shelf D N)) → AreOpened told nonce rules scripts k images sources shelves → told → first_unfit (unfit_left scripts) k images ≡ None
+opened_fits told nonce rules scripts k [] sources shelves opened t = refl
+opened_fits told nonce rules scripts k (i ∷ images) (z ∷ sources) (x ∷ shelves) opened t =
+    rw (made_fits scripts k _ (book_in scripts x) (opened.0.book t)) (opened_fits told nonce rules scripts (k + 1) images sources shelves opened.1 t)
+opened_fits told nonce rules scripts k (i ∷ images) [] shelves opened t = absurd opened
+opened_fits told nonce rules scripts k (i ∷ images) (z ∷ sources) [] opened t = absurd opened
+
+pub no_order : {D N : Type 0} (view : D → View) (tells : Bool) (scripts : List Named) → AreInOrder {D = D} {N = N} view tells scripts []
+no_order view tells scripts = record {
+  each = λ k s e. absurd (let no : None ≡ Some s = e in cc);
+  numbers = λ k s e. absurd (let no : None ≡ Some s = e in cc);
+}
+
+pub order_more : {D N : Type 0} (view : D → View) (tells : Bool) (scripts : List Named) (shelves : List (Shelf D N)) (s : Shelf D N) → AreInOrder view tells scripts shelves
+    → IsInOrder view tells scripts s → s.rules.number ≡ length shelves → AreInOrder view tells scripts (shelves ++ s ∷ [])
+order_more view tells scripts shelves s are is number = record {
+  each = λ k x e. elim (at_more shelves s x k e) [
+    | inl h ↦ are.each k x h
+    | inr h ↦ subst (IsInOrder view tells scripts) h.1 is
+  ];
+  numbers = λ k x e. elim (at_more shelves s x k e) [
+    | inl h ↦ are.numbers k x h
+    | inr h ↦ ap (λ (y : Shelf D N). y.rules.number) (sym h.1) ∙ (number ∙ sym h.0)
+  ];
+}
+
+-- ---- visited
+
+pub order_set : {D N : Type 0} (view : D → View) (tells : Bool) (scripts : List Named) (shelves : List (Shelf D N)) (k : ℕ) (old new : Shelf D N)
+    → slice_get shelves k ≡ Some old → AreInOrder view tells scripts shelves → IsInOrder view tells scripts new → new.rules ≡ old.rules
+    → AreInOrder view tells scripts (slice_set shelves k new)
+order_set view tells scripts shelves k old new here are is rules = record {
+  each = λ j x e. elim (at_changed shelves k j new x e) [
+    | inl h ↦ subst (IsInOrder view tells scripts) h.1 is
+    | inr h ↦ are.each j x h.1
+  ];
+  numbers = λ j x e. elim (at_changed shelves k j new x e) [
+    | inl h ↦ ap (λ (y : Shelf D N). y.rules.number) (sym h.1) ∙ (ap (λ r. r.number) rules ∙ (are.numbers k old here ∙ sym h.0))
+    | inr h ↦ are.numbers j x h.1
+  ];
+}
+
+-- ---- swept
+
+pub swept_more : {D N : Type 0} (scripts : List Named) (nonce : N → ℕ → ℕ) (tick : ℕ) (sources : List N) (old : List (Shelf D N)) (answers : List (Result ℕ Reply))
+    (new : List (Shelf D N)) (source : N) (s : Shelf D N) (r : Result ℕ Reply) (t : Shelf D N) → AreSwept scripts nonce tick sources old answers new
+    → IsDone scripts nonce (nonce source) s t (λ given x y. IsSwept given x tick r y)
+    → AreSwept scripts nonce tick (sources ++ source ∷ []) (old ++ s ∷ []) (answers ++ r ∷ []) (new ++ t ∷ [])
+swept_more scripts nonce tick [] [] [] [] source s r t are done = (done, tt)
+swept_more scripts nonce tick (z ∷ sources) (x ∷ old) (a ∷ answers) (y ∷ new) source s r t are done =
+    (are.0, swept_more scripts nonce tick sources old answers new source s r t are.1 done)
+swept_more scripts nonce tick sources old answers new source s r t are done = absurd are
+
+-- ---- closed
+
+-- what fewer bytes may be held for stands all the more
+pub stands_among : (scripts : List Named) (k : ℕ) (old new : List ℕ → Type 0) (b : Book) → AreAmong new old → StandsAt scripts k old b → StandsAt scripts k new b
+stands_among scripts k old new b among s = (s.0, λ image h. s.1 image (among image h))
+
+-- shelves from this place on were closed
+pub record ClosesDownTo {D N : Type 0} (told : Type 0) (scripts : List Named) (all : List (Shelf D N)) (before now : RackView) (m : ℕ) : Type 0 where
+  pub down : GivesDownTo before now m (length all)
+  pub stand : told → AreOut before (length all) → (k : ℕ) (s : Shelf D N) → m ≤ k → slice_get all k ≡ Some s → StandsAt scripts k (now.holds k) (book_in scripts s)
+
+-- what a disk that is given back may hold
+pub record Holds (told : Type 0) (before after : RackView) (number : ℕ) (images : List ℕ → Type 0) : Type 0 where
+  pub images : told → before.out number ≡ true → AreAmong (after.holds number) images
+  pub others : (n : ℕ) → n ≢ number → AreAmong (after.holds n) (before.holds n)
+
+pub closes_next : {D N : Type 0} (view : D → View) (tells : Bool) (told : Type 0) (scripts : List Named) (all front back : List (Shelf D N)) (s : Shelf D N)
+    (before now after : RackView) (faults next : ℕ) → (told → IsTrue tells) → all ≡ front ++ s ∷ back → length front + 1 ≡ next → AreInOrder view tells scripts all
+    → ClosesDownTo told scripts all before now next → Gives now after (length front) faults → Holds told now after (length front) (view s.journal.disk).images
+    → ClosesDownTo told scripts all before after (length front)
+closes_next view tells told scripts all front back s before now after faults next knows is count are p gives holds = record {
+  down = gives_before before now after (length front) next (length all) faults count p.down gives;
+  stand = λ t out k x above here. elim (same_or_not k (length front)) [
+    | inl e ↦ this t out k x e here
+    | inr d ↦ stands_among scripts k (now.holds k) (after.holds k) (book_in scripts x) (holds.others k d) (p.stand t out k x (omega (arith, above, d, count)) here)
+  ];
+}
+  where
+    there : slice_get all (length front) ≡ Some s
+    there = ap (λ xs. slice_get xs (length front)) is ∙ last_is front back s
+
+    below : length front < length all
+    below = slice_get_within all (length front) s there
+
+    this : told → AreOut before (length all) → (k : ℕ) (x : Shelf D N) → k ≡ length front → slice_get all k ≡ Some x
+        → StandsAt scripts k (after.holds k) (book_in scripts x)
+    this t out k x e here =
+        let same : s ≡ x = same_some s x (sym there ∙ (ap (slice_get all) (sym e) ∙ here)) in
+        let order = are.each (length front) s there in
+        let number = are.numbers (length front) s there in
+        let stands = subst (λ n. Stands scripts n (view s.journal.disk) (book_in scripts s)) number (order.fit (knows t)).stands in
+        let home : now.out (length front) ≡ true = p.down.lower (length front) (omega (arith, count)) ∙ out (length front) below in
+        let at : StandsAt scripts (length front) (after.holds (length front)) (book_in scripts s) =
+        (stands.0, λ image h. stands.1 image (holds.images t home image h)) in
+        subst (λ n. StandsAt scripts n (after.holds n) (book_in scripts x)) (sym e)
+        (subst (λ (y : Shelf D N). StandsAt scripts (length front) (after.holds (length front)) (book_in scripts y)) same at)
