@@ -1,4 +1,4 @@
-ghost use Rattle.std.specs.Prelude.{◌≡◌, ◌≤◌, ◌<◌, ◌^◌, ◌∷◌, [], ℕ, Some, IsErrOf, MatchResult, true};
+ghost use Rattle.std.specs.Prelude.{◌≡◌, ◌≤◌, ◌<◌, ◌^◌, ◌∷◌, [], ℕ, Some, IsTrue, IsErrOf, MatchResult, true};
 ghost use Rattle.web_outside.specs.Causes.{Rose};
 ghost use Rattle.play_steps.specs.Step.{IsStep, is_told, tick};
 ghost use Rattle.play_steps.specs.Rules.{StaysHome, StaysUp};
@@ -39,7 +39,8 @@ impl<T: Drop> From<AllocFailed<T>> for Halt {
 
 /// Whether the step fits what the workers hold, and the shelves that there are.
 pub fn fits<T: Stage>(stage: &T, step: &Step) -> bool
-    requires { IsStep (meaning step.now) }
+    requires sound { T.sound stage.now }
+    requires range { IsStep (meaning step.now) }
     ensures { result ≡ fits T.rules (meaning step.now) (T.state stage.now) }
 {
     match step {
@@ -74,10 +75,12 @@ fn and_report(
 
 // Sweeps every shelf in order, also where there is no memory for what is told.
 fn sweep_all<T: Stage>(alloc: Global, stage: &mut T, time: u64) -> Result<Vec<Report>, AllocError>
-    requires { time < 2 ^ 62 }
+    requires sound { T.sound stage.old }
+    requires time { time < 2 ^ 62 }
     ensures swept { (devices : T.Devices) → SweepsAll T.rules (tick time) result
         (spot T.rules (T.state stage.old) (T.faults stage.old devices))
         (spot T.rules (T.state stage.new) (T.faults stage.new devices)) }
+    ensures sound { T.sound stage.new }
     ensures home { StaysHome (T.at_home stage.old) (T.at_home stage.new) }
     ensures later { StaysUp (T.faults stage.old) (T.faults stage.new) }
 {
@@ -110,6 +113,7 @@ pub fn perform<T: Stage>(
     devices: &mut T::Devices,
     step: &Step,
 ) -> Result<Vec<Report>, Halt>
+    requires sound { T.sound stage.old }
     requires range { IsStep (meaning step.now) }
     requires fitting { fits T.rules (meaning step.now) (T.state stage.old) ≡ true }
     requires home { T.at_home stage.old devices.old }
@@ -117,11 +121,16 @@ pub fn perform<T: Stage>(
         Performs T.rules (meaning step.now) result
         (spot T.rules (T.state stage.old) (T.faults stage.old devices.old))
         (spot T.rules (T.state stage.new) (T.faults stage.new devices.new)) }
+    ensures sound { T.sound stage.new }
     ensures home { T.at_home stage.new devices.new }
     ensures later { T.faults stage.old devices.old ≤ T.faults stage.new devices.new }
     ensures disk { (shelf : ℕ) → IsErrOf result (Halt.Reopen shelf Reopen.Disk) →
         Rose (T.faults stage.old devices.old) (T.faults stage.new devices.new) }
     ensures why { (shelf : ℕ) → IsErrOf result (Halt.Reopen shelf Reopen.Memory) → ⊥ }
+    ensures damaged { IsTrue T.tells → (shelf place : ℕ) →
+        IsErrOf result (Halt.Reopen shelf (Reopen.Damaged place)) → ⊥ }
+    ensures other { IsTrue T.tells → (shelf place : ℕ) →
+        IsErrOf result (Halt.Reopen shelf (Reopen.Other place)) → ⊥ }
 {
     match step {
         Step::Take { worker, target } => {

@@ -1,4 +1,4 @@
-ghost use Rattle.std.specs.Prelude.{◌≡◌, ◌≤◌, ◌∷◌, [], ℕ, Some, true, false};
+ghost use Rattle.std.specs.Prelude.{◌≡◌, ◌≤◌, ◌∷◌, [], ℕ, IsTrue, Some, true, false};
 ghost use Rattle.web_outside.specs.Causes.{Rose};
 ghost use Rattle.play_steps.specs.Step.{IsStep, is_told, steps_of};
 ghost use Rattle.play_steps.specs.Played.{end_of, scene, Leaves, Turns};
@@ -54,6 +54,7 @@ fn play_step<T: Stage, O: Sink>(
     step: &Step,
     sink: &mut O,
 ) -> Turn
+    requires sound { T.sound stage.old }
     requires range { IsStep (meaning step.now) }
     requires home { T.at_home stage.old devices.old }
     ensures turned { is_told T.tells (Some (meaning step.now) ∷ []) ≡ true →
@@ -62,11 +63,16 @@ fn play_step<T: Stage, O: Sink>(
         (scene T.rules (O.view sink.new).written (T.state stage.new) (T.faults stage.new devices.new)) }
     ensures write { result ≡ Turn.Write → Rose (O.view sink.old).faults (O.view sink.new).faults }
     ensures later { (O.view sink.old).faults ≤ (O.view sink.new).faults }
+    ensures sound { T.sound stage.new }
     ensures home { T.at_home stage.new devices.new }
     ensures devices_later { T.faults stage.old devices.old ≤ T.faults stage.new devices.new }
     ensures disk { (shelf : ℕ) → result ≡ Turn.Halted (Halt.Reopen shelf Reopen.Disk) →
         Rose (T.faults stage.old devices.old) (T.faults stage.new devices.new) }
     ensures why { (shelf : ℕ) → result ≡ Turn.Halted (Halt.Reopen shelf Reopen.Memory) → ⊥ }
+    ensures damaged { IsTrue T.tells → (shelf place : ℕ) →
+        result ≡ Turn.Halted (Halt.Reopen shelf (Reopen.Damaged place)) → ⊥ }
+    ensures other { IsTrue T.tells → (shelf place : ℕ) →
+        result ≡ Turn.Halted (Halt.Reopen shelf (Reopen.Other place)) → ⊥ }
 {
     if !fits(stage, step) {
         return Turn::NoFit;
@@ -98,7 +104,8 @@ pub fn play<T: Stage, O: Sink>(
     text: &[u8],
     sink: &mut O,
 ) -> PlayEnd
-    requires { T.at_home stage.old devices.old }
+    requires sound { T.sound stage.old }
+    requires home { T.at_home stage.old devices.old }
     ensures ended { is_told T.tells (steps_of text.now) ≡ true →
         Leaves T.rules (steps_of text.now) result
         (scene T.rules (O.view sink.old).written (T.state stage.old) (T.faults stage.old devices.old))
@@ -106,11 +113,16 @@ pub fn play<T: Stage, O: Sink>(
     ensures write { result ≡ PlayEnd.Write
         → Rose (O.view sink.old).faults (O.view sink.new).faults }
     ensures later { (O.view sink.old).faults ≤ (O.view sink.new).faults }
+    ensures sound { T.sound stage.new }
     ensures home { T.at_home stage.new devices.new }
     ensures devices_later { T.faults stage.old devices.old ≤ T.faults stage.new devices.new }
     ensures disk { (shelf : ℕ) → result ≡ PlayEnd.Reopen shelf Reopen.Disk →
         Rose (T.faults stage.old devices.old) (T.faults stage.new devices.new) }
     ensures why { (shelf : ℕ) → result ≡ PlayEnd.Reopen shelf Reopen.Memory → ⊥ }
+    ensures damaged { IsTrue T.tells → (shelf place : ℕ) →
+        result ≡ PlayEnd.Reopen shelf (Reopen.Damaged place) → ⊥ }
+    ensures other { IsTrue T.tells → (shelf place : ℕ) →
+        result ≡ PlayEnd.Reopen shelf (Reopen.Other place) → ⊥ }
 {
     let mut number = 1u64;
     let mut rest = text;

@@ -31,6 +31,9 @@ pub trait Stage {
     /// The state that it stands for.
     ghost state: { Self → rules.State };
 
+    /// What holds of it between its calls.
+    ghost sound: { Self → Type 0 };
+
     /// What it and its devices owe each other.
     ghost at_home: { Self → Self.Devices → Type 0 };
 
@@ -39,6 +42,7 @@ pub trait Stage {
 
     /// How many shelves there are.
     fn shelves(&self) -> u32
+        requires { sound self.now }
         ensures { result ≡ rules.shelves (state self.now) };
 
     /// Whether the worker, 0 to 15, holds a ticket.
@@ -49,44 +53,55 @@ pub trait Stage {
     /// Draws a number for a visit of the target, and the worker holds its ticket; or the reply that
     /// says why not.
     fn take(&mut self, worker: u32, target: &[u8]) -> Result<u64, Reply>
+        requires sound { sound self.old }
         requires worker { worker < 16 }
         requires free { rules.holds (state self.old) worker ≡ false }
         ensures step { Takes rules (RoseOver (faults self.old) (faults self.new))
             (state self.old) worker target.now result (state self.new) }
         ensures held { IfOk result (λ _. rules.holds (state self.new) worker ≡ true) }
+        ensures sound { sound self.new }
         ensures home { StaysHome (at_home self.old) (at_home self.new) }
         ensures later { StaysUp (faults self.old) (faults self.new) };
 
     /// Runs the visit that the worker's ticket is for, and spends the ticket.
     fn publish(&mut self, worker: u32) -> Reply
+        requires sound { sound self.old }
         requires worker { worker < 16 }
         requires held { rules.holds (state self.old) worker ≡ true }
         ensures step { Publishes rules (RoseOver (faults self.old) (faults self.new))
             (state self.old) worker result (state self.new) }
+        ensures sound { sound self.new }
         ensures home { StaysHome (at_home self.old) (at_home self.new) }
         ensures later { StaysUp (faults self.old) (faults self.new) };
 
     /// Sweeps the shelf at the tick, in seconds: frees what is over by then, so many instances; or
     /// the reply that says why not.
     fn sweep(&mut self, shelf: u32, tick: u64) -> Result<u32, Reply>
+        requires sound { sound self.old }
         requires shelf { shelf < rules.shelves (state self.old) }
         requires tick { tick < 2 ^ 62 }
         ensures step { Sweeps rules (RoseOver (faults self.old) (faults self.new))
             (state self.old) shelf tick result (state self.new) }
         ensures shelves { rules.shelves (state self.new) ≡ rules.shelves (state self.old) }
+        ensures sound { sound self.new }
         ensures home { StaysHome (at_home self.old) (at_home self.new) }
         ensures later { StaysUp (faults self.old) (faults self.new) };
 
     /// Lets the shelf's disk crash, and opens the shelf again on what is left there: with so many live
-    /// instances; or why not. Where disks tell nothing, nothing is known of what is left.
+    /// instances; or why not. Disks that tell what they hold have what makes a shelf; where they tell
+    /// nothing, nothing is known of what is left.
     fn crash(&mut self, devices: &mut Self::Devices, shelf: u32) -> Result<u32, Reopen>
+        requires sound { sound self.old }
         requires shelf { shelf < rules.shelves (state self.old) }
         requires home { at_home self.old devices.old }
         ensures step { IsTrue tells → IfOk result (λ live. Crashes rules
             (Rose (faults self.old devices.old) (faults self.new devices.new))
             (state self.old) shelf live (state self.new)) }
+        ensures sound { sound self.new }
         ensures home { at_home self.new devices.new }
         ensures later { faults self.old devices.old ≤ faults self.new devices.new }
         ensures disk { IsErrOf result Reopen.Disk →
-            Rose (faults self.old devices.old) (faults self.new devices.new) };
+            Rose (faults self.old devices.old) (faults self.new devices.new) }
+        ensures damaged { IsTrue tells → (place : ℕ) → IsErrOf result (Reopen.Damaged place) → ⊥ }
+        ensures other { IsTrue tells → (place : ℕ) → IsErrOf result (Reopen.Other place) → ⊥ };
 }

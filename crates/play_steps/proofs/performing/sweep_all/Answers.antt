@@ -9,6 +9,7 @@ pub loop-shelf-init : goal.loop-shelf-init
 loop-shelf-init g c = record {
   told = λ devices. ([], none_swept _ _ c.args.time c.shelves-count.result, c.new.ensures.items);
   shelves = sym c.shelves-count.ensures;
+  sound = c.requires.sound;
   home = λ devices here. here;
   later = λ devices. omega arith;
 }
@@ -26,6 +27,7 @@ loop-shelf-preserved g c =
             longer c.loop-shelf.told c.and_report-told.result _ _ told.2 grown,
           );
       shelves = c.sweep-swept.ensures.shelves ∙ c.loop-shelf.invariant.shelves;
+      sound = c.sweep-swept.ensures.sound;
       home = λ devices here. c.sweep-swept.ensures.home devices (c.loop-shelf.invariant.home devices here);
       later = λ devices. omega (arith, up devices, c.loop-shelf.invariant.later devices);
     }
@@ -39,6 +41,7 @@ returns g c = record {
         came = all_swept _ _ _ _ c.shelves-count.result _ told.0 c.shelves-count.ensures c.loop-shelf-test.false told.1;
         is = told.2;
       };
+  sound = c.loop-shelf.invariant.sound;
   home = c.loop-shelf.invariant.home;
   later = c.loop-shelf.invariant.later;
 }

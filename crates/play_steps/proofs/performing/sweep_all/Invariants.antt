@@ -9,6 +9,7 @@ invariant-loop-shelf g l =
     record {
       told : SweptOver stage.rules (stage.state l.initial.stage) (stage.faults l.initial.stage) l.time l.count l.shelf l.told (stage.state l.stage) (stage.faults l.stage);
       shelves : stage.rules.shelves (stage.state l.stage) ≡ l.count;
+      sound : stage.sound l.stage;
       home : StaysHome (stage.at_home l.initial.stage) (stage.at_home l.stage);
       later : StaysUp (stage.faults l.initial.stage) (stage.faults l.stage);
     }

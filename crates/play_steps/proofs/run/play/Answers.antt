@@ -29,7 +29,8 @@ loop-rest-init g c =
           (scene stage.rules (g.O.Sink.view c.args.sink.now).written (stage.state c.args.stage.now) (stage.faults c.args.stage.now c.args.devices.now));
       numbered = omega arith;
       later = omega arith;
-      home = c.requires;
+      sound = c.requires.sound;
+      home = c.requires.home;
       devices_later = omega arith;
     }
 
@@ -90,6 +91,7 @@ loop-rest-preserved g c =
           (one_more _ _ _ _ _ _ step (steps_of c.in-Some.after.now) turned.0 turned.1 reached turned.2);
       numbered = omega (arith, less, c.lines-number.ensures);
       later = omega (arith, went.later);
+      sound = went.sound;
       home = went.home;
       devices_later = omega (arith, went.devices_later);
     }

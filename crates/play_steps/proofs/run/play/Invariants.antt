@@ -14,6 +14,7 @@ invariant-loop-rest g l =
           (scene stage.rules (g.O.Sink.view l.sink).written (stage.state l.stage) (stage.faults l.stage l.devices)) l.number (steps_of l.rest);
       numbered : l.number + length l.rest ≤ length l.text + 1;
       later : (g.O.Sink.view l.initial.sink).faults ≤ (g.O.Sink.view l.sink).faults;
+      sound : stage.sound l.stage;
       home : stage.at_home l.stage l.devices;
       devices_later : stage.faults l.initial.stage l.initial.devices ≤ stage.faults l.stage l.devices;
     }

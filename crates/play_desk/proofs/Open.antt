@@ -1,0 +1,47 @@
+-- Tickets that are open.
+use Rattle.std.proofs.Common.{◌≡◌, ◌≢◌, ◌∙◌, ap, sym, subst, refl, ℕ, ◌==◌, not, List, [], ◌∷◌, ◌++◌, filter, Contains}
+use Rattle.page_names.specs.Views.{target_of}
+use Rattle.replay_spec.specs.Book.{Book}
+use Rattle.replay_spec.specs.Admission.{admit}
+use Rattle.replay_spec.specs.Laws.{Moment, then_book, book_after, AreLawful, IsLawful, Leads}
+use Rattle.replay_spec.proofs.Stand.{among_of}
+use Rattle.instance_book.specs.Fits.{FitsAs}
+use Rattle.instance_book.specs.declared.ticket.Ticket.{Ticket}
+use Rattle.shelf.specs.Going.{TicketsGoOnToFit}
+use Rattle.play_desk.specs.Staff.{IsOpen}
+use Rattle.play_desk.proofs.Kept.{among_other, of_among}
+
+-- a run of events goes on by one
+goes_on : (ms : List Moment) (m : Moment) (b : Book) → AreLawful ms b → IsLawful m.event (book_after ms b)
+    → AreLawful (ms ++ m ∷ []) b × (book_after (ms ++ m ∷ []) b ≡ then_book m (book_after ms b))
+goes_on [] m b lawful last = ((last, tt), refl)
+goes_on (x ∷ ms) m b lawful last = let rest = goes_on ms m (then_book x b) lawful.1 last in ((lawful.0, rest.0), rest.1)
+
+leads_on : (b c : Book) (m : Moment) → Leads b c → IsLawful m.event c → Leads b (then_book m c)
+leads_on b c m leads last =
+    let on = goes_on leads.moments m b leads.lawful (subst (IsLawful m.event) (sym leads.there) last) in
+    record { moments = leads.moments ++ m ∷ []; lawful = on.0; there = on.1 ∙ ap (then_book m) leads.there }
+
+pub leads_here : (b : Book) → Leads b b
+leads_here b = record { moments = []; lawful = tt; there = refl }
+
+-- a ticket that is open is for the visit of its target where that is admitted now
+pub fits_now : TicketsGoOnToFit → (b : Book) (t : Ticket) → IsOpen b t → FitsAs b.scripts b t (admit b (target_of t.target))
+fits_now law b t o = law o.then b o.orderly o.leads o.setup t o.admitted o.fits
+
+-- an open ticket stays so while its number is out
+pub stays_open : (b c : Book) (m : Moment) (t : Ticket) → IsLawful m.event b → then_book m b ≡ c → c.scripts ≡ b.scripts → Contains c.out t.number
+    → IsOpen b t → IsOpen c t
+stays_open b c m t lawful is setup out o = record {
+  out = out;
+  then = o.then;
+  orderly = o.orderly;
+  leads = subst (Leads o.then) is (leads_on o.then b m o.leads lawful);
+  setup = setup ∙ o.setup;
+  fits = o.fits;
+  admitted = o.admitted;
+}
+
+-- numbers that are out stay so but for one that is spent
+pub still_out : (n m : ℕ) (ms : List ℕ) → n ≢ m → Contains ms n → Contains (filter (λ k. not (k == m)) ms) n
+still_out n m ms other h = of_among (filter (λ k. not (k == m)) ms) n (among_other n m ms other (among_of ms n h))

@@ -1,0 +1,7 @@
+pub mod Target
+pub mod Desk
+pub mod Ledger
+pub mod Laws
+pub mod Vectors
+pub mod Staff
+pub mod Opening

@@ -1,0 +1,170 @@
+-- How shelves are opened on the disks of a rack, and closed.
+use Rattle.std.specs.Prelude.{⊤, ◌≡◌, ◌≢◌, ◌⊎◌, ◌≤◌, ◌<◌, ◌+◌, ◌-◌, ◌^◌, ℕ, min, Bool, true, false, List, [], length, slice_get, Some, Result, Ok, Err}
+use Rattle.web_outside.specs.Causes.{Rose}
+use Rattle.web_outside.specs.declared.nonces.Counting.{Counting}
+use Rattle.web_disk.specs.View.{View, RackView, AreAmong}
+use Rattle.script_nodes.specs.Setup.{Named}
+use Rattle.script_nodes.specs.declared.setup.Setup.{Setup}
+use Rattle.replay_spec.specs.Book.{Book}
+use Rattle.replay_spec.specs.Rules as runs
+use Rattle.replay_spec.specs.Rules.{empty_book}
+use Rattle.replay_spec.specs.Runs as runs_spec
+use Rattle.replay_spec.specs.Runs.{empty_shelf}
+use Rattle.replay_spec.specs.Step.{lost, kept}
+use Rattle.journal_records.specs.Records.{IsInGrammar, begin_of}
+use Rattle.journal_books.specs.Making.{damaged, other, book_in_bytes}
+use Rattle.journal_books.specs.Standing.{Between, HoldIn, IsOneOf, if_kept}
+use Rattle.shelf.specs.Views.{book_in, rules_of}
+use Rattle.shelf.specs.Opening.{IsCrashed}
+use Rattle.shelf.specs.declared.begin.BeginFault.{BeginFault}
+use Rattle.shelf.specs.declared.begin.BeginFault.TheVariants as begin
+use Rattle.shelf.specs.declared.rules.Rules.{Rules}
+use Rattle.shelf.specs.declared.shelf.Shelf.{Shelf}
+use Rattle.play_steps.specs.Rules.{Crashes}
+use Rattle.play_steps.specs.declared.stage.Reopen.{Reopen}
+use Rattle.play_steps.specs.declared.stage.Reopen.TheVariants as reopen
+use Rattle.play_desk.specs.Desk.{Desk, desk_rules}
+use Rattle.play_desk.specs.Staff.{desk_of, shelf_at, total}
+use Rattle.play_desk.specs.declared.staff.Staff.{Staff}
+use Rattle.play_desk.specs.declared.opening.OpenCause.{OpenCause}
+use Rattle.play_desk.specs.declared.opening.OpenCause.TheVariants as cause
+
+-- the limits of the shelf of this number
+abbrev pub numbered : Rules → (number : ℕ) → Rules
+numbered rules number = record rules { number = number }
+
+-- what the events of the shelf of each number run under
+abbrev pub rules_at : List Named → Rules → (number : ℕ) → runs.Rules
+rules_at scripts rules number = rules_of scripts (numbered rules number)
+
+-- every disk is at home
+abbrev pub AreHome : (out : ℕ → Bool) → Type 0
+AreHome out = (n : ℕ) → out n ≡ false
+
+-- the disk of this number was taken, or given back, and no other
+pub record TakesOne (number : ℕ) (old new : RackView) : Type 0 where
+  pub out : new.out number ≡ true
+  pub others_out : (n : ℕ) → n ≢ number → new.out n ≡ old.out n
+  pub others : (n : ℕ) → n ≢ number → AreAmong (new.holds n) (old.holds n)
+
+pub record GivesOne (number : ℕ) (old new : RackView) : Type 0 where
+  pub home : new.out number ≡ false
+  pub others_out : (n : ℕ) → n ≢ number → new.out n ≡ old.out n
+  pub others : (n : ℕ) → n ≢ number → AreAmong (new.holds n) (old.holds n)
+
+-- no disk was taken or given back
+pub record LeavesAll (old new : RackView) : Type 0 where
+  pub out : (n : ℕ) → new.out n ≡ old.out n
+  pub holds : (n : ℕ) → AreAmong (new.holds n) (old.holds n)
+
+abbrev pub TakesOrLeaves : {T E : Type 0} → (number : ℕ) → Result T E → (old new : RackView) → Type 0
+TakesOrLeaves number (Ok disk) old new = TakesOne number old new
+TakesOrLeaves number (Err why) old new = LeavesAll old new
+
+-- where the shelf is opened its disk is out, and else at home
+abbrev pub OpensOne : {T E : Type 0} → (number : ℕ) → Result T E → (old new : RackView) → Type 0
+OpensOne number (Ok shelf) old new = TakesOne number old new
+OpensOne number (Err why) old new = GivesOne number old new
+
+-- how often the disk of a shelf that was opened has failed; of one that was not it counts as the rack's
+abbrev pub faults_left : {D E : Type 0} → (D → View) → Result (Shelf D Counting) E → ℕ
+faults_left view (Ok s) = (view s.journal.disk).faults
+faults_left view (Err why) = 0
+
+-- beside disks of any count of faults the whole count did not fall; or it rose
+abbrev pub CountStays : (rack disk rack_now disk_now : ℕ) → Type 0
+CountStays rack disk rack_now disk_now = (others : ℕ) → total rack (disk + others) ≤ total rack_now (disk_now + others)
+
+abbrev pub CountRose : (rack disk rack_now disk_now : ℕ) → Type 0
+CountRose rack disk rack_now disk_now = (others : ℕ) → Rose (total rack (disk + others)) (total rack_now (disk_now + others))
+
+-- What is found where a disk may hold these images: a shelf whose book is one of the two that the disk stands between, whatever
+-- these are; or an image that makes no shelf.
+abbrev pub Finds : {D : Type 0} → (D → View) → List Named → (number : ℕ) → (holds : List ℕ → Type 0) → Result (Shelf D Counting) Reopen → Type 0
+Finds {D = D} view scripts number holds (Ok s) =
+    (disk : D) × AreAmong (view disk).images holds × IsOneOf scripts number (view disk) (book_in scripts s)
+Finds view scripts number holds (Err (reopen.Damaged place)) =
+    (image : List ℕ) × holds image × (book_in_bytes scripts number image ≡ damaged place)
+Finds view scripts number holds (Err (reopen.Other place)) =
+    (image : List ℕ) × holds image × (book_in_bytes scripts number image ≡ other place)
+Finds view scripts number holds (Err _) = ⊤
+
+-- why a shelf was not begun, as it is told
+abbrev pub reopen_of : BeginFault → Reopen
+reopen_of (begin.Damaged place) = reopen.Damaged place
+reopen_of (begin.Other place) = reopen.Other place
+reopen_of begin.DiskFault = reopen.Disk
+reopen_of begin.Memory = reopen.Memory
+
+-- a cause outside of what a disk holds
+abbrev pub IsOutside : Reopen → Type 0
+IsOutside reopen.Disk = ⊤
+IsOutside reopen.Memory = ⊤
+IsOutside _ = ⊥
+
+-- of a disk that was taken, how often it has failed
+abbrev pub disk_faults : {D E : Type 0} → (D → View) → Result D E → ℕ
+disk_faults view (Ok disk) = (view disk).faults
+disk_faults view (Err why) = 0
+
+-- a disk is taken without bytes where it may hold none; one that is not empty may hold some
+abbrev pub TakesEmpty : {D : Type 0} → (D → View) → (holds : List ℕ → Type 0) → Result D OpenCause → Type 0
+TakesEmpty view holds (Ok disk) = ((view disk).seen ≡ []) × holds []
+TakesEmpty view holds (Err cause.NotEmpty) = (image : List ℕ) × holds image × (image ≢ [])
+TakesEmpty view holds (Err (cause.Damaged place)) = ⊥
+TakesEmpty view holds (Err (cause.Other place)) = ⊥
+TakesEmpty view holds (Err _) = ⊤
+
+-- On a disk without bytes an empty shelf is begun; it is neither damaged nor another's.
+abbrev pub BeginsEmpty : {D : Type 0} → List Named → Rules → Result (Shelf D Counting) Reopen → Type 0
+BeginsEmpty scripts rules (Ok s) = book_in scripts s ≡ empty_book (rules_of scripts rules) scripts rules.number
+BeginsEmpty scripts rules (Err (reopen.Damaged place)) = ⊥
+BeginsEmpty scripts rules (Err (reopen.Other place)) = ⊥
+BeginsEmpty scripts rules (Err _) = ⊤
+
+-- the cause for which a shelf was not opened
+abbrev pub cause_of : Reopen → OpenCause
+cause_of reopen.Disk = cause.Disk
+cause_of (reopen.Damaged place) = cause.Damaged place
+cause_of (reopen.Other place) = cause.Other place
+cause_of reopen.Memory = cause.Memory
+
+-- an empty shelf is opened where the disk may hold nothing; where it is not empty it may hold something
+abbrev pub OpensEmpty : {D : Type 0} → List Named → Rules → (holds : List ℕ → Type 0) → Result (Shelf D Counting) OpenCause → Type 0
+OpensEmpty scripts rules holds (Ok s) =
+    holds [] × (shelf_at scripts s ≡ empty_shelf (rules_of scripts rules) scripts rules.number)
+OpensEmpty scripts rules holds (Err cause.NotEmpty) = (image : List ℕ) × holds image × (image ≢ [])
+OpensEmpty scripts rules holds (Err (cause.Damaged place)) = ⊥
+OpensEmpty scripts rules holds (Err (cause.Other place)) = ⊥
+OpensEmpty scripts rules holds (Err _) = ⊤
+
+-- the one shelf is the other behind the event crash, what was in doubt lost or kept
+abbrev pub HasCrashed : {D : Type 0} → List Named → (old new : Shelf D Counting) → Type 0
+HasCrashed scripts old new =
+    (nonce : ℕ)
+    → IsCrashed (rules_of scripts old.rules) (book_in scripts old) nonce scripts lost (book_in scripts new)
+    ⊎ IsCrashed (rules_of scripts old.rules) (book_in scripts old) nonce scripts kept (book_in scripts new)
+
+-- a crash of a shelf is the desk's, and the disk does not fail by it
+abbrev pub CrashesShelf : {D : Type 0} → Setup → (old : Staff D) → (place live : ℕ) → (new : Staff D) → Type 0
+CrashesShelf setup old place live new = Crashes desk_rules ⊥ (desk_of setup old) place live (desk_of setup new)
+
+-- a disk that is not empty: of the first of these numbers that may hold other bytes than none
+pub record IsNotEmpty (holds : ℕ → List ℕ → Type 0) (number : ℕ) : Type 0 where
+  pub before : (k : ℕ) → k < number → holds k []
+  pub image : List ℕ
+  pub held : holds number image
+  pub some : image ≢ []
+
+-- why a desk was not opened, of disks that tell what they hold; an empty disk is neither damaged nor another's
+abbrev pub IsClosedBy : (holds : ℕ → List ℕ → Type 0) → (count number : ℕ) → OpenCause → Type 0
+IsClosedBy holds count number cause.NotEmpty = (number < count) × IsNotEmpty holds number
+IsClosedBy holds count number (cause.Damaged place) = ⊥
+IsClosedBy holds count number (cause.Other place) = ⊥
+IsClosedBy holds count number _ = number < count
+
+-- the disks that are given back stand for the books of a desk, each with what is in doubt or without it
+abbrev pub HoldTheBooks : (desk : Desk) → (holds : ℕ → List ℕ → Type 0) → Type 0
+HoldTheBooks d holds =
+    (k : ℕ) (s : runs_spec.Shelf) → slice_get d.shelves k ≡ Some s
+    → (b : Between d.scripts s.book.shelf s.book (if_kept d.scripts s.book.shelf s.book)) × HoldIn b (holds s.book.shelf)

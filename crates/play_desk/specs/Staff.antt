@@ -1,0 +1,122 @@
+-- What shelves with their workers stand for, and what holds of them between the steps of a run.
+use Rattle.std.specs.Prelude.{◌≡◌, ◌≤◌, ◌-◌, ◌+◌, ◌^◌, ℕ, Bool, true, false, List, map, length, min, sum, slice_get, Contains, Option, Some, None, Result, option_map, is_some}
+use Rattle.server_limits.specs.Limits.{most_shelves}
+use Rattle.web_outside.specs.Causes.{Rose}
+use Rattle.web_outside.specs.Counted.{counted}
+use Rattle.web_outside.specs.declared.nonces.Counting.{Counting}
+use Rattle.web_disk.specs.View.{View}
+use Rattle.page_names.specs.Names.{Destination}
+use Rattle.page_names.specs.Views.{target_of}
+use Rattle.page_names.specs.declared.names.Target.{Target}
+use Rattle.script_nodes.specs.Setup.{Named}
+use Rattle.script_nodes.specs.Views.{scripts_of}
+use Rattle.script_nodes.specs.declared.setup.Setup.{Setup}
+use Rattle.journal_records.specs.Records.{IsInGrammar, begin_of}
+use Rattle.replay_spec.specs.Book.{Book}
+use Rattle.replay_spec.specs.Admission.{admit, refusal_of}
+use Rattle.replay_spec.specs.Invariant.{IsOrderly}
+use Rattle.replay_spec.specs.Laws.{Leads}
+use Rattle.replay_spec.specs.Runs as runs
+use Rattle.instance_book.specs.Fits.{FitsAs}
+use Rattle.instance_book.specs.Views.{ticket_of}
+use Rattle.instance_book.specs.declared.ticket.Ticket.{Ticket}
+use Rattle.shelf.specs.Ranges.{AreInRange}
+use Rattle.shelf.specs.Views.{book_in, shelf_of, IsInOrder}
+use Rattle.shelf.specs.declared.shelf.Shelf.{Shelf}
+use Rattle.script_value.specs.declared.outcome.Reply.{Reply}
+use Rattle.play_steps.specs.Rules.{Takes, Publishes, Sweeps}
+use Rattle.play_desk.specs.Desk.{Desk, desk_rules}
+use Rattle.play_desk.specs.Target.{shelf_for}
+use Rattle.play_desk.specs.declared.staff.Staff.{Staff}
+
+-- a shelf as a desk keeps it: it has given as many nonces as its counter tells
+abbrev pub shelf_at : {D : Type 0} → List Named → Shelf D Counting → runs.Shelf
+shelf_at scripts s = shelf_of scripts (counted s.nonces 0) s
+
+-- the shelves with their workers' tickets
+abbrev pub desk_of : {D : Type 0} → Setup → Staff D → Desk
+desk_of setup s = record {
+  scripts = scripts_of setup;
+  shelves = map (shelf_at (scripts_of setup)) s.shelves.items;
+  held = map (option_map ticket_of) s.tickets;
+}
+
+-- the number is out; and the ticket is for the visit that its target was admitted as when it was taken, on the book that the
+-- shelf had then, which had the same setup
+pub record IsOpen (b : Book) (t : Ticket) : Type 0 where
+  pub out : Contains b.out t.number
+  pub then : Book
+  pub orderly : IsOrderly then
+  pub leads : Leads then b
+  pub setup : b.scripts ≡ then.scripts
+  pub fits : FitsAs then.scripts then t (admit then (target_of t.target))
+  pub admitted : refusal_of (admit then (target_of t.target)) ≡ None
+
+-- a shelf that is in order, and that can be opened again
+pub record IsServed {D : Type 0} (view : D → View) (tells : Bool) (scripts : List Named) (s : Shelf D Counting) : Type 0 where
+  pub in_order : IsInOrder view tells scripts s
+  pub limits : AreInRange s.rules
+  pub begins : IsInGrammar (begin_of s.rules.number scripts)
+
+-- the place of the shelf that a worker's ticket is of, among so many
+abbrev pub place_of : (count worker : ℕ) → Ticket → ℕ
+place_of count worker t = shelf_for count worker (target_of t.target)
+
+-- on the shelf at a place the ticket is open
+pub record IsOpenAt {D : Type 0} (scripts : List Named) (shelves : List (Shelf D Counting)) (place : ℕ) (t : Ticket) : Type 0 where
+  pub shelf : Shelf D Counting
+  pub there : slice_get shelves place ≡ Some shelf
+  pub is_open : IsOpen (book_in scripts shelf) t
+
+-- Each shelf is served, under a number of its own. What workers hold are tickets that are open on their shelves, on each of
+-- different numbers.
+pub record IsFit {D : Type 0} (view : D → View) (tells : Bool) (scripts : List Named) (s : Staff D) : Type 0 where
+  pub served : (k : ℕ) (x : Shelf D Counting) → slice_get s.shelves.items k ≡ Some x → IsServed view tells scripts x
+  pub numbers : (j k : ℕ) (x y : Shelf D Counting) → slice_get s.shelves.items j ≡ Some x → slice_get s.shelves.items k ≡ Some y
+      → x.rules.number ≡ y.rules.number → j ≡ k
+  pub few : length s.shelves.items ≤ most_shelves
+  pub count : length s.tickets ≡ 16
+  pub tickets : (w : ℕ) (t : Ticket) → slice_get s.tickets w ≡ Some (Some t)
+      → IsOpenAt scripts s.shelves.items (place_of (length s.shelves.items) w t) t
+  pub apart : (v w : ℕ) (t u : Ticket) → slice_get s.tickets v ≡ Some (Some t) → slice_get s.tickets w ≡ Some (Some u)
+      → place_of (length s.shelves.items) v t ≡ place_of (length s.shelves.items) w u → t.number ≡ u.number → v ≡ w
+
+-- the numbers of the shelves, and how often the disk of each has failed
+abbrev pub numbers_in : {D : Type 0} → Staff D → List ℕ
+numbers_in s = map (λ x. x.rules.number) s.shelves.items
+
+abbrev pub faults_in : {D : Type 0} → (D → View) → Staff D → ℕ
+faults_in view s = sum (map (λ x. (view x.journal.disk).faults) s.shelves.items)
+
+-- how often a rack and disks that are out of it have failed, up to the type's end
+abbrev pub total : (rack disks : ℕ) → ℕ
+total rack disks = min (rack + disks) (2 ^ 64 - 1)
+
+-- whatever the count of a rack is, it rose with these of disks; or it did not fall
+abbrev pub RoseBeside : (before now : ℕ) → Type 0
+RoseBeside before now = (rack : ℕ) → Rose (total rack before) (total rack now)
+
+-- the disks that are out of the rack are those of the shelves
+pub record IsHome {D : Type 0} (s : Staff D) (out : ℕ → Bool) : Type 0 where
+  pub ours : (n : ℕ) → Contains (numbers_in s) n → out n ≡ true
+  pub only : (n : ℕ) → out n ≡ true → Contains (numbers_in s) n
+
+-- a worker's take of a target is the desk's
+abbrev pub TakesTicket : {D : Type 0} → (D → View) → Setup → (old : Staff D) → (worker : ℕ) → (target : List ℕ) → Result ℕ Reply
+    → (new : Staff D) → Type 0
+TakesTicket view setup old worker target result new =
+    Takes desk_rules (RoseBeside (faults_in view old) (faults_in view new)) (desk_of setup old) worker target result (desk_of setup new)
+
+-- a publish of what a worker holds, and a sweep of a shelf
+abbrev pub PublishesTicket : {D : Type 0} → (D → View) → Setup → (old : Staff D) → (worker : ℕ) → Reply → (new : Staff D) → Type 0
+PublishesTicket view setup old worker reply new =
+    Publishes desk_rules (RoseBeside (faults_in view old) (faults_in view new)) (desk_of setup old) worker reply (desk_of setup new)
+
+abbrev pub SweepsShelf : {D : Type 0} → (D → View) → Setup → (old : Staff D) → (shelf tick : ℕ) → Result ℕ Reply → (new : Staff D) → Type 0
+SweepsShelf view setup old shelf tick result new =
+    Sweeps desk_rules (RoseBeside (faults_in view old) (faults_in view new)) (desk_of setup old) shelf tick result (desk_of setup new)
+
+-- the same shelves stand there, and the count of their disks' faults did not fall
+pub record StaysThere {D : Type 0} (view : D → View) (old new : Staff D) : Type 0 where
+  pub numbers : numbers_in new ≡ numbers_in old
+  pub later : faults_in view old ≤ faults_in view new

@@ -1,0 +1,73 @@
+-- Lines read as events, computed.
+use Rattle.std.specs.Prelude.{◌≡◌, ℕ, List, [], ◌∷◌, map, Some, codes, refl}
+use Rattle.percent_encoding.specs.Percent.{percent_decode}
+use Rattle.page_names.specs.Names.{start, destination_of, named_by}
+use Rattle.replay_spec.specs.Rules.{Rules}
+use Rattle.replay_spec.specs.Next.{Ticket}
+use Rattle.replay_spec.specs.Step.{Fate, plain, no_memory, Reply, taken, shown, ended, swept, memory}
+use Rattle.replay_spec.specs.Step as event
+use Rattle.play_steps.specs.Step.{take, publish, get, tick}
+use Rattle.play_steps.specs.declared.report.Report.TheVariants.{Taken, Replied}
+use Rattle.script_value.specs.declared.outcome.Refusal.TheVariants.{Unknown}
+use Rattle.script_value.specs.declared.outcome.Reply.TheVariants.{Refused, Ended}
+use Rattle.script_nodes.specs.Setup.{Named}
+use Rattle.play_steps.specs.Transcript.{bad_line, transcript}
+use Rattle.play_desk.specs.Target.{answer_to}
+use Rattle.play_desk.specs.Desk.{first_desk}
+use Rattle.play_desk.specs.Ledger.{Entry, reading, events_of}
+
+-- a visit of the script `s` without a query
+abbrev ticket : (number nonce : ℕ) → Ticket
+ticket n m = record { target = start (codes "s"); answer = answer_to []; number = n; nonce = m }
+
+abbrev taking : Fate → Reply → Entry
+taking fate r = record { shelf = 0; event = event.take (start (codes "s")) (answer_to []); fate = fate; reply = r }
+
+abbrev publishing : (number nonce : ℕ) → Reply → Entry
+publishing n m r = record { shelf = 0; event = event.publish (ticket n m); fate = plain; reply = r }
+
+-- A publish is of the ticket that the worker's take was given, and a path that names nothing is no event and takes no reply.
+-- Nothing is read behind a line that does not fit.
+pub lines_are_events :
+    (rules : ℕ → Rules) (scripts : List Named)
+    → reading (first_desk rules scripts 1) 1 (map Some (take 0 (codes "/servlets/s") ∷ take 1 (codes "/") ∷ publish 0 ∷ publish 0 ∷ tick 60 ∷ [])) []
+    (taken 7 8 ∷ ended (codes "bye") ∷ memory ∷ [])
+    ≡ record {
+      told = Taken 0 7 ∷ Replied 1 (Refused Unknown) ∷ Replied 0 (Ended (codes "bye")) ∷ [];
+      end = bad_line 4;
+      state = record {
+        scripts = scripts;
+        count = 1;
+        held = (first_desk rules scripts 1).held;
+        replies = memory ∷ [];
+        entries = taking plain (taken 7 8) ∷ publishing 7 8 (ended (codes "bye")) ∷ [];
+      };
+      fates = [];
+    }
+unfolding transcript destination_of named_by percent_decode
+lines_are_events rules scripts = refl
+
+-- a get whose take is given a ticket is two events
+pub a_get_is_two_events :
+    (rules : ℕ → Rules) (scripts : List Named)
+    → events_of (first_desk rules scripts 1) 1 (map Some (get 2 (codes "/servlets/s") ∷ [])) [] (taken 3 4 ∷ shown (codes "p") (codes "u") ∷ [])
+    ≡ taking plain (taken 3 4) ∷ publishing 3 4 (shown (codes "p") (codes "u")) ∷ []
+unfolding transcript destination_of named_by percent_decode
+a_get_is_two_events rules scripts = refl
+
+-- a take that is given no ticket is an event too, and the worker may take again; a tick is a sweep of the shelf
+pub refusals_are_events :
+    (rules : ℕ → Rules) (scripts : List Named)
+    → events_of (first_desk rules scripts 1) 1 (map Some (take 0 (codes "/servlets/s") ∷ get 0 (codes "/servlets/s") ∷ tick 60 ∷ [])) (no_memory ∷ [])
+    (memory ∷ memory ∷ swept 0 ∷ [])
+    ≡ taking no_memory memory ∷ taking plain memory ∷ record { shelf = 0; event = event.sweep 60; fate = plain; reply = swept 0 } ∷ []
+unfolding transcript destination_of named_by percent_decode
+refusals_are_events rules scripts = refl
+
+-- and the fate of the event behind it is not that of a path that names nothing
+pub what_names_nothing_takes_no_fate :
+    (rules : ℕ → Rules) (scripts : List Named)
+    → events_of (first_desk rules scripts 1) 1 (map Some (take 0 (codes "/") ∷ take 0 (codes "/servlets/s") ∷ [])) (no_memory ∷ []) (memory ∷ [])
+    ≡ taking no_memory memory ∷ []
+unfolding transcript destination_of named_by percent_decode
+what_names_nothing_takes_no_fate rules scripts = refl

@@ -1,0 +1,61 @@
+ghost use Rattle.std.specs.Prelude.{◌≡◌, ◌≤◌, ◌<◌, ℕ, IsTrue, IfOk, IsErrOf, vec_len};
+ghost use Rattle.web_outside.specs.Causes.{Rose};
+ghost use Rattle.script_nodes.specs.Views.{scripts_of};
+ghost use Rattle.play_desk.specs.Opening.{CrashesShelf};
+ghost use Rattle.play_desk.specs.Staff.{IsFit, IsHome, faults_in, total};
+
+use crate::opening::{put_back, reopened};
+use crate::staff::{Staff, lose_tickets, no_tickets};
+use play_steps::Reopen;
+use script_nodes::Setup;
+use std::alloc::Global;
+use web_disk::{Disk, Rack};
+
+/// Lets the disk of the shelf at this place crash, and opens the shelf again on what is left there; its
+/// tickets are lost. A shelf that is not opened again stands there no longer, and nobody holds a ticket
+/// then.
+pub fn crash<D: Disk, R: Rack<D>>(
+    alloc: Global,
+    setup: &Setup,
+    directory: &str,
+    staff: &mut Staff<D>,
+    rack: &mut R,
+    place: u32,
+) -> Result<u32, Reopen>
+    requires place { place < vec_len staff.old.shelves }
+    requires fit { IsFit D.view D.tells (scripts_of setup.now) staff.old }
+    requires home { IsHome staff.old (R.view rack.old).out }
+    ensures step { IsTrue R.tells → IsTrue D.tells →
+        IfOk result (λ live. CrashesShelf setup.now staff.old place live staff.new) }
+    ensures fit { IsFit D.view D.tells (scripts_of setup.now) staff.new }
+    ensures home { IsHome staff.new (R.view rack.new).out }
+    ensures damaged { IsTrue R.tells → IsTrue D.tells → (at : ℕ) → IsErrOf result (Reopen.Damaged at) → ⊥ }
+    ensures other { IsTrue R.tells → IsTrue D.tells → (at : ℕ) → IsErrOf result (Reopen.Other at) → ⊥ }
+    ensures disk { IsErrOf result Reopen.Disk →
+        Rose (total (R.view rack.old).faults (faults_in D.view staff.old))
+        (total (R.view rack.new).faults (faults_in D.view staff.new)) }
+    ensures later { total (R.view rack.old).faults (faults_in D.view staff.old)
+        ≤ total (R.view rack.new).faults (faults_in D.view staff.new) }
+{
+    let count = staff.shelves.len();
+    let shelf = staff.shelves.remove(place as usize);
+    let shelf = match reopened(alloc, setup, directory, rack, shelf) {
+        Ok(shelf) => shelf,
+        Err(why) => {
+            staff.tickets = no_tickets();
+            return Err(why);
+        }
+    };
+    let live = shelf.live();
+    match staff.shelves.insert(place as usize, shelf) {
+        Ok(()) => {
+            lose_tickets(&mut staff.tickets, count, place as usize);
+            Ok(live)
+        }
+        Err(refused) => {
+            put_back(rack, refused.value);
+            staff.tickets = no_tickets();
+            Err(Reopen::Memory)
+        }
+    }
+}

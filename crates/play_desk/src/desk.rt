@@ -1,0 +1,71 @@
+ghost use Rattle.std.specs.Prelude.{◌≡◌, ◌&&◌};
+
+use crate::crashing::crash;
+use crate::staff::{Staff, holds, publish, sweep, take};
+use play_steps::{Reopen, Stage};
+use script_nodes::Setup;
+use script_value::Reply;
+use std::alloc::Global;
+use std::marker::PhantomData;
+use web_disk::{Disk, Rack};
+
+/// What the steps of a run are performed on: shelves of a setup, whose disks are those of a rack, and the
+/// tickets that workers hold.
+pub struct Desk<'s, D: Disk, R> {
+    pub(crate) alloc: Global,
+    pub(crate) setup: &'s Setup,
+    pub(crate) directory: &'s str,
+    pub(crate) staff: Staff<D>,
+    pub(crate) devices: PhantomData<R>,
+}
+
+impl<'s, D: Disk, R: Rack<D>> Stage for Desk<'s, D, R> {
+    ghost use Rattle.script_nodes.specs.Views.{scripts_of};
+    ghost use Rattle.play_desk.specs.Desk.{desk_rules};
+    ghost use Rattle.play_desk.specs.Staff.{IsFit, IsHome, desk_of, faults_in, total};
+
+    type Devices = R;
+
+    ghost rules = { desk_rules };
+
+    ghost tells = { R.tells && D.tells };
+
+    ghost state = { λ d. desk_of d.setup.now d.staff };
+
+    ghost sound = { λ d. IsFit D.view D.tells (scripts_of d.setup.now) d.staff };
+
+    ghost at_home = { λ d rack. IsHome d.staff (R.view rack).out };
+
+    ghost faults = { λ d rack. total (R.view rack).faults (faults_in D.view d.staff) };
+
+    fn shelves(&self) -> u32 {
+        self.staff.shelves.len() as u32
+    }
+
+    fn holds(&self, worker: u32) -> bool {
+        holds(self.setup, &self.staff, worker)
+    }
+
+    fn take(&mut self, worker: u32, target: &[u8]) -> Result<u64, Reply> {
+        take(self.alloc, self.setup, &mut self.staff, worker, target)
+    }
+
+    fn publish(&mut self, worker: u32) -> Reply {
+        publish(self.alloc, self.setup, &mut self.staff, worker)
+    }
+
+    fn sweep(&mut self, shelf: u32, tick: u64) -> Result<u32, Reply> {
+        sweep(self.alloc, self.setup, &mut self.staff, shelf, tick)
+    }
+
+    fn crash(&mut self, devices: &mut R, shelf: u32) -> Result<u32, Reopen> {
+        crash(
+            self.alloc,
+            self.setup,
+            self.directory,
+            &mut self.staff,
+            devices,
+            shelf,
+        )
+    }
+}

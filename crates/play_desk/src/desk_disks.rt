@@ -1,0 +1,120 @@
+ghost use Rattle.std.specs.Prelude.{◌≡◌, ◌≤◌, ◌<◌, ℕ, false, length, IsTrue, IfOk, IfErr, IsErrAnd};
+ghost use Rattle.web_outside.specs.Causes.{Rose};
+ghost use Rattle.script_nodes.specs.Views.{scripts_of};
+ghost use Rattle.journal_records.specs.Records.{IsInGrammar, begin_of};
+ghost use Rattle.shelf.specs.Ranges.{AreInRange};
+ghost use Rattle.play_desk.specs.Desk.{first_desk};
+ghost use Rattle.play_desk.specs.Staff.{IsFit, IsHome, desk_of, faults_in, total};
+ghost use Rattle.play_desk.specs.Opening.{AreHome, HoldTheBooks, IsClosedBy, numbered, rules_at};
+
+use crate::desk::Desk;
+use crate::opening::{OpenCause, OpenFault, opened, put_back};
+use crate::staff::{Staff, no_tickets};
+use script_nodes::Setup;
+use shelf::{Rules, Shelf};
+use std::alloc::Global;
+use std::marker::PhantomData;
+use web_disk::{Disk, Rack};
+use web_outside::Counting;
+
+// The limits of the shelf of this number.
+fn numbered(rules: Rules, number: u32) -> Rules
+    ensures { result ≡ numbered rules number }
+{
+    Rules { number, ..rules }
+}
+
+// Closes shelves, and gives their disks back.
+fn put_all_back<D: Disk, R: Rack<D>>(rack: &mut R, shelves: Vec<Shelf<D, Counting>>) {
+    let mut shelves = shelves;
+    while let Some(shelf) = shelves.pop() {
+        put_back(rack, shelf);
+    }
+    shelves.destroy_empty();
+}
+
+/// Opens empty shelves of the setup, from number 0 on, on the rack's disks of this directory, with
+/// workers that hold nothing. The limits are those of each shelf, but for its number.
+///
+/// A disk that is not empty, or that fails, is told with the number of its shelf, and then all disks go
+/// back to the rack.
+pub fn open_desk<'s, D: Disk, R: Rack<D>>(
+    alloc: Global,
+    rack: &mut R,
+    directory: &'s str,
+    setup: &'s Setup,
+    rules: Rules,
+) -> Result<Desk<'s, D, R>, OpenFault>
+    requires range { AreInRange rules }
+    requires few { length (scripts_of setup.now) ≤ 256 }
+    requires begins { (k : ℕ) → k < rules.shelves → IsInGrammar (begin_of k (scripts_of setup.now)) }
+    requires home { AreHome (R.view rack.old).out }
+    ensures setup { IfOk result (λ d. d.setup.now ≡ setup.entry.now) }
+    ensures desk { IsTrue R.tells → IsTrue D.tells → IfOk result (λ d. desk_of d.setup.now d.staff
+        ≡ first_desk (rules_at (scripts_of setup.now) rules) (scripts_of setup.now) rules.shelves) }
+    ensures empty { IsTrue R.tells → IsTrue D.tells → IfOk result (λ d. (k : ℕ) → k < rules.shelves → (R.view rack.old).holds k []) }
+    ensures sound { IfOk result (λ d. IsFit D.view D.tells (scripts_of d.setup.now) d.staff) }
+    ensures home { IfOk result (λ d. IsHome d.staff (R.view rack.new).out) }
+    ensures closed { IsTrue R.tells → IsTrue D.tells →
+        IfErr result (λ e. IsClosedBy (R.view rack.old).holds rules.shelves e.shelf e.why) }
+    ensures all_home { IfErr result (λ e. AreHome (R.view rack.new).out) }
+    ensures disk { IsErrAnd result (λ e. e.why ≡ OpenCause.Disk) → Rose (R.view rack.old).faults (R.view rack.new).faults }
+    ensures later { (R.view rack.old).faults ≤ (R.view rack.new).faults }
+    ensures later_open { IfOk result (λ d. (R.view rack.old).faults ≤ total (R.view rack.new).faults (faults_in D.view d.staff)) }
+{
+    let count = rules.shelves;
+    let mut shelves = Vec::new(alloc);
+    for number in 0..count {
+        let cause = match opened(alloc, setup, directory, rack, numbered(rules, number)) {
+            Ok(shelf) => match shelves.push(shelf) {
+                Ok(()) => continue,
+                Err(refused) => {
+                    put_back(rack, refused.value);
+                    OpenCause::Memory
+                }
+            },
+            Err(cause) => cause,
+        };
+        put_all_back(rack, shelves);
+        return Err(OpenFault {
+            shelf: number,
+            why: cause,
+        });
+    }
+    Ok(Desk {
+        alloc,
+        setup,
+        directory,
+        staff: Staff {
+            shelves,
+            tickets: no_tickets(),
+        },
+        devices: PhantomData,
+    })
+}
+
+impl<'s, D: Disk, R: Rack<D>> Desk<'s, D, R> {
+    /// Closes the shelves, and gives their disks back to the rack. Each disk stands for the last book of its
+    /// shelf.
+    pub fn close(self, rack: &mut R)
+        requires sound { IsFit D.view D.tells (scripts_of self.setup.now) self.staff }
+        requires home { IsHome self.staff (R.view rack.old).out }
+        ensures home { AreHome (R.view rack.new).out }
+        ensures books { IsTrue R.tells → IsTrue D.tells →
+            HoldTheBooks (desk_of self.entry.setup.now self.entry.staff) (R.view rack.new).holds }
+        ensures later { total (R.view rack.old).faults (faults_in D.view self.entry.staff) ≤ (R.view rack.new).faults }
+    {
+        let Desk {
+            alloc: _,
+            setup: _,
+            directory: _,
+            staff,
+            devices: _,
+        } = self;
+        let Staff {
+            shelves,
+            tickets: _,
+        } = staff;
+        put_all_back(rack, shelves);
+    }
+}

@@ -1,0 +1,23 @@
+//! The stage of a run of steps: shelves on the disks of a rack, and the tickets of sixteen workers.
+#![tactic(auto)]
+
+ghost use Rattle.play_desk.specs.Laws.{TranscriptsAreRuns};
+
+mod answer;
+mod crashing;
+mod desk;
+mod desk_disks;
+mod opening;
+mod staff;
+
+pub use answer::answer_to;
+pub use desk::Desk;
+pub use desk_disks::open_desk;
+pub use opening::{OpenCause, OpenFault};
+pub use staff::{segment_of, shelf_for};
+
+/// The printed transcript of lines is the print of the replies of the runs of events that the lines are, and the last
+/// books are those of these runs.
+pub fn transcripts_are_runs()
+    ensures { TranscriptsAreRuns }
+{}

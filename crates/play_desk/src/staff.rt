@@ -1,0 +1,191 @@
+ghost use Rattle.std.specs.Prelude.{◌≡◌, ◌≢◌, ◌<◌, ◌^◌, ◌×◌, ℕ, true, IfOk, is_some, length, map, option_map, replicate, slice_get, slice_set, vec_len, Some, None};
+ghost use Rattle.script_nodes.specs.Views.{scripts_of};
+ghost use Rattle.page_names.specs.Names.{destination_of};
+ghost use Rattle.page_names.specs.Views.{target_of};
+ghost use Rattle.instance_book.specs.Fits.{IsForSome};
+ghost use Rattle.instance_book.specs.Views.{ticket_of};
+ghost use Rattle.instance_book.specs.declared.ticket.Ticket as tickets;
+ghost use Rattle.shelf.specs.Views.{IsRunIfAny};
+ghost use Rattle.play_desk.specs.Desk as spec;
+ghost use Rattle.play_desk.specs.Desk.{without_shelf};
+ghost use Rattle.play_desk.specs.Target.{shelf_for};
+ghost use Rattle.play_desk.specs.Staff.{IsFit, PublishesTicket, StaysThere, SweepsShelf, TakesTicket, desk_of, place_of};
+
+use crate::answer::answer_to;
+use http_forms::path_and_query;
+use instance_book::Ticket;
+use page_names::{Target, parse_target};
+use replay_spec::refused_is_unchanged;
+use script_nodes::Setup;
+use script_value::{Refusal, Reply};
+use shelf::{Shelf, run_ticket, tickets_go_on_to_fit};
+use std::alloc::Global;
+use std::mem;
+use stored_states::Segment;
+use web_disk::Disk;
+use web_outside::Counting;
+
+/// Shelves on their disks, and the tickets of the sixteen workers that visit them.
+#[derive(Drop)]
+pub struct Staff<D: Disk> {
+    pub shelves: Vec<Shelf<D, Counting>>,
+    pub tickets: [Option<Ticket>; 16],
+}
+
+/// The place of a target's shelf, of so many: a start is spread over them by its worker.
+pub fn shelf_for(count: usize, worker: u32, target: &Target) -> usize
+    requires { 0 < count }
+    ensures { result ≡ shelf_for count worker (target_of target.now) }
+{
+    match target {
+        Target::Start(_) => worker as usize % count,
+        Target::Page(_, page) => page.shelf as usize,
+    }
+}
+
+/// The segment that a ticket is for, over the ticket's own cells; none where its run finds no memory.
+pub fn segment_of(alloc: Global, setup: &Setup, ticket: &Ticket, fuel: u64) -> Option<Segment>
+    requires fits { IsForSome (scripts_of setup.now) ticket.now }
+    requires fuel { fuel < 2 ^ 63 }
+    ensures { IsRunIfAny (scripts_of setup.now) fuel ticket.now result }
+{
+    run_ticket(alloc, setup, ticket, &ticket.cells, fuel).ok()
+}
+
+// The ticket that a worker holds, which it holds no longer.
+fn handed_in(tickets: &mut [Option<Ticket>; 16], worker: u32) -> Option<Ticket>
+    requires { worker < 16 }
+    ensures ticket { slice_get tickets.old worker ≡ Some result }
+    ensures without { tickets.new ≡ slice_set tickets.old worker None }
+{
+    mem::replace(&mut tickets[worker as usize], None)
+}
+
+/// Sixteen workers that hold nothing.
+pub fn no_tickets() -> [Option<Ticket>; 16]
+    ensures { result ≡ replicate 16 None }
+{
+    [
+        None, None, None, None, None, None, None, None, None, None, None, None, None, None, None,
+        None,
+    ]
+}
+
+// Whether a worker's ticket is one of the shelf at this place.
+fn is_of(count: usize, place: usize, worker: u32, held: &Option<Ticket>) -> bool
+    requires { 0 < count }
+    ensures { result ≡ spec.is_of count place worker (option_map ticket_of held.now) }
+{
+    match held {
+        Some(ticket) => shelf_for(count, worker, &ticket.target) == place,
+        None => false,
+    }
+}
+
+/// The tickets of the shelf at this place, of so many, are lost.
+pub fn lose_tickets(tickets: &mut [Option<Ticket>; 16], count: usize, place: usize)
+    requires { 0 < count }
+    ensures held { map (option_map ticket_of) tickets.new ≡ without_shelf count place 0 (map (option_map ticket_of) tickets.old) }
+    ensures kept { (w : ℕ) (t : tickets.Ticket) → slice_get tickets.new w ≡ Some (Some t)
+        → (slice_get tickets.old w ≡ Some (Some t)) × (place_of count w t ≢ place) }
+{
+    for worker in 0..16u32 {
+        if is_of(count, place, worker, &tickets[worker as usize]) {
+            drop(handed_in(tickets, worker));
+        }
+    }
+}
+
+/// Whether the worker holds a ticket.
+pub fn holds<D: Disk>(setup: &Setup, staff: &Staff<D>, worker: u32) -> bool
+    requires { worker < 16 }
+    ensures { result ≡ is_some (spec.ticket_of (desk_of setup.now staff.now) worker) }
+{
+    let _ = setup;
+    staff.tickets[worker as usize].is_some()
+}
+
+/// Draws a number for a visit of the target, and the worker holds its ticket.
+pub fn take<D: Disk>(
+    alloc: Global,
+    setup: &Setup,
+    staff: &mut Staff<D>,
+    worker: u32,
+    target: &[u8],
+) -> Result<u64, Reply>
+    requires worker { worker < 16 }
+    requires fit { IsFit D.view D.tells (scripts_of setup.now) staff.old }
+    ensures step { TakesTicket D.view setup.now staff.old worker target.now result staff.new }
+    ensures held { IfOk result (λ _. is_some (spec.ticket_of (desk_of setup.now staff.new) worker) ≡ true) }
+    ensures fit { IsFit D.view D.tells (scripts_of setup.now) staff.new }
+    ensures there { StaysThere D.view staff.old staff.new }
+{
+    refused_is_unchanged();
+    let (path, query) = path_and_query(target);
+    let Some(target) = parse_target(path) else {
+        return Err(Reply::Refused(Refusal::Unknown));
+    };
+    let count = staff.shelves.len();
+    if count == 0 {
+        return Err(Reply::Refused(Refusal::Unknown));
+    }
+    let place = shelf_for(count, worker, &target);
+    if place >= count {
+        return Err(Reply::Refused(Refusal::Unknown));
+    }
+    let Ok(answer) = answer_to(alloc, query) else {
+        return Err(Reply::Memory);
+    };
+    let shelf = &mut staff.shelves[place];
+    match shelf.take(alloc, setup, &target, answer) {
+        Ok(ticket) => {
+            let number = ticket.number;
+            staff.tickets[worker as usize] = Some(ticket);
+            Ok(number)
+        }
+        Err(reply) => Err(reply),
+    }
+}
+
+/// Runs the visit that the worker's ticket is for, and spends the ticket.
+pub fn publish<D: Disk>(
+    alloc: Global,
+    setup: &Setup,
+    staff: &mut Staff<D>,
+    worker: u32,
+) -> Reply
+    requires worker { worker < 16 }
+    requires fit { IsFit D.view D.tells (scripts_of setup.now) staff.old }
+    ensures step { PublishesTicket D.view setup.now staff.old worker result staff.new }
+    ensures fit { IsFit D.view D.tells (scripts_of setup.now) staff.new }
+    ensures there { StaysThere D.view staff.old staff.new }
+{
+    // What holds of a ticket at its take holds until it is published.
+    tickets_go_on_to_fit();
+    let Some(ticket) = handed_in(&mut staff.tickets, worker) else {
+        return Reply::Refused(Refusal::Unknown);
+    };
+    let place = shelf_for(staff.shelves.len(), worker, &ticket.target);
+    let shelf = &mut staff.shelves[place];
+    let segment = segment_of(alloc, setup, &ticket, shelf.rules().fuel);
+    shelf.publish(alloc, setup, ticket, segment)
+}
+
+/// Sweeps the shelf at the tick, in seconds, and tells how many instances it freed.
+pub fn sweep<D: Disk>(
+    alloc: Global,
+    setup: &Setup,
+    staff: &mut Staff<D>,
+    place: u32,
+    tick: u64,
+) -> Result<u32, Reply>
+    requires place { place < vec_len staff.old.shelves }
+    requires tick { tick < 2 ^ 62 }
+    requires fit { IsFit D.view D.tells (scripts_of setup.now) staff.old }
+    ensures step { SweepsShelf D.view setup.now staff.old place tick result staff.new }
+    ensures fit { IsFit D.view D.tells (scripts_of setup.now) staff.new }
+    ensures there { StaysThere D.view staff.old staff.new }
+{
+    let _ = setup;
+    staff.shelves[place as usize].sweep(alloc, tick)
+}
