@@ -33,24 +33,24 @@ read_to_end : (met : Met) (bytes : List ℕ) → Consumes met.input met.unread b
 read_to_end met bytes read end short = record { end = end; short = whole_input met.input met.unread bytes (λ b. length b ≤ 16777216) read end short }
 
 -- what was done with the whole input explains the status
-done : (asked : Command) (s : Status) (met : Met) (bytes : List ℕ) (chances : Chances) → Consumes met.input met.unread bytes → IsAtEnd met.unread → length bytes ≤ 16777216
+has_done : (asked : Command) (s : Status) (met : Met) (bytes : List ℕ) (chances : Chances) → Consumes met.input met.unread bytes → IsAtEnd met.unread → length bytes ≤ 16777216
     → Leaves met.rack asked bytes s chances met.output → HasDone asked chances s met
-done asked s met bytes chances read end short p =
+has_done asked s met bytes chances read end short p =
     (read_to_end met bytes read end short, whole_input met.input met.unread bytes (λ b. Leaves met.rack asked b s chances met.output) read end p)
 
 comes : (asked : Command) (s : Status) (met : Met) (bytes : List ℕ) (chances : Chances) → Consumes met.input met.unread bytes → IsAtEnd met.unread → length bytes ≤ 16777216
     → Leaves met.rack asked bytes s chances met.output → Comes asked chances s met
-comes asked status.Done met bytes chances read end short p = done asked status.Done met bytes chances read end short p
+comes asked status.Done met bytes chances read end short p = has_done asked status.Done met bytes chances read end short p
 comes asked status.Usage met bytes chances read end short p = absurd p
-comes asked status.Setup met bytes chances read end short p = done asked status.Setup met bytes chances read end short p
-comes asked status.Line met bytes chances read end short p = done asked status.Line met bytes chances read end short p
+comes asked status.Setup met bytes chances read end short p = has_done asked status.Setup met bytes chances read end short p
+comes asked status.Line met bytes chances read end short p = has_done asked status.Line met bytes chances read end short p
 comes asked status.Read met bytes chances read end short p = absurd p
-comes asked status.Write met bytes chances read end short p = (done asked status.Write met bytes chances read end short p, p.0)
+comes asked status.Write met bytes chances read end short p = (has_done asked status.Write met bytes chances read end short p, p.0)
 comes asked status.Memory met bytes chances read end short p =
     (whole_input met.input met.unread bytes (λ b. Leaves met.rack asked b status.Memory chances met.output) read end p, (bytes, read))
 comes asked status.Long met bytes chances read end short p = absurd p
-comes asked status.Disk met bytes chances read end short p = (done asked status.Disk met bytes chances read end short p, p.0)
-comes asked status.Journal met bytes chances read end short p = done asked status.Journal met bytes chances read end short p
+comes asked status.Disk met bytes chances read end short p = (has_done asked status.Disk met bytes chances read end short p, p.0)
+comes asked status.Journal met bytes chances read end short p = has_done asked status.Journal met bytes chances read end short p
 comes asked status.Door met bytes chances read end short p = absurd p
 comes asked status.Key met bytes chances read end short p = absurd p
 

@@ -213,28 +213,27 @@ ends serves law result s met same code h = record {
 
 -- ---- lawful inputs
 
--- the status of a lawful input is 0 or 4, where the journals open
+-- the status of a lawful input is 0 or 4, where the journals opens
 ended_status : (text : List ℕ) (e : End) → ((ended text e).status ≡ 0) ⊎ ((ended text e).status ≡ 4)
 ended_status text done = inl refl
 ended_status text (bad_line n) = inr refl
 
-IsFine : Command → Parsed → Chances → Type 0
+abbrev IsFine : Command → Parsed → Chances → Type 0
 IsFine asked setup chances =
     ((written asked (Ok setup) chances).status ≡ 0) ⊎ ((written asked (Ok setup) chances).status ≡ 4)
 
 setup_status : (asked : Command) (setup : Parsed) (chances : Chances) (rack : Racks) → JournalsOpen asked setup.scripts rack
     → TakesDisks rack (Some (asked, setup)) chances.disks → IsFine asked setup chances
-unfolding IsFine
-setup_status Check setup chances rack open taken = inl refl
-setup_status (Play o) setup chances rack open taken =
+setup_status Check setup chances rack opens taken = inl refl
+setup_status (Play o) setup chances rack opens taken =
     subst (λ f. ((unless_shut f (finished (run_of o setup.scripts (steps_of setup.steps) chances.fates))).status ≡ 0)
     ⊎ ((unless_shut f (finished (run_of o setup.scripts (steps_of setup.steps) chances.fates))).status ≡ 4))
-    (sym (fit_opens unfit_new rack.before.holds 0 chances.disks open.1 taken.held))
+    (sym (fit_opens unfit_new rack.before.holds 0 chances.disks opens.1 taken.held))
     (ended_status _ (run_of o setup.scripts (steps_of setup.steps) chances.fates).end)
-setup_status (Serve v) setup chances rack open taken =
+setup_status (Serve v) setup chances rack opens taken =
     subst (λ f. ((unless_shut f (record { text = []; error = []; status = 0 })).status ≡ 0)
     ⊎ ((unless_shut f (record { text = []; error = []; status = 0 })).status ≡ 4))
-    (sym (fit_opens (unfit_left setup.scripts) rack.before.holds 0 chances.disks open.1 taken.held)) (inl refl)
+    (sym (fit_opens (unfit_left setup.scripts) rack.before.holds 0 chances.disks opens.1 taken.held)) (inl refl)
 
 not_3 : (n : ℕ) → (n ≡ 0) ⊎ (n ≡ 4) → n ≡ 3 → ⊥
 not_3 n (inl e) h = omega arith
@@ -250,22 +249,17 @@ lawful_ok asked bytes l = setup_found (ending_of asked) bytes l.setup l.spelled
 -- a lawful input gives neither of these
 lawful_gives : (asked : Command) (met : Met) (bytes : List ℕ) (chances : Chances) (n : ℕ) (l : IsLawful asked bytes) → JournalsOpen asked l.setup.scripts met.rack
     → Gives met.rack asked bytes chances n met.output → (n ≡ 0) ⊎ (n ≡ 4)
-lawful_gives asked met bytes chances n l open h =
+lawful_gives asked met bytes chances n l opens h =
     let ok = lawful_ok asked bytes l in
     let taken = subst (λ r. TakesDisks met.rack (with_setup asked r) chances.disks) ok h.taken in
     subst (λ m. (m ≡ 0) ⊎ (m ≡ 4)) (sym (ap (λ r. (written asked r chances).status) ok) ∙ h.answered.0)
-    (fine asked l.setup chances (setup_status asked l.setup chances met.rack open taken))
-  where
-    fine : (a : Command) (setup : Parsed) (more : Chances) → IsFine a setup more
-        → ((written a (Ok setup) more).status ≡ 0) ⊎ ((written a (Ok setup) more).status ≡ 4)
-    unfolding IsFine
-    fine a setup more h = h
+    (setup_status asked l.setup chances met.rack opens taken)
 
 -- where the journals open, what hangs on the disks is told
 open_settles : (asked : Command) (met : Met) (bytes : List ℕ) (l : IsLawful asked bytes) → JournalsOpen asked l.setup.scripts met.rack
     → Settles met.rack (with_setup asked (setup_of (ending_of asked) bytes))
-open_settles asked met bytes l open =
-    subst (λ r. Settles met.rack (with_setup asked r)) (sym (lawful_ok asked bytes l)) (tells asked l.setup open)
+open_settles asked met bytes l opens =
+    subst (λ r. Settles met.rack (with_setup asked r)) (sym (lawful_ok asked bytes l)) (tells asked l.setup opens)
   where
     tells : (a : Command) (setup : Parsed) → JournalsOpen a setup.scripts met.rack → Settles met.rack (Some (a, setup))
     tells Check setup h = tt
@@ -275,21 +269,21 @@ open_settles asked met bytes l open =
 asked_complete : (asked : Command) (s : Status) (met : Met) (bytes : List ℕ) (chances : Chances) → met.input ≡ Some bytes → (l : IsLawful asked bytes)
     → JournalsOpen asked l.setup.scripts met.rack → (Rose met.input_before met.input_after → ⊥) → (Rose met.output.before met.output.after → ⊥)
     → (RackFailed met.rack → ⊥) → Comes asked chances s met → (code_of s ≡ 0) ⊎ ((code_of s ≡ 4) ⊎ (code_of s ≡ 10))
-asked_complete asked status.Done met bytes chances e l open read write rack h = inl refl
-asked_complete asked status.Usage met bytes chances e l open read write rack h = absurd h
-asked_complete asked status.Setup met bytes chances e l open read write rack h =
-    absurd (not_3 3 (lawful_gives asked met bytes chances 3 l open (left asked status.Setup met bytes chances e h)) refl)
-asked_complete asked status.Line met bytes chances e l open read write rack h = inr (inl refl)
-asked_complete asked status.Read met bytes chances e l open read write rack h = absurd (read h.0)
-asked_complete asked status.Write met bytes chances e l open read write rack h = absurd (write h.1)
-asked_complete asked status.Memory met bytes chances e l open read write rack h = inr (inr refl)
-asked_complete asked status.Long met bytes chances e l open read write rack h =
+asked_complete asked status.Done met bytes chances e l opens read write rack h = inl refl
+asked_complete asked status.Usage met bytes chances e l opens read write rack h = absurd h
+asked_complete asked status.Setup met bytes chances e l opens read write rack h =
+    absurd (not_3 3 (lawful_gives asked met bytes chances 3 l opens (left asked status.Setup met bytes chances e h)) refl)
+asked_complete asked status.Line met bytes chances e l opens read write rack h = inr (inl refl)
+asked_complete asked status.Read met bytes chances e l opens read write rack h = absurd (read h.0)
+asked_complete asked status.Write met bytes chances e l opens read write rack h = absurd (write h.1)
+asked_complete asked status.Memory met bytes chances e l opens read write rack h = inr (inr refl)
+asked_complete asked status.Long met bytes chances e l opens read write rack h =
     let long = past_length met.input met.unread bytes 16777216 e h.0 in absurd (omega (arith, long, l.short))
-asked_complete asked status.Disk met bytes chances e l open read write rack h = absurd (rack h.1)
-asked_complete asked status.Journal met bytes chances e l open read write rack h =
-    absurd (not_8 8 (lawful_gives asked met bytes chances 8 l open ((left asked status.Journal met bytes chances e h) (open_settles asked met bytes l open))) refl)
-asked_complete asked status.Door met bytes chances e l open read write rack h = absurd h
-asked_complete asked status.Key met bytes chances e l open read write rack h = absurd h
+asked_complete asked status.Disk met bytes chances e l opens read write rack h = absurd (rack h.1)
+asked_complete asked status.Journal met bytes chances e l opens read write rack h =
+    absurd (not_8 8 (lawful_gives asked met bytes chances 8 l opens ((left asked status.Journal met bytes chances e h) (open_settles asked met bytes l opens))) refl)
+asked_complete asked status.Door met bytes chances e l opens read write rack h = absurd h
+asked_complete asked status.Key met bytes chances e l opens read write rack h = absurd h
 
 same_setup : (r : Result Parsed Fault) (a b : Parsed) → r ≡ Ok a → r ≡ Ok b → a ≡ b
 same_setup r a b e f = cc
@@ -297,29 +291,29 @@ same_setup r a b e f = cc
 serving_complete : (serves : Serves) (v : Service) (s : Status) (met : Met) (bytes : List ℕ) (chances : Chances) → serves.rack ≡ met.rack → met.input ≡ Some bytes
     → (l : IsLawful (Serve v) bytes) → JournalsOpen (Serve v) l.setup.scripts met.rack → (Rose met.input_before met.input_after → ⊥)
     → (Rose met.output.before met.output.after → ⊥) → GoesWell (Serve v) met → ComesServing serves v chances s met → (code_of s ≡ 0) ⊎ (code_of s ≡ 10)
-serving_complete serves v status.Done met bytes chances same e l open read write well h = inl refl
-serving_complete serves v status.Usage met bytes chances same e l open read write well h = absurd h
-serving_complete serves v status.Setup met bytes chances same e l open read write well h =
+serving_complete serves v status.Done met bytes chances same e l opens read write well h = inl refl
+serving_complete serves v status.Usage met bytes chances same e l opens read write well h = absurd h
+serving_complete serves v status.Setup met bytes chances same e l opens read write well h =
     let p = input_left serves v status.Setup met bytes chances e h in
     absurd (not_three (first_unfit (unfit_left l.setup.scripts) 0 chances.disks)
     (sym (ap (λ r. (served r chances).status) (lawful_ok (Serve v) bytes l)) ∙ p.0.0))
-serving_complete serves v status.Line met bytes chances same e l open read write well h = absurd h
-serving_complete serves v status.Read met bytes chances same e l open read write well h = absurd (read h.0.0)
-serving_complete serves v status.Write met bytes chances same e l open read write well h = absurd (write h.1)
-serving_complete serves v status.Memory met bytes chances same e l open read write well h = inr refl
-serving_complete serves v status.Long met bytes chances same e l open read write well h =
+serving_complete serves v status.Line met bytes chances same e l opens read write well h = absurd h
+serving_complete serves v status.Read met bytes chances same e l opens read write well h = absurd (read h.0.0)
+serving_complete serves v status.Write met bytes chances same e l opens read write well h = absurd (write h.1)
+serving_complete serves v status.Memory met bytes chances same e l opens read write well h = inr refl
+serving_complete serves v status.Long met bytes chances same e l opens read write well h =
     let long = past_length met.input met.unread bytes 16777216 e h.0.0 in absurd (omega (arith, long, l.short))
-serving_complete serves v status.Disk met bytes chances same e l open read write well h = absurd (well.0 h.1)
-serving_complete serves v status.Journal met bytes chances same e l open read write well h =
+serving_complete serves v status.Disk met bytes chances same e l opens read write well h = absurd (well.0 h.1)
+serving_complete serves v status.Journal met bytes chances same e l opens read write well h =
     let p = input_left serves v status.Journal met bytes chances e h in
     let shuts = subst (λ r. Shuts r v p.0.scripts chances.disks p.2.0 p.2.1) same p.2.2 in
-    let taken = shuts open.0 in
+    let taken = shuts opens.0 in
     let is = ap (λ (x : Parsed). x.scripts) (same_setup (setup_of Input bytes) p.0 l.setup p.1 (lawful_ok (Serve v) bytes l)) in
-    let fit = subst (λ ss. AreFit (unfit_left ss) met.rack.before.holds) (sym is) open.1 in
+    let fit = subst (λ ss. AreFit (unfit_left ss) met.rack.before.holds) (sym is) opens.1 in
     let none = fit_opens (unfit_left p.0.scripts) met.rack.before.holds 0 chances.disks fit taken.0.held in
     absurd (let no : None ≡ Some (p.2.0, p.2.1) = sym none ∙ taken.1 in cc)
-serving_complete serves v status.Door met bytes chances same e l open read write well h = absurd (well.1 h.1)
-serving_complete serves v status.Key met bytes chances same e l open read write well h = absurd (well.2 h.1)
+serving_complete serves v status.Door met bytes chances same e l opens read write well h = absurd (well.1 h.1)
+serving_complete serves v status.Key met bytes chances same e l opens read write well h = absurd (well.2 h.1)
 
 -- a check has no steps, and takes no disks
 four : (x : Result Parsed Fault) → (counted x).status ≡ 4 → ⊥
@@ -355,10 +349,10 @@ check_complete status.Key met bytes chances e l read write h = absurd h
 complete_to : (serves : Serves) (asked : Command) (s : Status) (met : Met) (bytes : List ℕ) (chances : Chances) → serves.rack ≡ met.rack → met.input ≡ Some bytes
     → (l : IsLawful asked bytes) → JournalsOpen asked l.setup.scripts met.rack → (Rose met.input_before met.input_after → ⊥)
     → (Rose met.output.before met.output.after → ⊥) → GoesWell asked met → ComesTo serves asked chances s met → EndsWell asked (code_of s)
-complete_to serves Check s met bytes chances same e l open read write well h = check_complete s met bytes chances e l read write h
-complete_to serves (Play o) s met bytes chances same e l open read write well h = asked_complete (Play o) s met bytes chances e l open read write well h
-complete_to serves (Serve v) s met bytes chances same e l open read write well h =
-    serving_complete serves v s met bytes chances same e l open read write well h
+complete_to serves Check s met bytes chances same e l opens read write well h = check_complete s met bytes chances e l read write h
+complete_to serves (Play o) s met bytes chances same e l opens read write well h = asked_complete (Play o) s met bytes chances e l opens read write well h
+complete_to serves (Serve v) s met bytes chances same e l opens read write well h =
+    serving_complete serves v s met bytes chances same e l opens read write well h
 
 memory_ends : (asked : Command) (n : ℕ) → n ≡ 10 → EndsWell asked n
 memory_ends Check n e = inr e
@@ -376,18 +370,18 @@ same_asked o a b e f = cc
 -- what was asked for is what is lawful
 record IsLawfulFor (asked : Command) (met : Met) (bytes : List ℕ) : Type 0 where
   pub lawful : IsLawful asked bytes
-  pub open : JournalsOpen asked lawful.setup.scripts met.rack
+  pub opens : JournalsOpen asked lawful.setup.scripts met.rack
   pub well : GoesWell asked met
 
 pub complete : (serves : Serves) (s : Status) (met : Met) (asked : Command) (bytes : List ℕ) → serves.rack ≡ met.rack → asked_in met.words ≡ Some asked
     → met.input ≡ Some bytes → (l : IsLawful asked bytes) → JournalsOpen asked l.setup.scripts met.rack → (Rose met.input_before met.input_after → ⊥)
     → (Rose met.output.before met.output.after → ⊥) → GoesWell asked met → (chances : Chances) → Explains serves s chances met → EndsWell asked (code_of s)
-complete serves s met asked bytes same is e l open read write well chances (inl h) = memory_ends asked (code_of s) (refused_complete s met asked is h)
-complete serves s met asked bytes same is e l open read write well chances (inr h) =
+complete serves s met asked bytes same is e l opens read write well chances (inl h) = memory_ends asked (code_of s) (refused_complete s met asked is h)
+complete serves s met asked bytes same is e l opens read write well chances (inr h) =
     let one = same_asked (asked_in met.words) asked h.0 is h.1.0 in
-    let these = subst (λ a. IsLawfulFor a met bytes) one (record { lawful = l; open = open; well = well }) in
+    let these = subst (λ a. IsLawfulFor a met bytes) one (record { lawful = l; opens = opens; well = well }) in
     subst (λ a. EndsWell a (code_of s)) (sym one)
-    (complete_to serves h.0 s met bytes chances same e these.lawful these.open read write these.well h.1.1)
+    (complete_to serves h.0 s met bytes chances same e these.lawful these.opens read write these.well h.1.1)
 
 -- ---- the causes of what serving alone may end with, and of what the rack causes
 

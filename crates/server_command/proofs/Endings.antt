@@ -7,14 +7,15 @@ use Rattle.web_outside.specs.Pieces.{AppendsUnlessFault}
 use Rattle.web_outside.proofs.Writes.{appends_none, appends_then, appends_kept}
 use Rattle.command_words.specs.declared.Command.{Command}
 use Rattle.command_words.specs.declared.Command.TheVariants.{Check, Play, Serve}
+use Rattle.script_nodes.specs.Setup.{Named}
 use Rattle.setup_reader.specs.declared.setup.Ending.TheVariants.{Input}
 use Rattle.setup_reader.specs.Setup.{Parsed, Fault, setup_of}
 use Rattle.setup_reader.specs.Faults.{fault_line}
 use Rattle.server_command.specs.declared.program.Status.{Status}
 use Rattle.server_command.specs.declared.program.Status.TheVariants as status
 use Rattle.server_command.specs.Racks.{Racks}
-use Rattle.server_command.specs.Output.{Chances, Output, output_of, counted, ending_of, faulty, sinks, Tells, Answers, nothing}
-use Rattle.server_command.specs.Command.{Known, Outputs, StandFor, TakesDisks, with_setup}
+use Rattle.server_command.specs.Output.{Chances, Output, Sinks, output_of, counted, told_scripts, ending_of, faulty, sinks, Tells, Answers, BreaksOff, nothing}
+use Rattle.server_command.specs.Command.{Counts, Known, Outputs, StandFor, TakesDisks, TellsFaultLine, with_setup}
 
 -- what was read to its end is the input
 pub whole_input : (left rest : Option (List ℕ)) (bytes : List ℕ) (P : List ℕ → Type 0)
@@ -104,29 +105,46 @@ faulty_output Check bytes chances e h = rw h refl
 faulty_output (Play o) bytes chances e h = rw h refl
 faulty_output (Serve v) bytes chances e h = rw h refl
 
-pub tells_fault : (rack : Racks) (asked : Command) (bytes line : List ℕ) (e : Fault) (old new : Option (List ℕ)) (before after : ℕ)
-    → setup_of (ending_of asked) bytes ≡ Err e → line ≡ fault_line e → AppendsUnlessFault old new line before after
-    → Outputs rack asked bytes status.Setup (sinks old new before after)
-tells_fault rack asked bytes line e old new before after h same p =
+fault_tells : (rack : Racks) (asked : Command) (bytes : List ℕ) (e : Fault) (out : Sinks) → setup_of (ending_of asked) bytes ≡ Err e
+    → AppendsUnlessFault out.held out.holds (fault_line e) out.before out.after → Outputs rack asked bytes status.Setup out
+fault_tells rack asked bytes e out h p =
     let is = faulty_output asked bytes no_chances e h in
-    let told = tells old old new [] line before after (appends_none old) p in
+    let told = tells out.held out.held out.holds [] (fault_line e) out.before out.after (appends_none out.held) p in
     (no_chances, record {
-      answered = subst (λ o. Answers o 3 (sinks old new before after)) (sym is) (refl, subst (λ l. Tells [] l (sinks old new before after)) same told);
+      answered = subst (λ o. Answers o 3 out) (sym is) (refl, told);
       taken = subst (λ (r : Result Parsed Fault). TakesDisks rack (with_setup asked r) []) (sym h) tt;
     })
 
+pub fault_outputs : (rack : Racks) (asked : Command) (bytes : List ℕ) (e : Fault) (s : Status) (out : Sinks) → setup_of (ending_of asked) bytes ≡ Err e
+    → TellsFaultLine e s out → Outputs rack asked bytes s out
+fault_outputs rack asked bytes e status.Setup out h p = fault_tells rack asked bytes e out h p
+fault_outputs rack asked bytes e status.Memory out h p =
+    early rack asked bytes status.Memory out.held out.holds out.before out.after refl p
+fault_outputs rack asked bytes e s out h p = absurd p
+
 -- the number of the scripts is all that is told
-pub tells_count : (rack : Racks) (bytes text : List ℕ) (setup : Parsed) (s : Status) (old mid new : Option (List ℕ)) (before between after : ℕ)
-    → setup_of Input bytes ≡ Ok setup → text ≡ codes "ok " ++ (decimal (length setup.scripts) ++ 10 ∷ []) → Appends old mid text → Keeps mid new
-    → before ≤ between → (s ≡ status.Done) ⊎ ((s ≡ status.Write) × Rose between after) → Outputs rack Check bytes s (sinks old new before after)
-tells_count rack bytes text setup s old mid new before between after h same p kept le ends =
-    let is : output_of Check bytes no_chances ≡ counted (Ok setup) = ap counted h in
-    let grown = subst (Appends old new) (same ∙ sym (ap (λ (o : Output). o.text) is)) (appends_kept old mid new text p kept) in
-    whole_text rack Check bytes no_chances s old new before between after
-    (λ settles. record {
-      status = ap (λ (o : Output). o.status) is;
-      error = ap (λ (o : Output). o.error) is;
-      text = grown;
+pub counts_outputs : (rack : Racks) (bytes : List ℕ) (setup : Parsed) (s : Status) (out : Sinks) → setup_of Input bytes ≡ Ok setup → Counts setup.scripts s out
+    → Outputs rack Check bytes s out
+counts_outputs rack bytes setup status.Done out h p =
+    let is : output_of Check bytes no_chances ≡ told_scripts setup.scripts = ap counted h in
+    (no_chances, λ settles. (record {
+      answered = subst (λ o. Answers o 0 out) (sym is) p;
       taken = subst (λ (r : Result Parsed Fault). TakesDisks rack (with_setup Check r) []) (sym h) tt;
-      stand = tt;
-    }) le ends
+    }, tt))
+counts_outputs rack bytes setup status.Write out h p =
+    let is : output_of Check bytes no_chances ≡ told_scripts setup.scripts = ap counted h in
+    (no_chances, (p.0, λ settles. subst (λ o. BreaksOff o out) (sym is) p.1))
+counts_outputs rack bytes setup status.Memory out h p =
+    early rack Check bytes status.Memory out.held out.holds out.before out.after refl p
+counts_outputs rack bytes setup s out h p = absurd p
+
+-- what was written of the number of scripts
+pub counts_told : (scripts : List Named) (text : List ℕ) (s : Status) (old mid new : Option (List ℕ)) (before between after : ℕ)
+    → text ≡ codes "ok " ++ (decimal (length scripts) ++ 10 ∷ []) → Appends old mid text → Keeps mid new → before ≤ between
+    → (s ≡ status.Done) ⊎ ((s ≡ status.Write) × Rose between after) → Counts scripts s (sinks old new before after)
+counts_told scripts text s old mid new before between after is p kept le (inl e) =
+    let grown = subst (Appends old new) is (appends_kept old mid new text p kept) in
+    subst (λ x. Counts scripts x (sinks old new before after)) (sym e) (refl, tells_nothing old new _ before after grown)
+counts_told scripts text s old mid new before between after is p kept le (inr e) =
+    let grown = subst (Appends old new) is (appends_kept old mid new text p kept) in
+    subst (λ x. Counts scripts x (sinks old new before after)) (sym e.0) (rose_since before between after le e.1, inr (refl, grown))

@@ -6,3 +6,5 @@ pub mod Dues
 pub mod Servings
 pub mod Openings
 pub mod Shelves
+pub mod Beginning
+pub mod Short

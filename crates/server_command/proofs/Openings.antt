@@ -2,6 +2,7 @@
 use Rattle.std.proofs.Common.{◌≡◌, ◌≢◌, ◌<◌, ◌≤◌, ◌+◌, ◌-◌, ◌^◌, ◌++◌, ◌∷◌, ◌∙◌, ◌⊎◌, inl, inr, ℕ, zero, suc, List, [], length, Bool, true, false, IsTrue, Option, Some, None, refl, sym, ap, subst, arith}
 use Rattle.std.specs.Prelude.{min, map, ◌&&◌, slice_get, take, drop}
 use Rattle.std.proofs.lemmas.Bool.{and_parts}
+use Rattle.std.proofs.lemmas.List.{length-append}
 use Rattle.web_outside.specs.Causes.{Rose}
 use Rattle.web_disk.specs.View.{View, RackView, AreAmong}
 use Rattle.script_nodes.specs.Setup.{Named}
@@ -19,7 +20,7 @@ use Rattle.server_command.proofs.Racks.{held_more, unfit_behind}
 pub record Gives (before after : RackView) (number faults : ℕ) : Type 0 where
   pub home : after.out number ≡ false
   pub others_out : (n : ℕ) → n ≢ number → after.out n ≡ before.out n
-  pub faults : after.faults ≡ min (before.faults + faults) (2 ^ 64 - 1)
+  pub counts : after.faults ≡ min (before.faults + faults) (2 ^ 64 - 1)
 
 -- the numbers from the first one up to this are home
 pub record GivesUpTo (before now : RackView) (first number : ℕ) : Type 0 where
@@ -45,7 +46,7 @@ pub gives_one : (before after : RackView) (number faults : ℕ) → before.fault
 gives_one before after number faults low g = record {
   home = keeps_home before before after number faults (λ k home. home) g;
   back = λ k above below. subst (λ n. after.out n ≡ false) (omega (arith, above, below)) g.home;
-  later = omega (arith, g.faults, low);
+  later = omega (arith, g.counts, low);
 }
 
 pub gives_first : (before : RackView) (first : ℕ) → before.faults ≤ 2 ^ 64 - 1 → GivesUpTo before before first first
@@ -64,8 +65,8 @@ gives_next before now after first number faults le p g = record {
     | inl e ↦ subst (λ n. after.out n ≡ false) (sym e) g.home
     | inr d ↦ g.others_out k d ∙ p.back k above (omega (arith, d, below))
   ];
-  later = omega (arith, p.later, p.low, g.faults);
-  low = omega (arith, g.faults);
+  later = omega (arith, p.later, p.low, g.counts);
+  low = omega (arith, g.counts);
 }
 
 pub gives_all : (before after : RackView) (first count : ℕ) → GivesUpTo before after first (first + count) → TakesBack before after first count
@@ -99,8 +100,8 @@ gives_before before now after number next count faults is p g = record {
     | inr d ↦ g.others_out k d ∙ p.back k (omega (arith, above, d, is)) below
   ];
   lower = λ k below. g.others_out k (λ e. omega (arith, e, below)) ∙ p.lower k (omega (arith, below, is));
-  later = omega (arith, p.later, p.low, g.faults);
-  low = omega (arith, g.faults);
+  later = omega (arith, p.later, p.low, g.counts);
+  low = omega (arith, g.counts);
 }
 
 pub gives_down : (before after : RackView) (count : ℕ) → GivesDownTo before after 0 count → TakesBack before after 0 count
@@ -181,10 +182,13 @@ pub record TakesUpTo (told : Type 0) (before now : RackView) (number : ℕ) (ima
   pub above : (n : ℕ) → number ≤ n → AreAmong (now.holds n) (before.holds n)
   pub home : (n : ℕ) → number ≤ n → now.out n ≡ before.out n
 
+one_longer : (xs : List (List ℕ)) (image : List ℕ) (n : ℕ) → length xs ≡ n → length (xs ++ image ∷ []) ≡ n + 1
+one_longer xs image n e = omega (arith, e, length-append xs (image ∷ []))
+
 pub takes_none : (told : Type 0) (before : RackView) → TakesUpTo told before before 0 []
 takes_none told before = record {
   taken = record {
-    count = refl;
+    many = refl;
     held = λ t. tt;
     out = λ k below. absurd (omega (arith, below));
     others = λ k above home. home;
@@ -198,8 +202,8 @@ pub takes_next : (told : Type 0) (before now after : RackView) (number : ℕ) (i
     → TakesOne now after number → (told → now.holds number image) → TakesUpTo told before after (number + 1) (images ++ image ∷ [])
 takes_next told before now after number images image p one here = record {
   taken = record {
-    count = more images number p.taken.count;
-    held = λ t. held_more before.holds 0 number images image (omega (arith, p.taken.count)) (p.taken.held t) (p.above number (omega arith) image (here t));
+    many = one_longer images image number p.taken.many;
+    held = λ t. held_more before.holds 0 number images image (omega (arith, p.taken.many)) (p.taken.held t) (p.above number (omega arith) image (here t));
     out = λ k below. elim (same_or_not k number) [
       | inl e ↦ subst (λ n. after.out n ≡ true) (sym e) one.out
       | inr d ↦ one.others_out k d ∙ p.taken.out k (omega (arith, d, below))
@@ -210,11 +214,6 @@ takes_next told before now after number images image p one here = record {
   above = λ n le x h. p.above n (omega (arith, le)) x (one.others n (λ e. omega (arith, e, le)) x h);
   home = λ n le. one.others_out n (λ e. omega (arith, e, le)) ∙ p.home n (omega (arith, le));
 }
-  where
-    more : (xs : List (List ℕ)) (n : ℕ) → length xs ≡ n → length (xs ++ image ∷ []) ≡ n + 1
-    more [] n e = omega (arith, e)
-    more (x ∷ xs) zero e = absurd (omega (arith, e))
-    more (x ∷ xs) (suc n) e = ap suc (more xs n (omega (arith, e)))
 
 -- disks that were taken came home, where one of them was not taken
 pub some_home : (told : Type 0) (before mid after last : RackView) (count : ℕ) (images : List (List ℕ)) → TakesUpTo told before mid count images
@@ -228,3 +227,18 @@ some_home told before mid after last count images p same back k home =
 -- both the rack and its disks tell
 pub both_tell : (a b : Bool) → IsTrue (a && b) → IsTrue a × IsTrue b
 both_tell a b h = and_parts a b h
+
+-- a shelf's disk, those behind it and those before it came home
+pub back_all : (first second third last : RackView) (n rest total : ℕ) → TakesBack first second n 1 → TakesBack second third (n + 1) rest → TakesBack third last 0 n
+    → n + 1 + rest ≡ total → TakesBack first last 0 total
+back_all first second third last n rest total one behind before is = record {
+  home = λ k home. before.home k (behind.home k (one.home k home));
+  back = λ k above below. elim (below_or_not k n) [
+    | inl low ↦ before.back k (omega arith) (omega (arith, low))
+    | inr high ↦ before.home k (elim (same_or_not k n) [
+      | inl e ↦ behind.home k (one.back k (omega (arith, e)) (omega (arith, e)))
+      | inr d ↦ behind.back k (omega (arith, high, d)) (omega (arith, below, is))
+    ])
+  ];
+  later = omega (arith, one.later, behind.later, before.later);
+}

@@ -1,6 +1,6 @@
 -- From what a run of steps leaves to what a command answers.
 use Rattle.std.proofs.Common.{◌≡◌, ◌≤◌, ◌<◌, ◌+◌, ◌++◌, ◌∷◌, ◌⊎◌, ◌∙◌, ℕ, zero, suc, List, [], length, Bool, true, false, IsTrue, Option, Some, None, Result, Ok, append-nil, sym, ap, refl, subst, inl, inr, arith, codes}
-use Rattle.std.specs.Prelude.{replicate, slice_get}
+use Rattle.std.specs.Prelude.{replicate}
 use Rattle.std.proofs.lemmas.List.{length-append}
 use Rattle.std.specs.Fmt.{decimal}
 use Rattle.std.specs.Io.KnownBytes.{Appends, Keeps}
@@ -12,7 +12,6 @@ use Rattle.command_words.specs.declared.Options.{Options}
 use Rattle.setup_reader.specs.declared.setup.Ending.TheVariants.{Steps}
 use Rattle.setup_reader.specs.Setup.{Parsed, Fault, setup_of}
 use Rattle.script_nodes.specs.Setup.{Named}
-use Rattle.replay_spec.specs.Runs.{Shelf}
 use Rattle.replay_spec.specs.Step.{Fate}
 use Rattle.play_steps.specs.Step.{Step, crash, steps_of}
 use Rattle.play_steps.specs.Transcript.{End, done, bad_line, Run, text_of, transcript}
@@ -21,8 +20,9 @@ use Rattle.play_steps.specs.Played as played
 use Rattle.play_steps.specs.Played.{Scene, Plays, Halts}
 use Rattle.play_desk.specs.Desk.{Desk, desk_rules}
 use Rattle.play_desk.specs.Laws.{TranscriptsAreRuns}
-use Rattle.server_command.specs.Racks.{Racks, AreHeld, AreTaken, StandsAt, Unfit, not_empty, first_unfit, unfit_new, disk_line, unfit_line}
-use Rattle.server_command.specs.Output.{Chances, Output, output_of, desk_for, run_of, finished, ended, sinks, Sinks, Tells, BreaksOff, at_line, replies, at_first, at_crash, unless_shut, Loses}
+use Rattle.play_desk.specs.Opening.{HoldTheBooks}
+use Rattle.server_command.specs.Racks.{Racks, AreHeld, AreTaken, Unfit, not_empty, first_unfit, unfit_new, disk_line, unfit_line}
+use Rattle.server_command.specs.Output.{Chances, Output, output_of, desk_for, run_of, finished, ended, sinks, Sinks, Tells, BreaksOff, at_line, replies, at_first, at_crash, unless_shut, Loses, Pauses}
 use Rattle.server_command.specs.Command.{Gives, Known, Leaves, Outputs, PlaysEvents, Settles, StandFor, TakesDisks, TellsLine, with_setup}
 use Rattle.server_command.specs.Serving.{RackFailed}
 use Rattle.server_command.specs.declared.program.Status.{Status}
@@ -61,15 +61,15 @@ all_held : (holds : ℕ → List ℕ → Type 0) (n k count : ℕ) → k + n ≡
 all_held holds zero k count is each = tt
 all_held holds (suc n) k count is each = (each k (omega (arith, is)), all_held holds n (k + 1) count (omega (arith, is)) each)
 
-so_many : (n : ℕ) → length (replicate n ([] {A = ℕ})) ≡ n
-so_many zero = refl
-so_many (suc n) = ap suc (so_many n)
+so_many : (n : ℕ) (x : List ℕ) → length (replicate n x) ≡ n
+so_many zero x = refl
+so_many (suc n) x = ap suc (so_many n x)
 
 are_taken : (rack : Racks) (o : Options) (scripts : List Named) (d : Desk) → Begins rack o scripts d
     → AreTaken unfit_new rack.before.holds o.shelves (replicate o.shelves [])
 are_taken rack o scripts d b = record {
   held = all_held rack.before.holds o.shelves 0 o.shelves (omega arith) b.empty;
-  count = λ none. so_many o.shelves;
+  all = λ none. so_many o.shelves [];
 }
 
 takes : (rack : Racks) (o : Options) (bytes : List ℕ) (setup : Parsed) (d : Desk) (fates : List Fate) → setup_of Steps bytes ≡ Ok setup → Begins rack o setup.scripts d
@@ -102,17 +102,12 @@ plays_events law o bytes setup chances is none =
       run = events.1;
     }
 
--- the disks stand for the books of this desk
-pub record Left (rack : Racks) (scripts : List Named) (d : Desk) : Type 0 where
-  pub stands : (k : ℕ) (s : Shelf) → slice_get d.shelves k ≡ Some s → StandsAt scripts k (rack.after.holds k) s.book
-
 stand_for : (rack : Racks) (o : Options) (bytes : List ℕ) (setup : Parsed) (d e : Desk) (fates : List Fate) (run : Run desk_rules) → setup_of Steps bytes ≡ Ok setup
-    → d ≡ desk_for o setup.scripts → transcript desk_rules d 1 (steps_of setup.steps) fates ≡ run → run.state ≡ e → Left rack setup.scripts e
+    → d ≡ desk_for o setup.scripts → transcript desk_rules d 1 (steps_of setup.steps) fates ≡ run → run.state ≡ e → HoldTheBooks e rack.after.holds
     → StandFor rack (Play o) (setup_of Steps bytes) (chances_of o fates)
 stand_for rack o bytes setup d e fates run h first is last l =
-    subst (λ (r : Result Parsed Fault). StandFor rack (Play o) r (chances_of o fates)) (sym h) (λ k s here.
-    l.stands k s (subst (λ (x : Desk). slice_get x.shelves k ≡ Some s)
-    (ap (λ (x : Desk). (transcript desk_rules x 1 (steps_of setup.steps) fates).state) (sym first) ∙ (ap (λ (r : Run desk_rules). r.state) is ∙ last)) here))
+    let same = ap (λ (x : Desk). (transcript desk_rules x 1 (steps_of setup.steps) fates).state) (sym first) ∙ (ap (λ (r : Run desk_rules). r.state) is ∙ last) in
+    subst (λ (r : Result Parsed Fault). StandFor rack (Play o) r (chances_of o fates)) (sym h) (subst (λ (x : Desk). HoldTheBooks x rack.after.holds) (sym same) l)
 
 -- what a run left that came to its end, or to a line that is no step or does not fit
 pub record Ran (rack : Racks) (o : Options) (scripts : List Named) (steps : List (Option Step)) (end : End) (old mid : Option (List ℕ)) : Type 0 where
@@ -122,7 +117,7 @@ pub record Ran (rack : Racks) (o : Options) (scripts : List Named) (steps : List
   pub before : ℕ
   pub after : ℕ
   pub plays : Plays desk_rules steps end (played.scene desk_rules old first before) (played.scene desk_rules mid last after)
-  pub left : Left rack scripts last
+  pub left : HoldTheBooks last rack.after.holds
 
 ran_output : (rack : Racks) (o : Options) (bytes : List ℕ) (setup : Parsed) (end : End) (old mid : Option (List ℕ)) → setup_of Steps bytes ≡ Ok setup
     → (p : Ran rack o setup.scripts (steps_of setup.steps) end old mid)
@@ -315,7 +310,7 @@ full_outputs rack o bytes setup shelf old new before after h full told =
         let unfit = full_unfit shelf 0 p.byte p.bytes shelf (omega arith) in
         let taken : AreTaken unfit_new rack.before.holds o.shelves images = record {
           held = full_held rack.before.holds shelf 0 (p.byte ∷ p.bytes) shelf (omega arith) p.empty p.full;
-          count = λ none. absurd (let no : None ≡ Some (shelf, not_empty) = sym none ∙ unfit in cc);
+          all = λ none. absurd (let no : None ≡ Some (shelf, not_empty) = sym none ∙ unfit in cc);
         } in
         let is : output_of (Play o) bytes chances ≡ record { text = []; error = unfit_line shelf not_empty; status = 8 } =
         rw h (ap (λ f. unless_shut f (finished (run_of o setup.scripts (steps_of setup.steps) []))) unfit) in

@@ -10,7 +10,7 @@ use Rattle.server_command.specs.Command.{AreFit}
 -- one disk more
 pub held_more : (holds : ℕ → List ℕ → Type 0) (k n : ℕ) (images : List (List ℕ)) (image : List ℕ) → k + length images ≡ n → AreHeld holds k images → holds n image
     → AreHeld holds k (images ++ image ∷ [])
-held_more holds k n [] image is held here = (subst (λ m. holds m image) (sym is) here, tt)
+held_more holds k n [] image is held here = (let same : n ≡ k = omega (arith, is) in subst (λ m. holds m image) same here, tt)
 held_more holds k n (i ∷ images) image is held here = (held.0, held_more holds (k + 1) n images image (omega (arith, is)) held.1 here)
 
 -- where each may be opened, none is unfit
@@ -20,6 +20,12 @@ fit_opens unfit holds k [] fit held = refl
 fit_opens unfit holds k (image ∷ images) fit held =
     ap (λ why. found_unfit k why (first_unfit unfit (k + 1) images)) (fit k image held.0) ∙ fit_opens unfit holds (k + 1) images fit held.1
 
+-- what is found behind a disk that is fit
+passed : (k : ℕ) (f : Option Unfit) (later more : Option (ℕ × Unfit)) (wanted : Option (ℕ × Unfit)) → found_unfit k f later ≡ None
+    → (later ≡ None → more ≡ wanted) → found_unfit k f more ≡ wanted
+passed k None later more wanted none go = go none
+passed k (Some why) later more wanted none go = absurd (let no : ⊥ = cc in no)
+
 -- behind disks that are fit, the first that is not
 pub unfit_behind : (unfit : ℕ → List ℕ → Option Unfit) (k n : ℕ) (images rest : List (List ℕ)) (image : List ℕ) (why : Unfit) → k + length images ≡ n
     → first_unfit unfit k images ≡ None → unfit n image ≡ Some why → first_unfit unfit k (images ++ image ∷ rest) ≡ Some (n, why)
@@ -28,14 +34,8 @@ unfit_behind unfit k n [] rest image why is none here =
     subst (λ m. found_unfit m (unfit m image) (first_unfit unfit (m + 1) rest) ≡ Some (n, why)) (sym same)
     (ap (λ f. found_unfit n f (first_unfit unfit (n + 1) rest)) here)
 unfit_behind unfit k n (i ∷ images) rest image why is none here =
-    by_first (unfit k i) refl none
-  where
-    by_first : (f : Option Unfit) → unfit k i ≡ f → found_unfit k f (first_unfit unfit (k + 1) images) ≡ None
-        → found_unfit k (unfit k i) (first_unfit unfit (k + 1) (images ++ image ∷ rest)) ≡ Some (n, why)
-    by_first None e later =
-        ap (λ f. found_unfit k f (first_unfit unfit (k + 1) (images ++ image ∷ rest))) e
-        ∙ unfit_behind unfit (k + 1) n images rest image why (omega (arith, is)) later here
-    by_first (Some other) e later = absurd (let no : ⊥ = cc in no)
+    passed k (unfit k i) (first_unfit unfit (k + 1) images) _ _ none
+    (λ later. unfit_behind unfit (k + 1) n images rest image why (omega (arith, is)) later here)
 
 -- one fit disk more
 pub fit_more : (unfit : ℕ → List ℕ → Option Unfit) (k n : ℕ) (images : List (List ℕ)) (image : List ℕ) → k + length images ≡ n
@@ -44,14 +44,8 @@ fit_more unfit k n [] image is none here =
     let same : k ≡ n = omega (arith, is) in
     subst (λ m. found_unfit m (unfit m image) None ≡ None) (sym same) (ap (λ f. found_unfit n f None) here)
 fit_more unfit k n (i ∷ images) image is none here =
-    by_first (unfit k i) refl none
-  where
-    by_first : (f : Option Unfit) → unfit k i ≡ f → found_unfit k f (first_unfit unfit (k + 1) images) ≡ None
-        → found_unfit k (unfit k i) (first_unfit unfit (k + 1) (images ++ image ∷ [])) ≡ None
-    by_first None e later =
-        ap (λ f. found_unfit k f (first_unfit unfit (k + 1) (images ++ image ∷ []))) e
-        ∙ fit_more unfit (k + 1) n images image (omega (arith, is)) later here
-    by_first (Some other) e later = absurd (let no : ⊥ = cc in no)
+    passed k (unfit k i) (first_unfit unfit (k + 1) images) _ _ none
+    (λ later. fit_more unfit (k + 1) n images image (omega (arith, is)) later here)
 
 -- a disk of which a book is made is fit
 pub made_fits : (scripts : List Named) (k : ℕ) (m : Making) (b : Book) → IsBook (begun scripts k m) b → unfit_making m ≡ None

@@ -78,7 +78,7 @@ opens_of : {D P L N : Type 0} (o : Outside D P L N) (s : Service) (scripts : Lis
     → (p : OpensOn o.views.disk o.views.told (IsTrue o.rack.tells) o.views.nonce (λ k. rules_for s.options k scripts) scripts sources o.rack.before middle shelves)
     → Opens o.rack s scripts p.images
 opens_of o s scripts sources middle shelves count p = λ t.
-    (record { held = p.taken.held t; count = λ none. p.taken.count ∙ count }
+    (record { held = p.taken.held t; all = λ none. p.taken.many ∙ count }
     , opened_fits (IsTrue o.rack.tells) o.views.nonce (λ k. rules_for s.options k scripts) scripts 0 p.images sources shelves p.opened.opened t)
 
 pub serves_of : {D P L N : Type 0} (o : Outside D P L N) (s : Service) (scripts : List Named) (sources : List N) (middle : RackView) (first last : Vec (Shelf D N) Global)
@@ -86,7 +86,7 @@ pub serves_of : {D P L N : Type 0} (o : Outside D P L N) (s : Service) (scripts 
     → (p : OpensOn o.views.disk o.views.told (IsTrue o.rack.tells) o.views.nonce (λ k. rules_for s.options k scripts) scripts sources o.rack.before middle first.items)
     → (IsTrue o.rack.tells → AllStand scripts o.rack.after.holds last.items) → ServesFrom o.views o.before o.after s scripts sources first last result
     → ServesBy (serves_over o) s scripts p.images result
-serves_of {D} {P} {L} {N} o s scripts sources middle first last result count drawn p stands from = by_result result from
+serves_of {D = D} {P = P} {L = L} {N = N} o s scripts sources middle first last result count drawn p stands from = by_result result from
   where
     whole : (end : WorkEnd) (n : Count) → ServedFrom o.views o.before o.after s scripts sources first last end n → Served o s scripts p.images end n
     whole end n f = record {
@@ -118,9 +118,9 @@ refuses_of o s scripts why none p = (none, by_why why p.images p.held p.refused)
     by_why (unopened.Disk shelf) images held h = h
     by_why (unopened.NotEmpty shelf) images held h = h
     by_why (unopened.Damaged shelf place) images held h = λ t.
-        (record { held = held t; count = λ none. absurd (let no : None ≡ Some (shelf, damaged place) = sym none ∙ h t in cc) }, h t)
+        (record { held = held t; all = λ none. absurd (let no : None ≡ Some (shelf, damaged place) = sym none ∙ h t in cc) }, h t)
     by_why (unopened.Other shelf place) images held h = λ t.
-        (record { held = held t; count = λ none. absurd (let no : None ≡ Some (shelf, other place) = sym none ∙ h t in cc) }, h t)
+        (record { held = held t; all = λ none. absurd (let no : None ≡ Some (shelf, other place) = sym none ∙ h t in cc) }, h t)
     by_why unopened.Memory images held h = tt
 
 -- a count of a door does not fall where those of porches are added

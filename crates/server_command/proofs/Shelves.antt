@@ -1,6 +1,7 @@
 -- Lists of shelves: opened one behind the other, visited at a place, swept in order, closed from the last to the first.
 use Rattle.std.proofs.Common.{◌≡◌, ◌≢◌, ◌<◌, ◌≤◌, ◌+◌, ◌++◌, ◌∷◌, ◌∙◌, ◌⊎◌, inl, inr, ⊎_elim, ℕ, zero, suc, List, [], length, Bool, true, IsTrue, Option, Some, None, Result, refl, sym, ap, subst, arith}
-use Rattle.std.specs.Prelude.{slice_get, slice_set}
+use Rattle.std.specs.Prelude.{slice_get, slice_set, slice_index_or}
+use Rattle.std.proofs.lemmas.List.{length-set, length-append}
 use Rattle.std.proofs.lemmas.Option.{slice_get_within}
 use Rattle.web_disk.specs.View.{View, RackView, AreAmong}
 use Rattle.script_value.specs.declared.outcome.Reply.{Reply}
@@ -40,6 +41,25 @@ at_changed (z ∷ xs) zero (suc j) x y e = inr ((λ h. omega arith), e)
 at_changed (z ∷ xs) (suc k) zero x y e = inr ((λ h. omega arith), e)
 at_changed (z ∷ xs) (suc k) (suc j) x y e = elim (at_changed xs k j x y e) [ inl h ↦ inl (ap suc h.0, h.1) | inr h ↦ inr ((λ s. h.0 (omega (arith, s))), h.1) ]
 
+-- and at another place
+set_other : {A : Type 0} (xs : List A) (k j : ℕ) (x : A) → j ≢ k → slice_get (slice_set xs k x) j ≡ slice_get xs j
+set_other [] k j x other = refl
+set_other (z ∷ xs) zero zero x other = absurd (other refl)
+set_other (z ∷ xs) zero (suc j) x other = refl
+set_other (z ∷ xs) (suc k) zero x other = refl
+set_other (z ∷ xs) (suc k) (suc j) x other = set_other xs k j x (λ e. other (ap suc e))
+
+-- what an index gives
+pub at_index : {A : Type 0} (xs : List A) (k : ℕ) (x : A) → k < length xs → x ≡ slice_index_or xs k x → slice_get xs k ≡ Some x
+at_index [] k x low is = absurd (omega (arith, low))
+at_index (z ∷ xs) zero x low is = ap Some (sym is)
+at_index (z ∷ xs) (suc k) x low is = at_index xs k x (omega (arith, low)) is
+
+pub at_index_or : {A : Type 0} (xs : List A) (k : ℕ) (d : A) → k < length xs → slice_get xs k ≡ Some (slice_index_or xs k d)
+at_index_or [] k d low = absurd (omega (arith, low))
+at_index_or (z ∷ xs) zero d low = refl
+at_index_or (z ∷ xs) (suc k) d low = at_index_or xs k d (omega (arith, low))
+
 -- ---- opened
 
 pub opened_more : {D N : Type 0} (told : Type 0) (nonce : N → ℕ → ℕ) (rules : ℕ → Rules) (scripts : List Named) (k n : ℕ) (images : List (List ℕ)) (sources : List N)
@@ -64,14 +84,14 @@ opened_fits told nonce rules scripts k (i ∷ images) [] shelves opened t = absu
 opened_fits told nonce rules scripts k (i ∷ images) (z ∷ sources) [] opened t = absurd opened
 
 pub no_order : {D N : Type 0} (view : D → View) (tells : Bool) (scripts : List Named) → AreInOrder {D = D} {N = N} view tells scripts []
-no_order view tells scripts = record {
+no_order {D = D} {N = N} view tells scripts = record {
   each = λ k s e. absurd (let no : None ≡ Some s = e in cc);
   numbers = λ k s e. absurd (let no : None ≡ Some s = e in cc);
 }
 
 pub order_more : {D N : Type 0} (view : D → View) (tells : Bool) (scripts : List Named) (shelves : List (Shelf D N)) (s : Shelf D N) → AreInOrder view tells scripts shelves
     → IsInOrder view tells scripts s → s.rules.number ≡ length shelves → AreInOrder view tells scripts (shelves ++ s ∷ [])
-order_more view tells scripts shelves s are is number = record {
+order_more {D = D} {N = N} view tells scripts shelves s are is number = record {
   each = λ k x e. elim (at_more shelves s x k e) [
     | inl h ↦ are.each k x h
     | inr h ↦ subst (IsInOrder view tells scripts) h.1 is
@@ -87,7 +107,7 @@ order_more view tells scripts shelves s are is number = record {
 pub order_set : {D N : Type 0} (view : D → View) (tells : Bool) (scripts : List Named) (shelves : List (Shelf D N)) (k : ℕ) (old new : Shelf D N)
     → slice_get shelves k ≡ Some old → AreInOrder view tells scripts shelves → IsInOrder view tells scripts new → new.rules ≡ old.rules
     → AreInOrder view tells scripts (slice_set shelves k new)
-order_set view tells scripts shelves k old new here are is rules = record {
+order_set {D = D} {N = N} view tells scripts shelves k old new here are is rules = record {
   each = λ j x e. elim (at_changed shelves k j new x e) [
     | inl h ↦ subst (IsInOrder view tells scripts) h.1 is
     | inr h ↦ are.each j x h.1
@@ -100,14 +120,54 @@ order_set view tells scripts shelves k old new here are is rules = record {
 
 -- ---- swept
 
+-- so many shelves were swept, and the others are as they were
+pub record SweptUpTo {D N : Type 0} (scripts : List Named) (nonce : N → ℕ → ℕ) (tick : ℕ) (sources : List N) (old : List (Shelf D N))
+    (answers : List (Result ℕ Reply)) (new : List (Shelf D N)) (n : ℕ) : Type 0 where
+  pub count : length new ≡ length old
+  pub told : length answers ≡ n
+  pub each : (k : ℕ) (source : N) (s t : Shelf D N) (r : Result ℕ Reply) → slice_get sources k ≡ Some source → slice_get old k ≡ Some s
+      → slice_get new k ≡ Some t → slice_get answers k ≡ Some r → IsDone scripts nonce (nonce source) s t (λ given x y. IsSwept given x tick r y)
+  pub kept : (k : ℕ) → n ≤ k → slice_get new k ≡ slice_get old k
+
+pub swept_none : {D N : Type 0} (scripts : List Named) (nonce : N → ℕ → ℕ) (tick : ℕ) (sources : List N) (old : List (Shelf D N))
+    → SweptUpTo scripts nonce tick sources old [] old 0
+swept_none scripts nonce tick sources old = record {
+  count = refl;
+  told = refl;
+  each = λ k source s t r a b c e. absurd (let no : None ≡ Some r = e in cc);
+  kept = λ k le. refl;
+}
+
 pub swept_more : {D N : Type 0} (scripts : List Named) (nonce : N → ℕ → ℕ) (tick : ℕ) (sources : List N) (old : List (Shelf D N)) (answers : List (Result ℕ Reply))
-    (new : List (Shelf D N)) (source : N) (s : Shelf D N) (r : Result ℕ Reply) (t : Shelf D N) → AreSwept scripts nonce tick sources old answers new
-    → IsDone scripts nonce (nonce source) s t (λ given x y. IsSwept given x tick r y)
-    → AreSwept scripts nonce tick (sources ++ source ∷ []) (old ++ s ∷ []) (answers ++ r ∷ []) (new ++ t ∷ [])
-swept_more scripts nonce tick [] [] [] [] source s r t are done = (done, tt)
-swept_more scripts nonce tick (z ∷ sources) (x ∷ old) (a ∷ answers) (y ∷ new) source s r t are done =
-    (are.0, swept_more scripts nonce tick sources old answers new source s r t are.1 done)
-swept_more scripts nonce tick sources old answers new source s r t are done = absurd are
+    (new : List (Shelf D N)) (n : ℕ) (s t : Shelf D N) (r : Result ℕ Reply) → SweptUpTo scripts nonce tick sources old answers new n → slice_get new n ≡ Some s
+    → ((source : ℕ → ℕ) → IsDone scripts nonce source s t (λ given x y. IsSwept given x tick r y))
+    → SweptUpTo scripts nonce tick sources old (answers ++ r ∷ []) (slice_set new n t) (n + 1)
+swept_more {D = D} {N = N} scripts nonce tick sources old answers new n s t r p here done = record {
+  count = length-set new n t ∙ p.count;
+  told = omega (arith, p.told, length-append answers (r ∷ []));
+  each = λ k source x y a drawn before after told. elim (at_more answers r a k told) [
+    | inl earlier ↦ elim (at_changed new n k t y after) [
+      | inl h ↦ absurd (let low = slice_get_within answers k a earlier in omega (arith, low, h.0, p.told))
+      | inr h ↦ p.each k source x y a drawn before h.1 earlier
+    ]
+    | inr last ↦ this k source x y a last before after
+  ];
+  kept = λ k le. set_other new n k t (λ e. omega (arith, e, le)) ∙ p.kept k (omega (arith, le));
+}
+  where
+    this : (k : ℕ) (source : N) (x y : Shelf D N) (a : Result ℕ Reply) → (k ≡ length answers) × (r ≡ a) → slice_get old k ≡ Some x → slice_get (slice_set new n t) k ≡ Some y
+        → IsDone scripts nonce (nonce source) x y (λ given v w. IsSwept given v tick a w)
+    this k source x y a last before after =
+        let at : k ≡ n = last.0 ∙ p.told in
+        let same : s ≡ x = same_some s x (sym here ∙ (p.kept n (omega arith) ∙ (ap (slice_get old) (sym at) ∙ before))) in
+        let now : t ≡ y = elim (at_changed new n k t y after) [ inl h ↦ h.1 | inr h ↦ absurd (h.0 at) ] in
+        subst (λ z. IsDone scripts nonce (nonce source) x z (λ given v w. IsSwept given v tick a w)) now
+        (subst (λ z. IsDone scripts nonce (nonce source) z t (λ given v w. IsSwept given v tick a w)) same
+        (subst (λ b. IsDone scripts nonce (nonce source) s t (λ given v w. IsSwept given v tick b w)) last.1 (done (nonce source))))
+
+pub swept_all : {D N : Type 0} (scripts : List Named) (nonce : N → ℕ → ℕ) (tick : ℕ) (sources : List N) (old : List (Shelf D N)) (answers : List (Result ℕ Reply))
+    (new : List (Shelf D N)) → SweptUpTo scripts nonce tick sources old answers new (length old) → AreSwept scripts nonce tick sources old answers new
+swept_all scripts nonce tick sources old answers new p = record { count = p.count; told = p.told; each = p.each }
 
 -- ---- closed
 
@@ -122,14 +182,14 @@ pub record ClosesDownTo {D N : Type 0} (told : Type 0) (scripts : List Named) (a
 
 -- what a disk that is given back may hold
 pub record Holds (told : Type 0) (before after : RackView) (number : ℕ) (images : List ℕ → Type 0) : Type 0 where
-  pub images : told → before.out number ≡ true → AreAmong (after.holds number) images
+  pub among : told → before.out number ≡ true → AreAmong (after.holds number) images
   pub others : (n : ℕ) → n ≢ number → AreAmong (after.holds n) (before.holds n)
 
 pub closes_next : {D N : Type 0} (view : D → View) (tells : Bool) (told : Type 0) (scripts : List Named) (all front back : List (Shelf D N)) (s : Shelf D N)
     (before now after : RackView) (faults next : ℕ) → (told → IsTrue tells) → all ≡ front ++ s ∷ back → length front + 1 ≡ next → AreInOrder view tells scripts all
     → ClosesDownTo told scripts all before now next → Gives now after (length front) faults → Holds told now after (length front) (view s.journal.disk).images
     → ClosesDownTo told scripts all before after (length front)
-closes_next view tells told scripts all front back s before now after faults next knows is count are p gives holds = record {
+closes_next {D = D} {N = N} view tells told scripts all front back s before now after faults next knows is count are p gives holds = record {
   down = gives_before before now after (length front) next (length all) faults count p.down gives;
   stand = λ t out k x above here. elim (same_or_not k (length front)) [
     | inl e ↦ this t out k x e here
@@ -152,6 +212,12 @@ closes_next view tells told scripts all front back s before now after faults nex
         let stands = subst (λ n. Stands scripts n (view s.journal.disk) (book_in scripts s)) number (order.fit (knows t)).stands in
         let home : now.out (length front) ≡ true = p.down.lower (length front) (omega (arith, count)) ∙ out (length front) below in
         let at : StandsAt scripts (length front) (after.holds (length front)) (book_in scripts s) =
-        (stands.0, λ image h. stands.1 image (holds.images t home image h)) in
+        (stands.0, λ image h. stands.1 image (holds.among t home image h)) in
         subst (λ n. StandsAt scripts n (after.holds n) (book_in scripts x)) (sym e)
         (subst (λ (y : Shelf D N). StandsAt scripts (length front) (after.holds (length front)) (book_in scripts y)) same at)
+
+-- the shelves behind these were closed
+pub record ClosesAll {D N : Type 0} (told : Type 0) (scripts : List Named) (all front : List (Shelf D N)) (before now : RackView) : Type 0 where
+  pub back : List (Shelf D N)
+  pub is : all ≡ front ++ back
+  pub closed : ClosesDownTo told scripts all before now (length front)

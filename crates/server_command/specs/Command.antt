@@ -1,5 +1,5 @@
 -- What the command answers.
-use Rattle.std.specs.Prelude.{⊤, ◌≡◌, ◌⊎◌, ◌≤◌, ◌++◌, ◌∷◌, [], ℕ, List, length, map, nat_le, slice_get, Option, Some, None, IfSome, IsTrue, Result, Ok, Err, codes, if◌then◌else◌}
+use Rattle.std.specs.Prelude.{⊤, ◌≡◌, ◌⊎◌, ◌≤◌, ◌++◌, ◌∷◌, [], ℕ, List, length, map, nat_le, Option, Some, None, IfSome, IsTrue, Result, Ok, Err, codes, if◌then◌else◌}
 use Rattle.std.specs.Borrow.{Bor}
 use Rattle.std.specs.Fmt.{decimal}
 use Rattle.std.specs.Io.KnownBytes.{IsAtEnd}
@@ -24,17 +24,17 @@ use Rattle.setup_reader.specs.Setup.{Parsed, Fault, setup_of}
 use Rattle.setup_reader.specs.Faults.{fault_line}
 use Rattle.setup_reader.specs.Sections.{IsSetup}
 use Rattle.replay_spec.specs.Step.{Fate, Reply}
-use Rattle.replay_spec.specs.Runs.{Shelf}
 use Rattle.play_steps.specs.Step.{Step, steps_of, lines_of, AreSteps}
 use Rattle.server_command.specs.declared.program.Status.{Status}
 use Rattle.server_command.specs.declared.program.Status.TheVariants as status
 use Rattle.server_command.specs.declared.program.Job.{Job}
 use Rattle.server_command.specs.declared.program.Job.TheVariants as job
-use Rattle.server_command.specs.Racks.{Racks, AreTaken, StandsAt, Unfit, first_unfit, unfit_new, unfit_left}
+use Rattle.server_command.specs.Racks.{Racks, AreTaken, Unfit, first_unfit, unfit_new, unfit_left}
 use Rattle.server_command.specs.Serving.{Serves, Faults, HaveRisen, RackFailed, LeavesInput}
 use Rattle.play_desk.specs.Ledger.{print_of}
 use Rattle.play_desk.specs.Laws.{IsRunOfEvents}
-use Rattle.server_command.specs.Output.{Chances, Output, output_of, desk_for, run_of, Sinks, PrintsTo, Answers, BreaksOff, Pauses, Loses, ending_of}
+use Rattle.play_desk.specs.Opening.{HoldTheBooks}
+use Rattle.server_command.specs.Output.{Chances, Output, output_of, told_scripts, desk_for, run_of, Sinks, PrintsTo, Answers, BreaksOff, Pauses, Loses, ending_of}
 
 -- what is done with an input alone
 abbrev pub asked_of : Job → Command
@@ -162,9 +162,7 @@ Known rack asked bytes P = Settles rack (with_setup asked (setup_of (ending_of a
 -- the disks that were given back stand for the books that the steps of a setup left
 abbrev pub StandFor : Racks → Command → Result Parsed Fault → Chances → Type 0
 StandFor rack (Play o) (Ok setup) chances =
-    (shelf : ℕ) (s : Shelf)
-    → slice_get (run_of o setup.scripts (steps_of setup.steps) chances.fates).state.shelves shelf ≡ Some s
-    → StandsAt setup.scripts shelf (rack.after.holds shelf) s.book
+    HoldTheBooks (run_of o setup.scripts (steps_of setup.steps) chances.fates).state rack.after.holds
 StandFor rack asked setup chances = ⊤
 
 -- ---- why a command ends so
@@ -303,17 +301,15 @@ OutputsFor rack asked setup status out =
 
 -- the number of these scripts was told, or there was no memory for that
 abbrev pub Counts : List Named → Status → Sinks → Type 0
-Counts scripts status out =
-    (rack : Racks) (steps : List ℕ) → OutputsFor rack Check (Ok (record { scripts = scripts; steps = steps })) status out
+Counts scripts status.Done out = Answers (told_scripts scripts) 0 out
+Counts scripts status.Write out = Rose out.before out.after × BreaksOff (told_scripts scripts) out
+Counts scripts status.Memory out = PrintsTo out (codes "error 10 memory\n")
+Counts scripts _ out = ⊥
 
 -- these steps were played over these scripts
 abbrev pub PlaysSteps : Racks → Options → List Named → (steps : List ℕ) → Status → Sinks → Type 0
 PlaysSteps rack o scripts steps status out =
     OutputsFor rack (Play o) (Ok (record { scripts = scripts; steps = steps })) status out
-
--- the fault of a setup was told, or there was no memory for that
-abbrev pub TellsFault : Fault → Status → Sinks → Type 0
-TellsFault fault status out = (rack : Racks) (asked : Command) → OutputsFor rack asked (Err fault) status out
 
 -- the line of a setup's fault was told, or there was no memory for that
 abbrev pub TellsFaultLine : Fault → Status → Sinks → Type 0

@@ -38,7 +38,7 @@ pub record TakesBack (before after : RackView) (first count : ℕ) : Type 0 wher
 
 -- The disks of so many numbers were taken, from 0 on, and hold these, where the rack and its disks tell that.
 pub record HasTaken (told : Type 0) (before after : RackView) (count : ℕ) (images : List (List ℕ)) : Type 0 where
-  pub count : length images ≡ count
+  pub many : length images ≡ count
   pub held : told → AreHeld before.holds 0 images
   pub out : AreOut after count
   pub others : (k : ℕ) → count ≤ k → before.out k ≡ false → after.out k ≡ false

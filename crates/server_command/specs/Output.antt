@@ -32,9 +32,12 @@ abbrev pub faulty : Fault → Output
 faulty e = record { text = []; error = fault_line e; status = 3 }
 
 -- how many scripts there are
+abbrev pub told_scripts : List Named → Output
+told_scripts scripts = record { text = codes "ok " ++ (decimal (length scripts) ++ 10 ∷ []); error = []; status = 0 }
+
 abbrev pub counted : Result Parsed Fault → Output
 counted (Err e) = faulty e
-counted (Ok setup) = record { text = codes "ok " ++ (decimal (length setup.scripts) ++ 10 ∷ []); error = []; status = 0 }
+counted (Ok setup) = told_scripts setup.scripts
 
 -- what the events of a shelf run under; its journal begins with these scripts
 abbrev pub rules_for : Options → (shelf : ℕ) → List Named → Rules

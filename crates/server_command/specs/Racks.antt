@@ -59,7 +59,7 @@ first_unfit unfit k (image ∷ images) = found_unfit k (unfit k image) (first_un
 -- these are what the disks of so many shelves hold when they are taken: of all, unless one of the shelves is not opened
 pub record AreTaken (unfit : ℕ → List ℕ → Option Unfit) (holds : ℕ → List ℕ → Type 0) (count : ℕ) (images : List (List ℕ)) : Type 0 where
   pub held : AreHeld holds 0 images
-  pub count : first_unfit unfit 0 images ≡ None → length images ≡ count
+  pub all : first_unfit unfit 0 images ≡ None → length images ≡ count
 
 -- what a disk may hold makes the book, with what is in doubt or without it
 abbrev pub StandsAt : List Named → (shelf : ℕ) → (images : List ℕ → Type 0) → Book → Type 0

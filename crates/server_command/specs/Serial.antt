@@ -1,5 +1,5 @@
 -- What a visit and a tick do to the shelves of a server that serves one visit after the other.
-use Rattle.std.specs.Prelude.{⊤, ◌≡◌, ◌≤◌, Bool, ℕ, List, [], ◌∷◌, length, slice_get, slice_set, Some, Result, Ok, Err, Vec}
+use Rattle.std.specs.Prelude.{◌≡◌, ◌≤◌, Bool, ℕ, List, length, slice_get, slice_set, Some, Result, Ok, Err, Vec}
 use Rattle.std.specs.declared.alloc.Global.{Global}
 use Rattle.script_value.specs.Val.{Val}
 use Rattle.script_value.specs.declared.outcome.Refusal.TheVariants.{Unknown}
@@ -67,13 +67,13 @@ pub data VisitsOne {D N : Type 0} (scripts : List Named) (nonce : N → ℕ → 
   there : OnShelf scripts nonce sources (shelf_at d) old new (λ source s t. Visited source s d answer reply t)
       → VisitsOne scripts nonce sources old d answer reply new
 
--- each shelf was swept, in their order, and answered so
-abbrev pub AreSwept : {D N : Type 0} → List Named → (nonce : N → ℕ → ℕ) → (tick : ℕ) → List N → (old : List (Shelf D N))
-    → List (Result ℕ Reply) → (new : List (Shelf D N)) → Type 0
-AreSwept scripts nonce tick (source ∷ sources) (s ∷ old) (r ∷ answers) (t ∷ new) =
-    IsDone scripts nonce (nonce source) s t (λ given x y. IsSwept given x tick r y) × AreSwept scripts nonce tick sources old answers new
-AreSwept scripts nonce tick [] [] [] [] = ⊤
-AreSwept scripts nonce tick sources old answers new = ⊥
+-- each shelf was swept, and answered so
+pub record AreSwept {D N : Type 0} (scripts : List Named) (nonce : N → ℕ → ℕ) (tick : ℕ) (sources : List N) (old : List (Shelf D N))
+    (answers : List (Result ℕ Reply)) (new : List (Shelf D N)) : Type 0 where
+  pub count : length new ≡ length old
+  pub told : length answers ≡ length old
+  pub each : (k : ℕ) (source : N) (s t : Shelf D N) (r : Result ℕ Reply) → slice_get sources k ≡ Some source → slice_get old k ≡ Some s
+      → slice_get new k ≡ Some t → slice_get answers k ≡ Some r → IsDone scripts nonce (nonce source) s t (λ given x y. IsSwept given x tick r y)
 
 -- without memory for the list of the answers nothing is swept
 abbrev pub Ticked : {D N : Type 0} → List Named → (nonce : N → ℕ → ℕ) → List N → (old : List (Shelf D N)) → (tick : ℕ) → Swept

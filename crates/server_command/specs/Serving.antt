@@ -90,7 +90,7 @@ worker_of tally = record { end = tally.end; count = count_of tally }
 -- and empty where they have no record.
 pub record IsOpened {D N : Type 0} (told : Type 0) (nonce : N → ℕ → ℕ) (rules : Rules) (scripts : List Named) (k : ℕ) (image : List ℕ)
     (source : N) (s : Shelf D N) : Type 0 where
-  pub rules : rules_of scripts s.rules ≡ rules
+  pub limits : rules_of scripts s.rules ≡ rules
   pub book : told → IsBook (begun scripts k (book_in_bytes scripts k image)) (book_in scripts s)
   pub opened : book_in scripts s ≡ reopened (book_in scripts s)
   pub stream : HasGiven (nonce source) 0 (nonce s.nonces)

@@ -1,18 +1,14 @@
 -- How it is told that a shelf was not opened, or that a run of steps ended.
-use Rattle.std.specs.Prelude.{◌≡◌, ◌⊎◌, ℕ, List, Option, Some, None, codes}
-use Rattle.std.specs.Io.KnownBytes.{Keeps}
-use Rattle.play_steps.specs.declared.run.PlayEnd.{PlayEnd}
-use Rattle.play_steps.specs.declared.run.PlayEnd.TheVariants as ends
+use Rattle.std.specs.Prelude.{◌≡◌, ℕ, List, Option, Some, None, codes}
 use Rattle.play_steps.specs.declared.stage.Reopen.{Reopen}
 use Rattle.play_steps.specs.declared.stage.Reopen.TheVariants as reopen
-use Rattle.play_desk.specs.declared.desk.OpenFault.{OpenFault}
-use Rattle.play_desk.specs.declared.desk.OpenWhy.{OpenWhy}
-use Rattle.play_desk.specs.declared.desk.OpenWhy.TheVariants as first
+use Rattle.play_desk.specs.declared.opening.OpenFault.{OpenFault}
+use Rattle.play_desk.specs.declared.opening.OpenCause.{OpenCause}
+use Rattle.play_desk.specs.declared.opening.OpenCause.TheVariants as first
 use Rattle.server_command.specs.declared.program.Status.{Status}
 use Rattle.server_command.specs.declared.program.Status.TheVariants as status
 use Rattle.server_command.specs.declared.opening.Unopened.{Unopened}
 use Rattle.server_command.specs.declared.opening.Unopened.TheVariants as unopened
-use Rattle.server_command.specs.Command.{IsDoneUnlessFault, TellsLine}
 use Rattle.server_command.specs.Output.{Sinks, PrintsTo}
 use Rattle.server_command.specs.Racks.{not_empty, damaged, other, disk_line, unfit_line}
 
@@ -38,7 +34,7 @@ pub data TellsUnopened (why : Unopened) (s : Status) (out : Sinks) : Type 0 wher
   untold : s ≡ status.Memory → PrintsTo out (codes "error 10 memory\n") → TellsUnopened why s out
 
 -- why a shelf was not opened at first, and again
-abbrev pub unopened_by : ℕ → OpenWhy → Unopened
+abbrev pub unopened_by : ℕ → OpenCause → Unopened
 unopened_by shelf first.Disk = unopened.Disk shelf
 unopened_by shelf first.NotEmpty = unopened.NotEmpty shelf
 unopened_by shelf (first.Damaged place) = unopened.Damaged shelf place
@@ -53,11 +49,3 @@ unopened_again shelf reopen.Disk = unopened.Disk shelf
 unopened_again shelf (reopen.Damaged place) = unopened.Damaged shelf place
 unopened_again shelf (reopen.Other place) = unopened.Other shelf place
 unopened_again shelf reopen.Memory = unopened.Memory
-
--- the end of a run of steps was told
-abbrev pub TellsEnd : PlayEnd → Status → Sinks → Type 0
-TellsEnd ends.Done s out = Keeps out.held out.holds × IsDoneUnlessFault s out.before out.after
-TellsEnd (ends.Line number) s out = TellsLine number s out
-TellsEnd ends.Write s out = (s ≡ status.Write) × (out.holds ≡ out.held) × (out.after ≡ out.before)
-TellsEnd ends.Memory s out = (s ≡ status.Memory) × PrintsTo out (codes "error 10 memory\n")
-TellsEnd (ends.Reopen shelf why) s out = TellsUnopened (unopened_again shelf why) s out

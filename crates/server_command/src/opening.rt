@@ -1,6 +1,7 @@
-ghost use Rattle.std.specs.Prelude.{◌&&◌, ◌≡◌, ◌≤◌, ◌<◌, ◌+◌, [], ℕ, true, length, slice_get, Some, None, IsTrue, IfOk, IfErr, OnOk, OnErr, vec_len};
+ghost use Rattle.std.specs.Prelude.{List, ◌&&◌, ◌≡◌, ◌≤◌, ◌<◌, ◌+◌, [], ℕ, true, length, slice_get, Some, None, IsTrue, IfOk, IfErr, OnOk, OnErr, vec_len};
 ghost use Rattle.std.specs.VecDeque.{deque_len};
 ghost use Rattle.web_outside.specs.Causes.{Rose};
+ghost use Rattle.script_nodes.specs.Setup.{Named};
 ghost use Rattle.script_nodes.specs.Views.{scripts_of};
 ghost use Rattle.journal_records.specs.Records.{IsInGrammar, begin_of};
 ghost use Rattle.shelf.specs.Ranges as ranges;
@@ -46,7 +47,7 @@ impl From<AllocError> for Unopened {
 }
 
 // What a fault of the opening of this shelf is told as.
-fn unopened(shelf: u32, fault: BeginFault) -> Unopened
+fn why_unopened(shelf: u32, fault: BeginFault) -> Unopened
     ensures { result ≡ unopened_by shelf fault }
 {
     match fault {
@@ -171,7 +172,7 @@ fn begin_one<D: Disk, R: Rack<D>, N: Nonces + Drop>(
             drop(nonces);
             let _count = rack.faults();
             rack.give(rules.number, disk);
-            Err(unopened(rules.number, fault))
+            Err(why_unopened(rules.number, fault))
         }
     }
 }

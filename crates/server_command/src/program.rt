@@ -12,15 +12,16 @@ ghost use Rattle.server_command.specs.Opening.{CanBegin};
 ghost use Rattle.server_command.specs.Output.{Chances, ending_of, sinks_of};
 ghost use Rattle.server_command.specs.Racks.{KeepsHome, racks_of};
 ghost use Rattle.server_command.specs.Serving.{Faults, LeavesInput, LeavesServing, faults_of, outside, serves_over, views};
-ghost use Rattle.server_command.specs.Telling.{TellsEnd, unopened_again, unopened_first};
+ghost use Rattle.play_desk.specs.Opening.{AreHome};
+ghost use Rattle.server_command.specs.Telling.{unopened_again, unopened_first};
 
-use crate::opening::Unopened;
+use crate::opening::{Unopened, rules_of};
 use crate::serving::{ServeFault, serve};
 use crate::telling::{
     hand_on, no_memory, tell_count, tell_fault, tell_line, tell_tally, tell_unopened, tell_unread,
 };
 use command_words::{Command, Options, Service, WordsFault, read_words};
-use play_desk::{OpenFault, OpenWhy, open_desk, transcripts_are_runs};
+use play_desk::{OpenCause, OpenFault, open_desk, transcripts_are_runs};
 use play_steps::{PlayEnd, Reopen, play};
 use script_nodes::Setup;
 use setup_reader::{Ending, Parsed, SetupFault};
@@ -90,11 +91,11 @@ fn unopened_first(fault: OpenFault) -> Unopened
 {
     let OpenFault { shelf, why } = fault;
     match why {
-        OpenWhy::Disk => Unopened::Disk { shelf },
-        OpenWhy::NotEmpty => Unopened::NotEmpty { shelf },
-        OpenWhy::Damaged { place } => Unopened::Damaged { shelf, place },
-        OpenWhy::Other { place } => Unopened::Other { shelf, place },
-        OpenWhy::Memory => Unopened::Memory,
+        OpenCause::Disk => Unopened::Disk { shelf },
+        OpenCause::NotEmpty => Unopened::NotEmpty { shelf },
+        OpenCause::Damaged { place } => Unopened::Damaged { shelf, place },
+        OpenCause::Other { place } => Unopened::Other { shelf, place },
+        OpenCause::Memory => Unopened::Memory,
     }
 }
 
@@ -110,22 +111,6 @@ fn unopened_again(shelf: u32, why: Reopen) -> Unopened
     }
 }
 
-// Tells how a run of steps ended.
-fn tell_end<O: Sink>(alloc: Global, end: PlayEnd, output: &mut O) -> Status
-    ensures tells { TellsEnd end result (sinks_of (O.view output.old) (O.view output.new)) }
-    ensures handed { HandsAllOn (O.view output.old) (O.view output.new) }
-    ensures later { (O.view output.old).faults ≤ (O.view output.new).faults }
-    ensures done { result ≡ Status.Done → HandsOn (O.view output.new).written (O.view output.new).handed }
-{
-    match end {
-        PlayEnd::Done => hand_on(output),
-        PlayEnd::Line(number) => tell_line(alloc, number, output),
-        PlayEnd::Write => Status::Write,
-        PlayEnd::Memory => no_memory(output),
-        PlayEnd::Reopen { shelf, why } => tell_unopened(alloc, unopened_again(shelf, why), output),
-    }
-}
-
 // Plays the steps behind a setup, on empty disks.
 fn play_all<O: Sink, D: Disk, R: Rack<D>>(
     alloc: Global,
@@ -138,21 +123,29 @@ fn play_all<O: Sink, D: Disk, R: Rack<D>>(
     requires range { AreInRange options.now }
     requires few { length (scripts_of setup.now) ≤ 256 }
     requires begins { CanBegin options.now.shelves (scripts_of setup.now) }
+    requires home { AreHome (R.view rack.old).out }
     ensures outputs { PlaysSteps (racks_of (R.tells && D.tells) (R.view rack.old) (R.view rack.new)) options.now
         (scripts_of setup.now) steps.now result (sinks_of (O.view output.old) (O.view output.new)) }
     ensures handed { HandsAllOn (O.view output.old) (O.view output.new) }
     ensures later { (O.view output.old).faults ≤ (O.view output.new).faults }
     ensures done { result ≡ Status.Done → HandsOn (O.view output.new).written (O.view output.new).handed }
-    ensures home { KeepsHome (R.view rack.old) (R.view rack.new) }
+    ensures home { AreHome (R.view rack.new).out }
     ensures rack_later { (R.view rack.old).faults ≤ (R.view rack.new).faults }
 {
-    let mut desk = match open_desk(alloc, rack, options.journal.as_str(), setup, options) {
+    let rules = rules_of(options, 0);
+    let mut desk = match open_desk(alloc, rack, options.journal.as_str(), setup, rules) {
         Ok(desk) => desk,
         Err(fault) => return tell_unopened(alloc, unopened_first(fault), output),
     };
     let end = play(alloc, &mut desk, rack, steps, output);
     desk.close(rack);
-    tell_end(alloc, end, output)
+    match end {
+        PlayEnd::Done => hand_on(output),
+        PlayEnd::Line(number) => tell_line(alloc, number, output),
+        PlayEnd::Write => Status::Write,
+        PlayEnd::Memory => no_memory(output),
+        PlayEnd::Reopen { shelf, why } => tell_unopened(alloc, unopened_again(shelf, why), output),
+    }
 }
 
 // What ends the setup of an input.
@@ -176,12 +169,13 @@ fn run_setup<O: Sink, D: Disk, R: Rack<D>>(
     requires range { IsInRange (asked_of job.now) }
     requires few { length (scripts_of parsed.now.setup) ≤ 15 }
     requires short { AreShort (scripts_of parsed.now.setup) }
+    requires home { AreHome (R.view rack.old).out }
     ensures outputs { OutputsFor (racks_of (R.tells && D.tells) (R.view rack.old) (R.view rack.new))
         (asked_of job.now) (Ok (parsed_of parsed.now)) result (sinks_of (O.view output.old) (O.view output.new)) }
     ensures handed { HandsAllOn (O.view output.old) (O.view output.new) }
     ensures later { (O.view output.old).faults ≤ (O.view output.new).faults }
     ensures done { result ≡ Status.Done → HandsOn (O.view output.new).written (O.view output.new).handed }
-    ensures home { KeepsHome (R.view rack.old) (R.view rack.new) }
+    ensures home { AreHome (R.view rack.new).out }
     ensures rack_later { (R.view rack.old).faults ≤ (R.view rack.new).faults }
 {
     match job {
@@ -198,13 +192,14 @@ fn run_input<O: Sink, D: Disk, R: Rack<D>>(
     output: &mut O,
     rack: &mut R,
 ) -> Status
-    requires { IsInRange (asked_of job.now) }
+    requires range { IsInRange (asked_of job.now) }
+    requires home { AreHome (R.view rack.old).out }
     ensures outputs { Outputs (racks_of (R.tells && D.tells) (R.view rack.old) (R.view rack.new))
         (asked_of job.now) input.now result (sinks_of (O.view output.old) (O.view output.new)) }
     ensures handed { HandsAllOn (O.view output.old) (O.view output.new) }
     ensures later { (O.view output.old).faults ≤ (O.view output.new).faults }
     ensures done { result ≡ Status.Done → HandsOn (O.view output.new).written (O.view output.new).handed }
-    ensures home { KeepsHome (R.view rack.old) (R.view rack.new) }
+    ensures home { AreHome (R.view rack.new).out }
     ensures rack_later { (R.view rack.old).faults ≤ (R.view rack.new).faults }
 {
     match Parsed::parse(alloc, ending_of(job), input) {
@@ -222,7 +217,8 @@ fn run_job<I: Source, O: Sink, D: Disk, R: Rack<D>>(
     output: &mut O,
     rack: &mut R,
 ) -> Status
-    requires { IsInRange (asked_of job.now) }
+    requires range { IsInRange (asked_of job.now) }
+    requires home { AreHome (R.view rack.old).out }
     ensures comes { (words : List (List ℕ)) (door : Faults) (seeds : Faults)
         → Came (asked_of job.now) result
         (met_of words (I.view input.old) (I.view input.new)
@@ -231,7 +227,7 @@ fn run_job<I: Source, O: Sink, D: Disk, R: Rack<D>>(
     ensures later { (O.view output.old).faults ≤ (O.view output.new).faults }
     ensures input_later { (I.view input.old).faults ≤ (I.view input.new).faults }
     ensures done { result ≡ Status.Done → HandsOn (O.view output.new).written (O.view output.new).handed }
-    ensures home { KeepsHome (R.view rack.old) (R.view rack.new) }
+    ensures home { AreHome (R.view rack.new).out }
     ensures rack_later { (R.view rack.old).faults ≤ (R.view rack.new).faults }
 {
     match read_all(alloc, input) {
@@ -379,6 +375,7 @@ fn run<I: Source, O: Sink, D: Disk, R: Rack<D>, A: Door, C: Clock, N: Nonces + D
     seeds: &mut S,
     gate: &G,
 ) -> Status
+    requires { AreHome (R.view rack.old).out }
     ensures explained { let o = outside (views D.view D.tells A.Porch.Link.view A.Porch.view N.nonce (C.shows clock.now))
         (racks_of (R.tells && D.tells) (R.view rack.old) (R.view rack.new))
         (A.view door.old) (A.view door.new) (S.view seeds.old) in
@@ -394,7 +391,7 @@ fn run<I: Source, O: Sink, D: Disk, R: Rack<D>, A: Door, C: Clock, N: Nonces + D
     ensures door_later { (A.view door.old).faults ≤ (A.view door.new).faults }
     ensures seeds_later { (S.view seeds.old).faults ≤ (S.view seeds.new).faults }
     ensures done { result ≡ Status.Done → HandsOn (O.view output.new).written (O.view output.new).handed }
-    ensures home { KeepsHome (R.view rack.old) (R.view rack.new) }
+    ensures home { AreHome (R.view rack.new).out }
     ensures rack_later { (R.view rack.old).faults ≤ (R.view rack.new).faults }
     ensures plain { (asked : Asked) → IsPlain (texts words.now) asked → asked_in (texts words.now) ≡ Some asked }
 {
@@ -430,8 +427,9 @@ pub fn command<T, I: Source, O: Sink, D: Disk, R: Rack<D>, A: Door, C: Clock, N:
     seeds: &mut S,
     gate: &G,
 ) -> u8
-    // How it ended, and what was written, by the fates of its visits; the status is the one that is due to the words and the
-    // input by these fates, but for faults of the input and the output and for want of memory.
+    requires { AreHome (R.view rack.old).out }
+    // How it ended, and what was written, by what the disks held and the fates of its visits; the status is the one that is due
+    // to the words and the input by these, but for faults of the outside and for want of memory.
     ensures ended { let o = outside (views D.view D.tells A.Porch.Link.view A.Porch.view N.nonce (C.shows clock.now))
         (racks_of (R.tells && D.tells) (R.view rack.old) (R.view rack.new))
         (A.view door.old) (A.view door.new) (S.view seeds.old) in
@@ -455,11 +453,15 @@ pub fn command<T, I: Source, O: Sink, D: Disk, R: Rack<D>, A: Door, C: Clock, N:
     ensures input_later { (I.view input.old).faults ≤ (I.view input.new).faults }
     ensures door_later { (A.view door.old).faults ≤ (A.view door.new).faults }
     ensures seeds_later { (S.view seeds.old).faults ≤ (S.view seeds.new).faults }
+    // Each disk is home again.
+    ensures home { AreHome (R.view rack.new).out }
+    ensures rack_later { (R.view rack.old).faults ≤ (R.view rack.new).faults }
     ensures usage { result ≡ 2 → asked_in (texts words.now) ≡ None }
     ensures plain { (asked : Asked) → IsPlain (texts words.now) asked → asked_in (texts words.now) ≡ Some asked }
     ensures understood { (asked : Asked) → IsPlain (texts words.now) asked → result ≢ 2 }
     ensures read { result ≡ 5 → Rose (I.view input.old).faults (I.view input.new).faults }
     ensures write { result ≡ 6 → Rose (O.view output.old).faults (O.view output.new).faults }
+    ensures disk { result ≡ 7 → Rose (R.view rack.old).faults (R.view rack.new).faults }
     ensures door { result ≡ 9 → Rose (A.view door.old).faults (A.view door.new).faults }
     ensures key { result ≡ 14 → Rose (S.view seeds.old).faults (S.view seeds.new).faults }
 {

@@ -6,7 +6,7 @@ ghost use Rattle.script_nodes.specs.Views.{scripts_of};
 ghost use Rattle.setup_reader.specs.Views.{fault_of};
 ghost use Rattle.request_workers.specs.Tallies.{count_of};
 ghost use Rattle.server_command.specs.declared.program.Status.{Status};
-ghost use Rattle.server_command.specs.Command.{Counts, IsDoneUnlessFault, TellsFault, TellsFaultLine, TellsLine, unread_line, unread_status};
+ghost use Rattle.server_command.specs.Command.{Counts, IsDoneUnlessFault, TellsFaultLine, TellsLine, unread_line, unread_status};
 ghost use Rattle.server_command.specs.Output.{PrintsTo, sinks_of};
 ghost use Rattle.server_command.specs.Racks.{damaged, disk_line, not_empty, other, unfit_line};
 ghost use Rattle.server_command.specs.Serving.{TellsCount, count_line};
@@ -112,7 +112,6 @@ pub fn tell_line<O: Sink>(alloc: Global, number: u64, output: &mut O) -> Status
 
 /// Tells the fault of a setup.
 pub fn tell_fault<O: Sink>(alloc: Global, error: &SetupError, output: &mut O) -> Status
-    ensures outputs { TellsFault (fault_of error.now) result (sinks_of (O.view output.old) (O.view output.new)) }
     ensures line { TellsFaultLine (fault_of error.now) result (sinks_of (O.view output.old) (O.view output.new)) }
     ensures handed { HandsAllOn (O.view output.old) (O.view output.new) }
     ensures later { (O.view output.old).faults ≤ (O.view output.new).faults }
