@@ -8,3 +8,4 @@ pub mod Openings
 pub mod Shelves
 pub mod Beginning
 pub mod Short
+pub mod Opened

@@ -4,7 +4,7 @@ use Rattle.std.specs.VecDeque.{deque_len}
 use Rattle.web_outside.specs.Causes.{Rose}
 use Rattle.script_nodes.specs.Views.{scripts_of}
 use Rattle.journal_records.specs.Records.{IsInGrammar, begin_of}
-use Rattle.server_command.specs.Opening.{IsRefused, IsRefusedAt, TakesBack}
+use Rattle.server_command.specs.Opening.{IsRefused, IsRefusedAt, TakesBack, seen_on}
 use Rattle.server_command.specs.Output.{rules_for}
 use Rattle.server_command.proofs.Beginning.{BegunUpTo, begun_all, begun_none, begun_refused}
 use Rattle.server_command.proofs.Openings.{back_all}
@@ -52,7 +52,7 @@ returns-in-Err-clause-refused g c =
     let after = (g.R.Rack.view c.close_all.new.rack).faults in
     let at = subst (λ n. IsRefusedAt told (Rose (g.R.Rack.view l.rack).faults mid) scripts n (g.D.Disk.view c.in-Some.disk).seen c.in-Err.why)
     (c.rules_of.ensures.number ∙ l.invariant.number) c.in-Err.ensures.refused in
-    subst (λ r. IsRefused told (Rose (g.R.Rack.view r).faults after) scripts _ c.in-Err.why) l.invariant.rack
+    subst (λ r. IsRefused told (Rose (g.R.Rack.view r).faults after) scripts (seen_on g.D.Disk.view c.args.disks.items) c.in-Err.why) l.invariant.rack
     (begun_refused g.D.Disk.view g.D.Disk.tells told g.N.Nonces.nonce (λ k. rules_for c.args.options.now k scripts) scripts c.args.disks.items c.args.sources.now l.source-index
     c.pop_front.new.self.items l.shelves.items c.in-Some.disk (g.R.Rack.view l.rack).faults mid after c.in-Err.why p
     (omega (arith, c.give_all-in-Err.ensures.later, c.close_all.ensures.back.later)) at)

@@ -14,7 +14,7 @@ taking-preserved g c =
     let disk = c.in-Ok.disk in
     let next = takes_next told before (g.R.Rack.view l.rack) after l.number (seen_on g.D.Disk.view l.disks.items) (g.D.Disk.view disk).seen l.invariant.taken
     (record { out = c.in-Ok.ensures.out; others_out = c.in-Ok.ensures.others_out; others = c.in-Ok.ensures.others; later = c.in-Ok.ensures.later })
-    (λ t. c.in-Ok.ensures.images (both_tell _ _ t).0 (g.D.Disk.view disk).seen (g.D.Disk.reads_image disk (both_tell _ _ t).1)) in
+    (λ t. c.in-Ok.ensures.images (both_tell _ _ t).0 (g.D.Disk.view disk).seen (g.met.D.Disk.reads_image disk (both_tell _ _ t).1)) in
     record {
       size = omega (arith, l.invariant.size, c.push_back_reserved.ensures.len);
       room = omega (arith, l.invariant.room, c.push_back_reserved.ensures.capacity);
