@@ -1,3 +1,12 @@
 pub mod Now
+pub mod Beside
 pub mod Steps
+pub mod Standing
+pub mod Order
+pub mod Shelves
+pub mod Publishing
+pub mod Sweeping
+pub mod Landing
+pub mod Openings
+pub mod Fitting
 pub mod Going

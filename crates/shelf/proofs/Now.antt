@@ -32,7 +32,7 @@ use Rattle.instance_book.specs.declared.ticket.Ticket.{Ticket}
 use Rattle.instance_book.specs.Views.{ticket_of}
 use Rattle.instance_book.specs.Swept.{cells_in}
 use Rattle.instance_book.specs.Places.{arena_of}
-use Rattle.instance_book.specs.Fits.{GoesOnFrom, IsFor, IsForSome, FitsAs}
+use Rattle.instance_book.specs.Fits.{GoesOnFrom, IsFor, FitsAs}
 use Rattle.instance_book.specs.Laws.{KeepsStateOver, KeepsStateAs}
 use Rattle.shelf.specs.Views.{IsSegmentOf, IsRunOver, HaveTheirCells}
 

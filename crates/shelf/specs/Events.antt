@@ -1,5 +1,5 @@
 -- The events that the calls of a shelf are.
-use Rattle.std.specs.Prelude.{◌≡◌, ℕ, Bool, List, Option, Some, None, Result, Err, IfSome, ⊤}
+use Rattle.std.specs.Prelude.{◌≡◌, ℕ, Bool, List, Option, Some, None, Result, IfSome, ⊤}
 use Rattle.script_value.specs.Views.{meaning}
 use Rattle.script_value.specs.declared.value.Value.{Value}
 use Rattle.script_value.specs.declared.outcome.Reply.{Reply}
@@ -15,16 +15,15 @@ use Rattle.web_outside.specs.Causes.{Rose}
 use Rattle.web_disk.specs.View.{View}
 use Rattle.journal_books.specs.Standing.{if_kept, Throughout}
 use Rattle.replay_spec.specs.Book as spec
-use Rattle.replay_spec.specs.Rules as spec_rules
 use Rattle.replay_spec.specs.Admission.{or_else, refusal_of, admit}
 use Rattle.replay_spec.specs.Step as step
 use Rattle.replay_spec.specs.Step.{Decision, replies, records, take, publish, sweep, down_by, refused_by, no_take, publish_comes}
 use Rattle.instance_book.specs.declared.ticket.Ticket.{Ticket}
 use Rattle.instance_book.specs.declared.prepared.Prepared.{Prepared}
 use Rattle.instance_book.specs.Views.{ticket_of, ticket_for, reply_of}
-use Rattle.instance_book.specs.Prepares.{Prepares}
+use Rattle.instance_book.specs.Prepares.{IsCarriedOut}
 use Rattle.shelf.specs.declared.shelf.Shelf.{Shelf}
-use Rattle.shelf.specs.Views.{unmeasured, book_in, IsInOrder, refusal_now, taken_of, swept_of, IsEvent, HoldNow}
+use Rattle.shelf.specs.Views.{unmeasured, book_in, IsInOrder, taken_of, swept_of, IsEvent, HoldNow}
 
 -- a take is one event
 abbrev pub IsTake : {D N : Type 0} → (coming : N → ℕ → ℕ) → Setup → (old new : Shelf D N) → Target → Value → Result Ticket Reply → Type 0
@@ -49,20 +48,10 @@ IsPublish coming setup old new ticket result =
 abbrev pub decision_of : {D N : Type 0} → Setup → Shelf D N → Ticket → Decision
 decision_of setup s t = publish_comes (unmeasured s.rules) (book_in (scripts_of setup) s) (ticket_of t)
 
--- what is prepared for it, or its refusal; want of memory may stand for any
-abbrev pub Decides : List Named → spec_rules.Rules → spec.Book → Decision → Result Prepared Reply → Type 0
-Decides scripts rules b d (Err reply.Memory) = ⊤
-Decides scripts rules b d result = Prepares scripts rules b d result
-
-abbrev pub IsDecided : {D N : Type 0} → Setup → Shelf D N → Ticket → Result Prepared Reply → Type 0
-IsDecided setup s t result =
-    Decides (scripts_of setup) (unmeasured s.rules) (book_in (scripts_of setup) s) (decision_of setup s t) result
-
--- where no second run is due, want of memory is told only of what changes the book
-abbrev pub IsDecidedIfHeld : {D N : Type 0} → Setup → Shelf D N → Ticket → Option Segment → Result Prepared Reply → Type 0
-IsDecidedIfHeld setup s t segment result =
-    (r : Segment) → segment ≡ Some r → HoldNow (book_in (scripts_of setup) s) t r
-    → Prepares (scripts_of setup) (unmeasured s.rules) (book_in (scripts_of setup) s) (decision_of setup s t) result
+-- what is prepared is that, and carries it out
+abbrev pub CarriesOut : {D N : Type 0} → Setup → Shelf D N → Ticket → Prepared → Type 0
+CarriesOut setup s t p =
+    IsCarriedOut (scripts_of setup) (unmeasured s.rules) (book_in (scripts_of setup) s) (decision_of setup s t) p
 
 -- a decision that changes nothing, whatever is measured, is told
 abbrev pub TellsReply : Decision → step.Reply → Type 0
@@ -86,13 +75,6 @@ TellsRefusal setup s target result =
 abbrev pub WantsIfNone : {D N : Type 0} → Setup → Shelf D N → Ticket → Option Segment → Reply → Type 0
 WantsIfNone setup s t segment result =
     segment ≡ None → no_publish (book_in (scripts_of setup) s) (target_of t.target) ≡ None → result ≡ reply.Memory
-
--- what is prepared where the shelf is not down
-abbrev pub IsRefused : {D N : Type 0} → Setup → Shelf D N → Target → Result Prepared Reply → Type 0
-IsRefused setup s target result = IfSome (refusal_now setup s target) (λ r. result ≡ Err (reply.Refused r))
-
-abbrev pub WantsMemory : {D N : Type 0} → Setup → Shelf D N → Ticket → Option Segment → Result Prepared Reply → Type 0
-WantsMemory setup s t segment result = segment ≡ None → refusal_now setup s t.target ≡ None → result ≡ Err reply.Memory
 
 -- want of memory changes nothing else than that the number is spent
 abbrev pub SpendsOnly : {D N : Type 0} → Setup → (old new : Shelf D N) → Ticket → Reply → Type 0

@@ -1,5 +1,5 @@
 -- What opening a shelf finds.
-use Rattle.std.specs.Prelude.{◌≡◌, ◌⊎◌, List, length, Result, Ok, Err, ⊤}
+use Rattle.std.specs.Prelude.{◌≡◌, ◌⊎◌, ℕ, List, length, Result, Ok, Err, ⊤}
 use Rattle.script_nodes.specs.Setup.{Named}
 use Rattle.web_disk.specs.View.{View, AreAmong}
 use Rattle.replay_spec.specs.Book.{Book}
@@ -52,3 +52,16 @@ AReopenedShelfHasCrashed {D} view =
     → b.scripts ≡ scripts → Stands scripts shelf (view old) b → AreAmong (view new).images (view old).images
     → IsOneOf scripts shelf (view new) c
     → IsCrashed rules b nonce scripts lost c ⊎ IsCrashed rules b nonce scripts kept c
+
+-- the outside failed: nothing is told of what stands on the disk
+abbrev pub IsOutside : BeginFault → Type 0
+IsOutside (fault.Damaged place) = ⊥
+IsOutside (fault.Other place) = ⊥
+IsOutside fault.DiskFault = ⊤
+IsOutside fault.Memory = ⊤
+
+-- A disk that a crash left of a shelf in order is neither damaged nor another shelf's.
+abbrev pub AStandingDiskOpens : {D : Type 0} → (D → View) → Type 0
+AStandingDiskOpens {D} view =
+    (scripts : List Named) (shelf : ℕ) (b : Book) (old new : D) (e : BeginFault) → Stands scripts shelf (view old) b
+    → AreAmong (view new).images (view old).images → IsFaultOf scripts shelf (view new) e → IsOutside e

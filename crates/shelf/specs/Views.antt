@@ -36,6 +36,7 @@ use Rattle.replay_spec.specs.Invariant.{IsOrderly}
 use Rattle.replay_spec.specs.Remade.{NameTheirCells}
 use Rattle.instance_book.specs.declared.ticket.Ticket.{Ticket}
 use Rattle.instance_book.specs.Views.{book_of, ticket_of, reply_of}
+use Rattle.instance_book.specs.declared.prepared.Change.{Change}
 use Rattle.instance_book.specs.Changes.{change_of, inside_of}
 use Rattle.instance_book.specs.Makes.{HasItsStates}
 use Rattle.instance_book.specs.Swept.{cells_in}
@@ -48,6 +49,7 @@ use Rattle.shelf.specs.declared.doubt.Doubted.{Doubted}
 use Rattle.shelf.specs.declared.doubt.Doubted.TheVariants.{Visits, Sweeps}
 use Rattle.shelf.specs.declared.rules.Rules.{Rules}
 use Rattle.shelf.specs.declared.shelf.Shelf.{Shelf}
+use Rattle.shelf.specs.Ranges.{AreInRange}
 
 -- what the events of a shelf run under, before the record of a change is measured
 abbrev pub unmeasured : Rules → spec_rules.Rules
@@ -69,6 +71,11 @@ doubted_inside (Sweeps tick) = []
 abbrev pub doubt_of : Doubt → spec.Doubt
 doubt_of d = record { count = d.count; change = doubted_of d.change; inside = doubted_inside d.change }
 
+-- a visit's change, if it has one
+abbrev pub doubt_by : (count : ℕ) → Option Change → Option spec.Doubt
+doubt_by count None = None
+doubt_by count (Some c) = Some (record { count = count; change = change_of c; inside = inside_of c })
+
 -- the book of the shelf under this setup, beside its journal, with what is in doubt
 abbrev pub book_in : {D N : Type 0} → List Named → Shelf D N → Book
 book_in scripts s = book_of scripts (length_of s.journal) (option_map doubt_of s.down) s.book
@@ -82,14 +89,15 @@ abbrev pub HasGiven : (source : ℕ → ℕ) → (given : ℕ) → (coming : ℕ
 HasGiven source given coming = (k : ℕ) → coming k ≡ source (given + k)
 
 -- What holds of a shelf between its calls, on a disk of this view: each instance is of a script of the setup and each page has
--- the state of its chain; the book is orderly, of cells and numbers that records tell, and of the shelf's number; where
--- nothing is in doubt, the journal can go on; and where the disk tells its bytes, it stands for the book.
+-- the state of its chain; the book is orderly, of cells and numbers that records tell, and of the shelf's number; the limits
+-- are in their ranges; where nothing is in doubt, the journal can go on; and where the disk tells its bytes, it stands for the book.
 pub record IsInOrder {D N : Type 0} (view : D → View) (tells : Bool) (scripts : List Named) (s : Shelf D N) : Type 0 where
   pub states : HasItsStates scripts s.book
   pub orderly : IsOrderly (book_in scripts s)
   pub named : NameTheirCells (book_in scripts s)
   pub range : IsInRange (book_in scripts s)
   pub number : s.book.shelf ≡ s.rules.number
+  pub limits : AreInRange s.rules
   pub few : length scripts ≤ 256
   pub sound : journal.IsSound s.journal
   pub whole : s.down ≡ None → is_broken s.journal ≡ false

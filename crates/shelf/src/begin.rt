@@ -1,11 +1,23 @@
-ghost use Rattle.std.specs.Prelude.{◌≡◌, ◌≤◌, length, IsTrue, IfOk, IsErrOf};
+ghost use Rattle.std.specs.Prelude.{◌≡◌, ◌≢◌, ◌⊎◌, ◌≤◌, ◌+◌, ◌++◌, ◌∷◌, [], false, length, IsTrue, IfOk, OnOk, IsErrOf, is_ok};
 ghost use Rattle.script_nodes.specs.Views.{scripts_of};
 ghost use Rattle.web_outside.specs.Causes.{Rose};
+ghost use Rattle.page_journal.specs.Scanned.{IsQuiet};
+ghost use Rattle.page_journal.specs.Settled.{IsSettled, IsSound, HasFailed, view_of, bodies_in, length_of, is_broken};
 ghost use Rattle.journal_records.specs.Records.{IsInGrammar, begin_of};
+ghost use Rattle.journal_books.specs.Making.{nothing, begun, book_of};
+ghost use Rattle.journal_books.specs.Standing.{IsBook};
+ghost use Rattle.journal_books.specs.Keeping.{AreNamed, first_body};
+ghost use Rattle.journal_books.specs.Disks.{IsFit};
+ghost use Rattle.book_recovery.specs.Found.{book_with, IsBookInOrder};
+ghost use Rattle.shelf.specs.Faults.{begin_fault, IsReadFault};
 ghost use Rattle.shelf.specs.Ranges.{AreInRange};
 
 use crate::rules::Rules;
 use crate::shelf::Shelf;
+use book_recovery::{Found, read_book};
+use instance_book::Book;
+use journal_records::{encode_begin, records_are_exact};
+use page_journal::{AppendFault, Journal, JournalFault, MAX_LEN};
 use script_nodes::Setup;
 use std::alloc::Global;
 use web_disk::Disk;
@@ -22,6 +34,101 @@ pub enum BeginFault {
     DiskFault,
     /// There was no memory, or a journal has no room for the scripts.
     Memory,
+}
+
+fn fault_by(fault: JournalFault) -> BeginFault
+    ensures { result ≡ begin_fault fault }
+{
+    match fault {
+        JournalFault::Damaged { place } => BeginFault::Damaged { place },
+        JournalFault::DiskFault => BeginFault::DiskFault,
+        JournalFault::Memory => BeginFault::Memory,
+    }
+}
+
+// Adds the first record, which tells the shelf's number and the scripts.
+fn start<D: Disk>(
+    alloc: Global,
+    journal: &mut Journal<D>,
+    setup: &Setup,
+    number: u32,
+) -> Result<(), BeginFault>
+    requires sound { IsSound journal.old }
+    requires whole { is_broken journal.old ≡ false }
+    requires settled { IsTrue D.tells → IsSettled D.view journal.old }
+    requires begins { IsInGrammar (begin_of number (scripts_of setup.now)) }
+    ensures bodies { IsTrue D.tells → OnOk result (IsSettled D.view journal.new
+        × (bodies_in D.view journal.new ≡ bodies_in D.view journal.old ++ first_body (scripts_of setup.now) number ∷ [])) }
+    ensures len { OnOk result (length_of journal.new ≡ length_of journal.old + 5 + length (first_body (scripts_of setup.now) number)) }
+    ensures sound { IsSound journal.new }
+    ensures whole { OnOk result (is_broken journal.new ≡ false) }
+    ensures refused { IsErrOf result BeginFault.DiskFault ⊎ (IsErrOf result BeginFault.Memory ⊎ IsTrue (is_ok result)) }
+    ensures cause { IsErrOf result BeginFault.DiskFault → HasFailed (view_of D.view journal.old) (view_of D.view journal.new) }
+    ensures later { (view_of D.view journal.old).faults ≤ (view_of D.view journal.new).faults }
+{
+    let Ok(body) = encode_begin(alloc, number, setup) else {
+        return Err(BeginFault::Memory);
+    };
+    if body.len() as u64 > MAX_LEN {
+        return Err(BeginFault::Memory);
+    }
+    if journal.room(body.len() as u32).is_err() {
+        return Err(BeginFault::Memory);
+    }
+    match journal.append(body.as_slice()) {
+        Ok(()) => Ok(()),
+        Err(AppendFault::Full { .. }) => Err(BeginFault::Memory),
+        Err(AppendFault::DiskFault) => Err(BeginFault::DiskFault),
+    }
+}
+
+// Makes the book of the records; a journal without records gets its first one.
+fn open<D: Disk>(
+    alloc: Global,
+    journal: &mut Journal<D>,
+    setup: &Setup,
+    number: u32,
+) -> Result<Book, BeginFault>
+    requires sound { IsSound journal.old }
+    requires whole { is_broken journal.old ≡ false }
+    requires settled { IsTrue D.tells → IsSettled D.view journal.old }
+    requires begins { IsInGrammar (begin_of number (scripts_of setup.now)) }
+    ensures begun { IsTrue D.tells → IfOk result (λ b. IsBook (begun (scripts_of setup.now) number (book_of (scripts_of setup.now) number (bodies_in D.view journal.old))) (book_with (scripts_of setup.now) (length_of journal.new) b)) }
+    ensures fit { IsTrue D.tells → IfOk result (λ b. IsFit D.view (scripts_of setup.now) number journal.new (book_with (scripts_of setup.now) (length_of journal.new) b)) }
+    ensures in_order { IfOk result (λ b. IsBookInOrder (scripts_of setup.now) number b) }
+    ensures sound { IsSound journal.new }
+    ensures whole { OnOk result (is_broken journal.new ≡ false) }
+    ensures refused { IsTrue D.tells → IsReadFault (book_of (scripts_of setup.now) number (bodies_in D.view journal.old)) result }
+    ensures quiet { IsTrue D.tells → book_of (scripts_of setup.now) number (bodies_in D.view journal.old) ≢ nothing → IsQuiet (view_of D.view journal.old) (view_of D.view journal.new) }
+    ensures cause { IsErrOf result BeginFault.DiskFault → HasFailed (view_of D.view journal.old) (view_of D.view journal.new) }
+    ensures later { (view_of D.view journal.old).faults ≤ (view_of D.view journal.new).faults }
+{
+    records_are_exact();
+    name_their_cells(setup);
+    let Ok(found) = read_book(alloc, journal, setup, number) else {
+        return Err(BeginFault::DiskFault);
+    };
+    match found {
+        Found::Made(book) => Ok(book),
+        Found::Damaged { place } => Err(BeginFault::Damaged { place }),
+        Found::Other { place } => Err(BeginFault::Other { place }),
+        Found::Memory => Err(BeginFault::Memory),
+        Found::Nothing => match start(alloc, journal, setup, number) {
+            Ok(()) => Ok(Book::empty(alloc, number)),
+            Err(fault) => Err(fault),
+        },
+    }
+}
+
+// Each script of a setup names cells that it has.
+fn name_their_cells(setup: &Setup)
+    ensures { AreNamed (scripts_of setup.now) }
+{
+    for place in 0..setup.len() {
+        if let Some(named) = setup.get(place) {
+            let _root = named.script.root();
+        }
+    }
 }
 
 impl<D: Disk, N: Nonces + Drop> Shelf<D, N> {
@@ -56,6 +163,19 @@ impl<D: Disk, N: Nonces + Drop> Shelf<D, N> {
         ensures cause { IsErrOf (fault_of result) BeginFault.DiskFault → Rose (D.view disk).faults (D.view (disk_of result)).faults }
         ensures later { (D.view disk).faults ≤ (D.view (disk_of result)).faults }
     {
-        Err((BeginFault::Memory, disk, nonces))
+        let mut journal = match Journal::begin(alloc, disk) {
+            Ok(journal) => journal,
+            Err((fault, disk)) => return Err((fault_by(fault), disk, nonces)),
+        };
+        match open(alloc, &mut journal, setup, rules.number) {
+            Ok(book) => Ok(Shelf {
+                journal,
+                book,
+                down: None,
+                nonces,
+                rules,
+            }),
+            Err(fault) => Err((fault, journal.close(), nonces)),
+        }
     }
 }

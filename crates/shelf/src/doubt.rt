@@ -1,4 +1,6 @@
-use instance_book::Change;
+ghost use Rattle.std.specs.Prelude.{◌≡◌, option_map};
+
+use instance_book::{Change, Prepared};
 
 /// A change whose record was being added when the disk failed.
 #[derive(Drop)]
@@ -15,4 +17,20 @@ pub struct Doubt {
     /// How often a call of the disk had failed then.
     pub(crate) count: u64,
     pub(crate) change: Doubted,
+}
+
+impl Doubt {
+    ghost use Rattle.shelf.specs.Views.{doubt_of, doubt_by};
+
+    // What was prepared for a visit may have happened, if it changes the book.
+    pub(crate) fn of_visit(count: u64, prepared: Prepared) -> Option<Doubt>
+        ensures { option_map doubt_of result ≡ doubt_by count prepared.change }
+    {
+        let change = prepared.change;
+        let change = change?;
+        Some(Doubt {
+            count,
+            change: Doubted::Visits(change),
+        })
+    }
 }

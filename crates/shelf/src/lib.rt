@@ -1,12 +1,15 @@
 //! One shelf: a book, the journal that has what made it, a source of nonces and the limits that its visits run under. Each call is one event of the shelf.
 #![tactic(auto)]
 
+ghost use Rattle.std.specs.Prelude.{IsTrue};
 ghost use Rattle.shelf.specs.Going.{TicketsGoOnToFit};
-ghost use Rattle.shelf.specs.Opening.{AReopenedShelfHasCrashed};
+ghost use Rattle.shelf.specs.Opening.{AReopenedShelfHasCrashed, AStandingDiskOpens};
 
 mod begin;
 mod doubt;
+mod prepare;
 mod publish;
+mod recording;
 mod rules;
 mod second;
 mod shelf;
@@ -34,4 +37,10 @@ pub fn tickets_go_on_to_fit()
 /// lost or kept.
 pub fn a_reopened_shelf_has_crashed<D: Disk>()
     ensures { AReopenedShelfHasCrashed D.view }
+{}
+
+/// A disk that a crash left of a shelf in order is neither damaged nor another shelf's, so opening it fails for the outside
+/// alone.
+pub fn a_standing_disk_opens<D: Disk>()
+    ensures { IsTrue D.tells → AStandingDiskOpens D.view }
 {}

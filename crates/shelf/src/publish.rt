@@ -1,9 +1,14 @@
-ghost use Rattle.std.specs.Prelude.{◌≡◌, ◌≤◌, IsTrue};
+ghost use Rattle.std.specs.Prelude.{◌≡◌, ◌≤◌, None, IsTrue};
 ghost use Rattle.script_nodes.specs.Views.{scripts_of};
-ghost use Rattle.instance_book.specs.Views.{reply_of};
+ghost use Rattle.instance_book.specs.Changes.{HasRoomFor, HasStateBy};
+ghost use Rattle.instance_book.specs.Views.{instances_of, reply_of};
 
+use crate::doubt::Doubt;
+use crate::prepare::prepared;
+use crate::recording::{added, recorded, written};
 use crate::shelf::Shelf;
-use instance_book::Ticket;
+use instance_book::{Prepared, Ticket};
+use journal_books::{events_are_kept, events_stand_between};
 use script_nodes::Setup;
 use script_value::Reply;
 use send_suspend::Segment;
@@ -14,7 +19,7 @@ use web_outside::Nonces;
 impl<D: Disk, N: Nonces + Drop> Shelf<D, N> {
     ghost use Rattle.page_journal.specs.Settled.{view_of};
     ghost use Rattle.shelf.specs.Views.{IsInOrder, FitsNow, IsOut, IsRunFor};
-    ghost use Rattle.shelf.specs.Events.{IsPublish, TellsRefusal, IsToldIfHeld, WantsIfNone, SpendsOnly, HasMoments, TellsCount};
+    ghost use Rattle.shelf.specs.Events.{IsPublish, TellsRefusal, IsToldIfHeld, WantsIfNone, SpendsOnly, HasMoments, TellsCount, TellsReply, CarriesOut, decision_of};
 
     /// Publishes the segment of a ticket, which spends its number whatever the reply.
     ///
@@ -53,9 +58,61 @@ impl<D: Disk, N: Nonces + Drop> Shelf<D, N> {
         ensures nonces { self.new.nonces ≡ self.old.nonces }
         ensures rules { self.new.rules ≡ self.old.rules }
     {
-        let _ = (alloc, setup);
-        drop(segment);
+        events_are_kept();
+        if let Some(doubt) = &self.down {
+            let count = doubt.count;
+            self.book.spend(ticket.number);
+            return Reply::Down(count);
+        }
+        match prepared(alloc, &mut self.book, self.rules, setup, &ticket, segment) {
+            Ok(prepared) => self.land(alloc, setup, &ticket, prepared),
+            Err(reply) => {
+                self.book.spend(ticket.number);
+                reply
+            }
+        }
+    }
+
+    // Makes a prepared change, once its record is on the disk, and gives its reply.
+    fn land(&mut self, alloc: Global, setup: &Setup, ticket: &Ticket, prepared: Prepared) -> Reply
+        requires in_order { IsInOrder D.view D.tells (scripts_of setup.now) self.old }
+        requires up { self.old.down ≡ None }
+        requires out { IsOut setup.now self.old ticket.now }
+        requires room { HasRoomFor prepared.change self.old.book }
+        requires shown { HasStateBy (scripts_of setup.now) self.old.book.shelf (instances_of (scripts_of setup.now) self.old.book.instances) prepared.change }
+        requires decided { CarriesOut setup.now self.old ticket.now prepared }
+        ensures event { IsPublish N.nonce setup.now self.old self.new ticket.now result }
+        ensures in_order { IsInOrder D.view D.tells (scripts_of setup.now) self.new }
+        ensures any_moment { IsTrue D.tells → HasMoments D.view (scripts_of setup.now) self.old self.new }
+        ensures told { TellsReply (decision_of setup.now self.old ticket.now) (reply_of result) }
+        ensures memory { SpendsOnly setup.now self.old self.new ticket.now result }
+        ensures cause { TellsCount (view_of D.view self.old.journal).faults (view_of D.view self.new.journal).faults (reply_of result) }
+        ensures later { (view_of D.view self.old.journal).faults ≤ (view_of D.view self.new.journal).faults }
+        ensures nonces { self.new.nonces ≡ self.old.nonces }
+        ensures rules { self.new.rules ≡ self.old.rules }
+    {
+        let _setup = setup;
+        // A nonce has 64 bits.
+        let _nonce = ticket.nonce;
+        events_are_kept();
+        events_stand_between();
         self.book.spend(ticket.number);
-        Reply::Memory
+        let Some(change) = &prepared.change else {
+            return self.book.install(prepared);
+        };
+        let body = match written(alloc, &mut self.journal, &recorded(change)) {
+            Ok(body) => body,
+            Err(reply) => {
+                drop(prepared);
+                return reply;
+            }
+        };
+        match added(&mut self.journal, body.as_slice()) {
+            Ok(()) => self.book.install(prepared),
+            Err(count) => {
+                self.down = Doubt::of_visit(count, prepared);
+                Reply::DiskFault(count)
+            }
+        }
     }
 }

@@ -1,3 +1,6 @@
+ghost use Rattle.std.specs.Prelude.{◌≤◌};
+ghost use Rattle.server_limits.specs.Limits.{most_fuel, most_life};
+
 /// What the visits of one shelf run under.
 #[derive(Clone, Copy, Debug, PartialEq, Eq)]
 pub struct Rules {
@@ -13,4 +16,6 @@ pub struct Rules {
     pub instances: u32,
     /// The most pages of an instance, 1 to 1,024.
     pub pages: u32,
+    ghost fuel_fits: { fuel ≤ most_fuel },
+    ghost life_fits: { life ≤ most_life },
 }

@@ -1,5 +1,4 @@
-ghost use Rattle.std.specs.Prelude.{◌≡◌, ◌<◌, ◌≤◌, ◌^◌};
-ghost use Rattle.server_limits.specs.Limits.{most_fuel, most_life};
+ghost use Rattle.std.specs.Prelude.{◌≡◌, ◌<◌, ◌^◌};
 
 use crate::doubt::Doubt;
 use crate::rules::Rules;
@@ -16,8 +15,6 @@ pub struct Shelf<D: Disk, N> {
     pub(crate) down: Option<Doubt>,
     pub(crate) nonces: N,
     pub(crate) rules: Rules,
-    ghost fuel: { rules.fuel ≤ most_fuel },
-    ghost life: { rules.life ≤ most_life },
 }
 
 impl<D: Disk, N> Shelf<D, N> {

@@ -1,6 +1,10 @@
 ghost use Rattle.std.specs.Prelude.{◌≡◌, ◌<◌, ◌≤◌, ◌^◌, IsTrue};
 
+use crate::doubt::{Doubt, Doubted};
+use crate::recording::{added, written};
 use crate::shelf::Shelf;
+use journal_books::{events_are_kept, events_stand_between};
+use journal_records::Recorded;
 use script_value::Reply;
 use std::alloc::Global;
 use web_disk::Disk;
@@ -26,10 +30,28 @@ impl<D: Disk, N: Nonces + Drop> Shelf<D, N> {
         ensures nonces { self.new.nonces ≡ self.old.nonces }
         ensures rules { self.new.rules ≡ self.old.rules }
     {
-        let _ = alloc;
+        events_are_kept();
+        events_stand_between();
         if tick <= self.book.clock() {
             return Ok(0);
         }
-        Err(Reply::Memory)
+        if let Some(doubt) = &self.down {
+            return Err(Reply::Down(doubt.count));
+        }
+        let record = Recorded::Sweep { clock: tick };
+        let body = match written(alloc, &mut self.journal, &record) {
+            Ok(body) => body,
+            Err(reply) => return Err(reply),
+        };
+        match added(&mut self.journal, body.as_slice()) {
+            Ok(()) => Ok(self.book.free_expired(tick)),
+            Err(count) => {
+                self.down = Some(Doubt {
+                    count,
+                    change: Doubted::Sweeps(tick),
+                });
+                Err(Reply::DiskFault(count))
+            }
+        }
     }
 }

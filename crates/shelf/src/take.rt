@@ -5,6 +5,7 @@ ghost use Rattle.instance_book.specs.Fits.{IsForSome};
 
 use crate::shelf::Shelf;
 use instance_book::Ticket;
+use journal_books::events_are_kept;
 use page_names::Target;
 use script_nodes::Setup;
 use script_value::{Reply, Value};
@@ -42,8 +43,24 @@ impl<D: Disk, N: Nonces + Drop> Shelf<D, N> {
         ensures journal { self.new.journal ≡ self.old.journal }
         ensures rules { self.new.rules ≡ self.old.rules }
     {
-        let _ = (alloc, setup, target);
-        drop(answer);
-        Err(Reply::Memory)
+        events_are_kept();
+        if let Some(doubt) = &self.down {
+            return Err(Reply::Down(doubt.count));
+        }
+        if self.book.drawn() == NUMBERS {
+            return Err(Reply::Worn);
+        }
+        if let Err(refusal) = self.book.admit(setup, target) {
+            return Err(Reply::Refused(refusal));
+        }
+        let mut nonces = self.nonces.again();
+        let nonce = nonces.next();
+        match self.book.ticket(alloc, setup, target, answer, nonce) {
+            Ok(ticket) => {
+                self.nonces = nonces;
+                Ok(ticket)
+            }
+            Err(_) => Err(Reply::Memory),
+        }
     }
 }

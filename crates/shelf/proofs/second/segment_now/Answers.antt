@@ -1,4 +1,4 @@
-use Rattle.std.proofs.Common.{◌≡◌, ◌∙◌, ap, sym, subst, refl, map, length, List, Some, None, slice_get, IfSome, option_map, true, false}
+use Rattle.std.proofs.Common.{◌≡◌, ◌∙◌, ap, sym, subst, refl, map, length, List, Some, None, IfSome, option_map, true, false}
 use Rattle.script_value.specs.Val.{Val}
 use Rattle.script_nodes.specs.Views.{scripts_of, named_of}
 use Rattle.page_names.specs.Views.{target_of, name_of}

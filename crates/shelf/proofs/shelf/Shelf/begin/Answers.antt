@@ -1,18 +1,63 @@
-use Rattle.std.proofs.Common.{ap, sym, subst}
-use Rattle.replay_spec.specs.Book.{Book}
-use Rattle.replay_spec.specs.Invariant.{IsOrderly}
-use Rattle.shelf.specs.Views.{rules_of}
+use Rattle.script_nodes.specs.Views.{scripts_of}
+use Rattle.page_journal.specs.Settled.{bodies_in, length_of}
+use Rattle.journal_books.proofs.Standings.{stays_by, one_of}
+use Rattle.book_recovery.specs.Found.{book_with}
+use Rattle.shelf.proofs.Openings.{book_there, one_of_there, same_books, stays_open}
 use Rattle.shelf.proofs.shelf.Shelf.begin.Goals as goal
 
-pub returns-clause-shelf : goal.returns-clause-shelf
-returns-clause-shelf g c scripts =
-    let rules = rules_of c.args.rules in
-    ap (λ (b : Book). record { rules = rules; book = b; nonces = 0 }) (c.empty.ensures.book scripts rules)
+pub returns-in-Err-clause-any_moment : goal.returns-in-Err-clause-any_moment
+returns-in-Err-clause-any_moment g c = λ told.
+    let v = g.D.Disk.view in
+    stays_by (scripts_of c.args.setup.now) c.args.rules.number (v c.args.disk) (v c.in-Err.disk) (c.in-Err.ensures.any_moment told) (c.in-Err.ensures.closed_stays told)
 
-pub returns-clause-in_order : goal.returns-clause-in_order
-returns-clause-in_order g c scripts =
-    let rules = rules_of c.args.rules in
+pub returns-in-Ok-open-clause-book : goal.returns-in-Ok-open-clause-book
+returns-in-Ok-open-clause-book g c = λ told.
+    let ss = scripts_of c.args.setup.now in
+    let v = g.D.Disk.view in
+    book_there ss c.args.rules.number (v c.args.disk).seen (bodies_in v c.in-Ok.journal) (book_with ss (length_of c.open.new.journal) c.in-Ok-open.book) (c.in-Ok.ensures.intact told) (c.in-Ok.ensures.records told) (c.in-Ok-open.ensures.begun told)
+
+pub returns-in-Ok-open-clause-opened : goal.returns-in-Ok-open-clause-opened
+returns-in-Ok-open-clause-opened g c = c.in-Ok-open.ensures.in_order.again (length_of c.open.new.journal)
+
+pub returns-in-Ok-open-clause-one_of : goal.returns-in-Ok-open-clause-one_of
+returns-in-Ok-open-clause-one_of g c = λ told.
+    let ss = scripts_of c.args.setup.now in
+    let v = g.D.Disk.view in
+    let b = book_with ss (length_of c.open.new.journal) c.in-Ok-open.book in
+    one_of_there v ss c.args.rules.number c.args.disk b (λ m is. one_of ss c.args.rules.number (v c.args.disk) m (g.met.D.Disk.reads_image c.args.disk told) is) (c.in-Ok-open.ensures.in_order.again (length_of c.open.new.journal))
+    (book_there ss c.args.rules.number (v c.args.disk).seen (bodies_in v c.in-Ok.journal) b (c.in-Ok.ensures.intact told) (c.in-Ok.ensures.records told) (c.in-Ok-open.ensures.begun told))
+
+pub returns-in-Ok-open-clause-any_moment : goal.returns-in-Ok-open-clause-any_moment
+returns-in-Ok-open-clause-any_moment g c = λ told.
+    let ss = scripts_of c.args.setup.now in
+    let v = g.D.Disk.view in
+    let first = stays_by ss c.args.rules.number (v c.args.disk) (v c.in-Ok.journal.disk) (c.in-Ok.ensures.any_moment told) (c.in-Ok.ensures.closed_stays told) in
+    stays_open ss c.args.rules.number (v c.args.disk) (v c.in-Ok.journal.disk) (v c.open.new.journal.disk) (bodies_in v c.in-Ok.journal) (g.met.D.Disk.reads_image c.args.disk told) (same_books ss c.args.rules.number (v c.args.disk).seen (bodies_in v c.in-Ok.journal) (c.in-Ok.ensures.intact told) (c.in-Ok.ensures.records told))
+    (g.met.D.Disk.counts_now c.in-Ok.journal.disk) first (c.open.ensures.quiet told)
+
+pub returns-in-Ok-open-clause-in_order : goal.returns-in-Ok-open-clause-in_order
+returns-in-Ok-open-clause-in_order g c =
+    let ss = scripts_of c.args.setup.now in
+    let o = c.in-Ok-open.ensures.in_order in
+    let n = length_of c.open.new.journal in
     record {
-      states = c.empty.ensures.states scripts;
-      orderly = subst IsOrderly (sym (c.empty.ensures.book scripts rules)) (c.orderly_books_stay.ensures.0 rules scripts c.args.rules.number);
+      states = o.states;
+      orderly = o.orderly n;
+      named = o.named n;
+      range = o.range n;
+      number = o.shelf_is;
+      limits = c.requires.range;
+      few = c.requires.few;
+      sound = c.open.ensures.sound;
+      whole = λ _. c.in-Ok-open.ensures.whole;
+      fit = c.in-Ok-open.ensures.fit;
     }
+
+pub returns-in-Err-open-clause-any_moment : goal.returns-in-Err-open-clause-any_moment
+returns-in-Err-open-clause-any_moment g c = λ told before after k held.
+    let ss = scripts_of c.args.setup.now in
+    let v = g.D.Disk.view in
+    let first = stays_by ss c.args.rules.number (v c.args.disk) (v c.in-Ok.journal.disk) (c.in-Ok.ensures.any_moment told) (c.in-Ok.ensures.closed_stays told) in
+    let whole = stays_open ss c.args.rules.number (v c.args.disk) (v c.in-Ok.journal.disk) (v c.open.new.journal.disk) (bodies_in v c.in-Ok.journal) (g.met.D.Disk.reads_image c.args.disk told) (same_books ss c.args.rules.number (v c.args.disk).seen (bodies_in v c.in-Ok.journal) (c.in-Ok.ensures.intact told) (c.in-Ok.ensures.records told))
+    (g.met.D.Disk.counts_now c.in-Ok.journal.disk) first (c.open.ensures.quiet told) in
+    rw c.close.ensures (whole before after k held)

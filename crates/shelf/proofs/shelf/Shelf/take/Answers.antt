@@ -1,4 +1,4 @@
-use Rattle.std.proofs.Common.{◌≡◌, ◌∙◌, ap, sym, subst, refl, ◌==◌, ◌^◌, ◌+◌, true, false, arith, List, ℕ, ◌++◌, ◌∷◌, [], None, Contains}
+use Rattle.std.proofs.Common.{◌≡◌, ◌∙◌, ap, sym, subst, refl, ◌==◌, ◌^◌, ◌+◌, true, false, arith, List, ℕ, ◌++◌, ◌∷◌, [], Option, Some, None, option_map, Contains}
 use Rattle.std.proofs.lemmas.Bool.Decides.{nat_tests}
 use Rattle.std.proofs.lemmas.List.Elements.{Contains-push}
 use Rattle.script_value.specs.Views.{meaning}
@@ -6,107 +6,124 @@ use Rattle.script_nodes.specs.Views.{scripts_of}
 use Rattle.page_names.specs.Names.{Destination}
 use Rattle.page_names.specs.Views.{target_of}
 use Rattle.replay_spec.specs.Book.{Book, draw}
-use Rattle.replay_spec.specs.Admission.{admit}
+use Rattle.replay_spec.specs.Admission.{refusal_of, admit}
 use Rattle.replay_spec.specs.Next as next
 use Rattle.replay_spec.specs.Step as step
-use Rattle.replay_spec.specs.Invariant.{IsOrderly}
-use Rattle.instance_book.specs.Views.{book_of}
+use Rattle.page_journal.specs.Settled.{length_of}
 use Rattle.instance_book.specs.Fits.{FitsAs}
-use Rattle.instance_book.proofs.States.{some_visit}
-use Rattle.shelf.specs.Views.{rules_of, book_in, shelf_of}
-use Rattle.shelf.proofs.Steps.{worn, refused_take, taken, no_memory_take, follows, quiet_event, order_behind, fits_drawn}
+use Rattle.shelf.specs.declared.doubt.Doubt as doubt_type
+use Rattle.shelf.specs.Views.{rules_of, book_in, shelf_of, doubt_of}
+use Rattle.shelf.proofs.Beside.{admit_same, fits_at}
+use Rattle.shelf.proofs.Steps.{down_take, worn_take, refused_take, free_take, no_take, wanting_take, taken}
+use Rattle.shelf.proofs.Standing.{no_call}
+use Rattle.shelf.proofs.Order.{follows, quiet_event}
+use Rattle.shelf.proofs.Shelves.{quiet_order, same_order}
+use Rattle.shelf.proofs.Fitting.{fits_drawn}
 use Rattle.shelf.proofs.shelf.Shelf.take.Goals as goal
+
+pub returns-in-Some-clause-event : goal.returns-in-Some-clause-event
+returns-in-Some-clause-event g c =
+    let ss = scripts_of c.args.setup.now in
+    let s = c.args.self.now in
+    let b = book_in ss s in
+    let d = target_of c.args.target.now in
+    let v = meaning c.args.answer in
+    let down = ap (λ (o : Option doubt_type.Doubt). option_map doubt_of o) c.in-Some.is in
+    let comes = no_take ss s.rules b d v (step.down c.in-Some.doubt.count) (down_take b d (doubt_of c.in-Some.doubt) down) refl in
+    quiet_event g.N.Nonces.nonce ss s s (step.take d v) (step.down c.in-Some.doubt.count) b refl refl refl (λ given. refl) comes.step
 
 pub returns-then-drawn-eq-NUMBERS-clause-event : goal.returns-then-drawn-eq-NUMBERS-clause-event
 returns-then-drawn-eq-NUMBERS-clause-event g c =
-    let scripts = scripts_of c.args.setup.now in
+    let ss = scripts_of c.args.setup.now in
     let s = c.args.self.now in
-    let r = s.rules in
-    let b = book_in scripts s in
-    let up : (b.drawn == 2 ^ 62) ≡ true = grind (arith, nat_tests, c.if-drawn-eq-NUMBERS.true, c.drawn.ensures) in
-    quiet_event g.N.Nonces.nonce scripts s s (step.take (target_of c.args.target.now) (meaning c.args.answer)) step.worn b refl refl refl (λ given. refl)
-    (λ nonce. worn scripts r.fuel r.life r.instances r.pages b nonce (target_of c.args.target.now) (meaning c.args.answer) refl up)
+    let b = book_in ss s in
+    let d = target_of c.args.target.now in
+    let v = meaning c.args.answer in
+    let up = ap (λ (o : Option doubt_type.Doubt). option_map doubt_of o) c.in_default.is in
+    let all : (b.drawn == 2 ^ 62) ≡ true = grind (arith, nat_tests, c.if-drawn-eq-NUMBERS.true, c.drawn.ensures) in
+    let comes = no_take ss s.rules b d v step.worn (worn_take b d up all) refl in
+    quiet_event g.N.Nonces.nonce ss s s (step.take d v) step.worn b refl refl refl (λ given. refl) comes.step
 
 pub returns-in-Err-clause-event : goal.returns-in-Err-clause-event
 returns-in-Err-clause-event g c =
-    let scripts = scripts_of c.args.setup.now in
+    let ss = scripts_of c.args.setup.now in
     let s = c.args.self.now in
-    let r = s.rules in
-    let b = book_in scripts s in
+    let b = book_in ss s in
+    let d = target_of c.args.target.now in
+    let v = meaning c.args.answer in
+    let up = ap (λ (o : Option doubt_type.Doubt). option_map doubt_of o) c.in_default.is in
     let low : (b.drawn == 2 ^ 62) ≡ false = grind (arith, nat_tests, c.if-drawn-eq-NUMBERS.false, c.drawn.ensures) in
-    quiet_event g.N.Nonces.nonce scripts s s (step.take (target_of c.args.target.now) (meaning c.args.answer)) (step.refusal c.in-Err.refusal) b refl refl refl (λ given. refl)
-    (λ nonce. refused_take scripts r.fuel r.life r.instances r.pages b nonce (target_of c.args.target.now) (meaning c.args.answer) c.in-Err.refusal refl low c.in-Err.ensures.refused)
+    let why : refusal_of (admit b d) ≡ Some c.in-Err.refusal = ap refusal_of (admit_same ss s.book (length_of s.journal) 0 (option_map doubt_of s.down) None d) ∙ c.in-Err.ensures.refused in
+    let comes = no_take ss s.rules b d v (step.refusal c.in-Err.refusal) (refused_take b d c.in-Err.refusal up low why) refl in
+    quiet_event g.N.Nonces.nonce ss s s (step.take d v) (step.refusal c.in-Err.refusal) b refl refl refl (λ given. refl) comes.step
 
 pub returns-in-Ok-clause-event : goal.returns-in-Ok-clause-event
 returns-in-Ok-clause-event g c =
-    let scripts = scripts_of c.args.setup.now in
+    let ss = scripts_of c.args.setup.now in
     let s = c.args.self.now in
-    let r = s.rules in
-    let b = book_in scripts s in
+    let b = book_in ss s in
     let t = c.in-Ok.ticket in
     let d = target_of c.args.target.now in
     let v = meaning c.args.answer in
+    let up = ap (λ (o : Option doubt_type.Doubt). option_map doubt_of o) c.in_default.is in
     let low : (b.drawn == 2 ^ 62) ≡ false = grind (arith, nat_tests, c.if-drawn-eq-NUMBERS.false, c.drawn.ensures) in
+    let why : refusal_of (admit b d) ≡ None = ap refusal_of (admit_same ss s.book (length_of s.journal) 0 (option_map doubt_of s.down) None d) ∙ c.in_default-admit.ensures.admitted in
+    let none = free_take b d up low why in
     let number : t.number ≡ b.drawn = ap (λ (x : next.Ticket). x.number) c.in-Ok.ensures.ticket in
     record {
       step = λ source given has.
           let first : g.N.Nonces.nonce s.nonces 0 ≡ source given = has 0 ∙ ap source (omega arith) in
           let nonce : t.nonce ≡ source given = ap (λ (x : next.Ticket). x.nonce) c.in-Ok.ensures.ticket ∙ (c.next-nonce.ensures.first ∙ (c.again-nonces.ensures 0 ∙ first)) in
-          let stepped : step.step (rules_of r) b (source given) (step.take d v) step.plain ≡ (step.taken t.number t.nonce, draw b) =
-          taken scripts r.fuel r.life r.instances r.pages b (source given) d v refl low c.in_default.ensures.admitted
+          let stepped : step.step (rules_of ss s.rules) b (source given) (step.take d v) step.plain ≡ (step.taken t.number t.nonce, draw b) =
+          taken ss s.rules b d v (source given) none
           ∙ (ap (λ (n : ℕ). (step.taken n (source given), draw b)) (sym number) ∙ ap (λ (m : ℕ). (step.taken t.number m, draw b)) (sym nonce)) in
-          follows source (shelf_of scripts given s) (step.take d v) (step.taken t.number t.nonce) (draw b) stepped
-          ∙ ap (λ (x : Book). (step.taken t.number t.nonce, record (shelf_of scripts given s) { book = x; nonces = given + 1 })) (sym (c.in-Ok.ensures.drawn scripts 0 None));
+          follows source (shelf_of ss given s) (step.take d v) (step.taken t.number t.nonce) (draw b) stepped
+          ∙ ap (λ (x : Book). (step.taken t.number t.nonce, record (shelf_of ss given s) { book = x; nonces = given + 1 })) (sym (c.in-Ok.ensures.drawn ss (length_of s.journal) (option_map doubt_of s.down)));
       nonces = λ source given has k. c.next-nonce.ensures.rest k ∙ (c.again-nonces.ensures (k + 1) ∙ (has (k + 1) ∙ ap source (omega arith)));
     }
 
 pub returns-in-Ok-clause-in_order : goal.returns-in-Ok-clause-in_order
 returns-in-Ok-clause-in_order g c =
-    let scripts = scripts_of c.args.setup.now in
+    let ss = scripts_of c.args.setup.now in
     let s = c.args.self.now in
-    let r = s.rules in
-    let b = book_in scripts s in
+    let b = book_in ss s in
     let d = target_of c.args.target.now in
     let v = meaning c.args.answer in
+    let up = ap (λ (o : Option doubt_type.Doubt). option_map doubt_of o) c.in_default.is in
     let low : (b.drawn == 2 ^ 62) ≡ false = grind (arith, nat_tests, c.if-drawn-eq-NUMBERS.false, c.drawn.ensures) in
-    order_behind c.orderly_books_stay.ensures scripts s _ (step.take d v) 0 step.plain (step.taken b.drawn 0) (draw b) c.requires tt (c.in-Ok.ensures.states scripts) (c.in-Ok.ensures.drawn scripts 0 None)
-    (taken scripts r.fuel r.life r.instances r.pages b 0 d v refl low c.in_default.ensures.admitted)
+    let why : refusal_of (admit b d) ≡ None = ap refusal_of (admit_same ss s.book (length_of s.journal) 0 (option_map doubt_of s.down) None d) ∙ c.in_default-admit.ensures.admitted in
+    quiet_order g.D.Disk.view g.D.Disk.tells ss s _ c.requires refl (c.in-Ok.ensures.states ss) c.requires.sound (step.take d v) step.plain (step.taken b.drawn 0) (draw b) (c.in-Ok.ensures.drawn ss (length_of s.journal) (option_map doubt_of s.down))
+    (taken ss s.rules b d v 0 (free_take b d up low why)) tt tt tt tt c.events_are_kept.ensures refl refl refl c.requires.whole (no_call g.D.Disk.view g.D.Disk.tells s.journal)
 
 pub returns-in-Ok-clause-fits : goal.returns-in-Ok-clause-fits
 returns-in-Ok-clause-fits g c =
-    let scripts = scripts_of c.args.setup.now in
-    let b = book_in scripts c.args.self.now in
+    let ss = scripts_of c.args.setup.now in
+    let s = c.args.self.now in
+    let b = book_in ss s in
     let t = c.in-Ok.ticket in
     let same : target_of t.target ≡ target_of c.args.target.now = ap (λ (x : next.Ticket). x.target) c.in-Ok.ensures.ticket in
-    fits_drawn scripts b (book_of scripts 0 None c.ticket.new.self) t (target_of t.target) (c.in-Ok.ensures.drawn scripts 0 None) (subst (λ (d : Destination). FitsAs scripts b t (admit b d)) (sym same) c.in-Ok.ensures.fits)
+    let here = fits_at ss s.book 0 (length_of s.journal) None (option_map doubt_of s.down) t (target_of c.args.target.now) c.in-Ok.ensures.fits in
+    fits_drawn ss b _ t (target_of t.target) (c.in-Ok.ensures.drawn ss (length_of s.journal) (option_map doubt_of s.down)) (subst (λ (d : Destination). FitsAs ss b t (admit b d)) (sym same) here)
 
 pub returns-in-Ok-clause-out : goal.returns-in-Ok-clause-out
 returns-in-Ok-clause-out g c =
-    let scripts = scripts_of c.args.setup.now in
-    let b = book_in scripts c.args.self.now in
+    let ss = scripts_of c.args.setup.now in
+    let s = c.args.self.now in
+    let b = book_in ss s in
     let number : c.in-Ok.ticket.number ≡ b.drawn = ap (λ (x : next.Ticket). x.number) c.in-Ok.ensures.ticket in
-    let out : c.ticket.new.self.out.items ≡ b.out ++ b.drawn ∷ [] = ap (λ (d : Book). d.out) (c.in-Ok.ensures.drawn scripts 0 None) in
+    let out : c.ticket.new.self.out.items ≡ b.out ++ b.drawn ∷ [] = ap (λ (d : Book). d.out) (c.in-Ok.ensures.drawn ss (length_of s.journal) (option_map doubt_of s.down)) in
     subst (λ (n : ℕ). Contains c.ticket.new.self.out.items n) (sym number) (subst (λ (ns : List ℕ). Contains ns b.drawn) (sym out) (Contains-push b.out b.drawn))
 
 pub returns-in-Err-ticket-clause-event : goal.returns-in-Err-ticket-clause-event
 returns-in-Err-ticket-clause-event g c =
-    let scripts = scripts_of c.args.setup.now in
+    let ss = scripts_of c.args.setup.now in
     let s = c.args.self.now in
-    let r = s.rules in
-    let b = book_in scripts s in
-    quiet_event g.N.Nonces.nonce scripts s _ (step.take (target_of c.args.target.now) (meaning c.args.answer)) step.memory b refl refl (c.in-Err-ticket.ensures.err scripts 0 None) (λ given. refl)
-    (λ nonce. no_memory_take scripts r.fuel r.life r.instances r.pages b nonce (target_of c.args.target.now) (meaning c.args.answer))
+    let b = book_in ss s in
+    quiet_event g.N.Nonces.nonce ss s _ (step.take (target_of c.args.target.now) (meaning c.args.answer)) step.memory b refl refl (c.in-Err-ticket.ensures.err ss (length_of s.journal) (option_map doubt_of s.down)) (λ given. refl)
+    (wanting_take ss s.rules b (target_of c.args.target.now) (meaning c.args.answer)).step
 
 pub returns-in-Err-ticket-clause-in_order : goal.returns-in-Err-ticket-clause-in_order
 returns-in-Err-ticket-clause-in_order g c =
-    let scripts = scripts_of c.args.setup.now in
-    record {
-      states = c.in-Err-ticket.ensures.states scripts c.requires.states;
-      orderly = subst IsOrderly (sym (c.in-Err-ticket.ensures.err scripts 0 None)) c.requires.orderly;
-    }
-
-pub returns-in-Ok-clause-runs : goal.returns-in-Ok-clause-runs
-returns-in-Ok-clause-runs g c =
-    let scripts = scripts_of c.args.setup.now in
-    let b = book_in scripts c.args.self.now in
-    some_visit scripts b c.in-Ok.ticket (admit b (target_of c.args.target.now)) c.in_default.ensures.admitted c.in-Ok.ensures.fits
+    let ss = scripts_of c.args.setup.now in
+    let s = c.args.self.now in
+    same_order g.D.Disk.view g.D.Disk.tells ss s _ c.requires (c.in-Err-ticket.ensures.err ss (length_of s.journal) (option_map doubt_of s.down)) (c.in-Err-ticket.ensures.states ss c.requires.states) refl refl refl

@@ -1,0 +1,89 @@
+-- A shelf in order goes on to be, and a step of its book is one of the shelf.
+use Rattle.std.proofs.Common.{◌≡◌, ◌∙◌, ap, sym, subst, refl, ℕ, ◌+◌, Bool, IsTrue, false, List, None}
+use Rattle.script_value.specs.declared.outcome.Reply.{Reply}
+use Rattle.script_value.specs.declared.outcome.Reply.TheVariants as reply
+use Rattle.script_nodes.specs.Setup.{Named}
+use Rattle.web_disk.specs.View.{View}
+use Rattle.page_journal.specs.Settled as journal
+use Rattle.page_journal.specs.Settled.{is_broken}
+use Rattle.replay_spec.specs.Book.{Book}
+use Rattle.replay_spec.specs.Runs.{drawn_by, shelf_step}
+use Rattle.replay_spec.specs.Runs as runs
+use Rattle.replay_spec.specs.Step as step
+use Rattle.replay_spec.specs.Laws.{IsLawful, Moment}
+use Rattle.replay_spec.specs.Remade.{NameTheirCells, GivesNamed}
+use Rattle.replay_spec.specs.Invariant.{IsOrderly}
+use Rattle.replay_spec.proofs.Orderly.{stepped}
+use Rattle.replay_spec.proofs.Events.{stay_named}
+use Rattle.journal_books.specs.Disks.{IsFit}
+use Rattle.journal_books.specs.Spelling.{IsInRange, GivesTick}
+use Rattle.journal_books.proofs.Ranges.{ranges_kept}
+use Rattle.instance_book.specs.Makes.{HasItsStates}
+use Rattle.instance_book.specs.Views.{reply_of}
+use Rattle.shelf.specs.declared.rules.Rules as limits_of
+use Rattle.shelf.specs.declared.shelf.Shelf.{Shelf}
+use Rattle.shelf.specs.Ranges.{AreInRange}
+use Rattle.shelf.specs.Views.{rules_of, book_in, shelf_of, fate_by, IsInOrder, IsEvent}
+
+-- a step of the book is one of the shelf
+pub follows : (source : ℕ → ℕ) (s : runs.Shelf) (event : step.Event) (r : step.Reply) (after : Book) → step.step s.rules s.book (source s.nonces) event (fate_by r) ≡ (r, after)
+    → shelf_step source s event (fate_by r) ≡ (r, record s { book = after; nonces = drawn_by r s.nonces })
+follows source s event r after e = ap (λ (x : step.Reply × Book). (x.0, record s { book = x.1; nonces = drawn_by x.0 s.nonces })) e
+
+-- a reply of the program that is no ticket draws no nonce
+pub quiet : (r : Reply) (given : ℕ) → drawn_by (reply_of r) given ≡ given
+quiet (reply.Page bytes url) given = refl
+quiet (reply.Finished bytes) given = refl
+quiet (reply.Ended bytes) given = refl
+quiet (reply.Refused r) given = refl
+quiet (reply.Fault f) given = refl
+quiet (reply.Fuel cost) given = refl
+quiet (reply.ShelfFull count) given = refl
+quiet (reply.InstanceFull count) given = refl
+quiet (reply.Oversize n) given = refl
+quiet (reply.JournalFull n) given = refl
+quiet (reply.DiskFault count) given = refl
+quiet (reply.Down count) given = refl
+quiet reply.Worn given = refl
+quiet reply.Memory given = refl
+
+module _ {D N : Type 0} where
+  -- an event whose reply is no ticket
+  pub quiet_event : (coming : N → ℕ → ℕ) (ss : List Named) (old new : Shelf D N) (event : step.Event) (r : step.Reply) (after : Book)
+      → new.rules ≡ old.rules → new.nonces ≡ old.nonces → book_in ss new ≡ after → ((given : ℕ) → drawn_by r given ≡ given)
+      → ((nonce : ℕ) → step.step (rules_of ss old.rules) (book_in ss old) nonce event (fate_by r) ≡ (r, after)) → IsEvent coming ss old new event r
+  quiet_event coming ss old new event r after limits source_stays is none stepped = record {
+    step = λ source given has.
+        let same : record (shelf_of ss given old) { book = after; nonces = drawn_by r given } ≡ shelf_of ss (drawn_by r given) new =
+        ap (λ (b : Book). record (shelf_of ss given old) { book = b; nonces = drawn_by r given }) (sym is) ∙ ap (λ (l : limits_of.Rules). record (shelf_of ss (drawn_by r given) new) { rules = rules_of ss l }) (sym limits) in
+        follows source (shelf_of ss given old) event r after (stepped (source given)) ∙ ap (λ (x : runs.Shelf). (r, x)) same;
+    nonces = λ source given has k. ap (λ (n : N). coming n k) source_stays ∙ (has k ∙ ap (λ (m : ℕ). source (m + k)) (sym (none given)));
+  }
+
+  -- what the journal of a shelf has to keep
+  pub record JournalStays (view : D → View) (tells : Bool) (ss : List Named) (new : Shelf D N) (shelf : ℕ) (d : Book) : Type 0 where
+    pub sound : journal.IsSound new.journal
+    pub whole : new.down ≡ None → is_broken new.journal ≡ false
+    pub fit : IsTrue tells → IsFit view ss shelf new.journal d
+
+  -- a shelf in order stays so behind an event
+  pub order_behind : (view : D → View) (tells : Bool) (ss : List Named) (old new : Shelf D N) (event : step.Event) (fate : step.Fate) (r : step.Reply) (after : Book) → IsInOrder view tells ss old
+      → IsLawful event (book_in ss old) → GivesNamed event → GivesTick event → (HasItsStates ss old.book → HasItsStates ss new.book) → book_in ss new ≡ after
+      → new.rules ≡ old.rules → step.step (rules_of ss old.rules) (book_in ss old) 0 event fate ≡ (r, after) → JournalStays view tells ss new old.rules.number after → IsInOrder view tells ss new
+  order_behind view tells ss old new event fate r after order lawful named tick places is limits e stays =
+      let rules = rules_of ss old.rules in
+      let m : Moment = record { rules = rules; nonce = 0; event = event; fate = fate } in
+      let there : (step.step rules (book_in ss old) 0 event fate).1 ≡ book_in ss new = ap (λ (x : step.Reply × Book). x.1) e ∙ sym is in
+      let later = stepped m (book_in ss old) order.orderly lawful in
+      record {
+        states = places order.states;
+        orderly = subst IsOrderly there later.orderly;
+        named = subst NameTheirCells there (stay_named.1 (book_in ss old) m order.orderly order.named named);
+        range = subst IsInRange there (ranges_kept rules (book_in ss old) 0 event fate order.orderly order.range tick);
+        number = ap (λ (b : Book). b.shelf) (sym there) ∙ (later.shelf ∙ (order.number ∙ ap (λ (l : limits_of.Rules). l.number) (sym limits)));
+        limits = subst AreInRange (sym limits) order.limits;
+        few = order.few;
+        sound = stays.sound;
+        whole = stays.whole;
+        fit = λ told. subst (λ (b : Book). IsFit view ss new.rules.number new.journal b) (sym is) (subst (λ (l : limits_of.Rules). IsFit view ss l.number new.journal after) (sym limits) (stays.fit told));
+      }

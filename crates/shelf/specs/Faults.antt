@@ -1,0 +1,23 @@
+-- Why a journal makes no shelf.
+use Rattle.std.specs.Prelude.{◌≡◌, Result, Ok, Err, ⊤}
+use Rattle.page_journal.specs.declared.repair.JournalFault.{JournalFault}
+use Rattle.page_journal.specs.declared.repair.JournalFault.TheVariants as journal
+use Rattle.journal_books.specs.Making.{Making, damaged, other}
+use Rattle.shelf.specs.declared.begin.BeginFault.{BeginFault}
+use Rattle.shelf.specs.declared.begin.BeginFault.TheVariants as fault
+
+-- why a journal was not opened; why the records make no book
+abbrev pub begin_fault : JournalFault → BeginFault
+begin_fault (journal.Damaged place) = fault.Damaged place
+begin_fault journal.DiskFault = fault.DiskFault
+begin_fault journal.Memory = fault.Memory
+
+abbrev pub IsReadFaultOf : Making → BeginFault → Type 0
+IsReadFaultOf m (fault.Damaged place) = m ≡ damaged place
+IsReadFaultOf m (fault.Other place) = m ≡ other place
+IsReadFaultOf m fault.DiskFault = ⊤
+IsReadFaultOf m fault.Memory = ⊤
+
+abbrev pub IsReadFault : {T : Type 0} → Making → Result T BeginFault → Type 0
+IsReadFault m (Ok x) = ⊤
+IsReadFault m (Err e) = IsReadFaultOf m e

@@ -1,0 +1,49 @@
+-- What a publish is prepared as, before its record is measured: as on a shelf that keeps no journal.
+use Rattle.std.specs.Prelude.{◌≡◌, ℕ, List, Option, Some, None, Result, Err, IfSome, ⊤}
+use Rattle.script_value.specs.declared.outcome.Reply.{Reply}
+use Rattle.script_value.specs.declared.outcome.Reply.TheVariants as reply
+use Rattle.script_nodes.specs.Setup.{Named}
+use Rattle.script_nodes.specs.Views.{scripts_of}
+use Rattle.script_nodes.specs.declared.setup.Setup.{Setup}
+use Rattle.page_names.specs.declared.names.Target.{Target}
+use Rattle.stored_states.specs.declared.segment.Segment.{Segment}
+use Rattle.replay_spec.specs.Book as spec
+use Rattle.replay_spec.specs.Rules as spec_rules
+use Rattle.replay_spec.specs.Step.{Decision, publish_comes}
+use Rattle.instance_book.specs.declared.book.Book.{Book}
+use Rattle.instance_book.specs.declared.ticket.Ticket.{Ticket}
+use Rattle.instance_book.specs.declared.prepared.Prepared.{Prepared}
+use Rattle.instance_book.specs.Admissions.{book_under, refusal_for}
+use Rattle.instance_book.specs.Views.{ticket_of, book_of}
+use Rattle.instance_book.specs.Prepares.{Prepares}
+use Rattle.shelf.specs.declared.rules.Rules.{Rules}
+use Rattle.shelf.specs.Views.{unmeasured, HoldNow}
+
+-- what it comes to on the book beside a journal of this length, where nothing is in doubt
+abbrev pub decision_beside : Setup → (length : ℕ) → Rules → Book → Ticket → Decision
+decision_beside setup length rules b t =
+    publish_comes (unmeasured rules) (book_of (scripts_of setup) length None b) (ticket_of t)
+
+-- what is prepared for it, or its refusal; want of memory may stand for any
+abbrev pub Decides : List Named → spec_rules.Rules → spec.Book → Decision → Result Prepared Reply → Type 0
+Decides scripts rules b d (Err reply.Memory) = ⊤
+Decides scripts rules b d result = Prepares scripts rules b d result
+
+abbrev pub IsDecided : Setup → Rules → Book → Ticket → Result Prepared Reply → Type 0
+IsDecided setup rules b t result =
+    (length : ℕ) → Decides (scripts_of setup) (unmeasured rules) (book_of (scripts_of setup) length None b)
+    (decision_beside setup length rules b t) result
+
+-- where no second run is due, want of memory is told only of what changes the book
+abbrev pub IsDecidedIfHeld : Setup → Rules → Book → Ticket → Option Segment → Result Prepared Reply → Type 0
+IsDecidedIfHeld setup rules b t segment result =
+    (r : Segment) → segment ≡ Some r → HoldNow (book_under setup b) t r → (length : ℕ)
+    → Prepares (scripts_of setup) (unmeasured rules) (book_of (scripts_of setup) length None b)
+    (decision_beside setup length rules b t) result
+
+-- a target that is not admitted is told so; where there was no memory for the run of one that is, that is the answer
+abbrev pub IsRefused : Setup → Book → Target → Result Prepared Reply → Type 0
+IsRefused setup b target result = IfSome (refusal_for setup b target) (λ r. result ≡ Err (reply.Refused r))
+
+abbrev pub WantsMemory : Setup → Book → Ticket → Option Segment → Result Prepared Reply → Type 0
+WantsMemory setup b t segment result = segment ≡ None → refusal_for setup b t.target ≡ None → result ≡ Err reply.Memory

@@ -1,0 +1,63 @@
+ghost use Rattle.std.specs.Prelude.{◌≡◌, ◌≤◌, None, IfOk, Contains};
+ghost use Rattle.script_nodes.specs.Views.{scripts_of};
+ghost use Rattle.server_limits.specs.Limits.{most_fuel, most_life};
+ghost use Rattle.replay_spec.specs.Invariant.{IsOrderly};
+ghost use Rattle.instance_book.specs.Admissions.{book_under, refusal_for, FitsIn};
+ghost use Rattle.instance_book.specs.Changes.{HasRoomFor, HasStateBy};
+ghost use Rattle.instance_book.specs.Makes.{HasItsStates, StaysSame, KeepsStates};
+ghost use Rattle.instance_book.specs.Views.{instances_of};
+ghost use Rattle.shelf.specs.Views.{IsRunIfAny};
+ghost use Rattle.shelf.specs.Preparing.{IsDecided, IsDecidedIfHeld, IsRefused, WantsMemory};
+
+use crate::rules::Rules;
+use crate::second::segment_now;
+use instance_book::{Book, Prepared, Ticket, a_shown_page_has_its_state};
+use script_nodes::Setup;
+use script_value::Reply;
+use send_suspend::Segment;
+use std::alloc::Global;
+
+/// What the publish of a ticket is prepared as, or answered, on a shelf that is not down, before its record is measured.
+pub fn prepared(
+    alloc: Global,
+    book: &mut Book,
+    rules: Rules,
+    setup: &Setup,
+    ticket: &Ticket,
+    segment: Option<Segment>,
+) -> Result<Prepared, Reply>
+    requires fuel { rules.fuel ≤ most_fuel }
+    requires life { rules.life ≤ most_life }
+    requires states { HasItsStates (scripts_of setup.now) book.old }
+    requires orderly { IsOrderly (book_under setup.now book.old) }
+    requires out { Contains book.old.out.items ticket.now.number }
+    requires fits { FitsIn setup.now book.old ticket.now.target ticket.now }
+    requires segment { IsRunIfAny (scripts_of setup.now) rules.fuel ticket.now segment }
+    ensures book { StaysSame book.old book.new }
+    ensures states { KeepsStates book.old book.new }
+    ensures room { IfOk result (λ p. HasRoomFor p.change book.new) }
+    ensures shown { IfOk result (λ p. HasStateBy (scripts_of setup.now) book.old.shelf (instances_of (scripts_of setup.now) book.old.instances) p.change) }
+    ensures decided { IsDecided setup.now rules book.old ticket.now result }
+    ensures held { IsDecidedIfHeld setup.now rules book.old ticket.now segment result }
+    ensures refused { IsRefused setup.now book.old ticket.now.target result }
+    ensures none { WantsMemory setup.now book.old ticket.now segment result }
+{
+    a_shown_page_has_its_state();
+    if let Err(refusal) = book.admit(setup, &ticket.target) {
+        return Err(Reply::Refused(refusal));
+    }
+    let Some(first) = segment else {
+        return Err(Reply::Memory);
+    };
+    match segment_now(alloc, book, setup, ticket, first, rules.fuel) {
+        Ok(segment) => book.prepare(
+            alloc,
+            ticket,
+            segment,
+            rules.instances,
+            rules.pages,
+            rules.life,
+        ),
+        Err(_) => Err(Reply::Memory),
+    }
+}
