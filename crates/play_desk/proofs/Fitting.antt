@@ -1,9 +1,13 @@
--- A shelf and its workers' tickets stay fit with each event.
-use Rattle.std.proofs.Common.{◌≡◌, ◌≢◌, ◌⊎◌, inl, inr, ◌∙◌, ap, sym, subst, refl, ℕ, ◌<◌, List, [], ◌∷◌, ◌++◌, length, slice_get, slice_set, Option, Some, None, Contains, Result, arith}
-use Rattle.std.proofs.lemmas.List.{length-set}
+-- Shelves and their workers' tickets stay fit with each event.
+use Rattle.std.proofs.Common.{◌≡◌, ◌≢◌, ◌⊎◌, inl, inr, ◌∙◌, ap, sym, subst, refl, ⊎_elim, ℕ, ◌<◌, ◌==◌, not, filter, Bool, List, [], ◌∷◌, ◌++◌, length, slice_get, slice_set, map, option_map, Option, Some, None, Contains, Result, arith}
+use Rattle.std.proofs.lemmas.Bool.{cases_eq}
+use Rattle.std.proofs.lemmas.List.{length-set, map-set}
 use Rattle.std.proofs.lemmas.List.Elements.{Contains-append_left, Contains-push}
+use Rattle.std.proofs.lemmas.Option.{slice_get-map, slice_get_within}
 use Rattle.script_value.specs.Val.{Val}
 use Rattle.script_value.specs.declared.outcome.Reply.{Reply}
+use Rattle.web_disk.specs.View.{View}
+use Rattle.web_outside.specs.declared.nonces.Counting.{Counting}
 use Rattle.page_names.specs.Names.{Destination}
 use Rattle.page_names.specs.Views.{target_of}
 use Rattle.script_nodes.specs.Setup.{Named}
@@ -16,119 +20,196 @@ use Rattle.replay_spec.proofs.Stand.{among_of}
 use Rattle.instance_book.specs.Fits.{FitsAs}
 use Rattle.instance_book.specs.Views.{ticket_of, reply_of}
 use Rattle.instance_book.specs.declared.ticket.Ticket.{Ticket}
-use Rattle.shelf.specs.Views.{book_in, shelf_of, fate_by, swept_of, IsInOrder}
-use Rattle.play_desk.specs.declared.staff.Staff.{Staff}
-use Rattle.play_desk.specs.Staff.{IsOpen, IsHere, IsFit}
-use Rattle.play_desk.proofs.Places.{at_set}
+use Rattle.shelf.specs.declared.shelf.Shelf.{Shelf}
+use Rattle.shelf.specs.Views.{book_in, swept_of, IsInOrder}
+use Rattle.shelf.specs.declared.rules.Rules.{Rules}
+use Rattle.shelf.specs.Ranges.{AreInRange}
+use Rattle.journal_records.specs.Records.{IsInGrammar, begin_of}
+use Rattle.play_desk.specs.Staff.{IsOpen, IsServed, IsOpenAt, AreFit, HaveOwnNumbers, KeepsOthers, numbers_in, place_of}
+use Rattle.play_desk.proofs.Places.{at_set, get_other, get_set, same_set, same_Some}
 use Rattle.play_desk.proofs.Kept.{published, swept}
 use Rattle.play_desk.proofs.Open.{leads_here, stays_open, still_out}
-use Rattle.play_desk.proofs.Happening.{Happens, then_is}
+use Rattle.play_desk.proofs.Happening.{Happens, moment_of, then_is}
 
--- what an event meets
-abbrev moment_of : List Named → Staff → Event → spec.Reply → Moment
-moment_of scripts s event reply =
-    record { rules = (shelf_of scripts s.shelf.book.drawn s.shelf).rules; nonce = s.shelf.book.drawn; event = event; fate = fate_by reply }
+-- the number of the shelf in a place
+pub number_at : {D : Type 0} (xs : List (Shelf D Counting)) (k : ℕ) (x : Shelf D Counting) → slice_get xs k ≡ Some x
+    → slice_get (numbers_in xs) k ≡ Some x.rules.number
+number_at xs k x e = slice_get-map (λ s. s.rules.number) xs k ∙ ap (option_map (λ s. s.rules.number)) e
 
-pub fit_sweep : (scripts : List Named) (s new : Staff) (tick : ℕ) (x : Result ℕ Reply) → IsFit scripts s → Happens scripts s.shelf new.shelf (sweep tick) (swept_of x)
-    → IsInOrder scripts new.shelf → new.tickets ≡ s.tickets → IsFit scripts new
-fit_sweep scripts s new tick x fit h in_order tickets =
-    let b = book_in scripts s.shelf in
-    let c = book_in scripts new.shelf in
-    let m = moment_of scripts s (sweep tick) (swept_of x) in
-    let is = then_is scripts s.shelf new.shelf (sweep tick) (swept_of x) h in
+-- the numbers are the same where the shelf in a place has the same
+pub numbers_set : {D : Type 0} (xs : List (Shelf D Counting)) (k : ℕ) (x y : Shelf D Counting) → slice_get xs k ≡ Some x
+    → y.rules ≡ x.rules → numbers_in (slice_set xs k y) ≡ numbers_in xs
+numbers_set xs k x y here same =
+    map-set (λ s. s.rules.number) xs k y ∙ ap (λ (r : Rules). slice_set (numbers_in xs) k r.number) same
+    ∙ same_set (numbers_in xs) k x.rules.number (number_at xs k x here)
+
+-- a shelf goes on to be served
+pub served_on : {D : Type 0} (view : D → View) (tells : Bool) (scripts : List Named) (x y : Shelf D Counting)
+    → IsServed view tells scripts x → IsInOrder view tells scripts y → y.rules ≡ x.rules → IsServed view tells scripts y
+served_on view tells scripts x y h in_order same = record {
+  in_order = in_order;
+  limits = subst AreInRange (sym same) h.limits;
+  begins = subst (λ (r : Rules). IsInGrammar (begin_of r.number scripts)) (sym same) h.begins;
+}
+
+-- the ticket that a worker holds of the shelf in a place is open there
+pub open_there : {D : Type 0} (view : D → View) (tells : Bool) (scripts : List Named) (xs : List (Shelf D Counting)) (ts : List (Option Ticket))
+    (k w : ℕ) (x : Shelf D Counting) (t : Ticket) → AreFit view tells scripts xs ts → slice_get xs k ≡ Some x
+    → slice_get ts w ≡ Some (Some t) → place_of (length xs) w t ≡ k → IsOpen (book_in scripts x) t
+open_there {D = D} view tells scripts xs ts k w x t fit here held place =
+    let o = fit.are_open w t held in
+    let same : o.shelf ≡ x = same_Some o.shelf x (sym o.there ∙ ap (slice_get xs) place ∙ here) in
+    subst (λ (z : Shelf D Counting). IsOpen (book_in scripts z) t) same o.is_open
+
+-- all stay fit with another shelf in a place, whose tickets are open on it
+pub fit_with : {D : Type 0} (view : D → View) (tells : Bool) (scripts : List Named) (xs : List (Shelf D Counting)) (ts us : List (Option Ticket))
+    (k : ℕ) (x y : Shelf D Counting) → AreFit view tells scripts xs ts → slice_get xs k ≡ Some x → IsServed view tells scripts y
+    → y.rules ≡ x.rules → length us ≡ 16
+    → ((w : ℕ) (t : Ticket) → slice_get us w ≡ Some (Some t) → place_of (length xs) w t ≡ k → IsOpen (book_in scripts y) t)
+    → ((w : ℕ) (t : Ticket) → slice_get us w ≡ Some (Some t) → place_of (length xs) w t ≢ k → slice_get ts w ≡ Some (Some t))
+    → ((v w : ℕ) (t u : Ticket) → slice_get us v ≡ Some (Some t) → slice_get us w ≡ Some (Some u)
+    → place_of (length xs) v t ≡ place_of (length xs) w u → t.number ≡ u.number → v ≡ w)
+    → AreFit view tells scripts (slice_set xs k y) us
+fit_with {D = D} view tells scripts xs ts us k x y fit here served_y rules count mine others apart =
+    let len = length-set xs k y in
+    let same = numbers_set xs k x y here rules in
+    record {
+      served = λ j z e. elim (at_set xs k j y z e) [
+        | inl p ↦ subst (λ (s : Shelf D Counting). IsServed view tells scripts s) p.1 served_y
+        | inr p ↦ fit.served j z p.1
+      ];
+      numbers = λ i j n a b.
+          fit.numbers i j n (subst (λ (ns : List ℕ). slice_get ns i ≡ Some n) same a) (subst (λ (ns : List ℕ). slice_get ns j ≡ Some n) same b);
+      few = omega (arith, len, fit.few);
+      count = count;
+      are_open = λ w t h. subst (λ n. IsOpenAt scripts (slice_set xs k y) (place_of n w t) t) (sym len) (opens w t h (cases_eq k (place_of (length xs) w t)));
+      apart = λ v w t u hv hw place number.
+          apart v w t u hv hw (subst (λ n. place_of n v t ≡ place_of n w u) len place) number;
+    }
+  where
+    opens : (w : ℕ) (t : Ticket) → slice_get us w ≡ Some (Some t) → (k ≡ place_of (length xs) w t) ⊎ (k ≢ place_of (length xs) w t)
+        → IsOpenAt scripts (slice_set xs k y) (place_of (length xs) w t) t
+    opens w t h (inl e) = record {
+      shelf = y;
+      there = ap (slice_get (slice_set xs k y)) (sym e) ∙ get_set xs k y (slice_get_within xs k x here);
+      is_open = mine w t h (sym e);
+    }
+    opens w t h (inr other) =
+        let o = fit.are_open w t (others w t h (λ e. other (sym e))) in
+        record { shelf = o.shelf; there = get_other xs k (place_of (length xs) w t) y other ∙ o.there; is_open = o.is_open }
+
+pub fit_sweep : {D : Type 0} (view : D → View) (tells : Bool) (scripts : List Named) (xs : List (Shelf D Counting)) (ts : List (Option Ticket))
+    (k : ℕ) (x y : Shelf D Counting) (tick : ℕ) (r : Result ℕ Reply) → AreFit view tells scripts xs ts → slice_get xs k ≡ Some x
+    → Happens scripts x y (sweep tick) (swept_of r) → IsInOrder view tells scripts y → y.rules ≡ x.rules
+    → AreFit view tells scripts (slice_set xs k y) ts
+fit_sweep view tells scripts xs ts k x y tick r fit here h in_order rules =
+    let b = book_in scripts x in
+    let c = book_in scripts y in
+    let m = moment_of scripts x (sweep tick) (swept_of r) in
+    let is = then_is scripts x y (sweep tick) (swept_of r) h in
     let out : c.out ≡ b.out = ap (λ (d : Book). d.out) (sym is) ∙ (swept m.rules b m.nonce tick m.fate).out in
-    record {
-      in_order = in_order;
-      tickets = λ w t there.
-          let o = fit.tickets w t (subst (λ (ts : List (Option Ticket)). slice_get ts w ≡ Some (Some t)) tickets there) in
-          (stays_open b c m t tt is refl (subst (λ (ns : List ℕ). Contains ns t.number) (sym out) o.0.out) o.0, o.1);
-      apart = λ v w t u hv hw e.
-          fit.apart v w t u (subst (λ (ts : List (Option Ticket)). slice_get ts v ≡ Some (Some t)) tickets hv)
-          (subst (λ (ts : List (Option Ticket)). slice_get ts w ≡ Some (Some u)) tickets hw) e;
-      count = ap length tickets ∙ fit.count;
-      stream = h.stream;
-    }
+    fit_with view tells scripts xs ts ts k x y fit here (served_on view tells scripts x y (fit.served k x here) in_order rules) rules fit.count
+    (λ w t held place.
+    let o = open_there view tells scripts xs ts k w x t fit here held place in
+    stays_open b c m t tt is refl (subst (λ (ns : List ℕ). Contains ns t.number) (sym out) o.out) o)
+    (λ w t held other. held) fit.apart
 
-pub fit_publish : (scripts : List Named) (s new : Staff) (worker : ℕ) (t : Ticket) (e : Reply) → IsFit scripts s → slice_get s.tickets worker ≡ Some (Some t)
-    → Happens scripts s.shelf new.shelf (publish (ticket_of t)) (reply_of e) → IsInOrder scripts new.shelf → new.tickets ≡ slice_set s.tickets worker None → IsFit scripts new
-fit_publish scripts s new worker t e fit held h in_order tickets =
-    let b = book_in scripts s.shelf in
-    let c = book_in scripts new.shelf in
-    let m = moment_of scripts s (publish (ticket_of t)) (reply_of e) in
-    let is = then_is scripts s.shelf new.shelf (publish (ticket_of t)) (reply_of e) h in
-    let kept = published m.rules b m.nonce (ticket_of t) m.fate in
-    let out = ap (λ (d : Book). d.out) (sym is) ∙ kept.out in
-    let old : (w : ℕ) (u : Ticket) → slice_get new.tickets w ≡ Some (Some u) → (w ≢ worker) × (slice_get s.tickets w ≡ Some (Some u)) =
-    λ w u there. elim (at_set s.tickets worker w None (Some u) (subst (λ (ts : List (Option Ticket)). slice_get ts w ≡ Some (Some u)) tickets there))
-    [ inl p ↦ absurd (let no : None ≡ Some u = p.1 in cc) | inr p ↦ p ] in
-    let spent = (fit.tickets worker t held).0.out in
-    record {
-      in_order = in_order;
-      tickets = λ w u there.
-          let was = old w u there in
-          let o = fit.tickets w u was.1 in
-          let other : u.number ≢ t.number = λ same. was.0 (fit.apart w worker u t was.1 held same) in
-          (stays_open b c m u spent is refl (subst (λ (ns : List ℕ). Contains ns u.number) (sym out) (still_out u.number t.number b.out other o.0.out)) o.0, o.1);
-      apart = λ v w x u hv hw same. fit.apart v w x u (old v x hv).1 (old w u hw).1 same;
-      count = ap length tickets ∙ (length-set s.tickets worker None ∙ fit.count);
-      stream = h.stream;
-    }
+pub fit_publish : {D : Type 0} (view : D → View) (tells : Bool) (scripts : List Named) (xs : List (Shelf D Counting)) (ts : List (Option Ticket))
+    (k worker : ℕ) (x y : Shelf D Counting) (t : Ticket) (e : Reply) → AreFit view tells scripts xs ts → slice_get xs k ≡ Some x
+    → slice_get ts worker ≡ Some (Some t) → place_of (length xs) worker t ≡ k → Happens scripts x y (publish (ticket_of t)) (reply_of e)
+    → IsInOrder view tells scripts y → y.rules ≡ x.rules → AreFit view tells scripts (slice_set xs k y) (slice_set ts worker None)
+fit_publish view tells scripts xs ts k worker x y t e fit here held place h in_order rules =
+    let b = book_in scripts x in
+    let c = book_in scripts y in
+    let m = moment_of scripts x (publish (ticket_of t)) (reply_of e) in
+    let is = then_is scripts x y (publish (ticket_of t)) (reply_of e) h in
+    let out = ap (λ (d : Book). d.out) (sym is) ∙ (published m.rules b m.nonce (ticket_of t) m.fate).out in
+    let spent = (open_there view tells scripts xs ts k worker x t fit here held place).out in
+    fit_with view tells scripts xs ts (slice_set ts worker None) k x y fit here
+    (served_on view tells scripts x y (fit.served k x here) in_order rules) rules (length-set ts worker None ∙ fit.count)
+    (λ w u there at.
+    let was = old w u there in
+    let o = open_there view tells scripts xs ts k w x u fit here was.1 at in
+    let other : u.number ≢ t.number = λ same. was.0 (fit.apart w worker u t was.1 held (at ∙ sym place) same) in
+    stays_open b c m u spent is refl (subst (λ (ns : List ℕ). Contains ns u.number) (sym out) (still_out u.number t.number b.out other o.out)) o)
+    (λ w u there other. (old w u there).1)
+    (λ v w z u hv hw at same. fit.apart v w z u (old v z hv).1 (old w u hw).1 at same)
+  where
+    old : (w : ℕ) (u : Ticket) → slice_get (slice_set ts worker None) w ≡ Some (Some u) → (w ≢ worker) × (slice_get ts w ≡ Some (Some u))
+    old w u there = elim (at_set ts worker w None (Some u) there) [ inl p ↦ absurd (let no : None ≡ Some u = p.1 in cc) | inr p ↦ p ]
 
 -- a take that is answered with a number
-pub fit_take : (scripts : List Named) (s new : Staff) (worker : ℕ) (t : Ticket) (target : Destination) (answer : Val) → IsFit scripts s
-    → Happens scripts s.shelf new.shelf (take target answer) (taken t.number t.nonce) → book_in scripts new.shelf ≡ draw (book_in scripts s.shelf)
-    → t.number ≡ s.shelf.book.drawn → FitsAs scripts (book_in scripts new.shelf) t (admit (book_in scripts new.shelf) (target_of t.target))
-    → refusal_of (admit (book_in scripts new.shelf) (target_of t.target)) ≡ None → IsHere (target_of t.target)
-    → IsInOrder scripts new.shelf → new.tickets ≡ slice_set s.tickets worker (Some t) → IsFit scripts new
-fit_take scripts s new worker t target answer fit h drawn number fits admitted here in_order tickets =
-    let b = book_in scripts s.shelf in
-    let c = book_in scripts new.shelf in
-    let m = moment_of scripts s (take target answer) (taken t.number t.nonce) in
-    let is = then_is scripts s.shelf new.shelf (take target answer) (taken t.number t.nonce) h in
+pub fit_take : {D : Type 0} (view : D → View) (tells : Bool) (scripts : List Named) (xs : List (Shelf D Counting)) (ts : List (Option Ticket))
+    (k worker : ℕ) (x y : Shelf D Counting) (t : Ticket) (target : Destination) (answer : Val) → AreFit view tells scripts xs ts → slice_get xs k ≡ Some x
+    → Happens scripts x y (take target answer) (taken t.number t.nonce) → book_in scripts y ≡ draw (book_in scripts x)
+    → t.number ≡ x.book.drawn → FitsAs scripts (book_in scripts y) t (admit (book_in scripts y) (target_of t.target))
+    → refusal_of (admit (book_in scripts y) (target_of t.target)) ≡ None → place_of (length xs) worker t ≡ k
+    → IsInOrder view tells scripts y → y.rules ≡ x.rules → AreFit view tells scripts (slice_set xs k y) (slice_set ts worker (Some t))
+fit_take view tells scripts xs ts k worker x y t target answer fit here h drawn number fits admitted place in_order rules =
+    let b = book_in scripts x in
+    let c = book_in scripts y in
+    let m = moment_of scripts x (take target answer) (taken t.number t.nonce) in
+    let is = then_is scripts x y (take target answer) (taken t.number t.nonce) h in
     let out : c.out ≡ b.out ++ b.drawn ∷ [] = ap (λ (d : Book). d.out) drawn in
-    let mine : Contains c.out t.number = subst (λ (ns : List ℕ). Contains ns t.number) (sym out) (subst (λ (n : ℕ). Contains (b.out ++ b.drawn ∷ []) n) (sym number) (Contains-push b.out b.drawn)) in
-    let case : (w : ℕ) (u : Ticket) → slice_get new.tickets w ≡ Some (Some u) → ((w ≡ worker) × (Some t ≡ Some u)) ⊎ ((w ≢ worker) × (slice_get s.tickets w ≡ Some (Some u))) =
-    λ w u there. at_set s.tickets worker w (Some t) (Some u) (subst (λ (ts : List (Option Ticket)). slice_get ts w ≡ Some (Some u)) tickets there) in
+    let mine : Contains c.out t.number =
+    subst (λ (ns : List ℕ). Contains ns t.number) (sym out) (subst (λ (n : ℕ). Contains (b.out ++ b.drawn ∷ []) n) (sym number) (Contains-push b.out b.drawn)) in
     let new_open : IsOpen c t =
     record { out = mine; then = c; orderly = in_order.orderly; leads = leads_here c; setup = refl; fits = fits; admitted = admitted } in
-    let low : (w : ℕ) (u : Ticket) → slice_get s.tickets w ≡ Some (Some u) → u.number < s.shelf.book.drawn =
-    λ w u there. fit.in_order.orderly.below u.number (among_of b.out u.number (fit.tickets w u there).0.out) in
-    let number_of : (x : Ticket) → Some t ≡ Some x → x.number ≡ s.shelf.book.drawn =
-    λ x e. (let same : t ≡ x = cc in ap (λ (y : Ticket). y.number) (sym same) ∙ number) in
-    record {
-      in_order = in_order;
-      tickets = λ w u there. elim (case w u there) [
-        | inl p ↦ (let same : t ≡ u = (let e = p.1 in cc) in subst (λ (x : Ticket). IsOpen c x × IsHere (target_of x.target)) same (new_open, here))
-        | inr p ↦
-            (let o = fit.tickets w u p.1 in
-            (stays_open b c m u tt is refl (subst (λ (ns : List ℕ). Contains ns u.number) (sym out) (Contains-append_left b.out (b.drawn ∷ []) u.number o.0.out)) o.0, o.1))
-      ];
-      apart = λ v w x u hv hw e. elim (case v x hv) [
-        | inl p ↦ elim (case w u hw) [
-          | inl q ↦ p.0 ∙ sym q.0
-          | inr q ↦ absurd (let is_t = number_of x p.1 in omega (arith, low w u q.1, is_t, e))
-        ]
-        | inr p ↦ elim (case w u hw) [
-          | inl q ↦ absurd (let is_t = number_of u q.1 in omega (arith, low v x p.1, is_t, e))
-          | inr q ↦ fit.apart v w x u p.1 q.1 e
-        ]
-      ];
-      count = ap length tickets ∙ (length-set s.tickets worker (Some t) ∙ fit.count);
-      stream = h.stream;
-    }
+    fit_with view tells scripts xs ts (slice_set ts worker (Some t)) k x y fit here
+    (served_on view tells scripts x y (fit.served k x here) in_order rules) rules (length-set ts worker (Some t) ∙ fit.count)
+    (λ w u there at. elim (case w u there) [
+      | inl p ↦ subst (λ (z : Ticket). IsOpen c z) (same_Some t u p.1) new_open
+      | inr p ↦
+          (let o = open_there view tells scripts xs ts k w x u fit here p.1 at in
+          stays_open b c m u tt is refl (subst (λ (ns : List ℕ). Contains ns u.number) (sym out) (Contains-append_left b.out (b.drawn ∷ []) u.number o.out)) o)
+    ])
+    (λ w u there other. elim (case w u there) [
+      | inl p ↦ absurd (other (at_worker w u p))
+      | inr p ↦ p.1
+    ])
+    (λ v w z u hv hw at same. elim (case v z hv) [
+      | inl p ↦ elim (case w u hw) [
+        | inl q ↦ p.0 ∙ sym q.0
+        | inr q ↦ absurd (fresh w u q.1 (sym at ∙ at_worker v z p) (sym same ∙ drawn_by v z p))
+      ]
+      | inr p ↦ elim (case w u hw) [
+        | inl q ↦ absurd (fresh v z p.1 (at ∙ at_worker w u q) (same ∙ drawn_by w u q))
+        | inr q ↦ fit.apart v w z u p.1 q.1 at same
+      ]
+    ])
+  where
+    case : (w : ℕ) (u : Ticket) → slice_get (slice_set ts worker (Some t)) w ≡ Some (Some u)
+        → ((w ≡ worker) × (Some t ≡ Some u)) ⊎ ((w ≢ worker) × (slice_get ts w ≡ Some (Some u)))
+    case w u there = at_set ts worker w (Some t) (Some u) there
+
+    at_worker : (w : ℕ) (u : Ticket) → (w ≡ worker) × (Some t ≡ Some u) → place_of (length xs) w u ≡ k
+    at_worker w u p =
+        ap (λ i. place_of (length xs) i u) p.0 ∙ ap (λ (z : Ticket). place_of (length xs) worker z) (sym (same_Some t u p.1)) ∙ place
+
+    drawn_by : (w : ℕ) (u : Ticket) → (w ≡ worker) × (Some t ≡ Some u) → u.number ≡ x.book.drawn
+    drawn_by w u p = ap (λ (z : Ticket). z.number) (sym (same_Some t u p.1)) ∙ number
+
+    fresh : (w : ℕ) (u : Ticket) → slice_get ts w ≡ Some (Some u) → place_of (length xs) w u ≡ k → u.number ≡ x.book.drawn → ⊥
+    fresh w u held at e =
+        let o = open_there view tells scripts xs ts k w x u fit here held at in
+        let low = (fit.served k x here).in_order.orderly.below u.number (among_of (book_in scripts x).out u.number o.out) in
+        omega (arith, low, e)
 
 -- nothing was taken
-pub fit_same : (scripts : List Named) (s new : Staff) (target : Destination) (answer : Val) (reply : spec.Reply) → IsFit scripts s
-    → Happens scripts s.shelf new.shelf (take target answer) reply → book_in scripts new.shelf ≡ book_in scripts s.shelf
-    → IsInOrder scripts new.shelf → new.tickets ≡ s.tickets → IsFit scripts new
-fit_same scripts s new target answer reply fit h book in_order tickets = record {
-  in_order = in_order;
-  tickets = λ w t there.
-      let o = fit.tickets w t (subst (λ (ts : List (Option Ticket)). slice_get ts w ≡ Some (Some t)) tickets there) in
-      (subst (λ (d : Book). IsOpen d t) (sym book) o.0, o.1);
-  apart = λ v w t u hv hw e.
-      fit.apart v w t u (subst (λ (ts : List (Option Ticket)). slice_get ts v ≡ Some (Some t)) tickets hv)
-      (subst (λ (ts : List (Option Ticket)). slice_get ts w ≡ Some (Some u)) tickets hw) e;
-  count = ap length tickets ∙ fit.count;
-  stream = h.stream;
-}
+pub fit_same : {D : Type 0} (view : D → View) (tells : Bool) (scripts : List Named) (xs : List (Shelf D Counting)) (ts : List (Option Ticket))
+    (k : ℕ) (x y : Shelf D Counting) → AreFit view tells scripts xs ts → slice_get xs k ≡ Some x
+    → book_in scripts y ≡ book_in scripts x → IsInOrder view tells scripts y → y.rules ≡ x.rules → AreFit view tells scripts (slice_set xs k y) ts
+fit_same view tells scripts xs ts k x y fit here book in_order rules =
+    fit_with view tells scripts xs ts ts k x y fit here (served_on view tells scripts x y (fit.served k x here) in_order rules) rules fit.count
+    (λ w t held place. subst (λ (d : Book). IsOpen d t) (sym book) (open_there view tells scripts xs ts k w x t fit here held place))
+    (λ w t held other. held) fit.apart
+
+-- a shelf was opened again, and nobody holds a ticket of it
+pub fit_crash : {D : Type 0} (view : D → View) (tells : Bool) (scripts : List Named) (xs : List (Shelf D Counting)) (ts us : List (Option Ticket))
+    (k : ℕ) (x y : Shelf D Counting) → AreFit view tells scripts xs ts → slice_get xs k ≡ Some x → IsServed view tells scripts y
+    → y.rules ≡ x.rules → length us ≡ 16 → KeepsOthers (length xs) k ts us → AreFit view tells scripts (slice_set xs k y) us
+fit_crash view tells scripts xs ts us k x y fit here served_y rules count kept =
+    fit_with view tells scripts xs ts us k x y fit here served_y rules count
+    (λ w t held place. absurd ((kept w t held).1 place))
+    (λ w t held other. (kept w t held).0)
+    (λ v w t u hv hw at same. fit.apart v w t u (kept v t hv).0 (kept w u hw).0 at same)

@@ -1,99 +1,74 @@
--- The events of a shelf in memory.
-use Rattle.std.proofs.Common.{◌≡◌, ◌∙◌, ap, sym, subst, refl, ℕ, ◌<◌, ◌^◌, List, Result, Ok, Err, arith}
-use Rattle.script_value.specs.Val.{Val}
+-- The events of a desk's shelf.
+use Rattle.std.proofs.Common.{◌≡◌, ◌∙◌, ap, sym, subst, refl, ℕ, ◌+◌, ◌%◌, ◌^◌, List, Result, Ok, Err, arith}
 use Rattle.script_value.specs.declared.outcome.Reply.{Reply}
 use Rattle.script_nodes.specs.Setup.{Named}
-use Rattle.page_names.specs.Names.{Destination}
 use Rattle.web_outside.specs.Counted.{counted}
 use Rattle.web_outside.specs.declared.nonces.Counting.{Counting}
+use Rattle.page_names.specs.Names.{Destination}
+use Rattle.script_value.specs.Val.{Val}
 use Rattle.replay_spec.specs.Book.{Book}
-use Rattle.replay_spec.specs.Next as next
-use Rattle.replay_spec.specs.Step.{Event, take, publish, sweep, Fate, step}
+use Rattle.replay_spec.specs.Step.{Event, take, Fate, step}
 use Rattle.replay_spec.specs.Step as spec
 use Rattle.replay_spec.specs.Runs as runs
 use Rattle.replay_spec.specs.Runs.{drawn_by, shelf_step}
 use Rattle.replay_spec.specs.Laws as laws
-use Rattle.replay_spec.specs.Laws.{RefusedIsUnchanged}
+use Rattle.replay_spec.specs.Laws.{Moment, then_book, RefusedIsUnchanged}
 use Rattle.instance_book.specs.Views.{reply_of}
-use Rattle.shelf.specs.Views.{book_in, shelf_of, fate_by, swept_of, HasGiven, IsEvent}
+use Rattle.shelf.specs.Views.{book_in, shelf_of, rules_of, fate_by, swept_of, HasGiven, IsEvent}
 use Rattle.shelf.specs.declared.shelf.Shelf.{Shelf}
-use Rattle.play_desk.specs.Desk.{counting}
-use Rattle.play_desk.specs.Staff.{in_64_bits}
-use Rattle.play_desk.proofs.Kept.{published, swept}
+use Rattle.play_desk.specs.Desk.{counting, happening, in_64_bits}
+use Rattle.play_desk.specs.Staff.{shelf_at}
 
--- an event of a shelf that has given as many nonces as numbers were drawn, and so it is afterwards
-pub record Happens (scripts : List Named) (s new : Shelf Counting) (event : Event) (reply : spec.Reply) : Type 0 where
-  pub is : shelf_step counting (shelf_of scripts s.book.drawn s) event (fate_by reply) ≡ (reply, shelf_of scripts new.book.drawn new)
-  pub stream : HasGiven in_64_bits new.book.drawn (counted new.nonces)
+-- the counter of a shelf gives the nonces behind those that it has given
+has_given : (c : Counting) → HasGiven counting (counted c 0) (counted c)
+has_given c k = omega arith
 
--- a source that gives the same nonce next
-same_source : (a b : ℕ → ℕ) (s : runs.Shelf) (event : Event) (fate : Fate) → a s.nonces ≡ b s.nonces → shelf_step a s event fate ≡ shelf_step b s event fate
-same_source a b s event fate same =
-    ap (λ n. let x = step s.rules s.book n event fate in (x.0, (let t : runs.Shelf = record s { book = x.1; nonces = drawn_by x.0 s.nonces } in t))) same
+-- an event of a shelf, as the desk has it
+abbrev pub Happens : {D : Type 0} → List Named → (s new : Shelf D Counting) → Event → spec.Reply → Type 0
+Happens scripts s new what reply = happening (shelf_at scripts s) what (fate_by reply) ≡ (reply, shelf_at scripts new)
 
-pub happens : (scripts : List Named) (s new : Shelf Counting) (event : Event) (reply : spec.Reply) → IsEvent counted scripts s new event reply
-    → HasGiven in_64_bits s.book.drawn (counted s.nonces) → s.book.drawn < 2 ^ 64 → new.book.drawn ≡ drawn_by reply s.book.drawn
-    → Happens scripts s new event reply
-happens scripts s new event reply done given low drawn =
-    let first : in_64_bits s.book.drawn ≡ s.book.drawn = omega (arith, low) in
-    record {
-      is = same_source counting in_64_bits (shelf_of scripts s.book.drawn s) event (fate_by reply) (sym first)
-          ∙ (done.step in_64_bits s.book.drawn given ∙ ap (λ n. (reply, shelf_of scripts n new)) (sym drawn));
-      stream = subst (λ n. HasGiven in_64_bits n (counted new.nonces)) (sym drawn) (done.nonces in_64_bits s.book.drawn given);
-    }
+pub happens : {D : Type 0} (scripts : List Named) (s new : Shelf D Counting) (what : Event) (reply : spec.Reply)
+    → IsEvent counted scripts s new what reply → Happens scripts s new what reply
+happens scripts s new what reply done =
+    let given = counted s.nonces 0 in
+    let same : counting (drawn_by reply given) ≡ counted new.nonces 0 =
+    (let first = done.nonces counting given (has_given s.nonces) 0 in omega (arith, first)) in
+    ap (λ (x : spec.Reply × runs.Shelf). (x.0, in_64_bits x.1)) (done.step counting given (has_given s.nonces))
+    ∙ ap (λ n. (reply, shelf_of scripts n new)) same
 
--- the book behind an event
-pub then_is : (scripts : List Named) (s new : Shelf Counting) (event : Event) (reply : spec.Reply) → Happens scripts s new event reply
-    → (step (shelf_of scripts s.book.drawn s).rules (book_in scripts s) s.book.drawn event (fate_by reply)).1 ≡ book_in scripts new
-then_is scripts s new event reply h = ap (λ (x : spec.Reply × runs.Shelf). x.1.book) h.is
+-- what an event of a shelf meets
+abbrev pub moment_of : {D : Type 0} → List Named → Shelf D Counting → Event → spec.Reply → Moment
+moment_of scripts s what reply =
+    record { rules = rules_of scripts s.rules; nonce = counting (counted s.nonces 0); event = what; fate = fate_by reply }
 
--- the book behind an event, whatever nonce the source gives
-pub behind_event : (scripts : List Named) (s new : Shelf Counting) (event : Event) (reply : spec.Reply) → IsEvent counted scripts s new event reply
-    → HasGiven in_64_bits s.book.drawn (counted s.nonces)
-    → step (shelf_of scripts s.book.drawn s).rules (book_in scripts s) (in_64_bits s.book.drawn) event (fate_by reply) ≡ (reply, book_in scripts new)
-behind_event scripts s new event reply done given =
-    ap (λ (x : spec.Reply × runs.Shelf). (x.0, x.1.book)) (done.step in_64_bits s.book.drawn given)
+-- the book behind it
+pub then_is : {D : Type 0} (scripts : List Named) (s new : Shelf D Counting) (what : Event) (reply : spec.Reply)
+    → Happens scripts s new what reply → then_book (moment_of scripts s what reply) (book_in scripts s) ≡ book_in scripts new
+then_is scripts s new what reply h = ap (λ (x : spec.Reply × runs.Shelf). x.1.book) h
 
--- no reply of the program's own is a number
-pub none_drawn : (r : Reply) (k : ℕ) → drawn_by (reply_of r) k ≡ k
-none_drawn r k = grind arith
-
-pub none_swept : (x : Result ℕ Reply) (k : ℕ) → drawn_by (swept_of x) k ≡ k
-none_swept (Ok n) k = refl
-none_swept (Err e) k = none_drawn e k
+-- and its reply
+pub reply_is : {D : Type 0} (scripts : List Named) (s new : Shelf D Counting) (what : Event) (reply : spec.Reply)
+    → Happens scripts s new what reply
+    → (step (rules_of scripts s.rules) (book_in scripts s) (counting (counted s.nonces 0)) what (fate_by reply)).0 ≡ reply
+reply_is scripts s new what reply h = ap (λ (x : spec.Reply × runs.Shelf). x.0) h
 
 -- what a take comes to
-pub took : RefusedIsUnchanged → (scripts : List Named) (s new : Shelf Counting) (d : Destination) (a : Val) (reply : spec.Reply)
-    → IsEvent counted scripts s new (take d a) reply → HasGiven in_64_bits s.book.drawn (counted s.nonces)
-    → laws.Takes (book_in scripts s) (in_64_bits s.book.drawn) reply (book_in scripts new)
-took law scripts s new d a reply done given =
-    subst (λ (p : spec.Reply × Book). laws.Takes (book_in scripts s) (in_64_bits s.book.drawn) p.0 p.1) (behind_event scripts s new (take d a) reply done given)
-    ((law (shelf_of scripts s.book.drawn s).rules (book_in scripts s) (in_64_bits s.book.drawn) (fate_by reply)).0 d a)
+pub took : {D : Type 0} → RefusedIsUnchanged → (scripts : List Named) (s new : Shelf D Counting) (d : Destination) (a : Val) (reply : spec.Reply)
+    → Happens scripts s new (take d a) reply → laws.Takes (book_in scripts s) (counting (counted s.nonces 0)) reply (book_in scripts new)
+took law scripts s new d a reply h =
+    let nonce = counting (counted s.nonces 0) in
+    let rules = rules_of scripts s.rules in
+    let b = book_in scripts s in
+    subst (λ (p : spec.Reply × Book). laws.Takes b nonce p.0 p.1)
+    (ap (λ (x : spec.Reply × runs.Shelf). (x.0, x.1.book)) h)
+    ((law rules b nonce (fate_by reply)).0 d a)
 
-take_draws : (b c : Book) (nonce : ℕ) (reply : spec.Reply) → laws.Takes b nonce reply c → c.drawn ≡ drawn_by reply b.drawn
-take_draws b c nonce reply h = grind (arith, h)
+-- a take does not touch the disk
+no_fault : (b : Book) (d : Destination) (nonce : ℕ) (fate : Fate) (count : ℕ) → (spec.take_by b d nonce fate).0 ≡ spec.disk_failed count → ⊥
+no_fault b d nonce fate count e = grind (arith, e)
 
-pub take_happens : RefusedIsUnchanged → (scripts : List Named) (s new : Shelf Counting) (d : Destination) (a : Val) (reply : spec.Reply)
-    → IsEvent counted scripts s new (take d a) reply → HasGiven in_64_bits s.book.drawn (counted s.nonces) → s.book.drawn < 2 ^ 64
-    → Happens scripts s new (take d a) reply
-take_happens law scripts s new d a reply done given low =
-    happens scripts s new (take d a) reply done given low
-    (take_draws (book_in scripts s) (book_in scripts new) (in_64_bits s.book.drawn) reply (took law scripts s new d a reply done given))
-
-pub publish_happens : (scripts : List Named) (s new : Shelf Counting) (t : next.Ticket) (e : Reply)
-    → IsEvent counted scripts s new (publish t) (reply_of e) → HasGiven in_64_bits s.book.drawn (counted s.nonces) → s.book.drawn < 2 ^ 64
-    → Happens scripts s new (publish t) (reply_of e)
-publish_happens scripts s new t e done given low =
-    let rules = (shelf_of scripts s.book.drawn s).rules in
-    let kept = published rules (book_in scripts s) (in_64_bits s.book.drawn) t (fate_by (reply_of e)) in
-    let is = ap (λ (x : spec.Reply × Book). x.1.drawn) (behind_event scripts s new (publish t) (reply_of e) done given) in
-    happens scripts s new (publish t) (reply_of e) done given low (sym is ∙ (kept.drawn ∙ sym (none_drawn e s.book.drawn)))
-
-pub sweep_happens : (scripts : List Named) (s new : Shelf Counting) (tick : ℕ) (x : Result ℕ Reply)
-    → IsEvent counted scripts s new (sweep tick) (swept_of x) → HasGiven in_64_bits s.book.drawn (counted s.nonces) → s.book.drawn < 2 ^ 64
-    → Happens scripts s new (sweep tick) (swept_of x)
-sweep_happens scripts s new tick x done given low =
-    let rules = (shelf_of scripts s.book.drawn s).rules in
-    let kept = swept rules (book_in scripts s) (in_64_bits s.book.drawn) tick (fate_by (swept_of x)) in
-    let is = ap (λ (y : spec.Reply × Book). y.1.drawn) (behind_event scripts s new (sweep tick) (swept_of x) done given) in
-    happens scripts s new (sweep tick) (swept_of x) done given low (sym is ∙ (kept.drawn ∙ sym (none_swept x s.book.drawn)))
+pub take_no_fault : {D : Type 0} (scripts : List Named) (s new : Shelf D Counting) (d : Destination) (a : Val) (count : ℕ)
+    → Happens scripts s new (take d a) (spec.disk_failed count) → ⊥
+unfolding step
+take_no_fault scripts s new d a count h =
+    no_fault (book_in scripts s) d (counting (counted s.nonces 0)) (spec.disk_fault count) count (reply_is scripts s new (take d a) (spec.disk_failed count) h)

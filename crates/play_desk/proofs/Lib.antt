@@ -4,3 +4,10 @@ pub mod ShelfRuns
 pub mod Held
 pub mod Entering
 pub mod Transcribed
+pub mod Open
+pub mod Happening
+pub mod Fitting
+pub mod Stepping
+pub mod Counting
+pub mod Losing
+pub mod Reopening

@@ -1,5 +1,5 @@
 -- Places of lists that are read and written.
-use Rattle.std.proofs.Common.{◌≡◌, ◌≢◌, ◌⊎◌, inl, inr, ap, sym, refl, ℕ, ◌<◌, ◌==◌, ◌++◌, ◌∙◌, true, false, zero, suc, List, [], ◌∷◌, length, replicate, slice_get, slice_set, Some, None, arith}
+use Rattle.std.proofs.Common.{◌≡◌, ◌≢◌, ◌⊎◌, inl, inr, ap, sym, refl, ℕ, ◌<◌, ◌==◌, ◌++◌, ◌∙◌, true, false, zero, suc, List, [], ◌∷◌, length, replicate, slice_get, slice_set, slice_index_or, Some, None, arith}
 
 use Rattle.std.proofs.lemmas.Bool.{eq-eqb}
 
@@ -49,3 +49,15 @@ in_push (y ∷ xs) x (suc k) u e = in_push xs x k u e
 
 pub not_same : (a b : ℕ) → (a == b) ≡ false → a ≢ b
 not_same a b test is = absurd (let yes = eq-eqb a b is in let no : true ≡ false = sym yes ∙ test in cc)
+
+-- what stands at an index that is there
+pub at_index : {A : Type 0} (xs : List A) (k : ℕ) (x d : A) → k < length xs → x ≡ slice_index_or xs k d → slice_get xs k ≡ Some x
+at_index [] k x d h e = absurd (omega arith)
+at_index (y ∷ xs) zero x d h e = ap Some (sym e)
+at_index (y ∷ xs) (suc k) x d h e = at_index xs k x d (omega arith) e
+
+-- something stands at each index that is there
+pub some_at : {A : Type 0} (xs : List A) (k : ℕ) → k < length xs → (x : A) × (slice_get xs k ≡ Some x)
+some_at [] k h = absurd (omega arith)
+some_at (y ∷ xs) zero h = (y, refl)
+some_at (y ∷ xs) (suc k) h = some_at xs k (omega arith)

@@ -1,32 +1,32 @@
 -- What the calls of a shelf are as steps of a desk.
-use Rattle.std.proofs.Common.{◌≡◌, ◌∙◌, ap, sym, refl, ℕ, ◌<◌, ◌==◌, ◌^◌, zero, suc, List, [], ◌∷◌, length, map, slice_get, slice_set, Bool, true, false, Option, Some, None, option_map, Result, Ok, Err, arith}
+use Rattle.std.proofs.Common.{◌≡◌, ◌∙◌, ap, sym, subst, refl, ℕ, ◌<◌, ◌==◌, ◌^◌, zero, suc, List, [], ◌∷◌, length, map, slice_get, slice_set, Bool, true, false, Option, Some, None, option_map, Result, Ok, Err, arith}
 use Rattle.std.specs.Prelude.{is_some, IfSome}
-use Rattle.std.proofs.lemmas.List.{map-set}
+use Rattle.std.proofs.lemmas.List.{length-map, map-set}
 use Rattle.std.proofs.lemmas.Option.{slice_get-map}
 use Rattle.script_value.specs.Val.{Val}
 use Rattle.script_value.specs.declared.outcome.Reply.{Reply}
 use Rattle.script_value.specs.declared.outcome.Reply.TheVariants.{Refused}
 use Rattle.script_value.specs.declared.outcome.Refusal.{Refusal}
 use Rattle.script_value.specs.declared.outcome.Refusal.TheVariants.{Unknown}
-use Rattle.script_nodes.specs.Views.{scripts_of}
-use Rattle.script_nodes.specs.declared.setup.Setup.{Setup}
+use Rattle.web_outside.specs.declared.nonces.Counting.{Counting}
+use Rattle.script_nodes.specs.Setup.{Named}
 use Rattle.page_names.specs.Names.{Destination, start, page, destination_of}
 use Rattle.replay_spec.specs.Book.{Book, Doubt, draw}
 use Rattle.replay_spec.specs.Admission.{or_else, when, admit, refusal_of}
 use Rattle.replay_spec.specs.Next as next
-use Rattle.replay_spec.specs.Step.{take, publish, sweep, Fate, plain}
+use Rattle.replay_spec.specs.Step.{take, publish, sweep, crash, Fate, plain}
 use Rattle.replay_spec.specs.Step as spec
-use Rattle.replay_spec.specs.Runs.{Shelf, shelf_step}
+use Rattle.replay_spec.specs.Runs.{Shelf}
 use Rattle.replay_spec.specs.Laws as laws
 use Rattle.instance_book.specs.Views.{ticket_of, reply_of}
 use Rattle.instance_book.specs.declared.ticket.Ticket.{Ticket}
-use Rattle.shelf.specs.Views.{shelf_of, fate_by, swept_of}
-use Rattle.play_steps.specs.Rules.{answered, event}
-use Rattle.play_desk.specs.declared.staff.Staff.{Staff}
+use Rattle.shelf.specs.declared.shelf.Shelf as code
+use Rattle.shelf.specs.Views.{fate_by, swept_of}
+use Rattle.play_steps.specs.Rules.{Call, Comes, answered, event}
 use Rattle.play_desk.specs.Target.{answer_to, path_and_query, shelf_for}
 use Rattle.play_desk.specs.Desk as desk
-use Rattle.play_desk.specs.Desk.{Desk, told, take_on, take_at, counting, desk_take, desk_publish, taken_by, published_by, swept_by, with_shelf, behind}
-use Rattle.play_desk.specs.Staff.{IsHere, desk_of}
+use Rattle.play_desk.specs.Desk.{Desk, told, take_on, take_at, happening, desk_take, desk_publish, desk_sweep, desk_crash, publish_held, publish_on, sweep_on, crash_on, taken_by, published_by, swept_by, crashed_by, with_shelf, behind, is_fault}
+use Rattle.play_desk.specs.Staff.{desk_with, shelf_at}
 use Rattle.play_desk.proofs.Happening.{Happens}
 use Rattle.play_desk.proofs.Places.{get_set}
 
@@ -34,39 +34,91 @@ use Rattle.play_desk.proofs.Places.{get_set}
 told_is : (r : Reply) → told (reply_of r) ≡ r
 told_is r = grind arith
 
--- the desk of one shelf
-abbrev at_one : Shelf → List (Option next.Ticket) → Desk
-at_one s held = record { shelves = s ∷ []; held = held }
+-- ---- the calls of a desk
 
-pub takes : (s : Shelf) (held : List (Option next.Ticket)) (worker : ℕ) (target : List ℕ) (d : Destination) → destination_of (path_and_query target).0 ≡ Some d → IsHere d
-    → desk_take (at_one s held) worker target
-    ≡ event (λ fate. taken_by (at_one s held) 0 worker d (answer_to (path_and_query target).1) (shelf_step counting s (take d (answer_to (path_and_query target).1)) fate))
-takes s held worker target d e here = rw (e, here worker) refl
+pub takes : (d : Desk) (worker : ℕ) (target : List ℕ) (at : Destination) (k : ℕ) (s : Shelf) → destination_of (path_and_query target).0 ≡ Some at
+    → shelf_for (length d.shelves) worker at ≡ k → slice_get d.shelves k ≡ Some s
+    → desk_take d worker target
+    ≡ event (λ fate. taken_by d k worker at (answer_to (path_and_query target).1) (happening s (take at (answer_to (path_and_query target).1)) fate))
+takes d worker target at k s names place here =
+    let answer = answer_to (path_and_query target).1 in
+    ap (take_at d worker answer) names
+    ∙ ap (λ i. take_on d i worker at answer (slice_get d.shelves i)) place
+    ∙ ap (take_on d k worker at answer) here
 
--- what no path names on the first shelf is unknown
-page_elsewhere : (s : Shelf) (held : List (Option next.Ticket)) (worker : ℕ) (answer : Val) (d : Destination) (k : ℕ) → k ≡ shelf_for 1 worker d → (k ≡ 0 → ⊥)
-    → take_on (at_one s held) k worker d answer (slice_get (s ∷ []) k) ≡ answered (Err (Refused Unknown))
-page_elsewhere s held worker answer d zero e other = absurd (other refl)
-page_elsewhere s held worker answer d (suc k) e other = refl
+pub takes_nothing : (d : Desk) (worker : ℕ) (target : List ℕ) → destination_of (path_and_query target).0 ≡ None
+    → desk_take d worker target ≡ answered (Err (Refused Unknown))
+takes_nothing d worker target names = ap (take_at d worker (answer_to (path_and_query target).1)) names
 
-by_name : (s : Shelf) (held : List (Option next.Ticket)) (worker : ℕ) (answer : Val) (o : Option Destination) → ((d : Destination) → o ≡ Some d → IsHere d → ⊥)
-    → take_at (at_one s held) worker answer o ≡ answered (Err (Refused Unknown))
-by_name s held worker answer None none = refl
-by_name s held worker answer (Some (start name)) none = absurd (none (start name) refl (λ w. omega arith))
-by_name s held worker answer (Some (page name n)) none = page_elsewhere s held worker answer (page name n) n.shelf refl (λ e. none (page name n) refl (λ w. e))
+pub takes_nowhere : (d : Desk) (worker : ℕ) (target : List ℕ) (at : Destination) → destination_of (path_and_query target).0 ≡ Some at
+    → slice_get d.shelves (shelf_for (length d.shelves) worker at) ≡ None → desk_take d worker target ≡ answered (Err (Refused Unknown))
+takes_nowhere d worker target at names none =
+    let answer = answer_to (path_and_query target).1 in
+    ap (take_at d worker answer) names ∙ ap (take_on d (shelf_for (length d.shelves) worker at) worker at answer) none
 
-pub elsewhere : (s : Shelf) (held : List (Option next.Ticket)) (worker : ℕ) (target : List ℕ)
-    → ((d : Destination) → destination_of (path_and_query target).0 ≡ Some d → IsHere d → ⊥)
-    → desk_take (at_one s held) worker target ≡ answered (Err (Refused Unknown))
-elsewhere s held worker target none = by_name s held worker (answer_to (path_and_query target).1) (destination_of (path_and_query target).0) none
+pub publishes : (d : Desk) (worker : ℕ) (t : next.Ticket) (k : ℕ) (s : Shelf) → slice_get d.held worker ≡ Some (Some t)
+    → shelf_for (length d.shelves) worker t.target ≡ k → slice_get d.shelves k ≡ Some s
+    → desk_publish d worker ≡ event (λ fate. published_by d k worker (happening s (publish t) fate))
+publishes d worker t k s held place here =
+    ap (publish_held d worker) (let it : desk.ticket_of d worker ≡ Some t = rw held refl in it)
+    ∙ ap (λ i. publish_on d i worker t (slice_get d.shelves i)) place ∙ ap (publish_on d k worker t) here
 
-pub publishes : (s : Shelf) (held : List (Option next.Ticket)) (worker : ℕ) (t : next.Ticket) → slice_get held worker ≡ Some (Some t) → IsHere t.target
-    → desk_publish (at_one s held) worker ≡ event (λ fate. published_by (at_one s held) 0 worker (shelf_step counting s (publish t) fate))
-publishes s held worker t e here = rw (e, here worker) refl
+pub nothing_held : (d : Desk) (worker : ℕ) → slice_get d.held worker ≡ Some None → desk_publish d worker ≡ answered (Refused Unknown)
+nothing_held d worker held = ap (publish_held d worker) (let it : desk.ticket_of d worker ≡ None = rw held refl in it)
 
-pub nothing_held : (s : Shelf) (held : List (Option next.Ticket)) (worker : ℕ) → slice_get held worker ≡ Some None
-    → desk_publish (at_one s held) worker ≡ answered (Refused Unknown)
-nothing_held s held worker e = rw e refl
+pub sweeps : (d : Desk) (k tick : ℕ) (s : Shelf) → slice_get d.shelves k ≡ Some s
+    → desk_sweep d k tick ≡ event (λ fate. swept_by d k (happening s (sweep tick) fate))
+sweeps d k tick s here = ap (sweep_on d k tick) here
+
+pub crashes : (d : Desk) (k : ℕ) (s : Shelf) → slice_get d.shelves k ≡ Some s
+    → desk_crash d k ≡ event (λ fate. crashed_by d k (happening s (crash d.scripts) fate))
+crashes d k s here = ap (crash_on d k) here
+
+-- what is answered without an event
+pub is_answered : {A : Type 0} (d e : Desk) (call : Call Desk Fate A) (a : A) (rose : Type 0) → call ≡ answered a → e ≡ d
+    → Comes is_fault rose call d a e
+is_answered d e call a rose is same = subst (λ c. Comes is_fault rose c d a e) (sym is) (refl, same)
+
+-- what an event answers
+pub is_event : {A : Type 0} (d e : Desk) (call : Call Desk Fate A) (by : Fate → A × Desk) (a : A) (rose : Type 0) (fate : Fate) → call ≡ event by
+    → by fate ≡ (a, e) → (is_fault fate ≡ true → rose) → Comes is_fault rose call d a e
+is_event d e call by a rose fate is comes fails = subst (λ c. Comes is_fault rose c d a e) (sym is) (fate, comes, fails)
+
+-- ---- the desk behind them
+
+pub shelf_there : {D : Type 0} (scripts : List Named) (xs : List (code.Shelf D Counting)) (ts : List (Option Ticket)) (k : ℕ) (x : code.Shelf D Counting)
+    → slice_get xs k ≡ Some x → slice_get (desk_with scripts xs ts).shelves k ≡ Some (shelf_at scripts x)
+shelf_there scripts xs ts k x here = slice_get-map (shelf_at scripts) xs k ∙ ap (option_map (shelf_at scripts)) here
+
+pub no_shelf_there : {D : Type 0} (scripts : List Named) (xs : List (code.Shelf D Counting)) (ts : List (Option Ticket)) (k : ℕ)
+    → slice_get xs k ≡ None → slice_get (desk_with scripts xs ts).shelves k ≡ None
+no_shelf_there scripts xs ts k here = slice_get-map (shelf_at scripts) xs k ∙ ap (option_map (shelf_at scripts)) here
+
+pub count_is : {D : Type 0} (scripts : List Named) (xs : List (code.Shelf D Counting)) (ts : List (Option Ticket))
+    → length (desk_with scripts xs ts).shelves ≡ length xs
+count_is scripts xs ts = length-map xs (shelf_at scripts)
+
+-- the ticket that is held, as the desk holds it
+pub held_there : (tickets : List (Option Ticket)) (worker : ℕ) (o : Option Ticket) → slice_get tickets worker ≡ Some o
+    → slice_get (map (option_map ticket_of) tickets) worker ≡ Some (option_map ticket_of o)
+held_there tickets worker o found = slice_get-map (option_map ticket_of) tickets worker ∙ ap (option_map (option_map ticket_of)) found
+
+pub with_is : {D : Type 0} (scripts : List Named) (xs : List (code.Shelf D Counting)) (ts : List (Option Ticket)) (k : ℕ) (y : code.Shelf D Counting)
+    → with_shelf (desk_with scripts xs ts) k (shelf_at scripts y) ≡ desk_with scripts (slice_set xs k y) ts
+with_is scripts xs ts k y =
+    ap (λ (ss : List Shelf). (let d : Desk = record { scripts = scripts; shelves = ss; held = map (option_map ticket_of) ts } in d))
+    (sym (map-set (shelf_at scripts) xs k y))
+
+pub behind_is : {D : Type 0} (scripts : List Named) (xs : List (code.Shelf D Counting)) (ts : List (Option Ticket)) (k worker : ℕ) (y : code.Shelf D Counting)
+    (o : Option Ticket)
+    → behind (desk_with scripts xs ts) k (shelf_at scripts y) worker (option_map ticket_of o) ≡ desk_with scripts (slice_set xs k y) (slice_set ts worker o)
+behind_is scripts xs ts k worker y o =
+    ap (λ (hs : List (Option next.Ticket)). behind_with (slice_set (map (shelf_at scripts) xs) k (shelf_at scripts y)) hs)
+    (sym (map-set (option_map ticket_of) ts worker o))
+    ∙ ap (λ (ss : List Shelf). behind_with ss (map (option_map ticket_of) (slice_set ts worker o))) (sym (map-set (shelf_at scripts) xs k y))
+  where
+    behind_with : List Shelf → List (Option next.Ticket) → Desk
+    behind_with ss hs = record { scripts = scripts; shelves = ss; held = hs }
 
 -- ---- the calls of a shelf
 
@@ -76,51 +128,51 @@ swept_err d k r s = grind arith
 taken_err : (d : Desk) (k worker : ℕ) (target : Destination) (answer : Val) (r : Reply) (s : Shelf) → taken_by d k worker target answer (reply_of r, s) ≡ (Err r, with_shelf d k s)
 taken_err d k worker target answer r s = grind arith
 
-swept_so : (d : Desk) (x : Result ℕ Reply) (s : Shelf) → swept_by d 0 (swept_of x, s) ≡ (x, with_shelf d 0 s)
-swept_so d (Ok n) s = refl
-swept_so d (Err e) s = swept_err d 0 e s
+swept_so : (d : Desk) (k : ℕ) (x : Result ℕ Reply) (s : Shelf) → swept_by d k (swept_of x, s) ≡ (x, with_shelf d k s)
+swept_so d k (Ok n) s = refl
+swept_so d k (Err e) s = swept_err d k e s
 
-pub sweep_step : (setup : Setup) (s new : Staff) (tick : ℕ) (x : Result ℕ Reply) → Happens (scripts_of setup) s.shelf new.shelf (sweep tick) (swept_of x) → new.tickets ≡ s.tickets
-    → swept_by (desk_of setup s) 0 (shelf_step counting (shelf_of (scripts_of setup) s.shelf.book.drawn s.shelf) (sweep tick) (fate_by (swept_of x))) ≡ (x, desk_of setup new)
-sweep_step setup s new tick x h tickets =
-    ap (swept_by (desk_of setup s) 0) h.is
-    ∙ (swept_so (desk_of setup s) x (shelf_of (scripts_of setup) new.shelf.book.drawn new.shelf)
-    ∙ ap (λ (ts : List (Option Ticket)). (x, at_one (shelf_of (scripts_of setup) new.shelf.book.drawn new.shelf) (map (option_map ticket_of) ts))) (sym tickets))
+pub sweep_step : {D : Type 0} (scripts : List Named) (xs : List (code.Shelf D Counting)) (ts : List (Option Ticket)) (k : ℕ) (x y : code.Shelf D Counting)
+    (tick : ℕ) (r : Result ℕ Reply) → Happens scripts x y (sweep tick) (swept_of r)
+    → swept_by (desk_with scripts xs ts) k (happening (shelf_at scripts x) (sweep tick) (fate_by (swept_of r))) ≡ (r, desk_with scripts (slice_set xs k y) ts)
+sweep_step scripts xs ts k x y tick r h =
+    ap (swept_by (desk_with scripts xs ts) k) h
+    ∙ (swept_so (desk_with scripts xs ts) k r (shelf_at scripts y) ∙ ap (λ (e : Desk). (r, e)) (with_is scripts xs ts k y))
 
-pub take_step : (setup : Setup) (s new : Staff) (worker : ℕ) (d : Destination) (a : Val) (t : Ticket)
-    → Happens (scripts_of setup) s.shelf new.shelf (take d a) (spec.taken t.number t.nonce)
-    → ticket_of t ≡ record { target = d; answer = a; number = t.number; nonce = t.nonce } → new.tickets ≡ slice_set s.tickets worker (Some t)
-    → taken_by (desk_of setup s) 0 worker d a (shelf_step counting (shelf_of (scripts_of setup) s.shelf.book.drawn s.shelf) (take d a) plain) ≡ (Ok t.number, desk_of setup new)
-take_step setup s new worker d a t h ticket tickets =
-    let shelf = shelf_of (scripts_of setup) new.shelf.book.drawn new.shelf in
-    let held = map (option_map ticket_of) s.tickets in
-    ap (taken_by (desk_of setup s) 0 worker d a) h.is
-    ∙ (ap (λ (x : next.Ticket). (Ok t.number, at_one shelf (slice_set held worker (Some x)))) (sym ticket)
-    ∙ ap (λ (hs : List (Option next.Ticket)). (Ok t.number, at_one shelf hs))
-    (sym (map-set (option_map ticket_of) s.tickets worker (Some t)) ∙ ap (map (option_map ticket_of)) (sym tickets)))
+pub take_step : {D : Type 0} (scripts : List Named) (xs : List (code.Shelf D Counting)) (ts : List (Option Ticket)) (k worker : ℕ) (x y : code.Shelf D Counting)
+    (d : Destination) (a : Val) (t : Ticket) → Happens scripts x y (take d a) (spec.taken t.number t.nonce)
+    → ticket_of t ≡ record { target = d; answer = a; number = t.number; nonce = t.nonce }
+    → taken_by (desk_with scripts xs ts) k worker d a (happening (shelf_at scripts x) (take d a) plain)
+    ≡ (Ok t.number, desk_with scripts (slice_set xs k y) (slice_set ts worker (Some t)))
+take_step scripts xs ts k worker x y d a t h ticket =
+    ap (taken_by (desk_with scripts xs ts) k worker d a) h
+    ∙ (ap (λ (u : next.Ticket). (Ok t.number, behind (desk_with scripts xs ts) k (shelf_at scripts y) worker (Some u))) (sym ticket)
+    ∙ ap (λ (e : Desk). (Ok t.number, e)) (behind_is scripts xs ts k worker y (Some t)))
 
-pub refused_step : (setup : Setup) (s new : Staff) (worker : ℕ) (d : Destination) (a : Val) (e : Reply)
-    → Happens (scripts_of setup) s.shelf new.shelf (take d a) (reply_of e) → new.tickets ≡ s.tickets
-    → taken_by (desk_of setup s) 0 worker d a (shelf_step counting (shelf_of (scripts_of setup) s.shelf.book.drawn s.shelf) (take d a) (fate_by (reply_of e))) ≡ (Err e, desk_of setup new)
-refused_step setup s new worker d a e h tickets =
-    ap (taken_by (desk_of setup s) 0 worker d a) h.is
-    ∙ (taken_err (desk_of setup s) 0 worker d a e (shelf_of (scripts_of setup) new.shelf.book.drawn new.shelf)
-    ∙ ap (λ (ts : List (Option Ticket)). (Err e, at_one (shelf_of (scripts_of setup) new.shelf.book.drawn new.shelf) (map (option_map ticket_of) ts))) (sym tickets))
+pub refused_step : {D : Type 0} (scripts : List Named) (xs : List (code.Shelf D Counting)) (ts : List (Option Ticket)) (k worker : ℕ) (x y : code.Shelf D Counting)
+    (d : Destination) (a : Val) (e : Reply) → Happens scripts x y (take d a) (reply_of e)
+    → taken_by (desk_with scripts xs ts) k worker d a (happening (shelf_at scripts x) (take d a) (fate_by (reply_of e)))
+    ≡ (Err e, desk_with scripts (slice_set xs k y) ts)
+refused_step scripts xs ts k worker x y d a e h =
+    ap (taken_by (desk_with scripts xs ts) k worker d a) h
+    ∙ (taken_err (desk_with scripts xs ts) k worker d a e (shelf_at scripts y) ∙ ap (λ (z : Desk). (Err e, z)) (with_is scripts xs ts k y))
 
-pub publish_step : (setup : Setup) (s new : Staff) (worker : ℕ) (t : Ticket) (e : Reply)
-    → Happens (scripts_of setup) s.shelf new.shelf (publish (ticket_of t)) (reply_of e) → new.tickets ≡ slice_set s.tickets worker None
-    → published_by (desk_of setup s) 0 worker (shelf_step counting (shelf_of (scripts_of setup) s.shelf.book.drawn s.shelf) (publish (ticket_of t)) (fate_by (reply_of e))) ≡ (e, desk_of setup new)
-publish_step setup s new worker t e h tickets =
-    let shelf = shelf_of (scripts_of setup) new.shelf.book.drawn new.shelf in
-    ap (published_by (desk_of setup s) 0 worker) h.is
-    ∙ (ap (λ (x : Reply). (x, behind (desk_of setup s) 0 shelf worker None)) (told_is e)
-    ∙ ap (λ (hs : List (Option next.Ticket)). (e, at_one shelf hs))
-    (sym (map-set (option_map ticket_of) s.tickets worker None) ∙ ap (map (option_map ticket_of)) (sym tickets)))
+pub publish_step : {D : Type 0} (scripts : List Named) (xs : List (code.Shelf D Counting)) (ts : List (Option Ticket)) (k worker : ℕ) (x y : code.Shelf D Counting)
+    (t : Ticket) (e : Reply) → Happens scripts x y (publish (ticket_of t)) (reply_of e)
+    → published_by (desk_with scripts xs ts) k worker (happening (shelf_at scripts x) (publish (ticket_of t)) (fate_by (reply_of e)))
+    ≡ (e, desk_with scripts (slice_set xs k y) (slice_set ts worker None))
+publish_step scripts xs ts k worker x y t e h =
+    ap (published_by (desk_with scripts xs ts) k worker) h
+    ∙ (ap (λ (r : Reply). (r, behind (desk_with scripts xs ts) k (shelf_at scripts y) worker None)) (told_is e)
+    ∙ ap (λ (z : Desk). (e, z)) (behind_is scripts xs ts k worker y None))
 
--- the ticket that is published, as the desk holds it
-pub held_there : (tickets : List (Option Ticket)) (worker : ℕ) (o : Option Ticket) → slice_get tickets worker ≡ Some o
-    → slice_get (map (option_map ticket_of) tickets) worker ≡ Some (option_map ticket_of o)
-held_there tickets worker o found = slice_get-map (option_map ticket_of) tickets worker ∙ ap (option_map (option_map ticket_of)) found
+pub holds_it : (tickets : List (Option Ticket)) (worker : ℕ) (t : Ticket) (d : Desk) → d.held ≡ map (option_map ticket_of) (slice_set tickets worker (Some t))
+    → worker < length tickets → is_some (desk.ticket_of d worker) ≡ true
+holds_it tickets worker t d is low =
+    let there : slice_get d.held worker ≡ Some (Some (ticket_of t)) =
+    ap (λ (hs : List (Option next.Ticket)). slice_get hs worker) is
+    ∙ held_there (slice_set tickets worker (Some t)) worker (Some t) (get_set tickets worker (Some t) low) in
+    rw there refl
 
 -- ---- what a take comes to
 
@@ -142,9 +194,3 @@ pub was_admitted : (b c : Book) (d : Destination) (n k : ℕ) → IfSome (spec.n
 was_admitted b c d n k h drawn =
     ap (λ (x : Book). refusal_of (admit x d)) drawn ∙ (ap refusal_of (admit_drawn b d) ∙ none_stands b.down (b.drawn == 2 ^ 62) (refusal_of (admit b d)) n k h)
 
-pub holds_it : (setup : Setup) (new : Staff) (tickets : List (Option Ticket)) (worker : ℕ) (t : Ticket) → new.tickets ≡ slice_set tickets worker (Some t) → worker < length tickets
-    → is_some (desk.ticket_of (desk_of setup new) worker) ≡ true
-holds_it setup new tickets worker t is low =
-    let there : slice_get (map (option_map ticket_of) new.tickets) worker ≡ Some (Some (ticket_of t)) =
-    held_there new.tickets worker (Some t) (ap (λ (ts : List (Option Ticket)). slice_get ts worker) is ∙ get_set tickets worker (Some t) low) in
-    rw there refl

@@ -126,10 +126,14 @@ abbrev pub is_of : (count shelf worker : ℕ) → Option Ticket → Bool
 is_of count k worker None = false
 is_of count k worker (Some t) = shelf_for count worker t.target == k
 
--- what workers hold, from this one on, once the tickets of this shelf are lost
+-- what a worker holds once the tickets of this shelf are lost
+abbrev pub left_of : (count shelf worker : ℕ) → Option Ticket → Option Ticket
+left_of count k worker t = if is_of count k worker t then None else t
+
+-- and what workers hold from this one on
 abbrev pub without_shelf : (count shelf worker : ℕ) → List (Option Ticket) → List (Option Ticket)
 without_shelf count k worker [] = []
-without_shelf count k worker (t ∷ ts) = (if is_of count k worker t then None else t) ∷ without_shelf count k (worker + 1) ts
+without_shelf count k worker (t ∷ ts) = left_of count k worker t ∷ without_shelf count k (worker + 1) ts
 
 -- a crash loses the shelf's tickets, and tells how many instances are live behind it
 abbrev pub crashed_by : Desk → (shelf : ℕ) → spec.Reply × Shelf → ℕ × Desk

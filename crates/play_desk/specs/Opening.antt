@@ -163,6 +163,11 @@ IsClosedBy holds count number (cause.Damaged place) = ⊥
 IsClosedBy holds count number (cause.Other place) = ⊥
 IsClosedBy holds count number _ = number < count
 
+-- what a disk may hold that was given back, each shelf's disk might have held before
+abbrev pub HoldImages : {D : Type 0} → (D → View) → List (Shelf D Counting) → (holds : ℕ → List ℕ → Type 0) → Type 0
+HoldImages {D = D} view shelves holds =
+    (k : ℕ) (s : Shelf D Counting) → slice_get shelves k ≡ Some s → AreAmong (holds s.rules.number) (view s.journal.disk).images
+
 -- the disks that are given back stand for the books of a desk, each with what is in doubt or without it
 abbrev pub HoldTheBooks : (desk : Desk) → (holds : ℕ → List ℕ → Type 0) → Type 0
 HoldTheBooks d holds =

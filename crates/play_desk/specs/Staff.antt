@@ -1,5 +1,5 @@
 -- What shelves with their workers stand for, and what holds of them between the steps of a run.
-use Rattle.std.specs.Prelude.{◌≡◌, ◌≤◌, ◌-◌, ◌+◌, ◌^◌, ℕ, Bool, true, false, List, map, length, min, sum, slice_get, Contains, Option, Some, None, Result, option_map, is_some}
+use Rattle.std.specs.Prelude.{◌≡◌, ◌≢◌, ◌≤◌, ◌-◌, ◌+◌, ◌^◌, ℕ, Bool, true, false, List, map, length, min, sum_by, slice_get, Contains, Option, Some, None, Result, option_map, is_some}
 use Rattle.server_limits.specs.Limits.{most_shelves}
 use Rattle.web_outside.specs.Causes.{Rose}
 use Rattle.web_outside.specs.Counted.{counted}
@@ -34,12 +34,15 @@ abbrev pub shelf_at : {D : Type 0} → List Named → Shelf D Counting → runs.
 shelf_at scripts s = shelf_of scripts (counted s.nonces 0) s
 
 -- the shelves with their workers' tickets
-abbrev pub desk_of : {D : Type 0} → Setup → Staff D → Desk
-desk_of setup s = record {
-  scripts = scripts_of setup;
-  shelves = map (shelf_at (scripts_of setup)) s.shelves.items;
-  held = map (option_map ticket_of) s.tickets;
+abbrev pub desk_with : {D : Type 0} → List Named → List (Shelf D Counting) → List (Option Ticket) → Desk
+desk_with scripts shelves tickets = record {
+  scripts = scripts;
+  shelves = map (shelf_at scripts) shelves;
+  held = map (option_map ticket_of) tickets;
 }
+
+abbrev pub desk_of : {D : Type 0} → Setup → Staff D → Desk
+desk_of setup s = desk_with (scripts_of setup) s.shelves.items s.tickets
 
 -- the number is out; and the ticket is for the visit that its target was admitted as when it was taken, on the book that the
 -- shelf had then, which had the same setup
@@ -62,31 +65,44 @@ pub record IsServed {D : Type 0} (view : D → View) (tells : Bool) (scripts : L
 abbrev pub place_of : (count worker : ℕ) → Ticket → ℕ
 place_of count worker t = shelf_for count worker (target_of t.target)
 
+-- a ticket that is held now was held, and is of another shelf than the one at this place
+abbrev pub KeepsOthers : (count place : ℕ) → (old new : List (Option Ticket)) → Type 0
+KeepsOthers count place old new =
+    (w : ℕ) (t : Ticket) → slice_get new w ≡ Some (Some t) → (slice_get old w ≡ Some (Some t)) × (place_of count w t ≢ place)
+
 -- on the shelf at a place the ticket is open
 pub record IsOpenAt {D : Type 0} (scripts : List Named) (shelves : List (Shelf D Counting)) (place : ℕ) (t : Ticket) : Type 0 where
   pub shelf : Shelf D Counting
   pub there : slice_get shelves place ≡ Some shelf
   pub is_open : IsOpen (book_in scripts shelf) t
 
+-- the numbers of shelves, and how often their disks have failed in all
+abbrev pub numbers_in : {D : Type 0} → List (Shelf D Counting) → List ℕ
+numbers_in shelves = map (λ x. x.rules.number) shelves
+
+abbrev pub faults_in : {D : Type 0} → (D → View) → List (Shelf D Counting) → ℕ
+faults_in view shelves = sum_by (λ x. (view x.journal.disk).faults) shelves
+
+-- each has a number of its own
+abbrev pub HaveOwnNumbers : {D : Type 0} → List (Shelf D Counting) → Type 0
+HaveOwnNumbers shelves =
+    (j k n : ℕ) → slice_get (numbers_in shelves) j ≡ Some n → slice_get (numbers_in shelves) k ≡ Some n → j ≡ k
+
 -- Each shelf is served, under a number of its own. What workers hold are tickets that are open on their shelves, on each of
 -- different numbers.
-pub record IsFit {D : Type 0} (view : D → View) (tells : Bool) (scripts : List Named) (s : Staff D) : Type 0 where
-  pub served : (k : ℕ) (x : Shelf D Counting) → slice_get s.shelves.items k ≡ Some x → IsServed view tells scripts x
-  pub numbers : (j k : ℕ) (x y : Shelf D Counting) → slice_get s.shelves.items j ≡ Some x → slice_get s.shelves.items k ≡ Some y
-      → x.rules.number ≡ y.rules.number → j ≡ k
-  pub few : length s.shelves.items ≤ most_shelves
-  pub count : length s.tickets ≡ 16
-  pub tickets : (w : ℕ) (t : Ticket) → slice_get s.tickets w ≡ Some (Some t)
-      → IsOpenAt scripts s.shelves.items (place_of (length s.shelves.items) w t) t
-  pub apart : (v w : ℕ) (t u : Ticket) → slice_get s.tickets v ≡ Some (Some t) → slice_get s.tickets w ≡ Some (Some u)
-      → place_of (length s.shelves.items) v t ≡ place_of (length s.shelves.items) w u → t.number ≡ u.number → v ≡ w
+pub record AreFit {D : Type 0} (view : D → View) (tells : Bool) (scripts : List Named) (shelves : List (Shelf D Counting))
+    (tickets : List (Option Ticket)) : Type 0 where
+  pub served : (k : ℕ) (x : Shelf D Counting) → slice_get shelves k ≡ Some x → IsServed view tells scripts x
+  pub numbers : HaveOwnNumbers shelves
+  pub few : length shelves ≤ most_shelves
+  pub count : length tickets ≡ 16
+  pub are_open : (w : ℕ) (t : Ticket) → slice_get tickets w ≡ Some (Some t)
+      → IsOpenAt scripts shelves (place_of (length shelves) w t) t
+  pub apart : (v w : ℕ) (t u : Ticket) → slice_get tickets v ≡ Some (Some t) → slice_get tickets w ≡ Some (Some u)
+      → place_of (length shelves) v t ≡ place_of (length shelves) w u → t.number ≡ u.number → v ≡ w
 
--- the numbers of the shelves, and how often the disk of each has failed
-abbrev pub numbers_in : {D : Type 0} → Staff D → List ℕ
-numbers_in s = map (λ x. x.rules.number) s.shelves.items
-
-abbrev pub faults_in : {D : Type 0} → (D → View) → Staff D → ℕ
-faults_in view s = sum (map (λ x. (view x.journal.disk).faults) s.shelves.items)
+abbrev pub IsFit : {D : Type 0} → (D → View) → Bool → List Named → Staff D → Type 0
+IsFit view tells scripts s = AreFit view tells scripts s.shelves.items s.tickets
 
 -- how often a rack and disks that are out of it have failed, up to the type's end
 abbrev pub total : (rack disks : ℕ) → ℕ
@@ -97,26 +113,30 @@ abbrev pub RoseBeside : (before now : ℕ) → Type 0
 RoseBeside before now = (rack : ℕ) → Rose (total rack before) (total rack now)
 
 -- the disks that are out of the rack are those of the shelves
-pub record IsHome {D : Type 0} (s : Staff D) (out : ℕ → Bool) : Type 0 where
-  pub ours : (n : ℕ) → Contains (numbers_in s) n → out n ≡ true
-  pub only : (n : ℕ) → out n ≡ true → Contains (numbers_in s) n
+pub record IsHome {D : Type 0} (shelves : List (Shelf D Counting)) (out : ℕ → Bool) : Type 0 where
+  pub ours : (k n : ℕ) → slice_get (numbers_in shelves) k ≡ Some n → out n ≡ true
+  pub only : (n : ℕ) → out n ≡ true → (k : ℕ) × (slice_get (numbers_in shelves) k ≡ Some n)
+
+-- a staff's step may have failed by what rose so
+abbrev pub RisesBy : {D : Type 0} → (D → View) → (old new : Staff D) → Type 0
+RisesBy view old new = RoseBeside (faults_in view old.shelves.items) (faults_in view new.shelves.items)
 
 -- a worker's take of a target is the desk's
 abbrev pub TakesTicket : {D : Type 0} → (D → View) → Setup → (old : Staff D) → (worker : ℕ) → (target : List ℕ) → Result ℕ Reply
     → (new : Staff D) → Type 0
 TakesTicket view setup old worker target result new =
-    Takes desk_rules (RoseBeside (faults_in view old) (faults_in view new)) (desk_of setup old) worker target result (desk_of setup new)
+    Takes desk_rules (RisesBy view old new) (desk_of setup old) worker target result (desk_of setup new)
 
 -- a publish of what a worker holds, and a sweep of a shelf
 abbrev pub PublishesTicket : {D : Type 0} → (D → View) → Setup → (old : Staff D) → (worker : ℕ) → Reply → (new : Staff D) → Type 0
 PublishesTicket view setup old worker reply new =
-    Publishes desk_rules (RoseBeside (faults_in view old) (faults_in view new)) (desk_of setup old) worker reply (desk_of setup new)
+    Publishes desk_rules (RisesBy view old new) (desk_of setup old) worker reply (desk_of setup new)
 
 abbrev pub SweepsShelf : {D : Type 0} → (D → View) → Setup → (old : Staff D) → (shelf tick : ℕ) → Result ℕ Reply → (new : Staff D) → Type 0
 SweepsShelf view setup old shelf tick result new =
-    Sweeps desk_rules (RoseBeside (faults_in view old) (faults_in view new)) (desk_of setup old) shelf tick result (desk_of setup new)
+    Sweeps desk_rules (RisesBy view old new) (desk_of setup old) shelf tick result (desk_of setup new)
 
 -- the same shelves stand there, and the count of their disks' faults did not fall
 pub record StaysThere {D : Type 0} (view : D → View) (old new : Staff D) : Type 0 where
-  pub numbers : numbers_in new ≡ numbers_in old
-  pub later : faults_in view old ≤ faults_in view new
+  pub numbers : numbers_in new.shelves.items ≡ numbers_in old.shelves.items
+  pub later : faults_in view old.shelves.items ≤ faults_in view new.shelves.items

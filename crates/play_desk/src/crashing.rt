@@ -1,4 +1,4 @@
-ghost use Rattle.std.specs.Prelude.{◌≡◌, ◌≤◌, ◌<◌, ℕ, IsTrue, IfOk, IsErrOf, vec_len};
+ghost use Rattle.std.specs.Prelude.{◌≡◌, ◌≤◌, ◌<◌, ℕ, IsTrue, IfOk, IsErrOf, length};
 ghost use Rattle.web_outside.specs.Causes.{Rose};
 ghost use Rattle.script_nodes.specs.Views.{scripts_of};
 ghost use Rattle.play_desk.specs.Opening.{CrashesShelf};
@@ -22,20 +22,20 @@ pub fn crash<D: Disk, R: Rack<D>>(
     rack: &mut R,
     place: u32,
 ) -> Result<u32, Reopen>
-    requires place { place < vec_len staff.old.shelves }
+    requires place { place < length staff.old.shelves.items }
     requires fit { IsFit D.view D.tells (scripts_of setup.now) staff.old }
-    requires home { IsHome staff.old (R.view rack.old).out }
+    requires home { IsHome staff.old.shelves.items (R.view rack.old).out }
     ensures step { IsTrue R.tells → IsTrue D.tells →
         IfOk result (λ live. CrashesShelf setup.now staff.old place live staff.new) }
     ensures fit { IsFit D.view D.tells (scripts_of setup.now) staff.new }
-    ensures home { IsHome staff.new (R.view rack.new).out }
+    ensures home { IsHome staff.new.shelves.items (R.view rack.new).out }
     ensures damaged { IsTrue R.tells → IsTrue D.tells → (at : ℕ) → IsErrOf result (Reopen.Damaged at) → ⊥ }
     ensures other { IsTrue R.tells → IsTrue D.tells → (at : ℕ) → IsErrOf result (Reopen.Other at) → ⊥ }
     ensures disk { IsErrOf result Reopen.Disk →
-        Rose (total (R.view rack.old).faults (faults_in D.view staff.old))
-        (total (R.view rack.new).faults (faults_in D.view staff.new)) }
-    ensures later { total (R.view rack.old).faults (faults_in D.view staff.old)
-        ≤ total (R.view rack.new).faults (faults_in D.view staff.new) }
+        Rose (total (R.view rack.old).faults (faults_in D.view staff.old.shelves.items))
+        (total (R.view rack.new).faults (faults_in D.view staff.new.shelves.items)) }
+    ensures later { total (R.view rack.old).faults (faults_in D.view staff.old.shelves.items)
+        ≤ total (R.view rack.new).faults (faults_in D.view staff.new.shelves.items) }
 {
     let count = staff.shelves.len();
     let shelf = staff.shelves.remove(place as usize);

@@ -34,9 +34,9 @@ impl<'s, D: Disk, R: Rack<D>> Stage for Desk<'s, D, R> {
 
     ghost sound = { λ d. IsFit D.view D.tells (scripts_of d.setup.now) d.staff };
 
-    ghost at_home = { λ d rack. IsHome d.staff (R.view rack).out };
+    ghost at_home = { λ d rack. IsHome d.staff.shelves.items (R.view rack).out };
 
-    ghost faults = { λ d rack. total (R.view rack).faults (faults_in D.view d.staff) };
+    ghost faults = { λ d rack. total (R.view rack).faults (faults_in D.view d.staff.shelves.items) };
 
     fn shelves(&self) -> u32 {
         self.staff.shelves.len() as u32

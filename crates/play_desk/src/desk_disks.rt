@@ -1,11 +1,11 @@
-ghost use Rattle.std.specs.Prelude.{◌≡◌, ◌≤◌, ◌<◌, ℕ, false, length, IsTrue, IfOk, IfErr, IsErrAnd};
+ghost use Rattle.std.specs.Prelude.{◌≡◌, ◌≤◌, ◌<◌, ℕ, [], false, length, IsTrue, IfOk, IfErr, IsErrAnd};
 ghost use Rattle.web_outside.specs.Causes.{Rose};
 ghost use Rattle.script_nodes.specs.Views.{scripts_of};
 ghost use Rattle.journal_records.specs.Records.{IsInGrammar, begin_of};
 ghost use Rattle.shelf.specs.Ranges.{AreInRange};
 ghost use Rattle.play_desk.specs.Desk.{first_desk};
-ghost use Rattle.play_desk.specs.Staff.{IsFit, IsHome, desk_of, faults_in, total};
-ghost use Rattle.play_desk.specs.Opening.{AreHome, HoldTheBooks, IsClosedBy, numbered, rules_at};
+ghost use Rattle.play_desk.specs.Staff.{HaveOwnNumbers, IsFit, IsHome, desk_of, faults_in, total};
+ghost use Rattle.play_desk.specs.Opening.{AreHome, HoldImages, HoldTheBooks, IsClosedBy, numbered, rules_at};
 
 use crate::desk::Desk;
 use crate::opening::{OpenCause, OpenFault, opened, put_back};
@@ -21,11 +21,24 @@ use web_outside::Counting;
 fn numbered(rules: Rules, number: u32) -> Rules
     ensures { result ≡ numbered rules number }
 {
-    Rules { number, ..rules }
+    Rules {
+        number,
+        shelves: rules.shelves,
+        fuel: rules.fuel,
+        life: rules.life,
+        instances: rules.instances,
+        pages: rules.pages,
+    }
 }
 
 // Closes shelves, and gives their disks back.
-fn put_all_back<D: Disk, R: Rack<D>>(rack: &mut R, shelves: Vec<Shelf<D, Counting>>) {
+fn put_all_back<D: Disk, R: Rack<D>>(rack: &mut R, shelves: Vec<Shelf<D, Counting>>)
+    requires numbers { HaveOwnNumbers shelves.items }
+    requires home { IsHome shelves.items (R.view rack.old).out }
+    ensures home { AreHome (R.view rack.new).out }
+    ensures images { IsTrue R.tells → HoldImages D.view shelves.items (R.view rack.new).holds }
+    ensures later { total (R.view rack.old).faults (faults_in D.view shelves.items) ≤ (R.view rack.new).faults }
+{
     let mut shelves = shelves;
     while let Some(shelf) = shelves.pop() {
         put_back(rack, shelf);
@@ -54,13 +67,13 @@ pub fn open_desk<'s, D: Disk, R: Rack<D>>(
         ≡ first_desk (rules_at (scripts_of setup.now) rules) (scripts_of setup.now) rules.shelves) }
     ensures empty { IsTrue R.tells → IsTrue D.tells → IfOk result (λ d. (k : ℕ) → k < rules.shelves → (R.view rack.old).holds k []) }
     ensures sound { IfOk result (λ d. IsFit D.view D.tells (scripts_of d.setup.now) d.staff) }
-    ensures home { IfOk result (λ d. IsHome d.staff (R.view rack.new).out) }
+    ensures home { IfOk result (λ d. IsHome d.staff.shelves.items (R.view rack.new).out) }
     ensures closed { IsTrue R.tells → IsTrue D.tells →
         IfErr result (λ e. IsClosedBy (R.view rack.old).holds rules.shelves e.shelf e.why) }
     ensures all_home { IfErr result (λ e. AreHome (R.view rack.new).out) }
     ensures disk { IsErrAnd result (λ e. e.why ≡ OpenCause.Disk) → Rose (R.view rack.old).faults (R.view rack.new).faults }
     ensures later { (R.view rack.old).faults ≤ (R.view rack.new).faults }
-    ensures later_open { IfOk result (λ d. (R.view rack.old).faults ≤ total (R.view rack.new).faults (faults_in D.view d.staff)) }
+    ensures later_open { IfOk result (λ d. (R.view rack.old).faults ≤ total (R.view rack.new).faults (faults_in D.view d.staff.shelves.items)) }
 {
     let count = rules.shelves;
     let mut shelves = Vec::new(alloc);
@@ -98,11 +111,11 @@ impl<'s, D: Disk, R: Rack<D>> Desk<'s, D, R> {
     /// shelf.
     pub fn close(self, rack: &mut R)
         requires sound { IsFit D.view D.tells (scripts_of self.setup.now) self.staff }
-        requires home { IsHome self.staff (R.view rack.old).out }
+        requires home { IsHome self.staff.shelves.items (R.view rack.old).out }
         ensures home { AreHome (R.view rack.new).out }
         ensures books { IsTrue R.tells → IsTrue D.tells →
             HoldTheBooks (desk_of self.entry.setup.now self.entry.staff) (R.view rack.new).holds }
-        ensures later { total (R.view rack.old).faults (faults_in D.view self.entry.staff) ≤ (R.view rack.new).faults }
+        ensures later { total (R.view rack.old).faults (faults_in D.view self.entry.staff.shelves.items) ≤ (R.view rack.new).faults }
     {
         let Desk {
             alloc: _,

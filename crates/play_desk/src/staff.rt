@@ -1,10 +1,10 @@
-ghost use Rattle.std.specs.Prelude.{◌≡◌, ◌≢◌, ◌<◌, ◌^◌, ◌×◌, ℕ, true, IfOk, is_some, length, map, option_map, replicate, slice_get, slice_set, vec_len, Some, None};
+ghost use Rattle.std.specs.Prelude.{◌≡◌, ◌≢◌, ◌<◌, ◌^◌, true, IfOk, IfSome, is_some, length, map, option_map, replicate, slice_get, slice_set, Some, None};
 ghost use Rattle.script_nodes.specs.Views.{scripts_of};
 ghost use Rattle.page_names.specs.Names.{destination_of};
 ghost use Rattle.page_names.specs.Views.{target_of};
 ghost use Rattle.instance_book.specs.Fits.{IsForSome};
 ghost use Rattle.instance_book.specs.Views.{ticket_of};
-ghost use Rattle.instance_book.specs.declared.ticket.Ticket as tickets;
+ghost use Rattle.play_desk.specs.Staff.{KeepsOthers};
 ghost use Rattle.shelf.specs.Views.{IsRunIfAny};
 ghost use Rattle.play_desk.specs.Desk as spec;
 ghost use Rattle.play_desk.specs.Desk.{without_shelf};
@@ -71,28 +71,35 @@ pub fn no_tickets() -> [Option<Ticket>; 16]
     ]
 }
 
-// Whether a worker's ticket is one of the shelf at this place.
-fn is_of(count: usize, place: usize, worker: u32, held: &Option<Ticket>) -> bool
+// What a worker holds once the tickets of the shelf at this place are lost.
+fn left_of(
+    held: Option<Ticket>,
+    count: usize,
+    place: usize,
+    worker: u32,
+) -> Option<Ticket>
     requires { 0 < count }
-    ensures { result ≡ spec.is_of count place worker (option_map ticket_of held.now) }
+    ensures held { option_map ticket_of result ≡ spec.left_of count place worker (option_map ticket_of held) }
+    ensures kept { IfSome result (λ t. (held ≡ Some t) × (place_of count worker t ≢ place)) }
 {
-    match held {
-        Some(ticket) => shelf_for(count, worker, &ticket.target) == place,
-        None => false,
+    let ticket = held?;
+    if shelf_for(count, worker, &ticket.target) == place {
+        return None;
     }
+    Some(ticket)
 }
 
 /// The tickets of the shelf at this place, of so many, are lost.
 pub fn lose_tickets(tickets: &mut [Option<Ticket>; 16], count: usize, place: usize)
-    requires { 0 < count }
+    requires some { 0 < count }
+    requires workers { length tickets.old ≡ 16 }
     ensures held { map (option_map ticket_of) tickets.new ≡ without_shelf count place 0 (map (option_map ticket_of) tickets.old) }
-    ensures kept { (w : ℕ) (t : tickets.Ticket) → slice_get tickets.new w ≡ Some (Some t)
-        → (slice_get tickets.old w ≡ Some (Some t)) × (place_of count w t ≢ place) }
+    ensures kept { KeepsOthers count place tickets.old tickets.new }
+    ensures workers { length tickets.new ≡ 16 }
 {
     for worker in 0..16u32 {
-        if is_of(count, place, worker, &tickets[worker as usize]) {
-            drop(handed_in(tickets, worker));
-        }
+        let held = handed_in(tickets, worker);
+        tickets[worker as usize] = left_of(held, count, place, worker);
     }
 }
 
@@ -179,7 +186,7 @@ pub fn sweep<D: Disk>(
     place: u32,
     tick: u64,
 ) -> Result<u32, Reply>
-    requires place { place < vec_len staff.old.shelves }
+    requires place { place < length staff.old.shelves.items }
     requires tick { tick < 2 ^ 62 }
     requires fit { IsFit D.view D.tells (scripts_of setup.now) staff.old }
     ensures step { SweepsShelf D.view setup.now staff.old place tick result staff.new }

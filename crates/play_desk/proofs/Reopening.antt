@@ -1,0 +1,71 @@
+-- What a shelf is that is opened again on what a crash left.
+use Rattle.std.proofs.Common.{◌≡◌, ◌⊎◌, ⊎_elim, ◌∙◌, ap, sym, subst, refl, ℕ, ◌+◌, List, Result, Ok, Err, IfOk, IsTrue, arith}
+use Rattle.std.specs.Prelude.{IsErrOf}
+use Rattle.web_outside.specs.Causes.{Rose}
+use Rattle.web_outside.specs.declared.nonces.Counting.{Counting}
+use Rattle.web_disk.specs.View.{View, AreAmong}
+use Rattle.script_nodes.specs.Setup.{Named}
+use Rattle.replay_spec.specs.Book.{Book}
+use Rattle.journal_books.specs.Making.{Making, made, damaged, other, book_in_bytes}
+use Rattle.journal_books.specs.Standing.{IsBook, MakesIn, Stands, if_kept}
+use Rattle.journal_books.specs.Laws.{ImagesMakeBooks}
+use Rattle.shelf.specs.Views.{book_in, rules_of}
+use Rattle.shelf.specs.Opening.{AReopenedShelfHasCrashed}
+use Rattle.shelf.specs.declared.shelf.Shelf.{Shelf}
+use Rattle.play_steps.specs.declared.stage.Reopen.{Reopen}
+use Rattle.play_steps.specs.declared.stage.Reopen.TheVariants as reopen
+use Rattle.play_desk.specs.Opening.{CountRose, CountStays, Finds, HasCrashed, IsOutside, cause_of}
+use Rattle.play_desk.specs.Staff.{total}
+use Rattle.play_desk.specs.declared.opening.OpenCause.{OpenCause}
+use Rattle.play_desk.specs.declared.opening.OpenCause.TheVariants as cause
+
+pub reopened_ok : {D : Type 0} (view : D → View) → AReopenedShelfHasCrashed view → (scripts : List Named) (old : Shelf D Counting)
+    → Stands scripts old.rules.number (view old.journal.disk) (book_in scripts old)
+    → (images : List ℕ → Type 0) → AreAmong images (view old.journal.disk).images → (opened : Result (Shelf D Counting) Reopen)
+    → Finds view scripts old.rules.number images opened → IfOk opened (HasCrashed scripts old)
+reopened_ok view law scripts old stands images among (Ok s) found = λ nonce.
+    law scripts old.rules.number (rules_of scripts old.rules) (book_in scripts old) (book_in scripts s) nonce old.journal.disk found.0 refl refl stands
+    (λ image here. among image (found.1 image here)) found.2
+reopened_ok view law scripts old stands images among (Err why) found = tt
+
+-- what makes a book makes no fault
+no_damage : (making : Making) (place : ℕ) (a b : Book) → IsBook making a ⊎ IsBook making b → making ≡ damaged place → ⊥
+no_damage making place a b h e =
+    ⊎_elim (λ x. let is = x.1 in let no : ⊥ = cc in no) (λ x. let is = x.1 in let no : ⊥ = cc in no) h
+
+no_other : (making : Making) (place : ℕ) (a b : Book) → IsBook making a ⊎ IsBook making b → making ≡ other place → ⊥
+no_other making place a b h e =
+    ⊎_elim (λ x. let is = x.1 in let no : ⊥ = cc in no) (λ x. let is = x.1 in let no : ⊥ = cc in no) h
+
+pub undamaged : {D : Type 0} (view : D → View) → ImagesMakeBooks → (scripts : List Named) (number : ℕ) (disk : D) (b : Book)
+    → Stands scripts number (view disk) b → (images : List ℕ → Type 0) → AreAmong images (view disk).images
+    → (opened : Result (Shelf D Counting) Reopen) → Finds view scripts number images opened → (place : ℕ) → IsErrOf opened (reopen.Damaged place) → ⊥
+undamaged view law scripts number disk b stands images among (Ok s) found place is = is
+undamaged view law scripts number disk b stands images among (Err (reopen.Damaged at)) found place is =
+    no_damage (book_in_bytes scripts number found.0) at b (if_kept scripts number b)
+    (law scripts number b (if_kept scripts number b) stands.0 found.0 (stands.1 found.0 (among found.0 found.1))) found.2
+undamaged view law scripts number disk b stands images among (Err (reopen.Other at)) found place is = let no : ⊥ = cc in no
+undamaged view law scripts number disk b stands images among (Err reopen.Disk) found place is = let no : ⊥ = cc in no
+undamaged view law scripts number disk b stands images among (Err reopen.Memory) found place is = let no : ⊥ = cc in no
+
+pub none_other : {D : Type 0} (view : D → View) → ImagesMakeBooks → (scripts : List Named) (number : ℕ) (disk : D) (b : Book)
+    → Stands scripts number (view disk) b → (images : List ℕ → Type 0) → AreAmong images (view disk).images
+    → (opened : Result (Shelf D Counting) Reopen) → Finds view scripts number images opened → (place : ℕ) → IsErrOf opened (reopen.Other place) → ⊥
+none_other view law scripts number disk b stands images among (Ok s) found place is = is
+none_other view law scripts number disk b stands images among (Err (reopen.Other at)) found place is =
+    no_other (book_in_bytes scripts number found.0) at b (if_kept scripts number b)
+    (law scripts number b (if_kept scripts number b) stands.0 found.0 (stands.1 found.0 (among found.0 found.1))) found.2
+none_other view law scripts number disk b stands images among (Err (reopen.Damaged at)) found place is = let no : ⊥ = cc in no
+none_other view law scripts number disk b stands images among (Err reopen.Disk) found place is = let no : ⊥ = cc in no
+none_other view law scripts number disk b stands images among (Err reopen.Memory) found place is = let no : ⊥ = cc in no
+
+-- ---- causes
+
+pub disk_cause : (why : Reopen) → cause_of why ≡ cause.Disk → why ≡ reopen.Disk
+disk_cause reopen.Disk e = refl
+disk_cause (reopen.Damaged place) e = absurd (let no : ⊥ = cc in no)
+disk_cause (reopen.Other place) e = absurd (let no : ⊥ = cc in no)
+disk_cause reopen.Memory e = absurd (let no : ⊥ = cc in no)
+
+pub rose_after : (old mid new disk : ℕ) → CountStays old 0 mid disk → CountRose mid disk new 0 → Rose old new
+rose_after old mid new disk stays rose = (let a = stays 0 in let b = rose 0 in omega (arith, a, b))

@@ -1,0 +1,157 @@
+use Rattle.std.proofs.Common.{◌≡◌, ◌<◌, ◌∙◌, ℕ, ap, sym, subst, List, Option, None, Some, length, map, option_map, slice_get, slice_set, refl, arith}
+use Rattle.script_nodes.specs.Views.{scripts_of}
+use Rattle.script_nodes.specs.Setup.{Named}
+use Rattle.page_names.specs.Views.{target_of}
+use Rattle.web_outside.specs.declared.nonces.Counting.{Counting}
+use Rattle.replay_spec.specs.Admission.{admit}
+use Rattle.instance_book.specs.Fits.{IsForSome}
+use Rattle.instance_book.proofs.States.{some_visit}
+use Rattle.instance_book.specs.Views.{ticket_of, reply_of}
+use Rattle.instance_book.specs.declared.ticket.Ticket.{Ticket}
+use Rattle.shelf.specs.Views.{book_in, fate_by}
+use Rattle.shelf.specs.declared.shelf.Shelf.{Shelf}
+use Rattle.std.proofs.lemmas.Option.{slice_get_within}
+use Rattle.play_steps.specs.Rules.{Comes}
+use Rattle.play_desk.specs.Desk.{desk_publish, is_fault}
+use Rattle.play_desk.specs.Staff.{AreFit, IsOpenAt, RoseBeside, desk_with, faults_in, place_of}
+use Rattle.play_desk.proofs.Open.{fits_now}
+use Rattle.play_desk.proofs.Fitting.{fit_publish, numbers_set, open_there}
+use Rattle.play_desk.proofs.Happening.{happens}
+use Rattle.play_desk.proofs.Counting.{faults_later, faults_rise, told_rise}
+use Rattle.play_desk.proofs.Places.{at_index, same_set}
+use Rattle.play_desk.proofs.Stepping.{count_is, held_there, is_answered, is_event, nothing_held, publish_step, publishes, shelf_there}
+use Rattle.play_desk.proofs.staff.publish.Goals as goal
+
+pub returns-in_default-clause-step : goal.returns-in_default-clause-step
+returns-in_default-clause-step g c =
+    let s = c.args.staff.now in
+    let scripts = scripts_of c.args.setup.now in
+    let same : c.handed_in.new.tickets ≡ s.tickets = c.in_default.ensures.without ∙ same_set s.tickets c.args.worker None c.in_default.ensures.ticket in
+    is_answered _ _ _ _ _ (nothing_held _ c.args.worker (held_there s.tickets c.args.worker None c.in_default.ensures.ticket))
+    (ap (λ (ts : List (Option Ticket)). desk_with scripts s.shelves.items ts) same)
+
+pub returns-in_default-clause-fit : goal.returns-in_default-clause-fit
+returns-in_default-clause-fit g c =
+    let s = c.args.staff.now in
+    let same : c.handed_in.new.tickets ≡ s.tickets = c.in_default.ensures.without ∙ same_set s.tickets c.args.worker None c.in_default.ensures.ticket in
+    subst (λ (ts : List (Option Ticket)). AreFit g.D.Disk.view g.D.Disk.tells (scripts_of c.args.setup.now) s.shelves.items ts) (sym same) c.requires.fit
+
+-- the place of a ticket's shelf is one
+place_is : {D : Type 0} (scripts : List Named) (xs : List (Shelf D Counting)) (count place worker : ℕ) (t : Ticket) → count ≡ length xs
+    → place ≡ place_of count worker t → IsOpenAt scripts xs (place_of (length xs) worker t) t
+    → (place_of (length xs) worker t ≡ place) × (place < length xs)
+place_is scripts xs count place worker t len is o =
+    let same : place_of (length xs) worker t ≡ place = ap (λ n. place_of n worker t) (sym len) ∙ sym is in
+    let low = slice_get_within xs (place_of (length xs) worker t) o.shelf o.there in
+    (same, subst (λ k. k < length xs) same low)
+
+pub shelf_for-place-requires : goal.shelf_for-place-requires
+shelf_for-place-requires g c =
+    let o = c.requires.fit.are_open c.args.worker c.in-Some.ticket c.in-Some.ensures.ticket in
+    let low = slice_get_within c.args.staff.now.shelves.items _ o.shelf o.there in
+    omega (arith, low, c.len.ensures, c.args.staff.now.shelves.ok)
+
+pub index_mut-shelf-requires : goal.index_mut-shelf-requires
+index_mut-shelf-requires g c =
+    let s = c.args.staff.now in
+    let o = c.requires.fit.are_open c.args.worker c.in-Some.ticket c.in-Some.ensures.ticket in
+    let at = place_is _ s.shelves.items c.len.result _ c.args.worker c.in-Some.ticket (c.len.ensures ∙ s.shelves.ok.0) c.shelf_for-place.ensures o in
+    omega (arith, at.1, s.shelves.ok)
+
+pub segment_of-segment-requires-clause-fits : goal.segment_of-segment-requires-clause-fits
+segment_of-segment-requires-clause-fits g c =
+    let t = c.in-Some.ticket in
+    let is = (c.requires.fit.are_open c.args.worker t c.in-Some.ensures.ticket).is_open in
+    subst (λ (ss : List Named). IsForSome ss t) (sym is.setup) (some_visit is.then.scripts is.then t (admit is.then (target_of t.target)) is.admitted is.fits)
+
+pub publish-requires-clause-stub : goal.publish-requires-clause-stub
+publish-requires-clause-stub g c = ?
+
+pub publish-requires-clause-in_order : goal.publish-requires-clause-in_order
+publish-requires-clause-in_order g c =
+    let s = c.args.staff.now in
+    let x = c.index_mut-shelf.result.now in
+    let k = c.shelf_for-place.result in
+    let o = c.requires.fit.are_open c.args.worker c.in-Some.ticket c.in-Some.ensures.ticket in
+    let at = place_is _ s.shelves.items c.len.result k c.args.worker c.in-Some.ticket (c.len.ensures ∙ s.shelves.ok.0) c.shelf_for-place.ensures o in
+    (c.requires.fit.served k x (at_index s.shelves.items k x x at.1 c.index_mut-shelf.ensures.value)).in_order
+
+pub publish-requires-clause-out : goal.publish-requires-clause-out
+publish-requires-clause-out g c =
+    let s = c.args.staff.now in
+    let x = c.index_mut-shelf.result.now in
+    let k = c.shelf_for-place.result in
+    let t = c.in-Some.ticket in
+    let o = c.requires.fit.are_open c.args.worker t c.in-Some.ensures.ticket in
+    let at = place_is _ s.shelves.items c.len.result k c.args.worker t (c.len.ensures ∙ s.shelves.ok.0) c.shelf_for-place.ensures o in
+    let here = at_index s.shelves.items k x x at.1 c.index_mut-shelf.ensures.value in
+    (open_there g.D.Disk.view g.D.Disk.tells (scripts_of c.args.setup.now) s.shelves.items s.tickets k c.args.worker x t c.requires.fit here c.in-Some.ensures.ticket at.0).out
+
+pub publish-requires-clause-fits : goal.publish-requires-clause-fits
+publish-requires-clause-fits g c =
+    let s = c.args.staff.now in
+    let x = c.index_mut-shelf.result.now in
+    let k = c.shelf_for-place.result in
+    let t = c.in-Some.ticket in
+    let o = c.requires.fit.are_open c.args.worker t c.in-Some.ensures.ticket in
+    let at = place_is _ s.shelves.items c.len.result k c.args.worker t (c.len.ensures ∙ s.shelves.ok.0) c.shelf_for-place.ensures o in
+    let here = at_index s.shelves.items k x x at.1 c.index_mut-shelf.ensures.value in
+    fits_now c.tickets_go_on_to_fit.ensures (book_in (scripts_of c.args.setup.now) x) t
+    (open_there g.D.Disk.view g.D.Disk.tells (scripts_of c.args.setup.now) s.shelves.items s.tickets k c.args.worker x t c.requires.fit here c.in-Some.ensures.ticket at.0)
+
+pub returns-clause-step : goal.returns-clause-step
+returns-clause-step g c =
+    let s = c.args.staff.now in
+    let scripts = scripts_of c.args.setup.now in
+    let xs = s.shelves.items in
+    let x = c.index_mut-shelf.result.now in
+    let y = c.publish.new.self in
+    let k = c.shelf_for-place.result in
+    let t = c.in-Some.ticket in
+    let e = c.publish.result in
+    let o = c.requires.fit.are_open c.args.worker t c.in-Some.ensures.ticket in
+    let at = place_is _ xs c.len.result k c.args.worker t (c.len.ensures ∙ s.shelves.ok.0) c.shelf_for-place.ensures o in
+    let here = at_index xs k x x at.1 c.index_mut-shelf.ensures.value in
+    let h = happens scripts x y _ (reply_of e) c.publish.ensures.event in
+    let step = is_event _ (desk_with scripts (slice_set xs k y) (slice_set s.tickets c.args.worker None)) _ _ e _ (fate_by (reply_of e))
+    (publishes _ c.args.worker (ticket_of t) k _ (held_there s.tickets c.args.worker (Some t) c.in-Some.ensures.ticket)
+    (ap (λ n. place_of n c.args.worker t) (count_is scripts xs s.tickets) ∙ at.0) (shelf_there scripts xs s.tickets k x here))
+    (publish_step scripts xs s.tickets k c.args.worker x y t e h)
+    (λ fails. faults_rise g.D.Disk.view xs k x y here (told_rise _ _ (reply_of e) c.publish.ensures.cause fails)) in
+    subst (λ (ts : List (Option Ticket)). Comes is_fault (RoseBeside (faults_in g.D.Disk.view xs) (faults_in g.D.Disk.view (slice_set xs k y)))
+    (desk_publish (desk_with scripts xs s.tickets) c.args.worker) (desk_with scripts xs s.tickets) e (desk_with scripts (slice_set xs k y) ts))
+    (sym c.in-Some.ensures.without) step
+
+pub returns-clause-fit : goal.returns-clause-fit
+returns-clause-fit g c =
+    let s = c.args.staff.now in
+    let scripts = scripts_of c.args.setup.now in
+    let xs = s.shelves.items in
+    let x = c.index_mut-shelf.result.now in
+    let y = c.publish.new.self in
+    let k = c.shelf_for-place.result in
+    let t = c.in-Some.ticket in
+    let e = c.publish.result in
+    let o = c.requires.fit.are_open c.args.worker t c.in-Some.ensures.ticket in
+    let at = place_is _ xs c.len.result k c.args.worker t (c.len.ensures ∙ s.shelves.ok.0) c.shelf_for-place.ensures o in
+    let here = at_index xs k x x at.1 c.index_mut-shelf.ensures.value in
+    let h = happens scripts x y _ (reply_of e) c.publish.ensures.event in
+    subst (λ (ts : List (Option Ticket)). AreFit g.D.Disk.view g.D.Disk.tells scripts (slice_set xs k y) ts) (sym c.in-Some.ensures.without)
+    (fit_publish g.D.Disk.view g.D.Disk.tells scripts xs s.tickets k c.args.worker x y t e c.requires.fit here c.in-Some.ensures.ticket at.0 h
+    c.publish.ensures.in_order c.publish.ensures.rules)
+
+pub returns-clause-there : goal.returns-clause-there
+returns-clause-there g c =
+    let s = c.args.staff.now in
+    let xs = s.shelves.items in
+    let x = c.index_mut-shelf.result.now in
+    let y = c.publish.new.self in
+    let k = c.shelf_for-place.result in
+    let t = c.in-Some.ticket in
+    let o = c.requires.fit.are_open c.args.worker t c.in-Some.ensures.ticket in
+    let at = place_is _ xs c.len.result k c.args.worker t (c.len.ensures ∙ s.shelves.ok.0) c.shelf_for-place.ensures o in
+    let here = at_index xs k x x at.1 c.index_mut-shelf.ensures.value in
+    record {
+      numbers = numbers_set xs k x y here c.publish.ensures.rules;
+      later = faults_later g.D.Disk.view xs k x y here c.publish.ensures.later;
+    }
