@@ -17,7 +17,7 @@ use Rattle.request_workers.specs.declared.tally.Tally.{Tally}
 use Rattle.request_workers.specs.declared.tally.WorkEnd.{WorkEnd}
 use Rattle.request_workers.specs.declared.tally.WorkEnd.TheVariants as ends
 use Rattle.setup_reader.specs.declared.setup.Ending.TheVariants.{Input}
-use Rattle.setup_reader.specs.Setup.{Fault, setup_of}
+use Rattle.setup_reader.specs.Setup.{Fault, Parsed, setup_of}
 use Rattle.setup_reader.specs.Faults.{fault_line}
 use Rattle.server_command.specs.declared.program.Status.{Status}
 use Rattle.server_command.specs.declared.program.Status.TheVariants as status
@@ -28,9 +28,10 @@ use Rattle.server_command.specs.declared.opening.Unopened.{Unopened}
 use Rattle.server_command.specs.declared.opening.Unopened.TheVariants as unopened
 use Rattle.server_command.specs.Command.{TellsFaultLine}
 use Rattle.server_command.specs.Opening.{IsRefused, OpensOn, RefusesOn}
-use Rattle.server_command.specs.Output.{Answers, Chances, Sinks, rules_for, served, sinks}
+use Rattle.server_command.specs.Output.{Answers, Chances, PrintsTo, Sinks, rules_for, served, sinks}
+use Rattle.server_command.specs.Telling.{TellsUnopened, told, untold}
 use Rattle.server_command.specs.Racks.{AreHeld, damaged, other}
-use Rattle.server_command.specs.Serving.{AllStand, Faults, LeavesInput, Opens, Outside, Served, ServedFrom, Serves, ServesBy, ServesFrom, ShutsBy, Views, WorksFirst, end_with, serves_over, worker_of}
+use Rattle.server_command.specs.Serving.{AllStand, Faults, LeavesInput, LeavesServing, Opens, Outside, Served, ServedFrom, Serves, ServesBy, ServesFrom, ShutsBy, Views, WorksFirst, end_with, serves_over, worker_of}
 use Rattle.server_command.proofs.Endings.{no_chances, tells}
 use Rattle.server_command.proofs.Shelves.{opened_fits}
 
@@ -149,3 +150,40 @@ fault_left serves v bytes fault status.Setup out door seeds is told none =
     (no_chances, (subst (λ r. Answers (served r no_chances) 3 out) (sym is) (refl, tells out.held out.held out.holds [] (fault_line fault) out.before out.after (appends_none out.held) told), none))
 fault_left serves v bytes fault status.Memory out door seeds is told none = (no_chances, (told, inl none))
 fault_left serves v bytes fault s out door seeds is told none = absurd told
+
+same_line : (a b : List ℕ) → Some a ≡ Some b → a ≡ b
+same_line a b e = cc
+
+-- a shelf was not opened, and that was told
+pub shuts_told : (serves : Serves) (v : Service) (scripts : List Named) (images : List (List ℕ)) (why : Unopened) (s : Status) (out : Sinks) (door seeds : Faults)
+    → ServesBy serves v scripts images (Err (fault.Shelf why)) → TellsUnopened why s out → LeavesServing serves v scripts images s out door seeds
+shuts_told serves v scripts images why s out door seeds by (untold is line) =
+    subst (λ x. LeavesServing serves v scripts images x out door seeds) (sym is) (line, inl by.0)
+shuts_told serves v scripts images (unopened.Disk shelf) s out door seeds by (told line is same p) =
+    subst (λ x. LeavesServing serves v scripts images x out door seeds) (sym same) (shelf, by.1, subst (PrintsTo out) (sym (same_line _ _ is)) p, by.0)
+shuts_told serves v scripts images (unopened.NotEmpty shelf) s out door seeds by (told line is same p) = absurd by.1
+shuts_told serves v scripts images (unopened.Damaged shelf place) s out door seeds by (told line is same p) =
+    subst (λ x. LeavesServing serves v scripts images x out door seeds) (sym same) (shelf, damaged place, by.1, subst (PrintsTo out) (sym (same_line _ _ is)) p, by.0)
+shuts_told serves v scripts images (unopened.Other shelf place) s out door seeds by (told line is same p) =
+    subst (λ x. LeavesServing serves v scripts images x out door seeds) (sym same) (shelf, other place, by.1, subst (PrintsTo out) (sym (same_line _ _ is)) p, by.0)
+shuts_told serves v scripts images unopened.Memory s out door seeds by (told line is same p) = absurd (let no : None ≡ Some line = is in cc)
+
+-- the same of the input that is the setup
+pub input_served : (serves : Serves) (v : Service) (bytes : List ℕ) (setup : Parsed) (s : Status) (out : Sinks) (door seeds : Faults) → setup_of Input bytes ≡ Ok setup
+    → ((images : List (List ℕ)) × LeavesServing serves v setup.scripts images s out door seeds) → (chances : Chances) × LeavesInput serves v bytes chances s out door seeds
+input_served serves v bytes setup s out door seeds is (images, left) = (record { disks = images; fates = [] }, by_status s left)
+  where
+    by_status : (x : Status) → LeavesServing serves v setup.scripts images x out door seeds
+        → LeavesInput serves v bytes (record { disks = images; fates = [] }) x out door seeds
+    by_status status.Done p = (setup, is, p)
+    by_status status.Write p = (setup, is, p)
+    by_status status.Disk p = (setup, is, p)
+    by_status status.Journal p = (setup, is, p)
+    by_status status.Door p = (setup, is, p)
+    by_status status.Key p = (setup, is, p)
+    by_status status.Memory p = (p.0, inr (setup, is, p))
+    by_status status.Usage p = absurd p
+    by_status status.Setup p = absurd p
+    by_status status.Line p = absurd p
+    by_status status.Read p = absurd p
+    by_status status.Long p = absurd p
