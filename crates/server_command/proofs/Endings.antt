@@ -1,5 +1,5 @@
 -- From what is written to what a command answers.
-use Rattle.std.proofs.Common.{◌≡◌, ◌≤◌, ◌++◌, ◌∷◌, ◌⊎◌, ℕ, List, [], length, Option, Some, None, Ok, Err, IfSome, append-nil, sym, ap, ◌∙◌, refl, subst, inl, inr, arith, codes}
+use Rattle.std.proofs.Common.{◌≡◌, ◌≤◌, ◌++◌, ◌∷◌, ◌⊎◌, ℕ, List, [], length, Option, Some, None, Result, Ok, Err, IfSome, append-nil, sym, ap, ◌∙◌, refl, subst, inl, inr, arith, codes}
 use Rattle.std.specs.Fmt.{decimal}
 use Rattle.std.specs.Io.KnownBytes.{Appends, Consumes, IsAtEnd, Keeps}
 use Rattle.web_outside.specs.Causes.{Rose}
@@ -7,14 +7,15 @@ use Rattle.web_outside.specs.Pieces.{AppendsUnlessFault}
 use Rattle.web_outside.proofs.Writes.{appends_none, appends_then, appends_kept}
 use Rattle.command_words.specs.declared.Command.{Command}
 use Rattle.command_words.specs.declared.Command.TheVariants.{Check, Play, Serve}
+use Rattle.script_nodes.specs.Setup.{Named}
 use Rattle.setup_reader.specs.declared.setup.Ending.TheVariants.{Input}
 use Rattle.setup_reader.specs.Setup.{Parsed, Fault, setup_of}
 use Rattle.setup_reader.specs.Faults.{fault_line}
-use Rattle.replay_spec.specs.Step.{Fate}
 use Rattle.server_command.specs.declared.program.Status.{Status}
 use Rattle.server_command.specs.declared.program.Status.TheVariants as status
-use Rattle.server_command.specs.Output.{Output, output_of, counted, ending_of, faulty, sinks, Tells, Answers, nothing}
-use Rattle.server_command.specs.Command.{Outputs}
+use Rattle.server_command.specs.Racks.{Racks}
+use Rattle.server_command.specs.Output.{Chances, Output, Sinks, output_of, counted, told_scripts, ending_of, faulty, sinks, Tells, Answers, BreaksOff, nothing}
+use Rattle.server_command.specs.Command.{Counts, Known, Outputs, StandFor, TakesDisks, TellsFaultLine, with_setup}
 
 -- what was read to its end is the input
 pub whole_input : (left rest : Option (List ℕ)) (bytes : List ℕ) (P : List ℕ → Type 0)
@@ -59,41 +60,91 @@ pub tells_nothing : (old new : Option (List ℕ)) (text : List ℕ) (before afte
 tells_nothing old new text before after p =
     record { shown = []; cut = []; is = refl; grown = subst (Appends old new) (sym (append-nil text)) p; whole = inl refl }
 
--- memory ran out before anything was written
-pub early : (asked : Command) (bytes : List ℕ) (s : Status) (old new : Option (List ℕ)) (before after : ℕ) → s ≡ status.Memory
-    → AppendsUnlessFault old new (codes "error 10 memory\n") before after → Outputs asked bytes s (sinks old new before after)
-early asked bytes s old new before after e p =
-    subst (λ x. Outputs asked bytes x (sinks old new before after)) (sym e) ([], ([], nothing, tells old old new [] _ before after (appends_none old) p))
+-- nothing was decided
+abbrev pub no_chances : Chances
+no_chances = record { disks = []; fates = [] }
 
--- all of the text was written, and handed on or not
-pub whole_text : (asked : Command) (bytes : List ℕ) (fates : List Fate) (s : Status) (old new : Option (List ℕ)) (before mid after : ℕ)
-    → (output_of asked bytes fates).status ≡ 0 → (output_of asked bytes fates).error ≡ [] → Appends old new (output_of asked bytes fates).text
-    → before ≤ mid → (s ≡ status.Done) ⊎ ((s ≡ status.Write) × Rose mid after) → Outputs asked bytes s (sinks old new before after)
-whole_text asked bytes fates s old new before mid after zero none p le (inl e) =
-    subst (λ x. Outputs asked bytes x (sinks old new before after)) (sym e)
-    (fates, (zero, subst (λ l. Tells (output_of asked bytes fates).text l (sinks old new before after)) (sym none) (tells_nothing old new _ before after p)))
-whole_text asked bytes fates s old new before mid after zero none p le (inr e) =
-    subst (λ x. Outputs asked bytes x (sinks old new before after)) (sym e.0) (fates, (rose_since before mid after le e.1, inr (zero, p)))
+-- memory ran out before anything was written
+pub early : (rack : Racks) (asked : Command) (bytes : List ℕ) (s : Status) (old new : Option (List ℕ)) (before after : ℕ) → s ≡ status.Memory
+    → AppendsUnlessFault old new (codes "error 10 memory\n") before after → Outputs rack asked bytes s (sinks old new before after)
+early rack asked bytes s old new before after e p =
+    subst (λ x. Outputs rack asked bytes x (sinks old new before after)) (sym e)
+    (no_chances, λ settles. ([], nothing, tells old old new [] _ before after (appends_none old) p))
+
+-- all of the text was written
+pub record IsWhole (rack : Racks) (asked : Command) (bytes : List ℕ) (chances : Chances) (old new : Option (List ℕ)) : Type 0 where
+  pub status : (output_of asked bytes chances).status ≡ 0
+  pub error : (output_of asked bytes chances).error ≡ []
+  pub text : Appends old new (output_of asked bytes chances).text
+  pub taken : TakesDisks rack (with_setup asked (setup_of (ending_of asked) bytes)) chances.disks
+  pub stand : StandFor rack asked (setup_of (ending_of asked) bytes) chances
+
+-- and handed on or not
+pub whole_text : (rack : Racks) (asked : Command) (bytes : List ℕ) (chances : Chances) (s : Status) (old new : Option (List ℕ)) (before mid after : ℕ)
+    → Known rack asked bytes (IsWhole rack asked bytes chances old new) → before ≤ mid → (s ≡ status.Done) ⊎ ((s ≡ status.Write) × Rose mid after)
+    → Outputs rack asked bytes s (sinks old new before after)
+whole_text rack asked bytes chances s old new before mid after whole le (inl e) =
+    subst (λ x. Outputs rack asked bytes x (sinks old new before after)) (sym e)
+    (
+      chances,
+      λ settles.
+      (let w = whole settles in
+      (record {
+        answered = (w.status, subst (λ l. Tells (output_of asked bytes chances).text l (sinks old new before after)) (sym w.error) (tells_nothing old new _ before after w.text));
+        taken = w.taken;
+      }, w.stand)),
+    )
+whole_text rack asked bytes chances s old new before mid after whole le (inr e) =
+    subst (λ x. Outputs rack asked bytes x (sinks old new before after)) (sym e.0)
+    (chances, (rose_since before mid after le e.1, λ settles. (let w = whole settles in inr (w.status, w.text))))
 
 -- a setup that has a fault is all that is told
-pub faulty_output : (asked : Command) (bytes : List ℕ) (fates : List Fate) (e : Fault) → setup_of (ending_of asked) bytes ≡ Err e
-    → output_of asked bytes fates ≡ faulty e
-faulty_output Check bytes fates e h = rw h refl
-faulty_output (Play c) bytes fates e h = rw h refl
-faulty_output (Serve v) bytes fates e h = rw h refl
+pub faulty_output : (asked : Command) (bytes : List ℕ) (chances : Chances) (e : Fault) → setup_of (ending_of asked) bytes ≡ Err e
+    → output_of asked bytes chances ≡ faulty e
+faulty_output Check bytes chances e h = rw h refl
+faulty_output (Play o) bytes chances e h = rw h refl
+faulty_output (Serve v) bytes chances e h = rw h refl
 
-pub tells_fault : (asked : Command) (bytes line : List ℕ) (e : Fault) (old new : Option (List ℕ)) (before after : ℕ) → setup_of (ending_of asked) bytes ≡ Err e
-    → line ≡ fault_line e → AppendsUnlessFault old new line before after → Outputs asked bytes status.Setup (sinks old new before after)
-tells_fault asked bytes line e old new before after h same p =
-    let is = faulty_output asked bytes [] e h in
-    let told = tells old old new [] line before after (appends_none old) p in
-    ([], subst (λ o. Answers o 3 (sinks old new before after)) (sym is) (refl, subst (λ l. Tells [] l (sinks old new before after)) same told))
+fault_tells : (rack : Racks) (asked : Command) (bytes : List ℕ) (e : Fault) (out : Sinks) → setup_of (ending_of asked) bytes ≡ Err e
+    → AppendsUnlessFault out.held out.holds (fault_line e) out.before out.after → Outputs rack asked bytes status.Setup out
+fault_tells rack asked bytes e out h p =
+    let is = faulty_output asked bytes no_chances e h in
+    let told = tells out.held out.held out.holds [] (fault_line e) out.before out.after (appends_none out.held) p in
+    (no_chances, record {
+      answered = subst (λ o. Answers o 3 out) (sym is) (refl, told);
+      taken = subst (λ (r : Result Parsed Fault). TakesDisks rack (with_setup asked r) []) (sym h) tt;
+    })
+
+pub fault_outputs : (rack : Racks) (asked : Command) (bytes : List ℕ) (e : Fault) (s : Status) (out : Sinks) → setup_of (ending_of asked) bytes ≡ Err e
+    → TellsFaultLine e s out → Outputs rack asked bytes s out
+fault_outputs rack asked bytes e status.Setup out h p = fault_tells rack asked bytes e out h p
+fault_outputs rack asked bytes e status.Memory out h p =
+    early rack asked bytes status.Memory out.held out.holds out.before out.after refl p
+fault_outputs rack asked bytes e s out h p = absurd p
 
 -- the number of the scripts is all that is told
-pub tells_count : (bytes text : List ℕ) (setup : Parsed) (s : Status) (old mid new : Option (List ℕ)) (before between after : ℕ)
-    → setup_of Input bytes ≡ Ok setup → text ≡ codes "ok " ++ (decimal (length setup.scripts) ++ 10 ∷ []) → Appends old mid text → Keeps mid new
-    → before ≤ between → (s ≡ status.Done) ⊎ ((s ≡ status.Write) × Rose between after) → Outputs Check bytes s (sinks old new before after)
-tells_count bytes text setup s old mid new before between after h same p kept le ends =
-    let is : output_of Check bytes [] ≡ counted (Ok setup) = ap counted h in
-    let grown = subst (Appends old new) (same ∙ sym (ap (λ (o : Output). o.text) is)) (appends_kept old mid new text p kept) in
-    whole_text Check bytes [] s old new before between after (ap (λ (o : Output). o.status) is) (ap (λ (o : Output). o.error) is) grown le ends
+pub counts_outputs : (rack : Racks) (bytes : List ℕ) (setup : Parsed) (s : Status) (out : Sinks) → setup_of Input bytes ≡ Ok setup → Counts setup.scripts s out
+    → Outputs rack Check bytes s out
+counts_outputs rack bytes setup status.Done out h p =
+    let is : output_of Check bytes no_chances ≡ told_scripts setup.scripts = ap counted h in
+    (no_chances, λ settles. (record {
+      answered = subst (λ o. Answers o 0 out) (sym is) p;
+      taken = subst (λ (r : Result Parsed Fault). TakesDisks rack (with_setup Check r) []) (sym h) tt;
+    }, tt))
+counts_outputs rack bytes setup status.Write out h p =
+    let is : output_of Check bytes no_chances ≡ told_scripts setup.scripts = ap counted h in
+    (no_chances, (p.0, λ settles. subst (λ o. BreaksOff o out) (sym is) p.1))
+counts_outputs rack bytes setup status.Memory out h p =
+    early rack Check bytes status.Memory out.held out.holds out.before out.after refl p
+counts_outputs rack bytes setup s out h p = absurd p
+
+-- what was written of the number of scripts
+pub counts_told : (scripts : List Named) (text : List ℕ) (s : Status) (old mid new : Option (List ℕ)) (before between after : ℕ)
+    → text ≡ codes "ok " ++ (decimal (length scripts) ++ 10 ∷ []) → Appends old mid text → Keeps mid new → before ≤ between
+    → (s ≡ status.Done) ⊎ ((s ≡ status.Write) × Rose between after) → Counts scripts s (sinks old new before after)
+counts_told scripts text s old mid new before between after is p kept le (inl e) =
+    let grown = subst (Appends old new) is (appends_kept old mid new text p kept) in
+    subst (λ x. Counts scripts x (sinks old new before after)) (sym e) (refl, tells_nothing old new _ before after grown)
+counts_told scripts text s old mid new before between after is p kept le (inr e) =
+    let grown = subst (Appends old new) is (appends_kept old mid new text p kept) in
+    subst (λ x. Counts scripts x (sinks old new before after)) (sym e.0) (rose_since before between after le e.1, inr (refl, grown))

@@ -1,96 +1,327 @@
 -- From what a run of steps leaves to what a command answers.
-use Rattle.std.proofs.Common.{◌≡◌, ◌≤◌, ◌<◌, ◌++◌, ◌∷◌, ◌⊎◌, ◌∙◌, ℕ, List, [], length, Option, Ok, append-nil, sym, ap, refl, subst, inl, arith, codes}
+use Rattle.std.proofs.Common.{◌≡◌, ◌≤◌, ◌<◌, ◌+◌, ◌++◌, ◌∷◌, ◌⊎◌, ◌∙◌, ℕ, zero, suc, List, [], length, Bool, true, false, IsTrue, Option, Some, None, Result, Ok, append-nil, sym, ap, refl, subst, inl, inr, arith, codes}
+use Rattle.std.specs.Prelude.{replicate}
 use Rattle.std.proofs.lemmas.List.{length-append}
 use Rattle.std.specs.Fmt.{decimal}
 use Rattle.std.specs.Io.KnownBytes.{Appends, Keeps}
 use Rattle.web_outside.specs.Causes.{Rose}
 use Rattle.web_outside.specs.Pieces.{AppendsUnlessFault}
-use Rattle.web_outside.proofs.Writes.{appends_kept}
+use Rattle.web_outside.proofs.Writes.{appends_kept, appends_none}
 use Rattle.command_words.specs.declared.Command.TheVariants.{Play}
 use Rattle.command_words.specs.declared.Options.{Options}
 use Rattle.setup_reader.specs.declared.setup.Ending.TheVariants.{Steps}
-use Rattle.setup_reader.specs.Setup.{Parsed, setup_of}
+use Rattle.setup_reader.specs.Setup.{Parsed, Fault, setup_of}
+use Rattle.script_nodes.specs.Setup.{Named}
 use Rattle.replay_spec.specs.Step.{Fate}
-use Rattle.play_steps.specs.Step.{steps_of}
+use Rattle.play_steps.specs.Step.{Step, crash, steps_of}
 use Rattle.play_steps.specs.Transcript.{End, done, bad_line, Run, text_of, transcript}
 use Rattle.play_steps.specs.Texts.{print}
-use Rattle.play_steps.specs.Played.{scene, Plays, Halts}
-use Rattle.server_command.specs.Desk.{Desk, desk_rules, first_desk}
-use Rattle.server_command.specs.Output.{Output, output_of, rules_for, finished, ended, sinks, Tells, at_line, replies}
-use Rattle.server_command.specs.Laws.{TranscriptsAreRuns}
-use Rattle.server_command.specs.Command.{Outputs, PlaysEvents, TellsLine}
+use Rattle.play_steps.specs.Played as played
+use Rattle.play_steps.specs.Played.{Scene, Plays, Halts}
+use Rattle.play_desk.specs.Desk.{Desk, desk_rules}
+use Rattle.play_desk.specs.Laws.{TranscriptsAreRuns}
+use Rattle.play_desk.specs.Opening.{HoldTheBooks}
+use Rattle.server_command.specs.Racks.{Racks, AreHeld, AreTaken, Unfit, not_empty, first_unfit, unfit_new, disk_line, unfit_line}
+use Rattle.server_command.specs.Output.{Chances, Output, output_of, desk_for, run_of, finished, ended, sinks, Sinks, Tells, BreaksOff, at_line, replies, at_first, at_crash, unless_shut, Loses, Pauses}
+use Rattle.server_command.specs.Command.{Gives, Known, Leaves, Outputs, PlaysEvents, Settles, StandFor, TakesDisks, TellsLine, with_setup}
+use Rattle.server_command.specs.Serving.{RackFailed}
 use Rattle.server_command.specs.declared.program.Status.{Status}
 use Rattle.server_command.specs.declared.program.Status.TheVariants as status
-use Rattle.server_command.proofs.Endings.{whole_text, tells, since}
+use Rattle.server_command.proofs.Endings.{IsWhole, early, no_chances, whole_text, tells, since}
+
+-- what is there where this holds, and something else where not
+decided : {X : Type 0} (b : Bool) (P : X → Type 0) → X → (IsTrue b → (x : X) × P x) → (x : X) × (IsTrue b → P x)
+decided true P x f = let y = f refl in (y.0, λ t. y.1)
+decided false P x f = (x, λ t. absurd (let no : ⊥ = cc in no))
+
+-- disks of a run of steps tell their bytes, or nothing hangs on them
+tells_of : (rack : Racks) (o : Options) (bytes : List ℕ) (setup : Parsed) → setup_of Steps bytes ≡ Ok setup
+    → Settles rack (with_setup (Play o) (setup_of Steps bytes)) → IsTrue rack.tells
+tells_of rack o bytes setup h settles = subst (λ r. Settles rack (with_setup (Play o) r)) h settles
+
+by_tells : (rack : Racks) (o : Options) (bytes : List ℕ) (setup : Parsed) → setup_of Steps bytes ≡ Ok setup → (P : Chances → Type 0)
+    → (IsTrue rack.tells → (chances : Chances) × P chances) → (chances : Chances) × Known rack (Play o) bytes (P chances)
+by_tells rack o bytes setup h P f =
+    let x = decided rack.tells P no_chances f in (x.0, λ settles. x.1 (tells_of rack o bytes setup h settles))
+
+-- a run of steps begins on disks that were found empty
+pub record Begins (rack : Racks) (o : Options) (scripts : List Named) (d : Desk) : Type 0 where
+  pub first : d ≡ desk_for o scripts
+  pub empty : (k : ℕ) → k < o.shelves → rack.before.holds k []
+
+-- its chances, by the fates of its events
+abbrev chances_of : Options → List Fate → Chances
+chances_of o fates = record { disks = replicate o.shelves []; fates = fates }
+
+none_unfit : (n k : ℕ) → first_unfit unfit_new k (replicate n []) ≡ None
+none_unfit zero k = refl
+none_unfit (suc n) k = none_unfit n (k + 1)
+
+all_held : (holds : ℕ → List ℕ → Type 0) (n k count : ℕ) → k + n ≡ count → ((j : ℕ) → j < count → holds j []) → AreHeld holds k (replicate n [])
+all_held holds zero k count is each = tt
+all_held holds (suc n) k count is each = (each k (omega (arith, is)), all_held holds n (k + 1) count (omega (arith, is)) each)
+
+so_many : (n : ℕ) (x : List ℕ) → length (replicate n x) ≡ n
+so_many zero x = refl
+so_many (suc n) x = ap suc (so_many n x)
+
+are_taken : (rack : Racks) (o : Options) (scripts : List Named) (d : Desk) → Begins rack o scripts d
+    → AreTaken unfit_new rack.before.holds o.shelves (replicate o.shelves [])
+are_taken rack o scripts d b = record {
+  held = all_held rack.before.holds o.shelves 0 o.shelves (omega arith) b.empty;
+  all = λ none. so_many o.shelves [];
+}
+
+takes : (rack : Racks) (o : Options) (bytes : List ℕ) (setup : Parsed) (d : Desk) (fates : List Fate) → setup_of Steps bytes ≡ Ok setup → Begins rack o setup.scripts d
+    → TakesDisks rack (with_setup (Play o) (setup_of Steps bytes)) (chances_of o fates).disks
+takes rack o bytes setup d fates h b =
+    subst (λ (r : Result Parsed Fault). TakesDisks rack (with_setup (Play o) r) (replicate o.shelves [])) (sym h) (are_taken rack o setup.scripts d b)
 
 -- the output of a run of these steps, by its transcript
-output_is : (c : Options) (bytes : List ℕ) (setup : Parsed) (d : Desk) (fates : List Fate) (run : Run desk_rules) → setup_of Steps bytes ≡ Ok setup → d ≡ first_desk (rules_for c) setup.scripts
-    → transcript desk_rules d 1 (steps_of setup.steps) fates ≡ run → output_of (Play c) bytes fates ≡ finished run
-output_is c bytes setup d fates run h first is = rw h (ap (λ (x : Desk). finished (transcript desk_rules x 1 (steps_of setup.steps) fates)) (sym first) ∙ ap finished is)
+output_is : (rack : Racks) (o : Options) (bytes : List ℕ) (setup : Parsed) (d : Desk) (fates : List Fate) (run : Run desk_rules) → setup_of Steps bytes ≡ Ok setup
+    → d ≡ desk_for o setup.scripts → transcript desk_rules d 1 (steps_of setup.steps) fates ≡ run → output_of (Play o) bytes (chances_of o fates) ≡ finished run
+output_is rack o bytes setup d fates run h first is =
+    rw h (ap (λ f. unless_shut f (finished (run_of o setup.scripts (steps_of setup.steps) fates))) (none_unfit o.shelves 0)
+    ∙ (ap (λ (x : Desk). finished (transcript desk_rules x 1 (steps_of setup.steps) fates)) (sym first) ∙ ap finished is))
 
 text_is : (text : List ℕ) (end : End) → (ended text end).text ≡ text
 text_is text done = refl
 text_is text (bad_line n) = refl
 
 -- the output of steps is that of a run of events
-pub plays_events : TranscriptsAreRuns → (c : Options) (bytes : List ℕ) (setup : Parsed) (fates : List Fate) → setup_of Steps bytes ≡ Ok setup
-    → PlaysEvents c setup fates (output_of (Play c) bytes fates)
-plays_events law c bytes setup fates is =
-    let d = first_desk (rules_for c) setup.scripts in
-    let run = transcript desk_rules d 1 (steps_of setup.steps) fates in
-    let events = law d 1 (steps_of setup.steps) fates in
+pub plays_events : TranscriptsAreRuns → (o : Options) (bytes : List ℕ) (setup : Parsed) (chances : Chances) → setup_of Steps bytes ≡ Ok setup
+    → first_unfit unfit_new 0 chances.disks ≡ None → PlaysEvents o setup chances.fates (output_of (Play o) bytes chances)
+plays_events law o bytes setup chances is none =
+    let d = desk_for o setup.scripts in
+    let run = transcript desk_rules d 1 (steps_of setup.steps) chances.fates in
+    let events = law d 1 (steps_of setup.steps) chances.fates in
+    let output : output_of (Play o) bytes chances ≡ finished run = rw is (ap (λ f. unless_shut f (finished run)) none) in
     record {
       replies = events.0;
-      text = ap (λ (o : Output). o.text) (output_is c bytes setup d fates run is refl refl) ∙ (text_is (text_of run) run.end ∙ events.1.text);
+      text = ap (λ (x : Output). x.text) output ∙ (text_is (text_of run) run.end ∙ events.1.text);
       run = events.1;
     }
 
-pub done_outputs : (c : Options) (bytes : List ℕ) (setup : Parsed) (d e : Desk) (s : Status) (old mid new : Option (List ℕ)) (before between after : ℕ) → setup_of Steps bytes ≡ Ok setup → d ≡ first_desk (rules_for c) setup.scripts
-    → Plays desk_rules (steps_of setup.steps) done (scene desk_rules old d) (scene desk_rules mid e) → Keeps mid new → before ≤ between → (s ≡ status.Done) ⊎ ((s ≡ status.Write) × Rose between after)
-    → Outputs (Play c) bytes s (sinks old new before after)
-done_outputs c bytes setup d e s old mid new before between after h first p kept le ends =
-    let is : output_of (Play c) bytes p.fates ≡ ended (print p.told) done = output_is c bytes setup d p.fates _ h first p.is in
-    whole_text (Play c) bytes p.fates s old new before between after (ap (λ (o : Output). o.status) is) (ap (λ (o : Output). o.error) is)
-    (subst (Appends old new) (sym (ap (λ (o : Output). o.text) is)) (appends_kept old mid new (print p.told) p.written kept)) le ends
+stand_for : (rack : Racks) (o : Options) (bytes : List ℕ) (setup : Parsed) (d e : Desk) (fates : List Fate) (run : Run desk_rules) → setup_of Steps bytes ≡ Ok setup
+    → d ≡ desk_for o setup.scripts → transcript desk_rules d 1 (steps_of setup.steps) fates ≡ run → run.state ≡ e → HoldTheBooks e rack.after.holds
+    → StandFor rack (Play o) (setup_of Steps bytes) (chances_of o fates)
+stand_for rack o bytes setup d e fates run h first is last l =
+    let same = ap (λ (x : Desk). (transcript desk_rules x 1 (steps_of setup.steps) fates).state) (sym first) ∙ (ap (λ (r : Run desk_rules). r.state) is ∙ last) in
+    subst (λ (r : Result Parsed Fault). StandFor rack (Play o) r (chances_of o fates)) (sym h) (subst (λ (x : Desk). HoldTheBooks x rack.after.holds) (sym same) l)
 
-pub line_outputs : (c : Options) (bytes : List ℕ) (setup : Parsed) (d e : Desk) (n : ℕ) (s : Status) (old mid new : Option (List ℕ)) (before between after : ℕ) → setup_of Steps bytes ≡ Ok setup → d ≡ first_desk (rules_for c) setup.scripts
-    → Plays desk_rules (steps_of setup.steps) (bad_line n) (scene desk_rules old d) (scene desk_rules mid e) → before ≤ between → TellsLine n s (sinks mid new between after)
-    → Outputs (Play c) bytes s (sinks old new before after)
-line_outputs c bytes setup d e n status.Line old mid new before between after h first p le told =
-    let is : output_of (Play c) bytes p.fates ≡ ended (print p.told) (bad_line n) = output_is c bytes setup d p.fates _ h first p.is in
-    (p.fates, subst (λ (o : Output). (o.status ≡ 4) × Tells o.text o.error (sinks old new before after)) (sym is) (refl, tells old mid new (print p.told) (codes "error 4 " ++ (decimal n ++ 10 ∷ [])) before after p.written (since mid new _ before between after le told)))
-line_outputs c bytes setup d e n status.Memory old mid new before between after h first p le told =
-    let is : output_of (Play c) bytes p.fates ≡ ended (print p.told) (bad_line n) = output_is c bytes setup d p.fates _ h first p.is in
-    let text : (output_of (Play c) bytes p.fates).text ≡ print p.told = ap (λ (o : Output). o.text) is in
-    (p.fates, ((output_of (Play c) bytes p.fates).text, at_line (ap (λ (o : Output). o.status) is), tells old mid new _ (codes "error 10 memory\n") before after (subst (Appends old mid) (sym text) p.written) (since mid new _ before between after le told)))
-line_outputs c bytes setup d e n status.Done old mid new before between after h first p le told = absurd told
-line_outputs c bytes setup d e n status.Usage old mid new before between after h first p le told = absurd told
-line_outputs c bytes setup d e n status.Setup old mid new before between after h first p le told = absurd told
-line_outputs c bytes setup d e n status.Read old mid new before between after h first p le told = absurd told
-line_outputs c bytes setup d e n status.Write old mid new before between after h first p le told = absurd told
-line_outputs c bytes setup d e n status.Long old mid new before between after h first p le told = absurd told
-line_outputs c bytes setup d e n status.Door old mid new before between after h first p le told = absurd told
-line_outputs c bytes setup d e n status.Key old mid new before between after h first p le told = absurd told
+-- what a run left that came to its end, or to a line that is no step or does not fit
+pub record Ran (rack : Racks) (o : Options) (scripts : List Named) (steps : List (Option Step)) (end : End) (old mid : Option (List ℕ)) : Type 0 where
+  pub first : Desk
+  pub last : Desk
+  pub begins : Begins rack o scripts first
+  pub before : ℕ
+  pub after : ℕ
+  pub plays : Plays desk_rules steps end (played.scene desk_rules old first before) (played.scene desk_rules mid last after)
+  pub left : HoldTheBooks last rack.after.holds
 
-pub write_outputs : (c : Options) (bytes : List ℕ) (setup : Parsed) (d e : Desk) (old new : Option (List ℕ)) (before after : ℕ) → setup_of Steps bytes ≡ Ok setup → d ≡ first_desk (rules_for c) setup.scripts
-    → (shown : List ℕ) (p : Halts desk_rules (steps_of setup.steps) shown (scene desk_rules old d) (scene desk_rules new e)) → 0 < length p.hidden → Rose before after
-    → Outputs (Play c) bytes status.Write (sinks old new before after)
-write_outputs c bytes setup d e old new before after h first shown p some rose =
-    let fates = p.fates ++ p.came.fates in
-    let run = transcript desk_rules d 1 (steps_of setup.steps) fates in
-    let text : (output_of (Play c) bytes fates).text ≡ (print p.told ++ shown) ++ (p.hidden ++ p.later) = ap (λ (o : Output). o.text) (output_is c bytes setup d fates run h first refl) ∙ (text_is (text_of run) run.end ∙ p.all) in
-    (fates, (rose, inl (record { front = print p.told ++ shown; rest = p.hidden ++ p.later; is = text; some = omega (arith, some, length-append p.hidden p.later); written = p.written })))
+ran_output : (rack : Racks) (o : Options) (bytes : List ℕ) (setup : Parsed) (end : End) (old mid : Option (List ℕ)) → setup_of Steps bytes ≡ Ok setup
+    → (p : Ran rack o setup.scripts (steps_of setup.steps) end old mid)
+    → output_of (Play o) bytes (chances_of o p.plays.fates) ≡ ended (print p.plays.told) end
+ran_output rack o bytes setup end old mid h p =
+    output_is rack o bytes setup p.first p.plays.fates _ h p.begins.first p.plays.is
 
-pub memory_outputs : (c : Options) (bytes : List ℕ) (setup : Parsed) (d e : Desk) (s : Status) (old mid new : Option (List ℕ)) (before between after : ℕ) → setup_of Steps bytes ≡ Ok setup → d ≡ first_desk (rules_for c) setup.scripts
-    → Halts desk_rules (steps_of setup.steps) [] (scene desk_rules old d) (scene desk_rules mid e) → before ≤ between → s ≡ status.Memory → AppendsUnlessFault mid new (codes "error 10 memory\n") between after
-    → Outputs (Play c) bytes s (sinks old new before after)
-memory_outputs c bytes setup d e s old mid new before between after h first p le is told =
-    let run = ap (λ (x : Desk). transcript desk_rules x 1 p.front p.fates) (sym first) ∙ p.is in
-    subst (λ (x : Status). Outputs (Play c) bytes x (sinks old new before after)) (sym is) (
-      p.fates,
-      (
-        (print p.told),
-        replies c setup (print p.told) refl h (record { front = p.front; step = p.step; rest = p.rest; cut = p.cut; text_is = ap (λ (r : Run desk_rules). text_of r) run; goes_on = ap (λ (r : Run desk_rules). r.end) run }),
-        tells old mid new (print p.told) (codes "error 10 memory\n") before after (subst (Appends old mid) (append-nil (print p.told)) p.written) (since mid new _ before between after le told),
-      ),
-    )
+pub done_outputs : (rack : Racks) (o : Options) (bytes : List ℕ) (setup : Parsed) (s : Status) (old mid new : Option (List ℕ)) (before between after : ℕ)
+    → setup_of Steps bytes ≡ Ok setup → (IsTrue rack.tells → Ran rack o setup.scripts (steps_of setup.steps) done old mid) → Keeps mid new → before ≤ between
+    → (s ≡ status.Done) ⊎ ((s ≡ status.Write) × Rose between after) → Outputs rack (Play o) bytes s (sinks old new before after)
+done_outputs rack o bytes setup s old mid new before between after h ran kept le ends =
+    let x = by_tells rack o bytes setup h (λ chances. IsWhole rack (Play o) bytes chances old new) (λ t. whole (ran t)) in
+    whole_text rack (Play o) bytes x.0 s old new before between after x.1 le ends
+  where
+    whole : Ran rack o setup.scripts (steps_of setup.steps) done old mid → (chances : Chances) × IsWhole rack (Play o) bytes chances old new
+    whole p =
+        let is = ran_output rack o bytes setup done old mid h p in
+        (chances_of o p.plays.fates, record {
+          status = ap (λ (x : Output). x.status) is;
+          error = ap (λ (x : Output). x.error) is;
+          text = subst (Appends old new) (sym (ap (λ (x : Output). x.text) is)) (appends_kept old mid new (print p.plays.told) p.plays.written kept);
+          taken = takes rack o bytes setup p.first p.plays.fates h p.begins;
+          stand = stand_for rack o bytes setup p.first p.last p.plays.fates _ h p.begins.first p.plays.is refl p.left;
+        })
+
+pub line_outputs : (rack : Racks) (o : Options) (bytes : List ℕ) (setup : Parsed) (n : ℕ) (s : Status) (old mid new : Option (List ℕ)) (before between after : ℕ)
+    → setup_of Steps bytes ≡ Ok setup → (IsTrue rack.tells → Ran rack o setup.scripts (steps_of setup.steps) (bad_line n) old mid) → before ≤ between
+    → TellsLine n s (sinks mid new between after) → Outputs rack (Play o) bytes s (sinks old new before after)
+line_outputs rack o bytes setup n status.Line old mid new before between after h ran le told =
+    by_tells rack o bytes setup h (λ chances. Gives rack (Play o) bytes chances 4 (sinks old new before after) × StandFor rack (Play o) (setup_of Steps bytes) chances)
+    (λ t. line (ran t))
+  where
+    line : (p : Ran rack o setup.scripts (steps_of setup.steps) (bad_line n) old mid)
+        → (chances : Chances) × (Gives rack (Play o) bytes chances 4 (sinks old new before after) × StandFor rack (Play o) (setup_of Steps bytes) chances)
+    line p =
+        let is = ran_output rack o bytes setup (bad_line n) old mid h p in
+        let told_so = tells old mid new (print p.plays.told) (codes "error 4 " ++ (decimal n ++ 10 ∷ [])) before after p.plays.written (since mid new _ before between after le told) in
+        (chances_of o p.plays.fates, (record {
+          answered = subst (λ (x : Output). (x.status ≡ 4) × Tells x.text x.error (sinks old new before after)) (sym is) (refl, told_so);
+          taken = takes rack o bytes setup p.first p.plays.fates h p.begins;
+        }, stand_for rack o bytes setup p.first p.last p.plays.fates _ h p.begins.first p.plays.is refl p.left))
+line_outputs rack o bytes setup n status.Memory old mid new before between after h ran le told =
+    by_tells rack o bytes setup h _ (λ t. paused (ran t))
+  where
+    paused : (p : Ran rack o setup.scripts (steps_of setup.steps) (bad_line n) old mid)
+        → (chances : Chances) × Pauses (Play o) bytes chances (codes "error 10 memory\n") (sinks old new before after)
+    paused p =
+        let is = ran_output rack o bytes setup (bad_line n) old mid h p in
+        let text : (output_of (Play o) bytes (chances_of o p.plays.fates)).text ≡ print p.plays.told = ap (λ (x : Output). x.text) is in
+        (
+          chances_of o p.plays.fates,
+          (
+            (output_of (Play o) bytes (chances_of o p.plays.fates)).text,
+            at_line (ap (λ (x : Output). x.status) is),
+            tells old mid new _ (codes "error 10 memory\n") before after (subst (Appends old mid) (sym text) p.plays.written) (since mid new _ before between after le told),
+          ),
+        )
+line_outputs rack o bytes setup n s old mid new before between after h ran le told = absurd told
+
+-- what a run left that halted at a step which it performed
+pub record Halted (rack : Racks) (o : Options) (scripts : List Named) (steps : List (Option Step)) (shown : List ℕ) (old mid : Option (List ℕ)) : Type 0 where
+  pub first : Desk
+  pub last : Desk
+  pub begins : Begins rack o scripts first
+  pub before : ℕ
+  pub after : ℕ
+  pub halts : Halts desk_rules steps shown (played.scene desk_rules old first before) (played.scene desk_rules mid last after)
+
+pub write_outputs : (rack : Racks) (o : Options) (bytes : List ℕ) (setup : Parsed) (old new : Option (List ℕ)) (before after : ℕ) → setup_of Steps bytes ≡ Ok setup
+    → (IsTrue rack.tells → (shown : List ℕ) × (p : Halted rack o setup.scripts (steps_of setup.steps) shown old new) × (0 < length p.halts.hidden))
+    → Rose before after → Outputs rack (Play o) bytes status.Write (sinks old new before after)
+write_outputs rack o bytes setup old new before after h halted rose =
+    let x = by_tells rack o bytes setup h (λ chances. BreaksOff (output_of (Play o) bytes chances) (sinks old new before after)) (λ t. broke (halted t)) in
+    (x.0, (rose, x.1))
+  where
+    broke : (shown : List ℕ) × (p : Halted rack o setup.scripts (steps_of setup.steps) shown old new) × (0 < length p.halts.hidden)
+        → (chances : Chances) × BreaksOff (output_of (Play o) bytes chances) (sinks old new before after)
+    broke (shown, p, some) =
+        let q = p.halts in
+        let fates = q.fates ++ q.came.fates in
+        let run = transcript desk_rules p.first 1 (steps_of setup.steps) fates in
+        let text : (output_of (Play o) bytes (chances_of o fates)).text ≡ (print q.told ++ shown) ++ (q.hidden ++ q.later) =
+        ap (λ (x : Output). x.text) (output_is rack o bytes setup p.first fates run h p.begins.first refl) ∙ (text_is (text_of run) run.end ∙ q.all) in
+        (chances_of o fates, inl (record { front = print q.told ++ shown; rest = q.hidden ++ q.later; is = text; some = omega (arith, some, length-append q.hidden q.later); written = q.written }))
+
+-- what a run left that came to a crash behind which the shelf was not opened
+pub record Lost (rack : Racks) (o : Options) (scripts : List Named) (steps : List (Option Step)) (shelf : ℕ) (old mid : Option (List ℕ)) : Type 0 where
+  pub first : Desk
+  pub last : Desk
+  pub begins : Begins rack o scripts first
+  pub before : ℕ
+  pub after : ℕ
+  pub loses : played.Loses desk_rules steps shelf (played.scene desk_rules old first before) (played.scene desk_rules mid last after)
+
+pub memory_outputs : (rack : Racks) (o : Options) (bytes : List ℕ) (setup : Parsed) (s : Status) (old mid new : Option (List ℕ)) (before between after : ℕ)
+    → setup_of Steps bytes ≡ Ok setup
+    → (IsTrue rack.tells → Halted rack o setup.scripts (steps_of setup.steps) [] old mid ⊎ ((shelf : ℕ) × Lost rack o setup.scripts (steps_of setup.steps) shelf old mid))
+    → before ≤ between → s ≡ status.Memory → AppendsUnlessFault mid new (codes "error 10 memory\n") between after
+    → Outputs rack (Play o) bytes s (sinks old new before after)
+memory_outputs rack o bytes setup s old mid new before between after h halted le is told =
+    subst (λ (x : Status). Outputs rack (Play o) bytes x (sinks old new before after)) (sym is) (by_tells rack o bytes setup h _ (λ t. paused (halted t)))
+  where
+    paused : Halted rack o setup.scripts (steps_of setup.steps) [] old mid ⊎ ((shelf : ℕ) × Lost rack o setup.scripts (steps_of setup.steps) shelf old mid)
+        → (chances : Chances) × Pauses (Play o) bytes chances (codes "error 10 memory\n") (sinks old new before after)
+    paused (inl p) =
+        let q = p.halts in
+        let run = ap (λ (x : Desk). transcript desk_rules x 1 q.front q.fates) (sym p.begins.first) ∙ q.is in
+        (chances_of o q.fates, (print q.told, replies o setup (print q.told) refl h (record {
+          front = q.front;
+          step = q.step;
+          next = tt;
+          rest = q.rest;
+          cut = q.cut;
+          text_is = ap (λ (r : Run desk_rules). text_of r) run;
+          goes_on = ap (λ (r : Run desk_rules). r.end) run;
+        }), tells old mid new (print q.told) (codes "error 10 memory\n") before after (subst (Appends old mid) (append-nil (print q.told)) q.written) (since mid new _ before between after le told)))
+    paused (inr (shelf, p)) =
+        let q = p.loses in
+        let run = ap (λ (x : Desk). transcript desk_rules x 1 q.front q.fates) (sym p.begins.first) ∙ q.is in
+        (chances_of o q.fates, (print q.told, replies o setup (print q.told) refl h (record {
+          front = q.front;
+          step = crash shelf;
+          next = tt;
+          rest = q.rest;
+          cut = q.cut;
+          text_is = ap (λ (r : Run desk_rules). text_of r) run;
+          goes_on = ap (λ (r : Run desk_rules). r.end) run;
+        }), tells old mid new (print q.told) (codes "error 10 memory\n") before after q.written (since mid new _ before between after le told)))
+
+pub lost_outputs : (rack : Racks) (o : Options) (bytes : List ℕ) (setup : Parsed) (shelf : ℕ) (old mid new : Option (List ℕ)) (before between after : ℕ)
+    → setup_of Steps bytes ≡ Ok setup → (IsTrue rack.tells → Lost rack o setup.scripts (steps_of setup.steps) shelf old mid) → before ≤ between → RackFailed rack
+    → AppendsUnlessFault mid new (disk_line shelf) between after → Outputs rack (Play o) bytes status.Disk (sinks old new before after)
+lost_outputs rack o bytes setup shelf old mid new before between after h lost le failed told =
+    let x = by_tells rack o bytes setup h (λ chances. Loses (Play o) bytes chances (sinks old new before after)) (λ t. loses (lost t)) in
+    (x.0, (failed, x.1))
+  where
+    loses : Lost rack o setup.scripts (steps_of setup.steps) shelf old mid → (chances : Chances) × Loses (Play o) bytes chances (sinks old new before after)
+    loses p =
+        let q = p.loses in
+        let run = ap (λ (x : Desk). transcript desk_rules x 1 q.front q.fates) (sym p.begins.first) ∙ q.is in
+        (chances_of o q.fates, (shelf, print q.told, at_crash o setup (print q.told) refl h (record {
+          front = q.front;
+          step = crash shelf;
+          next = refl;
+          rest = q.rest;
+          cut = q.cut;
+          text_is = ap (λ (r : Run desk_rules). text_of r) run;
+          goes_on = ap (λ (r : Run desk_rules). r.end) run;
+        }), tells old mid new (print q.told) (disk_line shelf) before after q.written (since mid new _ before between after le told)))
+
+-- ---- a run of steps that does not begin
+
+pub unread_outputs : (rack : Racks) (o : Options) (bytes : List ℕ) (setup : Parsed) (shelf : ℕ) (old new : Option (List ℕ)) (before after : ℕ)
+    → setup_of Steps bytes ≡ Ok setup → RackFailed rack → AppendsUnlessFault old new (disk_line shelf) before after
+    → Outputs rack (Play o) bytes status.Disk (sinks old new before after)
+unread_outputs rack o bytes setup shelf old new before after h failed told =
+    (no_chances, (failed, λ settles. (shelf, [], at_first o refl, tells old old new [] (disk_line shelf) before after (appends_none old) told)))
+
+-- the disks before this one are empty, and this one holds something
+pub record IsFull (rack : Racks) (o : Options) (shelf : ℕ) : Type 0 where
+  pub within : shelf < o.shelves
+  pub empty : (k : ℕ) → k < shelf → rack.before.holds k []
+  pub byte : ℕ
+  pub bytes : List ℕ
+  pub full : rack.before.holds shelf (byte ∷ bytes)
+
+full_chances : (rack : Racks) (o : Options) (shelf : ℕ) → IsFull rack o shelf → Chances
+full_chances rack o shelf p = record { disks = replicate shelf [] ++ (p.byte ∷ p.bytes) ∷ []; fates = [] }
+
+full_unfit : (n k : ℕ) (b : ℕ) (bs : List ℕ) (m : ℕ) → k + n ≡ m → first_unfit unfit_new k (replicate n [] ++ (b ∷ bs) ∷ []) ≡ Some (m, not_empty)
+full_unfit zero k b bs m is = let same : k ≡ m = omega (arith, is) in ap (λ j. Some (j, not_empty)) same
+full_unfit (suc n) k b bs m is = full_unfit n (k + 1) b bs m (omega (arith, is))
+
+full_held : (holds : ℕ → List ℕ → Type 0) (n k : ℕ) (image : List ℕ) (m : ℕ) → k + n ≡ m → ((j : ℕ) → j < m → holds j []) → holds m image
+    → AreHeld holds k (replicate n [] ++ image ∷ [])
+full_held holds zero k image m is each here = (subst (λ j. holds j image) (sym (let same : k ≡ m = omega (arith, is) in same)) here, tt)
+full_held holds (suc n) k image m is each here =
+    (each k (omega (arith, is)), full_held holds n (k + 1) image m (omega (arith, is)) each here)
+
+pub full_outputs : (rack : Racks) (o : Options) (bytes : List ℕ) (setup : Parsed) (shelf : ℕ) (old new : Option (List ℕ)) (before after : ℕ)
+    → setup_of Steps bytes ≡ Ok setup → (IsTrue rack.tells → IsFull rack o shelf) → AppendsUnlessFault old new (unfit_line shelf not_empty) before after
+    → Outputs rack (Play o) bytes status.Journal (sinks old new before after)
+full_outputs rack o bytes setup shelf old new before after h full told =
+    by_tells rack o bytes setup h (λ chances. Gives rack (Play o) bytes chances 8 (sinks old new before after)) (λ t. shut (full t))
+  where
+    shut : IsFull rack o shelf → (chances : Chances) × Gives rack (Play o) bytes chances 8 (sinks old new before after)
+    shut p =
+        let images : List (List ℕ) = replicate shelf [] ++ (p.byte ∷ p.bytes) ∷ [] in
+        let chances : Chances = record { disks = images; fates = [] } in
+        let unfit = full_unfit shelf 0 p.byte p.bytes shelf (omega arith) in
+        let taken : AreTaken unfit_new rack.before.holds o.shelves images = record {
+          held = full_held rack.before.holds shelf 0 (p.byte ∷ p.bytes) shelf (omega arith) p.empty p.full;
+          all = λ none. absurd (let no : None ≡ Some (shelf, not_empty) = sym none ∙ unfit in cc);
+        } in
+        let is : output_of (Play o) bytes chances ≡ record { text = []; error = unfit_line shelf not_empty; status = 8 } =
+        rw h (ap (λ f. unless_shut f (finished (run_of o setup.scripts (steps_of setup.steps) []))) unfit) in
+        (chances, record {
+          answered = subst (λ (x : Output). (x.status ≡ 8) × Tells x.text x.error (sinks old new before after)) (sym is)
+              (refl, tells old old new [] (unfit_line shelf not_empty) before after (appends_none old) told);
+          taken = subst (λ (r : Result Parsed Fault). TakesDisks rack (with_setup (Play o) r) images) (sym h) taken;
+        })
+
+-- what no disk that tells its bytes does
+pub never_outputs : (rack : Racks) (o : Options) (bytes : List ℕ) (setup : Parsed) (old new : Option (List ℕ)) (before after : ℕ)
+    → setup_of Steps bytes ≡ Ok setup → (IsTrue rack.tells → ⊥) → Outputs rack (Play o) bytes status.Journal (sinks old new before after)
+never_outputs rack o bytes setup old new before after h never =
+    (no_chances, λ settles. absurd (never (tells_of rack o bytes setup h settles)))

@@ -1,5 +1,5 @@
 -- What the command answers.
-use Rattle.std.specs.Prelude.{⊤, ◌≡◌, ◌⊎◌, ◌≤◌, ◌++◌, ◌∷◌, [], ℕ, List, length, map, nat_le, Option, Some, None, IfSome, Result, Ok, Err, codes, if◌then◌else◌}
+use Rattle.std.specs.Prelude.{⊤, ◌≡◌, ◌⊎◌, ◌≤◌, ◌++◌, ◌∷◌, [], ℕ, List, length, map, nat_le, Option, Some, None, IfSome, IsTrue, Result, Ok, Err, codes, if◌then◌else◌}
 use Rattle.std.specs.Borrow.{Bor}
 use Rattle.std.specs.Fmt.{decimal}
 use Rattle.std.specs.Io.KnownBytes.{IsAtEnd}
@@ -29,11 +29,12 @@ use Rattle.server_command.specs.declared.program.Status.{Status}
 use Rattle.server_command.specs.declared.program.Status.TheVariants as status
 use Rattle.server_command.specs.declared.program.Job.{Job}
 use Rattle.server_command.specs.declared.program.Job.TheVariants as job
-use Rattle.server_command.specs.Serving.{Serves, Faults, HaveRisen, LeavesInput}
-use Rattle.server_command.specs.Desk.{first_desk}
-use Rattle.server_command.specs.Ledger.{print_of}
-use Rattle.server_command.specs.Laws.{IsRunOfEvents}
-use Rattle.server_command.specs.Output.{Output, output_of, rules_for, Sinks, PrintsTo, Answers, BreaksOff, Pauses, ending_of}
+use Rattle.server_command.specs.Racks.{Racks, AreTaken, Unfit, first_unfit, unfit_new, unfit_left}
+use Rattle.server_command.specs.Serving.{Serves, Faults, HaveRisen, RackFailed, LeavesInput}
+use Rattle.play_desk.specs.Ledger.{print_of}
+use Rattle.play_desk.specs.Laws.{IsRunOfEvents}
+use Rattle.play_desk.specs.Opening.{HoldTheBooks}
+use Rattle.server_command.specs.Output.{Chances, Output, output_of, told_scripts, desk_for, run_of, Sinks, PrintsTo, Answers, BreaksOff, Pauses, Loses, ending_of}
 
 -- what is done with an input alone
 abbrev pub asked_of : Job → Command
@@ -60,6 +61,8 @@ code_of status.Setup = 3
 code_of status.Line = 4
 code_of status.Read = 5
 code_of status.Write = 6
+code_of status.Disk = 7
+code_of status.Journal = 8
 code_of status.Door = 9
 code_of status.Memory = 10
 code_of status.Long = 11
@@ -70,26 +73,28 @@ abbrev pub most_of_input : ℕ
 most_of_input = 16777216
 
 -- what a command met: the words; the bytes that its input had, and those that are left of it, where these are told; the input's
--- counts of faults before and after; its output; and the faults of the door and of the seeds
-pub record Met : Type 0 where
+-- counts of faults before and after; its output; its rack; and the faults of the door and of the seeds
+pub record Met : Type 1 where
   pub words : List (List ℕ)
   pub input : Option (List ℕ)
   pub unread : Option (List ℕ)
   pub input_before : ℕ
   pub input_after : ℕ
   pub output : Sinks
+  pub rack : Racks
   pub door : Faults
   pub seeds : Faults
 
 -- the same by what contracts see of the input before and after a call
-abbrev pub met_of : (words : List (List ℕ)) → (old new : SourceView) → Sinks → (door seeds : Faults) → Met
-met_of words old new output door seeds = record {
+abbrev pub met_of : (words : List (List ℕ)) → (old new : SourceView) → Sinks → Racks → (door seeds : Faults) → Met
+met_of words old new output rack door seeds = record {
   words = words;
   input = old.left;
   unread = new.left;
   input_before = old.faults;
   input_after = new.faults;
   output = output;
+  rack = rack;
   door = door;
   seeds = seeds;
 }
@@ -126,53 +131,108 @@ pub record ReadToEnd (met : Met) : Type 0 where
   pub end : IsAtEnd met.unread
   pub short : IfSome met.input (λ bytes. length bytes ≤ most_of_input)
 
--- the output is the whole of what these fates give, whose status is this
-abbrev pub Whole : Command → List Fate → ℕ → Met → Type 0
-Whole asked fates status met =
-    IfSome met.input (λ bytes. Answers (output_of asked bytes fates) status met.output)
+-- ---- what hangs on the disks
 
--- the output broke off
-abbrev pub Front : Command → List Fate → Met → Type 0
-Front asked fates met = IfSome met.input (λ bytes. BreaksOff (output_of asked bytes fates) met.output)
+-- what the words ask for, with the setup of an input that is not too long
+abbrev pub with_setup : Command → Result Parsed Fault → Option (Command × Parsed)
+with_setup asked (Err e) = None
+with_setup asked (Ok setup) = Some (asked, setup)
 
--- the output is whole replies to the first of the input's steps, and then this line, or a part of it where the output failed
-abbrev pub Paused : Command → List Fate → List ℕ → Met → Type 0
-Paused asked fates line met =
-    IfSome met.input (λ bytes. Pauses asked bytes fates line met.output)
+abbrev pub reached_by : Option Command → List ℕ → Option (Command × Parsed)
+reached_by None bytes = None
+reached_by (Some asked) bytes =
+    if nat_le (length bytes) most_of_input then with_setup asked (setup_of (ending_of asked) bytes) else None
+
+-- it takes disks, which hold these
+abbrev pub TakesDisks : Racks → Option (Command × Parsed) → List (List ℕ) → Type 0
+TakesDisks rack (Some (Play o, setup)) disks = AreTaken unfit_new rack.before.holds o.shelves disks
+TakesDisks rack (Some (Serve s, setup)) disks = AreTaken (unfit_left setup.scripts) rack.before.holds s.options.shelves disks
+TakesDisks rack _ disks = ⊤
+
+-- it takes none, or they tell their bytes
+abbrev pub Settles : Racks → Option (Command × Parsed) → Type 0
+Settles rack (Some (Play o, setup)) = IsTrue rack.tells
+Settles rack (Some (Serve s, setup)) = IsTrue rack.tells
+Settles rack _ = ⊤
+
+-- what hangs on disks is said where they tell their bytes
+abbrev pub Known : Racks → Command → (bytes : List ℕ) → Type 0 → Type 0
+Known rack asked bytes P = Settles rack (with_setup asked (setup_of (ending_of asked) bytes)) → P
+
+-- the disks that were given back stand for the books that the steps of a setup left
+abbrev pub StandFor : Racks → Command → Result Parsed Fault → Chances → Type 0
+StandFor rack (Play o) (Ok setup) chances =
+    HoldTheBooks (run_of o setup.scripts (steps_of setup.steps) chances.fates).state rack.after.holds
+StandFor rack asked setup chances = ⊤
+
+-- ---- why a command ends so
+
+-- what a whole input gives, of whose setup the disks were taken that hold this
+pub record Gives (rack : Racks) (asked : Command) (bytes : List ℕ) (chances : Chances) (status : ℕ) (out : Sinks) : Type 0 where
+  pub answered : Answers (output_of asked bytes chances) status out
+  pub taken : TakesDisks rack (with_setup asked (setup_of (ending_of asked) bytes)) chances.disks
+
+-- what a command leaves that has read its whole input
+abbrev pub Leaves : Racks → Command → (bytes : List ℕ) → Status → Chances → Sinks → Type 0
+Leaves rack asked bytes status.Done chances out =
+    Known rack asked bytes (Gives rack asked bytes chances 0 out × StandFor rack asked (setup_of (ending_of asked) bytes) chances)
+Leaves rack asked bytes status.Setup chances out = Gives rack asked bytes chances 3 out
+Leaves rack asked bytes status.Line chances out =
+    Known rack asked bytes (Gives rack asked bytes chances 4 out × StandFor rack asked (setup_of (ending_of asked) bytes) chances)
+Leaves rack asked bytes status.Write chances out =
+    Rose out.before out.after × Known rack asked bytes (BreaksOff (output_of asked bytes chances) out)
+Leaves rack asked bytes status.Disk chances out = RackFailed rack × Known rack asked bytes (Loses asked bytes chances out)
+Leaves rack asked bytes status.Journal chances out = Known rack asked bytes (Gives rack asked bytes chances 8 out)
+Leaves rack asked bytes status.Memory chances out = Known rack asked bytes (Pauses asked bytes chances (codes "error 10 memory\n") out)
+Leaves rack asked bytes _ chances out = ⊥
+
+-- the same, for some chances
+abbrev pub Outputs : Racks → Command → (bytes : List ℕ) → Status → Sinks → Type 0
+Outputs rack asked bytes status out = (chances : Chances) × Leaves rack asked bytes status chances out
+
+-- it was done with the whole input
+abbrev pub HasDone : Command → Chances → Status → Met → Type 0
+HasDone asked chances how met =
+    ReadToEnd met × IfSome met.input (λ bytes. Leaves met.rack asked bytes how chances met.output)
 
 -- why a command that was asked for ends so, and what it wrote
-abbrev pub Comes : Command → List Fate → Status → Met → Type 0
-Comes asked fates status.Done met = ReadToEnd met × Whole asked fates 0 met
-Comes asked fates status.Setup met = ReadToEnd met × Whole asked fates 3 met
-Comes asked fates status.Line met = ReadToEnd met × Whole asked fates 4 met
-Comes asked fates status.Write met = ReadToEnd met × Rose met.output.before met.output.after × Front asked fates met
-Comes asked fates status.Memory met = Paused asked fates (codes "error 10 memory\n") met × ConsumesSome met.input met.unread
-Comes asked fates status.Read met = IsUnread fault.Failed met
-Comes asked fates status.Long met = IsUnread fault.Long met
-Comes asked fates _ met = ⊥
+abbrev pub Comes : Command → Chances → Status → Met → Type 0
+Comes asked chances status.Done met = HasDone asked chances status.Done met
+Comes asked chances status.Setup met = HasDone asked chances status.Setup met
+Comes asked chances status.Line met = HasDone asked chances status.Line met
+Comes asked chances status.Write met = HasDone asked chances status.Write met × Rose met.output.before met.output.after
+Comes asked chances status.Disk met = HasDone asked chances status.Disk met × RackFailed met.rack
+Comes asked chances status.Journal met = HasDone asked chances status.Journal met
+Comes asked chances status.Memory met =
+    IfSome met.input (λ bytes. Leaves met.rack asked bytes status.Memory chances met.output) × ConsumesSome met.input met.unread
+Comes asked chances status.Read met = IsUnread fault.Failed met
+Comes asked chances status.Long met = IsUnread fault.Long met
+Comes asked chances _ met = ⊥
 
 -- the whole input was read, and its links were served or not
-abbrev pub HasServed : Serves → Service → Status → Met → Type 0
-HasServed serves s status met =
-    ReadToEnd met × IfSome met.input (λ bytes. LeavesInput serves s bytes status met.output met.door met.seeds)
+abbrev pub HasServed : Serves → Service → Chances → Status → Met → Type 0
+HasServed serves s chances how met =
+    ReadToEnd met × IfSome met.input (λ bytes. LeavesInput serves s bytes chances how met.output met.door met.seeds)
 
 -- why a serving ends so, and what it wrote
-abbrev pub ComesServing : Serves → Service → Status → Met → Type 0
-ComesServing serves s status.Done met = HasServed serves s status.Done met
-ComesServing serves s status.Setup met = HasServed serves s status.Setup met
-ComesServing serves s status.Write met = HasServed serves s status.Write met × Rose met.output.before met.output.after
-ComesServing serves s status.Door met = HasServed serves s status.Door met × HaveRisen met.door
-ComesServing serves s status.Key met = HasServed serves s status.Key met × HaveRisen met.seeds
-ComesServing serves s status.Memory met =
-    IsUnread fault.Memory met × (serves.unopened ⊎ HasServed serves s status.Memory met)
-ComesServing serves s status.Read met = IsUnread fault.Failed met × serves.unopened
-ComesServing serves s status.Long met = IsUnread fault.Long met × serves.unopened
-ComesServing serves s _ met = ⊥
+abbrev pub ComesServing : Serves → Service → Chances → Status → Met → Type 0
+ComesServing serves s chances status.Done met = HasServed serves s chances status.Done met
+ComesServing serves s chances status.Setup met = HasServed serves s chances status.Setup met
+ComesServing serves s chances status.Write met = HasServed serves s chances status.Write met × Rose met.output.before met.output.after
+ComesServing serves s chances status.Disk met = HasServed serves s chances status.Disk met × RackFailed met.rack
+ComesServing serves s chances status.Journal met = HasServed serves s chances status.Journal met
+ComesServing serves s chances status.Door met = HasServed serves s chances status.Door met × HaveRisen met.door
+ComesServing serves s chances status.Key met = HasServed serves s chances status.Key met × HaveRisen met.seeds
+ComesServing serves s chances status.Memory met =
+    IsUnread fault.Memory met × (serves.unopened ⊎ HasServed serves s chances status.Memory met)
+ComesServing serves s chances status.Read met = IsUnread fault.Failed met × serves.unopened
+ComesServing serves s chances status.Long met = IsUnread fault.Long met × serves.unopened
+ComesServing serves s chances _ met = ⊥
 
-abbrev pub ComesTo : Serves → Command → List Fate → Status → Met → Type 0
-ComesTo serves Check fates status met = Comes Check fates status met
-ComesTo serves (Play o) fates status met = Comes (Play o) fates status met
-ComesTo serves (Serve s) fates status met = ComesServing serves s status met
+abbrev pub ComesTo : Serves → Command → Chances → Status → Met → Type 0
+ComesTo serves Check chances how met = Comes Check chances how met
+ComesTo serves (Play o) chances how met = Comes (Play o) chances how met
+ComesTo serves (Serve s) chances how met = ComesServing serves s chances how met
 
 -- words without a command, or want of memory for them, leave the input unread
 abbrev pub Refuses : Option Command → Status → Met → Type 0
@@ -181,57 +241,52 @@ Refuses asked status.Memory met = Prints met (codes "error 10 memory\n") × Unto
 Refuses asked _ met = ⊥
 
 -- why the command ends so, and what it wrote
-abbrev pub Explains : Serves → Status → List Fate → Met → Type 0
-Explains serves status fates met =
+abbrev pub Explains : Serves → Status → Chances → Met → Type 0
+Explains serves status chances met =
     Refuses (asked_in met.words) status met
-    ⊎ ((asked : Command) × ((asked_in met.words ≡ Some asked) × ComesTo serves asked fates status met))
+    ⊎ ((asked : Command) × ((asked_in met.words ≡ Some asked) × ComesTo serves asked chances status met))
 
--- the status that is due to these words and this input under these fates: 2 where the words are no command, and else 11 where the
+-- the status that is due to these words and this input under these chances: 2 where the words are no command, and else 11 where the
 -- input is too long, and else that of the output
-abbrev pub due_to : Option Command → List ℕ → List Fate → ℕ
-due_to None bytes fates = 2
-due_to (Some asked) bytes fates = if nat_le (length bytes) most_of_input then (output_of asked bytes fates).status else 11
+abbrev pub due_to : Option Command → List ℕ → Chances → ℕ
+due_to None bytes chances = 2
+due_to (Some asked) bytes chances = if nat_le (length bytes) most_of_input then (output_of asked bytes chances).status else 11
 
-abbrev pub due : (words : List (List ℕ)) → List ℕ → List Fate → ℕ
-due words bytes fates = due_to (asked_in words) bytes fates
+abbrev pub due : (words : List (List ℕ)) → List ℕ → Chances → ℕ
+due words bytes chances = due_to (asked_in words) bytes chances
 
--- the status is the one that is due, or that of an input, an output, a door or seeds that failed, or that of want of memory
-abbrev pub EndsAs : (status due : ℕ) → Met → Type 0
-EndsAs status due met =
-    (status ≡ due)
+-- the status is the one that is due, by the disks that were taken
+pub record IsDue (status : ℕ) (met : Met) (bytes : List ℕ) (chances : Chances) : Type 0 where
+  pub same : status ≡ due met.words bytes chances
+  pub taken : TakesDisks met.rack (reached_by (asked_in met.words) bytes) chances.disks
+
+-- it is so, or that of an input, an output, a rack, a door or seeds that failed, or that of want of memory
+abbrev pub EndsAs : (status : ℕ) → Met → (bytes : List ℕ) → Chances → Type 0
+EndsAs status met bytes chances =
+    IsDue status met bytes chances
     ⊎ (((status ≡ 5) × Rose met.input_before met.input_after)
     ⊎ (((status ≡ 6) × Rose met.output.before met.output.after)
-    ⊎ (((status ≡ 9) × HaveRisen met.door) ⊎ (((status ≡ 14) × HaveRisen met.seeds) ⊎ (status ≡ 10)))))
+    ⊎ (((status ≡ 7) × RackFailed met.rack)
+    ⊎ (((status ≡ 9) × HaveRisen met.door) ⊎ (((status ≡ 14) × HaveRisen met.seeds) ⊎ (status ≡ 10))))))
 
 -- the steps that are played are events, and the text of the output is the print of the replies of a run of these
 pub record PlaysEvents (o : Options) (setup : Parsed) (fates : List Fate) (output : Output) : Type 0 where
   pub replies : List Reply
-  pub text : output.text ≡ print_of (first_desk (rules_for o) setup.scripts) 1 (steps_of setup.steps) fates replies
-  pub run : IsRunOfEvents (first_desk (rules_for o) setup.scripts) 1 (steps_of setup.steps) fates replies
+  pub text : output.text ≡ print_of (desk_for o setup.scripts) 1 (steps_of setup.steps) fates replies
+  pub run : IsRunOfEvents (desk_for o setup.scripts) 1 (steps_of setup.steps) fates replies
 
--- How the command ended, by the fates of its visits: why; that the output which is due to steps is that of a run of events; and
--- that the status is due but for faults of the outside and want of memory.
+-- How the command ended, by what its disks held and the fates of its visits: why; that the output which is due to steps is that of a
+-- run of events, where each shelf begins on an empty disk; and that the status is due but for faults of the outside and want of
+-- memory.
 pub record Ends (serves : Serves) (result : ℕ) (met : Met) : Type 0 where
-  pub fates : List Fate
+  pub chances : Chances
   pub status : Status
   pub code : result ≡ code_of status
-  pub explained : Explains serves status fates met
+  pub explained : Explains serves status chances met
   pub events : (o : Options) (bytes : List ℕ) (setup : Parsed) → asked_in met.words ≡ Some (Play o) → met.input ≡ Some bytes
-      → setup_of Steps bytes ≡ Ok setup → PlaysEvents o setup fates (output_of (Play o) bytes fates)
-  pub exact : IfSome met.input (λ bytes. EndsAs result (due met.words bytes fates) met)
-
--- what a command leaves that has read its whole input
-abbrev pub Leaves : Command → (bytes : List ℕ) → Status → List Fate → Sinks → Type 0
-Leaves asked bytes status.Done fates out = Answers (output_of asked bytes fates) 0 out
-Leaves asked bytes status.Setup fates out = Answers (output_of asked bytes fates) 3 out
-Leaves asked bytes status.Line fates out = Answers (output_of asked bytes fates) 4 out
-Leaves asked bytes status.Write fates out = Rose out.before out.after × BreaksOff (output_of asked bytes fates) out
-Leaves asked bytes status.Memory fates out = Pauses asked bytes fates (codes "error 10 memory\n") out
-Leaves asked bytes _ fates out = ⊥
-
--- the same, for some fates
-abbrev pub Outputs : Command → (bytes : List ℕ) → Status → Sinks → Type 0
-Outputs asked bytes status out = (fates : List Fate) × Leaves asked bytes status fates out
+      → setup_of Steps bytes ≡ Ok setup → first_unfit unfit_new 0 chances.disks ≡ None
+      → PlaysEvents o setup chances.fates (output_of (Play o) bytes chances)
+  pub exact : IfSome met.input (λ bytes. Settles met.rack (reached_by (asked_in met.words) bytes) → EndsAs result met bytes chances)
 
 -- telling a line of the steps leaves its error's line, or that of want of memory
 abbrev pub TellsLine : (number : ℕ) → Status → Sinks → Type 0
@@ -240,22 +295,21 @@ TellsLine number status.Memory out = PrintsTo out (codes "error 10 memory\n")
 TellsLine number _ out = ⊥
 
 -- what is left of a command over each input that reads so: as this setup or with this fault
-abbrev pub OutputsFor : Command → Result Parsed Fault → Status → Sinks → Type 0
-OutputsFor asked setup status out =
-    (bytes : List ℕ) → setup_of (ending_of asked) bytes ≡ setup → Outputs asked bytes status out
+abbrev pub OutputsFor : Racks → Command → Result Parsed Fault → Status → Sinks → Type 0
+OutputsFor rack asked setup status out =
+    (bytes : List ℕ) → setup_of (ending_of asked) bytes ≡ setup → Outputs rack asked bytes status out
 
 -- the number of these scripts was told, or there was no memory for that
 abbrev pub Counts : List Named → Status → Sinks → Type 0
-Counts scripts status out =
-    (steps : List ℕ) → OutputsFor Check (Ok (record { scripts = scripts; steps = steps })) status out
+Counts scripts status.Done out = Answers (told_scripts scripts) 0 out
+Counts scripts status.Write out = Rose out.before out.after × BreaksOff (told_scripts scripts) out
+Counts scripts status.Memory out = PrintsTo out (codes "error 10 memory\n")
+Counts scripts _ out = ⊥
 
 -- these steps were played over these scripts
-abbrev pub PlaysSteps : Options → List Named → (steps : List ℕ) → Status → Sinks → Type 0
-PlaysSteps o scripts steps status out = OutputsFor (Play o) (Ok (record { scripts = scripts; steps = steps })) status out
-
--- the fault of a setup was told, or there was no memory for that
-abbrev pub TellsFault : Fault → Status → Sinks → Type 0
-TellsFault fault status out = (asked : Command) → OutputsFor asked (Err fault) status out
+abbrev pub PlaysSteps : Racks → Options → List Named → (steps : List ℕ) → Status → Sinks → Type 0
+PlaysSteps rack o scripts steps status out =
+    OutputsFor rack (Play o) (Ok (record { scripts = scripts; steps = steps })) status out
 
 -- the line of a setup's fault was told, or there was no memory for that
 abbrev pub TellsFaultLine : Fault → Status → Sinks → Type 0
@@ -267,12 +321,15 @@ TellsFaultLine fault _ out = ⊥
 abbrev pub IsDoneUnlessFault : Status → (before after : ℕ) → Type 0
 IsDoneUnlessFault s before after = (s ≡ status.Done) ⊎ ((s ≡ status.Write) × Rose before after)
 
--- a command that was asked for came to this, for some fates; and so did the words
+-- a command that was asked for came to this, for some chances; and so did the words
 abbrev pub Came : Command → Status → Met → Type 0
-Came asked status met = (fates : List Fate) × Comes asked fates status met
+Came asked status met = (chances : Chances) × Comes asked chances status met
+
+abbrev pub CameServing : Serves → Service → Status → Met → Type 0
+CameServing serves s status met = (chances : Chances) × ComesServing serves s chances status met
 
 abbrev pub Explained : Serves → Status → Met → Type 0
-Explained serves status met = (fates : List Fate) × Explains serves status fates met
+Explained serves status met = (chances : Chances) × Explains serves status chances met
 
 -- the input spells a setup, and behind it, where it is played, a line for each of some steps; and it is not too long
 pub record IsLawful (asked : Command) (bytes : List ℕ) : Type 0 where
@@ -283,20 +340,31 @@ pub record IsLawful (asked : Command) (bytes : List ℕ) : Type 0 where
   pub lines : setup.steps ≡ lines_of steps
   pub short : length bytes ≤ most_of_input
 
--- neither the door nor the seeds failed, where they are asked for
-abbrev pub ServesWell : Command → Met → Type 0
-ServesWell Check met = ⊤
-ServesWell (Play o) met = ⊤
-ServesWell (Serve s) met = ¬ (HaveRisen met.door) × ¬ (HaveRisen met.seeds)
+-- each disk that may be taken holds what its shelf is opened on: nothing, where steps are played
+abbrev pub AreFit : (ℕ → List ℕ → Option Unfit) → (ℕ → List ℕ → Type 0) → Type 0
+AreFit unfit holds = (shelf : ℕ) (image : List ℕ) → holds shelf image → unfit shelf image ≡ None
+
+abbrev pub JournalsOpen : Command → List Named → Racks → Type 0
+JournalsOpen Check scripts rack = ⊤
+JournalsOpen (Play o) scripts rack = IsTrue rack.tells × AreFit unfit_new rack.before.holds
+JournalsOpen (Serve s) scripts rack = IsTrue rack.tells × AreFit (unfit_left scripts) rack.before.holds
+
+-- neither the rack nor the door nor the seeds failed, where they are asked for
+abbrev pub GoesWell : Command → Met → Type 0
+GoesWell Check met = ⊤
+GoesWell (Play o) met = ¬ (RackFailed met.rack)
+GoesWell (Serve s) met = ¬ (RackFailed met.rack) × ¬ (HaveRisen met.door) × ¬ (HaveRisen met.seeds)
 
 -- it ended well, at a step that does not fit, or for want of memory
 abbrev pub EndsWell : Command → (result : ℕ) → Type 0
 EndsWell (Play o) result = (result ≡ 0) ⊎ ((result ≡ 4) ⊎ (result ≡ 10))
 EndsWell _ result = (result ≡ 0) ⊎ (result ≡ 10)
 
--- Plain words over a lawful input end well, at a step that does not fit, or for want of memory, where nothing outside fails.
+-- Plain words over a lawful input end well, at a step that does not fit, or for want of memory, where nothing outside fails and the
+-- journals open.
 abbrev pub IsComplete : (result : ℕ) → Met → Type 0
 IsComplete result met =
-    (asked : Command) (bytes : List ℕ) → IsPlain met.words asked → met.input ≡ Some bytes → IsLawful asked bytes
-    → ¬ (Rose met.input_before met.input_after) → ¬ (Rose met.output.before met.output.after) → ServesWell asked met
+    (asked : Command) (bytes : List ℕ) → IsPlain met.words asked → met.input ≡ Some bytes → (l : IsLawful asked bytes)
+    → JournalsOpen asked l.setup.scripts met.rack
+    → ¬ (Rose met.input_before met.input_after) → ¬ (Rose met.output.before met.output.after) → GoesWell asked met
     → EndsWell asked result

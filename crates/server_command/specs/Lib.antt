@@ -1,10 +1,7 @@
-pub mod Target
-pub mod Desk
-pub mod Ledger
-pub mod Laws
-pub mod Vectors
-pub mod Staff
+pub mod Racks
 pub mod Serial
 pub mod Output
 pub mod Serving
+pub mod Opening
 pub mod Command
+pub mod Telling

@@ -1,5 +1,5 @@
 -- What the program writes for its input, and how it may end.
-use Rattle.std.specs.Prelude.{◌≡◌, ◌⊎◌, ℕ, List, [], ◌∷◌, ◌++◌, length, Option, Some, None, Result, Ok, Err, codes}
+use Rattle.std.specs.Prelude.{⊤, ◌≡◌, ◌⊎◌, ℕ, List, [], ◌∷◌, ◌++◌, length, Option, Some, None, Result, Ok, Err, codes}
 use Rattle.std.specs.Fmt.{decimal}
 use Rattle.std.specs.Io.KnownBytes.{Appends}
 use Rattle.web_outside.specs.Causes.{Rose}
@@ -8,7 +8,7 @@ use Rattle.web_outside.specs.View.{SinkView}
 use Rattle.script_nodes.specs.Setup.{Named}
 use Rattle.replay_spec.specs.Rules.{Rules}
 use Rattle.replay_spec.specs.Step.{Fate}
-use Rattle.play_steps.specs.Step.{Step, steps_of}
+use Rattle.play_steps.specs.Step.{Step, crash, steps_of}
 use Rattle.play_steps.specs.Transcript.{End, done, bad_line, Run, text_of, transcript}
 use Rattle.setup_reader.specs.declared.setup.Ending.{Ending}
 use Rattle.setup_reader.specs.declared.setup.Ending.TheVariants.{Steps, Input}
@@ -17,7 +17,9 @@ use Rattle.setup_reader.specs.Faults.{fault_line}
 use Rattle.command_words.specs.declared.Command.{Command}
 use Rattle.command_words.specs.declared.Command.TheVariants.{Check, Play, Serve}
 use Rattle.command_words.specs.declared.Options.{Options}
-use Rattle.server_command.specs.Desk.{first_desk, desk_rules}
+use Rattle.journal_records.specs.Records.{journal_rules}
+use Rattle.play_desk.specs.Desk.{Desk, first_desk, desk_rules}
+use Rattle.server_command.specs.Racks.{Unfit, first_unfit, unfit_new, unfit_left, unfit_line, disk_line}
 
 -- what is written for a whole input: the text, the error's line behind it, and the status
 pub record Output : Type 0 where
@@ -30,17 +32,38 @@ abbrev pub faulty : Fault → Output
 faulty e = record { text = []; error = fault_line e; status = 3 }
 
 -- how many scripts there are
+abbrev pub told_scripts : List Named → Output
+told_scripts scripts = record { text = codes "ok " ++ (decimal (length scripts) ++ 10 ∷ []); error = []; status = 0 }
+
 abbrev pub counted : Result Parsed Fault → Output
 counted (Err e) = faulty e
-counted (Ok setup) = record { text = codes "ok " ++ (decimal (length setup.scripts) ++ 10 ∷ []); error = []; status = 0 }
+counted (Ok setup) = told_scripts setup.scripts
 
--- what the shelf of a run is under; it is in memory
-abbrev pub rules_for : Options → Rules
-rules_for o = record { fuel = o.fuel; life = o.life; instances = o.instances; pages = o.pages; journal = None }
+-- what the events of a shelf run under; its journal begins with these scripts
+abbrev pub rules_for : Options → (shelf : ℕ) → List Named → Rules
+rules_for o shelf scripts =
+    record { fuel = o.fuel; life = o.life; instances = o.instances; pages = o.pages; journal = Some (journal_rules shelf scripts) }
+
+-- the shelves of a run, with nothing on them, and workers that hold nothing
+abbrev pub desk_for : Options → List Named → Desk
+desk_for o scripts = first_desk (λ shelf. rules_for o shelf scripts) scripts o.shelves
 
 -- the run of these steps over these scripts
 abbrev pub run_of : Options → List Named → List (Option Step) → List Fate → Run desk_rules
-run_of o scripts steps fates = transcript desk_rules (first_desk (rules_for o) scripts) 1 steps fates
+run_of o scripts steps fates = transcript desk_rules (desk_for o scripts) 1 steps fates
+
+-- what the outside decides: what the disks hold that are taken, and the fates of the events
+pub record Chances : Type 0 where
+  pub disks : List (List ℕ)
+  pub fates : List Fate
+
+-- a shelf is not opened, and so nothing is done
+abbrev pub shut : (shelf : ℕ) → Unfit → Output
+shut shelf why = record { text = []; error = unfit_line shelf why; status = 8 }
+
+abbrev pub unless_shut : Option (ℕ × Unfit) → Output → Output
+unless_shut None output = output
+unless_shut (Some found) output = shut found.0 found.1
 
 abbrev pub ended : List ℕ → End → Output
 ended text done = record { text = text; error = []; status = 0 }
@@ -49,14 +72,16 @@ ended text (bad_line n) = record { text = text; error = codes "error 4 " ++ (dec
 abbrev pub finished : Run desk_rules → Output
 finished run = ended (text_of run) run.end
 
-abbrev pub played : Options → Result Parsed Fault → List Fate → Output
-played c (Err e) fates = faulty e
-played c (Ok setup) fates = finished (run_of c setup.scripts (steps_of setup.steps) fates)
+abbrev pub played : Options → Result Parsed Fault → Chances → Output
+played o (Err e) chances = faulty e
+played o (Ok setup) chances =
+    unless_shut (first_unfit unfit_new 0 chances.disks) (finished (run_of o setup.scripts (steps_of setup.steps) chances.fates))
 
 -- what is due to a setup that is served, but for the line of its counts, which its links decide
-abbrev pub served : Result Parsed Fault → Output
-served (Err e) = faulty e
-served (Ok setup) = record { text = []; error = []; status = 0 }
+abbrev pub served : Result Parsed Fault → Chances → Output
+served (Err e) chances = faulty e
+served (Ok setup) chances =
+    unless_shut (first_unfit (unfit_left setup.scripts) 0 chances.disks) (record { text = []; error = []; status = 0 })
 
 -- a setup ends with the input where it is checked or served, and with the line `steps` where it is played
 abbrev pub ending_of : Command → Ending
@@ -64,14 +89,14 @@ ending_of Check = Input
 ending_of (Play c) = Steps
 ending_of (Serve s) = Input
 
-abbrev pub written : Command → Result Parsed Fault → List Fate → Output
-written Check setup fates = counted setup
-written (Play c) setup fates = played c setup fates
-written (Serve s) setup fates = served setup
+abbrev pub written : Command → Result Parsed Fault → Chances → Output
+written Check setup chances = counted setup
+written (Play o) setup chances = played o setup chances
+written (Serve s) setup chances = served setup chances
 
 -- what a command writes for an input
-abbrev pub output_of : Command → List ℕ → List Fate → Output
-output_of asked input fates = written asked (setup_of (ending_of asked) input) fates
+abbrev pub output_of : Command → List ℕ → Chances → Output
+output_of asked input chances = written asked (setup_of (ending_of asked) input) chances
 
 -- what a sink held before and holds after, where it tells, and its counts of faults
 pub record Sinks : Type 0 where
@@ -107,23 +132,35 @@ Answers output status out = (output.status ≡ status) × Tells output.text outp
 abbrev pub BreaksOff : Output → Sinks → Type 0
 BreaksOff output out = IsCutShort out.held out.holds output.text ⊎ ((output.status ≡ 0) × Appends out.held out.holds output.text)
 
--- whole replies to the first of the steps, and behind them a step that is performed and not told
-pub record Replied (c : Options) (setup : Parsed) (fates : List Fate) (text : List ℕ) : Type 0 where
+-- whole replies to the first of the steps, behind which such a step stands, with these behind it
+pub record Replied (o : Options) (setup : Parsed) (fates : List Fate) (IsNext : Step → Type 0) (text : List ℕ) : Type 0 where
   pub front : List (Option Step)
   pub step : Step
+  pub next : IsNext step
   pub rest : List (Option Step)
   pub cut : steps_of setup.steps ≡ front ++ Some step ∷ rest
-  pub text_is : text_of (run_of c setup.scripts front fates) ≡ text
-  pub goes_on : (run_of c setup.scripts front fates).end ≡ done
+  pub text_is : text_of (run_of o setup.scripts front fates) ≡ text
+  pub goes_on : (run_of o setup.scripts front fates).end ≡ done
 
--- What stands before want of memory is told: nothing; whole replies to the first of the steps; or all replies up to a line that
--- is no step or does not fit.
-pub data Before (asked : Command) (input : List ℕ) (fates : List Fate) : List ℕ → Type 0 where
-  nothing : Before asked input fates []
-  at_line : (output_of asked input fates).status ≡ 4 → Before asked input fates (output_of asked input fates).text
-  replies : (c : Options) (setup : Parsed) (text : List ℕ) → asked ≡ Play c → setup_of Steps input ≡ Ok setup
-      → Replied c setup fates text → Before asked input fates text
+-- What stands before want of memory is told: nothing; whole replies to the first of the steps, behind which a step is performed or
+-- begun and not told; or all replies up to a line that is no step or does not fit.
+pub data Before (asked : Command) (input : List ℕ) (chances : Chances) : List ℕ → Type 0 where
+  nothing : Before asked input chances []
+  at_line : (output_of asked input chances).status ≡ 4 → Before asked input chances (output_of asked input chances).text
+  replies : (o : Options) (setup : Parsed) (text : List ℕ) → asked ≡ Play o → setup_of Steps input ≡ Ok setup
+      → Replied o setup chances.fates (λ step. ⊤) text → Before asked input chances text
 
 -- the sink grew by that, and then by the line
-abbrev pub Pauses : Command → (input : List ℕ) → List Fate → (line : List ℕ) → Sinks → Type 0
-Pauses asked input fates line out = (text : List ℕ) × Before asked input fates text × Tells text line out
+abbrev pub Pauses : Command → (input : List ℕ) → Chances → (line : List ℕ) → Sinks → Type 0
+Pauses asked input chances line out = (text : List ℕ) × Before asked input chances text × Tells text line out
+
+-- what stands before it is told that this shelf was not opened: nothing; or whole replies to the steps before a crash of it
+pub data BeforeOpening (asked : Command) (input : List ℕ) (chances : Chances) (shelf : ℕ) : List ℕ → Type 0 where
+  at_first : (o : Options) → asked ≡ Play o → BeforeOpening asked input chances shelf []
+  at_crash : (o : Options) (setup : Parsed) (text : List ℕ) → asked ≡ Play o → setup_of Steps input ≡ Ok setup
+      → Replied o setup chances.fates (λ step. step ≡ crash shelf) text → BeforeOpening asked input chances shelf text
+
+-- the sink grew by that, and then by the line that its disk failed
+abbrev pub Loses : Command → (input : List ℕ) → Chances → Sinks → Type 0
+Loses asked input chances out =
+    (shelf : ℕ) × (text : List ℕ) × BeforeOpening asked input chances shelf text × Tells text (disk_line shelf) out

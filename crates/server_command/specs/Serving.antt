@@ -1,15 +1,19 @@
 -- What serving a setup over HTTP comes to.
-use Rattle.std.specs.Prelude.{◌≡◌, ◌==◌, ◌⊎◌, ◌++◌, ◌∷◌, [], ℕ, List, length, Option, All, IfSome, Result, Ok, Err, codes, if◌then◌else◌}
+use Rattle.std.specs.Prelude.{⊤, ◌≡◌, ◌==◌, ◌⊎◌, ◌++◌, ◌∷◌, [], ℕ, ◌+◌, List, Bool, length, Option, Some, None, All, IfSome, IsTrue, Result, Ok, Err, Vec, codes, slice_get, if◌then◌else◌}
+use Rattle.std.specs.declared.alloc.Global.{Global}
 use Rattle.std.specs.Fmt.{decimal}
 use Rattle.web_outside.specs.Causes.{Rose}
 use Rattle.web_outside.specs.Doors.{GiveLists, HaveNone}
 use Rattle.web_outside.specs.View.{LinkView, PorchView, DoorView, SeedsView}
+use Rattle.web_disk.specs.View.{View}
 use Rattle.script_nodes.specs.Setup.{Named}
 use Rattle.command_words.specs.declared.Service.{Service}
 use Rattle.setup_reader.specs.declared.setup.Ending.TheVariants.{Input}
 use Rattle.setup_reader.specs.Setup.{Parsed, setup_of}
+use Rattle.replay_spec.specs.Book.{reopened}
 use Rattle.replay_spec.specs.Rules.{Rules}
-use Rattle.replay_spec.specs.Runs.{empty_shelf}
+use Rattle.journal_books.specs.Making.{begun, book_in_bytes}
+use Rattle.journal_books.specs.Standing.{IsBook}
 use Rattle.request_workers.specs.Counting.{Count, nothing, both}
 use Rattle.request_workers.specs.Working.{EndsBy, Worked}
 use Rattle.request_workers.specs.Tallies.{count_of}
@@ -17,13 +21,16 @@ use Rattle.request_workers.specs.declared.tally.Tally.{Tally}
 use Rattle.request_workers.specs.declared.tally.WorkEnd.{WorkEnd}
 use Rattle.request_workers.specs.declared.tally.WorkEnd.TheVariants as ends
 use Rattle.shelf.specs.declared.shelf.Shelf.{Shelf}
+use Rattle.shelf.specs.Views.{book_in, rules_of, HasGiven}
 use Rattle.server_command.specs.declared.program.Status.{Status}
 use Rattle.server_command.specs.declared.program.Status.TheVariants as status
+use Rattle.server_command.specs.declared.opening.Unopened.{Unopened}
+use Rattle.server_command.specs.declared.opening.Unopened.TheVariants as unopened
 use Rattle.server_command.specs.declared.serving.ServeFault.{ServeFault}
 use Rattle.server_command.specs.declared.serving.ServeFault.TheVariants as fault
-use Rattle.server_command.specs.Output.{Output, Sinks, PrintsTo, Answers, BreaksOff, rules_for, served}
+use Rattle.server_command.specs.Output.{Chances, Output, Sinks, PrintsTo, Answers, BreaksOff, rules_for, served}
+use Rattle.server_command.specs.Racks.{Racks, AreTaken, StandsAt, Unfit, damaged, other, disk_line, first_unfit, unfit_left, unfit_line}
 use Rattle.server_command.specs.Serial.{pass_rules}
-use Rattle.shelf.specs.Views.{shelf_of, HasGiven}
 
 -- ---- what is told
 
@@ -45,25 +52,31 @@ TellsCount c _ out = ⊥
 
 -- ---- what was served
 
--- what contracts see of a link, of a porch and of a source of nonces, and what the clock shows
-pub record Views (P L N : Type 0) : Type 0 where
+-- what contracts see of a disk, and whether it tells its bytes; of a link, of a porch and of a source of nonces; and what the
+-- clock shows
+pub record Views (D P L N : Type 0) : Type 1 where
+  pub disk : D → View
+  pub told : Bool
   pub link : L → LinkView
   pub porch : P → PorchView L
   pub nonce : N → ℕ → ℕ
   pub shown : Option ℕ
 
-abbrev pub views : {P L N : Type 0} → (link : L → LinkView) → (porch : P → PorchView L) → (nonce : N → ℕ → ℕ) → (shown : Option ℕ) → Views P L N
-views link porch nonce shown = record { link = link; porch = porch; nonce = nonce; shown = shown }
+abbrev pub views : {D P L N : Type 0} → (disk : D → View) → (told : Bool) → (link : L → LinkView) → (porch : P → PorchView L)
+    → (nonce : N → ℕ → ℕ) → (shown : Option ℕ) → Views D P L N
+views disk told link porch nonce shown =
+    record { disk = disk; told = told; link = link; porch = porch; nonce = nonce; shown = shown }
 
--- the same of a serving, with its door before and behind it, and the seeds before it
-pub record Outside (P L N : Type 0) : Type 0 where
-  pub views : Views P L N
+-- the same of a serving, with its rack and its door before it and behind it, and the seeds before it
+pub record Outside (D P L N : Type 0) : Type 1 where
+  pub views : Views D P L N
+  pub rack : Racks
   pub before : DoorView P L
   pub after : DoorView P L
   pub seeds : SeedsView N
 
-abbrev pub outside : {P L N : Type 0} → Views P L N → (before after : DoorView P L) → (seeds : SeedsView N) → Outside P L N
-outside views before after seeds = record { views = views; before = before; after = after; seeds = seeds }
+abbrev pub outside : {D P L N : Type 0} → Views D P L N → Racks → (before after : DoorView P L) → (seeds : SeedsView N) → Outside D P L N
+outside views rack before after seeds = record { views = views; rack = rack; before = before; after = after; seeds = seeds }
 
 -- how a worker ended, and what it counted
 pub record Worker : Type 0 where
@@ -73,30 +86,47 @@ pub record Worker : Type 0 where
 abbrev pub worker_of : Tally → Worker
 worker_of tally = record { end = tally.end; count = count_of tally }
 
--- a worker served the links of a porch from an empty shelf on, whose nonces are those of the source
-pub record WorksAt {P L N : Type 0} (v : Views P L N) (rules : Rules) (scripts : List Named) (source : N) (old new : P)
-    (worker : Worker) : Type 0 where
-  pub first : Shelf N
-  pub last : Shelf N
-  pub empty : shelf_of scripts 0 first ≡ empty_shelf rules scripts 0
-  pub begun : HasGiven (v.nonce source) 0 (v.nonce first.nonces)
-  pub worked : Worked (pass_rules scripts v.nonce (v.nonce source)) v.link v.shown first last (v.porch old) (v.porch new) worker.count
+-- The shelf of this number was opened under these rules, with nonces of this source: its book is what the bytes of its disk make,
+-- and empty where they have no record.
+pub record IsOpened {D N : Type 0} (told : Type 0) (nonce : N → ℕ → ℕ) (rules : Rules) (scripts : List Named) (k : ℕ) (image : List ℕ)
+    (source : N) (s : Shelf D N) : Type 0 where
+  pub limits : rules_of scripts s.rules ≡ rules
+  pub book : told → IsBook (begun scripts k (book_in_bytes scripts k image)) (book_in scripts s)
+  pub opened : book_in scripts s ≡ reopened (book_in scripts s)
+  pub stream : HasGiven (nonce source) 0 (nonce s.nonces)
+
+-- so were all shelves from this number on
+abbrev pub AreOpened : {D N : Type 0} → (told : Type 0) → (nonce : N → ℕ → ℕ) → (ℕ → Rules) → List Named → ℕ → List (List ℕ) → List N
+    → List (Shelf D N) → Type 0
+AreOpened told nonce rules scripts k [] [] [] = ⊤
+AreOpened told nonce rules scripts k (image ∷ images) (source ∷ sources) (s ∷ shelves) =
+    IsOpened told nonce (rules k) scripts k image source s × AreOpened told nonce rules scripts (k + 1) images sources shelves
+AreOpened told nonce rules scripts k images sources shelves = ⊥
+
+-- what the disks of shelves may hold makes their books
+abbrev pub AllStand : {D N : Type 0} → List Named → (ℕ → List ℕ → Type 0) → List (Shelf D N) → Type 0
+AllStand {D} {N} scripts holds shelves = (k : ℕ) (s : Shelf D N) → slice_get shelves k ≡ Some s → StandsAt scripts k (holds k) (book_in scripts s)
+
+-- a worker served the links of a porch over these shelves, which it left so
+pub record WorksOver {D P L N : Type 0} (v : Views D P L N) (scripts : List Named) (sources : List N) (first last : Vec (Shelf D N) Global)
+    (old new : P) (worker : Worker) : Type 0 where
+  pub worked : Worked (pass_rules v.disk v.told scripts v.nonce sources) v.link v.shown first last (v.porch old) (v.porch new) worker.count
   pub ended : EndsBy worker.end (v.porch old) (v.porch new)
 
--- The workers served the links of their porches over these shelves, of each of which there is the source. Here one worker serves
--- one shelf.
-abbrev pub AreServed : {P L N : Type 0} → Views P L N → Rules → List Named → (sources : List N) → (old new : List P) → List Worker → Type 0
-AreServed v rules scripts (source ∷ []) (old ∷ []) (new ∷ []) (worker ∷ []) = WorksAt v rules scripts source old new worker
-AreServed v rules scripts sources old new workers = ⊥
+-- The workers served the links of their porches. Here one worker serves all shelves.
+abbrev pub AreServed : {D P L N : Type 0} → Views D P L N → List Named → (sources : List N) → (first last : Vec (Shelf D N) Global)
+    → (old new : List P) → List Worker → Type 0
+AreServed v scripts sources first last (old ∷ []) (new ∷ []) (worker ∷ []) = WorksOver v scripts sources first last old new worker
+AreServed v scripts sources first last old new workers = ⊥
 
 -- the one porch that there is, before and afterwards
-pub record WorksFirst {P L N : Type 0} (v : Views P L N) (rules : Rules) (scripts : List Named) (source : N) (old new : List P)
-    (worker : Worker) : Type 0 where
+pub record WorksFirst {D P L N : Type 0} (v : Views D P L N) (scripts : List Named) (sources : List N) (first last : Vec (Shelf D N) Global)
+    (old new : List P) (worker : Worker) : Type 0 where
   pub before : P
   pub after : P
   pub had : old ≡ before ∷ []
   pub has : new ≡ after ∷ []
-  pub works : WorksAt v rules scripts source before after worker
+  pub works : WorksOver v scripts sources first last before after worker
 
 -- what workers counted together
 abbrev pub total : List Worker → Count
@@ -113,42 +143,71 @@ abbrev pub end_of : List Worker → WorkEnd
 end_of [] = ends.Done
 end_of (w ∷ workers) = end_with w.end (end_of workers)
 
--- The links of the door's port were served over these scripts, and counted so. The porches were fresh and had the door's links; the
--- nonces are those of the sources that the seeds gave; and the door closed the porches as they were left.
-pub record Served {P L N : Type 0} (o : Outside P L N) (s : Service) (scripts : List Named) (end : WorkEnd) (count : Count) : Type 0 where
-  pub sources : List N
+-- The links of the door's port were served over these shelves, and counted so. The porches were fresh and had the door's links; and
+-- the door closed the porches as they were left.
+pub record ServedFrom {D P L N : Type 0} (v : Views D P L N) (before after : DoorView P L) (s : Service) (scripts : List Named)
+    (sources : List N) (first last : Vec (Shelf D N) Global) (end : WorkEnd) (count : Count) : Type 0 where
   pub old : List P
   pub new : List P
   pub workers : List Worker
-  pub drawn : IfSome (o.seeds.gives (length sources)) (λ given. given ≡ sources)
-  pub came : GiveLists o.views.porch old (o.before.links s.port)
-  pub fresh : HaveNone o.views.porch old
-  pub none : All (λ p. (o.views.porch p).given ≡ 0) old
-  pub most : All (λ p. (o.views.porch p).most ≡ s.connections) old
-  pub works : AreServed o.views (rules_for s.options) scripts sources old new workers
+  pub came : GiveLists v.porch old (before.links s.port)
+  pub fresh : HaveNone v.porch old
+  pub none : All (λ p. (v.porch p).given ≡ 0) old
+  pub most : All (λ p. (v.porch p).most ≡ s.connections) old
+  pub works : AreServed v scripts sources first last old new workers
   pub ended : end ≡ end_of workers
   pub counted : count ≡ total workers
-  pub closed : IfSome o.after.closed (λ porches. porches ≡ new)
+  pub closed : IfSome after.closed (λ porches. porches ≡ new)
 
--- what a serving may come to: links were served to their end and counted so; they were served until a porch failed; or no door was
--- opened, and so none was closed
+-- the same, or that the door failed at once, or memory ran out
+abbrev pub ServesFrom : {D P L N : Type 0} → Views D P L N → (before after : DoorView P L) → Service → List Named → (sources : List N)
+    → (first last : Vec (Shelf D N) Global) → Result Tally ServeFault → Type 0
+ServesFrom v before after s scripts sources first last (Ok tally) =
+    ServedFrom v before after s scripts sources first last ends.Done (count_of tally)
+ServesFrom v before after s scripts sources first last (Err fault.Door) =
+    (after.closed ≡ before.closed) ⊎ ((count : Count) × ServedFrom v before after s scripts sources first last ends.Failed count)
+ServesFrom v before after s scripts sources first last (Err fault.Memory) = after.closed ≡ before.closed
+ServesFrom v before after s scripts sources first last (Err e) = ⊥
+
+-- Links were served so from shelves on that were opened on disks which held this, with nonces of the sources that the seeds gave; and
+-- the disks stand for the books that were left.
+pub record Served {D P L N : Type 0} (o : Outside D P L N) (s : Service) (scripts : List Named) (images : List (List ℕ)) (end : WorkEnd)
+    (count : Count) : Type 0 where
+  pub sources : List N
+  pub first : Vec (Shelf D N) Global
+  pub last : Vec (Shelf D N) Global
+  pub shelves : length sources ≡ s.options.shelves
+  pub drawn : IfSome (o.seeds.gives s.options.shelves) (λ given. given ≡ sources)
+  pub opened : AreOpened (IsTrue o.rack.tells) o.views.nonce (λ k. rules_for s.options k scripts) scripts 0 images sources first.items
+  pub served : ServedFrom o.views o.before o.after s scripts sources first last end count
+  pub stands : IsTrue o.rack.tells → AllStand scripts o.rack.after.holds last.items
+
+-- what a serving may come to, over what its disks held: links were served to their end and counted so; they were served until a
+-- porch failed; or no door was opened, and so none was closed
 pub record Serves : Type 1 where
-  pub can : Service → List Named → Count → Type 0
-  pub fails : Service → List Named → Count → Type 0
+  pub rack : Racks
+  pub can : Service → List Named → List (List ℕ) → Count → Type 0
+  pub fails : Service → List Named → List (List ℕ) → Count → Type 0
   pub unopened : Type 0
 
-abbrev pub serves_over : {P L N : Type 0} → Outside P L N → Serves
+abbrev pub serves_over : {D P L N : Type 0} → Outside D P L N → Serves
 serves_over o = record {
-  can = λ s scripts count. Served o s scripts ends.Done count;
-  fails = λ s scripts count. Served o s scripts ends.Failed count;
+  rack = o.rack;
+  can = λ s scripts images count. Served o s scripts images ends.Done count;
+  fails = λ s scripts images count. Served o s scripts images ends.Failed count;
   unopened = o.after.closed ≡ o.before.closed;
 }
 
--- what was served, by how a serving ended
-abbrev pub ServesBy : Serves → Service → List Named → Result Tally ServeFault → Type 0
-ServesBy serves s scripts (Ok tally) = serves.can s scripts (count_of tally)
-ServesBy serves s scripts (Err fault.Door) = serves.unopened ⊎ ((count : Count) × serves.fails s scripts count)
-ServesBy serves s scripts (Err e) = serves.unopened
+-- each shelf was opened on what its disk held
+abbrev pub Opens : Racks → Service → List Named → List (List ℕ) → Type 0
+Opens rack s scripts images =
+    IsTrue rack.tells → AreTaken (unfit_left scripts) rack.before.holds s.options.shelves images × (first_unfit (unfit_left scripts) 0 images ≡ None)
+
+-- this shelf is the first that was not opened, for what its disk held
+abbrev pub Shuts : Racks → Service → List Named → List (List ℕ) → (shelf : ℕ) → Unfit → Type 0
+Shuts rack s scripts images shelf why =
+    IsTrue rack.tells → AreTaken (unfit_left scripts) rack.before.holds s.options.shelves images
+    × (first_unfit (unfit_left scripts) 0 images ≡ Some (shelf, why))
 
 -- ---- how it ended
 
@@ -163,36 +222,62 @@ faults_of before after = record { before = before; after = after }
 abbrev pub HaveRisen : Faults → Type 0
 HaveRisen f = Rose f.before f.after
 
--- links were served to their end, and counted so; or no door was opened
-abbrev pub HasServedIfAny : Serves → Service → List Named → Type 0
-HasServedIfAny serves s scripts = serves.unopened ⊎ ((count : Count) × serves.can s scripts count)
+-- a call of the rack or of a disk failed
+abbrev pub RackFailed : Racks → Type 0
+RackFailed rack = Rose rack.before.faults rack.after.faults
 
--- the links of a setup were served and their counts told; or the seeds or the door failed, at once or at last; or memory ran out
-abbrev pub LeavesServing : Serves → Service → List Named → Status → Sinks → (door seeds : Faults) → Type 0
-LeavesServing serves s scripts status.Done out door seeds =
-    (count : Count) × serves.can s scripts count × TellsCount count status.Done out
-LeavesServing serves s scripts status.Write out door seeds =
-    (count : Count) × serves.can s scripts count × TellsCount count status.Write out
-LeavesServing serves s scripts status.Memory out door seeds =
-    PrintsTo out (codes "error 10 memory\n") × HasServedIfAny serves s scripts
-LeavesServing serves s scripts status.Door out door seeds =
-    HaveRisen door × PrintsTo out (codes "error 9 door\n") × (serves.unopened ⊎ ((count : Count) × serves.fails s scripts count))
-LeavesServing serves s scripts status.Key out door seeds =
+-- why a shelf was not opened
+abbrev pub ShutsBy : Racks → Service → List Named → List (List ℕ) → Unopened → Type 0
+ShutsBy rack s scripts images (unopened.Disk shelf) = RackFailed rack
+ShutsBy rack s scripts images (unopened.NotEmpty shelf) = ⊥
+ShutsBy rack s scripts images (unopened.Damaged shelf place) = Shuts rack s scripts images shelf (damaged place)
+ShutsBy rack s scripts images (unopened.Other shelf place) = Shuts rack s scripts images shelf (other place)
+ShutsBy rack s scripts images unopened.Memory = ⊤
+
+-- what was served, by how a serving ended
+abbrev pub ServesBy : Serves → Service → List Named → List (List ℕ) → Result Tally ServeFault → Type 0
+ServesBy serves s scripts images (Ok tally) = serves.can s scripts images (count_of tally) × Opens serves.rack s scripts images
+ServesBy serves s scripts images (Err fault.Door) = serves.unopened ⊎ ((count : Count) × serves.fails s scripts images count)
+ServesBy serves s scripts images (Err (fault.Shelf why)) = serves.unopened × ShutsBy serves.rack s scripts images why
+ServesBy serves s scripts images (Err e) = serves.unopened
+
+-- links were served to their end, and counted so; or no door was opened
+abbrev pub HasServedIfAny : Serves → Service → List Named → List (List ℕ) → Type 0
+HasServedIfAny serves s scripts images = serves.unopened ⊎ ((count : Count) × serves.can s scripts images count)
+
+-- the links of a setup were served and their counts told; or the seeds, the disks or the door failed, at once or at last; or a disk
+-- holds no journal of its shelf; or memory ran out
+abbrev pub LeavesServing : Serves → Service → List Named → List (List ℕ) → Status → Sinks → (door seeds : Faults) → Type 0
+LeavesServing serves s scripts images status.Done out door seeds =
+    (count : Count) × serves.can s scripts images count × Opens serves.rack s scripts images × TellsCount count status.Done out
+LeavesServing serves s scripts images status.Write out door seeds =
+    (count : Count) × serves.can s scripts images count × Opens serves.rack s scripts images × TellsCount count status.Write out
+LeavesServing serves s scripts images status.Memory out door seeds =
+    PrintsTo out (codes "error 10 memory\n") × HasServedIfAny serves s scripts images
+LeavesServing serves s scripts images status.Disk out door seeds =
+    (shelf : ℕ) × RackFailed serves.rack × PrintsTo out (disk_line shelf) × serves.unopened
+LeavesServing serves s scripts images status.Journal out door seeds =
+    (shelf : ℕ) × (why : Unfit) × Shuts serves.rack s scripts images shelf why × PrintsTo out (unfit_line shelf why) × serves.unopened
+LeavesServing serves s scripts images status.Door out door seeds =
+    HaveRisen door × PrintsTo out (codes "error 9 door\n") × (serves.unopened ⊎ ((count : Count) × serves.fails s scripts images count))
+LeavesServing serves s scripts images status.Key out door seeds =
     HaveRisen seeds × PrintsTo out (codes "error 14 key\n") × serves.unopened
-LeavesServing serves s scripts _ out door seeds = ⊥
+LeavesServing serves s scripts images _ out door seeds = ⊥
 
 -- the same of an input that is such a setup
-abbrev pub ServesInput : Serves → Service → (bytes : List ℕ) → Status → Sinks → (door seeds : Faults) → Type 0
-ServesInput serves s bytes status out door seeds =
-    (setup : Parsed) × (setup_of Input bytes ≡ Ok setup) × LeavesServing serves s setup.scripts status out door seeds
+abbrev pub ServesInput : Serves → Service → (bytes : List ℕ) → List (List ℕ) → Status → Sinks → (door seeds : Faults) → Type 0
+ServesInput serves s bytes images status out door seeds =
+    (setup : Parsed) × (setup_of Input bytes ≡ Ok setup) × LeavesServing serves s setup.scripts images status out door seeds
 
 -- what is left of a whole input that is served: it is not a setup, and this was told; or its links were served
-abbrev pub LeavesInput : Serves → Service → (bytes : List ℕ) → Status → Sinks → (door seeds : Faults) → Type 0
-LeavesInput serves s bytes status.Done out door seeds = ServesInput serves s bytes status.Done out door seeds
-LeavesInput serves s bytes status.Write out door seeds = ServesInput serves s bytes status.Write out door seeds
-LeavesInput serves s bytes status.Door out door seeds = ServesInput serves s bytes status.Door out door seeds
-LeavesInput serves s bytes status.Key out door seeds = ServesInput serves s bytes status.Key out door seeds
-LeavesInput serves s bytes status.Setup out door seeds = Answers (served (setup_of Input bytes)) 3 out × serves.unopened
-LeavesInput serves s bytes status.Memory out door seeds =
-    PrintsTo out (codes "error 10 memory\n") × (serves.unopened ⊎ ServesInput serves s bytes status.Memory out door seeds)
-LeavesInput serves s bytes _ out door seeds = ⊥
+abbrev pub LeavesInput : Serves → Service → (bytes : List ℕ) → Chances → Status → Sinks → (door seeds : Faults) → Type 0
+LeavesInput serves s bytes chances status.Done out door seeds = ServesInput serves s bytes chances.disks status.Done out door seeds
+LeavesInput serves s bytes chances status.Write out door seeds = ServesInput serves s bytes chances.disks status.Write out door seeds
+LeavesInput serves s bytes chances status.Disk out door seeds = ServesInput serves s bytes chances.disks status.Disk out door seeds
+LeavesInput serves s bytes chances status.Journal out door seeds = ServesInput serves s bytes chances.disks status.Journal out door seeds
+LeavesInput serves s bytes chances status.Door out door seeds = ServesInput serves s bytes chances.disks status.Door out door seeds
+LeavesInput serves s bytes chances status.Key out door seeds = ServesInput serves s bytes chances.disks status.Key out door seeds
+LeavesInput serves s bytes chances status.Setup out door seeds = Answers (served (setup_of Input bytes) chances) 3 out × serves.unopened
+LeavesInput serves s bytes chances status.Memory out door seeds =
+    PrintsTo out (codes "error 10 memory\n") × (serves.unopened ⊎ ServesInput serves s bytes chances.disks status.Memory out door seeds)
+LeavesInput serves s bytes chances _ out door seeds = ⊥

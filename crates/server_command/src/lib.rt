@@ -1,11 +1,11 @@
 //! What the program's words come to: setups that are checked, steps that are played, and links that are served.
 #![tactic(auto)]
 
-mod answer;
-mod desk;
+mod opening;
 mod program;
 mod serial;
 mod serving;
-mod staff;
+mod telling;
 
+pub use opening::Unopened;
 pub use program::{Status, command};

@@ -1,76 +1,97 @@
-ghost use Rattle.std.specs.Prelude.{◌≡◌, ◌<◌, ◌^◌, IfOk, true};
+ghost use Rattle.std.specs.Prelude.{◌≡◌, ◌<◌, ◌^◌, ℕ, IfOk, Some, slice_get};
+ghost use Rattle.script_value.specs.Views.{meaning};
 ghost use Rattle.script_nodes.specs.Views.{scripts_of};
 ghost use Rattle.page_names.specs.Views.{target_of};
-ghost use Rattle.server_command.specs.Serial.{pass_rules};
-ghost use Rattle.server_command.specs.Staff.{IsHere};
+ghost use Rattle.shelf.specs.Views.{IsInOrder};
+ghost use Rattle.server_command.specs.Serial.{AreOwn, Ticked, Visited, IsDone, pass_rules, shelf_at};
+ghost use Rattle.http_forms.specs.Passes.{swept};
 
-use crate::staff::segment_of;
 use http_forms::Answering;
 use page_names::Target;
+use play_desk::segment_of;
 use script_nodes::Setup;
 use script_value::{Refusal, Reply, Value};
-use shelf::{Rules, Shelf};
+use shelf::Shelf;
 use std::alloc::{AllocError, Global};
+use std::marker::PhantomData;
+use web_disk::Disk;
 use web_outside::{Gate, Nonces};
 
-/// Answers one visit after the other, from the one shelf that is its pass.
-#[derive(Drop)]
-pub struct Serial<'s, N> {
+/// Answers one visit after the other, from the shelves that are its pass.
+pub struct Serial<'s, D, N> {
     /// The scripts.
     pub setup: &'s Setup,
-    /// What the shelf is under.
-    pub rules: Rules,
-    /// The source of the shelf's nonces, as it was drawn.
-    pub source: N,
+    /// The sources of the shelves' nonces, as they were drawn.
+    pub sources: Vec<N>,
+    /// What the shelves stand on.
+    pub disks: PhantomData<D>,
 }
 
-// Whether the target is on the shelf, whose number is 0.
-fn is_here(target: &Target) -> bool
-    ensures here { result ≡ true → IsHere (target_of target.now) }
-    ensures only { IsHere (target_of target.now) → result ≡ true }
+// The shelf of the target.
+fn shelf_of(target: &Target) -> u32
+    ensures { result ≡ shelf_at (target_of target.now) }
 {
     match target {
-        Target::Start(_) => true,
-        Target::Page(_, page) => page.shelf == 0,
+        Target::Start(_) => 0,
+        Target::Page(_, page) => page.shelf,
     }
 }
 
-impl<'s, N: Nonces + Drop> Answering for Serial<'s, N> {
-    type Pass = Shelf<N>;
+// Visits the target of a shelf.
+fn visit_shelf<D: Disk, N: Nonces + Drop, G: Gate>(
+    alloc: Global,
+    setup: &Setup,
+    shelf: &mut Shelf<D, N>,
+    target: &Target,
+    answer: Value,
+    gate: &G,
+) -> Reply
+    requires in_order { IsInOrder D.view D.tells (scripts_of setup.now) shelf.old }
+    ensures in_order { IsInOrder D.view D.tells (scripts_of setup.now) shelf.new }
+    ensures rules { shelf.new.rules ≡ shelf.old.rules }
+    ensures visited { (source : ℕ → ℕ) → IsDone (scripts_of setup.now) N.nonce source shelf.old shelf.new
+        (λ given s t. Visited given s (target_of target.now) (meaning answer) result t) }
+{
+    match shelf.take(alloc, setup, target, answer) {
+        Ok(ticket) => {
+            let segment = segment_of(alloc, setup, &ticket, shelf.rules().fuel);
+            gate.pass(ticket.number);
+            shelf.publish(alloc, setup, ticket, segment)
+        }
+        Err(reply) => reply,
+    }
+}
 
-    ghost rules = { λ s. pass_rules (scripts_of s.setup.now) N.nonce (N.nonce s.source) };
+impl<'s, D: Disk, N: Nonces + Drop> Answering for Serial<'s, D, N> {
+    type Pass = Vec<Shelf<D, N>>;
+
+    ghost rules = { λ s. pass_rules D.view D.tells (scripts_of s.setup.now) N.nonce s.sources.items };
 
     fn visit<G: Gate>(
         &self,
         alloc: Global,
-        pass: &mut Shelf<N>,
+        pass: &mut Vec<Shelf<D, N>>,
         target: &Target,
         answer: Value,
         gate: &G,
     ) -> Reply {
-        if !is_here(target) {
-            return Reply::Refused(Refusal::Unknown);
-        }
-        match pass.take(alloc, self.setup, target, answer) {
-            Ok(ticket) => {
-                let segment = segment_of(alloc, self.setup, &ticket, pass.rules().fuel);
-                gate.pass(ticket.number);
-                pass.publish(alloc, self.setup, ticket, segment)
-            }
-            Err(reply) => reply,
+        let number = shelf_of(target) as usize;
+        match pass.get_mut(number) {
+            Some(shelf) => visit_shelf(alloc, self.setup, shelf, target, answer, gate),
+            None => Reply::Refused(Refusal::Unknown),
         }
     }
 
     fn tick(
         &self,
         alloc: Global,
-        pass: &mut Shelf<N>,
+        pass: &mut Vec<Shelf<D, N>>,
         tick: u64,
     ) -> Result<Vec<Result<u32, Reply>>, AllocError> {
-        let mut answers = Vec::with_capacity(alloc, 1)?;
-        match answers.push(pass.sweep(tick)) {
-            Ok(()) => Ok(answers),
-            Err(_) => unreachable!(),
+        let mut answers = Vec::with_capacity(alloc, pass.len())?;
+        for shelf in pass.iter_mut() {
+            answers.push_reserved(shelf.sweep(alloc, tick));
         }
+        Ok(answers)
     }
 }

@@ -3,7 +3,7 @@ ghost use Rattle.page_names.specs.Views.{name_of};
 ghost use Rattle.script_value.specs.Pieces.{number_below};
 ghost use Rattle.script_nodes.specs.Views.{scripts_of, named_of};
 ghost use Rattle.sexp_reader.specs.Limits.{most_bytes};
-ghost use Rattle.setup_reader.specs.Limits.{most_script_bytes, most_scripts};
+ghost use Rattle.setup_reader.specs.Limits.{AreShort, most_script_bytes, most_scripts};
 ghost use Rattle.setup_reader.specs.Setup as spec;
 ghost use Rattle.setup_reader.specs.Views.{Gives, Finds, Tells, parsed_of};
 ghost use Rattle.setup_reader.specs.Sections.{IsSetup};
@@ -210,7 +210,7 @@ impl<'a> Parsed<'a> {
     }
 
     /// The setup that the input spells or begins with, 1 to 15 sections of scripts and what ends it; or its first fault.
-    #[tactic(auto, using(crate::proofs::Sections::answer_spells, crate::proofs::Sections::answer_found, crate::proofs::Standing::answer_stands, crate::proofs::Standing::answer_told))]
+    #[tactic(auto, using(crate::proofs::Sections::answer_spells, crate::proofs::Sections::answer_found, crate::proofs::Short::answer_few, crate::proofs::Short::answer_short, crate::proofs::Standing::answer_stands, crate::proofs::Standing::answer_told))]
     pub fn parse(alloc: Global, ending: Ending, input: &'a [u8]) -> Result<Parsed<'a>, SetupFault>
         // The answer is that of reading, unless memory ran out.
         ensures value { Gives parsed_of result (spec.setup_of ending input.now) }
@@ -224,6 +224,9 @@ impl<'a> Parsed<'a> {
         ensures told { (wanted : spec.Fault) → HasFault ending input.now wanted → Gives parsed_of result (Err wanted) }
         // What is wrong before the first text is read is told whatever memory there is.
         ensures memory { result ≡ Err SetupFault.Memory → HasText input.now }
+        // The scripts are few, and their names and texts are not too long.
+        ensures few { IfOk result (λ p. length (scripts_of p.setup) ≤ most_scripts) }
+        ensures short { IfOk result (λ p. AreShort (scripts_of p.setup)) }
     {
         Parsed::read(alloc, ending, input)
     }

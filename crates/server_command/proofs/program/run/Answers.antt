@@ -3,6 +3,7 @@ use Rattle.command_words.specs.declared.Command.TheVariants.{Check, Play, Serve}
 use Rattle.command_words.specs.declared.WordsFault.TheVariants.{Usage}
 use Rattle.server_command.specs.Command.{texts}
 use Rattle.server_command.proofs.Causes.{asks_if, asks_nothing, plain_asks}
+use Rattle.server_command.proofs.Endings.{no_chances}
 use Rattle.server_command.proofs.program.run.Goals as goal
 
 pub returns-in-Ok-Check-clause-explained : goal.returns-in-Ok-Check-clause-explained
@@ -26,7 +27,8 @@ returns-in-Ok-Play-clause-plain g c = λ asked p. plain_asks _ asked p
 pub returns-in-Ok-Serve-clause-explained : goal.returns-in-Ok-Serve-clause-explained
 returns-in-Ok-Serve-clause-explained g c =
     let is : c.read_words.result ≡ Ok (Serve c.in-Ok-Serve.service) = search rules in
-    ([], inr (Serve c.in-Ok-Serve.service, (asks_if (texts c.args.words.now) _ (Serve c.in-Ok-Serve.service) is c.read_words.ensures.fine c.read_words.ensures.found, c.run_service.ensures.comes (texts c.args.words.now))))
+    let comes = c.run_service.ensures.comes (texts c.args.words.now) in
+    (comes.0, inr (Serve c.in-Ok-Serve.service, (asks_if (texts c.args.words.now) _ (Serve c.in-Ok-Serve.service) is c.read_words.ensures.fine c.read_words.ensures.found, comes.1)))
 
 pub returns-in-Ok-Serve-clause-plain : goal.returns-in-Ok-Serve-clause-plain
 returns-in-Ok-Serve-clause-plain g c = λ asked p. plain_asks _ asked p
@@ -34,7 +36,7 @@ returns-in-Ok-Serve-clause-plain g c = λ asked p. plain_asks _ asked p
 pub returns-in-Err-Usage-clause-explained : goal.returns-in-Err-Usage-clause-explained
 returns-in-Err-Usage-clause-explained g c =
     let usage : c.read_words.result ≡ Err Usage = search rules in
-    ([], inl (asks_nothing (texts c.args.words.now) (c.read_words.ensures.usage usage), c.write_or_drop.ensures.written, (refl, refl)))
+    (no_chances, inl (asks_nothing (texts c.args.words.now) (c.read_words.ensures.usage usage), c.write_or_drop.ensures.written, (refl, refl)))
 
 pub returns-in-Err-Usage-clause-plain : goal.returns-in-Err-Usage-clause-plain
 returns-in-Err-Usage-clause-plain g c = λ asked p. plain_asks _ asked p

@@ -1,40 +1,39 @@
-use Rattle.std.proofs.Common.{inr, subst, arith}
+use Rattle.std.proofs.Common.{◌≡◌, ◌∙◌, ℕ, length, subst, sym, arith}
+use Rattle.std.specs.Prelude.{IsTrue, ◌&&◌, vec_len}
 use Rattle.script_nodes.specs.Views.{scripts_of}
-use Rattle.request_workers.specs.Tallies.{count_of}
-use Rattle.server_command.specs.Serving.{Served, outside, views}
-use Rattle.server_command.proofs.Servings.{not_less, porch_rose, served_by}
+use Rattle.server_command.specs.Opening.{AreOut, OpensOn, TakesBack}
+use Rattle.server_command.specs.Output.{rules_for}
+use Rattle.server_command.specs.Racks.{racks_of}
+use Rattle.server_command.specs.Serving.{outside, views}
+use Rattle.server_command.proofs.Openings.{all_home}
+use Rattle.server_command.proofs.Servings.{serves_of}
 use Rattle.server_command.proofs.serving.serve.Goals as goal
-
-pub returns-in-Done-clause-served : goal.returns-in-Done-clause-served
-returns-in-Done-clause-served g c =
-    let o = outside (views g.A.Porch.Link.Link.view g.A.Porch.Porch.view g.N.Nonces.nonce (g.C.Clock.shows c.args.clock.now))
-    (g.A.Door.view c.args.door.now) (g.A.Door.view c.close.new.self) (g.S.Seeds.view c.args.seeds.now) in
-    let served = served_by o c.args.service.now (scripts_of c.args.setup.now) c.work_first-tally.result c.in_ok-source.source _ _ _
-    c.in_ok-source.ensures.drawn c.in-Ok.ensures.told c.in-Ok.ensures.served c.in-Ok.ensures.given c.in-Ok.ensures.most
-    c.rules_of.ensures.rules c.work_first-tally.ensures.works c.close.ensures.closed in
-    subst (λ e. Served o c.args.service.now (scripts_of c.args.setup.now) e (count_of c.work_first-tally.result)) c.in-Done.is served
-
-pub returns-in-Done-clause-door_later : goal.returns-in-Done-clause-door_later
-returns-in-Done-clause-door_later g c =
-    not_less g.A.Porch.Porch.view c.work_first-tally.new.porches.items (g.A.Door.view c.args.door.now).faults (g.A.Door.view c.listen.new.self).faults
-    (g.A.Door.view c.close.new.self).faults c.in-Ok.ensures.later (omega (arith, c.faults-count.ensures, c.faults-count.type_inv)) c.close.ensures.faults
 
 pub returns-clause-served : goal.returns-clause-served
 returns-clause-served g c =
-    let o = outside (views g.A.Porch.Link.Link.view g.A.Porch.Porch.view g.N.Nonces.nonce (g.C.Clock.shows c.args.clock.now))
-    (g.A.Door.view c.args.door.now) (g.A.Door.view c.close.new.self) (g.S.Seeds.view c.args.seeds.now) in
-    let served = served_by o c.args.service.now (scripts_of c.args.setup.now) c.work_first-tally.result c.in_ok-source.source _ _ _
-    c.in_ok-source.ensures.drawn c.in-Ok.ensures.told c.in-Ok.ensures.served c.in-Ok.ensures.given c.in-Ok.ensures.most
-    c.rules_of.ensures.rules c.work_first-tally.ensures.works c.close.ensures.closed in
-    inr (count_of c.work_first-tally.result, subst (λ e. Served o c.args.service.now (scripts_of c.args.setup.now) e (count_of c.work_first-tally.result)) c.in-Failed.is served)
+    let scripts = scripts_of c.args.setup.now in
+    let before = g.R.Rack.view c.args.rack.now in
+    let middle = g.R.Rack.view c.open_all.new.rack in
+    let last = c.serve_links-outcome.new.shelves in
+    let sources = c.in_ok-sources.sources.items in
+    let o = outside (views g.D.Disk.view g.D.Disk.tells g.A.Porch.Link.Link.view g.A.Porch.Porch.view g.N.Nonces.nonce (g.C.Clock.shows c.args.clock.now))
+    (racks_of (g.R.Rack.tells && g.D.Disk.tells) before (g.R.Rack.view c.close_all.new.rack)) (g.A.Door.view c.args.door.now)
+    (g.A.Door.view c.serve_links-outcome.new.door) (g.S.Seeds.view c.args.seeds.now) in
+    let p = subst (λ ss. OpensOn g.D.Disk.view g.D.Disk.tells (IsTrue (g.R.Rack.tells && g.D.Disk.tells)) g.N.Nonces.nonce (λ k. rules_for c.args.service.now.options k scripts)
+    scripts ss before middle c.in-Ok.shelves.items) c.deref.ensures.value c.in-Ok.ensures.opened in
+    let many : length sources ≡ vec_len last = sym (last.ok.0 ∙ c.serve_links-outcome.ensures.own.count) in
+    (p.images, serves_of o c.args.service.now scripts sources middle c.in-Ok.shelves last c.serve_links-outcome.result c.in_ok-sources.ensures.count
+    c.in_ok-sources.ensures.drawn p (λ t. c.close_all.ensures.stand t (subst (AreOut middle) many p.taken.out)) c.serve_links-outcome.ensures.served)
 
-pub returns-clause-door : goal.returns-clause-door
-returns-clause-door g c = λ e.
-    porch_rose (views g.A.Porch.Link.Link.view g.A.Porch.Porch.view g.N.Nonces.nonce (g.C.Clock.shows c.args.clock.now)) _ _ _ _ _ c.work_first-tally.result
-    (g.A.Door.view c.args.door.now).faults (g.A.Door.view c.listen.new.self).faults (g.A.Door.view c.close.new.self).faults
-    c.work_first-tally.ensures.works c.in-Failed.is c.in-Ok.ensures.later c.close.ensures.faults
-
-pub returns-clause-door_later : goal.returns-clause-door_later
-returns-clause-door_later g c =
-    not_less g.A.Porch.Porch.view c.work_first-tally.new.porches.items (g.A.Door.view c.args.door.now).faults (g.A.Door.view c.listen.new.self).faults
-    (g.A.Door.view c.close.new.self).faults c.in-Ok.ensures.later (omega (arith, c.faults-count.ensures, c.faults-count.type_inv)) c.close.ensures.faults
+pub returns-clause-home : goal.returns-clause-home
+returns-clause-home g c =
+    let scripts = scripts_of c.args.setup.now in
+    let before = g.R.Rack.view c.args.rack.now in
+    let middle = g.R.Rack.view c.open_all.new.rack in
+    let last = c.serve_links-outcome.new.shelves in
+    let sources = c.in_ok-sources.sources.items in
+    let p = subst (λ ss. OpensOn g.D.Disk.view g.D.Disk.tells (IsTrue (g.R.Rack.tells && g.D.Disk.tells)) g.N.Nonces.nonce (λ k. rules_for c.args.service.now.options k scripts)
+    scripts ss before middle c.in-Ok.shelves.items) c.deref.ensures.value c.in-Ok.ensures.opened in
+    let many : vec_len last ≡ length sources = last.ok.0 ∙ c.serve_links-outcome.ensures.own.count in
+    all_home (IsTrue (g.R.Rack.tells && g.D.Disk.tells)) before middle (g.R.Rack.view c.close_all.new.rack) (length sources) p.images p.taken
+    (subst (TakesBack middle (g.R.Rack.view c.close_all.new.rack) 0) many c.close_all.ensures.back)

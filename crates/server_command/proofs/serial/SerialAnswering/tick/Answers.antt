@@ -1,16 +1,62 @@
-use Rattle.std.proofs.Common.{rules, ◌≡◌, [], ◌∷◌}
+use Rattle.std.proofs.Common.{◌≡◌, ◌<◌, ◌≤◌, ◌∙◌, ◌++◌, ◌∷◌, [], ℕ, length, take, drop, refl, sym, ap, subst, arith, ◌+◌}
+use Rattle.std.specs.Prelude.{slice_get, slice_index_or, slice_set, vec_len, vec_capacity, Some}
+use Rattle.std.proofs.Math.Seq.{take-append_seam}
 use Rattle.script_nodes.specs.Views.{scripts_of}
+use Rattle.server_command.specs.Serial.{AreInOrder, AreOwn, AreSwept}
+use Rattle.server_command.proofs.Shelves.{SweptUpTo, at_index_or, order_set, swept_all, swept_more}
 use Rattle.server_command.proofs.serial.SerialAnswering.tick.Goals as goal
 
+pub sweep-requires-clause-in_order : goal.sweep-requires-clause-in_order
+sweep-requires-clause-in_order g c =
+    let l = c.loop-shelf in
+    let low : l.shelf-index < length l.shelf-items = omega arith in
+    let s = slice_index_or l.shelf-items l.shelf-index c.shelf-item.result in
+    (scripts_of c.args.self.now.setup.now, l.invariant.in_order.each l.shelf-index s (at_index_or l.shelf-items l.shelf-index c.shelf-item.result low))
+
+pub loop-shelf-preserved : goal.loop-shelf-preserved
+loop-shelf-preserved g c =
+    let l = c.loop-shelf in
+    let scripts = scripts_of c.args.self.now.setup.now in
+    let nonce = g.N.Nonces.nonce in
+    let sources = c.args.self.now.sources.items in
+    let old = c.deref_mut-shelf-items.result.now in
+    let low : l.shelf-index < length l.shelf-items = omega arith in
+    let s = slice_index_or l.shelf-items l.shelf-index c.shelf-item.result in
+    let here = at_index_or l.shelf-items l.shelf-index c.shelf-item.result low in
+    let event = c.sweep.ensures.event scripts in
+    let more = swept_more scripts nonce c.args.tick sources old l.answers.items l.shelf-items l.shelf-index s c.sweep.new.self c.sweep.result l.invariant.swept here
+    (λ source given has. record { later = _; stream = event.nonces source given has; how = event.step source given has }) in
+    record {
+      room = omega (arith, l.invariant.room, c.push_reserved.ensures.capacity);
+      swept = subst (λ answers. SweptUpTo scripts nonce c.args.tick sources old answers (slice_set l.shelf-items l.shelf-index c.sweep.new.self) (l.shelf-index + 1))
+          (sym c.push_reserved.ensures.items) more;
+      in_order = order_set g.D.Disk.view g.D.Disk.tells scripts l.shelf-items l.shelf-index s c.sweep.new.self here l.invariant.in_order
+          (c.sweep.ensures.in_order scripts (l.invariant.in_order.each l.shelf-index s here)) c.sweep.ensures.rules;
+    }
+
 pub returns-clause-own : goal.returns-clause-own
-returns-clause-own g c = c.sweep.ensures.in_order (scripts_of c.args.self.now.setup.now) c.requires.own
+returns-clause-own g c =
+    let l = c.loop-shelf in
+    let scripts = scripts_of c.args.self.now.setup.now in
+    let whole = take-append_seam l.shelf-items (drop (length l.shelf-items) c.args.pass.now.items) in
+    let count : length l.shelf-items ≡ length c.args.pass.now.items = l.invariant.swept.count ∙ ap length c.deref_mut-shelf-items.ensures.value in
+    let size : length l.shelf-items ≡ c.args.pass.now.len = count ∙ sym c.args.pass.now.ok.0 in
+    subst (λ n. AreOwn g.D.Disk.view g.D.Disk.tells scripts c.args.self.now.sources.items (take n (l.shelf-items ++ drop (length l.shelf-items) c.args.pass.now.items))) size
+    (subst (AreOwn g.D.Disk.view g.D.Disk.tells scripts c.args.self.now.sources.items) (sym whole) (record { count = count ∙ c.requires.own.count; in_order = l.invariant.in_order }))
 
 pub returns-clause-tick : goal.returns-clause-tick
-returns-clause-tick g c = λ given has.
-    let items : c.push.new.self.items ≡ c.sweep.result ∷ [] = search rules in
-    let source = g.N.Nonces.nonce c.args.self.now.source in
-    let swept = c.sweep.ensures.event (scripts_of c.args.self.now.setup.now) in
-    record { later = _; stream = swept.nonces source given has; how = (c.sweep.result, items, swept.step source given has) }
-
-pub returns-in_err-answers-clause-tick : goal.returns-in_err-answers-clause-tick
-returns-in_err-answers-clause-tick g c = λ given has. record { later = given; stream = has; how = search rules }
+returns-clause-tick g c =
+    let l = c.loop-shelf in
+    let scripts = scripts_of c.args.self.now.setup.now in
+    let nonce = g.N.Nonces.nonce in
+    let sources = c.args.self.now.sources.items in
+    let old = c.deref_mut-shelf-items.result.now in
+    let whole = take-append_seam l.shelf-items (drop (length l.shelf-items) c.args.pass.now.items) in
+    let count : length l.shelf-items ≡ length c.args.pass.now.items = l.invariant.swept.count ∙ ap length c.deref_mut-shelf-items.ensures.value in
+    let size : length l.shelf-items ≡ c.args.pass.now.len = count ∙ sym c.args.pass.now.ok.0 in
+    let last : l.shelf-index ≡ length old = omega (arith, l.invariant.swept.count) in
+    let all = swept_all scripts nonce c.args.tick sources old l.answers.items l.shelf-items
+    (subst (SweptUpTo scripts nonce c.args.tick sources old l.answers.items l.shelf-items) last l.invariant.swept) in
+    subst (λ n. AreSwept scripts nonce c.args.tick sources c.args.pass.now.items l.answers.items (take n (l.shelf-items ++ drop (length l.shelf-items) c.args.pass.now.items))) size
+    (subst (AreSwept scripts nonce c.args.tick sources c.args.pass.now.items l.answers.items) (sym whole)
+    (subst (λ xs. AreSwept scripts nonce c.args.tick sources xs l.answers.items l.shelf-items) c.deref_mut-shelf-items.ensures.value all))

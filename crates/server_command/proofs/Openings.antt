@@ -1,0 +1,244 @@
+-- What opening and closing the shelves of a server leaves of its rack.
+use Rattle.std.proofs.Common.{◌≡◌, ◌≢◌, ◌<◌, ◌≤◌, ◌+◌, ◌-◌, ◌^◌, ◌++◌, ◌∷◌, ◌∙◌, ◌⊎◌, inl, inr, ℕ, zero, suc, List, [], length, Bool, true, false, IsTrue, Option, Some, None, refl, sym, ap, subst, arith}
+use Rattle.std.specs.Prelude.{min, map, ◌&&◌, slice_get, take, drop}
+use Rattle.std.proofs.lemmas.Bool.{and_parts}
+use Rattle.std.proofs.lemmas.List.{length-append}
+use Rattle.web_outside.specs.Causes.{Rose}
+use Rattle.web_disk.specs.View.{View, RackView, AreAmong}
+use Rattle.script_nodes.specs.Setup.{Named}
+use Rattle.replay_spec.specs.Book.{Book, reopened}
+use Rattle.replay_spec.specs.Rules.{Rules}
+use Rattle.server_command.specs.Racks.{AreHeld, KeepsHome, StandsAt, Unfit, damaged, other, first_unfit, unfit_left}
+use Rattle.server_command.specs.Opening.{AreHome, AreOut, HasTaken, IsRefused, IsRefusedAt, IsUntaken, TakesBack, RefusesOn, seen_on}
+use Rattle.server_command.specs.declared.opening.Unopened.{Unopened}
+use Rattle.server_command.specs.declared.opening.Unopened.TheVariants as unopened
+use Rattle.server_command.proofs.Racks.{held_more, unfit_behind}
+
+-- ---- what one disk does that is given back
+
+-- a disk of this number was given back, with so many faults
+pub record Gives (before after : RackView) (number faults : ℕ) : Type 0 where
+  pub home : after.out number ≡ false
+  pub others_out : (n : ℕ) → n ≢ number → after.out n ≡ before.out n
+  pub counts : after.faults ≡ min (before.faults + faults) (2 ^ 64 - 1)
+
+-- the numbers from the first one up to this are home
+pub record GivesUpTo (before now : RackView) (first number : ℕ) : Type 0 where
+  pub home : KeepsHome before now
+  pub back : (k : ℕ) → first ≤ k → k < number → now.out k ≡ false
+  pub later : before.faults ≤ now.faults
+  pub low : now.faults ≤ 2 ^ 64 - 1
+
+pub same_or_not : (m n : ℕ) → (m ≡ n) ⊎ (m ≢ n)
+same_or_not zero zero = inl refl
+same_or_not zero (suc n) = inr (λ e. omega arith)
+same_or_not (suc m) zero = inr (λ e. omega arith)
+same_or_not (suc m) (suc n) = elim (same_or_not m n) [ inl e ↦ inl (ap suc e) | inr d ↦ inr (λ e. d (omega arith)) ]
+
+keeps_home : (before now after : RackView) (number faults : ℕ) → KeepsHome before now → Gives now after number faults → KeepsHome before after
+keeps_home before now after number faults kept g k home =
+    elim (same_or_not k number) [
+      | inl e ↦ subst (λ n. after.out n ≡ false) (sym e) g.home
+      | inr d ↦ g.others_out k d ∙ kept k home
+    ]
+
+pub gives_one : (before after : RackView) (number faults : ℕ) → before.faults ≤ 2 ^ 64 - 1 → Gives before after number faults → TakesBack before after number 1
+gives_one before after number faults low g = record {
+  home = keeps_home before before after number faults (λ k home. home) g;
+  back = λ k above below. subst (λ n. after.out n ≡ false) (omega (arith, above, below)) g.home;
+  later = omega (arith, g.counts, low);
+}
+
+pub gives_first : (before : RackView) (first : ℕ) → before.faults ≤ 2 ^ 64 - 1 → GivesUpTo before before first first
+gives_first before first low = record {
+  home = λ k home. home;
+  back = λ k above below. absurd (omega (arith, above, below));
+  later = omega arith;
+  low = low;
+}
+
+pub gives_next : (before now after : RackView) (first number faults : ℕ) → first ≤ number → GivesUpTo before now first number → Gives now after number faults
+    → GivesUpTo before after first (number + 1)
+gives_next before now after first number faults le p g = record {
+  home = keeps_home before now after number faults p.home g;
+  back = λ k above below. elim (same_or_not k number) [
+    | inl e ↦ subst (λ n. after.out n ≡ false) (sym e) g.home
+    | inr d ↦ g.others_out k d ∙ p.back k above (omega (arith, d, below))
+  ];
+  later = omega (arith, p.later, p.low, g.counts);
+  low = omega (arith, g.counts);
+}
+
+pub gives_all : (before after : RackView) (first count : ℕ) → GivesUpTo before after first (first + count) → TakesBack before after first count
+gives_all before after first count p = record { home = p.home; back = p.back; later = p.later }
+
+-- ---- the same from the last down to the first
+
+-- the numbers from this one up to the count are home, and those below it as they were
+pub record GivesDownTo (before now : RackView) (number count : ℕ) : Type 0 where
+  pub home : KeepsHome before now
+  pub back : (k : ℕ) → number ≤ k → k < count → now.out k ≡ false
+  pub lower : (k : ℕ) → k < number → now.out k ≡ before.out k
+  pub later : before.faults ≤ now.faults
+  pub low : now.faults ≤ 2 ^ 64 - 1
+
+pub gives_last : (before : RackView) (count : ℕ) → before.faults ≤ 2 ^ 64 - 1 → GivesDownTo before before count count
+gives_last before count low = record {
+  home = λ k home. home;
+  back = λ k above below. absurd (omega (arith, above, below));
+  lower = λ k below. refl;
+  later = omega arith;
+  low = low;
+}
+
+pub gives_before : (before now after : RackView) (number next count faults : ℕ) → number + 1 ≡ next → GivesDownTo before now next count → Gives now after number faults
+    → GivesDownTo before after number count
+gives_before before now after number next count faults is p g = record {
+  home = keeps_home before now after number faults p.home g;
+  back = λ k above below. elim (same_or_not k number) [
+    | inl e ↦ subst (λ n. after.out n ≡ false) (sym e) g.home
+    | inr d ↦ g.others_out k d ∙ p.back k (omega (arith, above, d, is)) below
+  ];
+  lower = λ k below. g.others_out k (λ e. omega (arith, e, below)) ∙ p.lower k (omega (arith, below, is));
+  later = omega (arith, p.later, p.low, g.counts);
+  low = omega (arith, g.counts);
+}
+
+pub gives_down : (before after : RackView) (count : ℕ) → GivesDownTo before after 0 count → TakesBack before after 0 count
+gives_down before after count p = record {
+  home = p.home;
+  back = λ k above below. p.back k above (omega (arith, below));
+  later = p.later;
+}
+
+-- ---- what was refused
+
+-- the count had not fallen before it rose
+pub rose_since : (before mid after : ℕ) → before ≤ mid → Rose mid after → Rose before after
+rose_since before mid after le rose = omega (arith, le, rose)
+
+pub untaken_since : (before mid after : ℕ) (why : Unopened) → mid ≤ after → IsUntaken (Rose before mid) why → IsUntaken (Rose before after) why
+untaken_since before mid after (unopened.Disk shelf) le risen = omega (arith, le, risen)
+untaken_since before mid after (unopened.NotEmpty shelf) le h = h
+untaken_since before mid after (unopened.Damaged shelf place) le h = h
+untaken_since before mid after (unopened.Other shelf place) le h = h
+untaken_since before mid after unopened.Memory le h = tt
+
+-- no disk that holds something was looked at
+pub untaken_refused : (told risen : Type 0) (scripts : List Named) (images : List (List ℕ)) (why : Unopened) → IsUntaken risen why → IsRefused told risen scripts images why
+untaken_refused told risen scripts images (unopened.Disk shelf) h = h
+untaken_refused told risen scripts images (unopened.NotEmpty shelf) h = h
+untaken_refused told risen scripts images (unopened.Damaged shelf place) h = absurd h
+untaken_refused told risen scripts images (unopened.Other shelf place) h = absurd h
+untaken_refused told risen scripts images unopened.Memory h = tt
+
+pub refused_since : (told : Type 0) (before mid after : ℕ) (scripts : List Named) (images : List (List ℕ)) (why : Unopened) → before ≤ mid
+    → IsRefused told (Rose mid after) scripts images why → IsRefused told (Rose before after) scripts images why
+refused_since told before mid after scripts images (unopened.Disk shelf) le h = rose_since before mid after le h
+refused_since told before mid after scripts images (unopened.NotEmpty shelf) le h = h
+refused_since told before mid after scripts images (unopened.Damaged shelf place) le h = h
+refused_since told before mid after scripts images (unopened.Other shelf place) le h = h
+refused_since told before mid after scripts images unopened.Memory le h = tt
+
+-- a shelf that is refused behind others that were opened
+pub refused_behind : (told : Type 0) (before mid after : ℕ) (scripts : List Named) (front rest : List (List ℕ)) (image : List ℕ) (n : ℕ) (why : Unopened)
+    → length front ≡ n → mid ≤ after → (told → first_unfit (unfit_left scripts) 0 front ≡ None)
+    → IsRefusedAt told (Rose before mid) scripts n image why → IsRefused told (Rose before after) scripts (front ++ image ∷ rest) why
+refused_behind told before mid after scripts front rest image n (unopened.Disk shelf) count le fit h = omega (arith, le, h)
+refused_behind told before mid after scripts front rest image n (unopened.NotEmpty shelf) count le fit h = h
+refused_behind told before mid after scripts front rest image n (unopened.Damaged shelf place) count le fit h = λ t.
+    unfit_behind (unfit_left scripts) 0 n front rest image (damaged place) (omega (arith, count)) (fit t) (h.1 t) ∙ ap (λ k. Some (k, damaged place)) (sym h.0)
+refused_behind told before mid after scripts front rest image n (unopened.Other shelf place) count le fit h = λ t.
+    unfit_behind (unfit_left scripts) 0 n front rest image (other place) (omega (arith, count)) (fit t) (h.1 t) ∙ ap (λ k. Some (k, other place)) (sym h.0)
+refused_behind told before mid after scripts front rest image n unopened.Memory count le fit h = tt
+
+below_or_not : (k n : ℕ) → (k < n) ⊎ (n ≤ k)
+below_or_not zero zero = inr (omega arith)
+below_or_not zero (suc n) = inl (omega arith)
+below_or_not (suc k) zero = inr (omega arith)
+below_or_not (suc k) (suc n) = elim (below_or_not k n) [ inl h ↦ inl (omega arith) | inr h ↦ inr (omega arith) ]
+
+-- disks that were taken came home
+pub all_home : (told : Type 0) (before mid after : RackView) (count : ℕ) (images : List (List ℕ)) → HasTaken told before mid count images → TakesBack mid after 0 count
+    → KeepsHome before after
+all_home told before mid after count images taken back k home =
+    elim (below_or_not k count) [
+      | inl below ↦ back.back k (omega arith) (omega (arith, below))
+      | inr above ↦ back.home k (taken.others k above home)
+    ]
+
+-- ---- what was taken
+
+-- one disk more was taken
+pub record TakesOne (before after : RackView) (number : ℕ) : Type 0 where
+  pub out : after.out number ≡ true
+  pub others_out : (n : ℕ) → n ≢ number → after.out n ≡ before.out n
+  pub others : (n : ℕ) → n ≢ number → AreAmong (after.holds n) (before.holds n)
+  pub later : before.faults ≤ after.faults
+
+-- so many were taken; those above are as they were
+pub record TakesUpTo (told : Type 0) (before now : RackView) (number : ℕ) (images : List (List ℕ)) : Type 0 where
+  pub taken : HasTaken told before now number images
+  pub above : (n : ℕ) → number ≤ n → AreAmong (now.holds n) (before.holds n)
+  pub home : (n : ℕ) → number ≤ n → now.out n ≡ before.out n
+
+one_longer : (xs : List (List ℕ)) (image : List ℕ) (n : ℕ) → length xs ≡ n → length (xs ++ image ∷ []) ≡ n + 1
+one_longer xs image n e = omega (arith, e, length-append xs (image ∷ []))
+
+pub takes_none : (told : Type 0) (before : RackView) → TakesUpTo told before before 0 []
+takes_none told before = record {
+  taken = record {
+    many = refl;
+    held = λ t. tt;
+    out = λ k below. absurd (omega (arith, below));
+    others = λ k above home. home;
+    later = omega arith;
+  };
+  above = λ n le image h. h;
+  home = λ n le. refl;
+}
+
+pub takes_next : (told : Type 0) (before now after : RackView) (number : ℕ) (images : List (List ℕ)) (image : List ℕ) → TakesUpTo told before now number images
+    → TakesOne now after number → (told → now.holds number image) → TakesUpTo told before after (number + 1) (images ++ image ∷ [])
+takes_next told before now after number images image p one here = record {
+  taken = record {
+    many = one_longer images image number p.taken.many;
+    held = λ t. held_more before.holds 0 number images image (omega (arith, p.taken.many)) (p.taken.held t) (p.above number (omega arith) image (here t));
+    out = λ k below. elim (same_or_not k number) [
+      | inl e ↦ subst (λ n. after.out n ≡ true) (sym e) one.out
+      | inr d ↦ one.others_out k d ∙ p.taken.out k (omega (arith, d, below))
+    ];
+    others = λ k above home. one.others_out k (λ e. omega (arith, e, above)) ∙ (p.home k (omega (arith, above)) ∙ home);
+    later = omega (arith, p.taken.later, one.later);
+  };
+  above = λ n le x h. p.above n (omega (arith, le)) x (one.others n (λ e. omega (arith, e, le)) x h);
+  home = λ n le. one.others_out n (λ e. omega (arith, e, le)) ∙ p.home n (omega (arith, le));
+}
+
+-- disks that were taken came home, where one of them was not taken
+pub some_home : (told : Type 0) (before mid after last : RackView) (count : ℕ) (images : List (List ℕ)) → TakesUpTo told before mid count images
+    → ((n : ℕ) → after.out n ≡ mid.out n) → TakesBack after last 0 count → KeepsHome before last
+some_home told before mid after last count images p same back k home =
+    elim (below_or_not k count) [
+      | inl below ↦ back.back k (omega arith) (omega (arith, below))
+      | inr above ↦ back.home k (same k ∙ (p.home k above ∙ home))
+    ]
+
+-- both the rack and its disks tell
+pub both_tell : (a b : Bool) → IsTrue (a && b) → IsTrue a × IsTrue b
+both_tell a b h = and_parts a b h
+
+-- a shelf's disk, those behind it and those before it came home
+pub back_all : (first second third last : RackView) (n rest total : ℕ) → TakesBack first second n 1 → TakesBack second third (n + 1) rest → TakesBack third last 0 n
+    → n + 1 + rest ≡ total → TakesBack first last 0 total
+back_all first second third last n rest total one behind before is = record {
+  home = λ k home. before.home k (behind.home k (one.home k home));
+  back = λ k above below. elim (below_or_not k n) [
+    | inl low ↦ before.back k (omega arith) (omega (arith, low))
+    | inr high ↦ before.home k (elim (same_or_not k n) [
+      | inl e ↦ behind.home k (one.back k (omega (arith, e)) (omega (arith, e)))
+      | inr d ↦ behind.back k (omega (arith, high, d)) (omega (arith, below, is))
+    ])
+  ];
+  later = omega (arith, one.later, behind.later, before.later);
+}

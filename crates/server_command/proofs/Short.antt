@@ -1,0 +1,21 @@
+-- The scripts of a setup are such as the first record of a journal tells.
+use Rattle.std.proofs.Common.{◌≤◌, ◌<◌, ◌^◌, List, [], ◌∷◌, ℕ, length, arith}
+use Rattle.std.specs.Prelude.{map}
+use Rattle.std.specs.List.{AllByRecursion}
+use Rattle.script_nodes.specs.Setup.{Named}
+use Rattle.journal_records.specs.Fields.{ScriptFits}
+use Rattle.journal_records.specs.Records.{texts_of}
+use Rattle.setup_reader.specs.Limits.{AreShort}
+use Rattle.server_command.specs.Opening.{CanBegin}
+
+texts_fit : (scripts : List Named) → AreShort scripts → AllByRecursion ScriptFits (texts_of scripts)
+texts_fit [] short = tt
+texts_fit (s ∷ scripts) short = ((omega (arith, short.0), omega (arith, short.1)), texts_fit scripts short.2)
+
+as_many : (scripts : List Named) → length (texts_of scripts) ≤ length scripts
+as_many [] = omega arith
+as_many (s ∷ scripts) = omega (arith, as_many scripts)
+
+pub can_begin : (count : ℕ) (scripts : List Named) → count ≤ 16 → length scripts ≤ 15 → AreShort scripts → CanBegin count scripts
+can_begin count scripts most few short k low =
+    (omega (arith, low, most), (omega (arith, few, as_many scripts), texts_fit scripts short))

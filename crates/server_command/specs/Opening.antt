@@ -1,0 +1,97 @@
+-- What opening the shelves of a server comes to.
+use Rattle.std.specs.Prelude.{⊤, ◌≡◌, ◌≤◌, ◌<◌, ◌+◌, ℕ, Bool, true, false, List, map, length, Some, None, Result, Ok, Err}
+use Rattle.web_outside.specs.Causes.{Rose}
+use Rattle.web_disk.specs.View.{View, RackView, AreAmong}
+use Rattle.script_nodes.specs.Setup.{Named}
+use Rattle.replay_spec.specs.Rules.{Rules}
+use Rattle.journal_records.specs.Records.{IsInGrammar, begin_of}
+use Rattle.shelf.specs.declared.begin.BeginFault.{BeginFault}
+use Rattle.shelf.specs.declared.begin.BeginFault.TheVariants as fault
+use Rattle.shelf.specs.declared.shelf.Shelf.{Shelf}
+use Rattle.server_command.specs.declared.opening.Unopened.{Unopened}
+use Rattle.server_command.specs.declared.opening.Unopened.TheVariants as unopened
+use Rattle.server_command.specs.Racks.{AreHeld, KeepsHome, damaged, other, first_unfit, unfit_left}
+use Rattle.server_command.specs.Serial.{AreOwn}
+use Rattle.server_command.specs.Serving.{AreOpened}
+
+-- what reads of disks give
+abbrev pub seen_on : {D : Type 0} → (D → View) → List D → List (List ℕ)
+seen_on view disks = map (λ d. (view d).seen) disks
+
+-- the disks of so many numbers, from this one on, are home
+abbrev pub AreHome : RackView → (first count : ℕ) → Type 0
+AreHome rack first count = (k : ℕ) → first ≤ k → k < first + count → rack.out k ≡ false
+
+-- the disks of so many numbers, from 0 on, are out
+abbrev pub AreOut : RackView → (count : ℕ) → Type 0
+AreOut rack count = (k : ℕ) → k < count → rack.out k ≡ true
+
+-- the record that a journal begins with can be written, of so many shelves
+abbrev pub CanBegin : (count : ℕ) → List Named → Type 0
+CanBegin count scripts = (k : ℕ) → k < count → IsInGrammar (begin_of k scripts)
+
+-- disks came home, and none went; and no count fell
+pub record TakesBack (before after : RackView) (first count : ℕ) : Type 0 where
+  pub home : KeepsHome before after
+  pub back : AreHome after first count
+  pub later : before.faults ≤ after.faults
+
+-- The disks of so many numbers were taken, from 0 on, and hold these, where the rack and its disks tell that.
+pub record HasTaken (told : Type 0) (before after : RackView) (count : ℕ) (images : List (List ℕ)) : Type 0 where
+  pub many : length images ≡ count
+  pub held : told → AreHeld before.holds 0 images
+  pub out : AreOut after count
+  pub others : (k : ℕ) → count ≤ k → before.out k ≡ false → after.out k ≡ false
+  pub later : before.faults ≤ after.faults
+
+-- the shelf of this number was not opened for this
+abbrev pub unopened_by : (shelf : ℕ) → BeginFault → Unopened
+unopened_by shelf (fault.Damaged place) = unopened.Damaged shelf place
+unopened_by shelf (fault.Other place) = unopened.Other shelf place
+unopened_by shelf fault.DiskFault = unopened.Disk shelf
+unopened_by shelf fault.Memory = unopened.Memory
+
+-- why disks were not taken
+abbrev pub IsUntaken : (risen : Type 0) → Unopened → Type 0
+IsUntaken risen (unopened.Disk shelf) = risen
+IsUntaken risen unopened.Memory = ⊤
+IsUntaken risen _ = ⊥
+
+-- why a shelf was not opened on a disk that holds this
+abbrev pub IsRefusedAt : (told risen : Type 0) → List Named → (shelf : ℕ) → (image : List ℕ) → Unopened → Type 0
+IsRefusedAt told risen scripts shelf image (unopened.Disk k) = risen
+IsRefusedAt told risen scripts shelf image (unopened.NotEmpty k) = ⊥
+IsRefusedAt told risen scripts shelf image (unopened.Damaged k place) =
+    (k ≡ shelf) × (told → unfit_left scripts shelf image ≡ Some (damaged place))
+IsRefusedAt told risen scripts shelf image (unopened.Other k place) =
+    (k ≡ shelf) × (told → unfit_left scripts shelf image ≡ Some (other place))
+IsRefusedAt told risen scripts shelf image unopened.Memory = ⊤
+
+-- why a shelf was not opened, of those on disks that hold these
+abbrev pub IsRefused : (told risen : Type 0) → List Named → (images : List (List ℕ)) → Unopened → Type 0
+IsRefused told risen scripts images (unopened.Disk shelf) = risen
+IsRefused told risen scripts images (unopened.NotEmpty shelf) = ⊥
+IsRefused told risen scripts images (unopened.Damaged shelf place) =
+    told → first_unfit (unfit_left scripts) 0 images ≡ Some (shelf, damaged place)
+IsRefused told risen scripts images (unopened.Other shelf place) =
+    told → first_unfit (unfit_left scripts) 0 images ≡ Some (shelf, other place)
+IsRefused told risen scripts images unopened.Memory = ⊤
+
+-- all shelves were opened, on disks that hold these
+pub record HasOpened {D N : Type 0} (view : D → View) (tells : Bool) (told : Type 0) (nonce : N → ℕ → ℕ) (rules : ℕ → Rules)
+    (scripts : List Named) (images : List (List ℕ)) (sources : List N) (shelves : List (Shelf D N)) : Type 0 where
+  pub opened : AreOpened told nonce rules scripts 0 images sources shelves
+  pub own : AreOwn view tells scripts sources shelves
+
+-- the same of the disks of a rack; or why they were not
+pub record OpensOn {D N : Type 0} (view : D → View) (tells : Bool) (told : Type 0) (nonce : N → ℕ → ℕ) (rules : ℕ → Rules)
+    (scripts : List Named) (sources : List N) (before after : RackView) (shelves : List (Shelf D N)) : Type 0 where
+  pub images : List (List ℕ)
+  pub taken : HasTaken told before after (length sources) images
+  pub opened : HasOpened view tells told nonce rules scripts images sources shelves
+
+pub record RefusesOn (told : Type 0) (scripts : List Named) (count : ℕ) (before after : RackView) (why : Unopened) : Type 0 where
+  pub images : List (List ℕ)
+  pub held : told → AreHeld before.holds 0 images
+  pub refused : IsRefused told (Rose before.faults after.faults) scripts images why
+  pub home : KeepsHome before after

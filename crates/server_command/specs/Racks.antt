@@ -1,0 +1,82 @@
+-- What the disks of a rack are to the shelves that stand on them.
+use Rattle.std.specs.Prelude.{⊤, ◌≡◌, ℕ, ◌+◌, ◌++◌, ◌∷◌, List, [], length, Bool, false, Option, Some, None, codes}
+use Rattle.std.specs.Fmt.{decimal}
+use Rattle.web_disk.specs.View.{RackView}
+use Rattle.script_nodes.specs.Setup.{Named}
+use Rattle.replay_spec.specs.Book.{Book}
+use Rattle.journal_books.specs.Making as making
+use Rattle.journal_books.specs.Making.{Making, book_in_bytes}
+use Rattle.journal_books.specs.Standing.{Between, Held, if_kept}
+
+-- a rack and its disks: whether they tell their bytes, and what contracts see of the rack before and behind
+pub record Racks : Type 1 where
+  pub tells : Bool
+  pub before : RackView
+  pub after : RackView
+
+abbrev pub racks_of : (tells : Bool) → (before after : RackView) → Racks
+racks_of tells before after = record { tells = tells; before = before; after = after }
+
+-- each disk that is home stays so, or comes back
+abbrev pub KeepsHome : (before after : RackView) → Type 0
+KeepsHome before after = (number : ℕ) → before.out number ≡ false → after.out number ≡ false
+
+-- the disks of the numbers from this one on may hold these
+abbrev pub AreHeld : (ℕ → List ℕ → Type 0) → ℕ → List (List ℕ) → Type 0
+AreHeld holds k [] = ⊤
+AreHeld holds k (image ∷ images) = holds k image × AreHeld holds (k + 1) images
+
+-- why a shelf is not opened on what its disk holds
+pub data Unfit : Type 0 where
+  not_empty : Unfit
+  damaged : (place : ℕ) → Unfit
+  other : (place : ℕ) → Unfit
+
+-- a shelf that is played begins on an empty disk
+abbrev pub unfit_new : (shelf : ℕ) → List ℕ → Option Unfit
+unfit_new shelf [] = None
+unfit_new shelf (b ∷ bytes) = Some not_empty
+
+-- one that is served goes on with what the records of its journal make
+abbrev pub unfit_making : Making → Option Unfit
+unfit_making making.nothing = None
+unfit_making (making.made m) = None
+unfit_making (making.damaged place) = Some (damaged place)
+unfit_making (making.other place) = Some (other place)
+
+abbrev pub unfit_left : List Named → (shelf : ℕ) → List ℕ → Option Unfit
+unfit_left scripts shelf image = unfit_making (book_in_bytes scripts shelf image)
+
+-- the first shelf that is not opened, of those from this number on, and why
+abbrev pub found_unfit : ℕ → Option Unfit → Option (ℕ × Unfit) → Option (ℕ × Unfit)
+found_unfit k None later = later
+found_unfit k (Some why) later = Some (k, why)
+
+abbrev pub first_unfit : (ℕ → List ℕ → Option Unfit) → ℕ → List (List ℕ) → Option (ℕ × Unfit)
+first_unfit unfit k [] = None
+first_unfit unfit k (image ∷ images) = found_unfit k (unfit k image) (first_unfit unfit (k + 1) images)
+
+-- these are what the disks of so many shelves hold when they are taken: of all, unless one of the shelves is not opened
+pub record AreTaken (unfit : ℕ → List ℕ → Option Unfit) (holds : ℕ → List ℕ → Type 0) (count : ℕ) (images : List (List ℕ)) : Type 0 where
+  pub held : AreHeld holds 0 images
+  pub all : first_unfit unfit 0 images ≡ None → length images ≡ count
+
+-- what a disk may hold makes the book, with what is in doubt or without it
+abbrev pub StandsAt : List Named → (shelf : ℕ) → (images : List ℕ → Type 0) → Book → Type 0
+StandsAt scripts shelf images b =
+    (t : Between scripts shelf b (if_kept scripts shelf b)) × ((image : List ℕ) → images image → Held t image)
+
+-- ---- the lines
+
+abbrev pub unfit_word : Unfit → List ℕ
+unfit_word not_empty = codes "0 not-empty\n"
+unfit_word (damaged place) = decimal place ++ codes " damaged\n"
+unfit_word (other place) = decimal place ++ codes " other\n"
+
+-- `error 8 SHELF PLACE WORD`
+abbrev pub unfit_line : (shelf : ℕ) → Unfit → List ℕ
+unfit_line shelf why = codes "error 8 " ++ (decimal shelf ++ 32 ∷ unfit_word why)
+
+-- `error 7 SHELF disk`
+abbrev pub disk_line : (shelf : ℕ) → List ℕ
+disk_line shelf = codes "error 7 " ++ (decimal shelf ++ codes " disk\n")

@@ -1,0 +1,51 @@
+-- How it is told that a shelf was not opened, or that a run of steps ended.
+use Rattle.std.specs.Prelude.{◌≡◌, ℕ, List, Option, Some, None, codes}
+use Rattle.play_steps.specs.declared.stage.Reopen.{Reopen}
+use Rattle.play_steps.specs.declared.stage.Reopen.TheVariants as reopen
+use Rattle.play_desk.specs.declared.opening.OpenFault.{OpenFault}
+use Rattle.play_desk.specs.declared.opening.OpenCause.{OpenCause}
+use Rattle.play_desk.specs.declared.opening.OpenCause.TheVariants as first
+use Rattle.server_command.specs.declared.program.Status.{Status}
+use Rattle.server_command.specs.declared.program.Status.TheVariants as status
+use Rattle.server_command.specs.declared.opening.Unopened.{Unopened}
+use Rattle.server_command.specs.declared.opening.Unopened.TheVariants as unopened
+use Rattle.server_command.specs.Output.{Sinks, PrintsTo}
+use Rattle.server_command.specs.Racks.{not_empty, damaged, other, disk_line, unfit_line}
+
+-- the line that names a shelf which was not opened; want of memory has a line of its own
+abbrev pub unopened_line : Unopened → Option (List ℕ)
+unopened_line (unopened.Disk shelf) = Some (disk_line shelf)
+unopened_line (unopened.NotEmpty shelf) = Some (unfit_line shelf not_empty)
+unopened_line (unopened.Damaged shelf place) = Some (unfit_line shelf (damaged place))
+unopened_line (unopened.Other shelf place) = Some (unfit_line shelf (other place))
+unopened_line unopened.Memory = None
+
+-- its status
+abbrev pub unopened_status : Unopened → Status
+unopened_status (unopened.Disk shelf) = status.Disk
+unopened_status (unopened.NotEmpty shelf) = status.Journal
+unopened_status (unopened.Damaged shelf place) = status.Journal
+unopened_status (unopened.Other shelf place) = status.Journal
+unopened_status unopened.Memory = status.Memory
+
+-- that line was told, or there was no memory for it
+pub data TellsUnopened (why : Unopened) (s : Status) (out : Sinks) : Type 0 where
+  told : (line : List ℕ) → unopened_line why ≡ Some line → s ≡ unopened_status why → PrintsTo out line → TellsUnopened why s out
+  untold : s ≡ status.Memory → PrintsTo out (codes "error 10 memory\n") → TellsUnopened why s out
+
+-- why a shelf was not opened at first, and again
+abbrev pub unopened_by : ℕ → OpenCause → Unopened
+unopened_by shelf first.Disk = unopened.Disk shelf
+unopened_by shelf first.NotEmpty = unopened.NotEmpty shelf
+unopened_by shelf (first.Damaged place) = unopened.Damaged shelf place
+unopened_by shelf (first.Other place) = unopened.Other shelf place
+unopened_by shelf first.Memory = unopened.Memory
+
+abbrev pub unopened_first : OpenFault → Unopened
+unopened_first fault = unopened_by fault.shelf fault.why
+
+abbrev pub unopened_again : (shelf : ℕ) → Reopen → Unopened
+unopened_again shelf reopen.Disk = unopened.Disk shelf
+unopened_again shelf (reopen.Damaged place) = unopened.Damaged shelf place
+unopened_again shelf (reopen.Other place) = unopened.Other shelf place
+unopened_again shelf reopen.Memory = unopened.Memory

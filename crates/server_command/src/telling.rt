@@ -1,0 +1,230 @@
+ghost use Rattle.std.specs.Prelude.{◌≡◌, ◌≢◌, ◌≤◌, ◌++◌, ◌∷◌, [], Some, codes, IfOk, string_bytes};
+ghost use Rattle.std.specs.Fmt.{decimal};
+ghost use Rattle.std.specs.Io.KnownBytes.{Keeps};
+ghost use Rattle.web_outside.specs.Pieces.{HandsAllOn, HandsOn};
+ghost use Rattle.script_nodes.specs.Views.{scripts_of};
+ghost use Rattle.setup_reader.specs.Views.{fault_of};
+ghost use Rattle.request_workers.specs.Tallies.{count_of};
+ghost use Rattle.server_command.specs.declared.program.Status.{Status};
+ghost use Rattle.server_command.specs.Command.{Counts, IsDoneUnlessFault, TellsFaultLine, TellsLine, unread_line, unread_status};
+ghost use Rattle.server_command.specs.Output.{PrintsTo, sinks_of};
+ghost use Rattle.server_command.specs.Racks.{damaged, disk_line, not_empty, other, unfit_line};
+ghost use Rattle.server_command.specs.Serving.{TellsCount, count_line};
+ghost use Rattle.server_command.specs.Telling.{TellsUnopened, unopened_line, unopened_status};
+
+use crate::opening::Unopened;
+use crate::program::Status;
+use request_workers::Tally;
+use script_nodes::Setup;
+use setup_reader::{SetupError, fault_line};
+use std::alloc::{AllocError, Global};
+use web_outside::{InputFault, Sink, write_all, write_or_drop};
+
+// The line that names the line of the steps at which a run ended.
+fn line_error(alloc: Global, number: u64) -> Result<String, AllocError>
+    ensures { IfOk result (λ text. string_bytes text ≡ codes "error 4 " ++ (decimal number ++ 10 ∷ [])) }
+{
+    format!(in alloc; "error 4 {number}\n")
+}
+
+// The line that tells how many scripts there are.
+fn count_line(alloc: Global, count: usize) -> Result<String, AllocError>
+    ensures { IfOk result (λ text. string_bytes text ≡ codes "ok " ++ (decimal count ++ 10 ∷ [])) }
+{
+    format!(in alloc; "ok {count}\n")
+}
+
+/// Says that memory ran out.
+pub fn no_memory<O: Sink>(output: &mut O) -> Status
+    ensures status { result ≡ Status.Memory }
+    ensures line { PrintsTo (sinks_of (O.view output.old) (O.view output.new)) (codes "error 10 memory\n") }
+    ensures handed { HandsAllOn (O.view output.old) (O.view output.new) }
+    ensures later { (O.view output.old).faults ≤ (O.view output.new).faults }
+{
+    write_or_drop(output, b"error 10 memory\n");
+    Status::Memory
+}
+
+/// Says why the input was not read whole.
+pub fn tell_unread<O: Sink>(fault: InputFault, output: &mut O) -> Status
+    ensures status { result ≡ unread_status fault }
+    ensures line { PrintsTo (sinks_of (O.view output.old) (O.view output.new)) (unread_line fault) }
+    ensures handed { HandsAllOn (O.view output.old) (O.view output.new) }
+    ensures later { (O.view output.old).faults ≤ (O.view output.new).faults }
+    ensures other { result ≢ Status.Done }
+{
+    match fault {
+        InputFault::Failed => {
+            write_or_drop(output, b"error 5 read\n");
+            Status::Read
+        }
+        InputFault::Memory => no_memory(output),
+        InputFault::Long => {
+            write_or_drop(output, b"error 11 long\n");
+            Status::Long
+        }
+    }
+}
+
+/// Hands on all that was written, behind which nothing is told.
+pub fn hand_on<O: Sink>(output: &mut O) -> Status
+    ensures done { result ≡ Status.Done → HandsOn (O.view output.new).written (O.view output.new).handed }
+    ensures same { Keeps (O.view output.old).written (O.view output.new).written }
+    ensures status { IsDoneUnlessFault result (O.view output.old).faults (O.view output.new).faults }
+    ensures later { (O.view output.old).faults ≤ (O.view output.new).faults }
+{
+    match output.flush() {
+        Ok(()) => Status::Done,
+        Err(_) => Status::Write,
+    }
+}
+
+/// Tells how many scripts a setup has.
+pub fn tell_count<O: Sink>(alloc: Global, setup: &Setup, output: &mut O) -> Status
+    ensures outputs { Counts (scripts_of setup.now) result (sinks_of (O.view output.old) (O.view output.new)) }
+    ensures handed { HandsAllOn (O.view output.old) (O.view output.new) }
+    ensures later { (O.view output.old).faults ≤ (O.view output.new).faults }
+    ensures done { result ≡ Status.Done → HandsOn (O.view output.new).written (O.view output.new).handed }
+{
+    let Ok(text) = count_line(alloc, setup.len()) else {
+        return no_memory(output);
+    };
+    match write_all(output, text.as_bytes()) {
+        Ok(()) => hand_on(output),
+        Err(_) => Status::Write,
+    }
+}
+
+/// Tells at which line of the steps a run ended.
+pub fn tell_line<O: Sink>(alloc: Global, number: u64, output: &mut O) -> Status
+    ensures tells { TellsLine number result (sinks_of (O.view output.old) (O.view output.new)) }
+    ensures handed { HandsAllOn (O.view output.old) (O.view output.new) }
+    ensures later { (O.view output.old).faults ≤ (O.view output.new).faults }
+{
+    match line_error(alloc, number) {
+        Ok(text) => {
+            write_or_drop(output, text.as_bytes());
+            Status::Line
+        }
+        Err(_) => no_memory(output),
+    }
+}
+
+/// Tells the fault of a setup.
+pub fn tell_fault<O: Sink>(alloc: Global, error: &SetupError, output: &mut O) -> Status
+    ensures line { TellsFaultLine (fault_of error.now) result (sinks_of (O.view output.old) (O.view output.new)) }
+    ensures handed { HandsAllOn (O.view output.old) (O.view output.new) }
+    ensures later { (O.view output.old).faults ≤ (O.view output.new).faults }
+    ensures other { result ≢ Status.Done }
+{
+    match fault_line(alloc, error) {
+        Ok(text) => {
+            write_or_drop(output, text.as_bytes());
+            Status::Setup
+        }
+        Err(_) => no_memory(output),
+    }
+}
+
+// The line of a tally's counts.
+fn tally_line(alloc: Global, tally: &Tally) -> Result<String, AllocError>
+    ensures { IfOk result (λ text. string_bytes text ≡ count_line (count_of tally.now)) }
+{
+    let Tally {
+        pages,
+        refused,
+        dropped,
+        ..
+    } = *tally;
+    if dropped == 0 {
+        format!(in alloc; "pages {pages} refused {refused}\n")
+    } else {
+        format!(in alloc; "pages {pages} refused {refused} dropped {dropped}\n")
+    }
+}
+
+/// Tells what was counted.
+pub fn tell_tally<O: Sink>(alloc: Global, tally: &Tally, output: &mut O) -> Status
+    ensures outputs { TellsCount (count_of tally.now) result (sinks_of (O.view output.old) (O.view output.new)) }
+    ensures handed { HandsAllOn (O.view output.old) (O.view output.new) }
+    ensures later { (O.view output.old).faults ≤ (O.view output.new).faults }
+    ensures done { result ≡ Status.Done → HandsOn (O.view output.new).written (O.view output.new).handed }
+{
+    let Ok(text) = tally_line(alloc, tally) else {
+        return no_memory(output);
+    };
+    match write_all(output, text.as_bytes()) {
+        Ok(()) => hand_on(output),
+        Err(_) => Status::Write,
+    }
+}
+
+// The line that names a shelf whose disk failed.
+fn disk_error(alloc: Global, shelf: u32) -> Result<String, AllocError>
+    ensures { IfOk result (λ text. string_bytes text ≡ disk_line shelf) }
+{
+    format!(in alloc; "error 7 {shelf} disk\n")
+}
+
+// The line that names a shelf whose disk is not empty.
+fn full_error(alloc: Global, shelf: u32) -> Result<String, AllocError>
+    ensures { IfOk result (λ text. string_bytes text ≡ unfit_line shelf not_empty) }
+{
+    format!(in alloc; "error 8 {shelf} 0 not-empty\n")
+}
+
+// The line that names a shelf and the place of its journal that is no record of it.
+fn damage_error(alloc: Global, shelf: u32, place: u64) -> Result<String, AllocError>
+    ensures { IfOk result (λ text. string_bytes text ≡ unfit_line shelf (damaged place)) }
+{
+    format!(in alloc; "error 8 {shelf} {place} damaged\n")
+}
+
+// The line that names a shelf and the place of another shelf's journal.
+fn other_error(alloc: Global, shelf: u32, place: u64) -> Result<String, AllocError>
+    ensures { IfOk result (λ text. string_bytes text ≡ unfit_line shelf (other place)) }
+{
+    format!(in alloc; "error 8 {shelf} {place} other\n")
+}
+
+// The line that tells why a shelf was not opened, where that is no want of memory.
+fn unopened_error(alloc: Global, why: Unopened) -> Result<String, AllocError>
+    ensures { IfOk result (λ text. unopened_line why ≡ Some (string_bytes text)) }
+{
+    match why {
+        Unopened::Disk { shelf } => disk_error(alloc, shelf),
+        Unopened::NotEmpty { shelf } => full_error(alloc, shelf),
+        Unopened::Damaged { shelf, place } => damage_error(alloc, shelf, place),
+        Unopened::Other { shelf, place } => other_error(alloc, shelf, place),
+        Unopened::Memory => Err(AllocError),
+    }
+}
+
+// The status of a shelf that was not opened.
+fn unopened_status(why: Unopened) -> Status
+    ensures { result ≡ unopened_status why }
+{
+    match why {
+        Unopened::Disk { .. } => Status::Disk,
+        Unopened::NotEmpty { .. } | Unopened::Damaged { .. } | Unopened::Other { .. } => {
+            Status::Journal
+        }
+        Unopened::Memory => Status::Memory,
+    }
+}
+
+/// Tells why a shelf was not opened.
+pub fn tell_unopened<O: Sink>(alloc: Global, why: Unopened, output: &mut O) -> Status
+    ensures tells { TellsUnopened why result (sinks_of (O.view output.old) (O.view output.new)) }
+    ensures handed { HandsAllOn (O.view output.old) (O.view output.new) }
+    ensures later { (O.view output.old).faults ≤ (O.view output.new).faults }
+    ensures other { result ≢ Status.Done }
+{
+    match unopened_error(alloc, why) {
+        Ok(text) => {
+            write_or_drop(output, text.as_bytes());
+            unopened_status(why)
+        }
+        Err(_) => no_memory(output),
+    }
+}
