@@ -37,7 +37,8 @@ fn put_all_back<D: Disk, R: Rack<D>>(rack: &mut R, shelves: Vec<Shelf<D, Countin
     requires home { IsHome shelves.items (R.view rack.old).out }
     ensures home { AreHome (R.view rack.new).out }
     ensures images { IsTrue R.tells → HoldImages D.view shelves.items (R.view rack.new).holds }
-    ensures later { total (R.view rack.old).faults (faults_in D.view shelves.items) ≤ (R.view rack.new).faults }
+    ensures later { total (R.view rack.old).faults (faults_in D.view shelves.items)
+        ≤ (R.view rack.new).faults }
 {
     let mut shelves = shelves;
     while let Some(shelf) = shelves.pop() {
@@ -98,15 +99,18 @@ pub fn open_desk<'s, D: Disk, R: Rack<D>>(
     ensures setup { IfOk result (λ d. d.setup.now ≡ setup.entry.now) }
     ensures desk { IsTrue R.tells → IsTrue D.tells → IfOk result (λ d. desk_of d.setup.now d.staff
         ≡ first_desk (rules_at (scripts_of setup.now) rules) (scripts_of setup.now) rules.shelves) }
-    ensures empty { IsTrue R.tells → IsTrue D.tells → IfOk result (λ d. (k : ℕ) → k < rules.shelves → (R.view rack.old).holds k []) }
+    ensures empty { IsTrue R.tells → IsTrue D.tells →
+        IfOk result (λ d. (k : ℕ) → k < rules.shelves → (R.view rack.old).holds k []) }
     ensures sound { IfOk result (λ d. IsFit D.view D.tells (scripts_of d.setup.now) d.staff) }
     ensures home { IfOk result (λ d. IsHome d.staff.shelves.items (R.view rack.new).out) }
     ensures closed { IsTrue R.tells → IsTrue D.tells →
         IfErr result (λ e. IsClosedBy (R.view rack.old).holds rules.shelves e.shelf e.why) }
     ensures all_home { IfErr result (λ e. AreHome (R.view rack.new).out) }
-    ensures disk { IsErrAnd result (λ e. e.why ≡ OpenCause.Disk) → Rose (R.view rack.old).faults (R.view rack.new).faults }
+    ensures disk { IsErrAnd result (λ e. e.why ≡ OpenCause.Disk) →
+        Rose (R.view rack.old).faults (R.view rack.new).faults }
     ensures later { (R.view rack.old).faults ≤ (R.view rack.new).faults }
-    ensures later_open { IfOk result (λ d. (R.view rack.old).faults ≤ total (R.view rack.new).faults (faults_in D.view d.staff.shelves.items)) }
+    ensures later_open { IfOk result (λ d. (R.view rack.old).faults
+        ≤ total (R.view rack.new).faults (faults_in D.view d.staff.shelves.items)) }
 {
     // A count is below 2^64, so it does not fall where those of the disks are added.
     let _count = rack.faults();
@@ -139,7 +143,8 @@ impl<'s, D: Disk, R: Rack<D>> Desk<'s, D, R> {
         ensures home { AreHome (R.view rack.new).out }
         ensures books { IsTrue R.tells → IsTrue D.tells →
             HoldTheBooks (desk_of self.entry.setup.now self.entry.staff) (R.view rack.new).holds }
-        ensures later { total (R.view rack.old).faults (faults_in D.view self.entry.staff.shelves.items) ≤ (R.view rack.new).faults }
+        ensures later { total (R.view rack.old).faults (faults_in D.view self.entry.staff.shelves.items)
+            ≤ (R.view rack.new).faults }
     {
         let Desk {
             alloc: _,

@@ -58,7 +58,8 @@ fn taken<D: Disk, R: Rack<D>>(
     rack: &mut R,
     number: u32,
 ) -> Result<D, Reopen>
-    ensures images { IsTrue R.tells → IfOk result (λ disk. AreAmong (D.view disk).images ((R.view rack.old).holds number)) }
+    ensures images { IsTrue R.tells →
+        IfOk result (λ disk. AreAmong (D.view disk).images ((R.view rack.old).holds number)) }
     ensures fresh { IfOk result (λ disk. (D.view disk).faults ≡ 0) }
     ensures rack { TakesOrLeaves number result (R.view rack.old) (R.view rack.new) }
     ensures disk { IsErrOf result Reopen.Disk → Rose (R.view rack.old).faults (R.view rack.new).faults }
@@ -99,13 +100,17 @@ fn begun<D: Disk, R: Rack<D>>(
     ensures served { IfOk result (IsServed D.view D.tells (scripts_of setup.now)) }
     ensures rules { IfOk result (λ s. s.rules ≡ rules) }
     ensures nonces { IfOk result (λ s. s.nonces ≡ nonces) }
-    ensures found { IsTrue D.tells → Finds D.view (scripts_of setup.now) rules.number (D.view disk).images result }
-    ensures empty { IsTrue D.tells → (D.view disk).seen ≡ [] → BeginsEmpty (scripts_of setup.now) rules result }
+    ensures found { IsTrue D.tells →
+        Finds D.view (scripts_of setup.now) rules.number (D.view disk).images result }
+    ensures empty { IsTrue D.tells → (D.view disk).seen ≡ [] →
+        BeginsEmpty (scripts_of setup.now) rules result }
     ensures kept { OnOk result (rack.new ≡ rack.old) }
     ensures given { OnErr result (GivesOne rules.number (R.view rack.old) (R.view rack.new)) }
     ensures disk { IsErrOf result Reopen.Disk →
-        CountRose (R.view rack.old).faults (D.view disk).faults (R.view rack.new).faults (faults_left D.view result) }
-    ensures later { CountStays (R.view rack.old).faults (D.view disk).faults (R.view rack.new).faults (faults_left D.view result) }
+        CountRose (R.view rack.old).faults (D.view disk).faults
+        (R.view rack.new).faults (faults_left D.view result) }
+    ensures later { CountStays (R.view rack.old).faults (D.view disk).faults
+        (R.view rack.new).faults (faults_left D.view result) }
 {
     match Shelf::begin(alloc, disk, nonces, setup, rules) {
         Ok(shelf) => Ok(shelf),
@@ -123,7 +128,8 @@ pub fn put_back<D: Disk, R: Rack<D>>(rack: &mut R, shelf: Shelf<D, Counting>) ->
     ensures images { IsTrue R.tells →
         AreAmong ((R.view rack.new).holds shelf.rules.number) (D.view shelf.journal.disk).images }
     ensures given { GivesOne shelf.rules.number (R.view rack.old) (R.view rack.new) }
-    ensures later { CountStays (R.view rack.old).faults (D.view shelf.journal.disk).faults (R.view rack.new).faults 0 }
+    ensures later { CountStays (R.view rack.old).faults (D.view shelf.journal.disk).faults
+        (R.view rack.new).faults 0 }
 {
     let number = shelf.rules().number;
     let (disk, nonces) = shelf.close();
@@ -150,8 +156,10 @@ pub fn reopened<D: Disk, R: Rack<D>>(
     ensures other { IsTrue R.tells → IsTrue D.tells → (place : ℕ) → IsErrOf result (Reopen.Other place) → ⊥ }
     ensures rack { OpensOne shelf.rules.number result (R.view rack.old) (R.view rack.new) }
     ensures disk { IsErrOf result Reopen.Disk →
-        CountRose (R.view rack.old).faults (D.view shelf.journal.disk).faults (R.view rack.new).faults (faults_left D.view result) }
-    ensures later { CountStays (R.view rack.old).faults (D.view shelf.journal.disk).faults (R.view rack.new).faults (faults_left D.view result) }
+        CountRose (R.view rack.old).faults (D.view shelf.journal.disk).faults
+        (R.view rack.new).faults (faults_left D.view result) }
+    ensures later { CountStays (R.view rack.old).faults (D.view shelf.journal.disk).faults
+        (R.view rack.new).faults (faults_left D.view result) }
 {
     images_make_books();
     a_reopened_shelf_has_crashed::<D>();

@@ -88,7 +88,8 @@ fn left_of(held: Option<Ticket>, count: usize, place: usize, worker: u32) -> Opt
 pub fn lose_tickets(tickets: &mut [Option<Ticket>; 16], count: usize, place: usize)
     requires some { 0 < count }
     requires workers { length tickets.old ≡ 16 }
-    ensures held { map (option_map ticket_of) tickets.new ≡ without_shelf count place 0 (map (option_map ticket_of) tickets.old) }
+    ensures held { map (option_map ticket_of) tickets.new
+        ≡ without_shelf count place 0 (map (option_map ticket_of) tickets.old) }
     ensures kept { KeepsOthers count place tickets.old tickets.new }
     ensures workers { length tickets.new ≡ 16 }
 {
