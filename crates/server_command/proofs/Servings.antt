@@ -78,9 +78,10 @@ opens_of : {D P L N : Type 0} (o : Outside D P L N) (s : Service) (scripts : Lis
     → length sources ≡ s.options.shelves
     → (p : OpensOn o.views.disk o.views.told (IsTrue o.rack.tells) o.views.nonce (λ k. rules_for s.options k scripts) scripts sources o.rack.before middle shelves)
     → Opens o.rack s scripts p.images
-opens_of o s scripts sources middle shelves count p = λ t.
-    (record { held = p.taken.held t; all = λ none. p.taken.many ∙ count }
-    , opened_fits (IsTrue o.rack.tells) o.views.nonce (λ k. rules_for s.options k scripts) scripts 0 p.images sources shelves p.opened.opened t)
+opens_of o s scripts sources middle shelves count p = λ t. (
+  record { held = p.taken.held t; all = λ none. p.taken.many ∙ count },
+  opened_fits (IsTrue o.rack.tells) o.views.nonce (λ k. rules_for s.options k scripts) scripts 0 p.images sources shelves p.opened.opened t,
+)
 
 pub serves_of : {D P L N : Type 0} (o : Outside D P L N) (s : Service) (scripts : List Named) (sources : List N) (middle : RackView) (first last : Vec (Shelf D N) Global)
     (result : Result Tally ServeFault) → length sources ≡ s.options.shelves → IfSome (o.seeds.gives s.options.shelves) (λ given. given ≡ sources)
@@ -146,10 +147,10 @@ tells_fault_line line e old new before after same p = subst (λ l. AppendsUnless
 -- a fault of a setup is all that is told
 pub fault_left : (serves : Serves) (v : Service) (bytes : List ℕ) (fault : Fault) (s : Status) (out : Sinks) (door seeds : Faults) → setup_of Input bytes ≡ Err fault
     → TellsFaultLine fault s out → serves.unopened → (chances : Chances) × LeavesInput serves v bytes chances s out door seeds
-fault_left serves v bytes fault status.Setup out door seeds is told none =
-    (no_chances, (subst (λ r. Answers (served r no_chances) 3 out) (sym is) (refl, tells out.held out.held out.holds [] (fault_line fault) out.before out.after (appends_none out.held) told), none))
-fault_left serves v bytes fault status.Memory out door seeds is told none = (no_chances, (told, inl none))
-fault_left serves v bytes fault s out door seeds is told none = absurd told
+fault_left serves v bytes fault status.Setup out door seeds is said none =
+    (no_chances, (subst (λ r. Answers (served r no_chances) 3 out) (sym is) (refl, tells out.held out.held out.holds [] (fault_line fault) out.before out.after (appends_none out.held) said), none))
+fault_left serves v bytes fault status.Memory out door seeds is said none = (no_chances, (said, inl none))
+fault_left serves v bytes fault s out door seeds is said none = absurd said
 
 same_line : (a b : List ℕ) → Some a ≡ Some b → a ≡ b
 same_line a b e = cc
