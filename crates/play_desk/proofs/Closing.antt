@@ -1,14 +1,19 @@
 -- What is left where the last of the shelves goes home.
-use Rattle.std.proofs.Common.{◌≡◌, ◌≢◌, ◌∙◌, ap, sym, subst, refl, ℕ, ◌≤◌, zero, suc, List, [], ◌∷◌, ◌++◌, length, slice_get, Some, None, arith, append_assoc}
+use Rattle.std.proofs.Common.{◌≡◌, ◌≢◌, ◌∙◌, ap, sym, subst, refl, ℕ, ◌≤◌, zero, suc, Bool, List, [], ◌∷◌, ◌++◌, length, map, slice_get, Option, Some, None, arith, append_assoc}
+use Rattle.std.specs.Prelude.{IsTrue}
 use Rattle.std.proofs.lemmas.List.{map-append}
 use mathlib.Core.Logic.{dite}
 use mathlib.Core.List.{IsPrefix}
 use native.Mathlib.Decide.{ℕ_discrete}
 use Rattle.web_outside.specs.declared.nonces.Counting.{Counting}
 use Rattle.web_disk.specs.View.{View, RackView, AreAmong}
+use Rattle.script_nodes.specs.Setup.{Named}
+use Rattle.replay_spec.specs.Runs as runs
+use Rattle.journal_books.specs.Standing.{Between, HoldIn, Stands, if_kept}
+use Rattle.instance_book.specs.declared.ticket.Ticket.{Ticket}
 use Rattle.shelf.specs.declared.shelf.Shelf.{Shelf}
-use Rattle.play_desk.specs.Opening.{CountStays, GivesOne}
-use Rattle.play_desk.specs.Staff.{HaveOwnNumbers, IsHome, faults_in, numbers_in, total}
+use Rattle.play_desk.specs.Opening.{CountStays, GivesOne, HoldImages, HoldTheBooks}
+use Rattle.play_desk.specs.Staff.{AreFit, HaveOwnNumbers, IsHome, desk_with, faults_in, numbers_in, shelf_at, total}
 use Rattle.play_desk.proofs.Places.{same_Some}
 use Rattle.play_desk.proofs.Fitting.{number_at}
 use Rattle.play_desk.proofs.Outage.{home_out, stays_out}
@@ -67,8 +72,34 @@ images_last {D = D} view xs all x old new p own given held others k s le e =
     let here = at_front xs all x p in
     dite (ℕ_discrete k (length xs))
     (λ same. subst (λ (z : Shelf D Counting). AreAmong (new.holds z.rules.number) (view z.journal.disk).images)
-        (same_Some x s (sym here ∙ ap (slice_get all) (sym same) ∙ e)) held)
+    (same_Some x s (sym here ∙ ap (slice_get all) (sym same) ∙ e)) held)
     (λ other.
-        let apart : s.rules.number ≢ x.rules.number = λ is.
-        other (own k (length xs) x.rules.number (number_at all k s e ∙ ap Some is) (number_at all (length xs) x here)) in
-        λ image h. others k s (omega arith) e image (given.others s.rules.number apart image h))
+    let apart : s.rules.number ≢ x.rules.number = λ is.
+    other (own k (length xs) x.rules.number (number_at all k s e ∙ ap Some is) (number_at all (length xs) x here)) in
+    λ image h. others k s (omega arith) e image (given.others s.rules.number apart image h))
+
+-- ---- books
+
+-- what was mapped to what stands in a place
+from_mapped : {A B : Type 0} (f : A → B) (xs : List A) (k : ℕ) (y : B) → slice_get (map f xs) k ≡ Some y
+    → (x : A) × (slice_get xs k ≡ Some x) × (f x ≡ y)
+from_mapped f [] k y e = absurd (let no : None ≡ Some y = e in cc)
+from_mapped f (x ∷ xs) zero y e = (x, refl, same_Some (f x) y e)
+from_mapped f (x ∷ xs) (suc k) y e = from_mapped f xs k y e
+
+stands_at : (scripts : List Named) (view : View) (number : ℕ) (s : runs.Shelf) (holds : ℕ → List ℕ → Type 0) → s.book.shelf ≡ number
+    → Stands scripts number view s.book → AreAmong (holds number) view.images
+    → (b : Between scripts s.book.shelf s.book (if_kept scripts s.book.shelf s.book)) × HoldIn b (holds s.book.shelf)
+stands_at scripts view number s holds is stands among =
+    subst (λ n. (b : Between scripts n s.book (if_kept scripts n s.book)) × HoldIn b (holds n)) (sym is)
+    (stands.0, λ image h. stands.1 image (among image h))
+
+-- the disks of shelves that are fit stand for their books
+pub books_stand : {D : Type 0} (view : D → View) (tells : Bool) (scripts : List Named) (xs : List (Shelf D Counting)) (ts : List (Option Ticket))
+    (holds : ℕ → List ℕ → Type 0) → IsTrue tells → AreFit view tells scripts xs ts → HoldImages view xs holds
+    → HoldTheBooks (desk_with scripts xs ts) holds
+books_stand view tells scripts xs ts holds told fit images k s e =
+    let x = from_mapped (shelf_at scripts) xs k s e in
+    let order = (fit.served k x.0 x.1).in_order in
+    subst (λ (z : runs.Shelf). (b : Between scripts z.book.shelf z.book (if_kept scripts z.book.shelf z.book)) × HoldIn b (holds z.book.shelf)) x.2
+    (stands_at scripts (view x.0.journal.disk) x.0.rules.number (shelf_at scripts x.0) holds order.number (order.fit told).stands (images k x.0 x.1))

@@ -222,5 +222,6 @@ crash_on_enters d k (Some s) here =
             );
           };
     }
+
 pub crash_enters : (d : Desk) (k : ℕ) → Enters d (desk_crash d k) (λ l. ledger_crash l k)
 crash_enters d k = crash_on_enters d k (slice_get d.shelves k) refl

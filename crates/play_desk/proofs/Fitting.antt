@@ -1,5 +1,5 @@
 -- Shelves and their workers' tickets stay fit with each event.
-use Rattle.std.proofs.Common.{◌≡◌, ◌≢◌, ◌⊎◌, inl, inr, ◌∙◌, ap, sym, subst, refl, ⊎_elim, ℕ, ◌<◌, ◌==◌, not, filter, Bool, List, [], ◌∷◌, ◌++◌, length, slice_get, slice_set, map, option_map, Option, Some, None, Contains, Result, arith}
+use Rattle.std.proofs.Common.{◌≡◌, ◌≢◌, ◌⊎◌, inl, inr, ◌∙◌, ap, sym, subst, refl, ℕ, Bool, List, [], ◌∷◌, ◌++◌, length, slice_get, slice_set, option_map, Option, Some, None, Contains, Result, arith}
 use Rattle.std.proofs.lemmas.Bool.{cases_eq}
 use Rattle.std.proofs.lemmas.List.{length-set, map-set}
 use Rattle.std.proofs.lemmas.List.Elements.{Contains-append_left, Contains-push}
@@ -13,9 +13,7 @@ use Rattle.page_names.specs.Views.{target_of}
 use Rattle.script_nodes.specs.Setup.{Named}
 use Rattle.replay_spec.specs.Book.{Book, draw}
 use Rattle.replay_spec.specs.Admission.{admit, refusal_of}
-use Rattle.replay_spec.specs.Step.{Event, take, publish, sweep, taken}
-use Rattle.replay_spec.specs.Step as spec
-use Rattle.replay_spec.specs.Laws.{Moment}
+use Rattle.replay_spec.specs.Step.{take, publish, sweep, taken}
 use Rattle.replay_spec.proofs.Stand.{among_of}
 use Rattle.instance_book.specs.Fits.{FitsAs}
 use Rattle.instance_book.specs.Views.{ticket_of, reply_of}
@@ -25,7 +23,7 @@ use Rattle.shelf.specs.Views.{book_in, swept_of, IsInOrder}
 use Rattle.shelf.specs.declared.rules.Rules.{Rules}
 use Rattle.shelf.specs.Ranges.{AreInRange}
 use Rattle.journal_records.specs.Records.{IsInGrammar, begin_of}
-use Rattle.play_desk.specs.Staff.{IsOpen, IsServed, IsOpenAt, AreFit, HaveOwnNumbers, KeepsOthers, numbers_in, place_of}
+use Rattle.play_desk.specs.Staff.{IsOpen, IsServed, IsOpenAt, AreFit, KeepsOthers, numbers_in, place_of}
 use Rattle.play_desk.proofs.Places.{at_set, get_other, get_set, same_set, same_Some}
 use Rattle.play_desk.proofs.Kept.{published, swept}
 use Rattle.play_desk.proofs.Open.{leads_here, stays_open, still_out}

@@ -1,6 +1,5 @@
 -- The events of a desk's shelf.
-use Rattle.std.proofs.Common.{◌≡◌, ◌∙◌, ap, sym, subst, refl, ℕ, ◌+◌, ◌%◌, ◌^◌, List, Result, Ok, Err, arith}
-use Rattle.script_value.specs.declared.outcome.Reply.{Reply}
+use Rattle.std.proofs.Common.{◌≡◌, ◌∙◌, ap, subst, ℕ, List, arith}
 use Rattle.script_nodes.specs.Setup.{Named}
 use Rattle.web_outside.specs.Counted.{counted}
 use Rattle.web_outside.specs.declared.nonces.Counting.{Counting}
@@ -13,8 +12,7 @@ use Rattle.replay_spec.specs.Runs as runs
 use Rattle.replay_spec.specs.Runs.{drawn_by, shelf_step}
 use Rattle.replay_spec.specs.Laws as laws
 use Rattle.replay_spec.specs.Laws.{Moment, then_book, RefusedIsUnchanged}
-use Rattle.instance_book.specs.Views.{reply_of}
-use Rattle.shelf.specs.Views.{book_in, shelf_of, rules_of, fate_by, swept_of, HasGiven, IsEvent}
+use Rattle.shelf.specs.Views.{book_in, shelf_of, rules_of, fate_by, HasGiven, IsEvent}
 use Rattle.shelf.specs.declared.shelf.Shelf.{Shelf}
 use Rattle.play_desk.specs.Desk.{counting, happening, in_64_bits}
 use Rattle.play_desk.specs.Staff.{shelf_at}

@@ -205,9 +205,11 @@ held_elsewhere n k from zero (o ∷ held) t h = at_first o h
         → (Some (Some u) ≡ Some (Some t)) × (shelf_for n (from + zero) t.target ≢ k)
     unless true u test e = absurd (cc)
     unless false u test e =
-        let same : u ≡ t = same_Some u t (same_Some (Some u) (Some t) e) in
-        (e, subst (λ (x : Ticket). shelf_for n (from + zero) x.target ≢ k) same
-        (subst (λ m. shelf_for n m u.target ≢ k) (let is : from ≡ from + zero = omega arith in is) (λ is. not_same (shelf_for n from u.target) k test is)))
+        let same : u ≡ t = same_Some u t (same_Some (Some u) (Some t) e) in (
+          e,
+          subst (λ (x : Ticket). shelf_for n (from + zero) x.target ≢ k) same
+              (subst (λ m. shelf_for n m u.target ≢ k) (let is : from ≡ from + zero = omega arith in is) (λ is. not_same (shelf_for n from u.target) k test is)),
+        )
 
     at_first : (o : Option Ticket) → slice_get (without_shelf n k from (o ∷ held)) zero ≡ Some (Some t)
         → (slice_get (o ∷ held) zero ≡ Some (Some t)) × (shelf_for n (from + zero) t.target ≢ k)

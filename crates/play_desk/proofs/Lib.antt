@@ -14,3 +14,4 @@ pub mod Reopening
 pub mod Removing
 pub mod Outage
 pub mod Closing
+pub mod Beginning

@@ -1,9 +1,8 @@
 -- A crash of one of the shelves.
-use Rattle.std.proofs.Common.{◌≡◌, ◌≢◌, ◌∙◌, ap, sym, subst, refl, ⊎_elim, ℕ, ◌+◌, ◌<◌, ◌≤◌, Bool, true, false, List, length, replicate, slice_get, slice_set, Some, None, Option, option_map, map, Result, Ok, Err, arith}
+use Rattle.std.proofs.Common.{◌≡◌, ◌≢◌, ◌∙◌, ap, sym, subst, ⊎_elim, ℕ, ◌<◌, ◌≤◌, Bool, true, List, length, replicate, slice_get, slice_set, Some, None, Option, option_map, map, arith}
 use Rattle.std.proofs.lemmas.Bool.{cases_eq}
 use Rattle.std.proofs.lemmas.List.{length-map, map-set}
 use Rattle.play_desk.proofs.Stepping.{crashes, is_event, shelf_there}
-use Rattle.std.specs.Prelude.{sum_by}
 use Rattle.web_outside.specs.Causes.{Rose}
 use Rattle.web_outside.specs.declared.nonces.Counting.{Counting}
 use Rattle.web_disk.specs.View.{View, RackView}

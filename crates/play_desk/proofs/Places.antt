@@ -1,6 +1,5 @@
 -- Places of lists that are read and written.
 use Rattle.std.proofs.Common.{◌≡◌, ◌≢◌, ◌⊎◌, inl, inr, ap, sym, refl, ℕ, ◌<◌, ◌==◌, ◌++◌, ◌∙◌, true, false, zero, suc, List, [], ◌∷◌, length, replicate, slice_get, slice_set, slice_index_or, Some, None, arith}
-
 use Rattle.std.proofs.lemmas.Bool.{eq-eqb}
 
 pub get_set : {A : Type 0} (xs : List A) (i : ℕ) (x : A) → i < length xs → slice_get (slice_set xs i x) i ≡ Some x

@@ -1,8 +1,7 @@
 -- Lists without what stood in a place.
-use Rattle.std.proofs.Common.{◌≡◌, ◌≢◌, ◌∙◌, ap, sym, refl, ℕ, ◌+◌, ◌<◌, zero, suc, List, [], ◌∷◌, ◌++◌, length, map, take, drop, slice_get, slice_set, Some, None, arith}
+use Rattle.std.proofs.Common.{◌≡◌, ◌≢◌, ◌∙◌, ap, refl, ℕ, ◌+◌, ◌<◌, zero, suc, List, [], ◌∷◌, ◌++◌, length, map, take, drop, slice_get, slice_set, Some, None, arith}
 use Rattle.std.specs.Prelude.{insert, sum_by}
 use Rattle.std.proofs.lemmas.List.Sums.{sum_by-cons}
-use Rattle.play_desk.proofs.Places.{same_Some}
 
 -- a list without what stands in this place
 abbrev pub out_of : {A : Type 0} → List A → (place : ℕ) → List A

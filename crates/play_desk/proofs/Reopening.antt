@@ -1,22 +1,20 @@
 -- What a shelf is that is opened again on what a crash left.
-use Rattle.std.proofs.Common.{◌≡◌, ◌⊎◌, ⊎_elim, ◌∙◌, ap, sym, subst, refl, ℕ, ◌+◌, List, Result, Ok, Err, IfOk, IsTrue, arith}
+use Rattle.std.proofs.Common.{◌≡◌, ◌⊎◌, ⊎_elim, refl, ℕ, List, Result, Ok, Err, IfOk, arith}
 use Rattle.std.specs.Prelude.{IsErrOf}
 use Rattle.web_outside.specs.Causes.{Rose}
 use Rattle.web_outside.specs.declared.nonces.Counting.{Counting}
 use Rattle.web_disk.specs.View.{View, AreAmong}
 use Rattle.script_nodes.specs.Setup.{Named}
 use Rattle.replay_spec.specs.Book.{Book}
-use Rattle.journal_books.specs.Making.{Making, made, damaged, other, book_in_bytes}
-use Rattle.journal_books.specs.Standing.{IsBook, MakesIn, Stands, if_kept}
+use Rattle.journal_books.specs.Making.{Making, damaged, other, book_in_bytes}
+use Rattle.journal_books.specs.Standing.{IsBook, Stands, if_kept}
 use Rattle.journal_books.specs.Laws.{ImagesMakeBooks}
 use Rattle.shelf.specs.Views.{book_in, rules_of}
 use Rattle.shelf.specs.Opening.{AReopenedShelfHasCrashed}
 use Rattle.shelf.specs.declared.shelf.Shelf.{Shelf}
 use Rattle.play_steps.specs.declared.stage.Reopen.{Reopen}
 use Rattle.play_steps.specs.declared.stage.Reopen.TheVariants as reopen
-use Rattle.play_desk.specs.Opening.{CountRose, CountStays, Finds, HasCrashed, IsOutside, cause_of}
-use Rattle.play_desk.specs.Staff.{total}
-use Rattle.play_desk.specs.declared.opening.OpenCause.{OpenCause}
+use Rattle.play_desk.specs.Opening.{CountRose, CountStays, Finds, HasCrashed, cause_of}
 use Rattle.play_desk.specs.declared.opening.OpenCause.TheVariants as cause
 
 pub reopened_ok : {D : Type 0} (view : D → View) → AReopenedShelfHasCrashed view → (scripts : List Named) (old : Shelf D Counting)

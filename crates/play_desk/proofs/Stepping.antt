@@ -1,5 +1,5 @@
 -- What the calls of a shelf are as steps of a desk.
-use Rattle.std.proofs.Common.{◌≡◌, ◌∙◌, ap, sym, subst, refl, ℕ, ◌<◌, ◌==◌, ◌^◌, zero, suc, List, [], ◌∷◌, length, map, slice_get, slice_set, Bool, true, false, Option, Some, None, option_map, Result, Ok, Err, arith}
+use Rattle.std.proofs.Common.{◌≡◌, ◌∙◌, ap, sym, subst, refl, ℕ, ◌<◌, ◌==◌, ◌^◌, List, length, map, slice_get, slice_set, Bool, true, false, Option, Some, None, option_map, Result, Ok, Err, arith}
 use Rattle.std.specs.Prelude.{is_some, IfSome}
 use Rattle.std.proofs.lemmas.List.{length-map, map-set}
 use Rattle.std.proofs.lemmas.Option.{slice_get-map}
@@ -193,4 +193,3 @@ admit_drawn b (page name n) = refl
 pub was_admitted : (b c : Book) (d : Destination) (n k : ℕ) → IfSome (spec.no_take b d) (λ x. spec.taken n k ≡ x) → c ≡ draw b → refusal_of (admit c d) ≡ None
 was_admitted b c d n k h drawn =
     ap (λ (x : Book). refusal_of (admit x d)) drawn ∙ (ap refusal_of (admit_drawn b d) ∙ none_stands b.down (b.drawn == 2 ^ 62) (refusal_of (admit b d)) n k h)
-

@@ -176,7 +176,6 @@ step_follows (get worker target) d fates =
 step_follows (tick time) d fates =
     again d (swept desk_rules time (length d.shelves) 0 d fates) (λ l. swept ledger_rules time (length d.shelves) 0 l fates)
     (λ l. swept ledger_rules time l.count 0 l fates) (swept_follows time (length d.shelves) 0 d fates) (λ later before. refl)
-
 step_follows (crash shelf) d fates =
     after_call d (desk_crash d shelf) (λ l. ledger_crash l shelf) fates (λ live. went desk_rules (Reopened shelf live ∷ []))
     (λ live. went ledger_rules (Reopened shelf live ∷ [])) (crash_enters d shelf) (λ live. told_follows (Reopened shelf live ∷ []))

@@ -1,17 +1,15 @@
 -- How shelves are opened on the disks of a rack, and closed.
-use Rattle.std.specs.Prelude.{⊤, ◌≡◌, ◌≢◌, ◌⊎◌, ◌≤◌, ◌<◌, ◌+◌, ◌-◌, ◌^◌, ℕ, min, Bool, true, false, List, [], length, slice_get, Some, Result, Ok, Err}
+use Rattle.std.specs.Prelude.{⊤, ◌≡◌, ◌≢◌, ◌⊎◌, ◌≤◌, ◌<◌, ◌+◌, ℕ, Bool, true, false, IsTrue, List, [], ◌∷◌, ◌++◌, slice_get, Some, Result, Ok, Err}
 use Rattle.web_outside.specs.Causes.{Rose}
 use Rattle.web_outside.specs.declared.nonces.Counting.{Counting}
 use Rattle.web_disk.specs.View.{View, RackView, AreAmong}
 use Rattle.script_nodes.specs.Setup.{Named}
 use Rattle.script_nodes.specs.declared.setup.Setup.{Setup}
-use Rattle.replay_spec.specs.Book.{Book}
 use Rattle.replay_spec.specs.Rules as runs
 use Rattle.replay_spec.specs.Rules.{empty_book}
 use Rattle.replay_spec.specs.Runs as runs_spec
 use Rattle.replay_spec.specs.Runs.{empty_shelf}
 use Rattle.replay_spec.specs.Step.{lost, kept}
-use Rattle.journal_records.specs.Records.{IsInGrammar, begin_of}
 use Rattle.journal_books.specs.Making.{damaged, other, book_in_bytes}
 use Rattle.journal_books.specs.Standing.{Between, HoldIn, IsOneOf, if_kept}
 use Rattle.shelf.specs.Views.{book_in, rules_of}
@@ -24,7 +22,7 @@ use Rattle.play_steps.specs.Rules.{Crashes}
 use Rattle.play_steps.specs.declared.stage.Reopen.{Reopen}
 use Rattle.play_steps.specs.declared.stage.Reopen.TheVariants as reopen
 use Rattle.play_desk.specs.Desk.{Desk, desk_rules}
-use Rattle.play_desk.specs.Staff.{desk_of, shelf_at, total}
+use Rattle.play_desk.specs.Staff.{IsServed, desk_of, shelf_at, total}
 use Rattle.play_desk.specs.declared.staff.Staff.{Staff}
 use Rattle.play_desk.specs.declared.opening.OpenCause.{OpenCause}
 use Rattle.play_desk.specs.declared.opening.OpenCause.TheVariants as cause
@@ -107,13 +105,18 @@ abbrev pub disk_faults : {D E : Type 0} → (D → View) → Result D E → ℕ
 disk_faults view (Ok disk) = (view disk).faults
 disk_faults view (Err why) = 0
 
--- a disk is taken without bytes where it may hold none; one that is not empty may hold some
+-- why no empty shelf is opened on a disk that may hold this: one that is not empty may hold some bytes, and an empty one is neither
+-- damaged nor another's
+abbrev pub IsRefusedBy : (holds : List ℕ → Type 0) → OpenCause → Type 0
+IsRefusedBy holds cause.NotEmpty = (image : List ℕ) × holds image × (image ≢ [])
+IsRefusedBy holds (cause.Damaged place) = ⊥
+IsRefusedBy holds (cause.Other place) = ⊥
+IsRefusedBy holds _ = ⊤
+
+-- a disk is taken without bytes where it may hold none
 abbrev pub TakesEmpty : {D : Type 0} → (D → View) → (holds : List ℕ → Type 0) → Result D OpenCause → Type 0
 TakesEmpty view holds (Ok disk) = ((view disk).seen ≡ []) × holds []
-TakesEmpty view holds (Err cause.NotEmpty) = (image : List ℕ) × holds image × (image ≢ [])
-TakesEmpty view holds (Err (cause.Damaged place)) = ⊥
-TakesEmpty view holds (Err (cause.Other place)) = ⊥
-TakesEmpty view holds (Err _) = ⊤
+TakesEmpty view holds (Err why) = IsRefusedBy holds why
 
 -- On a disk without bytes an empty shelf is begun; it is neither damaged nor another's.
 abbrev pub BeginsEmpty : {D : Type 0} → List Named → Rules → Result (Shelf D Counting) Reopen → Type 0
@@ -129,14 +132,24 @@ cause_of (reopen.Damaged place) = cause.Damaged place
 cause_of (reopen.Other place) = cause.Other place
 cause_of reopen.Memory = cause.Memory
 
--- an empty shelf is opened where the disk may hold nothing; where it is not empty it may hold something
+-- an empty shelf is opened where the disk may hold nothing
 abbrev pub OpensEmpty : {D : Type 0} → List Named → Rules → (holds : List ℕ → Type 0) → Result (Shelf D Counting) OpenCause → Type 0
 OpensEmpty scripts rules holds (Ok s) =
     holds [] × (shelf_at scripts s ≡ empty_shelf (rules_of scripts rules) scripts rules.number)
-OpensEmpty scripts rules holds (Err cause.NotEmpty) = (image : List ℕ) × holds image × (image ≢ [])
-OpensEmpty scripts rules holds (Err (cause.Damaged place)) = ⊥
-OpensEmpty scripts rules holds (Err (cause.Other place)) = ⊥
-OpensEmpty scripts rules holds (Err _) = ⊤
+OpensEmpty scripts rules holds (Err why) = IsRefusedBy holds why
+
+-- An empty shelf of these limits was opened, and stands behind the others; its disk is out. Of disks that tell what they hold, its
+-- disk may have held nothing.
+pub record OpensNext {D : Type 0} (view : D → View) (rack_tells tells : Bool) (scripts : List Named) (limits : Rules)
+    (shelves now : List (Shelf D Counting)) (old new : RackView) : Type 0 where
+  pub shelf : Shelf D Counting
+  pub behind : now ≡ shelves ++ shelf ∷ []
+  pub served : IsServed view tells scripts shelf
+  pub rules : shelf.rules ≡ limits
+  pub empty : IsTrue rack_tells → IsTrue tells → OpensEmpty scripts limits (old.holds limits.number) (Ok shelf)
+  pub taken : TakesOne limits.number old new
+  pub later : CountStays old.faults 0 new.faults (view shelf.journal.disk).faults
+  pub rack_later : old.faults ≤ new.faults
 
 -- the one shelf is the other behind the event crash, what was in doubt lost or kept
 abbrev pub HasCrashed : {D : Type 0} → List Named → (old new : Shelf D Counting) → Type 0

@@ -1,13 +1,11 @@
 -- What shelves with their workers stand for, and what holds of them between the steps of a run.
-use Rattle.std.specs.Prelude.{◌≡◌, ◌≢◌, ◌≤◌, ◌-◌, ◌+◌, ◌^◌, ℕ, Bool, true, false, List, map, length, min, sum_by, slice_get, Contains, Option, Some, None, Result, option_map, is_some}
+use Rattle.std.specs.Prelude.{◌≡◌, ◌≢◌, ◌≤◌, ◌-◌, ◌+◌, ◌^◌, ℕ, Bool, true, List, map, length, min, sum_by, slice_get, Contains, Option, Some, None, Result, option_map}
 use Rattle.server_limits.specs.Limits.{most_shelves}
 use Rattle.web_outside.specs.Causes.{Rose}
 use Rattle.web_outside.specs.Counted.{counted}
 use Rattle.web_outside.specs.declared.nonces.Counting.{Counting}
 use Rattle.web_disk.specs.View.{View}
-use Rattle.page_names.specs.Names.{Destination}
 use Rattle.page_names.specs.Views.{target_of}
-use Rattle.page_names.specs.declared.names.Target.{Target}
 use Rattle.script_nodes.specs.Setup.{Named}
 use Rattle.script_nodes.specs.Views.{scripts_of}
 use Rattle.script_nodes.specs.declared.setup.Setup.{Setup}

@@ -1,11 +1,11 @@
-ghost use Rattle.std.specs.Prelude.{◌≡◌, ◌≤◌, ◌<◌, ℕ, [], false, length, IsTrue, IfOk, IfErr, IsErrAnd};
+ghost use Rattle.std.specs.Prelude.{◌≡◌, ◌≤◌, ◌<◌, ℕ, [], false, length, IsTrue, IfOk, IfErr, IsErrAnd, IsErrOf, OnErr, OnOk};
 ghost use Rattle.web_outside.specs.Causes.{Rose};
 ghost use Rattle.script_nodes.specs.Views.{scripts_of};
 ghost use Rattle.journal_records.specs.Records.{IsInGrammar, begin_of};
 ghost use Rattle.shelf.specs.Ranges.{AreInRange};
 ghost use Rattle.play_desk.specs.Desk.{first_desk};
 ghost use Rattle.play_desk.specs.Staff.{HaveOwnNumbers, IsFit, IsHome, desk_of, faults_in, total};
-ghost use Rattle.play_desk.specs.Opening.{AreHome, HoldImages, HoldTheBooks, IsClosedBy, numbered, rules_at};
+ghost use Rattle.play_desk.specs.Opening.{AreHome, CountStays, GivesOne, HoldImages, HoldTheBooks, IsClosedBy, IsRefusedBy, OpensNext, numbered, rules_at};
 
 use crate::desk::Desk;
 use crate::opening::{OpenCause, OpenFault, opened, put_back};
@@ -46,6 +46,39 @@ fn put_all_back<D: Disk, R: Rack<D>>(rack: &mut R, shelves: Vec<Shelf<D, Countin
     shelves.destroy_empty();
 }
 
+// Opens an empty shelf of these limits behind the others. Where none is opened, its disk is in the
+// rack.
+fn open_next<D: Disk, R: Rack<D>>(
+    alloc: Global,
+    setup: &Setup,
+    directory: &str,
+    rack: &mut R,
+    shelves: &mut Vec<Shelf<D, Counting>>,
+    rules: Rules,
+) -> Result<(), OpenCause>
+    requires range { AreInRange rules }
+    requires few { length (scripts_of setup.now) ≤ 256 }
+    requires begins { IsInGrammar (begin_of rules.number (scripts_of setup.now)) }
+    requires home { (R.view rack.old).out rules.number ≡ false }
+    ensures opened { OnOk result (OpensNext D.view R.tells D.tells (scripts_of setup.now) rules
+        shelves.old.items shelves.new.items (R.view rack.old) (R.view rack.new)) }
+    ensures same { OnErr result (shelves.new.items ≡ shelves.old.items) }
+    ensures given { OnErr result (GivesOne rules.number (R.view rack.old) (R.view rack.new)) }
+    ensures why { IsTrue R.tells → IsTrue D.tells →
+        IfErr result (IsRefusedBy ((R.view rack.old).holds rules.number)) }
+    ensures disk { IsErrOf result OpenCause.Disk → Rose (R.view rack.old).faults (R.view rack.new).faults }
+    ensures later { OnErr result (CountStays (R.view rack.old).faults 0 (R.view rack.new).faults 0) }
+{
+    let shelf = opened(alloc, setup, directory, rack, rules)?;
+    match shelves.push(shelf) {
+        Ok(()) => Ok(()),
+        Err(refused) => {
+            put_back(rack, refused.value);
+            Err(OpenCause::Memory)
+        }
+    }
+}
+
 /// Opens empty shelves of the setup, from number 0 on, on the rack's disks of this directory, with
 /// workers that hold nothing. The limits are those of each shelf, but for its number.
 ///
@@ -75,24 +108,15 @@ pub fn open_desk<'s, D: Disk, R: Rack<D>>(
     ensures later { (R.view rack.old).faults ≤ (R.view rack.new).faults }
     ensures later_open { IfOk result (λ d. (R.view rack.old).faults ≤ total (R.view rack.new).faults (faults_in D.view d.staff.shelves.items)) }
 {
-    let count = rules.shelves;
+    // A count is below 2^64, so it does not fall where those of the disks are added.
+    let _count = rack.faults();
     let mut shelves = Vec::new(alloc);
-    for number in 0..count {
-        let cause = match opened(alloc, setup, directory, rack, numbered(rules, number)) {
-            Ok(shelf) => match shelves.push(shelf) {
-                Ok(()) => continue,
-                Err(refused) => {
-                    put_back(rack, refused.value);
-                    OpenCause::Memory
-                }
-            },
-            Err(cause) => cause,
-        };
-        put_all_back(rack, shelves);
-        return Err(OpenFault {
-            shelf: number,
-            why: cause,
-        });
+    for number in 0..rules.shelves {
+        let next = numbered(rules, number);
+        if let Err(why) = open_next(alloc, setup, directory, rack, &mut shelves, next) {
+            put_all_back(rack, shelves);
+            return Err(OpenFault { shelf: number, why });
+        }
     }
     Ok(Desk {
         alloc,

@@ -7,9 +7,9 @@ ghost use Rattle.web_outside.specs.Causes.{Rose};
 ghost use Rattle.play_desk.specs.Opening.{BeginsEmpty, CountRose, CountStays, Finds, GivesOne, HasCrashed, IsOutside, OpensEmpty, OpensOne, TakesEmpty, TakesOrLeaves, cause_of, disk_faults, faults_left, reopen_of};
 ghost use Rattle.play_desk.specs.Staff.{IsServed};
 
+use journal_books::images_make_books;
 use play_steps::Reopen;
 use script_nodes::Setup;
-use journal_books::images_make_books;
 use shelf::{BeginFault, Rules, Shelf, a_reopened_shelf_has_crashed};
 use std::alloc::Global;
 use web_disk::{Disk, Rack, RackFault};
@@ -173,6 +173,7 @@ fn taken_empty<D: Disk, R: Rack<D>>(
     ensures rack { OpensOne number result (R.view rack.old) (R.view rack.new) }
     ensures disk { IsErrOf result OpenCause.Disk → Rose (R.view rack.old).faults (R.view rack.new).faults }
     ensures later { CountStays (R.view rack.old).faults 0 (R.view rack.new).faults (disk_faults D.view result) }
+    ensures rack_later { OnOk result ((R.view rack.old).faults ≤ (R.view rack.new).faults) }
 {
     let mut disk = match taken(alloc, directory, rack, number) {
         Ok(disk) => disk,
@@ -210,6 +211,7 @@ pub fn opened<D: Disk, R: Rack<D>>(
     ensures rack { OpensOne rules.number result (R.view rack.old) (R.view rack.new) }
     ensures disk { IsErrOf result OpenCause.Disk → Rose (R.view rack.old).faults (R.view rack.new).faults }
     ensures later { CountStays (R.view rack.old).faults 0 (R.view rack.new).faults (faults_left D.view result) }
+    ensures rack_later { OnOk result ((R.view rack.old).faults ≤ (R.view rack.new).faults) }
 {
     let disk = taken_empty(alloc, directory, rack, rules.number)?;
     match begun(alloc, setup, rack, disk, Counting::new(), rules) {

@@ -72,12 +72,7 @@ pub fn no_tickets() -> [Option<Ticket>; 16]
 }
 
 // What a worker holds once the tickets of the shelf at this place are lost.
-fn left_of(
-    held: Option<Ticket>,
-    count: usize,
-    place: usize,
-    worker: u32,
-) -> Option<Ticket>
+fn left_of(held: Option<Ticket>, count: usize, place: usize, worker: u32) -> Option<Ticket>
     requires { 0 < count }
     ensures held { option_map ticket_of result ≡ spec.left_of count place worker (option_map ticket_of held) }
     ensures kept { IfSome result (λ t. (held ≡ Some t) × (place_of count worker t ≢ place)) }
@@ -155,12 +150,7 @@ pub fn take<D: Disk>(
 }
 
 /// Runs the visit that the worker's ticket is for, and spends the ticket.
-pub fn publish<D: Disk>(
-    alloc: Global,
-    setup: &Setup,
-    staff: &mut Staff<D>,
-    worker: u32,
-) -> Reply
+pub fn publish<D: Disk>(alloc: Global, setup: &Setup, staff: &mut Staff<D>, worker: u32) -> Reply
     requires worker { worker < 16 }
     requires fit { IsFit D.view D.tells (scripts_of setup.now) staff.old }
     ensures step { PublishesTicket D.view setup.now staff.old worker result staff.new }

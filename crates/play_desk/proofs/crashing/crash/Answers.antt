@@ -1,4 +1,4 @@
-use Rattle.std.proofs.Common.{◌≡◌, ◌<◌, ◌≤◌, ◌∙◌, ap, sym, subst, ℕ, List, Option, Some, length, slice_get, slice_set, map, option_map, Err, arith}
+use Rattle.std.proofs.Common.{◌≡◌, ◌≤◌, ◌∙◌, ap, sym, subst, List, map, option_map, Err}
 use Rattle.web_outside.specs.Causes.{Rose}
 use Rattle.script_nodes.specs.Views.{scripts_of}
 use Rattle.web_outside.specs.declared.nonces.Counting.{Counting}
@@ -13,7 +13,7 @@ use Rattle.play_desk.specs.Desk.{desk_crash, is_fault, without_shelf}
 use Rattle.play_desk.specs.Staff.{AreFit, IsHome, KeepsOthers, desk_with, faults_in, total}
 use Rattle.play_desk.proofs.Places.{at_index}
 use Rattle.play_desk.proofs.Fitting.{fit_crash, number_at}
-use Rattle.play_desk.proofs.Removing.{out_of, put_in, taken_out}
+use Rattle.play_desk.proofs.Removing.{put_in, taken_out}
 use Rattle.play_desk.proofs.Outage.{crash_comes, fit_out, home_out, home_set, rises_out, stays_out, stays_set}
 use Rattle.play_desk.proofs.crashing.crash.Goals as goal
 

@@ -10,9 +10,9 @@ invariant-loop-shelf g l =
     IsPrefix l.shelves.items l.fn.shelves.items
     × IsHome l.shelves.items (g.R.Rack.view l.rack).out
     × (IsTrue g.R.Rack.tells → (k : ℕ) (s : _) → length l.shelves.items ≤ k → slice_get l.fn.shelves.items k ≡ Some s
-        → AreAmong ((g.R.Rack.view l.rack).holds s.rules.number) (g.D.Disk.view s.journal.disk).images)
+    → AreAmong ((g.R.Rack.view l.rack).holds s.rules.number) (g.D.Disk.view s.journal.disk).images)
     × (total (g.R.Rack.view l.fn.rack).faults (faults_in g.D.Disk.view l.fn.shelves.items)
-        ≤ total (g.R.Rack.view l.rack).faults (faults_in g.D.Disk.view l.shelves.items))
+    ≤ total (g.R.Rack.view l.rack).faults (faults_in g.D.Disk.view l.shelves.items))
 
 abbrev pub decreases-loop-shelf : goal.decreases-loop-shelf
 decreases-loop-shelf g l = length l.shelves.items

@@ -1,4 +1,4 @@
-use Rattle.std.proofs.Common.{◌≡◌, ◌∙◌, ℕ, List, Result, subst, sym, ap}
+use Rattle.std.proofs.Common.{subst}
 use Rattle.script_nodes.specs.Views.{scripts_of}
 use Rattle.web_disk.specs.View.{AreAmong}
 use Rattle.shelf.specs.Views.{book_in}

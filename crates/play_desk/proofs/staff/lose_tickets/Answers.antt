@@ -1,4 +1,4 @@
-use Rattle.std.proofs.Common.{◌≡◌, ◌≢◌, ◌+◌, ◌∙◌, List, Option, Some, None, subst, sym, slice_get, slice_set, arith, length, IfSome}
+use Rattle.std.proofs.Common.{◌≡◌, ◌≢◌, ◌+◌, ◌∙◌, List, Option, Some, subst, sym, slice_set, arith, IfSome}
 use Rattle.instance_book.specs.declared.ticket.Ticket.{Ticket}
 use Rattle.play_desk.specs.Staff.{place_of}
 use Rattle.play_desk.proofs.Losing.{Loses, none_lost, one_lost, all_lost}

@@ -1,4 +1,3 @@
-use Rattle.std.proofs.Common.{◌≡◌, Some, slice_get, refl, arith}
 use Rattle.script_nodes.specs.Views.{scripts_of}
 use Rattle.shelf.specs.Views.{fate_by, swept_of}
 use Rattle.play_desk.proofs.Places.{at_index}

@@ -1,4 +1,4 @@
-use Rattle.std.proofs.Common.{◌≡◌, ◌<◌, ◌≤◌, ◌+◌, ◌%◌, ◌^◌, ◌∙◌, ap, sym, subst, refl, ℕ, List, Ok, Err, Some, None, Option, true, length, map, option_map, slice_get, slice_set, arith}
+use Rattle.std.proofs.Common.{◌≡◌, ◌<◌, ◌≤◌, ◌+◌, ◌%◌, ◌^◌, ◌∙◌, ap, sym, subst, refl, ℕ, List, Ok, Err, Some, None, true, length, slice_set, arith}
 use Rattle.script_value.specs.Val.{Val}
 use Rattle.script_value.specs.Views.{meaning}
 use Rattle.script_value.specs.declared.outcome.Reply.{Reply}
@@ -12,17 +12,15 @@ use Rattle.replay_spec.specs.Admission.{admit, refusal_of}
 use Rattle.replay_spec.specs.Next as next
 use Rattle.replay_spec.specs.Step.{take, taken, disk_failed, plain, no_memory, step}
 use Rattle.replay_spec.specs.Step as spec
-use Rattle.replay_spec.specs.Runs as runs
 use Rattle.instance_book.specs.Views.{ticket_of, reply_of}
-use Rattle.instance_book.specs.declared.ticket.Ticket.{Ticket}
 use Rattle.shelf.specs.declared.shelf.Shelf.{Shelf}
 use Rattle.shelf.specs.Views.{book_in, fate_by}
 use Rattle.play_steps.specs.Rules.{Comes}
 use Rattle.web_disk.specs.View.{View}
 use Rattle.page_journal.specs.declared.journal.Journal.{Journal}
 use Rattle.play_desk.specs.Target.{answer_to, path_and_query, shelf_for}
-use Rattle.play_desk.specs.Desk.{desk_take, happening, is_fault}
-use Rattle.play_desk.specs.Staff.{RoseBeside, desk_with, faults_in, place_of, shelf_at}
+use Rattle.play_desk.specs.Desk.{desk_take, is_fault}
+use Rattle.play_desk.specs.Staff.{RoseBeside, desk_with, faults_in, shelf_at}
 use Rattle.play_desk.proofs.Counting.{faults_later}
 use Rattle.play_desk.proofs.Fitting.{fit_same, fit_take, numbers_set}
 use Rattle.play_desk.proofs.Happening.{Happens, happens, take_no_fault, took}

@@ -1,0 +1,226 @@
+-- What stands there while empty shelves are opened, one behind the other.
+use Rattle.std.proofs.Common.{◌≡◌, ◌≢◌, ◌∙◌, ⊎_elim, ap, sym, subst, refl, ℕ, ◌+◌, ◌^◌, ◌<◌, ◌≤◌, zero, suc, Bool, true, false, List, [], ◌∷◌, ◌++◌, length, length-append, map, replicate, slice_get, Option, Some, None, arith}
+use Rattle.std.specs.Prelude.{IsTrue}
+use Rattle.std.proofs.lemmas.List.{length-map, map-append}
+use Rattle.std.proofs.lemmas.List.Sums.{sum_by-append, sum_by-cons}
+use Rattle.std.proofs.lemmas.Option.{slice_get_within}
+use mathlib.Core.Logic.{dite}
+use native.Mathlib.Decide.{ℕ_discrete}
+use Rattle.web_outside.specs.declared.nonces.Counting.{Counting}
+use Rattle.web_disk.specs.View.{View, RackView, AreAmong}
+use Rattle.script_nodes.specs.Setup.{Named}
+use Rattle.replay_spec.specs.Runs as runs
+use Rattle.instance_book.specs.declared.ticket.Ticket.{Ticket}
+use Rattle.shelf.specs.declared.rules.Rules.{Rules}
+use Rattle.shelf.specs.declared.shelf.Shelf.{Shelf}
+use Rattle.play_desk.specs.Desk.{Desk, first_desk, first_shelves}
+use Rattle.play_desk.specs.Opening.{AreHome, CountStays, GivesOne, IsClosedBy, IsRefusedBy, OpensNext, numbered, rules_at}
+use Rattle.play_desk.specs.Staff.{AreFit, HaveOwnNumbers, IsHome, IsServed, desk_with, faults_in, numbers_in, shelf_at, total}
+use Rattle.play_desk.specs.declared.opening.OpenCause.{OpenCause}
+use Rattle.play_desk.specs.declared.opening.OpenCause.TheVariants as cause
+use Rattle.play_desk.proofs.Places.{in_push, none_there, same_Some}
+use Rattle.play_desk.proofs.Closing.{at_last, in_front}
+
+-- Of a rack that was first so, these are the shelves of the numbers below this one, all empty; no disk beyond them was touched.
+pub record AreOpened {D : Type 0} (view : D → View) (rack_tells tells : Bool) (scripts : List Named) (rules : Rules) (first : RackView)
+    (count : ℕ) (xs : List (Shelf D Counting)) (now : RackView) : Type 0 where
+  pub size : length xs ≡ count
+  pub numbers : (k n : ℕ) → slice_get (numbers_in xs) k ≡ Some n → n ≡ k
+  pub served : (k : ℕ) (x : Shelf D Counting) → slice_get xs k ≡ Some x → IsServed view tells scripts x
+  pub home : IsHome xs now.out
+  pub rest : (n : ℕ) → count ≤ n → AreAmong (now.holds n) (first.holds n)
+  pub empty : IsTrue rack_tells → IsTrue tells → (k : ℕ) → k < count → first.holds k []
+  pub shelves : IsTrue rack_tells → IsTrue tells → map (shelf_at scripts) xs ≡ first_shelves (rules_at scripts rules) scripts count
+  pub later : first.faults ≤ total now.faults (faults_in view xs)
+  pub rack_later : first.faults ≤ now.faults
+
+-- at first there is none
+pub opened_none : {D : Type 0} (view : D → View) (rack_tells tells : Bool) (scripts : List Named) (rules : Rules) (first : RackView)
+    → AreHome first.out → first.faults < 2 ^ 64 → AreOpened view rack_tells tells scripts rules first 0 [] first
+opened_none view rack_tells tells scripts rules first home few = record {
+  size = refl;
+  numbers = λ k n e. absurd (let no : None ≡ Some n = e in cc);
+  served = λ k x e. absurd (let no : None ≡ Some x = e in cc);
+  home = record {
+    ours = λ k n e. absurd (let no : None ≡ Some n = e in cc);
+    only = λ n out. absurd (let no : true ≡ false = sym out ∙ home n in cc);
+  };
+  rest = λ n le image h. h;
+  empty = λ rack_told told k lt. absurd (omega arith);
+  shelves = λ rack_told told. refl;
+  later = omega (arith, few);
+  rack_later = omega arith;
+}
+
+-- what stands in a list with one more stands at the place before the last, or last
+last_place : {A : Type 0} (xs : List A) (x : A) (k : ℕ) (u : A) → slice_get (xs ++ x ∷ []) k ≡ Some u → k ≢ length xs → slice_get xs k ≡ Some u
+last_place [] x zero u e other = absurd (other refl)
+last_place [] x (suc k) u e other = absurd (let no : None ≡ Some u = e in cc)
+last_place (y ∷ xs) x zero u e other = e
+last_place (y ∷ xs) x (suc k) u e other = last_place xs x k u e (λ is. other (ap suc is))
+
+module _ {D : Type 0} (view : D → View) (rack_tells tells : Bool) (scripts : List Named) (rules : Rules) (first : RackView) (count : ℕ)
+    (xs : List (Shelf D Counting)) (now : RackView) where
+  -- a number of one of them is below
+  below : AreOpened view rack_tells tells scripts rules first count xs now → (k n : ℕ) → slice_get (numbers_in xs) k ≡ Some n → n < count
+  below o k n e =
+      let within = slice_get_within (numbers_in xs) k n e in
+      omega (arith, within, length-map xs (λ s. s.rules.number), o.size, o.numbers k n e)
+
+  pub own_opened : AreOpened view rack_tells tells scripts rules first count xs now → HaveOwnNumbers xs
+  own_opened o j k n a b = sym (o.numbers j n a) ∙ o.numbers k n b
+
+  -- the next disk is at home
+  pub next_home : AreOpened view rack_tells tells scripts rules first count xs now → now.out count ≡ false
+  next_home o = by_out (now.out count) refl
+    where
+      by_out : (b : Bool) → now.out count ≡ b → now.out count ≡ false
+      by_out false e = e
+      by_out true e = absurd (let there = o.home.only count e in let low = below o there.0 count there.1 in omega (arith, low))
+
+  -- and stays so where it was given back
+  pub still_home : (next : RackView) → AreOpened view rack_tells tells scripts rules first count xs now → GivesOne count now next → IsHome xs next.out
+  still_home next o given = record {
+    ours = λ k n e. (let low = below o k n e in given.others_out n (λ is. omega (arith, low, is)) ∙ o.home.ours k n e);
+    only = λ n out.
+        let other : n ≢ count = λ is. (let no : true ≡ false = sym out ∙ ap next.out is ∙ given.home in let never : ⊥ = cc in never) in
+        o.home.only n (sym (given.others_out n other) ∙ out);
+  }
+
+  -- why the next was not opened
+  pub closed_by : (limit : ℕ) (why : OpenCause) → AreOpened view rack_tells tells scripts rules first count xs now → count < limit
+      → IsTrue rack_tells → IsTrue tells → IsRefusedBy (now.holds count) why → IsClosedBy first.holds limit count why
+  closed_by limit cause.NotEmpty o low rack_told told h = (
+    low,
+    record {
+      before = o.empty rack_told told;
+      image = h.0;
+      held = o.rest count (omega arith) h.0 h.1;
+      some = h.2;
+    },
+  )
+  closed_by limit (cause.Damaged place) o low rack_told told h = h
+  closed_by limit (cause.Other place) o low rack_told told h = h
+  closed_by limit cause.Disk o low rack_told told h = low
+  closed_by limit cause.Memory o low rack_told told h = low
+
+  -- then the count did not fall
+  pub later_closed : (mid new : ℕ) → AreOpened view rack_tells tells scripts rules first count xs now → CountStays now.faults 0 mid 0
+      → total mid (faults_in view xs) ≤ new → first.faults ≤ new
+  later_closed mid new o stays le = (let beside = stays (faults_in view xs) in omega (arith, o.later, beside, le))
+
+  -- with the next there is one more
+  pub opened_more : (ys : List (Shelf D Counting)) (next : RackView) → AreOpened view rack_tells tells scripts rules first count xs now
+      → OpensNext view rack_tells tells scripts (numbered rules count) xs ys now next
+      → AreOpened view rack_tells tells scripts rules first (count + 1) ys next
+  opened_more ys next o h =
+      subst (λ n. AreOpened view rack_tells tells scripts rules first n ys next) one
+      (subst (λ (zs : List (Shelf D Counting)). AreOpened view rack_tells tells scripts rules first (suc count) zs next) (sym h.behind) more)
+    where
+      one : suc count ≡ count + 1
+      one = omega arith
+
+      x : Shelf D Counting
+      x = h.shelf
+
+      number : x.rules.number ≡ count
+      number = ap (λ (r : Rules). r.number) h.rules
+
+      numbers_are : numbers_in (xs ++ x ∷ []) ≡ numbers_in xs ++ x.rules.number ∷ []
+      numbers_are = map-append (λ s. s.rules.number) xs (x ∷ [])
+
+      numbers_size : length (numbers_in xs) ≡ count
+      numbers_size = length-map xs (λ s. s.rules.number) ∙ o.size
+
+      at_end : slice_get (numbers_in (xs ++ x ∷ [])) count ≡ Some x.rules.number
+      at_end =
+          subst (λ (ns : List ℕ). slice_get ns count ≡ Some x.rules.number) (sym numbers_are)
+          (subst (λ n. slice_get (numbers_in xs ++ x.rules.number ∷ []) n ≡ Some x.rules.number) numbers_size (at_last (numbers_in xs) x.rules.number))
+
+      -- a number is one of before, or the last
+      number_is : (k n : ℕ) → slice_get (numbers_in (xs ++ x ∷ [])) k ≡ Some n → k ≢ count → slice_get (numbers_in xs) k ≡ Some n
+      number_is k n e other =
+          last_place (numbers_in xs) x.rules.number k n (subst (λ (ns : List ℕ). slice_get ns k ≡ Some n) numbers_are e) (λ is. other (is ∙ numbers_size))
+
+      last_is : (k n : ℕ) → slice_get (numbers_in (xs ++ x ∷ [])) k ≡ Some n → k ≡ count → n ≡ count
+      last_is k n e is = same_Some n x.rules.number (sym e ∙ ap (slice_get (numbers_in (xs ++ x ∷ []))) is ∙ at_end) ∙ number
+
+      before : (k n : ℕ) → slice_get (numbers_in xs) k ≡ Some n → slice_get (numbers_in (xs ++ x ∷ [])) k ≡ Some n
+      before k n e =
+          subst (λ (ns : List ℕ). slice_get ns k ≡ Some n) (sym numbers_are) (in_front (numbers_in xs) (x.rules.number ∷ []) k n e)
+
+      all_numbers : (k n : ℕ) → slice_get (numbers_in (xs ++ x ∷ [])) k ≡ Some n → n ≡ k
+      all_numbers k n e =
+          dite (ℕ_discrete k count) (λ is. last_is k n e is ∙ sym is) (λ other. o.numbers k n (number_is k n e other))
+
+      taken_home : IsHome (xs ++ x ∷ []) next.out
+      taken_home = record {
+        ours = λ k n e.
+            dite (ℕ_discrete n count) (λ is. ap next.out is ∙ h.taken.out)
+            (λ other. h.taken.others_out n other ∙ o.home.ours k n (number_is k n e (λ is. other (all_numbers k n e ∙ is))));
+        only = λ n out.
+            dite (ℕ_discrete n count) (λ is. (count, at_end ∙ ap Some (number ∙ sym is)))
+            (λ other. (let was = o.home.only n (sym (h.taken.others_out n other) ∙ out) in (was.0, before was.0 n was.1)));
+      }
+
+      untouched : (n : ℕ) → suc count ≤ n → AreAmong (next.holds n) (first.holds n)
+      untouched n le image held = o.rest n (omega arith) image (h.taken.others n (λ is. omega (arith, is, le)) image held)
+
+      were_empty : IsTrue rack_tells → IsTrue tells → (k : ℕ) → k < suc count → first.holds k []
+      were_empty rack_told told k lt =
+          dite (ℕ_discrete k count)
+          (λ is. subst (λ n. first.holds n []) (sym is) (o.rest count (omega arith) [] (h.empty rack_told told).0))
+          (λ other. o.empty rack_told told k (omega arith))
+
+      are_first : IsTrue rack_tells → IsTrue tells → map (shelf_at scripts) (xs ++ x ∷ []) ≡ first_shelves (rules_at scripts rules) scripts (suc count)
+      are_first rack_told told =
+          map-append (shelf_at scripts) xs (x ∷ [])
+          ∙ ap (λ (ss : List runs.Shelf). ss ++ shelf_at scripts x ∷ []) (o.shelves rack_told told)
+          ∙ ap (λ (s : runs.Shelf). first_shelves (rules_at scripts rules) scripts count ++ s ∷ []) (h.empty rack_told told).1
+
+      sum_is : faults_in view (xs ++ x ∷ []) ≡ faults_in view xs + (view x.journal.disk).faults
+      sum_is =
+          let parts = sum_by-append (λ (s : Shelf D Counting). (view s.journal.disk).faults) xs (x ∷ []) in
+          let last = sum_by-cons (λ (s : Shelf D Counting). (view s.journal.disk).faults) x [] in
+          omega (arith, parts, last)
+
+      all_later : first.faults ≤ total next.faults (faults_in view (xs ++ x ∷ []))
+      all_later = (let beside = h.later (faults_in view xs) in omega (arith, o.later, beside, sum_is))
+
+      more : AreOpened view rack_tells tells scripts rules first (suc count) (xs ++ x ∷ []) next
+      more = record {
+        size = length-append xs (x ∷ []) ∙ omega (arith, o.size);
+        numbers = all_numbers;
+        served = λ k z e. ⊎_elim (λ was. o.served k z was) (λ is. subst (λ (s : Shelf D Counting). IsServed view tells scripts s) is h.served) (in_push xs x k z e);
+        home = taken_home;
+        rest = untouched;
+        empty = were_empty;
+        shelves = are_first;
+        later = all_later;
+        rack_later = omega (arith, o.rack_later, h.rack_later);
+      }
+
+-- where nobody holds a ticket they are fit, and the first desk
+pub fit_opened : {D : Type 0} (view : D → View) (rack_tells tells : Bool) (scripts : List Named) (rules : Rules) (first : RackView) (count : ℕ)
+    (xs : List (Shelf D Counting)) (now : RackView) (ts : List (Option Ticket)) → AreOpened view rack_tells tells scripts rules first count xs now → count ≤ 16
+    → ts ≡ replicate 16 None → AreFit view tells scripts xs ts
+fit_opened view rack_tells tells scripts rules first count xs now ts o few none =
+    let nobody : (w : ℕ) (t : Ticket) → slice_get ts w ≡ Some (Some t) → ⊥ =
+    λ w t h. none_there 16 w t (subst (λ (vs : List (Option Ticket)). slice_get vs w ≡ Some (Some t)) none h) in
+    record {
+      served = o.served;
+      numbers = own_opened view rack_tells tells scripts rules first count xs now o;
+      few = omega (arith, o.size, few);
+      count = ap length none;
+      are_open = λ w t h. absurd (nobody w t h);
+      apart = λ v w t u hv hw at same. absurd (nobody v t hv);
+    }
+
+pub desk_opened : {D : Type 0} (view : D → View) (rack_tells tells : Bool) (scripts : List Named) (rules : Rules) (first : RackView) (count : ℕ)
+    (xs : List (Shelf D Counting)) (now : RackView) (ts : List (Option Ticket)) → AreOpened view rack_tells tells scripts rules first count xs now
+    → IsTrue rack_tells → IsTrue tells → ts ≡ replicate 16 None → desk_with scripts xs ts ≡ first_desk (rules_at scripts rules) scripts count
+desk_opened view rack_tells tells scripts rules first count xs now ts o rack_told told none =
+    ap (λ (vs : List (Option Ticket)). desk_with scripts xs vs) none ∙ ap made (o.shelves rack_told told)
+  where
+    made : List runs.Shelf → Desk
+    made ss = record { scripts = scripts; shelves = ss; held = replicate 16 None }

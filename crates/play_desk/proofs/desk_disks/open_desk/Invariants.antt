@@ -1,0 +1,8 @@
+use Rattle.script_nodes.specs.Views.{scripts_of}
+use Rattle.play_desk.proofs.Beginning.{AreOpened}
+use Rattle.play_desk.proofs.desk_disks.open_desk.Given as goal
+
+abbrev pub invariant-loop-number : goal.invariant-loop-number
+invariant-loop-number g l =
+    AreOpened g.D.Disk.view g.R.Rack.tells g.D.Disk.tells (scripts_of l.fn.setup) l.fn.rules (g.R.Rack.view l.fn.rack) l.number l.shelves.items
+    (g.R.Rack.view l.rack)
