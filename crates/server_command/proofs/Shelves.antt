@@ -4,7 +4,9 @@ use Rattle.std.specs.Prelude.{slice_get, slice_set, slice_index_or}
 use Rattle.std.proofs.lemmas.List.{length-set, length-append}
 use Rattle.std.proofs.lemmas.Option.{slice_get_within}
 use Rattle.web_disk.specs.View.{View, RackView, AreAmong}
+use Rattle.script_value.specs.Val.{Val}
 use Rattle.script_value.specs.declared.outcome.Reply.{Reply}
+use Rattle.page_names.specs.Names.{Destination}
 use Rattle.script_nodes.specs.Setup.{Named}
 use Rattle.replay_spec.specs.Book.{Book}
 use Rattle.replay_spec.specs.Rules.{Rules}
@@ -12,7 +14,7 @@ use Rattle.journal_books.specs.Standing.{Stands}
 use Rattle.shelf.specs.declared.shelf.Shelf.{Shelf}
 use Rattle.shelf.specs.Views.{book_in, IsInOrder}
 use Rattle.server_command.specs.Racks.{StandsAt, first_unfit, unfit_left}
-use Rattle.server_command.specs.Serial.{AreInOrder, AreSwept, IsDone, IsSwept}
+use Rattle.server_command.specs.Serial.{AreInOrder, AreSwept, IsDone, IsSwept, Visited, VisitsOne, shelf_at, there}
 use Rattle.server_command.specs.Serving.{AllStand, AreOpened, IsOpened}
 use Rattle.server_command.specs.Opening.{AreOut}
 use Rattle.server_command.proofs.Racks.{made_fits}
@@ -117,6 +119,30 @@ order_set {D = D} {N = N} view tells scripts shelves k old new here are is rules
     | inr h ↦ are.numbers j x h.1
   ];
 }
+
+-- there is one at each place of a list
+one_at : {A : Type 0} (xs : List A) (k : ℕ) → k < length xs → (x : A) × (slice_get xs k ≡ Some x)
+one_at [] k low = absurd (omega (arith, low))
+one_at (z ∷ xs) zero low = (z, refl)
+one_at (z ∷ xs) (suc k) low = one_at xs k (omega (arith, low))
+
+-- the shelf of a destination was visited
+pub visits_there : {D N : Type 0} (scripts : List Named) (nonce : N → ℕ → ℕ) (sources : List N) (old : List (Shelf D N)) (d : Destination) (answer : Val) (reply : Reply)
+    (k : ℕ) (before after : Shelf D N) → k ≡ shelf_at d → length old ≡ length sources → slice_get old k ≡ Some before
+    → ((source : ℕ → ℕ) → IsDone scripts nonce source before after (λ given s t. Visited given s d answer reply t))
+    → VisitsOne scripts nonce sources old d answer reply (slice_set old k after)
+visits_there scripts nonce sources old d answer reply k before after is count here done =
+    let low : k < length old = slice_get_within old k before here in
+    let own = one_at sources (shelf_at d) (omega (arith, low, is, count)) in
+    there (record {
+      source = own.0;
+      before = before;
+      after = after;
+      drawn = own.1;
+      here = subst (λ j. slice_get old j ≡ Some before) is here;
+      done = done (nonce own.0);
+      there = ap (λ j. slice_set old j after) is;
+    })
 
 -- ---- swept
 

@@ -5,9 +5,12 @@ use Rattle.web_outside.specs.Causes.{Rose}
 use Rattle.script_nodes.specs.Views.{scripts_of}
 use Rattle.journal_records.specs.Records.{IsInGrammar, begin_of}
 use Rattle.server_command.specs.Opening.{IsRefused, IsRefusedAt, TakesBack, seen_on}
+use Rattle.shelf.specs.Views.{rules_of}
 use Rattle.server_command.specs.Output.{rules_for}
-use Rattle.server_command.proofs.Beginning.{BegunUpTo, begun_all, begun_none, begun_refused}
+use Rattle.server_command.specs.Serving.{IsOpened}
+use Rattle.server_command.proofs.Beginning.{BegunUpTo, begun_all, begun_more, begun_none, begun_refused}
 use Rattle.server_command.proofs.Openings.{back_all}
+use Rattle.server_command.proofs.Shelves.{at_index}
 use Rattle.server_command.proofs.opening.begin_all.Goals as goal
 
 pub beginning-init : goal.beginning-init
@@ -23,6 +26,37 @@ beginning-init g c =
       begun = subst (BegunUpTo g.D.Disk.view g.D.Disk.tells told g.N.Nonces.nonce (λ k. rules_for c.args.options.now k scripts) scripts c.args.disks.items c.args.sources.now 0 c.args.disks.items)
           (sym c.in-Ok.ensures.items)
           (begun_none g.D.Disk.view g.D.Disk.tells told g.N.Nonces.nonce (λ k. rules_for c.args.options.now k scripts) scripts c.args.disks.items c.args.sources.now);
+    }
+
+pub beginning-preserved : goal.beginning-preserved
+beginning-preserved g c =
+    let l = c.beginning in
+    let view = g.D.Disk.view in
+    let nonce = g.N.Nonces.nonce in
+    let options = c.args.options.now in
+    let scripts = scripts_of c.args.setup.now in
+    let told = IsTrue (g.R.Rack.tells && g.D.Disk.tells) in
+    let disk = c.in-Some.disk in
+    let source = c.source-item.result in
+    let s = c.in-Ok-begin_one.shelf in
+    let low : l.source-index < length c.args.sources.now = omega arith in
+    let here = at_index c.args.sources.now l.source-index source low c.source-item.is in
+    let p = subst (λ ds. BegunUpTo view g.D.Disk.tells told nonce (λ k. rules_for options k scripts) scripts c.args.disks.items c.args.sources.now l.source-index ds l.shelves.items)
+    c.in-Some.ensures.items l.invariant.begun in
+    let opened = subst (λ n. IsOpened told nonce (rules_for options n scripts) scripts n (view disk).seen source s) l.invariant.number
+    (subst (λ r. IsOpened told nonce r scripts l.number (view disk).seen source s) (c.rules_of.ensures.rules scripts)
+    (subst (λ n. IsOpened told nonce (rules_of scripts c.rules_of.result) scripts n (view disk).seen source s) c.rules_of.ensures.number c.in-Ok-begin_one.ensures.opened)) in
+    let number : s.rules.number ≡ l.source-index = ap (λ r. r.number) c.in-Ok-begin_one.ensures.rules ∙ (c.rules_of.ensures.number ∙ l.invariant.number) in
+    record {
+      number = omega (arith, l.invariant.number);
+      rack = c.in-Ok-begin_one.ensures.same ∙ l.invariant.rack;
+      room = omega (arith, l.invariant.room, c.push_reserved.ensures.capacity);
+      size = omega (arith, c.push_reserved.ensures.len, l.invariant.size);
+      left = omega (arith, l.invariant.left, c.in-Some.ensures.len);
+      begun = subst (BegunUpTo view g.D.Disk.tells told nonce (λ k. rules_for options k scripts) scripts c.args.disks.items c.args.sources.now (l.source-index + 1) c.pop_front.new.self.items)
+          (sym c.push_reserved.ensures.items)
+          (begun_more view g.D.Disk.tells told nonce (λ k. rules_for options k scripts) scripts c.args.disks.items c.args.sources.now l.source-index c.pop_front.new.self.items
+          l.shelves.items disk source s p here opened c.in-Ok-begin_one.ensures.in_order number);
     }
 
 pub begin_one-requires-clause-begins : goal.begin_one-requires-clause-begins
