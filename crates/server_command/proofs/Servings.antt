@@ -1,5 +1,5 @@
 -- What a serving came to, by what its calls say.
-use Rattle.std.proofs.Common.{◌≡◌, ◌≤◌, ◌<◌, ◌^◌, ◌∷◌, ◌∙◌, [], inl, inr, ap, subst, sym, ℕ, List, length, slice_set, Option, Some, None, IfSome, IsTrue, Result, Ok, refl, arith}
+use Rattle.std.proofs.Common.{◌≡◌, ◌≤◌, ◌<◌, ◌^◌, ◌∷◌, ◌∙◌, [], inl, inr, ap, subst, sym, ℕ, List, length, slice_set, Option, Some, None, IfSome, IsTrue, Result, Ok, refl, arith, codes}
 use Rattle.std.specs.Prelude.{All, Err, Vec, slice_index_or}
 use Rattle.std.specs.declared.alloc.Global.{Global}
 use Rattle.web_outside.specs.Doors.{GiveLists, HaveNone, counts_with}
@@ -146,10 +146,16 @@ tells_fault_line line e old new before after same p = subst (λ l. AppendsUnless
 -- a fault of a setup is all that is told
 pub fault_left : (serves : Serves) (v : Service) (bytes : List ℕ) (fault : Fault) (s : Status) (out : Sinks) (door seeds : Faults) → setup_of Input bytes ≡ Err fault
     → TellsFaultLine fault s out → serves.unopened → (chances : Chances) × LeavesInput serves v bytes chances s out door seeds
-fault_left serves v bytes fault status.Setup out door seeds is told none =
-    (no_chances, (subst (λ r. Answers (served r no_chances) 3 out) (sym is) (refl, tells out.held out.held out.holds [] (fault_line fault) out.before out.after (appends_none out.held) told), none))
-fault_left serves v bytes fault status.Memory out door seeds is told none = (no_chances, (told, inl none))
-fault_left serves v bytes fault s out door seeds is told none = absurd told
+fault_left serves v bytes fault status.Setup out door seeds is line none =
+    (no_chances, (subst (λ r. Answers (served r no_chances) 3 out) (sym is) (refl, tells out.held out.held out.holds [] (fault_line fault) out.before out.after (appends_none out.held) line), none))
+fault_left serves v bytes fault status.Memory out door seeds is line none = (no_chances, (line, inl none))
+fault_left serves v bytes fault s out door seeds is line none = absurd line
+
+-- memory ran out before a setup was served
+pub memory_left : (serves : Serves) (v : Service) (bytes : List ℕ) (s : Status) (out : Sinks) (door seeds : Faults) → s ≡ status.Memory
+    → PrintsTo out (codes "error 10 memory\n") → serves.unopened → (chances : Chances) × LeavesInput serves v bytes chances s out door seeds
+memory_left serves v bytes s out door seeds is line none =
+    subst (λ (x : Status). (chances : Chances) × LeavesInput serves v bytes chances x out door seeds) (sym is) (no_chances, (line, inl none))
 
 same_line : (a b : List ℕ) → Some a ≡ Some b → a ≡ b
 same_line a b e = cc
