@@ -105,15 +105,7 @@ fn serve_links<D: Disk, A: Door, C: Clock, N: Nonces + Drop, G: Gate>(
 /// Serves a setup: links of the door, each with one request, until as many came as the service says, or no more come. The
 /// shelves go on with what the journals of their disks make. An error is that of the seeds, of a shelf that was not opened, of
 /// the door or its porch, or want of memory.
-pub fn serve<
-    D: Disk,
-    R: Rack<D>,
-    A: Door,
-    C: Clock,
-    N: Nonces + Drop,
-    S: Seeds<N>,
-    G: Gate,
->(
+pub fn serve<D: Disk, R: Rack<D>, A: Door, C: Clock, N: Nonces + Drop, S: Seeds<N>, G: Gate>(
     alloc: Global,
     service: &Service,
     setup: &Setup,

@@ -21,9 +21,11 @@ returns-clause-served g c =
     (g.A.Door.view c.serve_links-outcome.new.door) (g.S.Seeds.view c.args.seeds.now) in
     let p = subst (λ ss. OpensOn g.D.Disk.view g.D.Disk.tells (IsTrue (g.R.Rack.tells && g.D.Disk.tells)) g.N.Nonces.nonce (λ k. rules_for c.args.service.now.options k scripts)
     scripts ss before middle c.in-Ok.shelves.items) c.deref.ensures.value c.in-Ok.ensures.opened in
-    let many : length sources ≡ vec_len last = sym (last.ok.0 ∙ c.serve_links-outcome.ensures.own.count) in
-    (p.images, serves_of o c.args.service.now scripts sources middle c.in-Ok.shelves last c.serve_links-outcome.result c.in_ok-sources.ensures.count
-    c.in_ok-sources.ensures.drawn p (λ t. c.close_all.ensures.stand t (subst (AreOut middle) many p.taken.out)) c.serve_links-outcome.ensures.served)
+    let many : length sources ≡ vec_len last = sym (last.ok.0 ∙ c.serve_links-outcome.ensures.own.count) in (
+      p.images,
+      serves_of o c.args.service.now scripts sources middle c.in-Ok.shelves last c.serve_links-outcome.result c.in_ok-sources.ensures.count
+          c.in_ok-sources.ensures.drawn p (λ t. c.close_all.ensures.stand t (subst (AreOut middle) many p.taken.out)) c.serve_links-outcome.ensures.served,
+    )
 
 pub returns-clause-home : goal.returns-clause-home
 returns-clause-home g c =
