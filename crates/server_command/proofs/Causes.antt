@@ -25,7 +25,7 @@ use Rattle.server_command.specs.declared.program.Status.{Status}
 use Rattle.server_command.specs.declared.program.Status.TheVariants as status
 use Rattle.server_command.specs.Racks.{Racks}
 use Rattle.server_command.specs.Output.{Chances, nothing}
-use Rattle.server_command.specs.Command.{Met, ReadToEnd, HasDone, HasServed, Leaves, Outputs, Comes, ComesServing, CameServing, ComesTo, Came, Refuses, Explains, Explained, IsUnread, asked_unless, asked_in, unread_line, unread_status}
+use Rattle.server_command.specs.Command.{Met, Prints, Untouched, ReadToEnd, HasDone, HasServed, Leaves, Outputs, Comes, ComesServing, CameServing, ComesTo, Came, Refuses, Explains, Explained, IsUnread, asked_unless, asked_in, unread_line, unread_status}
 use Rattle.server_command.specs.Serving.{Serves, RackFailed, LeavesInput}
 use Rattle.server_command.proofs.Endings.{whole_input, always, tells, no_chances}
 
@@ -160,3 +160,7 @@ refuted serves met asked chances is (inr h) = never_usage serves h.0 chances met
 
 pub understood : (serves : Serves) (s : Status) (met : Met) (asked : Command) → asked_in met.words ≡ Some asked → Explained serves s met → s ≢ status.Usage
 understood serves s met asked is h e = refuted serves met asked h.0 is (subst (λ x. Explains serves x h.0 met) e h.1)
+
+-- memory ran out as the words were read
+pub unworded : (serves : Serves) (s : Status) (met : Met) → s ≡ status.Memory → Prints met (codes "error 10 memory\n") → Untouched met → Explained serves s met
+unworded serves s met is line same = subst (λ (x : Status). Explained serves x met) (sym is) (no_chances, inl (line, same))

@@ -56,9 +56,10 @@ is_short asked met bytes chances e is read =
 due_long : (asked : Command) (met : Met) (bytes : List ℕ) (chances : Chances) → asked_in met.words ≡ Some asked → 16777216 < length bytes → IsDue 11 met bytes chances
 due_long asked met bytes chances is long =
     let test : nat_le (length bytes) 16777216 ≡ false = lt-leb (length bytes) 16777216 long in
+    let none : reached_by (asked_in met.words) bytes ≡ None = ap (λ a. reached_by a bytes) is ∙ rw test refl in
     record {
       same = sym (ap (λ a. due_to a bytes chances) is ∙ rw test refl);
-      taken = subst (λ (r : Option (Command × Parsed)). TakesDisks met.rack r chances.disks) (sym (ap (λ a. reached_by a bytes) is ∙ rw test refl)) tt;
+      taken = subst (λ (r : Option (Command × Parsed)). TakesDisks met.rack r chances.disks) (sym none) tt;
     }
 
 gives_due : (asked : Command) (met : Met) (bytes : List ℕ) (chances : Chances) (n : ℕ) → met.input ≡ Some bytes → asked_in met.words ≡ Some asked

@@ -9,3 +9,4 @@ pub mod Shelves
 pub mod Beginning
 pub mod Short
 pub mod Opened
+pub mod Runs

@@ -7,7 +7,9 @@ use Rattle.replay_spec.specs.Rules.{Rules}
 use Rattle.journal_records.specs.Records.{IsInGrammar, begin_of}
 use Rattle.shelf.specs.declared.begin.BeginFault.{BeginFault}
 use Rattle.shelf.specs.declared.begin.BeginFault.TheVariants as fault
+use Rattle.shelf.specs.declared.rules.Rules.{Rules as Limits}
 use Rattle.shelf.specs.declared.shelf.Shelf.{Shelf}
+use Rattle.command_words.specs.declared.Options.{Options}
 use Rattle.server_command.specs.declared.opening.Unopened.{Unopened}
 use Rattle.server_command.specs.declared.opening.Unopened.TheVariants as unopened
 use Rattle.server_command.specs.Racks.{AreHeld, KeepsHome, damaged, other, first_unfit, unfit_left}
@@ -29,6 +31,14 @@ AreOut rack count = (k : ℕ) → k < count → rack.out k ≡ true
 -- the record that a journal begins with can be written, of so many shelves
 abbrev pub CanBegin : (count : ℕ) → List Named → Type 0
 CanBegin count scripts = (k : ℕ) → k < count → IsInGrammar (begin_of k scripts)
+
+-- a shelf's limits are those that were asked for
+pub record AreAsked (o : Options) (r : Limits) : Type 0 where
+  pub shelves : r.shelves ≡ o.shelves
+  pub fuel : r.fuel ≡ o.fuel
+  pub life : r.life ≡ o.life
+  pub instances : r.instances ≡ o.instances
+  pub pages : r.pages ≡ o.pages
 
 -- disks came home, and none went; and no count fell
 pub record TakesBack (before after : RackView) (first count : ℕ) : Type 0 where

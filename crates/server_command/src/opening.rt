@@ -11,7 +11,7 @@ ghost use Rattle.server_command.specs.Output.{rules_for};
 ghost use Rattle.server_command.specs.Racks.{KeepsHome};
 ghost use Rattle.server_command.specs.Serial.{AreInOrder};
 ghost use Rattle.server_command.specs.Serving.{AllStand, IsOpened};
-ghost use Rattle.server_command.specs.Opening.{AreOut, CanBegin, HasOpened, HasTaken, IsRefused, IsRefusedAt, IsUntaken, OpensOn, RefusesOn, TakesBack, seen_on, unopened_by};
+ghost use Rattle.server_command.specs.Opening.{AreAsked, AreOut, CanBegin, HasOpened, HasTaken, IsRefused, IsRefusedAt, IsUntaken, OpensOn, RefusesOn, TakesBack, seen_on, unopened_by};
 
 use command_words::Options;
 use script_nodes::Setup;
@@ -65,6 +65,7 @@ pub fn rules_of(options: &Options, number: u32) -> Rules
     ensures in_range { ranges.AreInRange result }
     ensures number { result.number ≡ number }
     ensures rules { (scripts : List Named) → rules_of scripts result ≡ rules_for options.now number scripts }
+    ensures asked { AreAsked options.now result }
 {
     Rules {
         number,

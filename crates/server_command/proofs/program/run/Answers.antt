@@ -1,8 +1,12 @@
 use Rattle.std.proofs.Common.{◌≡◌, [], Ok, Err, inl, inr, refl, rules}
 use Rattle.command_words.specs.declared.Command.TheVariants.{Check, Play, Serve}
 use Rattle.command_words.specs.declared.WordsFault.TheVariants.{Usage}
-use Rattle.server_command.specs.Command.{texts}
-use Rattle.server_command.proofs.Causes.{asks_if, asks_nothing, plain_asks}
+use Rattle.server_command.specs.Command.{met_of, texts}
+use Rattle.std.specs.Prelude.{◌&&◌}
+use Rattle.server_command.specs.Racks.{racks_of}
+use Rattle.server_command.specs.Output.{sinks_of}
+use Rattle.server_command.specs.Serving.{faults_of, outside, serves_over, views}
+use Rattle.server_command.proofs.Causes.{asks_if, asks_nothing, plain_asks, unworded}
 use Rattle.server_command.proofs.Endings.{no_chances}
 use Rattle.server_command.proofs.program.run.Goals as goal
 
@@ -43,3 +47,13 @@ returns-in-Err-Usage-clause-plain g c = λ asked p. plain_asks _ asked p
 
 pub returns-in-Err-Memory-clause-plain : goal.returns-in-Err-Memory-clause-plain
 returns-in-Err-Memory-clause-plain g c = λ asked p. plain_asks _ asked p
+
+pub returns-in-Err-Memory-clause-explained : goal.returns-in-Err-Memory-clause-explained
+returns-in-Err-Memory-clause-explained g c =
+    let rack = racks_of (g.R.Rack.tells && g.D.Disk.tells) (g.R.Rack.view c.args.rack.now) (g.R.Rack.view c.args.rack.now) in
+    let met = met_of (texts c.args.words.now) (g.I.Source.view c.args.input.now) (g.I.Source.view c.args.input.now)
+    (sinks_of (g.O.Sink.view c.args.output.now) (g.O.Sink.view c.no_memory.new.output)) rack
+    (faults_of (g.A.Door.view c.args.door.now).faults (g.A.Door.view c.args.door.now).faults) (faults_of (g.S.Seeds.view c.args.seeds.now).faults (g.S.Seeds.view c.args.seeds.now).faults) in
+    let o = outside (views g.D.Disk.view g.D.Disk.tells g.A.Porch.Link.Link.view g.A.Porch.Porch.view g.N.Nonces.nonce (g.C.Clock.shows c.args.clock.now)) rack
+    (g.A.Door.view c.args.door.now) (g.A.Door.view c.args.door.now) (g.S.Seeds.view c.args.seeds.now) in
+    unworded (serves_over o) c.no_memory.result met c.no_memory.ensures.status c.no_memory.ensures.line (refl, refl)

@@ -1,4 +1,4 @@
-use Rattle.std.proofs.Common.{rules, ◌≡◌, Err, Ok, inl, refl}
+use Rattle.std.proofs.Common.{rules, ◌≡◌, Err, Ok, refl}
 use Rattle.setup_reader.specs.declared.setup.Ending.TheVariants.{Input}
 use Rattle.setup_reader.specs.Setup.{setup_of}
 use Rattle.setup_reader.specs.Views.{fault_of, parsed_of}
@@ -6,8 +6,7 @@ use Rattle.std.specs.Prelude.{◌&&◌}
 use Rattle.server_command.specs.Racks.{racks_of}
 use Rattle.server_command.specs.Output.{sinks_of}
 use Rattle.server_command.specs.Serving.{faults_of, outside, serves_over, views}
-use Rattle.server_command.proofs.Endings.{no_chances}
-use Rattle.server_command.proofs.Servings.{fault_left, input_served}
+use Rattle.server_command.proofs.Servings.{fault_left, input_served, memory_left}
 use Rattle.server_command.proofs.program.serve_input.Goals as goal
 
 pub returns-in-Err-At-clause-outputs : goal.returns-in-Err-At-clause-outputs
@@ -31,5 +30,10 @@ returns-in-Ok-clause-outputs g c =
 
 pub returns-in-Err-Memory-clause-outputs : goal.returns-in-Err-Memory-clause-outputs
 returns-in-Err-Memory-clause-outputs g c =
-    let left = (c.no_memory.ensures.line, inl refl) in
-    (no_chances, rw c.no_memory.ensures.status left)
+    let door = g.A.Door.view c.args.door.now in
+    let seeds = g.S.Seeds.view c.args.seeds.now in
+    let rack = racks_of (g.R.Rack.tells && g.D.Disk.tells) (g.R.Rack.view c.args.rack.now) (g.R.Rack.view c.args.rack.now) in
+    let o = outside (views g.D.Disk.view g.D.Disk.tells g.A.Porch.Link.Link.view g.A.Porch.Porch.view g.N.Nonces.nonce (g.C.Clock.shows c.args.clock.now)) rack door door seeds in
+    memory_left (serves_over o) c.args.service.now c.args.input.now c.no_memory.result
+    (sinks_of (g.O.Sink.view c.args.output.now) (g.O.Sink.view c.no_memory.new.output)) (faults_of door.faults door.faults) (faults_of seeds.faults seeds.faults)
+    c.no_memory.ensures.status c.no_memory.ensures.line refl

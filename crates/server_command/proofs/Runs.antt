@@ -1,0 +1,77 @@
+-- What a run of steps on a desk leaves, by what its opening, its steps and its closing tell.
+use Rattle.std.proofs.Common.{◌≡◌, ◌<◌, ◌⊎◌, ◌∙◌, inl, inr, ℕ, List, [], length, Option, Some, ap, subst, sym}
+use Rattle.command_words.specs.declared.Options.{Options}
+use Rattle.journal_records.specs.Records.{journal_rules}
+use Rattle.script_nodes.specs.Setup.{Named}
+use Rattle.shelf.specs.declared.rules.Rules.{Rules}
+use Rattle.play_steps.specs.Step.{Step}
+use Rattle.play_steps.specs.Transcript.{End}
+use Rattle.play_steps.specs.Played as played
+use Rattle.play_steps.specs.Played.{Halts, Leaves, Plays, Scene}
+use Rattle.play_steps.specs.declared.run.PlayEnd.TheVariants.{Reopen as Lost_at}
+use Rattle.play_steps.specs.declared.stage.Reopen.{Reopen}
+use Rattle.play_steps.specs.declared.stage.Reopen.TheVariants as reopen
+use Rattle.play_desk.specs.Desk.{Desk, desk_rules, first_desk}
+use Rattle.play_desk.specs.Opening.{HoldTheBooks, rules_at}
+use Rattle.server_command.specs.Opening.{AreAsked}
+use Rattle.server_command.specs.Output.{desk_for}
+use Rattle.server_command.specs.Racks.{Racks}
+use Rattle.server_command.proofs.Playing.{Begins, Halted, Lost, Ran}
+
+-- the desk of these limits
+abbrev desk_by : List Named → (shelves fuel life instances pages : ℕ) → Desk
+desk_by scripts shelves fuel life instances pages =
+    first_desk (λ k. record { fuel = fuel; life = life; instances = instances; pages = pages; journal = Some (journal_rules k scripts) }) scripts shelves
+
+desk_asked : (o : Options) (scripts : List Named) (r : Rules) → AreAsked o r → first_desk (rules_at scripts r) scripts r.shelves ≡ desk_for o scripts
+desk_asked o scripts r a =
+    ap (λ n. desk_by scripts n r.fuel r.life r.instances r.pages) a.shelves
+    ∙ (ap (λ n. desk_by scripts o.shelves n r.life r.instances r.pages) a.fuel
+    ∙ (ap (λ n. desk_by scripts o.shelves o.fuel n r.instances r.pages) a.life
+    ∙ (ap (λ n. desk_by scripts o.shelves o.fuel o.life n r.pages) a.instances
+    ∙ ap (λ n. desk_by scripts o.shelves o.fuel o.life o.instances n) a.pages)))
+
+-- a desk that was opened is the first of a run
+pub begins : (rack : Racks) (o : Options) (scripts : List Named) (r : Rules) (d : Desk) → AreAsked o r → d ≡ first_desk (rules_at scripts r) scripts r.shelves
+    → ((k : ℕ) → k < r.shelves → rack.before.holds k []) → Begins rack o scripts d
+begins rack o scripts r d a is empty = record {
+  first = is ∙ desk_asked o scripts r a;
+  empty = subst (λ n. (k : ℕ) → k < n → rack.before.holds k []) a.shelves empty;
+}
+
+pub ran : (rack : Racks) (o : Options) (scripts : List Named) (steps : List (Option Step)) (end : End) (old mid : Option (List ℕ)) (first last : Desk) (before after : ℕ)
+    → Begins rack o scripts first → Plays desk_rules steps end (played.scene desk_rules old first before) (played.scene desk_rules mid last after)
+    → HoldTheBooks last rack.after.holds → Ran rack o scripts steps end old mid
+ran rack o scripts steps end old mid first last before after b p left =
+    record { first = first; last = last; begins = b; before = before; after = after; plays = p; left = left }
+
+pub halted : (rack : Racks) (o : Options) (scripts : List Named) (steps : List (Option Step)) (old mid : Option (List ℕ)) (first last : Desk) (before after : ℕ)
+    → Begins rack o scripts first
+    → ((shown : List ℕ) × (h : Halts desk_rules steps shown (played.scene desk_rules old first before) (played.scene desk_rules mid last after)) × (0 < length h.hidden))
+    → (shown : List ℕ) × (p : Halted rack o scripts steps shown old mid) × (0 < length p.halts.hidden)
+halted rack o scripts steps old mid first last before after b (shown, h, some) =
+    (shown, record { first = first; last = last; begins = b; before = before; after = after; halts = h }, some)
+
+pub lost : (rack : Racks) (o : Options) (scripts : List Named) (steps : List (Option Step)) (shelf : ℕ) (old mid : Option (List ℕ)) (first last : Desk) (before after : ℕ)
+    → Begins rack o scripts first → played.Loses desk_rules steps shelf (played.scene desk_rules old first before) (played.scene desk_rules mid last after)
+    → Lost rack o scripts steps shelf old mid
+lost rack o scripts steps shelf old mid first last before after b p =
+    record { first = first; last = last; begins = b; before = before; after = after; loses = p }
+
+pub paused : (rack : Racks) (o : Options) (scripts : List Named) (steps : List (Option Step)) (old mid : Option (List ℕ)) (first last : Desk) (before after : ℕ)
+    → Begins rack o scripts first
+    → Halts desk_rules steps [] (played.scene desk_rules old first before) (played.scene desk_rules mid last after)
+    ⊎ ((shelf : ℕ) × played.Loses desk_rules steps shelf (played.scene desk_rules old first before) (played.scene desk_rules mid last after))
+    → Halted rack o scripts steps [] old mid ⊎ ((shelf : ℕ) × Lost rack o scripts steps shelf old mid)
+paused rack o scripts steps old mid first last before after b (inl h) =
+    inl (record { first = first; last = last; begins = b; before = before; after = after; halts = h })
+paused rack o scripts steps old mid first last before after b (inr (shelf, p)) =
+    inr (shelf, lost rack o scripts steps shelf old mid first last before after b p)
+
+-- a shelf was not opened again, for whatever cause
+pub loses : (steps : List (Option Step)) (shelf : ℕ) (why : Reopen) (before after : Scene desk_rules) → Leaves desk_rules steps (Lost_at shelf why) before after
+    → played.Loses desk_rules steps shelf before after
+loses steps shelf reopen.Disk before after p = p
+loses steps shelf (reopen.Damaged place) before after p = p
+loses steps shelf (reopen.Other place) before after p = p
+loses steps shelf reopen.Memory before after p = absurd p

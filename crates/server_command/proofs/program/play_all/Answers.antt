@@ -1,0 +1,117 @@
+use Rattle.std.proofs.Common.{◌≡◌, ℕ, ap, refl, subst, arith}
+use Rattle.std.specs.Prelude.{◌&&◌, IsTrue}
+use Rattle.script_nodes.specs.Views.{scripts_of}
+use Rattle.play_steps.specs.Step.{steps_of}
+use Rattle.play_steps.specs.Transcript.{bad_line, done}
+use Rattle.play_steps.specs.declared.run.PlayEnd.TheVariants.{Reopen}
+use Rattle.play_steps.specs.declared.stage.Reopen.TheVariants as reopen
+use Rattle.play_desk.specs.Opening.{IsClosedBy}
+use Rattle.server_command.specs.Output.{sinks_of}
+use Rattle.server_command.specs.Racks.{racks_of}
+use Rattle.server_command.specs.Telling.{TellsUnopened}
+use Rattle.server_command.proofs.Opened.{again_outputs, first_outputs, tells_crashes}
+use Rattle.server_command.proofs.Openings.{both_tell}
+use Rattle.server_command.proofs.Playing.{done_outputs, line_outputs, memory_outputs, write_outputs}
+use Rattle.server_command.proofs.Runs.{begins, halted, lost, loses, paused, ran}
+use Rattle.server_command.proofs.program.play_all.Goals as goal
+
+pub returns-in-Err-clause-outputs : goal.returns-in-Err-clause-outputs
+returns-in-Err-clause-outputs g c = λ bytes h.
+    let o = c.args.options.now in
+    let tells = g.R.Rack.tells && g.D.Disk.tells in
+    let rack = racks_of tells (g.R.Rack.view c.args.rack.now) (g.R.Rack.view c.open_desk.new.rack) in
+    let fault = c.in-Err.fault in
+    let old = g.O.Sink.view c.args.output.now in
+    let new = g.O.Sink.view c.tell_unopened.new.output in
+    first_outputs rack o bytes (record { scripts = scripts_of c.args.setup.now; steps = c.args.steps.now }) fault.shelf fault.why c.tell_unopened.result
+    old.written new.written old.faults new.faults h
+    (λ t. let b = both_tell g.R.Rack.tells g.D.Disk.tells t in
+    subst (λ n. IsClosedBy rack.before.holds n fault.shelf fault.why) c.rules_of-rules.ensures.asked.shelves (c.in-Err.ensures.closed b.0 b.1))
+    c.in-Err.ensures.disk
+    (subst (λ why. TellsUnopened why c.tell_unopened.result (sinks_of old new)) c.unopened_first.ensures c.tell_unopened.ensures.tells)
+
+pub returns-in-Done-clause-outputs : goal.returns-in-Done-clause-outputs
+returns-in-Done-clause-outputs g c = λ bytes h.
+    let o = c.args.options.now in
+    let scripts = scripts_of c.args.setup.now in
+    let tells = g.R.Rack.tells && g.D.Disk.tells in
+    let rack = racks_of tells (g.R.Rack.view c.args.rack.now) (g.R.Rack.view c.close.new.rack) in
+    let old = g.O.Sink.view c.args.output.now in
+    let mid = g.O.Sink.view c.play-end.new.sink in
+    let new = g.O.Sink.view c.hand_on.new.output in
+    done_outputs rack o bytes (record { scripts = scripts; steps = c.args.steps.now }) c.hand_on.result old.written mid.written new.written old.faults mid.faults new.faults h
+    (λ t. let b = both_tell g.R.Rack.tells g.D.Disk.tells t in
+    ran rack o scripts (steps_of c.args.steps.now) done old.written mid.written _ _ _ _
+    (begins rack o scripts c.rules_of-rules.result _ c.rules_of-rules.ensures.asked (c.in-Ok.ensures.desk b.0 b.1) (c.in-Ok.ensures.empty b.0 b.1))
+    (c.in-Done.ensures.ended (tells_crashes tells (steps_of c.args.steps.now) t)) (c.close.ensures.books b.0 b.1))
+    c.hand_on.ensures.same c.play-end.ensures.later c.hand_on.ensures.status
+
+pub returns-in-Line-clause-outputs : goal.returns-in-Line-clause-outputs
+returns-in-Line-clause-outputs g c = λ bytes h.
+    let o = c.args.options.now in
+    let scripts = scripts_of c.args.setup.now in
+    let tells = g.R.Rack.tells && g.D.Disk.tells in
+    let rack = racks_of tells (g.R.Rack.view c.args.rack.now) (g.R.Rack.view c.close.new.rack) in
+    let old = g.O.Sink.view c.args.output.now in
+    let mid = g.O.Sink.view c.play-end.new.sink in
+    let new = g.O.Sink.view c.tell_line.new.output in
+    line_outputs rack o bytes (record { scripts = scripts; steps = c.args.steps.now }) c.in-Line.number c.tell_line.result old.written mid.written new.written old.faults mid.faults new.faults h
+    (λ t. let b = both_tell g.R.Rack.tells g.D.Disk.tells t in
+    ran rack o scripts (steps_of c.args.steps.now) (bad_line c.in-Line.number) old.written mid.written _ _ _ _
+    (begins rack o scripts c.rules_of-rules.result _ c.rules_of-rules.ensures.asked (c.in-Ok.ensures.desk b.0 b.1) (c.in-Ok.ensures.empty b.0 b.1))
+    (c.in-Line.ensures.ended (tells_crashes tells (steps_of c.args.steps.now) t)) (c.close.ensures.books b.0 b.1))
+    c.play-end.ensures.later c.tell_line.ensures.tells
+
+pub returns-in-Write-clause-outputs : goal.returns-in-Write-clause-outputs
+returns-in-Write-clause-outputs g c = λ bytes h.
+    let o = c.args.options.now in
+    let scripts = scripts_of c.args.setup.now in
+    let tells = g.R.Rack.tells && g.D.Disk.tells in
+    let rack = racks_of tells (g.R.Rack.view c.args.rack.now) (g.R.Rack.view c.close.new.rack) in
+    let old = g.O.Sink.view c.args.output.now in
+    let mid = g.O.Sink.view c.play-end.new.sink in
+    write_outputs rack o bytes (record { scripts = scripts; steps = c.args.steps.now }) old.written mid.written old.faults mid.faults h
+    (λ t. let b = both_tell g.R.Rack.tells g.D.Disk.tells t in
+    halted rack o scripts (steps_of c.args.steps.now) old.written mid.written _ _ _ _
+    (begins rack o scripts c.rules_of-rules.result _ c.rules_of-rules.ensures.asked (c.in-Ok.ensures.desk b.0 b.1) (c.in-Ok.ensures.empty b.0 b.1))
+    (c.in-Write.ensures.ended (tells_crashes tells (steps_of c.args.steps.now) t)))
+    (c.in-Write.ensures.write refl)
+
+pub returns-in-Memory-clause-outputs : goal.returns-in-Memory-clause-outputs
+returns-in-Memory-clause-outputs g c = λ bytes h.
+    let o = c.args.options.now in
+    let scripts = scripts_of c.args.setup.now in
+    let tells = g.R.Rack.tells && g.D.Disk.tells in
+    let rack = racks_of tells (g.R.Rack.view c.args.rack.now) (g.R.Rack.view c.close.new.rack) in
+    let old = g.O.Sink.view c.args.output.now in
+    let mid = g.O.Sink.view c.play-end.new.sink in
+    let new = g.O.Sink.view c.no_memory.new.output in
+    memory_outputs rack o bytes (record { scripts = scripts; steps = c.args.steps.now }) c.no_memory.result old.written mid.written new.written old.faults mid.faults new.faults h
+    (λ t. let b = both_tell g.R.Rack.tells g.D.Disk.tells t in
+    paused rack o scripts (steps_of c.args.steps.now) old.written mid.written _ _ _ _
+    (begins rack o scripts c.rules_of-rules.result _ c.rules_of-rules.ensures.asked (c.in-Ok.ensures.desk b.0 b.1) (c.in-Ok.ensures.empty b.0 b.1))
+    (c.in-Memory.ensures.ended (tells_crashes tells (steps_of c.args.steps.now) t)))
+    c.play-end.ensures.later c.no_memory.ensures.status c.no_memory.ensures.line
+
+pub returns-in-Reopen-clause-outputs : goal.returns-in-Reopen-clause-outputs
+returns-in-Reopen-clause-outputs g c = λ bytes h.
+    let o = c.args.options.now in
+    let scripts = scripts_of c.args.setup.now in
+    let tells = g.R.Rack.tells && g.D.Disk.tells in
+    let rack = racks_of tells (g.R.Rack.view c.args.rack.now) (g.R.Rack.view c.close.new.rack) in
+    let old = g.O.Sink.view c.args.output.now in
+    let mid = g.O.Sink.view c.play-end.new.sink in
+    let new = g.O.Sink.view c.tell_unopened-in-Reopen.new.output in
+    let shelf = c.in-Reopen.shelf in
+    let why = c.in-Reopen.why in
+    again_outputs rack o bytes (record { scripts = scripts; steps = c.args.steps.now }) shelf why c.tell_unopened-in-Reopen.result
+    old.written mid.written new.written old.faults mid.faults new.faults h
+    (λ t. let b = both_tell g.R.Rack.tells g.D.Disk.tells t in
+    lost rack o scripts (steps_of c.args.steps.now) shelf old.written mid.written _ _ _ _
+    (begins rack o scripts c.rules_of-rules.result _ c.rules_of-rules.ensures.asked (c.in-Ok.ensures.desk b.0 b.1) (c.in-Ok.ensures.empty b.0 b.1))
+    (loses (steps_of c.args.steps.now) shelf why _ _ (c.in-Reopen.ensures.ended (tells_crashes tells (steps_of c.args.steps.now) t))))
+    (λ e. let rose = c.in-Reopen.ensures.disk shelf (ap (λ w. Reopen shelf w) e) in omega (arith, rose, c.in-Ok.ensures.later_open, c.close.ensures.later))
+    (λ t place e. c.in-Reopen.ensures.damaged t shelf place (ap (λ w. Reopen shelf w) e))
+    (λ t place e. c.in-Reopen.ensures.other t shelf place (ap (λ w. Reopen shelf w) e))
+    c.play-end.ensures.later
+    (subst (λ x. TellsUnopened x c.tell_unopened-in-Reopen.result (sinks_of mid new)) c.unopened_again.ensures c.tell_unopened-in-Reopen.ensures.tells)
