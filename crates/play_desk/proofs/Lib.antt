@@ -11,3 +11,6 @@ pub mod Stepping
 pub mod Counting
 pub mod Losing
 pub mod Reopening
+pub mod Removing
+pub mod Outage
+pub mod Closing

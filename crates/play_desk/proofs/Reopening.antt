@@ -40,7 +40,7 @@ no_other making place a b h e =
 pub undamaged : {D : Type 0} (view : D → View) → ImagesMakeBooks → (scripts : List Named) (number : ℕ) (disk : D) (b : Book)
     → Stands scripts number (view disk) b → (images : List ℕ → Type 0) → AreAmong images (view disk).images
     → (opened : Result (Shelf D Counting) Reopen) → Finds view scripts number images opened → (place : ℕ) → IsErrOf opened (reopen.Damaged place) → ⊥
-undamaged view law scripts number disk b stands images among (Ok s) found place is = is
+undamaged view law scripts number disk b stands images among (Ok s) found place is = let no : ⊥ = cc in no
 undamaged view law scripts number disk b stands images among (Err (reopen.Damaged at)) found place is =
     no_damage (book_in_bytes scripts number found.0) at b (if_kept scripts number b)
     (law scripts number b (if_kept scripts number b) stands.0 found.0 (stands.1 found.0 (among found.0 found.1))) found.2
@@ -51,7 +51,7 @@ undamaged view law scripts number disk b stands images among (Err reopen.Memory)
 pub none_other : {D : Type 0} (view : D → View) → ImagesMakeBooks → (scripts : List Named) (number : ℕ) (disk : D) (b : Book)
     → Stands scripts number (view disk) b → (images : List ℕ → Type 0) → AreAmong images (view disk).images
     → (opened : Result (Shelf D Counting) Reopen) → Finds view scripts number images opened → (place : ℕ) → IsErrOf opened (reopen.Other place) → ⊥
-none_other view law scripts number disk b stands images among (Ok s) found place is = is
+none_other view law scripts number disk b stands images among (Ok s) found place is = let no : ⊥ = cc in no
 none_other view law scripts number disk b stands images among (Err (reopen.Other at)) found place is =
     no_other (book_in_bytes scripts number found.0) at b (if_kept scripts number b)
     (law scripts number b (if_kept scripts number b) stands.0 found.0 (stands.1 found.0 (among found.0 found.1))) found.2

@@ -7,9 +7,6 @@ use Rattle.play_desk.specs.Opening.{Finds}
 use Rattle.play_desk.proofs.Reopening.{none_other, reopened_ok, undamaged}
 use Rattle.play_desk.proofs.opening.reopened.Goals as goal
 
-pub a_reopened_shelf_has_crashed-requires : goal.a_reopened_shelf_has_crashed-requires
-a_reopened_shelf_has_crashed-requires g c = ?
-
 pub returns-clause-crashed : goal.returns-clause-crashed
 returns-clause-crashed g c rack_tells disk_tells =
     let scripts = scripts_of c.args.setup.now in

@@ -64,9 +64,6 @@ segment_of-segment-requires-clause-fits g c =
     let is = (c.requires.fit.are_open c.args.worker t c.in-Some.ensures.ticket).is_open in
     subst (λ (ss : List Named). IsForSome ss t) (sym is.setup) (some_visit is.then.scripts is.then t (admit is.then (target_of t.target)) is.admitted is.fits)
 
-pub publish-requires-clause-stub : goal.publish-requires-clause-stub
-publish-requires-clause-stub g c = ?
-
 pub publish-requires-clause-in_order : goal.publish-requires-clause-in_order
 publish-requires-clause-in_order g c =
     let s = c.args.staff.now in

@@ -8,9 +8,6 @@ use Rattle.play_desk.proofs.Happening.{happens}
 use Rattle.play_desk.proofs.Counting.{faults_later, faults_rise, told_rise}
 use Rattle.play_desk.proofs.staff.sweep.Goals as goal
 
-pub sweep-requires-clause-stub : goal.sweep-requires-clause-stub
-sweep-requires-clause-stub g c = ?
-
 pub sweep-requires-clause-in_order : goal.sweep-requires-clause-in_order
 sweep-requires-clause-in_order g c =
     let here = at_index c.args.staff.now.shelves.items c.args.place c.index_mut.result.now c.index_mut.result.now c.requires.place c.index_mut.ensures.value in

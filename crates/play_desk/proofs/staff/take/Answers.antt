@@ -93,11 +93,8 @@ returns-in_default-answer_to-clause-step g c =
     (desk_take (desk_with scripts xs s.tickets) c.args.worker c.args.target.now) (desk_with scripts xs s.tickets) (Err outcome.Memory) (desk_with scripts ys s.tickets))
     (same_set xs k x there.1) step
 
-pub take-requires-clause-stub : goal.take-requires-clause-stub
-take-requires-clause-stub g c = ?
-
-pub take-requires-clause-in_order : goal.take-requires-clause-in_order
-take-requires-clause-in_order g c =
+pub take-requires : goal.take-requires
+take-requires g c =
     let s = c.args.staff.now in
     let k = c.shelf_for-place.result in
     let x = c.index_mut-shelf.result.now in

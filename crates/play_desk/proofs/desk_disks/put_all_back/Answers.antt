@@ -1,0 +1,47 @@
+use Rattle.std.proofs.Common.{◌≡◌, ◌≤◌, ◌∷◌, ◌++◌, [], List, length, length-append, subst, ap, arith}
+use mathlib.Core.List.{IsPrefix}
+use Rattle.std.proofs.lemmas.List.{append-nil}
+use Rattle.std.proofs.lemmas.Option.{slice_get_within}
+use Rattle.web_outside.specs.declared.nonces.Counting.{Counting}
+use Rattle.shelf.specs.declared.shelf.Shelf.{Shelf}
+use Rattle.play_desk.specs.Staff.{IsHome, faults_in, total}
+use Rattle.play_desk.proofs.Closing.{at_last, front_less, home_last, images_last, stays_last}
+use Rattle.play_desk.proofs.Fitting.{number_at}
+use Rattle.play_desk.proofs.desk_disks.put_all_back.Goals as goal
+
+pub loop-shelf-init : goal.loop-shelf-init
+loop-shelf-init g c = (
+  ([], append-nil c.args.shelves.items),
+  c.requires.home,
+  λ told k s le e. absurd (let within = slice_get_within c.args.shelves.items k s e in omega (arith, within, le)),
+  omega arith,
+)
+
+pub put_back-requires : goal.put_back-requires
+put_back-requires g c =
+    let xs = c.pop.new.self.items in
+    let home = subst (λ (ys : List (Shelf g.row.D.Denot Counting)). IsHome ys (g.R.Rack.view c.loop-shelf.rack).out) c.in-Some.ensures.items c.loop-shelf.invariant.1 in
+    home.ours (length xs) c.in-Some.shelf.rules.number
+    (number_at (xs ++ c.in-Some.shelf ∷ []) (length xs) c.in-Some.shelf (at_last xs c.in-Some.shelf))
+
+pub loop-shelf-preserved : goal.loop-shelf-preserved
+loop-shelf-preserved g c =
+    let view = g.D.Disk.view in
+    let all = c.args.shelves.items in
+    let xs = c.pop.new.self.items in
+    let x = c.in-Some.shelf in
+    let old = g.R.Rack.view c.loop-shelf.rack in
+    let new = g.R.Rack.view c.put_back.new.rack in
+    let items = c.in-Some.ensures.items in
+    let given = c.put_back.ensures.given in
+    let i = c.loop-shelf.invariant in
+    let front = subst (λ (ys : List (Shelf g.row.D.Denot Counting)). IsPrefix ys all) items i.0 in
+    let home = subst (λ (ys : List (Shelf g.row.D.Denot Counting)). IsHome ys old.out) items i.1 in
+    let sum = subst (λ (ys : List (Shelf g.row.D.Denot Counting)). total (g.R.Rack.view c.args.rack.now).faults (faults_in view all) ≤ total old.faults (faults_in view ys)) items i.3 in
+    let stays = stays_last view xs x old.faults new.faults c.put_back.ensures.later in (
+      front_less xs all x front,
+      home_last xs all x old new front c.requires.numbers home given,
+      λ told. images_last view xs all x old new front c.requires.numbers given (c.put_back.ensures.images told)
+          (λ k s le e. i.2 told k s (let len = ap length items in omega (arith, len, length-append xs (x ∷ []), le)) e),
+      omega (arith, sum, stays),
+    )

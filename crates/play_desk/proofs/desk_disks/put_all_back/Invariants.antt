@@ -1,0 +1,18 @@
+use Rattle.std.proofs.Common.{◌≡◌, ℕ, ◌≤◌, Some, length, slice_get}
+use Rattle.std.specs.Prelude.{IsTrue}
+use mathlib.Core.List.{IsPrefix}
+use Rattle.web_disk.specs.View.{AreAmong}
+use Rattle.play_desk.specs.Staff.{IsHome, faults_in, total}
+use Rattle.play_desk.proofs.desk_disks.put_all_back.Given as goal
+
+abbrev pub invariant-loop-shelf : goal.invariant-loop-shelf
+invariant-loop-shelf g l =
+    IsPrefix l.shelves.items l.fn.shelves.items
+    × IsHome l.shelves.items (g.R.Rack.view l.rack).out
+    × (IsTrue g.R.Rack.tells → (k : ℕ) (s : _) → length l.shelves.items ≤ k → slice_get l.fn.shelves.items k ≡ Some s
+        → AreAmong ((g.R.Rack.view l.rack).holds s.rules.number) (g.D.Disk.view s.journal.disk).images)
+    × (total (g.R.Rack.view l.fn.rack).faults (faults_in g.D.Disk.view l.fn.shelves.items)
+        ≤ total (g.R.Rack.view l.rack).faults (faults_in g.D.Disk.view l.shelves.items))
+
+abbrev pub decreases-loop-shelf : goal.decreases-loop-shelf
+decreases-loop-shelf g l = length l.shelves.items
