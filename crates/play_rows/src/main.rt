@@ -1,8 +1,11 @@
 //! Plays rows: scripts with names, and runs of the command over them. Each row is written back with what the command wrote.
+//! What stands before a run says how its disks are, and which of them are shown behind it.
 #![tactic(auto)]
 
 mod outside;
+mod racks;
 mod rows;
+mod steps;
 mod transcript;
 
 use rows::Rows;

@@ -1,3 +1,4 @@
+use crate::racks::RackPlan;
 use server_command::command;
 use std::alloc::{AllocError, Global};
 use web_outside::{ListDoor, ListSeeds, OpenGate, SetClock, TextSink, TextSource};
@@ -5,17 +6,25 @@ use web_outside::{ListDoor, ListSeeds, OpenGate, SetClock, TextSink, TextSource}
 // The most that a run writes.
 const ROOM: usize = 2_000_000;
 
-/// The status that a command ends with, and what it wrote.
+/// The status that a command ends with, what it wrote, and what is told of its disks.
 #[derive(Drop)]
 pub struct Outcome {
     pub status: u8,
     pub written: Vec<u8>,
+    pub disks: Vec<u8>,
 }
 
-/// What a command with these words and this input comes to, over an outside that never fails.
-pub fn ran<R>(rt: &R, alloc: Global, words: &[&str], input: &[u8]) -> Result<Outcome, AllocError> {
+/// What a command with these words and this input comes to, over an outside that never fails but as its rack is planned.
+pub fn ran<R>(
+    rt: &R,
+    alloc: Global,
+    words: &[&str],
+    input: &[u8],
+    plan: &RackPlan,
+) -> Result<Outcome, AllocError> {
     let mut source = TextSource::new(input.to_vec(alloc)?, Vec::new(alloc), 4_096);
     let mut sink = TextSink::new(alloc, ROOM, Vec::new(alloc))?;
+    let mut rack = plan.rack(alloc)?;
     let mut door = ListDoor::new(alloc, 0, Vec::new(alloc), Vec::new(alloc));
     let mut seeds = ListSeeds::new(Vec::new(alloc));
     let clock = SetClock::new(0);
@@ -25,6 +34,7 @@ pub fn ran<R>(rt: &R, alloc: Global, words: &[&str], input: &[u8]) -> Result<Out
         words,
         &mut source,
         &mut sink,
+        &mut rack,
         &mut door,
         &clock,
         &mut seeds,
@@ -33,5 +43,6 @@ pub fn ran<R>(rt: &R, alloc: Global, words: &[&str], input: &[u8]) -> Result<Out
     Ok(Outcome {
         status,
         written: sink.bytes().to_vec(alloc)?,
+        disks: plan.shown(alloc, &rack)?,
     })
 }

@@ -1,4 +1,6 @@
-use crate::outside::ran;
+use crate::outside::{Outcome, ran};
+use crate::racks::RackPlan;
+use crate::steps::unfolded;
 use crate::transcript::transcript;
 use std::alloc::{AllocError, Global};
 use std::mem;
@@ -19,10 +21,11 @@ enum Block {
     Input { words: String, text: String },
 }
 
-/// The scripts so far, and the block that is read.
+/// The scripts so far, how the rack of the next run is, and the block that is read.
 #[derive(Drop)]
 pub struct Rows {
     scripts: Vec<Script>,
+    plan: RackPlan,
     block: Block,
 }
 
@@ -34,8 +37,10 @@ fn push_line(text: &mut String, line: &str) -> Result<(), AllocError> {
     text.push_str(line)
 }
 
-// What a command wrote, and its status.
-fn with_status(alloc: Global, mut told: Vec<u8>, status: u8) -> Result<Vec<u8>, AllocError> {
+// What is told of a command's output, of its disks and its status.
+fn with_end(alloc: Global, mut told: Vec<u8>, outcome: &Outcome) -> Result<Vec<u8>, AllocError> {
+    let status = outcome.status;
+    told.extend_from_slice(&outcome.disks)?;
     told.extend_from_slice(format!(in alloc; "status {status}\n")?.as_bytes())?;
     Ok(told)
 }
@@ -50,18 +55,31 @@ fn words_of<'a>(alloc: Global, text: &'a str) -> Result<Vec<&'a str>, AllocError
     Ok(words)
 }
 
-// What a command with these words and this input wrote, and its status.
-fn told_of<R>(rt: &R, alloc: Global, words: &str, input: &str) -> Result<Vec<u8>, AllocError> {
+// How many shelves these options ask for.
+fn shelves_of(options: &str) -> usize {
+    let (_, asked) = options.split_once("--shelves ").unwrap_or(("", ""));
+    let (count, _) = asked.split_once(' ').unwrap_or((asked, ""));
+    count.parse().unwrap_or(1)
+}
+
+// What is told of a command with these words and this input.
+fn told_of<R>(
+    rt: &R,
+    alloc: Global,
+    words: &str,
+    input: &str,
+    plan: &RackPlan,
+) -> Result<Vec<u8>, AllocError> {
     let words = words_of(alloc, words)?;
-    let outcome = ran(rt, alloc, &words, input.as_bytes())?;
-    with_status(alloc, outcome.written, outcome.status)
+    let outcome = ran(rt, alloc, &words, input.as_bytes(), plan)?;
+    with_end(alloc, outcome.written.to_vec(alloc)?, &outcome)
 }
 
 // What a start of a script is answered.
-fn started<R>(rt: &R, alloc: Global, script: &str) -> Result<Vec<u8>, AllocError> {
+fn started<R>(rt: &R, alloc: Global, script: &str, plan: &RackPlan) -> Result<Vec<u8>, AllocError> {
     let length = script.len();
     let input = format!(in alloc; "script a {length}\n{script}\nsteps\nget 0 /servlets/a\n")?;
-    told_of(rt, alloc, "play", input.as_str())
+    told_of(rt, alloc, "play", input.as_str(), plan)
 }
 
 // The line of a row as it is.
@@ -75,6 +93,7 @@ impl Rows {
     pub fn new(alloc: Global) -> Rows {
         Rows {
             scripts: Vec::new(alloc),
+            plan: RackPlan::new(alloc),
             block: Block::Between,
         }
     }
@@ -103,6 +122,7 @@ impl Rows {
         alloc: Global,
         head: &str,
         steps: &str,
+        plan: &RackPlan,
     ) -> Result<Vec<u8>, AllocError> {
         let (names, options) = head.split_once(" : ").unwrap_or((head, ""));
         let mut input = String::new(alloc);
@@ -110,15 +130,27 @@ impl Rows {
             input.push_str(self.section(alloc, name)?.as_str())?;
         }
         input.push_str("steps\n")?;
-        input.push_str(steps)?;
         if !steps.is_empty() {
-            input.push_str("\n")?;
+            for step in steps.split('\n') {
+                input.push_str(unfolded(alloc, step)?.as_str())?;
+                input.push_str("\n")?;
+            }
         }
         let words = format!(in alloc; "play {options}")?;
         let words = words_of(alloc, words.as_str())?;
-        let outcome = ran(rt, alloc, &words, input.as_bytes())?;
-        let told = transcript(alloc, steps, outcome.written.as_slice())?;
-        with_status(alloc, told, outcome.status)
+        let outcome = ran(rt, alloc, &words, input.as_bytes(), plan)?;
+        let told = transcript(
+            alloc,
+            steps,
+            shelves_of(options),
+            outcome.written.as_slice(),
+        )?;
+        with_end(alloc, told, &outcome)
+    }
+
+    // How the rack of this run is; that of the next one is as it was at first.
+    fn take_plan(&mut self, alloc: Global) -> RackPlan {
+        mem::replace(&mut self.plan, RackPlan::new(alloc))
     }
 
     // What a block comes to.
@@ -129,8 +161,14 @@ impl Rows {
                 self.scripts.push(script)?;
                 Ok(Vec::new(alloc))
             }
-            Block::Steps { head, steps } => self.played(rt, alloc, head.as_str(), steps.as_str()),
-            Block::Input { words, text } => told_of(rt, alloc, words.as_str(), text.as_str()),
+            Block::Steps { head, steps } => {
+                let plan = self.take_plan(alloc);
+                self.played(rt, alloc, head.as_str(), steps.as_str(), &plan)
+            }
+            Block::Input { words, text } => {
+                let plan = self.take_plan(alloc);
+                told_of(rt, alloc, words.as_str(), text.as_str(), &plan)
+            }
         }
     }
 
@@ -151,9 +189,9 @@ impl Rows {
                 let words = String::from_str(alloc, rest)?;
                 self.block = Block::Input { words, text };
             }
-            "start" => return started(rt, alloc, rest),
-            "words" => return told_of(rt, alloc, rest, ""),
-            _ => {}
+            "start" => return started(rt, alloc, rest, &self.take_plan(alloc)),
+            "words" => return told_of(rt, alloc, rest, "", &self.take_plan(alloc)),
+            _ => self.plan.line(alloc, word, rest)?,
         }
         Ok(Vec::new(alloc))
     }

@@ -23,15 +23,31 @@ fn reply_length(written: &[u8]) -> usize {
     line.saturating_add(1).saturating_add(behind)
 }
 
-/// Each step behind `> `, with its reply below it, and then what else was written.
-pub fn transcript(alloc: Global, steps: &str, written: &[u8]) -> Result<Vec<u8>, AllocError> {
+// How many replies a step has, one for each shelf where it is a tick.
+fn replies_to(step: &str, shelves: usize) -> usize {
+    if step.starts_with("tick ") {
+        shelves
+    } else {
+        1
+    }
+}
+
+/// Each step behind `> `, with its replies below it, and then what else was written.
+pub fn transcript(
+    alloc: Global,
+    steps: &str,
+    shelves: usize,
+    written: &[u8],
+) -> Result<Vec<u8>, AllocError> {
     let mut told = Vec::new(alloc);
     let mut rest = written;
     for step in steps.lines() {
         told.extend_from_slice(format!(in alloc; "> {step}\n")?.as_bytes())?;
-        let (reply, behind) = rest.split_at(reply_length(rest).min(rest.len()));
-        told.extend_from_slice(reply)?;
-        rest = behind;
+        for _ in 0..replies_to(step, shelves) {
+            let (reply, behind) = rest.split_at(reply_length(rest).min(rest.len()));
+            told.extend_from_slice(reply)?;
+            rest = behind;
+        }
     }
     told.extend_from_slice(rest)?;
     Ok(told)

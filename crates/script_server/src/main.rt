@@ -17,11 +17,12 @@ mod tests;
 
 use adapters::{Reading, Writing};
 use door::SocketDoor;
+use file_disk::ServedRack;
 use line::Patience;
 use machine::{MachineClock, MachineSeeds};
 use server_command::command;
 use std::alloc::AllocError;
-use std::fs::Files;
+use std::fs::{File, Files};
 use std::io::ErrorKind;
 use std::net::{Net, TcpListener, TcpStream};
 use std::process::ExitCode;
@@ -58,7 +59,7 @@ where
         + Print
         + Eprint
         + AllocGlobal
-        + Files
+        + Files<File = File>
         + Clock
         + Net<Listener = TcpListener, Stream = TcpStream>,
 {
@@ -80,6 +81,7 @@ where
             return out_of_memory(&mut output);
         }
     }
+    let mut rack = ServedRack::new(rt, alloc);
     let mut door = SocketDoor {
         rt,
         patience: Patience {
@@ -96,6 +98,7 @@ where
         &texts,
         &mut input,
         &mut output,
+        &mut rack,
         &mut door,
         &clock,
         &mut seeds,

@@ -1,5 +1,6 @@
 //! An outside in memory, which fails where it is told to, and what a command comes to over it.
 
+use file_disk::ServedRack;
 use server_command::command;
 use std::alloc::Global;
 use std::test::Fail;
@@ -62,6 +63,7 @@ pub fn ran(
     if outside.stuck {
         sink.stick();
     }
+    let mut rack = ServedRack::new(rt, alloc);
     let mut door = ListDoor::new(alloc, 0, Vec::new(alloc), Vec::new(alloc));
     let mut seeds = ListSeeds::new(Vec::new(alloc));
     let clock = SetClock::new(0);
@@ -71,6 +73,7 @@ pub fn ran(
         words,
         &mut source,
         &mut sink,
+        &mut rack,
         &mut door,
         &clock,
         &mut seeds,

@@ -1,6 +1,7 @@
 //! Setups that are served over links in memory: what is told, what stands on the links, and what fails.
 
 use crate::outside::setup_of;
+use file_disk::ServedRack;
 use server_command::command;
 use std::alloc::Global;
 use std::test::Fail;
@@ -84,6 +85,7 @@ fn served_at<C: Clock, G: Gate>(
     let alloc = rt.alloc();
     let mut source = TextSource::new(input.as_bytes().to_vec(alloc)?, Vec::new(alloc), 4096);
     let mut sink = TextSink::new(alloc, street.room, Vec::new(alloc))?;
+    let mut rack = ServedRack::new(rt, alloc);
     let mut door = door_of(alloc, street)?;
     let mut seeds = ListSeeds::new(street.draws.to_vec(alloc)?);
     let status = command(
@@ -92,6 +94,7 @@ fn served_at<C: Clock, G: Gate>(
         words,
         &mut source,
         &mut sink,
+        &mut rack,
         &mut door,
         clock,
         &mut seeds,
