@@ -29,8 +29,8 @@ impl<V: Kept> Model for LockRow<V> {
     ghost Value = { Homes V.Opening };
 
     ghost view = { λ s. record {
-        homes = map (λ l. home l.board.shared.table_id (V.opening l.board.shared.key.value.value ∷ [])) s.locks.items;
-        seats = s.seats;
+      homes = map (λ l. home l.board.shared.table_id (V.opening l.board.shared.key.value.value ∷ [])) s.locks.items;
+      seats = s.seats;
     } };
 
     ghost invariant = { λ s. (s.room.items ≡ []) × (vec_len s.room ≡ 0) × (vec_len s.locks ≤ vec_capacity s.room)
