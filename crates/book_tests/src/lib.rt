@@ -1,9 +1,18 @@
-//! Tests of copies of the book and what it gives, and of setups: what no row of steps says.
+//! Tests of copies of the book and what it gives, of setups, and of shelves on disks that fail or are damaged: what no row of
+//! steps says.
 #![tactic(auto)]
 
 #[cfg(test)]
 mod copies;
 #[cfg(test)]
+mod cuts;
+#[cfg(test)]
+mod numbers;
+#[cfg(test)]
+mod openings;
+#[cfg(test)]
 mod setups;
+#[cfg(test)]
+mod shelves;
 #[cfg(test)]
 mod texts;
