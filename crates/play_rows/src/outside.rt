@@ -6,12 +6,11 @@ use web_outside::{ListDoor, ListSeeds, OpenGate, SetClock, TextSink, TextSource}
 // The most that a run writes.
 const ROOM: usize = 2_000_000;
 
-/// The status that a command ends with, what it wrote, and what is told of its disks.
+/// What a command wrote, and what is told behind it: the disks that are shown, and the status that it ends with.
 #[derive(Drop)]
 pub struct Outcome {
-    pub status: u8,
     pub written: Vec<u8>,
-    pub disks: Vec<u8>,
+    pub end: Vec<u8>,
 }
 
 /// What a command with these words and this input comes to, over an outside that never fails but as its rack is planned.
@@ -40,9 +39,10 @@ pub fn ran<R>(
         &mut seeds,
         &OpenGate,
     );
+    let mut end = plan.shown(alloc, &rack)?;
+    end.extend_from_slice(format!(in alloc; "status {status}\n")?.as_bytes())?;
     Ok(Outcome {
-        status,
         written: sink.bytes().to_vec(alloc)?,
-        disks: plan.shown(alloc, &rack)?,
+        end,
     })
 }

@@ -37,14 +37,6 @@ fn push_line(text: &mut String, line: &str) -> Result<(), AllocError> {
     text.push_str(line)
 }
 
-// What is told of a command's output, of its disks and its status.
-fn with_end(alloc: Global, mut told: Vec<u8>, outcome: &Outcome) -> Result<Vec<u8>, AllocError> {
-    let status = outcome.status;
-    told.extend_from_slice(&outcome.disks)?;
-    told.extend_from_slice(format!(in alloc; "status {status}\n")?.as_bytes())?;
-    Ok(told)
-}
-
 // The words of a command.
 fn words_of<'a>(alloc: Global, text: &'a str) -> Result<Vec<&'a str>, AllocError> {
     let mut words = Vec::new(alloc);
@@ -71,8 +63,9 @@ fn told_of<R>(
     plan: &RackPlan,
 ) -> Result<Vec<u8>, AllocError> {
     let words = words_of(alloc, words)?;
-    let outcome = ran(rt, alloc, &words, input.as_bytes(), plan)?;
-    with_end(alloc, outcome.written.to_vec(alloc)?, &outcome)
+    let Outcome { mut written, end } = ran(rt, alloc, &words, input.as_bytes(), plan)?;
+    written.extend_from_slice(&end)?;
+    Ok(written)
 }
 
 // What a start of a script is answered.
@@ -138,14 +131,10 @@ impl Rows {
         }
         let words = format!(in alloc; "play {options}")?;
         let words = words_of(alloc, words.as_str())?;
-        let outcome = ran(rt, alloc, &words, input.as_bytes(), plan)?;
-        let told = transcript(
-            alloc,
-            steps,
-            shelves_of(options),
-            outcome.written.as_slice(),
-        )?;
-        with_end(alloc, told, &outcome)
+        let Outcome { written, end } = ran(rt, alloc, &words, input.as_bytes(), plan)?;
+        let mut told = transcript(alloc, steps, shelves_of(options), written.as_slice())?;
+        told.extend_from_slice(&end)?;
+        Ok(told)
     }
 
     // How the rack of this run is; that of the next one is as it was at first.
