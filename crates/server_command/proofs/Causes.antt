@@ -1,6 +1,5 @@
 -- Why a command ends so.
-use Rattle.std.proofs.Common.{◌≡◌, ◌≢◌, ◌≤◌, ◌<◌, ◌∷◌, ◌⊎◌, ℕ, List, [], length, Option, Some, None, Result, Ok, Err, IfOk, IsErrOf, IfSome, refl, sym, ap, ◌∙◌, subst, inl, inr, arith, length-append, codes}
-use Rattle.std.proofs.lemmas.Bool.{le-leb, lt-leb}
+use Rattle.std.proofs.Common.{◌≡◌, ◌≢◌, ◌≤◌, ◌∷◌, ℕ, List, [], length, Option, Some, None, Result, Ok, Err, IfOk, IsErrOf, refl, sym, ap, ◌∙◌, subst, inl, inr, codes}
 use Rattle.std.specs.Io.KnownBytes.{Consumes, IsAtEnd}
 use Rattle.clap.specs.Faults.{fault_of as faults_in}
 use Rattle.clap.specs.Simple.{subcommand_of}
@@ -17,13 +16,8 @@ use Rattle.command_words.specs.declared.Service.{Service}
 use Rattle.command_words.specs.declared.Command.{Command}
 use Rattle.command_words.specs.Reads.{asked_from}
 use Rattle.command_words.proofs.PlainWords.{plain_means}
-use Rattle.setup_reader.specs.Setup.{Parsed, Fault}
-use Rattle.setup_reader.proofs.Sections.{setup_found}
-use Rattle.replay_spec.specs.Step.{Fate}
-use Rattle.play_steps.specs.Transcript.{End, done, bad_line}
 use Rattle.server_command.specs.declared.program.Status.{Status}
 use Rattle.server_command.specs.declared.program.Status.TheVariants as status
-use Rattle.server_command.specs.Racks.{Racks}
 use Rattle.server_command.specs.Output.{Chances, nothing}
 use Rattle.server_command.specs.Command.{Met, Prints, Untouched, ReadToEnd, HasDone, HasServed, Leaves, Outputs, Comes, ComesServing, CameServing, ComesTo, Came, Refuses, Explains, Explained, IsUnread, asked_unless, asked_in, unread_line, unread_status}
 use Rattle.server_command.specs.Serving.{Serves, RackFailed, LeavesInput}

@@ -1,14 +1,12 @@
 -- Which status is due, and what lawful inputs end with.
-use Rattle.std.proofs.Common.{◌≡◌, ◌≢◌, ◌≤◌, ◌<◌, ◌∷◌, ◌⊎◌, ℕ, List, [], length, nat_le, true, false, Bool, Option, Some, None, Result, Ok, Err, IfSome, IsTrue, refl, sym, ap, ◌∙◌, subst, inl, inr, arith, length-append, if◌then◌else◌}
+use Rattle.std.proofs.Common.{◌≡◌, ◌≢◌, ◌≤◌, ◌<◌, ◌⊎◌, ℕ, List, [], length, nat_le, true, false, Option, Some, None, Result, Ok, Err, IfSome, IsTrue, refl, sym, ap, ◌∙◌, subst, inl, inr, arith, length-append}
 use Rattle.std.proofs.lemmas.Bool.{le-leb, lt-leb}
 use Rattle.std.specs.Io.KnownBytes.{Consumes}
 use Rattle.web_outside.specs.Causes.{Rose}
 use Rattle.web_outside.specs.Pieces.{ReadsPast}
 use Rattle.command_words.specs.declared.Command.TheVariants.{Check, Play, Serve}
 use Rattle.command_words.specs.declared.Service.{Service}
-use Rattle.command_words.specs.declared.Options.{Options}
 use Rattle.command_words.specs.declared.Command.{Command}
-use Rattle.script_nodes.specs.Setup.{Named}
 use Rattle.setup_reader.specs.Setup.{Parsed, Fault, setup_of}
 use Rattle.setup_reader.proofs.Sections.{setup_found}
 use Rattle.play_steps.specs.Step.{steps_of}
@@ -16,10 +14,10 @@ use Rattle.play_steps.specs.Transcript.{End, done, bad_line}
 use Rattle.play_desk.specs.Laws.{TranscriptsAreRuns}
 use Rattle.server_command.specs.declared.program.Status.{Status}
 use Rattle.server_command.specs.declared.program.Status.TheVariants as status
-use Rattle.server_command.specs.Racks.{Racks, AreHeld, AreTaken, Unfit, damaged, other, not_empty, first_unfit, unfit_new, unfit_left}
-use Rattle.server_command.specs.Output.{Chances, Output, output_of, counted, ending_of, ended, finished, served, written, run_of, unless_shut, Answers, BeforeOpening, at_first, at_crash}
-use Rattle.server_command.specs.Command.{Met, ReadToEnd, Gives, HasDone, HasServed, Leaves, Known, Settles, TakesDisks, Comes, ComesServing, ComesTo, Refuses, Explains, Explained, IsUnread, IsDue, EndsAs, Ends, EndsWell, IsLawful, AreFit, JournalsOpen, GoesWell, StandFor, asked_in, code_of, due, due_to, reached_by, with_setup}
-use Rattle.server_command.specs.Serving.{Serves, HaveRisen, LeavesInput, LeavesServing, Opens, RackFailed, ServesInput, Shuts}
+use Rattle.server_command.specs.Racks.{Racks, AreTaken, Unfit, first_unfit, unfit_new, unfit_left}
+use Rattle.server_command.specs.Output.{Chances, output_of, counted, ending_of, ended, finished, served, written, run_of, unless_shut, BeforeOpening, at_first, at_crash}
+use Rattle.server_command.specs.Command.{Met, ReadToEnd, Gives, HasDone, HasServed, Leaves, Settles, TakesDisks, Comes, ComesServing, ComesTo, Refuses, Explains, Explained, IsDue, EndsAs, Ends, EndsWell, IsLawful, AreFit, JournalsOpen, GoesWell, asked_in, code_of, due, due_to, reached_by, with_setup}
+use Rattle.server_command.specs.Serving.{Serves, HaveRisen, LeavesInput, Opens, RackFailed, Shuts}
 use Rattle.setup_reader.specs.declared.setup.Ending.TheVariants.{Input}
 use Rattle.server_command.proofs.Racks.{fit_opens}
 use Rattle.server_command.proofs.Playing.{plays_events}

@@ -14,7 +14,7 @@ use Rattle.setup_reader.specs.Faults.{fault_line}
 use Rattle.server_command.specs.declared.program.Status.{Status}
 use Rattle.server_command.specs.declared.program.Status.TheVariants as status
 use Rattle.server_command.specs.Racks.{Racks}
-use Rattle.server_command.specs.Output.{Chances, Output, Sinks, output_of, counted, told_scripts, ending_of, faulty, sinks, Tells, Answers, BreaksOff, nothing}
+use Rattle.server_command.specs.Output.{Chances, Sinks, output_of, counted, told_scripts, ending_of, faulty, sinks, Tells, Answers, BreaksOff, nothing}
 use Rattle.server_command.specs.Command.{Counts, Known, Outputs, StandFor, TakesDisks, TellsFaultLine, with_setup}
 
 -- what was read to its end is the input
@@ -84,15 +84,16 @@ pub whole_text : (rack : Racks) (asked : Command) (bytes : List ℕ) (chances : 
     → Known rack asked bytes (IsWhole rack asked bytes chances old new) → before ≤ mid → (s ≡ status.Done) ⊎ ((s ≡ status.Write) × Rose mid after)
     → Outputs rack asked bytes s (sinks old new before after)
 whole_text rack asked bytes chances s old new before mid after whole le (inl e) =
-    subst (λ x. Outputs rack asked bytes x (sinks old new before after)) (sym e)
-    (
+    subst (λ x. Outputs rack asked bytes x (sinks old new before after)) (sym e) (
       chances,
       λ settles.
-      (let w = whole settles in
-      (record {
-        answered = (w.status, subst (λ l. Tells (output_of asked bytes chances).text l (sinks old new before after)) (sym w.error) (tells_nothing old new _ before after w.text));
-        taken = w.taken;
-      }, w.stand)),
+          (let w = whole settles in (
+            record {
+              answered = (w.status, subst (λ l. Tells (output_of asked bytes chances).text l (sinks old new before after)) (sym w.error) (tells_nothing old new _ before after w.text));
+              taken = w.taken;
+            },
+            w.stand,
+          )),
     )
 whole_text rack asked bytes chances s old new before mid after whole le (inr e) =
     subst (λ x. Outputs rack asked bytes x (sinks old new before after)) (sym e.0)
@@ -109,11 +110,13 @@ fault_tells : (rack : Racks) (asked : Command) (bytes : List ℕ) (e : Fault) (o
     → AppendsUnlessFault out.held out.holds (fault_line e) out.before out.after → Outputs rack asked bytes status.Setup out
 fault_tells rack asked bytes e out h p =
     let is = faulty_output asked bytes no_chances e h in
-    let told = tells out.held out.held out.holds [] (fault_line e) out.before out.after (appends_none out.held) p in
-    (no_chances, record {
-      answered = subst (λ o. Answers o 3 out) (sym is) (refl, told);
-      taken = subst (λ (r : Result Parsed Fault). TakesDisks rack (with_setup asked r) []) (sym h) tt;
-    })
+    let told = tells out.held out.held out.holds [] (fault_line e) out.before out.after (appends_none out.held) p in (
+      no_chances,
+      record {
+        answered = subst (λ o. Answers o 3 out) (sym is) (refl, told);
+        taken = subst (λ (r : Result Parsed Fault). TakesDisks rack (with_setup asked r) []) (sym h) tt;
+      },
+    )
 
 pub fault_outputs : (rack : Racks) (asked : Command) (bytes : List ℕ) (e : Fault) (s : Status) (out : Sinks) → setup_of (ending_of asked) bytes ≡ Err e
     → TellsFaultLine e s out → Outputs rack asked bytes s out
@@ -126,11 +129,16 @@ fault_outputs rack asked bytes e s out h p = absurd p
 pub counts_outputs : (rack : Racks) (bytes : List ℕ) (setup : Parsed) (s : Status) (out : Sinks) → setup_of Input bytes ≡ Ok setup → Counts setup.scripts s out
     → Outputs rack Check bytes s out
 counts_outputs rack bytes setup status.Done out h p =
-    let is : output_of Check bytes no_chances ≡ told_scripts setup.scripts = ap counted h in
-    (no_chances, λ settles. (record {
-      answered = subst (λ o. Answers o 0 out) (sym is) p;
-      taken = subst (λ (r : Result Parsed Fault). TakesDisks rack (with_setup Check r) []) (sym h) tt;
-    }, tt))
+    let is : output_of Check bytes no_chances ≡ told_scripts setup.scripts = ap counted h in (
+      no_chances,
+      λ settles. (
+        record {
+          answered = subst (λ o. Answers o 0 out) (sym is) p;
+          taken = subst (λ (r : Result Parsed Fault). TakesDisks rack (with_setup Check r) []) (sym h) tt;
+        },
+        tt,
+      ),
+    )
 counts_outputs rack bytes setup status.Write out h p =
     let is : output_of Check bytes no_chances ≡ told_scripts setup.scripts = ap counted h in
     (no_chances, (p.0, λ settles. subst (λ o. BreaksOff o out) (sym is) p.1))

@@ -1,7 +1,5 @@
 -- From the opening and the run of a desk to what a command answers.
-use Rattle.std.proofs.Common.{◌≡◌, ◌≢◌, ◌≤◌, ◌<◌, ◌∷◌, ◌∙◌, ◌⊎◌, inl, inr, ℕ, List, [], Bool, true, false, IsTrue, Option, Some, None, Ok, refl, sym, ap, subst}
-use Rattle.std.specs.Prelude.{◌||◌, IsErrAnd}
-use Rattle.web_outside.specs.Causes.{Rose}
+use Rattle.std.proofs.Common.{◌≡◌, ◌≢◌, ◌≤◌, ◌<◌, ◌∷◌, inr, ℕ, List, [], Bool, true, IsTrue, Option, Some, None, Ok, refl, sym, subst}
 use Rattle.web_outside.specs.Pieces.{AppendsUnlessFault}
 use Rattle.command_words.specs.declared.Command.TheVariants.{Play}
 use Rattle.command_words.specs.declared.Options.{Options}
@@ -14,15 +12,12 @@ use Rattle.play_desk.specs.Opening.{IsClosedBy, IsNotEmpty}
 use Rattle.play_desk.specs.declared.opening.OpenCause.{OpenCause}
 use Rattle.play_desk.specs.declared.opening.OpenCause.TheVariants as first
 use Rattle.server_command.specs.declared.program.Status.{Status}
-use Rattle.server_command.specs.declared.program.Status.TheVariants as status
-use Rattle.server_command.specs.declared.opening.Unopened.{Unopened}
-use Rattle.server_command.specs.declared.opening.Unopened.TheVariants as unopened
 use Rattle.server_command.specs.Command.{Outputs}
 use Rattle.server_command.specs.Output.{sinks}
-use Rattle.server_command.specs.Racks.{Racks, disk_line, not_empty, unfit_line}
+use Rattle.server_command.specs.Racks.{Racks}
 use Rattle.server_command.specs.Serving.{RackFailed}
-use Rattle.server_command.specs.Telling.{TellsUnopened, told, untold, unopened_again, unopened_by, unopened_line, unopened_status}
-use Rattle.server_command.proofs.Endings.{early, since}
+use Rattle.server_command.specs.Telling.{TellsUnopened, told, untold, unopened_again, unopened_by}
+use Rattle.server_command.proofs.Endings.{early}
 use Rattle.server_command.proofs.Playing.{IsFull, Lost, full_outputs, lost_outputs, memory_outputs, never_outputs, unread_outputs}
 
 -- disks that tell their bytes tell what crashes leave

@@ -1,15 +1,13 @@
 -- What opening and closing the shelves of a server leaves of its rack.
-use Rattle.std.proofs.Common.{◌≡◌, ◌≢◌, ◌<◌, ◌≤◌, ◌+◌, ◌-◌, ◌^◌, ◌++◌, ◌∷◌, ◌∙◌, ◌⊎◌, inl, inr, ℕ, zero, suc, List, [], length, Bool, true, false, IsTrue, Option, Some, None, refl, sym, ap, subst, arith}
-use Rattle.std.specs.Prelude.{min, map, ◌&&◌, slice_get, take, drop}
+use Rattle.std.proofs.Common.{◌≡◌, ◌≢◌, ◌<◌, ◌≤◌, ◌+◌, ◌-◌, ◌^◌, ◌++◌, ◌∷◌, ◌∙◌, ◌⊎◌, inl, inr, ℕ, zero, suc, List, [], length, Bool, true, false, IsTrue, Some, None, refl, sym, ap, subst, arith}
+use Rattle.std.specs.Prelude.{min, ◌&&◌}
 use Rattle.std.proofs.lemmas.Bool.{and_parts}
 use Rattle.std.proofs.lemmas.List.{length-append}
 use Rattle.web_outside.specs.Causes.{Rose}
-use Rattle.web_disk.specs.View.{View, RackView, AreAmong}
+use Rattle.web_disk.specs.View.{RackView, AreAmong}
 use Rattle.script_nodes.specs.Setup.{Named}
-use Rattle.replay_spec.specs.Book.{Book, reopened}
-use Rattle.replay_spec.specs.Rules.{Rules}
-use Rattle.server_command.specs.Racks.{AreHeld, KeepsHome, StandsAt, Unfit, damaged, other, first_unfit, unfit_left}
-use Rattle.server_command.specs.Opening.{AreHome, AreOut, HasTaken, IsRefused, IsRefusedAt, IsUntaken, TakesBack, RefusesOn, seen_on}
+use Rattle.server_command.specs.Racks.{KeepsHome, damaged, other, first_unfit, unfit_left}
+use Rattle.server_command.specs.Opening.{HasTaken, IsRefused, IsRefusedAt, IsUntaken, TakesBack}
 use Rattle.server_command.specs.declared.opening.Unopened.{Unopened}
 use Rattle.server_command.specs.declared.opening.Unopened.TheVariants as unopened
 use Rattle.server_command.proofs.Racks.{held_more, unfit_behind}

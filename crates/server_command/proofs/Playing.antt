@@ -21,13 +21,13 @@ use Rattle.play_steps.specs.Played.{Scene, Plays, Halts}
 use Rattle.play_desk.specs.Desk.{Desk, desk_rules}
 use Rattle.play_desk.specs.Laws.{TranscriptsAreRuns}
 use Rattle.play_desk.specs.Opening.{HoldTheBooks}
-use Rattle.server_command.specs.Racks.{Racks, AreHeld, AreTaken, Unfit, not_empty, first_unfit, unfit_new, disk_line, unfit_line}
-use Rattle.server_command.specs.Output.{Chances, Output, output_of, desk_for, run_of, finished, ended, sinks, Sinks, Tells, BreaksOff, at_line, replies, at_first, at_crash, unless_shut, Loses, Pauses}
-use Rattle.server_command.specs.Command.{Gives, Known, Leaves, Outputs, PlaysEvents, Settles, StandFor, TakesDisks, TellsLine, with_setup}
+use Rattle.server_command.specs.Racks.{Racks, AreHeld, AreTaken, not_empty, first_unfit, unfit_new, disk_line, unfit_line}
+use Rattle.server_command.specs.Output.{Chances, Output, output_of, desk_for, run_of, finished, ended, sinks, Tells, BreaksOff, at_line, replies, at_first, at_crash, unless_shut, Loses, Pauses}
+use Rattle.server_command.specs.Command.{Gives, Known, Outputs, PlaysEvents, Settles, StandFor, TakesDisks, TellsLine, with_setup}
 use Rattle.server_command.specs.Serving.{RackFailed}
 use Rattle.server_command.specs.declared.program.Status.{Status}
 use Rattle.server_command.specs.declared.program.Status.TheVariants as status
-use Rattle.server_command.proofs.Endings.{IsWhole, early, no_chances, whole_text, tells, since}
+use Rattle.server_command.proofs.Endings.{IsWhole, no_chances, whole_text, tells, since}
 
 -- what is there where this holds, and something else where not
 decided : {X : Type 0} (b : Bool) (P : X → Type 0) → X → (IsTrue b → (x : X) × P x) → (x : X) × (IsTrue b → P x)
@@ -134,14 +134,16 @@ done_outputs rack o bytes setup s old mid new before between after h ran kept le
   where
     whole : Ran rack o setup.scripts (steps_of setup.steps) done old mid → (chances : Chances) × IsWhole rack (Play o) bytes chances old new
     whole p =
-        let is = ran_output rack o bytes setup done old mid h p in
-        (chances_of o p.plays.fates, record {
-          status = ap (λ (x : Output). x.status) is;
-          error = ap (λ (x : Output). x.error) is;
-          text = subst (Appends old new) (sym (ap (λ (x : Output). x.text) is)) (appends_kept old mid new (print p.plays.told) p.plays.written kept);
-          taken = takes rack o bytes setup p.first p.plays.fates h p.begins;
-          stand = stand_for rack o bytes setup p.first p.last p.plays.fates _ h p.begins.first p.plays.is refl p.left;
-        })
+        let is = ran_output rack o bytes setup done old mid h p in (
+          chances_of o p.plays.fates,
+          record {
+            status = ap (λ (x : Output). x.status) is;
+            error = ap (λ (x : Output). x.error) is;
+            text = subst (Appends old new) (sym (ap (λ (x : Output). x.text) is)) (appends_kept old mid new (print p.plays.told) p.plays.written kept);
+            taken = takes rack o bytes setup p.first p.plays.fates h p.begins;
+            stand = stand_for rack o bytes setup p.first p.last p.plays.fates _ h p.begins.first p.plays.is refl p.left;
+          },
+        )
 
 pub line_outputs : (rack : Racks) (o : Options) (bytes : List ℕ) (setup : Parsed) (n : ℕ) (s : Status) (old mid new : Option (List ℕ)) (before between after : ℕ)
     → setup_of Steps bytes ≡ Ok setup → (IsTrue rack.tells → Ran rack o setup.scripts (steps_of setup.steps) (bad_line n) old mid) → before ≤ between
@@ -154,11 +156,16 @@ line_outputs rack o bytes setup n status.Line old mid new before between after h
         → (chances : Chances) × (Gives rack (Play o) bytes chances 4 (sinks old new before after) × StandFor rack (Play o) (setup_of Steps bytes) chances)
     line p =
         let is = ran_output rack o bytes setup (bad_line n) old mid h p in
-        let told_so = tells old mid new (print p.plays.told) (codes "error 4 " ++ (decimal n ++ 10 ∷ [])) before after p.plays.written (since mid new _ before between after le told) in
-        (chances_of o p.plays.fates, (record {
-          answered = subst (λ (x : Output). (x.status ≡ 4) × Tells x.text x.error (sinks old new before after)) (sym is) (refl, told_so);
-          taken = takes rack o bytes setup p.first p.plays.fates h p.begins;
-        }, stand_for rack o bytes setup p.first p.last p.plays.fates _ h p.begins.first p.plays.is refl p.left))
+        let told_so = tells old mid new (print p.plays.told) (codes "error 4 " ++ (decimal n ++ 10 ∷ [])) before after p.plays.written (since mid new _ before between after le told) in (
+          chances_of o p.plays.fates,
+          (
+            record {
+              answered = subst (λ (x : Output). (x.status ≡ 4) × Tells x.text x.error (sinks old new before after)) (sym is) (refl, told_so);
+              taken = takes rack o bytes setup p.first p.plays.fates h p.begins;
+            },
+            stand_for rack o bytes setup p.first p.last p.plays.fates _ h p.begins.first p.plays.is refl p.left,
+          ),
+        )
 line_outputs rack o bytes setup n status.Memory old mid new before between after h ran le told =
     by_tells rack o bytes setup h _ (λ t. paused (ran t))
   where
@@ -166,8 +173,7 @@ line_outputs rack o bytes setup n status.Memory old mid new before between after
         → (chances : Chances) × Pauses (Play o) bytes chances (codes "error 10 memory\n") (sinks old new before after)
     paused p =
         let is = ran_output rack o bytes setup (bad_line n) old mid h p in
-        let text : (output_of (Play o) bytes (chances_of o p.plays.fates)).text ≡ print p.plays.told = ap (λ (x : Output). x.text) is in
-        (
+        let text : (output_of (Play o) bytes (chances_of o p.plays.fates)).text ≡ print p.plays.told = ap (λ (x : Output). x.text) is in (
           chances_of o p.plays.fates,
           (
             (output_of (Play o) bytes (chances_of o p.plays.fates)).text,
@@ -224,28 +230,40 @@ memory_outputs rack o bytes setup s old mid new before between after h halted le
         → (chances : Chances) × Pauses (Play o) bytes chances (codes "error 10 memory\n") (sinks old new before after)
     paused (inl p) =
         let q = p.halts in
-        let run = ap (λ (x : Desk). transcript desk_rules x 1 q.front q.fates) (sym p.begins.first) ∙ q.is in
-        (chances_of o q.fates, (print q.told, replies o setup (print q.told) refl h (record {
-          front = q.front;
-          step = q.step;
-          next = tt;
-          rest = q.rest;
-          cut = q.cut;
-          text_is = ap (λ (r : Run desk_rules). text_of r) run;
-          goes_on = ap (λ (r : Run desk_rules). r.end) run;
-        }), tells old mid new (print q.told) (codes "error 10 memory\n") before after (subst (Appends old mid) (append-nil (print q.told)) q.written) (since mid new _ before between after le told)))
+        let run = ap (λ (x : Desk). transcript desk_rules x 1 q.front q.fates) (sym p.begins.first) ∙ q.is in (
+          chances_of o q.fates,
+          (
+            print q.told,
+            replies o setup (print q.told) refl h (record {
+              front = q.front;
+              step = q.step;
+              next = tt;
+              rest = q.rest;
+              cut = q.cut;
+              text_is = ap (λ (r : Run desk_rules). text_of r) run;
+              goes_on = ap (λ (r : Run desk_rules). r.end) run;
+            }),
+            tells old mid new (print q.told) (codes "error 10 memory\n") before after (subst (Appends old mid) (append-nil (print q.told)) q.written) (since mid new _ before between after le told),
+          ),
+        )
     paused (inr (shelf, p)) =
         let q = p.loses in
-        let run = ap (λ (x : Desk). transcript desk_rules x 1 q.front q.fates) (sym p.begins.first) ∙ q.is in
-        (chances_of o q.fates, (print q.told, replies o setup (print q.told) refl h (record {
-          front = q.front;
-          step = crash shelf;
-          next = tt;
-          rest = q.rest;
-          cut = q.cut;
-          text_is = ap (λ (r : Run desk_rules). text_of r) run;
-          goes_on = ap (λ (r : Run desk_rules). r.end) run;
-        }), tells old mid new (print q.told) (codes "error 10 memory\n") before after q.written (since mid new _ before between after le told)))
+        let run = ap (λ (x : Desk). transcript desk_rules x 1 q.front q.fates) (sym p.begins.first) ∙ q.is in (
+          chances_of o q.fates,
+          (
+            print q.told,
+            replies o setup (print q.told) refl h (record {
+              front = q.front;
+              step = crash shelf;
+              next = tt;
+              rest = q.rest;
+              cut = q.cut;
+              text_is = ap (λ (r : Run desk_rules). text_of r) run;
+              goes_on = ap (λ (r : Run desk_rules). r.end) run;
+            }),
+            tells old mid new (print q.told) (codes "error 10 memory\n") before after q.written (since mid new _ before between after le told),
+          ),
+        )
 
 pub lost_outputs : (rack : Racks) (o : Options) (bytes : List ℕ) (setup : Parsed) (shelf : ℕ) (old mid new : Option (List ℕ)) (before between after : ℕ)
     → setup_of Steps bytes ≡ Ok setup → (IsTrue rack.tells → Lost rack o setup.scripts (steps_of setup.steps) shelf old mid) → before ≤ between → RackFailed rack
@@ -257,16 +275,23 @@ lost_outputs rack o bytes setup shelf old mid new before between after h lost le
     loses : Lost rack o setup.scripts (steps_of setup.steps) shelf old mid → (chances : Chances) × Loses (Play o) bytes chances (sinks old new before after)
     loses p =
         let q = p.loses in
-        let run = ap (λ (x : Desk). transcript desk_rules x 1 q.front q.fates) (sym p.begins.first) ∙ q.is in
-        (chances_of o q.fates, (shelf, print q.told, at_crash o setup (print q.told) refl h (record {
-          front = q.front;
-          step = crash shelf;
-          next = refl;
-          rest = q.rest;
-          cut = q.cut;
-          text_is = ap (λ (r : Run desk_rules). text_of r) run;
-          goes_on = ap (λ (r : Run desk_rules). r.end) run;
-        }), tells old mid new (print q.told) (disk_line shelf) before after q.written (since mid new _ before between after le told)))
+        let run = ap (λ (x : Desk). transcript desk_rules x 1 q.front q.fates) (sym p.begins.first) ∙ q.is in (
+          chances_of o q.fates,
+          (
+            shelf,
+            print q.told,
+            at_crash o setup (print q.told) refl h (record {
+              front = q.front;
+              step = crash shelf;
+              next = refl;
+              rest = q.rest;
+              cut = q.cut;
+              text_is = ap (λ (r : Run desk_rules). text_of r) run;
+              goes_on = ap (λ (r : Run desk_rules). r.end) run;
+            }),
+            tells old mid new (print q.told) (disk_line shelf) before after q.written (since mid new _ before between after le told),
+          ),
+        )
 
 -- ---- a run of steps that does not begin
 
@@ -313,12 +338,14 @@ full_outputs rack o bytes setup shelf old new before after h full told =
           all = λ none. absurd (let no : None ≡ Some (shelf, not_empty) = sym none ∙ unfit in cc);
         } in
         let is : output_of (Play o) bytes chances ≡ record { text = []; error = unfit_line shelf not_empty; status = 8 } =
-        rw h (ap (λ f. unless_shut f (finished (run_of o setup.scripts (steps_of setup.steps) []))) unfit) in
-        (chances, record {
-          answered = subst (λ (x : Output). (x.status ≡ 8) × Tells x.text x.error (sinks old new before after)) (sym is)
-              (refl, tells old old new [] (unfit_line shelf not_empty) before after (appends_none old) told);
-          taken = subst (λ (r : Result Parsed Fault). TakesDisks rack (with_setup (Play o) r) images) (sym h) taken;
-        })
+        rw h (ap (λ f. unless_shut f (finished (run_of o setup.scripts (steps_of setup.steps) []))) unfit) in (
+          chances,
+          record {
+            answered = subst (λ (x : Output). (x.status ≡ 8) × Tells x.text x.error (sinks old new before after)) (sym is)
+                (refl, tells old old new [] (unfit_line shelf not_empty) before after (appends_none old) told);
+            taken = subst (λ (r : Result Parsed Fault). TakesDisks rack (with_setup (Play o) r) images) (sym h) taken;
+          },
+        )
 
 -- what no disk that tells its bytes does
 pub never_outputs : (rack : Racks) (o : Options) (bytes : List ℕ) (setup : Parsed) (old new : Option (List ℕ)) (before after : ℕ)

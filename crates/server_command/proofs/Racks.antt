@@ -1,10 +1,10 @@
 -- What disks hold when they are taken.
-use Rattle.std.proofs.Common.{◌≡◌, ◌<◌, ◌≤◌, ◌+◌, ◌++◌, ◌∷◌, ◌∙◌, ℕ, zero, suc, List, [], length, Option, Some, None, Ok, refl, sym, ap, subst, arith}
+use Rattle.std.proofs.Common.{◌≡◌, ◌+◌, ◌++◌, ◌∷◌, ◌∙◌, ℕ, List, [], length, Option, Some, None, refl, sym, ap, subst, arith}
 use Rattle.script_nodes.specs.Setup.{Named}
 use Rattle.replay_spec.specs.Book.{Book}
-use Rattle.journal_books.specs.Making.{Making, nothing, made, damaged, other, begun, book_in_bytes}
+use Rattle.journal_books.specs.Making.{Making, nothing, made, damaged, other, begun}
 use Rattle.journal_books.specs.Standing.{IsBook}
-use Rattle.server_command.specs.Racks.{AreHeld, Unfit, found_unfit, first_unfit, unfit_making, unfit_left}
+use Rattle.server_command.specs.Racks.{AreHeld, Unfit, found_unfit, first_unfit, unfit_making}
 use Rattle.server_command.specs.Command.{AreFit}
 
 -- one disk more

@@ -1,5 +1,5 @@
 -- What a run of steps on a desk leaves, by what its opening, its steps and its closing tell.
-use Rattle.std.proofs.Common.{◌≡◌, ◌<◌, ◌⊎◌, ◌∙◌, inl, inr, ℕ, List, [], length, Option, Some, ap, subst, sym}
+use Rattle.std.proofs.Common.{◌≡◌, ◌<◌, ◌⊎◌, ◌∙◌, inl, inr, ℕ, List, [], length, Option, Some, ap, subst}
 use Rattle.command_words.specs.declared.Options.{Options}
 use Rattle.journal_records.specs.Records.{journal_rules}
 use Rattle.script_nodes.specs.Setup.{Named}

@@ -78,9 +78,10 @@ opens_of : {D P L N : Type 0} (o : Outside D P L N) (s : Service) (scripts : Lis
     → length sources ≡ s.options.shelves
     → (p : OpensOn o.views.disk o.views.told (IsTrue o.rack.tells) o.views.nonce (λ k. rules_for s.options k scripts) scripts sources o.rack.before middle shelves)
     → Opens o.rack s scripts p.images
-opens_of o s scripts sources middle shelves count p = λ t.
-    (record { held = p.taken.held t; all = λ none. p.taken.many ∙ count }
-    , opened_fits (IsTrue o.rack.tells) o.views.nonce (λ k. rules_for s.options k scripts) scripts 0 p.images sources shelves p.opened.opened t)
+opens_of o s scripts sources middle shelves count p = λ t. (
+  record { held = p.taken.held t; all = λ none. p.taken.many ∙ count },
+  opened_fits (IsTrue o.rack.tells) o.views.nonce (λ k. rules_for s.options k scripts) scripts 0 p.images sources shelves p.opened.opened t,
+)
 
 pub serves_of : {D P L N : Type 0} (o : Outside D P L N) (s : Service) (scripts : List Named) (sources : List N) (middle : RackView) (first last : Vec (Shelf D N) Global)
     (result : Result Tally ServeFault) → length sources ≡ s.options.shelves → IfSome (o.seeds.gives s.options.shelves) (λ given. given ≡ sources)

@@ -1,5 +1,5 @@
 -- Lists of shelves: opened one behind the other, visited at a place, swept in order, closed from the last to the first.
-use Rattle.std.proofs.Common.{◌≡◌, ◌≢◌, ◌<◌, ◌≤◌, ◌+◌, ◌++◌, ◌∷◌, ◌∙◌, ◌⊎◌, inl, inr, ⊎_elim, ℕ, zero, suc, List, [], length, Bool, true, IsTrue, Option, Some, None, Result, refl, sym, ap, subst, arith}
+use Rattle.std.proofs.Common.{◌≡◌, ◌≢◌, ◌<◌, ◌≤◌, ◌+◌, ◌++◌, ◌∷◌, ◌∙◌, ◌⊎◌, inl, inr, ℕ, zero, suc, List, [], length, Bool, true, IsTrue, Some, None, Result, refl, sym, ap, subst, arith}
 use Rattle.std.specs.Prelude.{slice_get, slice_set, slice_index_or}
 use Rattle.std.proofs.lemmas.List.{length-set, length-append}
 use Rattle.std.proofs.lemmas.Option.{slice_get_within}
@@ -15,7 +15,7 @@ use Rattle.shelf.specs.declared.shelf.Shelf.{Shelf}
 use Rattle.shelf.specs.Views.{book_in, IsInOrder}
 use Rattle.server_command.specs.Racks.{StandsAt, first_unfit, unfit_left}
 use Rattle.server_command.specs.Serial.{AreInOrder, AreSwept, IsDone, IsSwept, Visited, VisitsOne, shelf_at, there}
-use Rattle.server_command.specs.Serving.{AllStand, AreOpened, IsOpened}
+use Rattle.server_command.specs.Serving.{AreOpened, IsOpened}
 use Rattle.server_command.specs.Opening.{AreOut}
 use Rattle.server_command.proofs.Racks.{made_fits}
 use Rattle.server_command.proofs.Openings.{Gives, GivesDownTo, gives_before, same_or_not}

@@ -1,6 +1,5 @@
 -- The scripts of a setup are such as the first record of a journal tells.
-use Rattle.std.proofs.Common.{◌≤◌, ◌<◌, ◌^◌, List, [], ◌∷◌, ℕ, length, arith}
-use Rattle.std.specs.Prelude.{map}
+use Rattle.std.proofs.Common.{◌≤◌, List, [], ◌∷◌, ℕ, length, arith}
 use Rattle.std.specs.List.{AllByRecursion}
 use Rattle.script_nodes.specs.Setup.{Named}
 use Rattle.journal_records.specs.Fields.{ScriptFits}

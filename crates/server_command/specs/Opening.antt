@@ -1,7 +1,7 @@
 -- What opening the shelves of a server comes to.
-use Rattle.std.specs.Prelude.{⊤, ◌≡◌, ◌≤◌, ◌<◌, ◌+◌, ℕ, Bool, true, false, List, map, length, Some, None, Result, Ok, Err}
+use Rattle.std.specs.Prelude.{⊤, ◌≡◌, ◌≤◌, ◌<◌, ◌+◌, ℕ, Bool, true, false, List, map, length, Some}
 use Rattle.web_outside.specs.Causes.{Rose}
-use Rattle.web_disk.specs.View.{View, RackView, AreAmong}
+use Rattle.web_disk.specs.View.{View, RackView}
 use Rattle.script_nodes.specs.Setup.{Named}
 use Rattle.replay_spec.specs.Rules.{Rules}
 use Rattle.journal_records.specs.Records.{IsInGrammar, begin_of}

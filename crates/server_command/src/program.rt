@@ -237,7 +237,16 @@ fn run_job<I: Source, O: Sink, D: Disk, R: Rack<D>>(
 }
 
 // Serves a setup, and tells what was counted.
-fn serve_setup<O: Sink, D: Disk, R: Rack<D>, A: Door, C: Clock, N: Nonces + Drop, S: Seeds<N>, G: Gate>(
+fn serve_setup<
+    O: Sink,
+    D: Disk,
+    R: Rack<D>,
+    A: Door,
+    C: Clock,
+    N: Nonces + Drop,
+    S: Seeds<N>,
+    G: Gate,
+>(
     alloc: Global,
     service: &Service,
     setup: &Setup,
@@ -282,7 +291,16 @@ fn serve_setup<O: Sink, D: Disk, R: Rack<D>, A: Door, C: Clock, N: Nonces + Drop
 }
 
 // Serves the setup that an input is.
-fn serve_input<O: Sink, D: Disk, R: Rack<D>, A: Door, C: Clock, N: Nonces + Drop, S: Seeds<N>, G: Gate>(
+fn serve_input<
+    O: Sink,
+    D: Disk,
+    R: Rack<D>,
+    A: Door,
+    C: Clock,
+    N: Nonces + Drop,
+    S: Seeds<N>,
+    G: Gate,
+>(
     alloc: Global,
     service: &Service,
     input: &[u8],
@@ -327,7 +345,17 @@ fn serve_input<O: Sink, D: Disk, R: Rack<D>, A: Door, C: Clock, N: Nonces + Drop
 }
 
 // Reads the input and serves it.
-fn run_service<I: Source, O: Sink, D: Disk, R: Rack<D>, A: Door, C: Clock, N: Nonces + Drop, S: Seeds<N>, G: Gate>(
+fn run_service<
+    I: Source,
+    O: Sink,
+    D: Disk,
+    R: Rack<D>,
+    A: Door,
+    C: Clock,
+    N: Nonces + Drop,
+    S: Seeds<N>,
+    G: Gate,
+>(
     alloc: Global,
     service: &Service,
     input: &mut I,
@@ -358,13 +386,25 @@ fn run_service<I: Source, O: Sink, D: Disk, R: Rack<D>, A: Door, C: Clock, N: No
     ensures rack_later { (R.view rack.old).faults ≤ (R.view rack.new).faults }
 {
     match read_all(alloc, input) {
-        Ok(bytes) => serve_input(alloc, service, &bytes, output, rack, door, clock, seeds, gate),
+        Ok(bytes) => serve_input(
+            alloc, service, &bytes, output, rack, door, clock, seeds, gate,
+        ),
         Err(fault) => tell_unread(fault, output),
     }
 }
 
 // Reads the words, and does what they ask for.
-fn run<I: Source, O: Sink, D: Disk, R: Rack<D>, A: Door, C: Clock, N: Nonces + Drop, S: Seeds<N>, G: Gate>(
+fn run<
+    I: Source,
+    O: Sink,
+    D: Disk,
+    R: Rack<D>,
+    A: Door,
+    C: Clock,
+    N: Nonces + Drop,
+    S: Seeds<N>,
+    G: Gate,
+>(
     alloc: Global,
     words: &[&str],
     input: &mut I,
@@ -399,7 +439,9 @@ fn run<I: Source, O: Sink, D: Disk, R: Rack<D>, A: Door, C: Clock, N: Nonces + D
         Ok(Command::Check) => run_job(alloc, &Job::Check, input, output, rack),
         Ok(Command::Play(options)) => run_job(alloc, &Job::Play(options), input, output, rack),
         Ok(Command::Serve(service)) => {
-            run_service(alloc, &service, input, output, rack, door, clock, seeds, gate)
+            run_service(
+                alloc, &service, input, output, rack, door, clock, seeds, gate,
+            )
         }
         Err(WordsFault::Usage) => {
             write_or_drop(output, b"error 2 usage\n");
@@ -415,7 +457,18 @@ fn run<I: Source, O: Sink, D: Disk, R: Rack<D>, A: Door, C: Clock, N: Nonces + D
 /// Each visit that is accepted shows what its script, run again from its start, shows next when fed the answers of
 /// its page's own ancestors and their reads of shared cells, and then its own; each other reply is the script's own
 /// fault or exactly the refusal that admission, cost or limits name, or want of memory.
-pub fn command<T, I: Source, O: Sink, D: Disk, R: Rack<D>, A: Door, C: Clock, N: Nonces + Drop, S: Seeds<N>, G: Gate>(
+pub fn command<
+    T,
+    I: Source,
+    O: Sink,
+    D: Disk,
+    R: Rack<D>,
+    A: Door,
+    C: Clock,
+    N: Nonces + Drop,
+    S: Seeds<N>,
+    G: Gate,
+>(
     _rt: &T,
     alloc: Global,
     words: &[&str],

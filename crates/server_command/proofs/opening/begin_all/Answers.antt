@@ -1,5 +1,5 @@
-use Rattle.std.proofs.Common.{◌≡◌, ◌<◌, ◌≤◌, ◌+◌, ◌∙◌, ◌++◌, ◌∷◌, [], ℕ, length, refl, sym, ap, subst, arith, rules}
-use Rattle.std.specs.Prelude.{IsTrue, ◌&&◌, vec_len}
+use Rattle.std.proofs.Common.{◌≡◌, ◌<◌, ◌+◌, ◌∙◌, length, refl, sym, ap, subst, arith, rules}
+use Rattle.std.specs.Prelude.{IsTrue, ◌&&◌}
 use Rattle.std.specs.VecDeque.{deque_len}
 use Rattle.web_outside.specs.Causes.{Rose}
 use Rattle.script_nodes.specs.Views.{scripts_of}

@@ -1,7 +1,5 @@
-use Rattle.std.proofs.Common.{◌≡◌, ◌++◌, List}
 use Rattle.std.specs.Prelude.{IsTrue, ◌&&◌, vec_len}
 use Rattle.script_nodes.specs.Views.{scripts_of}
-use Rattle.shelf.specs.declared.shelf.Shelf.{Shelf}
 use Rattle.server_command.proofs.Shelves.{ClosesAll}
 use Rattle.server_command.proofs.opening.close_all.Given as goal
 

@@ -1,5 +1,4 @@
 use Rattle.std.proofs.Common.{◌≡◌, ◌+◌}
-use Rattle.std.specs.Prelude.{vec_len}
 use Rattle.std.specs.VecDeque.{deque_len}
 use Rattle.server_command.proofs.Openings.{GivesUpTo}
 use Rattle.server_command.proofs.opening.give_all.Given as goal

@@ -1,10 +1,9 @@
-use Rattle.std.proofs.Common.{◌≡◌, ℕ, ap, refl, subst, arith}
-use Rattle.std.specs.Prelude.{◌&&◌, IsTrue}
+use Rattle.std.proofs.Common.{ap, refl, subst, arith}
+use Rattle.std.specs.Prelude.{◌&&◌}
 use Rattle.script_nodes.specs.Views.{scripts_of}
 use Rattle.play_steps.specs.Step.{steps_of}
 use Rattle.play_steps.specs.Transcript.{bad_line, done}
 use Rattle.play_steps.specs.declared.run.PlayEnd.TheVariants.{Reopen}
-use Rattle.play_steps.specs.declared.stage.Reopen.TheVariants as reopen
 use Rattle.play_desk.specs.Opening.{IsClosedBy}
 use Rattle.server_command.specs.Output.{sinks_of}
 use Rattle.server_command.specs.Racks.{racks_of}

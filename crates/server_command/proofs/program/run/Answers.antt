@@ -1,4 +1,4 @@
-use Rattle.std.proofs.Common.{◌≡◌, [], Ok, Err, inl, inr, refl, rules}
+use Rattle.std.proofs.Common.{◌≡◌, Ok, Err, inl, inr, refl, rules}
 use Rattle.command_words.specs.declared.Command.TheVariants.{Check, Play, Serve}
 use Rattle.command_words.specs.declared.WordsFault.TheVariants.{Usage}
 use Rattle.server_command.specs.Command.{met_of, texts}

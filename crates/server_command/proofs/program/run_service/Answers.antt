@@ -1,4 +1,4 @@
-use Rattle.std.proofs.Common.{◌≡◌, List, ℕ, Err, rules, refl, subst, arith}
+use Rattle.std.proofs.Common.{◌≡◌, Err, rules, refl, subst, arith}
 use Rattle.server_command.specs.Command.{met_of}
 use Rattle.std.specs.Prelude.{◌&&◌}
 use Rattle.server_command.specs.Racks.{racks_of}

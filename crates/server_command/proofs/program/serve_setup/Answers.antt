@@ -18,6 +18,8 @@ returns-in-Err-Shelf-clause-outputs g c =
     let o = outside (views g.D.Disk.view g.D.Disk.tells g.A.Porch.Link.Link.view g.A.Porch.Porch.view g.N.Nonces.nonce (g.C.Clock.shows c.args.clock.now))
     (racks_of (g.R.Rack.tells && g.D.Disk.tells) (g.R.Rack.view c.args.rack.now) (g.R.Rack.view c.serve.new.rack)) (g.A.Door.view c.args.door.now)
     (g.A.Door.view c.serve.new.door) (g.S.Seeds.view c.args.seeds.now) in
-    let served = c.serve.ensures.served in
-    (served.0, shuts_told (serves_over o) c.args.service.now (scripts_of c.args.setup.now) served.0 c.in-Err-Shelf.why c.tell_unopened.result _ _ _
-    (subst (ServesBy (serves_over o) c.args.service.now (scripts_of c.args.setup.now) served.0) is served.1) c.tell_unopened.ensures.tells)
+    let served = c.serve.ensures.served in (
+      served.0,
+      shuts_told (serves_over o) c.args.service.now (scripts_of c.args.setup.now) served.0 c.in-Err-Shelf.why c.tell_unopened.result _ _ _
+          (subst (ServesBy (serves_over o) c.args.service.now (scripts_of c.args.setup.now) served.0) is served.1) c.tell_unopened.ensures.tells,
+    )

@@ -1,4 +1,4 @@
-use Rattle.std.proofs.Common.{◌≡◌, ◌∙◌, ℕ, length, subst, sym, arith}
+use Rattle.std.proofs.Common.{◌≡◌, ◌∙◌, length, subst, sym}
 use Rattle.std.specs.Prelude.{IsTrue, ◌&&◌, vec_len}
 use Rattle.script_nodes.specs.Views.{scripts_of}
 use Rattle.server_command.specs.Opening.{AreOut, OpensOn, TakesBack}

@@ -1,8 +1,8 @@
-use Rattle.std.proofs.Common.{inr, subst, arith}
+use Rattle.std.proofs.Common.{inr, subst}
 use Rattle.script_nodes.specs.Views.{scripts_of}
 use Rattle.request_workers.specs.Tallies.{count_of}
 use Rattle.server_command.specs.Serving.{ServedFrom, views}
-use Rattle.server_command.proofs.Servings.{links_served, not_less, porch_rose}
+use Rattle.server_command.proofs.Servings.{links_served}
 use Rattle.server_command.proofs.serving.serve_links.Goals as goal
 
 pub returns-in-Done-clause-served : goal.returns-in-Done-clause-served

@@ -1,8 +1,8 @@
-use Rattle.std.proofs.Common.{◌≡◌, ◌<◌, ◌≤◌, ◌∙◌, ◌++◌, ◌∷◌, [], ℕ, length, take, drop, refl, sym, ap, subst, arith, ◌+◌}
-use Rattle.std.specs.Prelude.{slice_get, slice_index_or, slice_set, vec_len, vec_capacity, Some}
+use Rattle.std.proofs.Common.{◌≡◌, ◌<◌, ◌∙◌, ◌++◌, length, take, drop, sym, ap, subst, arith, ◌+◌}
+use Rattle.std.specs.Prelude.{slice_index_or, slice_set}
 use Rattle.std.proofs.Math.Seq.{take-append_seam}
 use Rattle.script_nodes.specs.Views.{scripts_of}
-use Rattle.server_command.specs.Serial.{AreInOrder, AreOwn, AreSwept}
+use Rattle.server_command.specs.Serial.{AreOwn, AreSwept}
 use Rattle.server_command.proofs.Shelves.{SweptUpTo, at_index_or, order_set, swept_all, swept_more}
 use Rattle.server_command.proofs.serial.SerialAnswering.tick.Goals as goal
 

@@ -1,5 +1,5 @@
-use Rattle.std.proofs.Common.{◌≡◌, ◌≤◌, length}
-use Rattle.std.specs.Prelude.{vec_len, vec_capacity}
+use Rattle.std.proofs.Common.{◌≤◌, length}
+use Rattle.std.specs.Prelude.{vec_capacity}
 use Rattle.script_nodes.specs.Views.{scripts_of}
 use Rattle.server_command.specs.Serial.{AreInOrder}
 use Rattle.server_command.proofs.Shelves.{SweptUpTo}

@@ -1,5 +1,5 @@
-use Rattle.std.proofs.Common.{◌≡◌, ◌<◌, ◌∙◌, length, rules, arith}
-use Rattle.std.specs.Prelude.{vec_len, slice_get, Some}
+use Rattle.std.proofs.Common.{◌<◌, ◌∙◌, rules, arith}
+use Rattle.std.specs.Prelude.{vec_len}
 use Rattle.std.proofs.lemmas.List.{length-set}
 use Rattle.script_value.specs.Views.{meaning}
 use Rattle.script_nodes.specs.Views.{scripts_of}
