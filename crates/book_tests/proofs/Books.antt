@@ -1,5 +1,5 @@
 -- What tickets and effects of these tests stand for.
-use Rattle.std.proofs.Common.{◌≡◌, ◌∙◌, ◌++◌, ◌∷◌, ℕ, List, [], map, length, Option, Some, None, Result, IfOk, Contains, IfSome, ap, sym, subst}
+use Rattle.std.proofs.Common.{◌≡◌, ◌∙◌, ℕ, List, [], map, length, Option, Some, None, Contains, IfSome, ap, sym, subst}
 use Rattle.std.proofs.lemmas.List.Elements.{Contains-push}
 use Rattle.replay_spec.specs.Book as spec
 use Rattle.replay_spec.specs.Next as next
