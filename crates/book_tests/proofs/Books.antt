@@ -51,5 +51,6 @@ copy_runs scripts t copy same is = record {
     script = rw same.script is.fits.script;
     url = same.url ∙ is.fits.url;
     from = subst (λ (o : Option Suspended). GoesOnFrom is.visit o) (sym same.from) is.fits.from;
+    links = same.links ∙ is.fits.links;
   };
 }

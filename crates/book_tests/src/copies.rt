@@ -5,7 +5,6 @@ ghost use Rattle.instance_book.specs.Fits.{IsForSome};
 ghost use Rattle.instance_book.specs.Changes.{HasRoomFor};
 ghost use Rattle.instance_book.specs.Makes.{HasItsStates};
 
-use crate::texts::{datum, is_datum, setup, target, text_of};
 use instance_book::{Book, Prepared, Ticket};
 use page_names::Target;
 use script_nodes::{SendKind, Setup};
@@ -14,6 +13,7 @@ use shelf::run_ticket;
 use std::alloc::Global;
 use std::test::Fail;
 use stored_states::{Outcome, Segment, Suspended};
+use test_shelves::{datum, is_datum, setup, target, text_of};
 use web_cells::Shades;
 
 const READS: &str =
@@ -136,6 +136,16 @@ fn prepared(alloc: Global, book: &mut Book, ticket: &Ticket) -> Result<Prepared,
     }
 }
 
+// A copy of what is prepared, for which the book has room too.
+fn copied(alloc: Global, book: &Book, prepared: &Prepared) -> Result<Prepared, Fail>
+    requires { HasRoomFor prepared.now.change book.now }
+    ensures { IfOk result (λ p. HasRoomFor p.change book.now) }
+{
+    let _ = book;
+    let copy = prepared.try_clone(alloc)?;
+    Ok(copy)
+}
+
 // What is prepared, or a copy of it, is installed.
 fn installed(alloc: Global, book: &mut Book, setup: &Setup, is_copy: bool) -> Result<Reply, Fail>
     requires { HasItsStates (scripts_of setup.now) book.old }
@@ -143,7 +153,8 @@ fn installed(alloc: Global, book: &mut Book, setup: &Setup, is_copy: bool) -> Re
     let ticket = started(alloc, book, setup)?;
     let prepared = prepared(alloc, book, &ticket)?;
     if is_copy {
-        return Ok(book.install(prepared.try_clone(alloc)?));
+        let copy = copied(alloc, book, &prepared)?;
+        return Ok(book.install(copy));
     }
     Ok(book.install(prepared))
 }

@@ -1,9 +1,8 @@
-use crate::openings::{bytes_of, created, opened};
-use crate::texts::setup;
 use script_nodes::Setup;
 use shelf::BeginFault;
 use std::alloc::Global;
 use std::test::Fail;
+use test_shelves::{bytes_of, created, opened, setup};
 
 const TEN: &str = "'(p \"12345\")";
 

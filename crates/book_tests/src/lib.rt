@@ -9,10 +9,6 @@ mod cuts;
 #[cfg(test)]
 mod numbers;
 #[cfg(test)]
-mod openings;
-#[cfg(test)]
 mod setups;
 #[cfg(test)]
 mod shelves;
-#[cfg(test)]
-mod texts;

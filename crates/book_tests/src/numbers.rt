@@ -1,8 +1,7 @@
-use crate::openings::{bytes_of, created, next_number, opened};
-use crate::texts::setup;
 use script_nodes::Setup;
 use std::alloc::Global;
 use std::test::Fail;
+use test_shelves::{bytes_of, created, next_number, opened, setup};
 
 const HELLO: &str = "(send/suspend (lambda (u) \"hello\"))";
 

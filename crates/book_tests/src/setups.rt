@@ -1,8 +1,8 @@
-use crate::texts::setup;
 use page_names::ScriptName;
 use script_nodes::{Node, Script, Setup};
 use script_value::Value;
 use std::test::Fail;
+use test_shelves::setup;
 
 fn value_of(script: &Script) -> Option<i64> {
     match script.node(script.root()) {

@@ -6,15 +6,15 @@ use Rattle.file_disk.specs.declared.served.ServedDisk.TheVariants.{Memory, File}
 use Rattle.file_disk.specs.Files.{file_view}
 use Rattle.file_disk.specs.MemoryFiles.{memory_file_view}
 
-abbrev pub served_view : ServedDisk → View
+abbrev pub served_view : {R : Type 0} → ServedDisk R → View
 served_view (Memory disk) = memory_file_view disk
-served_view (File disk) = file_view disk
+served_view (File file) = file_view file.disk
 
 -- it tells no images
-pub no_image : (disk : ServedDisk) (image : List ℕ) → (served_view disk).images image → ⊥
+pub no_image : {R : Type 0} (disk : ServedDisk R) (image : List ℕ) → (served_view disk).images image → ⊥
 no_image (Memory disk) image left = left
-no_image (File disk) image left = left
+no_image (File file) image left = left
 
-pub no_moment : (disk : ServedDisk) (t : ℕ) (image : List ℕ) → (served_view disk).since t image → ⊥
+pub no_moment : {R : Type 0} (disk : ServedDisk R) (t : ℕ) (image : List ℕ) → (served_view disk).since t image → ⊥
 no_moment (Memory disk) t image left = left
-no_moment (File disk) t image left = left
+no_moment (File file) t image left = left

@@ -9,6 +9,8 @@ mod memory_shelves;
 mod open;
 mod served;
 mod served_rack;
+mod watch;
+mod watched;
 
 pub use file::FileDisk;
 pub use file_rack::FileRack;
@@ -16,3 +18,4 @@ pub use memory_file::MemoryFile;
 pub use memory_shelves::MOST_MEMORY_DISKS;
 pub use served::ServedDisk;
 pub use served_rack::{MEMORY, ServedRack};
+pub use watched::WatchedFile;

@@ -2,22 +2,23 @@ ghost use Rattle.std.specs.Prelude.{◌≡◌, false};
 ghost use Rattle.file_disk.specs.Files.{nothing_told};
 ghost use Rattle.file_disk.specs.Served.{served_view, no_image, no_moment};
 
-use crate::{FileDisk, MemoryFile};
+use crate::MemoryFile;
+use crate::watched::WatchedFile;
 use std::alloc::AllocError;
-use std::fs::File;
+use std::time::Clock;
 use web_disk::Disk;
 use web_outside::Failed;
 
 /// A disk that a program is given: in memory, or a file. It does not tell its bytes.
 #[derive(Drop)]
-pub enum ServedDisk {
+pub enum ServedDisk<'r, R> {
     /// A disk in memory, of the directory named `-`.
     Memory(MemoryFile),
     /// A file of a folder.
-    File(FileDisk<File>),
+    File(WatchedFile<'r, R>),
 }
 
-impl Disk for ServedDisk {
+impl<R: Clock + Eprint> Disk for ServedDisk<'_, R> {
     ghost tells = { false };
 
     ghost view = { λ disk. served_view disk };

@@ -2,14 +2,17 @@ ghost use Rattle.std.specs.Prelude.{◌≡◌, ◌≤◌, ℕ, false, IfOk, OnOk
 ghost use Rattle.web_outside.specs.Causes.{Rose};
 ghost use Rattle.web_disk.specs.Racks.{faults_after_take};
 ghost use Rattle.file_disk.specs.Lendings.{is_out, Lends, SameOut, lending_view};
-ghost use Rattle.file_disk.specs.Served.{served_view};
+ghost use Rattle.file_disk.specs.MemoryFiles.{memory_file_view};
 
 use crate::file_rack::take_file;
 use crate::lending::Lending;
 use crate::memory_shelves::MemoryShelves;
+use crate::watch::Watch;
+use crate::watched::WatchedFile;
 use crate::{MemoryFile, ServedDisk};
 use std::alloc::Global;
 use std::fs::{File, Files};
+use std::time::Clock;
 use web_disk::{Disk, Rack, RackFault};
 
 /// The directory of this name is no folder: its disks are in memory.
@@ -44,7 +47,7 @@ fn take_memory(
     shelves: &mut MemoryShelves,
     number: u32,
 ) -> Result<MemoryFile, RackFault>
-    ensures fresh { IfOk result (λ disk. (served_view (ServedDisk.Memory disk)).faults ≡ 0) }
+    ensures fresh { IfOk result (λ disk. (memory_file_view disk).faults ≡ 0) }
     ensures out { OnOk result (Lends lending.old lending.new number) }
     ensures err { OnErr result (SameOut lending.old lending.new) }
     ensures faults { lending.new.faults ≡ faults_after_take result lending.old.faults }
@@ -62,7 +65,7 @@ fn take_memory(
     }
 }
 
-impl<'r, R: Files<File = File> + Eprint> Rack<ServedDisk> for ServedRack<'r, R> {
+impl<'r, R: Files<File = File> + Clock + Eprint> Rack<ServedDisk<'r, R>> for ServedRack<'r, R> {
     ghost tells = { false };
 
     ghost view = { λ rack. lending_view rack.lending };
@@ -76,18 +79,20 @@ impl<'r, R: Files<File = File> + Eprint> Rack<ServedDisk> for ServedRack<'r, R> 
         alloc: Global,
         directory: &str,
         number: u32,
-    ) -> Result<ServedDisk, RackFault> {
+    ) -> Result<ServedDisk<'r, R>, RackFault> {
         let lending = &mut self.lending;
         if directory == MEMORY {
             let disk = take_memory(alloc, lending, &mut self.shelves, number)?;
             Ok(ServedDisk::Memory(disk))
         } else {
+            let path = format!(in alloc; "{directory}/shelf-{number}")?;
             let disk = take_file(self.rt, alloc, lending, directory, number)?;
-            Ok(ServedDisk::File(disk))
+            let watch = Watch::new(self.rt, path);
+            Ok(ServedDisk::File(WatchedFile::new(disk, watch)))
         }
     }
 
-    fn give(&mut self, number: u32, disk: ServedDisk) {
+    fn give(&mut self, number: u32, disk: ServedDisk<'r, R>) {
         self.lending.take_back(number, disk.faults());
         match disk {
             ServedDisk::Memory(disk) => self.shelves.give(number, disk.into_disk()),

@@ -105,7 +105,7 @@ all_behind P [] ys h = h
 all_behind P (x ∷ xs) ys h = all_behind P xs ys h.1
 
 -- the frames of a difference are read as the state's are
-frames_are_read : (a : Arena) (p s : Suspended) (d : Delta) → IsStored a s → IsDelta p s d → DeltaHasBytes d → FitsList (IsRead a) d.frames
+pub frames_are_read : (a : Arena) (p s : Suspended) (d : Delta) → IsStored a s → IsDelta p s d → DeltaHasBytes d → FitsList (IsRead a) d.frames
 frames_are_read a p s d stored is has =
     let P : Frame → Type 0 = λ f. LetFits f (node_at a (node_of f)) in
     let lets : AllByRecursion P (reverse s.frames) = all_reversed P s.frames (lets_fit a s.frames stored.fits.node s.env stored.fits.works) in

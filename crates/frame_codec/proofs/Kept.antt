@@ -225,7 +225,7 @@ steps_fit : (a : Arena) → IsScript a → (k : ℕ) (m : Machine) → ShadowsFi
 steps_fit a i zero m w = w
 steps_fit a i (suc k) m w = on_fits a (steps a k) (step a m) (steps_fit a i k) (step_fits a i m w)
 
-kept_shadows : (a : Arena) → IsScript a → (t : Tape) (d : Suspended) → IsStateOf a t d → ShadowsFit a d.shadows
+pub kept_shadows : (a : Arena) → IsScript a → (t : Tape) (d : Suspended) → IsStateOf a t d → ShadowsFit a d.shadows
 kept_shadows a i t d is =
     let s = is.stops in
     let fits : StepFits a (steps a s.count (started a t)) = steps_fit a i s.count (started a t) (record { rise = tt; named = tt }) in

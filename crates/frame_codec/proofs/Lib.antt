@@ -11,3 +11,5 @@ pub mod Turns
 pub mod Kept
 pub mod Fronts
 pub mod Differences
+pub mod Parts
+pub mod Firsts

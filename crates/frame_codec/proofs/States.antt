@@ -72,7 +72,7 @@ state_of x = record { env = x.0; frames = reverse x.1.0; shadows = x.1.1 }
 pub state_again : (d : Suspended) → state_of (parts_of d) ≡ d
 state_again d = ap (λ (fs : List Frame). record { env = d.env; frames = fs; shadows = d.shadows }) (reverse-reverse d.frames)
 
-stored_parts : (a : Arena) (d : Suspended) → IsStored a d → PartsFit a (parts_of d)
+pub stored_parts : (a : Arena) (d : Suspended) → IsStored a d → PartsFit a (parts_of d)
 stored_parts a d s =
     let lets = all_reversed (λ f. LetFits f (node_at a (node_of f))) d.frames (lets_fit a d.frames s.fits.node d.env s.fits.works) in
     let frames = all_both FrameHasBytes (λ f. LetFits f (node_at a (node_of f))) (reverse d.frames) s.bytes.frames.1 lets in

@@ -6,4 +6,7 @@ pub mod Laws
 pub mod Views
 pub mod Deltas
 pub mod DeltaViews
+pub mod Parted
+pub mod PartedViews
+pub mod Fronts
 pub mod Vectors

@@ -3,13 +3,16 @@ ghost use Rattle.web_cells.specs.Shadows.{Rise};
 ghost use Rattle.stored_states.specs.Views.{suspended_of};
 ghost use Rattle.value_bytes.specs.Views.{Reads};
 ghost use Rattle.frame_codec.specs.Stored.{IsStored};
-ghost use Rattle.frame_codec.specs.Deltas.{delta_bytes, DeltaHasBytes, SpellsDelta, HasNoDelta};
+ghost use Rattle.frame_codec.specs.Deltas.{delta_bytes, joined, DeltaHasBytes, SpellsDelta, HasNoDelta};
+ghost use Rattle.frame_codec.specs.Parted.{delta_parts};
+ghost use Rattle.frame_codec.specs.PartedViews.{parted_of};
 ghost use Rattle.frame_codec.specs.Deltas as spec;
 ghost use Rattle.frame_codec.specs.DeltaViews.{delta_of, parts_of_delta};
 
 use crate::difference::Delta;
 use crate::fit::{frames_fit, shadows_fit};
 use crate::joined::{delta, join};
+use crate::parted::Parted;
 use crate::read::{read_frames, read_shadows};
 use crate::spelled::{frames_have_bytes, is_spelled, shadows_have_bytes};
 use crate::write::{write_frames, write_shadows};
@@ -36,18 +39,29 @@ pub fn is_delta_spelled(delta: &Delta) -> bool
         && shadows_have_bytes(delta.shadows.as_slice())
 }
 
+/// The spelling of a difference that has one, in its parts.
+pub fn spell_delta(alloc: Global, delta: &Delta) -> Result<Parted, AllocError>
+    requires { DeltaHasBytes (delta_of delta.now) }
+    ensures { IfOk result (λ parts. parted_of parts ≡ delta_parts (delta_of delta.now)) }
+{
+    let mut env = Writer::new(alloc);
+    env.u32(delta.env_shared as u32)?;
+    write_values(&mut env, delta.env.as_slice())?;
+    let mut frames = Writer::new(alloc);
+    frames.u32(delta.frames_shared as u32)?;
+    write_frames(&mut frames, delta.frames.as_slice())?;
+    let mut shadows = Writer::new(alloc);
+    write_shadows(&mut shadows, delta.shadows.as_slice())?;
+    Parted::of(env.finish(), &frames.finish(), &shadows.finish())
+}
+
 /// The spelling of a difference that has one.
+#[tactic(auto, using(crate::proofs::Parts::delta_whole))]
 pub fn encode_delta(alloc: Global, delta: &Delta) -> Result<Bytes, AllocError>
     requires { DeltaHasBytes (delta_of delta.now) }
     ensures { IfOk result (λ bytes. bytes ≡ delta_bytes (delta_of delta.now)) }
 {
-    let mut writer = Writer::new(alloc);
-    writer.u32(delta.env_shared as u32)?;
-    write_values(&mut writer, delta.env.as_slice())?;
-    writer.u32(delta.frames_shared as u32)?;
-    write_frames(&mut writer, delta.frames.as_slice())?;
-    write_shadows(&mut writer, delta.shadows.as_slice())?;
-    Ok(writer.finish())
+    Ok(spell_delta(alloc, delta)?.into_bytes())
 }
 
 // What a difference is made of, as it stands at the cursor.
@@ -68,7 +82,7 @@ fn read_parts(alloc: Global, script: &Script, cursor: &mut Cursor<'_>) -> Result
     })
 }
 
-// What these bytes say, whether a state has it or not.
+// What these bytes say, whether a state differs so from its parent or not. No count in them is trusted.
 fn read_delta(alloc: Global, script: &Script, bytes: &[u8]) -> Result<Option<Delta>, AllocError>
     ensures { IfOk result (λ found. option_map delta_of found ≡ spec.read_delta script.now bytes.now) }
 {
@@ -110,6 +124,13 @@ fn has_these_bytes(alloc: Global, delta: &Delta, bytes: &[u8]) -> Result<bool, A
     Ok(spelled.as_slice() == bytes)
 }
 
+// The parent's state, which stays, with what differs.
+fn join_to(alloc: Global, parent: &Suspended, delta: Delta) -> Result<Suspended, AllocError>
+    ensures { IfOk result (λ state. suspended_of state ≡ joined (suspended_of parent.now) (delta_of delta)) }
+{
+    join(alloc, parent.try_clone(alloc)?, delta)
+}
+
 /// The difference that these bytes spell, of a state that fits the script, has a spelling and binds what its parent binds; none where no such state differs so from its parent.
 ///
 /// A front that is told shorter than it is, or anything else that the parent has already, is no difference. What it takes of memory is what the bytes that are there and the parent's state ask for: no count in them is trusted.
@@ -126,7 +147,7 @@ pub fn decode_delta(
     let Some(said) = read_delta(alloc, script, bytes)? else {
         return Ok(None);
     };
-    let state = join(alloc, parent, &said)?;
+    let state = join_to(alloc, parent, said)?;
     if !is_stored(script, &state) {
         return Ok(None);
     }

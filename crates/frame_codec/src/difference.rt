@@ -1,3 +1,8 @@
+ghost use Rattle.std.specs.Prelude.{◌≡◌};
+ghost use Rattle.frame_codec.specs.DeltaViews.{delta_of};
+ghost use Rattle.frame_codec.specs.Fronts.{shared_need};
+
+use crate::need::Need;
 use script_value::Items;
 use stored_states::Frame;
 use web_cells::Own;
@@ -15,4 +20,16 @@ pub struct Delta {
     pub frames: Vec<Frame>,
     /// The bindings of web cells that the parent has not, or has with another value.
     pub shadows: Own,
+}
+
+impl Delta {
+    /// How much of the parent's state is shared.
+    pub fn shared(&self) -> Need
+        ensures { result ≡ shared_need (delta_of self.now) }
+    {
+        Need {
+            variables: self.env_shared,
+            frames: self.frames_shared,
+        }
+    }
 }

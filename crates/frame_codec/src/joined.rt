@@ -1,13 +1,17 @@
 ghost use Rattle.std.specs.Prelude.{◌≡◌, IfOk, take};
+ghost use Rattle.web_cells.specs.Shadows.{all_bound};
 ghost use Rattle.stored_states.specs.Views.{suspended_of};
 ghost use Rattle.frame_codec.specs.Deltas.{IsDelta, GoesOnFrom, joined};
 ghost use Rattle.frame_codec.specs.DeltaViews.{delta_of};
+ghost use Rattle.frame_codec.specs.Fronts as spec;
 
 use crate::difference::Delta;
+use crate::need::Need;
 use crate::shared::{add_frames, add_values, front, shared_frames, shared_values};
 use script_value::Items;
 use std::alloc::{AllocError, Global};
 use stored_states::{Frame, Suspended};
+use web_cells::{Own, Shades};
 
 // What differs between a state and its parent's.
 fn difference(alloc: Global, parent: &Suspended, state: &Suspended) -> Result<Delta, AllocError>
@@ -59,15 +63,40 @@ fn front_frames(alloc: Global, frames: &[Frame], count: usize) -> Result<Vec<Fra
     Ok(copies)
 }
 
-/// The parent's state with what differs.
-pub fn join(alloc: Global, parent: &Suspended, delta: &Delta) -> Result<Suspended, AllocError>
-    ensures { IfOk result (λ state. suspended_of state ≡ joined (suspended_of parent.now) (delta_of delta.now)) }
+/// A copy of a front of a state.
+pub fn copied_front(alloc: Global, state: &Suspended, need: Need) -> Result<Suspended, AllocError>
+    ensures { IfOk result (λ copy. suspended_of copy ≡ spec.front need (suspended_of state.now)) }
 {
-    let mut env = front_values(alloc, &parent.env, delta.env_shared)?;
-    add_values(alloc, &mut env, delta.env.as_slice())?;
-    let mut frames = front_frames(alloc, parent.frames.as_slice(), delta.frames_shared)?;
-    add_frames(alloc, &mut frames, delta.frames.as_slice())?;
-    let shades = parent.shades.with(alloc, &delta.shadows)?;
+    Ok(Suspended {
+        env: front_values(alloc, &state.env, need.variables)?,
+        frames: front_frames(alloc, state.frames.as_slice(), need.frames)?,
+        shades: state.shades.try_clone(alloc)?,
+    })
+}
+
+// Bindings with a page's own in their place.
+#[tactic(auto, using(web_cells::proofs::Owned::with_one))]
+fn bound_with(alloc: Global, mut shades: Shades, own: &Own) -> Result<Shades, AllocError>
+    ensures { IfOk result (λ made. made ≡ all_bound own.now shades) }
+{
+    for shadow in own.as_slice() {
+        shades.shadow(shadow.cell, shadow.value.try_clone(alloc)?)?;
+    }
+    Ok(shades)
+}
+
+/// The parent's state, or a front of it that has what is shared, with what differs.
+pub fn join(alloc: Global, parent: Suspended, delta: Delta) -> Result<Suspended, AllocError>
+    ensures { IfOk result (λ state. suspended_of state ≡ joined (suspended_of parent) (delta_of delta)) }
+{
+    let mut env = parent.env;
+    env.truncate(delta.env_shared);
+    env.append(delta.env)?;
+    let mut frames = parent.frames;
+    frames.truncate(delta.frames_shared);
+    let mut own = delta.frames;
+    frames.append(&mut own)?;
+    let shades = bound_with(alloc, parent.shades, &delta.shadows)?;
     Ok(Suspended {
         env,
         frames,

@@ -3,11 +3,15 @@
 
 ghost use Rattle.frame_codec.specs.Laws.{AreStatesExact, EachKeptIsStored};
 ghost use Rattle.frame_codec.specs.Deltas.{DeltasAreOne, EachDeltaHasBytes};
+ghost use Rattle.frame_codec.specs.Fronts.{AreFrontsRead, FrontsJoin};
 
 mod delta_bytes;
 mod difference;
 mod fit;
+mod front_bytes;
 mod joined;
+mod need;
+mod parted;
 mod read;
 mod shared;
 mod size;
@@ -15,13 +19,16 @@ mod spelled;
 mod state;
 mod write;
 
-pub use delta_bytes::{decode_delta, encode_delta, is_delta_spelled, is_stored};
+pub use delta_bytes::{decode_delta, encode_delta, is_delta_spelled, is_stored, spell_delta};
 pub use difference::Delta;
-pub use joined::{delta, join};
+pub use front_bytes::{read_delta_front, read_front};
+pub use joined::{copied_front, delta, join};
+pub use need::Need;
+pub use parted::Parted;
 pub use size::length;
 pub use spelled::is_spelled;
 pub use state::decode;
-pub use write::encode;
+pub use write::{encode, spell_state};
 
 /// What is written is read back, and what is read is spelled so and fits; no spelling is the front of another one.
 pub fn states_are_exact()
@@ -41,4 +48,14 @@ pub fn deltas_are_one()
 /// What differs between a state that has a spelling and its parent's has one too.
 pub fn each_delta_has_bytes()
     ensures { EachDeltaHasBytes }
+{}
+
+/// What is written of a state that fits the script, or of the difference of one, says each front of it.
+pub fn fronts_are_read()
+    ensures { AreFrontsRead }
+{}
+
+/// The front of a state is that of its parent's, as far as it is shared, with what the difference has of it.
+pub fn fronts_join()
+    ensures { FrontsJoin }
 {}

@@ -1,6 +1,6 @@
 ghost use Rattle.std.specs.Prelude.{◌≡◌, option_map, map};
 ghost use Rattle.web_cells.specs.Views.{pair_of};
-ghost use Rattle.value_bytes.specs.Reading.{read_list};
+ghost use Rattle.value_bytes.specs.Reading.{read_list, read_several};
 ghost use Rattle.value_bytes.specs.Views.{Reads};
 ghost use Rattle.stored_states.specs.Views.{frame_of};
 ghost use Rattle.frame_codec.specs.Reading as spec;
@@ -120,8 +120,25 @@ fn read_frame(alloc: Global, script: &Script, cursor: &mut Cursor<'_>) -> Result
     }
 }
 
-// A list of frames. They are kept one by one, so that no count is trusted.
+// So many frames. They are kept one by one, so that no count is trusted.
 #[tactic(auto, using(value_bytes::proofs::Turns::one_more, value_bytes::proofs::Turns::no_more, value_bytes::proofs::Turns::at_end))]
+pub fn read_frames_of(
+    alloc: Global,
+    script: &Script,
+    cursor: &mut Cursor<'_>,
+    count: usize,
+) -> Result<Vec<Frame>, Unread>
+    ensures { Reads (λ fs. map frame_of fs.items) result cursor.new (read_several (spec.read_frame script.now) count cursor.old) }
+{
+    let mut frames = Vec::new(alloc);
+    for turn in 0..count {
+        let frame = read_frame(alloc, script, cursor)?;
+        frames.push(frame)?;
+    }
+    Ok(frames)
+}
+
+// A list of frames.
 pub fn read_frames(
     alloc: Global,
     script: &Script,
@@ -130,12 +147,7 @@ pub fn read_frames(
     ensures { Reads (λ fs. map frame_of fs.items) result cursor.new (read_list (spec.read_frame script.now) cursor.old) }
 {
     let count = number_32(cursor)?;
-    let mut frames = Vec::new(alloc);
-    for turn in 0..count {
-        let frame = read_frame(alloc, script, cursor)?;
-        frames.push(frame)?;
-    }
-    Ok(frames)
+    read_frames_of(alloc, script, cursor, count as usize)
 }
 
 fn read_shadow(alloc: Global, cursor: &mut Cursor<'_>) -> Result<Shadow, Unread>

@@ -116,6 +116,17 @@ pub fn front<T>(items: &[T], count: usize) -> &[T]
     }
 }
 
+/// What stands behind the first so many.
+pub fn behind<T>(items: &[T], count: usize) -> &[T]
+    ensures { result.now ≡ drop count items.now }
+{
+    if count < items.len() {
+        &items[count..]
+    } else {
+        &[]
+    }
+}
+
 /// Copies of values behind those that are there. Where memory runs out, some of them may stand there.
 pub fn add_values(alloc: Global, values: &mut Items, more: &[Value]) -> Result<(), AllocError>
     ensures { OnOk result (values.new ≡ values.old ++ map meaning more.now) }

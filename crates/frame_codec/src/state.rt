@@ -15,9 +15,9 @@ use value_bytes::Unread;
 use web_cells::{Shades, Shadow};
 use wire_bytes::Cursor;
 
-// Cells bound one behind the other.
+/// Cells bound one behind the other.
 #[tactic(auto, using(crate::proofs::Shades::one_more))]
-fn shades_of(alloc: Global, shadows: Vec<Shadow>) -> Result<Shades, AllocError>
+pub fn shades_of(alloc: Global, shadows: Vec<Shadow>) -> Result<Shades, AllocError>
     ensures { IfOk result (λ shades. shades ≡ all_bound (map pair_of shadows.items) []) }
 {
     let mut shades = Shades::root(alloc);

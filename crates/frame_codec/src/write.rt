@@ -7,7 +7,10 @@ ghost use Rattle.value_bytes.specs.Spelling.{HaveBytes, FitsList, list_bytes, va
 ghost use Rattle.machine_spec.specs.Machine.{in_binding, in_operand, in_turn, in_isolate};
 ghost use Rattle.stored_states.specs.Views.{frame_of, suspended_of};
 ghost use Rattle.frame_codec.specs.Spelling.{frame_bytes, let_bytes, part_bytes, shadow_bytes, state_bytes, FrameHasBytes, ShadowHasBytes, StateHasBytes};
+ghost use Rattle.frame_codec.specs.Parted.{state_parts};
+ghost use Rattle.frame_codec.specs.PartedViews.{parted_of};
 
+use crate::parted::Parted;
 use script_value::{Bytes, Items, TxName, Value};
 use std::alloc::{AllocError, Global};
 use stored_states::{Frame, Suspended};
@@ -149,14 +152,24 @@ pub fn write_shadows(writer: &mut Writer, shadows: &[Shadow]) -> Result<(), Allo
     write_each_shadow(writer, shadows)
 }
 
+/// The spelling of a state that has one, in its parts.
+pub fn spell_state(alloc: Global, state: &Suspended) -> Result<Parted, AllocError>
+    requires { StateHasBytes (suspended_of state.now) }
+    ensures { IfOk result (λ parts. parted_of parts ≡ state_parts (suspended_of state.now)) }
+{
+    let mut env = Writer::new(alloc);
+    write_values(&mut env, state.env.as_slice())?;
+    let mut frames = Writer::new(alloc);
+    write_frames(&mut frames, state.frames.as_slice())?;
+    let mut shadows = Writer::new(alloc);
+    write_shadows(&mut shadows, state.shades.as_slice())?;
+    Parted::of(env.finish(), &frames.finish(), &shadows.finish())
+}
+
 /// The spelling of a state that has one.
 pub fn encode(alloc: Global, state: &Suspended) -> Result<Bytes, AllocError>
     requires { StateHasBytes (suspended_of state.now) }
     ensures { IfOk result (λ bytes. bytes ≡ state_bytes (suspended_of state.now)) }
 {
-    let mut writer = Writer::new(alloc);
-    write_values(&mut writer, state.env.as_slice())?;
-    write_frames(&mut writer, state.frames.as_slice())?;
-    write_shadows(&mut writer, state.shades.as_slice())?;
-    Ok(writer.finish())
+    Ok(spell_state(alloc, state)?.into_bytes())
 }

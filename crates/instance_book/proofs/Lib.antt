@@ -2,6 +2,8 @@ pub mod Orders
 pub mod Lists
 pub mod Seen
 pub mod States
+pub mod Behind
 pub mod Lands
 pub mod Admitted
 pub mod Recorded
+pub mod Whole

@@ -15,7 +15,7 @@ use Rattle.instance_book.specs.Orders.{Rises, IsAt, numbers_of}
 use Rattle.instance_book.specs.declared.book.Book.{Book}
 use Rattle.instance_book.specs.Views.{page_of, instance_of, book_of}
 use Rattle.instance_book.specs.Swept.{cells_in, cells_at}
-use Rattle.machine_spec.specs.Machine.{Suspended}
+use Rattle.kept_states.specs.Kept.{Kept}
 use Rattle.instance_book.specs.Places.{shown_of}
 use Rattle.instance_book.proofs.Orders.{Ascends, rises, ascends}
 use Rattle.instance_book.proofs.Lists.{within}
@@ -62,12 +62,12 @@ page_put x xs = seen_put (λ (p : Page). p.number) page_of (λ y. refl) x xs
 
 -- pages with their states
 pub shown_seen : (n : ℕ) (xs : List (Numbered KeptPage)) (r : Option (Bor (Numbered KeptPage))) → option_copied r ≡ at_number (λ thing. thing.number) n xs
-    → option_map (λ p. shown_of p.now) r ≡ at_number (λ (x : Page × Suspended). x.0.number) n (map shown_of xs)
-shown_seen n xs r h = found (λ (x : Page × Suspended). x.0.number) shown_of (λ x. refl) n xs r h
+    → option_map (λ p. shown_of p.now) r ≡ at_number (λ (x : Page × Kept). x.0.number) n (map shown_of xs)
+shown_seen n xs r h = found (λ (x : Page × Kept). x.0.number) shown_of (λ x. refl) n xs r h
 
 pub shown_put : (x : Numbered KeptPage) (xs : List (Numbered KeptPage))
-    → map shown_of (put_in_order (λ thing. thing.number) x xs) ≡ put_in_order (λ (y : Page × Suspended). y.0.number) (shown_of x) (map shown_of xs)
-shown_put x xs = seen_put (λ (y : Page × Suspended). y.0.number) shown_of (λ y. refl) x xs
+    → map shown_of (put_in_order (λ thing. thing.number) x xs) ≡ put_in_order (λ (y : Page × Kept). y.0.number) (shown_of x) (map shown_of xs)
+shown_put x xs = seen_put (λ (y : Page × Kept). y.0.number) shown_of (λ y. refl) x xs
 
 pub pages_numbered : (xs : List (Numbered KeptPage)) → numbers_of xs ≡ map (λ (p : Page). p.number) (map page_of xs)
 pages_numbered xs = numbers_seen (λ (p : Page). p.number) page_of (λ y. refl) xs

@@ -1,6 +1,6 @@
 -- The states of pages.
-use Rattle.std.proofs.Common.{◌≡◌, ◌∙◌, ap, sym, subst, ℕ, zero, suc, ◌<◌, ◌≤◌, List, [], ◌∷◌, length, reverse, slice_get, Option, Some, None, refl, arith, Contains, inl, inr}
-use Rattle.std.proofs.lemmas.List.{reverse-append}
+use Rattle.std.proofs.Common.{◌≡◌, ◌∙◌, ap, sym, subst, ℕ, zero, suc, ◌<◌, ◌≤◌, List, [], ◌∷◌, length, reverse, slice_get, Option, Some, None, ◌++◌, refl, arith, length-append, Contains, inl, inr}
+use Rattle.std.proofs.lemmas.List.{reverse-append, length-reverse}
 use Rattle.std.proofs.lemmas.Option.{same_Some, get_or_from_slice_get}
 use Rattle.script_nodes.specs.Setup.{Named}
 use Rattle.page_names.specs.Names.{Destination, start, page}
@@ -20,8 +20,10 @@ use Rattle.replay_spec.proofs.Numbered.{put_length}
 use Rattle.replay_spec.proofs.Stand.{among_of}
 use Rattle.replay_spec.proofs.Admitted.{page_stands, start_is_no_page, page_is_no_start}
 use Rattle.machine_spec.specs.Machine.{Suspended}
+use Rattle.kept_states.specs.Kept.{Kept, IsKeptFrom}
+use Rattle.kept_states.specs.Links.{next_links, links_at}
 use Rattle.machine_spec.specs.Laws.{IsStateOf}
-use Rattle.stored_states.specs.Views.{Keeps, state_of, segment_of}
+use Rattle.stored_states.specs.Views.{Keeps, origin_of, state_of, segment_of}
 use Rattle.stored_states.specs.declared.segment.Outcome.{Outcome}
 use Rattle.stored_states.specs.declared.segment.Outcome.TheVariants.{Shown, Finished, Ended, Faulted, Fuel}
 use Rattle.stored_states.specs.declared.segment.Segment.{Segment}
@@ -34,23 +36,23 @@ use Rattle.instance_book.specs.declared.prepared.Change.{Change}
 use Rattle.instance_book.specs.declared.prepared.Change.TheVariants.{Opens, Extends, Ends, Finishes}
 use Rattle.instance_book.specs.declared.ticket.Ticket.{Ticket}
 use Rattle.instance_book.specs.Views.{page_of, pages_of, script_in, no_script, ticket_of}
-use Rattle.instance_book.specs.Places.{arena_of, state_at, shown_of, shown_in, HasState, HaveStates, IsKeptAs, IsKept, IsNextIn, IsNextAt, OneMoreHasItsState}
+use Rattle.instance_book.specs.Places.{arena_of, kept_at, shown_of, shown_in, IsStateAt, IsKeptBehind, HasState, HaveStates, IsKeptAs, IsKept, IsNextIn, IsNextAt, OneMoreHasItsState}
 use Rattle.instance_book.specs.Changes.{OpensKept, HasStateBy}
-use Rattle.instance_book.specs.Fits.{IsStateBehind, GoesOnFrom, FitsAs, IsForSome}
+use Rattle.instance_book.specs.Fits.{IsStateBehind, GoesOnFrom, IsFor, FitsAs, IsForSome}
 use Rattle.instance_book.specs.Prepares.{OpensAs, ExtendsAs, KeepsStateOf}
 use Rattle.instance_book.specs.Laws.{KeepsStateAs, AShownPageHasItsState}
 use Rattle.instance_book.proofs.Seen.{all_put, all_at}
 
 -- what a page has among others it has among more
-states_grown : (s : Named) (h : Home) (ps qs : List Page) → Grown ps qs → length ps ≤ length qs → (xs : List (Page × Suspended)) → HaveStates s h ps xs → HaveStates s h qs xs
+states_grown : (s : Named) (h : Home) (ps qs : List Page) → Grown ps qs → length ps ≤ length qs → (xs : List (Page × Kept)) → HaveStates s h ps xs → HaveStates s h qs xs
 states_grown s h ps qs grown longer [] all = tt
 states_grown s h ps qs grown longer (x ∷ xs) all =
-    (record { lineage = lineage_grown ps qs grown longer x.0 all.0.lineage; state = all.0.state }, states_grown s h ps qs grown longer xs all.1)
+    (record { lineage = lineage_grown ps qs grown longer x.0 all.0.lineage; state = all.0.state; its = all.0.its; kept = all.0.kept }, states_grown s h ps qs grown longer xs all.1)
 
 pub one_more_state : OneMoreHasItsState
 one_more_state s h ps xs p d unused own all =
     let more : length ps ≤ length (put_page p ps) = omega (arith, put_length (λ (q : Page). q.number) p ps unused) in
-    all_put (λ (x : Page × Suspended). HasState s h (put_page p ps) x.0 x.1) (λ (x : Page × Suspended). x.0.number) (p, d) xs own
+    all_put (λ (x : Page × Kept). HasState s h (put_page p ps) x.0 x.1) (λ (x : Page × Kept). x.0.number) (p, d) xs own
     (states_grown s h ps (put_page p ps) (put_grown p ps unused) more xs all)
 
 -- an instance is kept as what is seen of it
@@ -59,7 +61,7 @@ pub kept_alike : (scripts : List Named) (shelf : ℕ) (x y : Numbered KeptInstan
 kept_alike scripts shelf x y number place pages shown kept = rw (number, place, pages, shown) kept
 
 -- what is seen of it: its number, its script's place, and its pages with their states
-abbrev pub kept_of : Numbered KeptInstance → (ℕ × ℕ) × (List Page × List (Page × Suspended))
+abbrev pub kept_of : Numbered KeptInstance → (ℕ × ℕ) × (List Page × List (Page × Kept))
 kept_of x = ((x.number, x.item.script), (pages_of x.item.pages, shown_in x.item.pages))
 
 pub same_kept : (x y : Numbered KeptInstance) → x.number ≡ y.number → x.item.script ≡ y.item.script → pages_of x.item.pages ≡ pages_of y.item.pages → shown_in x.item.pages ≡ shown_in y.item.pages
@@ -68,19 +70,19 @@ same_kept x y number place pages shown = rw (number, place, pages, shown) refl
 
 pub kept_as : (scripts : List Named) (shelf : ℕ) (x y : Numbered KeptInstance) → kept_of x ≡ kept_of y → IsKept scripts shelf y → IsKept scripts shelf x
 kept_as scripts shelf x y e kept =
-    subst (λ (k : (ℕ × ℕ) × (List Page × List (Page × Suspended))). IsKeptAs scripts shelf k.0.0 k.0.1 k.1.0 k.1.1) (sym e) kept
+    subst (λ (k : (ℕ × ℕ) × (List Page × List (Page × Kept))). IsKeptAs scripts shelf k.0.0 k.0.1 k.1.0 k.1.1) (sym e) kept
 
 -- with its next page it is kept too
 pub kept_next : (scripts : List Named) (shelf : ℕ) (x y : Numbered KeptInstance) (p : Numbered KeptPage) → y.number ≡ x.number → y.item.script ≡ x.item.script
     → pages_of y.item.pages ≡ put_page (page_of p) (pages_of x.item.pages) → shown_in y.item.pages ≡ put_in_order (λ z. z.0.number) (shown_of p) (shown_in x.item.pages)
     → page_at p.number (pages_of x.item.pages) ≡ None
-    → (let s = script_in scripts x.item.script in HasState s (home s shelf x.number) (put_page (page_of p) (pages_of x.item.pages)) (page_of p) (state_at p))
+    → (let s = script_in scripts x.item.script in HasState s (home s shelf x.number) (put_page (page_of p) (pages_of x.item.pages)) (page_of p) (kept_at p))
     → IsKept scripts shelf x → IsKept scripts shelf y
 kept_next scripts shelf x y p number place pages shown unused own kept =
     let s = script_in scripts x.item.script in
     rw (number, place, pages, shown) (record {
       placed = kept.placed;
-      states = one_more_state s (home s shelf x.number) (pages_of x.item.pages) (shown_in x.item.pages) (page_of p) (state_at p) unused own kept.states;
+      states = one_more_state s (home s shelf x.number) (pages_of x.item.pages) (shown_in x.item.pages) (page_of p) (kept_at p) unused own kept.states;
     })
 
 -- an instance that begins with its page
@@ -119,17 +121,66 @@ first_kept scripts b t k s effects inside d o found made state =
       shown = made.shown;
       state = rw its (record {
         lineage = record { ancestors = []; are = parent; few = omega arith };
-        state = subst (λ (x : Tape). IsStateOf (arena_of s.script) x (state_at o.page)) (sym tape) (subst (IsStateOf (arena_of s.script) (tape_for (start_visit b (ticket_of t) k s) (recorded (reads_of effects)))) (sym made.state) state);
+        state = d;
+        its = subst (λ (x : Tape). IsStateOf (arena_of s.script) x d) (sym tape) state;
+        kept = made.state;
       });
     }
 
+-- two lists with the same last one
+same_last : {A : Type 0} (xs ys : List A) (x y : A) → xs ++ x ∷ [] ≡ ys ++ y ∷ [] → (xs ≡ ys) × (x ≡ y)
+same_last [] [] x y e = (refl, cc)
+same_last [] (z ∷ ys) x y e = absurd (let n = ap length e in omega (arith, n, length-append ys (y ∷ [])))
+same_last (z ∷ xs) [] x y e = absurd (let n = ap length e in omega (arith, n, length-append xs (x ∷ [])))
+same_last (z ∷ xs) (w ∷ ys) x y e =
+    let first : z ≡ w = cc in
+    let more : xs ++ x ∷ [] ≡ ys ++ y ∷ [] = cc in
+    let rest = same_last xs ys x y more in
+    let same : xs ≡ ys = rest.0 in (cc, rest.1)
+
+-- what an answer to a page goes on from is the state of the page
+module _ (b : Book) (t : next.Ticket) (at : Place) (h : Lineage at.instance.pages at.page) where
+  page_chain : chain at.instance.pages at.page ≡ reverse h.ancestors ++ at.page ∷ []
+  page_chain = chain_is at.instance.pages at.page h.ancestors h.are h.few ∙ reverse-append (at.page ∷ []) h.ancestors
+
+  state_before : (o : Option Suspended) → GoesOnFrom (page_visit b t at) o
+      → (d : Suspended) × ((o ≡ Some d) × IsStateAt at.instance.script (home at.instance.script b.shelf at.instance.number) h.ancestors at.page d)
+  state_before None from =
+      absurd (let n = ap length (sym from ∙ page_chain) in omega (arith, n, length-append (reverse h.ancestors) (at.page ∷ [])))
+  state_before (Some d) from =
+      let same = same_last from.ancestors (reverse h.ancestors) from.page at.page (sym from.chain ∙ page_chain) in
+      let a = arena_of at.instance.script.script in
+      let home_at = home at.instance.script b.shelf at.instance.number in (
+        d,
+        (
+          refl,
+          subst (λ (q : Page). IsStateOf a (page_tape home_at (reverse h.ancestors) q) d) same.1
+              (subst (λ (qs : List Page). IsStateOf a (page_tape home_at qs from.page) d) same.0 from.state),
+        ),
+      )
+
+-- the links of a page, and of one that answers it
+links_behind : (s : Named) (h : Home) (older : List Page) (d : Suspended) (k : Kept) → IsKeptBehind s h older d k → k.links ≡ links_at (length older)
+links_behind s h [] d k kept = kept.links_are
+links_behind s h (q ∷ older) d k kept = kept.1.1.links_are
+
+pub links_of : (s : Named) (h : Home) (ps : List Page) (p : Page) (k : Kept) (has : HasState s h ps p k) → k.links ≡ links_at (length has.lineage.ancestors)
+links_of s h ps p k has = links_behind s h has.lineage.ancestors has.state k has.kept
+
+chain_length : (ps : List Page) (p : Page) (h : Lineage ps p) → length (chain ps p) ≡ length (p ∷ h.ancestors)
+chain_length ps p h = ap length (chain_is ps p h.ancestors h.are h.few) ∙ length-reverse (p ∷ h.ancestors)
+
+pub links_next : (s : Named) (h : Home) (ps : List Page) (p : Page) (k : Kept) → HasState s h ps p k → next_links k.links ≡ links_at (length (chain ps p))
+links_next s h ps p k has = ap next_links (links_of s h ps p k has) ∙ ap links_at (sym (chain_length ps p has.lineage))
+
 -- the next page of an answer: it is new, and the page that it answers has its ancestors there
-pub next_kept : (b : Book) (t : Ticket) (at : Place) (k m : ℕ) (effects : List Effect) (inside : List TxName) (d : Suspended) (x : Extension)
+pub next_kept : (scripts : List Named) (b : Book) (t : Ticket) (at : Place) (k m : ℕ) (effects : List Effect) (inside : List TxName) (d : Suspended) (x : Extension)
     → Lineage at.instance.pages at.page → page_at t.number at.instance.pages ≡ None → instance_at k b.instances ≡ Some at.instance → page_at m at.instance.pages ≡ Some at.page → ExtendsAs t k m effects inside d x
-    → IsStateOf (arena_of at.instance.script.script) (tape_for (page_visit b (ticket_of t) at) (recorded (reads_of effects))) d → IsNextAt b.shelf b.instances x.instance x.show.page
-next_kept b t at k m effects inside d x h free here shown made state i found =
+    → IsStateOf (arena_of at.instance.script.script) (tape_for (page_visit b (ticket_of t) at) (recorded (reads_of effects))) d
+    → IsFor scripts t (page_visit b (ticket_of t) at) → IsNextAt b.shelf b.instances x.instance x.show.page
+next_kept scripts b t at k m effects inside d x h free here shown made state fits i found =
     let same : at.instance ≡ i = same_Some at.instance i (sym here ∙ (ap (λ (n : ℕ). instance_at n b.instances) (sym made.instance) ∙ found)) in
-    subst (λ (j : Instance). IsNextIn b.shelf j (page_of x.show.page) (state_at x.show.page)) same next
+    subst (λ (j : Instance). IsNextIn b.shelf j (page_of x.show.page) (kept_at x.show.page)) same next
   where
     p : Page
     p = page_of x.show.page
@@ -140,7 +191,7 @@ next_kept b t at k m effects inside d x h free here shown made state i found =
     s : Named
     s = at.instance.script
 
-    next : IsNextIn b.shelf at.instance p (state_at x.show.page)
+    next : IsNextIn b.shelf at.instance p (kept_at x.show.page)
     next =
         let number : p.number ≡ t.number = ap (λ (q : Page). q.number) made.page in
         let parent : p.parent ≡ Some m = ap (λ (q : Page). q.parent) made.page in
@@ -152,11 +203,22 @@ next_kept b t at k m effects inside d x h free here shown made state i found =
         let all : reverse (at.page ∷ h.ancestors) ≡ chain ps at.page = sym (chain_is ps at.page h.ancestors h.are h.few) in
         let tape : page_tape home_at (reverse (at.page ∷ h.ancestors)) p ≡ tape_for (page_visit b (ticket_of t) at) (recorded (reads_of effects)) =
         ap (λ (qs : List Page). page_tape home_at qs p) all ∙ ap (λ (q : Page). page_tape home_at (chain ps at.page) q) made.page in
+        let before = state_before b (ticket_of t) at h (origin_of t.from) fits.from in
+        let links : t.links ≡ links_at (length (at.page ∷ h.ancestors)) = fits.links ∙ ap links_at (chain_length ps at.page h) in
         record {
           unused = unused;
           state = record {
             lineage = record { ancestors = at.page ∷ h.ancestors; are = mine; few = omega (arith, h.few, put_length (λ (q : Page). q.number) p ps unused) };
-            state = subst (λ (y : Tape). IsStateOf (arena_of s.script) y (state_at x.show.page)) (sym tape) (subst (IsStateOf (arena_of s.script) (tape_for (page_visit b (ticket_of t) at) (recorded (reads_of effects)))) (sym made.state) state);
+            state = d;
+            its = subst (λ (y : Tape). IsStateOf (arena_of s.script) y d) (sym tape) state;
+            kept = (
+              before.0,
+              (
+                before.1.1,
+                subst (λ (n : ℕ). IsKeptFrom (Some before.0) n d (kept_at x.show.page)) links
+                    (subst (λ (o : Option Suspended). IsKeptFrom o t.links d (kept_at x.show.page)) before.1.0 made.state),
+              ),
+            );
           };
         }
 
@@ -189,7 +251,7 @@ module _ (b : Book) (orderly : IsOrderly b) (t : Ticket) (out : Contains b.out t
       let stands = page_stands b name n at adm in
       let h = orderly.instances.lineage n.instance at.instance stands.here n.page at.page stands.shown in
       let free = orderly.instances.no_page t.number (inl (among_of b.out t.number out)) n.instance at.instance stands.here in
-      next_kept b t at n.instance n.page (segment_of r).effects r.entered.items from.0 x h free stands.here stands.shown from.1.1 (keeps_state r.outcome _ from.0 over from.1.0)
+      next_kept b.scripts b t at n.instance n.page (segment_of r).effects r.entered.items from.0 x h free stands.here stands.shown from.1.1 (keeps_state r.outcome _ from.0 over from.1.0) fits
 
   keeps_by : (d : Destination) (a : Admission) → admit b d ≡ a → refusal_of a ≡ None → FitsAs b.scripts b t a → KeepsStateAs b t a r
       → (c : Option Change) → KeepsStateOf t r d c → HasStateBy b.scripts b.shelf b.instances c
@@ -200,27 +262,27 @@ pub a_shown_page_has_its_state : AShownPageHasItsState
 a_shown_page_has_its_state b orderly t out a adm ok fits r over c keeps = keeps_by b orderly t out r (target_of t.target) a adm ok fits over c keeps
 
 -- a visit whose pages are the chain of a page that has its state
-pub goes_on_from : (v : Visit) (ps : List Page) (p : Page) (d : Suspended) → v.pages ≡ chain ps p → HasState v.script (home_of v) ps p d → IsStateBehind v d
-goes_on_from v ps p d e has =
+pub goes_on_from : (v : Visit) (ps : List Page) (p : Page) (k : Kept) → v.pages ≡ chain ps p → (has : HasState v.script (home_of v) ps p k) → IsStateBehind v has.state
+goes_on_from v ps p k e has =
     let h = has.lineage in
     record {
       ancestors = reverse h.ancestors;
       page = p;
       chain = e ∙ (chain_is ps p h.ancestors h.are h.few ∙ reverse-append (p ∷ []) h.ancestors);
-      state = has.state;
+      state = has.its;
     }
 
 -- and so is an answer to the page of a place, of which this is kept
-pub origin_goes_on : (b : Book) (t : next.Ticket) (at : Place) (s : Named) (o : Option Suspended) (d : Suspended) → o ≡ Some d → at.instance.script ≡ s
-    → HasState s (home s b.shelf at.instance.number) at.instance.pages at.page d → GoesOnFrom (page_visit b t at) o
-origin_goes_on b t at s o d e its has =
-    subst (λ (x : Option Suspended). GoesOnFrom (page_visit b t at) x) (sym e) (goes_on_from (page_visit b t at) at.instance.pages at.page d refl
-    (subst (λ (x : Named). HasState x (home x b.shelf at.instance.number) at.instance.pages at.page d) (sym its) has))
+pub origin_goes_on : (b : Book) (t : next.Ticket) (at : Place) (s : Named) (o : Option Suspended) (k : Kept) → at.instance.script ≡ s
+    → (has : HasState s (home s b.shelf at.instance.number) at.instance.pages at.page k) → o ≡ Some has.state → GoesOnFrom (page_visit b t at) o
+origin_goes_on b t at s o k its has e =
+    subst (λ (x : Named). (is : HasState x (home x b.shelf at.instance.number) at.instance.pages at.page k) → o ≡ Some is.state → GoesOnFrom (page_visit b t at) o) its
+    (λ is f. subst (λ (x : Option Suspended). GoesOnFrom (page_visit b t at) x) (sym f) (goes_on_from (page_visit b t at) at.instance.pages at.page k refl is)) has e
 
 -- the state of a page that is found among those of an instance
-pub state_found : (s : Named) (h : Home) (ps : List Page) (n : ℕ) (xs : List (Page × Suspended)) (x : Page × Suspended) → HaveStates s h ps xs
-    → at_number (λ (y : Page × Suspended). y.0.number) n xs ≡ Some x → HasState s h ps x.0 x.1
-state_found s h ps n xs x all found = all_at (λ (y : Page × Suspended). HasState s h ps y.0 y.1) (λ (y : Page × Suspended). y.0.number) n xs x all found
+pub state_found : (s : Named) (h : Home) (ps : List Page) (n : ℕ) (xs : List (Page × Kept)) (x : Page × Kept) → HaveStates s h ps xs
+    → at_number (λ (y : Page × Kept). y.0.number) n xs ≡ Some x → HasState s h ps x.0 x.1
+state_found s h ps n xs x all found = all_at (λ (y : Page × Kept). HasState s h ps y.0 y.1) (λ (y : Page × Kept). y.0.number) n xs x all found
 
 -- a ticket whose target is admitted and that fits is for the visit
 pub some_visit : (scripts : List Named) (b : Book) (t : Ticket) (a : Admission) → refusal_of a ≡ None → FitsAs scripts b t a → IsForSome scripts t

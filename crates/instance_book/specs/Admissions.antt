@@ -24,7 +24,7 @@ use Rattle.instance_book.specs.declared.admission.Admission.{Admission}
 use Rattle.instance_book.specs.declared.admission.Admission.TheVariants.{Begins, Resumes, Refused}
 use Rattle.instance_book.specs.declared.ticket.Ticket.{Ticket}
 use Rattle.instance_book.specs.Views.{page_of, pages_of, instance_of, book_of, ticket_of}
-use Rattle.instance_book.specs.Places.{state_at, HasState}
+use Rattle.instance_book.specs.Places.{kept_at, shown_in, HasState, HaveStates}
 use Rattle.instance_book.specs.Fits.{IsFor, FitsStart, FitsAs}
 
 abbrev pub place_of : List Named → Place → spec.Place
@@ -35,12 +35,15 @@ admission_of scripts (Begins place script) = spec.begins place (named_of script.
 admission_of scripts (Resumes place) = spec.resumes (place_of scripts place)
 admission_of scripts (Refused r) = spec.refused r
 
--- the place's script is that of its instance, and its page has the state of its chain
+-- the place's script is that of its instance, and each of its pages has the state of its chain, the place's page among them
 pub record IsKeptAt (scripts : List Named) (shelf : ℕ) (p : Place) : Type 0 where
   pub script : slice_get scripts p.instance.now.item.script ≡ Some (named_of p.script.now)
+  pub all :
+      let s = named_of p.script.now in
+      HaveStates s (home s shelf p.instance.now.number) (pages_of p.instance.now.item.pages) (shown_in p.instance.now.item.pages)
   pub state :
       let s = named_of p.script.now in
-      HasState s (home s shelf p.instance.now.number) (pages_of p.instance.now.item.pages) (page_of p.page.now) (state_at p.page.now)
+      HasState s (home s shelf p.instance.now.number) (pages_of p.instance.now.item.pages) (page_of p.page.now) (kept_at p.page.now)
 
 -- why the page of this instance can't be answered
 abbrev pub IsWhyNot : (clock : ℕ) → Numbered KeptInstance → Numbered KeptPage → Option Refusal → Type 0

@@ -25,7 +25,7 @@ use Rattle.instance_book.specs.declared.book.Book.{Book}
 use Rattle.instance_book.specs.Orders.{numbers_of}
 use Rattle.instance_book.specs.Lists.{HasRoom}
 use Rattle.instance_book.specs.Views.{page_of, pages_of, script_in, instance_with, instance_of, instances_of, reply_of, HasRoomAt}
-use Rattle.instance_book.specs.Places.{state_at, shown_in, HasState, IsNextAt}
+use Rattle.instance_book.specs.Places.{kept_at, shown_in, HasState, IsNextAt}
 use Rattle.instance_book.specs.Makes.{HasItsStates}
 
 -- the one that came anew, or else what there is
@@ -70,7 +70,7 @@ extension_of x = record {
   nonce = x.show.page.item.nonce;
   instance = x.instance;
   page = x.answered;
-  answer = meaning x.show.page.item.answer;
+  answer = meaning x.answer;
   effects = map effect_of x.effects.items;
   left = x.left.items;
   kind = x.kind;
@@ -166,7 +166,7 @@ pub record OpensKept (scripts : List Named) (shelf : ℕ) (o : Opening) : Type 0
   pub shown : shown_in o.instance.pages ≡ []
   pub state :
       let s = script_in scripts o.instance.script in
-      HasState s (home s shelf o.page.number) (page_of o.page ∷ []) (page_of o.page) (state_at o.page)
+      HasState s (home s shelf o.page.number) (page_of o.page ∷ []) (page_of o.page) (kept_at o.page)
 
 -- a new page has the state of its chain, in this shelf of these instances
 abbrev pub HasStateIn : List Named → (shelf : ℕ) → List spec.Instance → Change → Type 0

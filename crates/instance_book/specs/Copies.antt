@@ -14,7 +14,7 @@ use Rattle.instance_book.specs.declared.prepared.Change.{Change}
 use Rattle.instance_book.specs.declared.book.Book.{Book}
 use Rattle.instance_book.specs.Views.{page_of, pages_of, instance_with}
 use Rattle.instance_book.specs.Changes.{shown_with, extension_of, begun_with, change_of, inside_of, decision_by, decision_of, instances_after, HasRoomWith, HasRoomFor, HasStateIn, HasStateBy, instances_with}
-use Rattle.instance_book.specs.Places.{state_at, shown_in}
+use Rattle.instance_book.specs.Places.{kept_at, shown_in}
 
 -- the same instance under each number and setup
 abbrev pub IsSameInstance : (i copy : KeptInstance) → Type 0
@@ -28,7 +28,7 @@ pub record IsSamePages (ps copy : InOrder KeptPage) : Type 0 where
 -- the same page with the same state, and the same is made of each instance
 pub record IsSameShow (s copy : Show) : Type 0 where
   pub page : page_of copy.page ≡ page_of s.page
-  pub state : state_at copy.page ≡ state_at s.page
+  pub state : kept_at copy.page ≡ kept_at s.page
   pub made : (i : spec.Instance) → shown_with copy i ≡ shown_with s i
 
 -- the instance that begins is the same

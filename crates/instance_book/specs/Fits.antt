@@ -1,5 +1,5 @@
 -- The visit that a ticket is for.
-use Rattle.std.specs.Prelude.{◌≡◌, ℕ, List, [], ◌∷◌, ◌++◌, Option, Some, None, slice_get, ⊤}
+use Rattle.std.specs.Prelude.{◌≡◌, ℕ, List, [], ◌∷◌, ◌++◌, Option, Some, None, slice_get, length, ⊤}
 use Rattle.script_nodes.specs.Setup.{Named}
 use Rattle.replay_spec.specs.Book as spec
 use Rattle.replay_spec.specs.Admission.{Admission, begins, resumes, refused}
@@ -7,6 +7,7 @@ use Rattle.replay_spec.specs.Next.{Visit, url_for, home_of, page_tape, start_vis
 use Rattle.machine_spec.specs.Machine.{Suspended}
 use Rattle.machine_spec.specs.Laws.{IsStateOf}
 use Rattle.stored_states.specs.Views.{origin_of}
+use Rattle.kept_states.specs.Links.{links_at}
 use Rattle.instance_book.specs.declared.ticket.Ticket.{Ticket}
 use Rattle.instance_book.specs.Views.{ticket_of}
 use Rattle.instance_book.specs.Places.{arena_of}
@@ -23,11 +24,12 @@ abbrev pub GoesOnFrom : Visit → Option Suspended → Type 0
 GoesOnFrom v None = v.pages ≡ []
 GoesOnFrom v (Some d) = IsStateBehind v d
 
--- the ticket's script, its URL and what it goes on from are those of a visit
+-- the ticket's script, its URL, what it goes on from and the links of its page are those of a visit
 pub record IsFor (scripts : List Named) (t : Ticket) (v : Visit) : Type 0 where
   pub script : slice_get scripts t.script ≡ Some v.script
   pub url : t.url ≡ url_for v
   pub from : GoesOnFrom v (origin_of t.from)
+  pub links : t.links ≡ links_at (length v.pages)
 
 -- a start's ticket names the script by its place, and has the cells that the script begins with
 pub record FitsStart (scripts : List Named) (b : spec.Book) (t : Ticket) (k : ℕ) (s : Named) : Type 0 where
@@ -54,4 +56,5 @@ pub record IsCopy (copy t : Ticket) : Type 0 where
   pub script : copy.script ≡ t.script
   pub url : copy.url ≡ t.url
   pub from : origin_of copy.from ≡ origin_of t.from
+  pub links : copy.links ≡ t.links
   pub cells : copy.cells ≡ t.cells

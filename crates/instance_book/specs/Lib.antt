@@ -2,6 +2,7 @@ pub mod Orders
 pub mod Lists
 pub mod Views
 pub mod Places
+pub mod Fronts
 pub mod Makes
 pub mod Fits
 pub mod Changes

@@ -1,5 +1,5 @@
 -- What is kept of an instance: its script's place in the setup, and of each page the state of its chain.
-use Rattle.std.specs.Prelude.{◌≡◌, ◌<◌, ℕ, List, map, length, reverse, Some, None}
+use Rattle.std.specs.Prelude.{◌≡◌, ◌<◌, ℕ, List, [], ◌∷◌, map, length, reverse, Some, None}
 use Rattle.std.specs.List.{AllByRecursion}
 use Rattle.script_nodes.specs.Arena.{Arena}
 use Rattle.script_nodes.specs.Layout.{layout}
@@ -10,7 +10,11 @@ use Rattle.replay_spec.specs.Next.{Home, home, page_tape}
 use Rattle.replay_spec.specs.Invariant.{Lineage}
 use Rattle.machine_spec.specs.Machine.{Suspended}
 use Rattle.machine_spec.specs.Laws.{IsStateOf}
-use Rattle.stored_states.specs.Views.{suspended_of}
+use Rattle.stored_states.specs.Views.{origin_of, suspended_of}
+use Rattle.stored_states.specs.declared.frame.Suspended as stored
+use Rattle.stored_states.specs.declared.segment.Origin.{Origin}
+use Rattle.kept_states.specs.Kept.{Kept, IsKeptFrom, kept_of}
+use Rattle.kept_states.specs.Links.{links_at}
 use Rattle.instance_book.specs.declared.numbered.Numbered.{Numbered}
 use Rattle.instance_book.specs.declared.in_order.InOrder.{InOrder}
 use Rattle.instance_book.specs.declared.page.KeptPage.{KeptPage}
@@ -21,27 +25,40 @@ use Rattle.instance_book.specs.Views.{page_of, pages_of, script_in}
 abbrev pub arena_of : Script → Arena
 arena_of s = record { nodes = layout 0 s.body; web = s.web; cells = s.cells }
 
--- the state that is kept at a page; a page with it, and all of an instance
-abbrev pub state_at : Numbered KeptPage → Suspended
-state_at p = suspended_of p.item.state
+-- what is kept of the state of a page; a page with it, and all of an instance
+abbrev pub kept_at : Numbered KeptPage → Kept
+kept_at p = kept_of p.item.state
 
-abbrev pub shown_of : Numbered KeptPage → spec.Page × Suspended
-shown_of p = (page_of p, state_at p)
+abbrev pub shown_of : Numbered KeptPage → spec.Page × Kept
+shown_of p = (page_of p, kept_at p)
 
-abbrev pub shown_in : InOrder KeptPage → List (spec.Page × Suspended)
+abbrev pub shown_in : InOrder KeptPage → List (spec.Page × Kept)
 shown_in ps = map shown_of ps.things.items
 
--- This is the state of a page whose ancestors stand among these: it is kept of the script that shows the page over its ancestors'
+-- The state of a page behind these ancestors, the nearest first: it is kept of the script that shows the page over its ancestors'
 -- answers and its own, with what was read recorded.
-pub record HasState (s : Named) (h : Home) (ps : List spec.Page) (p : spec.Page) (d : Suspended) : Type 0 where
-  pub lineage : Lineage ps p
-  pub state : IsStateOf (arena_of s.script) (page_tape h (reverse lineage.ancestors) p) d
+abbrev pub IsStateAt : Named → Home → List spec.Page → spec.Page → Suspended → Type 0
+IsStateAt s h older p d = IsStateOf (arena_of s.script) (page_tape h (reverse older) p) d
 
-abbrev pub HaveStates : Named → Home → List spec.Page → List (spec.Page × Suspended) → Type 0
+-- Of the state of a page behind these ancestors this is kept: that of a root by itself, and each other one as its links say, by
+-- itself or as what differs from the state of the page before.
+abbrev pub IsKeptBehind : Named → Home → List spec.Page → Suspended → Kept → Type 0
+IsKeptBehind s h [] d k = IsKeptFrom None 0 d k
+IsKeptBehind s h (q ∷ older) d k =
+    (before : Suspended) × (IsStateAt s h older q before × IsKeptFrom (Some before) (links_at (length (q ∷ older))) d k)
+
+-- a page whose ancestors stand among these has a state, of which this is kept
+pub record HasState (s : Named) (h : Home) (ps : List spec.Page) (p : spec.Page) (k : Kept) : Type 0 where
+  pub lineage : Lineage ps p
+  pub state : Suspended
+  pub its : IsStateAt s h lineage.ancestors p state
+  pub kept : IsKeptBehind s h lineage.ancestors state k
+
+abbrev pub HaveStates : Named → Home → List spec.Page → List (spec.Page × Kept) → Type 0
 HaveStates s h ps xs = AllByRecursion (λ x. HasState s h ps x.0 x.1) xs
 
 -- An instance of this number and of the script of this place, which is one of the setup, has these pages with these states.
-pub record IsKeptAs (scripts : List Named) (shelf number place : ℕ) (ps : List spec.Page) (xs : List (spec.Page × Suspended)) : Type 0 where
+pub record IsKeptAs (scripts : List Named) (shelf number place : ℕ) (ps : List spec.Page) (xs : List (spec.Page × Kept)) : Type 0 where
   pub placed : place < length scripts
   pub states : let s = script_in scripts place in HaveStates s (home s shelf number) ps xs
 
@@ -61,18 +78,32 @@ StayKeptWith i old new =
 abbrev pub StayKept : (old new : InOrder KeptInstance) → Type 0
 StayKept old new = (scripts : List Named) (shelf : ℕ) → AreKept scripts shelf old → AreKept scripts shelf new
 
--- the page is new among those of an instance, and this is its state
-pub record IsNextIn (shelf : ℕ) (i : spec.Instance) (p : spec.Page) (d : Suspended) : Type 0 where
+-- the page is new among those of an instance, and this is kept of its state
+pub record IsNextIn (shelf : ℕ) (i : spec.Instance) (p : spec.Page) (k : Kept) : Type 0 where
   pub unused : spec.page_at p.number i.pages ≡ None
-  pub state : HasState i.script (home i.script shelf i.number) (put_page p i.pages) p d
+  pub state : HasState i.script (home i.script shelf i.number) (put_page p i.pages) p k
 
 -- so it is in the instance of a number, where there is one
 abbrev pub IsNextAt : (shelf : ℕ) → List spec.Instance → (instance : ℕ) → Numbered KeptPage → Type 0
-IsNextAt shelf is n p = (i : spec.Instance) → spec.instance_at n is ≡ Some i → IsNextIn shelf i (page_of p) (state_at p)
+IsNextAt shelf is n p = (i : spec.Instance) → spec.instance_at n is ≡ Some i → IsNextIn shelf i (page_of p) (kept_at p)
+
+-- the pages of an instance of a script have their states, and so has this one among them
+pub record AreStatesOf (s : Named) (ps : InOrder KeptPage) (p : Numbered KeptPage) : Type 0 where
+  pub home : Home
+  pub all : HaveStates s home (pages_of ps) (shown_in ps)
+  pub own : HasState s home (pages_of ps) (page_of p) (kept_at p)
+
+-- its state is this
+abbrev pub IsStateIn : Named → InOrder KeptPage → Numbered KeptPage → stored.Suspended → Type 0
+IsStateIn s ps p d = (are : AreStatesOf s ps p) → are.own.state ≡ suspended_of d
+
+-- an answer to it goes on from that
+abbrev pub IsOriginIn : Named → InOrder KeptPage → Numbered KeptPage → Origin → Type 0
+IsOriginIn s ps p from = (are : AreStatesOf s ps p) → origin_of from ≡ Some are.own.state
 
 -- Of the pages of an instance each has the state of its chain; then so it is with one more whose state is that of its chain.
 abbrev pub OneMoreHasItsState : Type 0
 OneMoreHasItsState =
-    (s : Named) (h : Home) (ps : List spec.Page) (xs : List (spec.Page × Suspended)) (p : spec.Page) (d : Suspended)
-    → spec.page_at p.number ps ≡ None → HasState s h (put_page p ps) p d → HaveStates s h ps xs
-    → HaveStates s h (put_page p ps) (put_in_order (λ x. x.0.number) (p, d) xs)
+    (s : Named) (h : Home) (ps : List spec.Page) (xs : List (spec.Page × Kept)) (p : spec.Page) (k : Kept)
+    → spec.page_at p.number ps ≡ None → HasState s h (put_page p ps) p k → HaveStates s h ps xs
+    → HaveStates s h (put_page p ps) (put_in_order (λ x. x.0.number) (p, k) xs)

@@ -19,8 +19,10 @@ use Rattle.replay_spec.specs.Admission.{Place, Admission, begins, resumes, refus
 use Rattle.replay_spec.specs.Next.{start_visit, page_visit}
 use Rattle.replay_spec.specs.Step.{Decision, replies, records, settles, carried_out, refusal, shown, ended, finished}
 use Rattle.machine_spec.specs.Machine.{Suspended}
-use Rattle.stored_states.specs.Views.{segment_of, state_of}
+use Rattle.stored_states.specs.Views.{origin_of, segment_of, state_of}
 use Rattle.stored_states.specs.declared.segment.Segment as stored
+use Rattle.instance_book.specs.declared.numbered.Numbered.{Numbered}
+use Rattle.instance_book.specs.declared.page.KeptPage.{KeptPage}
 use Rattle.instance_book.specs.declared.prepared.Opening.{Opening}
 use Rattle.instance_book.specs.declared.prepared.Extension.{Extension}
 use Rattle.instance_book.specs.declared.prepared.Prepared.{Prepared}
@@ -29,7 +31,8 @@ use Rattle.instance_book.specs.declared.prepared.Change.TheVariants.{Opens, Exte
 use Rattle.instance_book.specs.declared.book.Book.{Book}
 use Rattle.instance_book.specs.declared.ticket.Ticket.{Ticket}
 use Rattle.instance_book.specs.Views.{page_of, pages_of, script_in, ticket_of, reply_of, book_of}
-use Rattle.instance_book.specs.Places.{state_at, shown_in}
+use Rattle.kept_states.specs.Kept.{IsKeptFrom}
+use Rattle.instance_book.specs.Places.{kept_at, shown_in}
 use Rattle.instance_book.specs.Changes.{begun_with, shown_with, ended_with, decision_of, put_into}
 use Rattle.instance_book.specs.Swept.{cells_at}
 use Rattle.instance_book.specs.Fits.{IsFor, FitsStart, FitsAs}
@@ -210,6 +213,11 @@ IsPrepared book t s instances pages life result =
     → let b = book_of scripts length_now down book in admit b (target_of t.target) ≡ a → refusal_of a ≡ None → FitsAs scripts b t a
     → let rules = rules_with fuel life instances pages in Prepares scripts rules b (settled rules b t a s) result
 
+-- of the state of a ticket's page this is kept: as many links from one kept by itself as the ticket says, behind that from which
+-- the ticket goes on
+abbrev pub IsKeptOfTicket : Ticket → Suspended → Numbered KeptPage → Type 0
+IsKeptOfTicket t d p = IsKeptFrom (origin_of t.from) t.links d (kept_at p)
+
 -- A start's instance begins with its page alone, and an answer's page follows the one that was answered; each is the page of the
 -- ticket, behind what its segment did, and has this state.
 pub record OpensAs (t : Ticket) (effects : List Effect) (inside : List TxName) (d : Suspended) (o : Opening) : Type 0 where
@@ -217,12 +225,12 @@ pub record OpensAs (t : Ticket) (effects : List Effect) (inside : List TxName) (
   pub pages : pages_of o.instance.pages ≡ []
   pub shown : shown_in o.instance.pages ≡ []
   pub page : page_of o.page ≡ first_page t effects inside o.page.item.deadline
-  pub state : state_at o.page ≡ d
+  pub state : IsKeptFrom None 0 d (kept_at o.page)
 
 pub record ExtendsAs (t : Ticket) (number answered : ℕ) (effects : List Effect) (inside : List TxName) (d : Suspended) (x : Extension) : Type 0 where
   pub instance : x.instance ≡ number
   pub page : page_of x.show.page ≡ next_page t answered effects inside x.show.page.item.deadline
-  pub state : state_at x.show.page ≡ d
+  pub state : IsKeptOfTicket t d x.show.page
 
 abbrev pub OpensTo : Ticket → List Effect → (inside : List TxName) → Suspended → Option Change → Type 0
 OpensTo t effects inside d (Some (Opens o)) = OpensAs t effects inside d o

@@ -129,7 +129,7 @@ HasStartState scripts b t p =
     (named : Named) × ((slice_get scripts t.script ≡ Some named)
     × IsStateOf (arena_of named.script) (tape_for (start_visit (book_beside scripts 0 b) (ticket_of t) t.script named) (recorded (reads_of (effects_in p)))) (suspended_of p.state))
 
--- the page is new in its instance, and has the state of the chain of the page that it answers
+-- the page is new in its instance, and has the state of the chain of the page that it answers, and the ticket is for that answer
 pub record HasAnswerState (scripts : List Named) (b : Book) (t : Ticket) (instance answered : ℕ) (p : ToldPage) : Type 0 where
   pub at : Place
   pub here : instance_at instance (book_beside scripts 0 b).instances ≡ Some at.instance
@@ -138,6 +138,7 @@ pub record HasAnswerState (scripts : List Named) (b : Book) (t : Ticket) (instan
   pub unused : page_at t.number at.instance.pages ≡ None
   pub state :
       IsStateOf (arena_of at.instance.script.script) (tape_for (page_visit (book_beside scripts 0 b) (ticket_of t) at) (recorded (reads_of (effects_in p)))) (suspended_of p.state)
+  pub fits : IsFor scripts t (page_visit (book_beside scripts 0 b) (ticket_of t) at)
 
 -- so each page goes on to have its own
 abbrev pub KeepsStartStates : Ticket → ToldPage → (old new : Book) → Type 0

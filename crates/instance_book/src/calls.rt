@@ -2,9 +2,7 @@ ghost use Rattle.std.specs.Prelude.{◌≡◌, ◌<◌, ◌^◌, List, ℕ, Opti
 ghost use Rattle.script_nodes.specs.Setup.{Named};
 ghost use Rattle.script_nodes.specs.Views.{named_of, scripts_of};
 ghost use Rattle.replay_spec.specs.Book as spec;
-ghost use Rattle.stored_states.specs.Views.{origin_of};
 ghost use Rattle.instance_book.specs.Views.{IsTicketFor};
-ghost use Rattle.instance_book.specs.Places.{state_at};
 ghost use Rattle.instance_book.specs.Makes.{count_of, Makes, StaysSame, HasItsStates, KeepsStates};
 ghost use Rattle.instance_book.specs.Admissions.{IsKeptAt, HasCellsBy, FitsStartIn, FitsPlace, admission_for, refusal_for, FitsIn};
 ghost use Rattle.instance_book.specs.Swept.{swept, cells_at, IsEmpty};
@@ -13,22 +11,15 @@ use crate::admission::{Admission, Place, admission_to};
 use crate::book::Book;
 use crate::home::Home;
 use crate::in_order::InOrder;
-use crate::numbered::Numbered;
-use crate::page::KeptPage;
+use crate::origins::origin_at;
 use crate::ticket::Ticket;
 use instance_cells::Cells;
+use kept_states::next_links;
 use page_names::Target;
 use script_nodes::{NamedScript, Setup};
 use script_value::{Refusal, Value};
 use std::alloc::{AllocError, Global};
 use stored_states::Origin;
-
-// What an answer to a page goes on from.
-fn origin_at(alloc: Global, page: &Numbered<KeptPage>) -> Result<Origin, AllocError>
-    ensures { IfOk result (λ from. origin_of from ≡ Some (state_at page.now)) }
-{
-    Ok(Origin::Page(page.item.state.try_clone(alloc)?))
-}
 
 impl Book {
     /// The book of a shelf with nothing in it; it takes no memory.
@@ -123,6 +114,7 @@ impl Book {
             target: *target,
             url: home.url(alloc, number, nonce)?,
             from: Origin::Start,
+            links: 0,
             answer,
             cells: Cells::of(alloc, script.script.instance_defaults().as_slice())?,
         })
@@ -155,7 +147,8 @@ impl Book {
             script: place.instance.item.script,
             target: *target,
             url: home.url(alloc, number, nonce)?,
-            from: origin_at(alloc, place.page)?,
+            from: origin_at(alloc, place.script, &place.instance.item.pages, place.page)?,
+            links: next_links(place.page.item.state.links),
             answer,
             cells: place.instance.item.cells.try_clone(alloc)?,
         })

@@ -1,7 +1,7 @@
 ghost use Rattle.std.specs.Prelude.{◌≡◌, IfOk};
 ghost use Rattle.instance_book.specs.Lists.{HasRoom};
 ghost use Rattle.instance_book.specs.Views.{page_of};
-ghost use Rattle.instance_book.specs.Places.{state_at, StayKept};
+ghost use Rattle.instance_book.specs.Places.{kept_at, StayKept};
 ghost use Rattle.instance_book.specs.Makes.{AllBecome, StaysSame, KeepsStates};
 ghost use Rattle.instance_book.specs.Changes.{opening_of, ending_of, finish_of};
 ghost use Rattle.instance_book.specs.Copies.{IsSamePages, IsSameInstance, BeginsAlike, IsSameShow, IsSameExtension, IsSameChange, IsSameIf, IsSame};
@@ -20,7 +20,7 @@ impl Numbered<KeptPage> {
     /// A copy, equal to its source.
     pub fn try_clone(&self, alloc: Global) -> Result<Numbered<KeptPage>, AllocError>
         ensures page { IfOk result (λ copy. page_of copy ≡ page_of self.now) }
-        ensures state { IfOk result (λ copy. state_at copy ≡ state_at self.now) }
+        ensures state { IfOk result (λ copy. kept_at copy ≡ kept_at self.now) }
     {
         Ok(Numbered {
             number: self.number,
@@ -122,7 +122,7 @@ impl Opening {
     pub fn try_clone(&self, alloc: Global) -> Result<Opening, AllocError>
         ensures opening { IfOk result (λ copy. opening_of copy ≡ opening_of self.now) }
         ensures page { IfOk result (λ copy. page_of copy.page ≡ page_of self.now.page) }
-        ensures state { IfOk result (λ copy. state_at copy.page ≡ state_at self.now.page) }
+        ensures state { IfOk result (λ copy. kept_at copy.page ≡ kept_at self.now.page) }
         ensures script { IfOk result (λ copy. copy.instance.script ≡ self.now.instance.script) }
         ensures pages { IfOk result (λ copy. IsSamePages self.now.instance.pages copy.instance.pages) }
         ensures begun { IfOk result (BeginsAlike self.now) }
@@ -148,6 +148,7 @@ impl Extension {
         Ok(Extension {
             instance: self.instance,
             answered: self.answered,
+            answer: self.answer.try_clone(alloc)?,
             effects: clone_effects(alloc, &self.effects)?,
             left: self.left.as_slice().to_vec(alloc)?,
             kind: self.kind,

@@ -16,6 +16,7 @@ mod instance;
 mod instances;
 mod list;
 mod numbered;
+mod origins;
 mod page;
 mod pages;
 mod prepare;

@@ -4,10 +4,10 @@ ghost use Rattle.instance_cells.specs.Views.{effect_of};
 ghost use Rattle.stored_states.specs.Views.{segment_of, suspended_of};
 ghost use Rattle.instance_book.specs.Lists.{HasRoom};
 ghost use Rattle.instance_book.specs.Views.{pages_of, HasRoomAt};
-ghost use Rattle.instance_book.specs.Places.{state_at, shown_in};
+ghost use Rattle.instance_book.specs.Places.{shown_in};
 ghost use Rattle.instance_book.specs.Makes.{StaysSame, KeepsStates};
 ghost use Rattle.instance_book.specs.Changes.{renewed, HasRoomFor};
-ghost use Rattle.instance_book.specs.Prepares.{StartsOn, AnswersOn, IsOnCells, AreOnCells, IsPrepared, OpensTo, ExtendsTo, StartKeepsState, AnswerKeepsState, KeepsItsState};
+ghost use Rattle.instance_book.specs.Prepares.{StartsOn, AnswersOn, IsOnCells, AreOnCells, IsPrepared, IsKeptOfTicket, OpensTo, ExtendsTo, StartKeepsState, AnswerKeepsState, KeepsItsState};
 ghost use Rattle.instance_book.specs.Segments.{Revokes, BeginsBy, IsLeftBy, GoesOnBy, Shows, EndsOn, FinishesOn, OpensOn};
 
 use crate::after::{After, Show};
@@ -21,11 +21,13 @@ use crate::retold::ToldPage;
 use crate::ticket::Ticket;
 use expiry::{LONGEST_LIFE, deadline};
 use instance_cells::Effect;
+use kept_states::KeptState;
 use page_names::{PageName, Target};
 use script_nodes::SendKind;
 use script_value::{Bytes, Items, Refusal, Reply, TxName, Value};
 use std::alloc::{AllocError, Global};
 use stored_states::{Outcome, Segment, Suspended};
+use stored_values::{StoredValue, StoredValues};
 use transactions::Closed;
 
 // The closed transactions with these more.
@@ -55,7 +57,7 @@ fn closed_after(
 }
 
 // The values that were read.
-pub(crate) fn reads_in(alloc: Global, effects: &[Effect]) -> Result<Items, AllocError>
+pub(crate) fn reads_in(alloc: Global, effects: &[Effect]) -> Result<StoredValues, AllocError>
     ensures { IfOk result (λ reads. reads ≡ reads_of (map effect_of effects.now)) }
 {
     let mut reads = Items::new(alloc);
@@ -64,7 +66,7 @@ pub(crate) fn reads_in(alloc: Global, effects: &[Effect]) -> Result<Items, Alloc
             reads.push(value.try_clone(alloc)?)?;
         }
     }
-    Ok(reads)
+    StoredValues::of(alloc, reads)
 }
 
 // The pages that are revoked, where the page forwards.
@@ -156,13 +158,14 @@ impl KeptInstance {
         state: Suspended,
     ) -> Result<Show, AllocError>
         requires { AreOn (length self.now.cells) (map effect_of effects.now) }
-        ensures state { IfOk result (λ show. state_at show.page ≡ suspended_of state) }
+        ensures state { IfOk result (λ show. IsKeptOfTicket ticket.now (suspended_of state) show.page) }
         ensures instance { IfOk result (GoesOnBy ticket.now parent kind effects.now inside.items left.now deadline self.now) }
     {
         let after = self.after(alloc, effects, left)?;
         let revoked = revoked_after(alloc, kind, &self.pages)?;
         let reads = reads_in(alloc, effects)?;
-        let answer = ticket.answer.try_clone(alloc)?;
+        let answer = StoredValue::of(alloc, &ticket.answer)?;
+        let state = KeptState::of(alloc, &ticket.from, ticket.links, state)?;
         Ok(Show {
             page: Numbered {
                 number: ticket.number,
@@ -206,12 +209,14 @@ impl Numbered<KeptInstance> {
         let show = self.item.shows(
             alloc, ticket, answered, kind, &effects, inside, &left, deadline, state,
         )?;
+        let answer = ticket.answer.try_clone(alloc)?;
         Ok(Prepared {
             reply,
             logged: ticket.number + 1,
             change: Some(Change::Extends(Extension {
                 instance: self.number,
                 answered,
+                answer,
                 effects,
                 left,
                 kind,

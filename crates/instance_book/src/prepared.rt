@@ -24,6 +24,7 @@ pub struct Extension {
     pub instance: u64,
     /// The number of the page that was answered.
     pub answered: u64,
+    pub answer: Value,
     pub effects: Vec<Effect>,
     pub left: Vec<TxName>,
     pub kind: SendKind,

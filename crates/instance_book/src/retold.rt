@@ -1,4 +1,5 @@
 ghost use Rattle.std.specs.Prelude.{◌≡◌, ◌<◌, ◌≤◌, ◌+◌, ◌^◌, map, length, IfOk, OnOk};
+ghost use Rattle.script_value.specs.Val.{list, no_vals};
 ghost use Rattle.instance_cells.specs.Cells.{AreOn};
 ghost use Rattle.instance_cells.specs.Views.{effect_of};
 ghost use Rattle.replay_spec.specs.Book as spec;
@@ -15,10 +16,12 @@ use crate::prepare::{begun, reads_in};
 use crate::prepared::{Change, Ending, Extension, Finish, Opening};
 use crate::ticket::Ticket;
 use instance_cells::Effect;
+use kept_states::KeptState;
 use script_nodes::SendKind;
 use script_value::{Items, TxName, Value};
 use std::alloc::{AllocError, Global};
-use stored_states::Suspended;
+use stored_states::{Origin, Suspended};
+use stored_values::StoredValue;
 
 /// A page that a record tells of, as its segment showed it again.
 #[derive(Drop)]
@@ -31,6 +34,13 @@ pub struct ToldPage {
     /// From this tick on it can't be answered, in seconds.
     pub deadline: u64,
     pub state: Suspended,
+}
+
+// What a page has that answers none: the empty list.
+fn no_answer(alloc: Global) -> Result<StoredValue, AllocError>
+    ensures { IfOk result (λ answer. answer ≡ list no_vals) }
+{
+    StoredValue::of(alloc, &Value::List(Items::new(alloc)))
 }
 
 impl Book {
@@ -49,6 +59,8 @@ impl Book {
         ensures opens { IfOk result (IsOpenedBy ticket.now page) }
     {
         let reads = reads_in(alloc, &page.effects)?;
+        let answer = no_answer(alloc)?;
+        let state = KeptState::of(alloc, &Origin::Start, 0, page.state)?;
         let instance = begun(alloc, ticket, &page.effects, &page.left)?;
         self.instances.make_room()?;
         Ok(Opening {
@@ -60,11 +72,11 @@ impl Book {
                 item: KeptPage {
                     nonce: ticket.nonce,
                     parent: None,
-                    answer: Value::List(Items::new(alloc)),
+                    answer,
                     reads,
                     inside: page.inside,
                     deadline: page.deadline,
-                    state: page.state,
+                    state,
                 },
             },
             instance,
@@ -133,10 +145,12 @@ impl Book {
         let show = kept.item.shows(
             alloc, ticket, answered, kind, &effects, inside, &left, deadline, state,
         )?;
+        let answer = ticket.answer.try_clone(alloc)?;
         self.instances.make_room_in(instance)?;
         self.change(Some(Change::Extends(Extension {
             instance,
             answered,
+            answer,
             effects,
             left,
             kind,

@@ -19,6 +19,8 @@ pub struct Ticket {
     pub url: Str,
     /// What its segment goes on from: the start, or the state of the page that is answered.
     pub from: Origin,
+    /// How many links a page of the segment would be from one whose state is kept by itself.
+    pub links: u8,
     pub answer: Value,
     /// The cells of its instance at the take; for a start those that the script begins with.
     pub cells: Cells,
@@ -36,6 +38,7 @@ impl Ticket {
             target: self.target,
             url: self.url.try_clone(alloc)?,
             from: self.from.try_clone(alloc)?,
+            links: self.links,
             answer: self.answer.try_clone(alloc)?,
             cells: self.cells.try_clone(alloc)?,
         })

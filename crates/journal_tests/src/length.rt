@@ -1,88 +1,31 @@
-ghost use Rattle.std.specs.Prelude.{false};
-ghost use Rattle.journal_tests.specs.Untold.{untold, nothing_left};
+//! The greatest length of a journal.
+ghost use Rattle.std.specs.Prelude.{◌≤◌, ◌^◌};
 
 use page_journal::{AppendFault, Journal};
-use std::alloc::{AllocError, Global};
+use std::alloc::Global;
 use std::test::Fail;
-use web_disk::Disk;
-use web_outside::Failed;
+use web_disk::RepeatDisk;
 
 const HEADER: &[u8] = &[75, 83, 87, 69, 66, 0, 0, 1];
 
-const OPEN: &[u8] = &[1];
-
-const CLOSED: &[u8] = &[0];
-
-// The length of a body that makes a record of 2^20 bytes, its gate and its length included.
-const LENGTH: &[u8] = &[251, 255, 15, 0];
-
-// A journal of so many records of 2^20 bytes, as far as its gates and lengths are read. What is written is dropped.
-#[derive(Drop)]
-struct LongDisk {
-    records: u32,
-}
-
-impl LongDisk {
-    fn end(&self) -> u64 {
-        8 + self.records as u64 * 1_048_576
-    }
-}
-
-impl Disk for LongDisk {
-    ghost tells = { false };
-
-    ghost view = { λ disk. untold };
-
-    fn faults(&self) -> u64 {
-        0
-    }
-
-    fn len(&mut self) -> Result<u64, Failed> {
-        Ok(self.end().saturating_add(1))
-    }
-
-    fn read(&mut self, place: u64, buf: &mut [u8]) -> Result<(), Failed> {
-        let from = if buf.len() == HEADER.len() {
-            HEADER
-        } else if buf.len() == LENGTH.len() {
-            LENGTH
-        } else if place == self.end() {
-            CLOSED
-        } else {
-            OPEN
-        };
-        for (i, byte) in buf.iter_mut().enumerate() {
-            *byte = from.get(i).copied().unwrap_or(0);
-        }
-        Ok(())
-    }
-
-    fn write_at(&mut self, _place: u64, _piece: &[u8]) -> Result<(), Failed> {
-        Ok(())
-    }
-
-    fn cut(&mut self, _len: u64) -> Result<(), Failed> {
-        Ok(())
-    }
-
-    fn sync(&mut self) -> Result<(), Failed> {
-        Ok(())
-    }
-
-    fn room(&mut self, _end: u64) -> Result<(), AllocError> {
-        Ok(())
-    }
-
-    ghost counts_now = { λ disk t image le now. now };
-
-    ghost only_now = { λ disk image left. left };
-
-    ghost reads_image = { λ disk told. nothing_left told };
+// A disk with 1,023 records of so many bytes, the gate and the length of each included. The length is written for 2^20.
+fn long_disk(alloc: Global, size: usize) -> Result<RepeatDisk, Fail>
+    requires low { 4 ≤ size }
+    requires high { size ≤ 2 ^ 32 }
+{
+    let mut record = vec![in alloc; 0u8; size]?;
+    record[0] = 1;
+    record[1] = 251;
+    record[2] = 255;
+    record[3] = 15;
+    let header = HEADER.to_vec(alloc)?;
+    let gate = vec![in alloc; 0u8; 1]?;
+    Ok(RepeatDisk::new(header, record, 1_023, gate))
 }
 
 // What a journal of 1,072,693,257 bytes answers to a body of this length.
 fn added(alloc: Global, size: u32) -> Result<Result<(), AppendFault>, Fail> {
-    let mut journal = match Journal::begin(alloc, LongDisk { records: 1_023 }) {
+    let mut journal = match Journal::begin(alloc, long_disk(alloc, 1_048_576)?) {
         Ok(journal) => journal,
         Err(_) => return Err(Fail::from("not opened")),
     };

@@ -14,15 +14,32 @@ use web_disk::MemoryDisk;
 const PAGES: &str =
     "(begin (send/suspend (lambda (u) '(p \"1\"))) (send/suspend (lambda (u) '(p \"2\"))) (send/suspend (lambda (u) '(p \"3\"))))";
 
-/// A setup of one script with three pages.
-pub fn setup(alloc: Global) -> Result<Setup, Fail> {
-    let script = expand(alloc, read_all(alloc, PAGES.as_bytes())?.as_slice())?;
-    let mut setup = Setup::new(Vec::new(alloc));
+// Two pages, and a cell to which 1 and then 2 is added.
+const COUNT: &str =
+    "(define c (make-instance-cell 5)) (begin (instance-cell-add! c 1) (send/suspend (lambda (u) \"a\")) (send/suspend (lambda (u) \"b\")) (instance-cell-add! c 2) \"c\")";
+
+fn add_script(alloc: Global, setup: &mut Setup, name: &str, text: &str) -> Result<(), Fail> {
+    let script = expand(alloc, read_all(alloc, text.as_bytes())?.as_slice())?;
     setup.push(NamedScript {
-        name: ScriptName::new(b"three").ok_or("no name")?,
-        text: Bytes::new(PAGES.as_bytes().to_vec(alloc)?),
+        name: ScriptName::new(name.as_bytes()).ok_or("no name")?,
+        text: Bytes::new(text.as_bytes().to_vec(alloc)?),
         script,
     })?;
+    Ok(())
+}
+
+/// A setup of a script with three pages, and of one that counts in a cell.
+pub fn setup(alloc: Global) -> Result<Setup, Fail> {
+    let mut setup = Setup::new(Vec::new(alloc));
+    add_script(alloc, &mut setup, "three", PAGES)?;
+    add_script(alloc, &mut setup, "count", COUNT)?;
+    Ok(setup)
+}
+
+/// A setup of the first of these alone.
+pub fn smaller_setup(alloc: Global) -> Result<Setup, Fail> {
+    let mut setup = Setup::new(Vec::new(alloc));
+    add_script(alloc, &mut setup, "three", PAGES)?;
     Ok(setup)
 }
 
@@ -34,11 +51,27 @@ pub fn begin(alloc: Global, shelf: u32, setup: &Setup) -> Result<Bytes, Fail> {
     Ok(encode_begin(alloc, shelf, setup)?)
 }
 
-/// A file of a header and a closed gate, with these bodies of fewer than 65,536 bytes between them.
-pub fn file(alloc: Global, first: &[u8], bodies: &[&[u8]]) -> Result<Vec<u8>, Fail> {
+// A header and a record with this body.
+fn begun(alloc: Global, first: &[u8]) -> Result<Vec<u8>, Fail> {
     let mut bytes = Vec::new(alloc);
     bytes.extend_from_slice(&[75, 83, 87, 69, 66, 0, 0, 1])?;
     add(&mut bytes, first)?;
+    Ok(bytes)
+}
+
+/// A file of a header and a closed gate, with these bodies of fewer than 65,536 bytes between them.
+pub fn file(alloc: Global, first: &[u8], bodies: &[&[u8]]) -> Result<Vec<u8>, Fail> {
+    let mut bytes = begun(alloc, first)?;
+    for body in bodies {
+        add(&mut bytes, body)?;
+    }
+    bytes.push(0)?;
+    Ok(bytes)
+}
+
+/// The same of bodies that were made.
+pub fn file_of(alloc: Global, first: &[u8], bodies: &[Vec<u8>]) -> Result<Vec<u8>, Fail> {
+    let mut bytes = begun(alloc, first)?;
     for body in bodies {
         add(&mut bytes, body)?;
     }

@@ -4,4 +4,10 @@
 #[cfg(test)]
 mod files;
 #[cfg(test)]
+mod passed_over;
+#[cfg(test)]
+mod ranges;
+#[cfg(test)]
 mod records;
+#[cfg(test)]
+mod words;

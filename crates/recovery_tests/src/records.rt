@@ -1,4 +1,5 @@
-use crate::files::{begin, file, found, setup};
+use crate::files::{begin, file, file_of, found, setup, smaller_setup};
+use crate::words::bytes_of;
 use book_recovery::Found;
 use std::test::Fail;
 
@@ -65,6 +66,39 @@ fn a_journal_of_another_shelf_is_told(rt: HostRuntime) -> Result<(), Fail> {
         return Err(Fail::from("it is taken"));
     };
     assert_eq!(rt; place, 8);
+    Ok(())
+}
+
+#[test]
+fn a_journal_of_other_scripts_is_told(rt: HostRuntime) -> Result<(), Fail> {
+    let alloc = rt.alloc();
+    let first = begin(alloc, 7, &smaller_setup(alloc)?)?;
+    let bytes = file(alloc, first.as_slice(), &[])?;
+    let Found::Other { place } = found(alloc, &setup(alloc)?, bytes)? else {
+        return Err(Fail::from("it is taken"));
+    };
+    assert_eq!(rt; place, 8);
+    Ok(())
+}
+
+// A start of a script that the setup has not, a second beginning, and no record.
+const ASTRAY_WORDS: &[&str] = &["2 q1 q9 0 2 5 d0 d0 d0 0 q100", "1 d7 d0", "6"];
+
+#[test]
+fn what_is_no_later_record_is_damaged(rt: HostRuntime) -> Result<(), Fail> {
+    let alloc = rt.alloc();
+    let setup = setup(alloc)?;
+    let first = begin(alloc, 7, &setup)?;
+    let end = first.len() as u64 + 13;
+    for words in ASTRAY_WORDS {
+        let mut bodies = Vec::new(alloc);
+        bodies.push(bytes_of(alloc, words, 0)?)?;
+        let bytes = file_of(alloc, first.as_slice(), &bodies)?;
+        let Found::Damaged { place } = found(alloc, &setup, bytes)? else {
+            return Err(Fail::from("it is taken"));
+        };
+        assert_eq!(rt; place, end, "{words}");
+    }
     Ok(())
 }
 

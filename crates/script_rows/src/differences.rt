@@ -75,7 +75,7 @@ fn is_joined(
     let Some(difference) = read(alloc, script, parent, bytes)? else {
         return Ok(false);
     };
-    let joined = join(alloc, parent, &difference)?;
+    let joined = join(alloc, parent.try_clone(alloc)?, difference)?;
     let mine = spelling(alloc, state)?;
     let other = spelling(alloc, &joined)?;
     Ok(match (&mine, &other) {

@@ -2,6 +2,8 @@
 #![tactic(auto)]
 
 mod differences;
+mod first;
+mod kept;
 mod read;
 mod rows;
 mod runs;

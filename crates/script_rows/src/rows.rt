@@ -1,4 +1,4 @@
-use crate::{differences, read, runs, states, syntax, text, twins, values};
+use crate::{differences, first, kept, read, runs, states, syntax, text, twins, values};
 use std::alloc::{AllocError, Global};
 
 // What is asked of a text: the word of a row, and the rest of its line.
@@ -20,6 +20,7 @@ fn answer(alloc: Global, word: &str, row: &str) -> Result<String, AllocError> {
         "names" => runs::names_of(alloc, asked),
         "recorded" => runs::recorded(alloc, asked),
         "value" => runs::value_told(alloc, asked),
+        "first" => first::first_told(alloc, asked),
         "both" => twins::each_told(alloc, asked),
         "last" => twins::last_told(alloc, asked),
         "again" => twins::again_told(alloc, asked),
@@ -28,6 +29,7 @@ fn answer(alloc: Global, word: &str, row: &str) -> Result<String, AllocError> {
         "cuts" => states::cuts_told(alloc, asked),
         "differs" => differences::difference_told(alloc, asked),
         "against" => differences::read_told(alloc, asked),
+        "kept" => kept::kept_told(alloc, asked),
         "changes" => states::changes_told(alloc, asked),
         "page" => values::page_told(alloc, asked),
         "measure" => values::measures_told(alloc, asked),

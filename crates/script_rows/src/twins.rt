@@ -9,7 +9,7 @@ use cek_machine::{Machine, Steps};
 use instance_cells::{Cells, Effect};
 use plain_rerun::rerun;
 use script_nodes::Script;
-use script_value::{Items, Value, equal};
+use script_value::{Items, Str, Value, equal};
 use segments::{Answer, Now, PlainEnd, Reads, Rerun};
 use send_suspend::run_segment;
 use std::alloc::{AllocError, Global};
@@ -108,6 +108,7 @@ fn counted<L: Ledger>(
     script: &Script,
     from: &Origin,
     past: &[Answer],
+    url: &Str,
     cells: &Cells,
     answer: &Value,
     fuel: u64,
@@ -122,15 +123,14 @@ fn counted<L: Ledger>(
     let (book, share) = blank.open::<L>();
     let mut counter = Steps::from_ledger(book, share);
     let number = past.len() as u64;
-    let url = url(alloc, number)?;
     let segment = Now {
         number,
-        url: &url,
+        url,
         reads: Reads::Present { cells, fuel },
     };
     let mut stepped = machine_at(alloc, script, from, answer, segment)?;
     let steps = steps_of(alloc, &mut stepped, &mut counter)?;
-    let plain = rerun(alloc, script, &tape(past, answer, &url, cells, fuel))?;
+    let plain = rerun(alloc, script, &tape(past, answer, url, cells, fuel))?;
     let begun = copy_of(alloc, script, from)?;
     let machine = run_segment(
         alloc,
@@ -139,7 +139,7 @@ fn counted<L: Ledger>(
         answer,
         cells,
         number,
-        &url,
+        url,
         fuel,
         &mut counter,
     )?;
@@ -164,15 +164,33 @@ fn twins_of(
     requires fuel { fuel < 2 ^ 63 }
     ensures { IfOk result (λ twins. Keeps twins.machine.outcome (λ d. Fits script.now d)) }
 {
+    let url = url(alloc, chain.past.len() as u64)?;
     counted::<Brand>(
         alloc,
         Blank::new(1),
         script,
         from,
         chain.past.as_slice(),
+        &url,
         &chain.cells,
         answer,
         fuel,
+    )
+}
+
+/// The first segment of a script, whose page has this URL.
+pub fn first_of(alloc: Global, script: &Script, url: &Str) -> Result<Twins, AllocError> {
+    let cells = Cells::of(alloc, script.instance_defaults().as_slice())?;
+    counted::<Brand>(
+        alloc,
+        Blank::new(1),
+        script,
+        &Origin::Start,
+        &[],
+        url,
+        &cells,
+        &Value::Truth(false),
+        MOST,
     )
 }
 
@@ -330,19 +348,22 @@ impl Twins {
             && self.plain.cost == self.machine.cost
     }
 
-    // Whether the machine took no more steps than the segment's cost and the frames that it began with allow.
-    fn is_within(&self) -> bool {
-        let bound = self
-            .machine
+    /// The most steps that the segment's cost and the frames that it began with allow.
+    pub fn most_steps(&self) -> u64 {
+        self.machine
             .cost
             .saturating_mul(3)
             .saturating_add(self.frames as u64)
-            .saturating_add(3);
-        self.steps <= bound
+            .saturating_add(3)
     }
 
-    // How the segment stopped, where both engines agree and the machine is within its bound.
-    fn told(&self, alloc: Global) -> Result<String, AllocError> {
+    // Whether the machine took no more.
+    fn is_within(&self) -> bool {
+        self.steps <= self.most_steps()
+    }
+
+    /// How the segment stopped, where both engines agree and the machine is within its bound.
+    pub fn told(&self, alloc: Global) -> Result<String, AllocError> {
         if !self.are_alike() {
             return String::from_str(alloc, "the engines differ");
         }

@@ -44,7 +44,7 @@ pub fn recorded(change: &Change) -> Recorded<'_>
             origin: RecordedOrigin::Answer {
                 instance: extension.instance,
                 page: extension.answered,
-                answer: &extension.show.page.item.answer,
+                answer: &extension.answer,
             },
             effects: extension.effects.as_slice(),
             left: extension.left.as_slice(),

@@ -89,5 +89,6 @@ returns-clause-states c =
       lineage = orderly.lineage c.args.instance a.at.instance there.here c.args.answered a.at.page there.shown;
       unused = subst (λ (n : ℕ). page_at n a.at.instance.pages ≡ None) (sym number) (orderly.no_page c.args.number refl c.args.instance a.at.instance there.here);
       state = page_state v t.cells _ c.in_ok-segment.segment c.args.claim p run c.in-Some-met_by.ensures.page;
+      fits = a.fits;
     } in
     c.in_ok-land_extension.ensures.states scripts own c.requires.ready.states

@@ -4,7 +4,7 @@ use Rattle.script_nodes.specs.Setup.{Named}
 use Rattle.script_nodes.specs.Views.{scripts_of, named_of}
 use Rattle.replay_spec.specs.Next.{home}
 use Rattle.instance_book.specs.Views.{page_of, pages_of, script_in}
-use Rattle.instance_book.specs.Places.{state_at, shown_of, shown_in, HasState}
+use Rattle.instance_book.specs.Places.{kept_at, shown_of, shown_in, HasState, HaveStates}
 use Rattle.instance_book.proofs.States.{state_found}
 use Rattle.instance_book.proofs.admission.place_of_numbers.Goals as goal
 
@@ -24,5 +24,6 @@ returns-clause-states c =
     let has = state_found s (home s shelf i.number) (pages_of i.item.pages) c.args.page (shown_in i.item.pages) (shown_of p) kept.states (sym c.in_ok-shown.ensures.shown) in
     record {
       script = sym c.in_ok-script.ensures.script;
-      state = subst (λ (x : Named). HasState x (home x shelf i.number) (pages_of i.item.pages) (page_of p) (state_at p)) (sym its) has;
+      all = subst (λ (x : Named). HaveStates x (home x shelf i.number) (pages_of i.item.pages) (shown_in i.item.pages)) (sym its) kept.states;
+      state = subst (λ (x : Named). HasState x (home x shelf i.number) (pages_of i.item.pages) (page_of p) (kept_at p)) (sym its) has;
     }

@@ -49,7 +49,7 @@ returns-clause-states c scripts own all =
     let b = book_beside scripts 0 c.args.self.now in
     let goes : GoesOnBy t c.args.answered p.kind p.effects.items p.inside.items p.left.items p.deadline kept.item show =
     rw (c.deref.ensures.value, c.deref-2.ensures.value) at c.in_ok-show.ensures.instance in
-    let x : Extension = record { instance = c.args.instance; answered = c.args.answered; effects = p.effects; left = p.left; kind = p.kind; show = show } in
+    let x : Extension = record { instance = c.args.instance; answered = c.args.answered; answer = c.in_ok-answer.answer; effects = p.effects; left = p.left; kind = p.kind; show = show } in
     let deadline : show.page.item.deadline ≡ p.deadline = ap (λ (q : spec.Page). q.deadline) goes.page in
     let made : ExtendsAs t c.args.instance c.args.answered (effects_in p) p.inside.items (suspended_of p.state) x = record {
       instance = refl;
@@ -57,7 +57,7 @@ returns-clause-states c scripts own all =
       state = c.in_ok-show.ensures.state;
     } in
     let next : IsNextAt b.shelf b.instances c.args.instance show.page =
-    next_kept b t own.at c.args.instance c.args.answered (effects_in p) p.inside.items (suspended_of p.state) x own.lineage own.unused own.here own.shown made own.state in
+    next_kept scripts b t own.at c.args.instance c.args.answered (effects_in p) p.inside.items (suspended_of p.state) x own.lineage own.unused own.here own.shown made own.state own.fits in
     let moved : IsNextAt b.shelf (instances_of scripts c.make_room_in.new.self) c.args.instance show.page =
     subst (λ (is : List Instance). IsNextAt b.shelf is c.args.instance show.page) (sym (c.make_room_in.ensures.instances scripts)) next in
     c.pass_over.ensures.states scripts (c.change.ensures.states scripts moved (c.make_room_in.ensures.states scripts c.args.self.now.shelf all))

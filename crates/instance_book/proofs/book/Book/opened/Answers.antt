@@ -1,5 +1,4 @@
 use Rattle.std.proofs.Common.{◌≡◌, ◌∙◌, ◌∷◌, [], ap, map, refl, None}
-use Rattle.script_value.specs.declared.value.Value.TheVariants as value
 use Rattle.instance_cells.specs.Views.{effect_of}
 use Rattle.replay_spec.specs.Book as spec
 use Rattle.replay_spec.specs.Change.{put_page}
@@ -19,9 +18,9 @@ returns-clause-opens c =
     let reads = rw c.deref.ensures.value at c.in_ok-reads.ensures in
     let first : Numbered KeptPage = record {
       number = t.number;
-      item = record { nonce = t.nonce; parent = None; answer = value.List c.new.result; reads = c.in_ok-reads.reads; inside = p.inside; deadline = p.deadline; state = p.state };
+      item = record { nonce = t.nonce; parent = None; answer = c.in_ok-answer.answer; reads = c.in_ok-reads.reads; inside = p.inside; deadline = p.deadline; state = c.in_ok-state.state };
     } in
-    let page : page_of first ≡ first_page t effects p.inside.items p.deadline = rw (reads, c.new.ensures) refl in
+    let page : page_of first ≡ first_page t effects p.inside.items p.deadline = rw (reads, c.in_ok-answer.ensures) refl in
     record {
       opening = rw c.in_ok-instance.ensures.script refl;
       inside_is = refl;
@@ -33,6 +32,6 @@ returns-clause-opens c =
         pages = c.in_ok-instance.ensures.pages;
         shown = c.in_ok-instance.ensures.shown;
         page = page;
-        state = refl;
+        state = c.in_ok-state.ensures;
       };
     }

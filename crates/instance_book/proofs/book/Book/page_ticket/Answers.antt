@@ -3,10 +3,10 @@ use Rattle.std.proofs.lemmas.Option.{get_or_from_slice_get}
 use Rattle.script_nodes.specs.Setup.{Named}
 use Rattle.script_nodes.specs.Views.{scripts_of, named_of}
 use Rattle.replay_spec.specs.Next as next
-use Rattle.instance_book.specs.Views.{script_in, no_script}
-use Rattle.instance_book.specs.Places.{state_at}
+use Rattle.instance_book.specs.Views.{page_of, pages_of, script_in, no_script}
+use Rattle.instance_book.specs.Places.{kept_at}
 use Rattle.instance_book.specs.Admissions.{book_under, place_of}
-use Rattle.instance_book.proofs.States.{origin_goes_on}
+use Rattle.instance_book.proofs.States.{origin_goes_on, links_next}
 use Rattle.instance_book.proofs.book.Book.page_ticket.Goals as goal
 
 pub returns-clause-fits : goal.returns-clause-fits
@@ -20,5 +20,14 @@ returns-clause-fits c =
     record {
       script = c.requires.script ∙ ap Some (sym its);
       url = c.in_ok-url.ensures ∙ ap (λ (s : Named). next.url_of (next.home s c.args.self.now.shelf i.number) c.args.number c.args.nonce) (sym its);
-      from = origin_goes_on (book_under c.args.setup.now c.args.self.now) _ at named _ (state_at place.page.now) c.in_ok-origin_at.ensures its c.requires.state;
+      from = origin_goes_on (book_under c.args.setup.now c.args.self.now) _ at named _ (kept_at place.page.now) its c.requires.state
+          (c.in_ok-origin_at.ensures (record { home = next.home named c.args.self.now.shelf i.number; all = c.requires.all; own = c.requires.state }));
+      links = c.next_links.ensures
+          ∙ links_next named (next.home named c.args.self.now.shelf i.number) (pages_of i.item.pages) (page_of place.page.now) (kept_at place.page.now) c.requires.state;
     }
+
+pub origin_at-requires : goal.origin_at-requires
+origin_at-requires c =
+    let place = c.args.place in
+    let home = next.home (named_of place.script.now) c.args.self.now.shelf place.instance.now.number in
+    record { home = home; all = c.requires.all; own = c.requires.state }

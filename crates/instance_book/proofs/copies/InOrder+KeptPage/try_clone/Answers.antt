@@ -1,8 +1,8 @@
 use Rattle.std.proofs.Common.{◌≡◌, ◌∙◌, ◌++◌, ◌∷◌, [], ◌<◌, ap, map, subst, length, get_or, ◌≤◌, List}
 use Rattle.replay_spec.specs.Book.{Page}
-use Rattle.machine_spec.specs.Machine.{Suspended}
+use Rattle.kept_states.specs.Kept.{Kept}
 use Rattle.instance_book.specs.Views.{page_of}
-use Rattle.instance_book.specs.Places.{state_at, shown_of}
+use Rattle.instance_book.specs.Places.{kept_at, shown_of}
 use Rattle.instance_book.specs.declared.numbered.Numbered.{Numbered}
 use Rattle.instance_book.specs.declared.page.KeptPage.{KeptPage}
 use Rattle.instance_book.proofs.Lists.{taken}
@@ -26,7 +26,7 @@ loop-page-preserved c =
     let within : i < length xs = subst (λ (is : List (Numbered KeptPage)). i < length is) c.deref-page-items.ensures.value c.loop-page-test.true in
     let here : x ≡ get_or xs i x = c.page-item.is ∙ ap (λ (is : List (Numbered KeptPage)). get_or is i x) c.deref-page-items.ensures.value in
     let items : c.push.new.self.items ≡ ys ++ y ∷ [] = c.in_ok-push.ensures.items in
-    let both : shown_of y ≡ shown_of x = ap (λ (p : Page). (p, state_at y)) c.in_ok-try_clone.ensures.page ∙ ap (λ (d : Suspended). (page_of x, d)) c.in_ok-try_clone.ensures.state in
+    let both : shown_of y ≡ shown_of x = ap (λ (p : Page). (p, kept_at y)) c.in_ok-try_clone.ensures.page ∙ ap (λ (d : Kept). (page_of x, d)) c.in_ok-try_clone.ensures.state in
     record {
       pages = ap (map page_of) items ∙ copied_more page_of xs ys i x y c.loop-page.invariant.pages within here c.in_ok-try_clone.ensures.page;
       shown = ap (map shown_of) items ∙ copied_more shown_of xs ys i x y c.loop-page.invariant.shown within here both;

@@ -1,7 +1,7 @@
 use Rattle.std.proofs.Common.{◌≡◌, ◌∙◌, ap, List}
 use Rattle.replay_spec.specs.Book.{Page, Instance}
 use Rattle.replay_spec.specs.Change.{put_in_order, put_page}
-use Rattle.machine_spec.specs.Machine.{Suspended}
+use Rattle.kept_states.specs.Kept.{Kept}
 use Rattle.instance_book.specs.declared.in_order.InOrder.{InOrder}
 use Rattle.instance_book.specs.declared.page.KeptPage.{KeptPage}
 use Rattle.instance_book.specs.Views.{page_of, pages_of, instance_with}
@@ -25,4 +25,4 @@ returns-clause-pages c =
 pub returns-clause-shown : goal.returns-clause-shown
 returns-clause-shown c =
     c.put_page.ensures.shown
-    ∙ ap (λ (ps : InOrder KeptPage). put_in_order (λ (x : Page × Suspended). x.0.number) (shown_of c.args.show.page) (shown_in ps)) (c.revoke.ensures.pages ∙ c.end.ensures.pages)
+    ∙ ap (λ (ps : InOrder KeptPage). put_in_order (λ (x : Page × Kept). x.0.number) (shown_of c.args.show.page) (shown_in ps)) (c.revoke.ensures.pages ∙ c.end.ensures.pages)

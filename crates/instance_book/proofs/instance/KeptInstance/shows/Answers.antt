@@ -18,7 +18,7 @@ returns-clause-instance c =
     let next : Page = next_page t c.args.parent effects c.args.inside.items c.args.deadline in
     let shown : Numbered KeptPage = record {
       number = t.number;
-      item = record { nonce = t.nonce; parent = _; answer = c.in_ok-answer.answer; reads = c.in_ok-reads.reads; inside = c.args.inside; deadline = c.args.deadline; state = c.args.state };
+      item = record { nonce = t.nonce; parent = _; answer = c.in_ok-answer.answer; reads = c.in_ok-reads.reads; inside = c.args.inside; deadline = c.args.deadline; state = c.in_ok-state.state };
     } in
     let page : page_of shown ≡ next = rw (c.in_ok-reads.ensures, c.in_ok-answer.ensures) refl in
     record {

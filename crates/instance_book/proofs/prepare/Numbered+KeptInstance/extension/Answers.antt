@@ -1,4 +1,7 @@
 use Rattle.std.proofs.Common.{◌≡◌, ◌∙◌, ap, sym, map, refl, ℕ}
+use Rattle.script_value.specs.Val.{Val}
+use Rattle.script_value.specs.Views.{meaning}
+use Rattle.script_value.specs.declared.value.Value.{Value}
 use Rattle.script_value.specs.declared.outcome.Reply.{Reply}
 use Rattle.instance_cells.specs.Views.{effect_of}
 use Rattle.replay_spec.specs.Book as spec
@@ -15,12 +18,12 @@ returns-clause-shows c scripts =
     let effects = map effect_of c.args.effects.items in
     let goes : GoesOnBy t c.args.answered c.args.kind c.args.effects.items c.args.inside.items c.args.left.items c.args.deadline c.args.self.now.item c.in_ok-show.show =
     rw (c.deref.ensures.value, c.deref-2.ensures.value) at c.in_ok-show.ensures.instance in
-    let record_of : spec.Page → spec.Extension = λ p. record {
+    let record_of : Val → spec.Page → spec.Extension = λ v p. record {
       number = p.number;
       nonce = p.nonce;
       instance = c.args.self.now.number;
       page = c.args.answered;
-      answer = p.answer;
+      answer = v;
       effects = effects;
       left = c.args.left.items;
       kind = c.args.kind;
@@ -30,8 +33,9 @@ returns-clause-shows c scripts =
     record {
       recorded = record {
         decision =
-            ap (λ (r : Reply). records (reply_of r) (spec.extends (record_of (page_of shown))) (page_of shown).inside) c.in_ok-reply.ensures
-            ∙ ap (λ (p : spec.Page). records (step.shown c.args.page t.url) (spec.extends (record_of p)) p.inside) goes.page;
+            ap (λ (r : Reply). records (reply_of r) (spec.extends (record_of (meaning c.in_ok-answer.answer) (page_of shown))) (page_of shown).inside) c.in_ok-reply.ensures
+            ∙ (ap (λ (v : Value). records (step.shown c.args.page t.url) (spec.extends (record_of (meaning v) (page_of shown))) (page_of shown).inside) c.in_ok-answer.ensures
+            ∙ ap (λ (p : spec.Page). records (step.shown c.args.page t.url) (spec.extends (record_of (meaning t.answer) p)) p.inside) goes.page);
         logged = refl;
       };
       change = (refl, goes.instance scripts c.args.self.now.number);

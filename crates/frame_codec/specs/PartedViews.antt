@@ -1,0 +1,16 @@
+-- What bytes in parts stand for.
+use Rattle.std.specs.Prelude.{◌≡◌, ℕ, List, take, drop}
+use Rattle.frame_codec.specs.Parted as spec
+use Rattle.frame_codec.specs.declared.parted.Parted.{Parted}
+
+-- the bindings stand at one place, and before it the frames at another
+abbrev pub parted_of : Parted → spec.Parted
+parted_of p = record {
+  env = take p.frames_at (take p.shadows_at p.bytes);
+  frames = drop p.frames_at (take p.shadows_at p.bytes);
+  shadows = drop p.shadows_at p.bytes;
+}
+
+-- it is made of these
+abbrev pub IsMadeOf : (env frames shadows : List ℕ) → Parted → Type 0
+IsMadeOf env frames shadows p = parted_of p ≡ record { env = env; frames = frames; shadows = shadows }

@@ -1,0 +1,15 @@
+-- Fronts of the states of pages.
+use Rattle.std.specs.Prelude.{◌≡◌}
+use Rattle.script_nodes.specs.Setup.{Named}
+use Rattle.stored_states.specs.Views.{suspended_of}
+use Rattle.stored_states.specs.declared.frame.Suspended as stored
+use Rattle.frame_codec.specs.Fronts.{front}
+use Rattle.frame_codec.specs.declared.need.Need.{Need}
+use Rattle.instance_book.specs.declared.numbered.Numbered.{Numbered}
+use Rattle.instance_book.specs.declared.in_order.InOrder.{InOrder}
+use Rattle.instance_book.specs.declared.page.KeptPage.{KeptPage}
+use Rattle.instance_book.specs.Places.{AreStatesOf}
+
+-- such a front of the page's state is this
+abbrev pub IsFrontIn : Named → InOrder KeptPage → Numbered KeptPage → Need → stored.Suspended → Type 0
+IsFrontIn s ps p n d = (are : AreStatesOf s ps p) → front n are.own.state ≡ suspended_of d

@@ -1,0 +1,72 @@
+-- What is kept of the state of a page.
+use Rattle.std.specs.Prelude.{◌≡◌, ℕ, zero, suc, List, Option, Some, None}
+use Rattle.web_cells.specs.Own.{BindsAllOf}
+use Rattle.script_nodes.specs.Arena.{Arena}
+use Rattle.machine_spec.specs.Machine.{Suspended}
+use Rattle.stored_states.specs.Views.{origin_of, suspended_of}
+use Rattle.stored_states.specs.declared.segment.Origin.{Origin}
+use Rattle.frame_codec.specs.Spelling.{StateHasBytes}
+use Rattle.frame_codec.specs.Stored.{ShadowsFit, IsStored}
+use Rattle.frame_codec.specs.Deltas.{Delta, IsDelta}
+use Rattle.frame_codec.specs.Parted.{Parted, whole_of, state_parts, delta_parts}
+use Rattle.frame_codec.specs.PartedViews.{parted_of}
+use Rattle.kept_states.specs.declared.form.Form as declared
+use Rattle.kept_states.specs.declared.form.Form.TheVariants.{Spelled, Whole}
+use Rattle.kept_states.specs.declared.state.KeptState.{KeptState}
+
+-- bytes, in parts of which each can be read without the others, or the state itself
+pub data Form : Type 0 where
+  spelled : Parted → Form
+  whole : Suspended → Form
+
+-- the bytes, where it is kept so
+abbrev pub bytes_of : Form → Option (List ℕ)
+bytes_of (spelled parts) = Some (whole_of parts)
+bytes_of (whole d) = None
+
+-- the links to a page whose state is kept by itself, and how it is kept
+pub record Kept : Type 0 where
+  pub links : ℕ
+  pub form : Form
+
+-- the state is kept by itself: in its spelling, where it has one
+abbrev pub IsAlone : Suspended → Form → Type 0
+IsAlone d (spelled parts) = StateHasBytes d × (parts ≡ state_parts d)
+IsAlone d (whole e) = ¬ StateHasBytes d × (e ≡ d)
+
+-- the state has a spelling, and binds what its parent binds
+abbrev pub CanDiffer : (parent d : Suspended) → Type 0
+CanDiffer p d = StateHasBytes d × BindsAllOf p.shadows d.shadows
+
+-- the state is kept as what differs from its parent's, where it can be
+abbrev pub IsBehind : (parent d : Suspended) → Form → Type 0
+IsBehind p d (spelled parts) = CanDiffer p d × ((x : Delta) × (IsDelta p d x × (parts ≡ delta_parts x)))
+IsBehind p d (whole e) = ¬ CanDiffer p d × (e ≡ d)
+
+-- at no links a state is kept by itself, and else as what differs from its parent's
+abbrev pub IsKeptBy : (parent : Option Suspended) → (links : ℕ) → Suspended → Form → Type 0
+IsKeptBy None links d f = IsAlone d f
+IsKeptBy (Some p) zero d f = IsAlone d f
+IsKeptBy (Some p) (suc n) d f = IsBehind p d f
+
+-- so is the state of a page that is so many links from one that is kept by itself
+pub record IsKeptFrom (parent : Option Suspended) (links : ℕ) (d : Suspended) (k : Kept) : Type 0 where
+  pub links_are : k.links ≡ links
+  pub form : IsKeptBy parent links d k.form
+
+-- as the program keeps them
+abbrev pub form_of : declared.Form → Form
+form_of (Spelled parts) = spelled (parted_of parts)
+form_of (Whole d) = whole (suspended_of d)
+
+abbrev pub kept_of : KeptState → Kept
+kept_of k = record { links = k.links; form = form_of k.form }
+
+-- A state of a script: its web cells rise, and where it has a spelling it is read back.
+pub record IsOfScript (a : Arena) (d : Suspended) : Type 0 where
+  pub shadows : ShadowsFit a d.shadows
+  pub stored : StateHasBytes d → IsStored a d
+
+-- so it is kept behind an origin, which a start has none of
+abbrev pub IsKeptAfter : Origin → (links : ℕ) → Suspended → KeptState → Type 0
+IsKeptAfter before links d k = IsKeptFrom (origin_of before) links d (kept_of k)

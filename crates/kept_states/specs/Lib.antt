@@ -1,0 +1,4 @@
+pub mod Links
+pub mod Kept
+pub mod Given
+pub mod Vectors

@@ -1,0 +1,11 @@
+-- How many links a page is from one whose state is kept by itself.
+use Rattle.std.specs.Prelude.{ℕ, zero, suc, ◌+◌, nat_lt, if◌then◌else◌}
+
+-- one more than the page before, or none where that has 32
+abbrev pub next_links : ℕ → ℕ
+next_links links = if nat_lt links 32 then links + 1 else 0
+
+-- of a page with so many ancestors: a root has none
+abbrev pub links_at : ℕ → ℕ
+links_at zero = 0
+links_at (suc n) = next_links (links_at n)

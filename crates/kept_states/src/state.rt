@@ -1,0 +1,85 @@
+ghost use Rattle.std.specs.Prelude.{◌≡◌, IfOk, option_map};
+ghost use Rattle.stored_states.specs.Views.{suspended_of};
+ghost use Rattle.kept_states.specs.Kept.{bytes_of, IsKeptAfter, kept_of};
+ghost use Rattle.kept_states.specs.Given.{GivesAlone, GivesBehind};
+
+use crate::form::{Form, Found};
+use frame_codec::Need;
+use script_nodes::Script;
+use std::alloc::{AllocError, Global};
+use stored_states::{Origin, Suspended};
+
+/// What is kept of the state of a page: its bytes by itself, or what differs from the state of the page before.
+///
+/// A state that has no spelling is kept as it is.
+#[derive(Drop)]
+pub struct KeptState {
+    /// How many links it is from a page whose state is kept by itself.
+    pub links: u8,
+    form: Form,
+}
+
+impl KeptState {
+    /// What is kept of a state so many links from one that is kept by itself, where the page before it has the state of the
+    /// origin.
+    pub fn of(
+        alloc: Global,
+        before: &Origin,
+        links: u8,
+        state: Suspended,
+    ) -> Result<KeptState, AllocError>
+        ensures { IfOk result (IsKeptAfter before.now links (suspended_of state)) }
+    {
+        let Origin::Page(parent) = before else {
+            let form = Form::alone(alloc, state)?;
+            return Ok(KeptState { links, form });
+        };
+        if links == 0 {
+            let form = Form::alone(alloc, state)?;
+            return Ok(KeptState { links, form });
+        }
+        let form = Form::behind(alloc, parent, state)?;
+        Ok(KeptState { links, form })
+    }
+
+    /// Its bytes; none where the state is kept as it is.
+    pub fn bytes(&self) -> Option<&[u8]>
+        ensures { option_map (λ bytes. bytes.now) result ≡ bytes_of (kept_of self.now).form }
+    {
+        self.form.bytes()
+    }
+
+    /// A front of the state, where it is kept by itself.
+    pub fn read_alone(
+        &self,
+        alloc: Global,
+        script: &Script,
+        need: Need,
+    ) -> Result<Option<Suspended>, AllocError>
+        ensures { IfOk result (GivesAlone script.now need (kept_of self.now).form) }
+    {
+        self.form.read_alone(alloc, script, need)
+    }
+
+    /// What is found of a front of the state, where it is kept as what differs from that of the page before.
+    pub fn read_behind(
+        &self,
+        alloc: Global,
+        script: &Script,
+        need: Need,
+    ) -> Result<Option<Found>, AllocError>
+        ensures { IfOk result (GivesBehind script.now need (kept_of self.now).form) }
+    {
+        self.form.read_behind(alloc, script, need)
+    }
+
+    /// A copy, equal to its source.
+    pub fn try_clone(&self, alloc: Global) -> Result<KeptState, AllocError>
+        ensures { IfOk result (λ copy. kept_of copy ≡ kept_of self.now) }
+    {
+        Ok(KeptState {
+            links: self.links,
+            form: self.form.try_clone(alloc)?,
+        })
+    }
+}

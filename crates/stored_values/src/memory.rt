@@ -1,0 +1,12 @@
+ghost use Rattle.std.specs.Prelude.{◌≡◌};
+
+use script_value::Bytes;
+
+/// The same bytes, in no more memory than they take.
+pub fn trimmed(bytes: Bytes) -> Bytes
+    ensures { result ≡ bytes }
+{
+    let mut bytes = bytes.into_vec();
+    bytes.shrink_to_fit();
+    Bytes::new(bytes)
+}

@@ -1,0 +1,135 @@
+ghost use Rattle.std.specs.Prelude.{true, IfOk};
+ghost use Rattle.script_nodes.specs.Views.{scripts_of};
+ghost use Rattle.web_disk.specs.Disks.{memory_view};
+ghost use Rattle.shelf.specs.Views.{IsInOrder};
+
+use crate::texts::{datum, target};
+use journal_records::can_begin;
+use script_nodes::Setup;
+use script_value::{Reply, Value};
+use shelf::{BeginFault, Rules, Shelf, run_ticket};
+use std::alloc::Global;
+use std::test::Fail;
+use web_disk::MemoryDisk;
+use web_outside::Counting;
+
+/// A shelf on a disk in memory.
+pub type MemoryShelf = Shelf<MemoryDisk, Counting>;
+
+const RULES: Rules = Rules {
+    number: 7,
+    shelves: 8,
+    fuel: 100_000,
+    life: 3_600,
+    instances: 256,
+    pages: 64,
+};
+
+/// The shelf of a disk; or why it was not opened, and the disk.
+pub fn tried(
+    alloc: Global,
+    disk: MemoryDisk,
+    setup: &Setup,
+) -> Result<Result<MemoryShelf, (BeginFault, MemoryDisk)>, Fail>
+    ensures { IfOk result (λ r. IfOk r (IsInOrder memory_view true (scripts_of setup.now))) }
+{
+    if setup.len() > 256 || !can_begin(RULES.number, setup) {
+        return Err(Fail::from("no setup of a shelf"));
+    }
+    match Shelf::begin(alloc, disk, Counting::new(), setup, RULES) {
+        Ok(shelf) => Ok(Ok(shelf)),
+        Err((fault, disk, _)) => Ok(Err((fault, disk))),
+    }
+}
+
+/// The shelf of a disk, or why it was not opened.
+pub fn begun(
+    alloc: Global,
+    disk: MemoryDisk,
+    setup: &Setup,
+) -> Result<Result<MemoryShelf, BeginFault>, Fail>
+    ensures { IfOk result (λ r. IfOk r (IsInOrder memory_view true (scripts_of setup.now))) }
+{
+    match tried(alloc, disk, setup)? {
+        Ok(shelf) => Ok(Ok(shelf)),
+        Err((fault, _)) => Ok(Err(fault)),
+    }
+}
+
+/// The shelf of a disk of these bytes, or why it was not opened.
+pub fn opened(
+    alloc: Global,
+    bytes: Vec<u8>,
+    setup: &Setup,
+) -> Result<Result<MemoryShelf, BeginFault>, Fail>
+    ensures { IfOk result (λ r. IfOk r (IsInOrder memory_view true (scripts_of setup.now))) }
+{
+    begun(
+        alloc,
+        MemoryDisk::new(alloc, bytes, Vec::new(alloc))?,
+        setup,
+    )
+}
+
+/// The shelf of an empty disk.
+pub fn created(alloc: Global, setup: &Setup) -> Result<MemoryShelf, Fail>
+    ensures { IfOk result (IsInOrder memory_view true (scripts_of setup.now)) }
+{
+    match opened(alloc, Vec::new(alloc), setup)? {
+        Ok(shelf) => Ok(shelf),
+        Err(_) => Err(Fail::from("no shelf")),
+    }
+}
+
+/// What stands on the disk of a shelf.
+pub fn bytes_of(alloc: Global, shelf: MemoryShelf) -> Result<Vec<u8>, Fail> {
+    let (disk, _nonces) = shelf.close();
+    Ok(disk.bytes().to_vec(alloc)?)
+}
+
+/// What a visit of a path with this answer is answered.
+pub fn answered(
+    alloc: Global,
+    shelf: &mut MemoryShelf,
+    setup: &Setup,
+    path: &str,
+    answer: Value,
+) -> Result<Reply, Fail>
+    requires { IsInOrder memory_view true (scripts_of setup.now) shelf.old }
+    ensures { IsInOrder memory_view true (scripts_of setup.now) shelf.new }
+{
+    let target = target(path)?;
+    let ticket = match shelf.take(alloc, setup, &target, answer) {
+        Ok(ticket) => ticket,
+        Err(reply) => return Ok(reply),
+    };
+    let fuel = shelf.rules().fuel;
+    let segment = run_ticket(alloc, setup, &ticket, &ticket.cells, fuel)?;
+    Ok(shelf.publish(alloc, setup, ticket, Some(segment)))
+}
+
+/// What a start is answered.
+pub fn visited(alloc: Global, shelf: &mut MemoryShelf, setup: &Setup) -> Result<Reply, Fail>
+    requires { IsInOrder memory_view true (scripts_of setup.now) shelf.old }
+    ensures { IsInOrder memory_view true (scripts_of setup.now) shelf.new }
+{
+    answered(alloc, shelf, setup, "/servlets/s", datum(alloc, "()")?)
+}
+
+/// The number that a start takes; none where the numbers are used up.
+pub fn next_number(
+    alloc: Global,
+    shelf: &mut MemoryShelf,
+    setup: &Setup,
+) -> Result<Option<u64>, Fail>
+    requires { IsInOrder memory_view true (scripts_of setup.now) shelf.old }
+    ensures { IsInOrder memory_view true (scripts_of setup.now) shelf.new }
+{
+    let target = target("/servlets/s")?;
+    let answer = datum(alloc, "()")?;
+    match shelf.take(alloc, setup, &target, answer) {
+        Ok(ticket) => Ok(Some(ticket.number)),
+        Err(Reply::Worn) => Ok(None),
+        Err(_) => Err(Fail::from("no ticket")),
+    }
+}
