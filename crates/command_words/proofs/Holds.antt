@@ -20,17 +20,17 @@ use Rattle.clap.specs.declared.builder.value_parser.ValueParser.TheVariants as v
 use Rattle.clap.specs.declared.error.kind.ErrorKind.TheVariants.{MissingRequiredArgument}
 use Rattle.clap.proofs.OnLiterals.{clap_on_literals}
 use Rattle.clap.proofs.ValueTestLemmas.{accepts-Accepts}
-use Rattle.command_words.specs.App.{app, check_shape, play_shape, serve_shape}
+use Rattle.command_words.specs.App.{app, check_shape, load_shape, play_shape, serve_shape}
 use Rattle.server_limits.specs.Limits.{most_connections, most_fuel, most_instances, most_life, most_pages, most_shelves}
-use Rattle.command_words.specs.Options.{Item, Kind, directory, flag, number, play_items, serve_items}
-use Rattle.command_words.specs.Plain.{AreInRange, CanServe, IsInRange}
-use Rattle.command_words.specs.Reads.{Holds, HoldsAs, HoldsAsked, HoldsFor, HoldsNumber, HoldsText, asked_as, asked_from, for_check, for_play, for_serve, number_at, options_at, service_at, text_at}
+use Rattle.command_words.specs.Options.{Item, Kind, bare, directory, flag, load_items, most_run, number, play_items, serve_items, most_workers}
+use Rattle.command_words.specs.Plain.{AreInRange, CanLoad, CanServe, IsInRange}
+use Rattle.command_words.specs.Reads.{Holds, HoldsAs, HoldsAsked, HoldsFor, HoldsNumber, HoldsText, asked_as, asked_from, for_check, for_load, for_play, for_serve, load_at, number_at, options_at, service_at, text_at}
 use Rattle.command_words.specs.declared.Command.{Command}
-use Rattle.command_words.specs.declared.Command.TheVariants.{Check, Play, Serve}
+use Rattle.command_words.specs.declared.Command.TheVariants.{Check, Play, Serve, Load}
 use Rattle.command_words.proofs.Found.{HasDefault}
 use Rattle.command_words.proofs.Rows.{filled_in, find_row, has_of, kept}
 use Rattle.command_words.proofs.Sound.{AllKnown, Level, Sound, find_all, good_row, level_sound, neither, sets_value, shows_help}
-use Rattle.command_words.proofs.Tables.{IsIn, built_sub, has_default, play_in, serve_in}
+use Rattle.command_words.proofs.Tables.{IsIn, built_sub, has_default, load_in, load_rules, play_in, serve_in}
 use Rattle.command_words.proofs.Uses.{Fits, built_rule, value_fault}
 
 -- ---- one value
@@ -105,6 +105,7 @@ value_in s table words i l in_table there = by_row (row_of i.default refl)
 
 holds_as : (kind : Kind) (c : List Rule) (a : Rule) (rows : List Row) (id : Text) → Fits c kind id a → Value a rows id → HoldsAs kind rows id
 holds_as (number low high) c a rows id fits v = number_in a rows id low high fits.1 v
+holds_as (bare low high) c a rows id fits v = number_in a rows id low high fits.1 v
 holds_as directory c a rows id fits v = (v.text, v.first, accepted_by a vp.NonEmptyString v.text fits.1 v.passes)
 holds_as flag c a rows id fits v = (v.text, v.one)
 
@@ -130,7 +131,7 @@ play_holds words fine =
 
 serve_known : AllKnown (built_sub serve_shape).rules
 unfolding clap_on_literals
-serve_known = (record { does = sets_value refl refl; by_id = refl }, (record { does = sets_value refl refl; by_id = refl }, (record { does = sets_value refl refl; by_id = refl }, (record { does = sets_value refl refl; by_id = refl }, (record { does = sets_value refl refl; by_id = refl }, (record { does = sets_value refl refl; by_id = refl }, (record { does = sets_value refl refl; by_id = refl }, (record { does = sets_value refl refl; by_id = refl }, (record { does = shows_help refl; by_id = refl }, tt)))))))))
+serve_known = (record { does = sets_value refl refl; by_id = refl }, (record { does = sets_value refl refl; by_id = refl }, (record { does = sets_value refl refl; by_id = refl }, (record { does = sets_value refl refl; by_id = refl }, (record { does = sets_value refl refl; by_id = refl }, (record { does = sets_value refl refl; by_id = refl }, (record { does = sets_value refl refl; by_id = refl }, (record { does = sets_value refl refl; by_id = refl }, (record { does = sets_value refl refl; by_id = refl }, (record { does = shows_help refl; by_id = refl }, tt))))))))))
 
 no_port : (rows : List Row) → is_given (codes "port") rows ≡ false → check_fault (built_sub serve_shape) rows false ≡ MissingRequiredArgument ∷ []
 unfolding clap_on_literals
@@ -158,7 +159,37 @@ serve_holds words fine =
     let port = port_row (rows_after (built_sub serve_shape).rules [] words) l.checked in
     for_serve refl
     (holds_each (built_sub serve_shape) serve_items serve_items words l serve_in
-    (λ e. cc, (λ e. cc, (λ e. cc, (λ e. cc, (λ e. cc, (λ e. cc, (λ e. port, (λ e. cc, tt)))))))))
+    (λ e. cc, (λ e. cc, (λ e. cc, (λ e. cc, (λ e. cc, (λ e. cc, (λ e. port, (λ e. cc, (λ e. cc, tt))))))))))
+
+-- ---- `load`
+
+load_known : AllKnown load_rules
+unfolding clap_on_literals
+load_known = (record { does = sets_value refl refl; by_id = refl }, (record { does = sets_value refl refl; by_id = refl }, (record { does = sets_value refl refl; by_id = refl }, (record { does = sets_value refl refl; by_id = refl }, (record { does = sets_value refl refl; by_id = refl }, (record { does = sets_value refl refl; by_id = refl }, (record { does = sets_value refl refl; by_id = refl }, (record { does = shows_help refl; by_id = refl }, tt))))))))
+
+no_number : (rows : List Row) → is_given (codes "number") rows ≡ false → check_fault (built_sub load_shape) rows false ≡ MissingRequiredArgument ∷ []
+unfolding clap_on_literals
+no_number rows e = simp e
+
+-- no fault is left only where the number is given
+number_given : (rows : List Row) → check_fault (built_sub load_shape) rows false ≡ [] → is_given (codes "number") rows ≡ true
+number_given rows e = go (is_given (codes "number") rows) refl
+  where
+    go : (b : Bool) → is_given (codes "number") rows ≡ b → b ≡ true
+    go true given = refl
+    go false given = let missing = no_number rows given in cc
+
+number_row : (rows : List Row) → check_fault (built_sub load_shape) rows false ≡ [] → is_some (find_row (codes "number") rows) ≡ true
+unfolding clap_on_literals
+number_row rows e = given_row _ (find_row (codes "number") rows) (number_given rows e)
+
+load_holds : (words : List Text) → level_fault (built_sub load_shape) [] nothing_held words false [] ≡ [] → HoldsFor (codes "load") (rows_after load_rules [] words)
+load_holds words fine =
+    let l = level_sound (built_sub load_shape) words refl load_known fine in
+    let given = number_row (rows_after load_rules [] words) l.checked in
+    for_load refl
+    (holds_each (built_sub load_shape) load_items load_items words l load_in
+    (λ e. given, (λ e. cc, (λ e. cc, (λ e. cc, (λ e. cc, (λ e. cc, (λ e. cc, tt))))))))
 
 -- ---- the command
 
@@ -166,9 +197,10 @@ data IsSub (s : Shape) : Type 0 where
   sub_check : s ≡ built_sub check_shape → IsSub s
   sub_play : s ≡ built_sub play_shape → IsSub s
   sub_serve : s ≡ built_sub serve_shape → IsSub s
+  sub_load : s ≡ built_sub load_shape → IsSub s
 
 all_subs : Each IsSub (built app).subs
-all_subs = (sub_check refl, (sub_play refl, (sub_serve refl, tt)))
+all_subs = (sub_check refl, (sub_play refl, (sub_serve refl, (sub_load refl, tt))))
 
 sub_holds : (s : Shape) (words : List Text) → IsSub s → level_fault s [] nothing_held words false [] ≡ [] → HoldsFor s.name (rows_after s.rules [] words)
 sub_holds s words (sub_check e) fine = for_check (ap (λ (x : Shape). x.name) e)
@@ -176,6 +208,8 @@ sub_holds s words (sub_play e) fine =
     subst (λ (x : Shape). HoldsFor x.name (rows_after x.rules [] words)) (sym e) (play_holds words (subst (λ (x : Shape). level_fault x [] nothing_held words false [] ≡ []) e fine))
 sub_holds s words (sub_serve e) fine =
     subst (λ (x : Shape). HoldsFor x.name (rows_after x.rules [] words)) (sym e) (serve_holds words (subst (λ (x : Shape). level_fault x [] nothing_held words false [] ≡ []) e fine))
+sub_holds s words (sub_load e) fine =
+    subst (λ (x : Shape). HoldsFor x.name (rows_after x.rules [] words)) (sym e) (load_holds words (subst (λ (x : Shape). level_fault x [] nothing_held words false [] ≡ []) e fine))
 
 no_command : (rows : List Row) → check_fault (built app).top rows false ≡ [] → ⊥
 unfolding clap_on_literals
@@ -224,12 +258,19 @@ service_range rows h = record {
   options = options_range rows (h.0, (h.1.0, (h.1.1.0, (h.1.1.1.0, (h.1.1.1.1.0, (h.1.1.1.1.1.0, tt))))));
   port = (number_range 0 65535 rows (codes "port") h.1.1.1.1.1.1.0).1;
   connections = number_range 1 most_connections rows (codes "connections") h.1.1.1.1.1.1.1.0;
+  workers = number_range 1 most_workers rows (codes "workers") h.1.1.1.1.1.1.1.1.0;
 }
+
+load_range : (rows : List Row) → Holds load_items rows → CanLoad (load_at rows)
+load_range rows h =
+    let number = number_range 1 most_run rows (codes "number") h.0 in
+    record { options = options_range rows h.1; low = number.0; high = number.1 }
 
 for_range : (name : Text) (rows : List Row) (asked : Command) → HoldsFor name rows → asked_as name rows ≡ Some asked → IsInRange asked
 for_range name rows asked (for_check is) e = subst IsInRange (same_some (asked_as name rows) Check asked (ap (λ n. asked_as n rows) is) e) tt
 for_range name rows asked (for_play is h) e = subst IsInRange (same_some (asked_as name rows) (Play (options_at rows)) asked (ap (λ n. asked_as n rows) is) e) (options_range rows h)
 for_range name rows asked (for_serve is h) e = subst IsInRange (same_some (asked_as name rows) (Serve (service_at rows)) asked (ap (λ n. asked_as n rows) is) e) (service_range rows h)
+for_range name rows asked (for_load is h) e = subst IsInRange (same_some (asked_as name rows) (Load (load_at rows)) asked (ap (λ n. asked_as n rows) is) e) (load_range rows h)
 
 in_range : (o : Option (Text × List Row)) (asked : Command) → HoldsAsked o → asked_from o ≡ Some asked → IsInRange asked
 in_range None asked held e = absurd held

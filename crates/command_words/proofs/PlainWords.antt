@@ -11,20 +11,21 @@ use Rattle.clap.specs.Simple.{Shape, subcommand_of}
 use Rattle.clap.specs.Takes.{is_given}
 use Rattle.clap.specs.Walk.{Row, Rule, Text, is_empty, nothing_held, with_default}
 use Rattle.clap.proofs.OnLiterals.{clap_on_literals}
-use Rattle.command_words.specs.App.{app, play_shape, serve_shape}
-use Rattle.command_words.specs.Options.{ArePlain, IsOneOf, IsPlainText, Item, Kind, Setting, directory, flag, given, number, number_of, play_items, serve_items, spelled, text_of}
-use Rattle.command_words.specs.Options.{connections, fuel, instances, journal, life, pages, port, shelves}
-use Rattle.command_words.specs.Plain.{ArePlainFor, IsPlain, chosen, service_chosen}
-use Rattle.command_words.specs.Reads.{asked_from, number_at, options_at, service_at, text_at, value_number}
+use Rattle.command_words.specs.App.{app, load_shape, play_shape, serve_shape}
+use Rattle.command_words.specs.Options.{ArePlain, IsOneOf, IsPlainNumber, IsPlainText, Item, Kind, Setting, bare, directory, flag, given, load_items, most_run, number, number_of, play_items, run_number, serve_items, spelled, text_of}
+use Rattle.command_words.specs.Options.{connections, fuel, instances, journal, life, pages, port, shelves, workers}
+use Rattle.command_words.specs.Plain.{ArePlainFor, IsPlain, chosen, load_chosen, service_chosen}
+use Rattle.command_words.specs.Reads.{asked_from, load_at, number_at, options_at, service_at, text_at, value_number}
 use Rattle.command_words.specs.declared.Command.{Command}
-use Rattle.command_words.specs.declared.Command.TheVariants.{Check, Play, Serve}
+use Rattle.command_words.specs.declared.Command.TheVariants.{Check, Play, Serve, Load}
 use Rattle.command_words.specs.declared.Options.{Options}
 use Rattle.command_words.specs.declared.Service.{Service}
+use Rattle.command_words.specs.declared.LoadOptions.{LoadOptions}
 use Rattle.command_words.proofs.Rows.{find_row}
-use Rattle.command_words.proofs.Uses.{IsFor, Stands, built_rule, no_plus, setting_row, settings_go}
+use Rattle.command_words.proofs.Uses.{Goes, IsFor, Stands, bare_goes, built_rule, has_name, no_plus, number_value, row_of, setting_row, settings_go}
 use Rattle.command_words.proofs.Found.{IsNamed, Tells, given_tells, tells, tells_first, tells_one}
-use Rattle.command_words.proofs.Tables.{IsIn, at_item, built_sub, has_default, is_number, is_numeric, play_in, serve_in}
-use Rattle.command_words.proofs.Levels.{Enters, default_kinds, enters_play, enters_serve, entering, level_goes}
+use Rattle.command_words.proofs.Tables.{IsIn, at_item, built_sub, has_default, is_number, is_numeric, load_in, load_rules, play_in, serve_in}
+use Rattle.command_words.proofs.Levels.{Enters, default_kinds, enters_load, enters_play, enters_serve, entering, level_goes}
 
 -- ---- the numbers
 
@@ -46,6 +47,9 @@ item_is_number name (x ∷ xs) i all (inr one) own = item_is_number name xs i (r
 
 plain_numeral : (kind : Kind) (text : Text) → is_number kind ≡ true → IsPlainText kind text → IsNumeral 10 text
 plain_numeral (number low high) text small plain =
+    let below : high < 18446744073709551616 = ltb-true _ _ small in
+    subst (IsNumeral 10) (sym plain.1) (decimal_is_IsNumeral plain.0 (omega arith)).0
+plain_numeral (bare low high) text small plain =
     let below : high < 18446744073709551616 = ltb-true _ _ small in
     subst (IsNumeral 10) (sym plain.1) (decimal_is_IsNumeral plain.0 (omega arith)).0
 plain_numeral directory text small plain = cc
@@ -111,12 +115,12 @@ none_yet [] = tt
 none_yet (t ∷ rest) = (refl, none_yet rest)
 
 -- plain options of a command's table are taken, and leave these rows
-command_goes : (name word : Text) (s : Shape) (table : List Item) (set : List Setting) → Enters word (built_sub s) → Each (IsIn (built_sub s).rules table) table → ArePlain table set
+command_goes : (name word : Text) (s : Shape) (table : List Item) (set : List Setting) → Each (λ i. has_name i.kind ≡ true) table → Enters word (built_sub s) → Each (IsIn (built_sub s).rules table) table → ArePlain table set
     → Each (λ a. default_kinds (is_empty a.defaults) a ≡ []) (built_sub s).rules → Stands (built_sub s) nothing_held [] → check_fault (built_sub s) (ends_with (built_sub s).rules set) false ≡ []
     → (fault_of app (name ∷ word ∷ spelled set) ≡ []) × (subcommand_of app (name ∷ word ∷ spelled set) ≡ Some (word, ends_with (built_sub s).rules set))
-command_goes name word s table set enters all p defaults at_start checked =
+command_goes name word s table set named enters all p defaults at_start checked =
     let settings = each_in (IsIn (built_sub s).rules table) table set all p.known in
-    let goes = settings_go (built_sub s) 1 nothing_held [] set (each_to _ (IsFor (built_sub s)) set (λ t x. x.fits) settings)
+    let goes = settings_go (built_sub s) 1 nothing_held [] set (each_in (λ i. has_name i.kind ≡ true) table set named p.known) (each_to _ (IsFor (built_sub s)) set (λ t x. x.fits) settings)
     (each_to _ (λ t. (built_rule t.item).id ≡ t.item.name) set (λ t x. x.named.id) settings) p.fit p.once (none_yet set) at_start in
     let level = level_goes (built_sub s) (spelled set) (map setting_row set) goes defaults checked in
     let whole = entering name word (built_sub s) (spelled set) enters level.0 in
@@ -165,14 +169,14 @@ play_means : (name : Text) (set : List Setting) → ArePlain play_items set
     → (fault_of app (name ∷ codes "play" ∷ spelled set) ≡ []) × (asked_from (subcommand_of app (name ∷ codes "play" ∷ spelled set)) ≡ Some (Play (chosen set)))
 play_means name set p =
     let rules = (built_sub play_shape).rules in
-    let goes = command_goes name (codes "play") play_shape play_items set enters_play play_in p play_defaults (record { fine = refl; got = refl }) (play_checked (ends_with rules set)) in
+    let goes = command_goes name (codes "play") play_shape play_items set (refl, (refl, (refl, (refl, (refl, (refl, tt)))))) enters_play play_in p play_defaults (record { fine = refl; got = refl }) (play_checked (ends_with rules set)) in
     (goes.0, ap asked_from goes.1 ∙ ap (λ o. Some (Play o)) (options_told rules play_items set play_in p (each_named rules play_items set play_in p)))
 
 -- ---- `serve`
 
 serve_defaults : Each (λ a. default_kinds (is_empty a.defaults) a ≡ []) (built_sub serve_shape).rules
 unfolding clap_on_literals
-serve_defaults = (refl, (refl, (refl, (refl, (refl, (refl, (refl, (refl, (refl, tt)))))))))
+serve_defaults = (refl, (refl, (refl, (refl, (refl, (refl, (refl, (refl, (refl, (refl, tt))))))))))
 
 -- the port is what is required
 serve_checked : (rows : List Row) → is_given (codes "port") rows ≡ true → check_fault (built_sub serve_shape) rows false ≡ []
@@ -186,21 +190,97 @@ port_given set named p = by_given (given (codes "port") set) refl (p.there.1.1.1
     by_given None e some = cc
     by_given (Some t) e some = let told = given_tells (built_sub serve_shape).rules [] (codes "port") t set refl named e in rw (told.tells.is, told.source) refl
 
-service_same : (a b : Service) → a.options ≡ b.options → a.port ≡ b.port → a.connections ≡ b.connections → a ≡ b
-service_same a b o p n = λ at. record { options = o at; port = p at; connections = n at }
+service_same : (a b : Service) → a.options ≡ b.options → a.port ≡ b.port → a.connections ≡ b.connections → a.workers ≡ b.workers → a ≡ b
+service_same a b o p n w = λ at. record { options = o at; port = p at; connections = n at; workers = w at }
 
 serve_means : (name : Text) (set : List Setting) → ArePlain serve_items set
     → (fault_of app (name ∷ codes "serve" ∷ spelled set) ≡ []) × (asked_from (subcommand_of app (name ∷ codes "serve" ∷ spelled set)) ≡ Some (Serve (service_chosen set)))
 serve_means name set p =
     let rules = (built_sub serve_shape).rules in
     let named = each_named rules serve_items set serve_in p in
-    let goes = command_goes name (codes "serve") serve_shape serve_items set enters_serve serve_in p serve_defaults (record { fine = refl; got = refl })
+    let goes = command_goes name (codes "serve") serve_shape serve_items set (refl, (refl, (refl, (refl, (refl, (refl, (refl, (refl, (refl, tt))))))))) enters_serve serve_in p serve_defaults (record { fine = refl; got = refl })
     (serve_checked (ends_with rules set) (port_given set named p)) in
     let shared : Each (IsIn rules serve_items) play_items = (serve_in.0, (serve_in.1.0, (serve_in.1.1.0, (serve_in.1.1.1.0, (serve_in.1.1.1.1.0, (serve_in.1.1.1.1.1.0, tt)))))) in
     let told = service_same (service_at (ends_with rules set)) (service_chosen set) (options_told rules serve_items set shared p named)
     (number_told rules serve_items port set serve_in.1.1.1.1.1.1.0 refl p named p.there.1.1.1.1.1.1.0)
-    (number_told rules serve_items connections set serve_in.1.1.1.1.1.1.1.0 refl p named (λ e. cc)) in
+    (number_told rules serve_items connections set serve_in.1.1.1.1.1.1.1.0 refl p named (λ e. cc))
+    (number_told rules serve_items workers set serve_in.1.1.1.1.1.1.1.1.0 refl p named (λ e. cc)) in
     (goes.0, ap asked_from goes.1 ∙ ap (λ v. Some (Serve v)) told)
+
+-- ---- `load`
+
+load_defaults : Each (λ a. default_kinds (is_empty a.defaults) a ≡ []) load_rules
+unfolding clap_on_literals
+load_defaults = (refl, (refl, (refl, (refl, (refl, (refl, (refl, (refl, tt))))))))
+
+-- the number is what is required
+load_checked : (rows : List Row) → is_given (codes "number") rows ≡ true → check_fault (built_sub load_shape) rows false ≡ []
+unfolding clap_on_literals
+load_checked rows e = simp e
+
+-- the number, as an option that stands before the others
+abbrev numbered : Text → List Setting → List Setting
+numbered text set = record { item = run_number; text = text } ∷ set
+
+other_names : (set : List Setting) → Each (λ s. IsOneOf s.item play_items) set → Each (λ t. bytes_eq run_number.name t.item.name ≡ false) set
+other_names set known = each_in (λ i. bytes_eq run_number.name i.name ≡ false) play_items set (refl, (refl, (refl, (refl, (refl, (refl, tt)))))) known
+
+more_known : (set : List Setting) → Each (λ s. IsOneOf s.item play_items) set → Each (λ s. IsOneOf s.item load_items) set
+more_known set known = each_to (λ s. IsOneOf s.item play_items) (λ s. IsOneOf s.item load_items) set (λ s one. inr one) known
+
+-- with the number they are plain options of the whole table
+numbered_plain : (text : Text) (set : List Setting) → IsPlainNumber 1 most_run text → ArePlain play_items set → ArePlain load_items (numbered text set)
+numbered_plain text set plain p = record {
+  known = (inl refl, more_known set p.known);
+  fit = (plain, p.fit);
+  once = (other_names set p.known, p.once);
+  there = (λ e. refl, (λ e. cc, (λ e. cc, (λ e. cc, (λ e. cc, (λ e. cc, (λ e. cc, tt)))))));
+}
+
+none_numbered : (text : Text) (set : List Setting) → Each (λ t. bytes_eq run_number.name t.item.name ≡ false) set
+    → Each (λ t. find_row t.item.name (setting_row (record { item = run_number; text = text }) ∷ []) ≡ None) set
+none_numbered text [] apart = tt
+none_numbered text (t ∷ rest) apart = (rw apart.0 refl, none_numbered text rest apart.1)
+
+number_given : (text : Text) (set : List Setting) → Each (λ t. IsNamed t.item) (numbered text set)
+    → is_given (codes "number") (ends_with load_rules (numbered text set)) ≡ true
+number_given text set named =
+    let told = given_tells load_rules [] (codes "number") text (numbered text set) refl named refl in rw (told.tells.is, told.source) refl
+
+load_same : (a b : LoadOptions) → a.number ≡ b.number → a.options ≡ b.options → a ≡ b
+load_same a b n o = λ at. record { number = n at; options = o at }
+
+load_goes : (text : Text) (set : List Setting) → IsPlainNumber 1 most_run text → ArePlain play_items set
+    → Goes (built_sub load_shape) 1 nothing_held (text ∷ spelled set) (map setting_row (numbered text set))
+load_goes text set plain p =
+    let number = load_in.0.fits in
+    let settings = each_in (IsIn load_rules load_items) play_items set load_in.1 p.known in
+    bare_goes (built_sub load_shape) (codes "number") text (built_rule run_number) (spelled set) (map setting_row (numbered text set))
+    number.0 (number_value (built_rule run_number) 1 most_run text number.1 number.2 plain)
+    (λ k stands.
+    settings_go (built_sub load_shape) 2 k (row_of (built_rule run_number) text ∷ []) set
+    (each_in (λ i. has_name i.kind ≡ true) play_items set (refl, (refl, (refl, (refl, (refl, (refl, tt)))))) p.known)
+    (each_to _ (IsFor (built_sub load_shape)) set (λ t x. x.fits) settings)
+    (each_to _ (λ t. (built_rule t.item).id ≡ t.item.name) set (λ t x. x.named.id) settings) p.fit p.once
+    (none_numbered text set (other_names set p.known)) stands)
+
+load_means : (name text : Text) (set : List Setting) → IsPlainNumber 1 most_run text → ArePlain play_items set
+    → (fault_of app (name ∷ codes "load" ∷ text ∷ spelled set) ≡ [])
+    × (asked_from (subcommand_of app (name ∷ codes "load" ∷ text ∷ spelled set)) ≡ Some (Load (load_chosen text set)))
+load_means name text set plain p =
+    let all = numbered text set in
+    let whole = numbered_plain text set plain p in
+    let named = each_named load_rules load_items all load_in whole in
+    let level = level_goes (built_sub load_shape) (text ∷ spelled set) (map setting_row all) (load_goes text set plain p) load_defaults
+    (load_checked (ends_with load_rules all) (number_given text set named)) in
+    let entered = entering name (codes "load") (built_sub load_shape) (text ∷ spelled set) enters_load level.0 in
+    let shared = options_told load_rules load_items all load_in.1 whole named in
+    let first = number_told load_rules load_items run_number all load_in.0 refl whole named (λ e. refl) in
+    let told = load_same (load_at (ends_with load_rules all)) (load_chosen text set) first (shared ∙ chosen_same text set) in
+    (entered.0, ap asked_from (entered.1 ∙ ap (λ rows. Some (codes "load", rows)) level.1) ∙ ap (λ l. Some (Load l)) told)
+  where
+    chosen_same : (text : Text) (set : List Setting) → chosen (numbered text set) ≡ chosen set
+    chosen_same text set = refl
 
 -- ---- all
 
@@ -218,3 +298,6 @@ plain_means words asked p = subst (λ w. Means w asked) (sym p.2) (go p.1 asked 
     go after (Serve v) q =
         subst (λ a. Means (p.0 ∷ a) (Serve v)) (sym q.1)
         (subst (λ k. Means (p.0 ∷ codes "serve" ∷ spelled q.0) (Serve k)) (sym q.3) (serve_means p.0 q.0 q.2))
+    go after (Load l) q =
+        subst (λ a. Means (p.0 ∷ a) (Load l)) (sym q.2)
+        (subst (λ k. Means (p.0 ∷ codes "load" ∷ q.0 ∷ spelled q.1) (Load k)) (sym q.5) (load_means p.0 q.0 q.1 q.3 q.4))

@@ -18,9 +18,9 @@ use Rattle.clap.specs.declared.builder.value_parser.Reading.TheVariants.{AsWritt
 use Rattle.clap.specs.declared.builder.value_parser.ValueParser.{ValueParser}
 use Rattle.clap.specs.declared.builder.value_parser.ValueParser.TheVariants as vp
 use Rattle.clap.proofs.OnLiterals.{clap_on_literals}
-use Rattle.command_words.specs.App.{app, play_shape, serve_shape}
-use Rattle.command_words.specs.Options.{IsOneOf, Item, Kind, Text, directory, flag, number, play_items, serve_items}
-use Rattle.command_words.proofs.Uses.{Fits, IsTaken, built_rule, dashed}
+use Rattle.command_words.specs.App.{app, load_shape, play_shape, serve_shape}
+use Rattle.command_words.specs.Options.{IsOneOf, Item, Kind, Text, bare, directory, flag, load_items, number, play_items, run_number, serve_items}
+use Rattle.command_words.proofs.Uses.{Fits, IsTaken, built_rule, dashed, has_name}
 use Rattle.command_words.proofs.Found.{HasDefault, IsNamed}
 
 pub simple : is_simple app ≡ true
@@ -38,6 +38,7 @@ built_sub s = built_leaf (inherited (with_leaf_noted (marked_built app.top)) s)
 
 abbrev pub is_number : Kind → Bool
 is_number (number low high) = nat_lt high 18446744073709551616
+is_number (bare low high) = nat_lt high 18446744073709551616
 is_number _ = false
 
 -- each option of this name in the table takes a number
@@ -54,6 +55,7 @@ missing_by kind values = []
 
 -- what is computed of an option of the table under a command's rules
 pub record Facts : Type 0 where
+  pub by_name : Bool
   pub longer : Bool
   pub long : Option (Text × Option Text)
   pub by_long : Option Rule
@@ -74,6 +76,7 @@ pub record Facts : Type 0 where
 
 abbrev pub facts_by : List Rule → List Item → Kind → Item → Facts
 facts_by c table kind i = record {
+  by_name = has_name kind;
   longer = bytes_eq (dashed i.name) (45 ∷ 45 ∷ []);
   long = long_of (dashed i.name);
   by_long = arg_by_long c i.name;
@@ -99,6 +102,7 @@ facts c table i = facts_by c table i.kind i
 -- and what it has to be, for an option that does this, this often
 abbrev standing : ArgAction → ℕ → ValueParser → List Text → Bool → Item → Facts
 standing action uses parser missing numbers i = record {
+  by_name = true;
   longer = false;
   long = Some (i.name, None);
   by_long = Some (built_rule i);
@@ -120,6 +124,7 @@ standing action uses parser missing numbers i = record {
 
 abbrev wanted_by : Kind → Item → Facts
 wanted_by (number low high) i = standing Set 1 (vp.Unsigned low high) [] true i
+wanted_by (bare low high) i = standing Set 1 (vp.Unsigned low high) [] true i
 wanted_by directory i = standing Set 1 vp.NonEmptyString [] false i
 wanted_by flag i = standing SetTrue 0 vp.NonEmptyString (codes "true" ∷ []) false i
 
@@ -169,6 +174,8 @@ stands_as : (c : List Rule) (table : List Item) (kind : Kind) (i : Item) → fac
 stands_as c table (number low high) i e =
     let below : high < 18446744073709551616 = ltb-true _ _ (ap (λ (x : Facts). x.bounded) e) in
     stands c table (number low high) i _ _ _ _ _ e (taken c table (number low high) i _ _ _ _ _ e, ap (λ (x : Facts). x.parser) e, omega arith)
+stands_as c table (bare low high) i e =
+    let clash : false ≡ true = ap (λ (x : Facts). x.by_name) e in absurd (let no : ⊥ = cc in no)
 stands_as c table directory i e =
     stands c table directory i _ _ _ _ _ e (taken c table directory i _ _ _ _ _ e, ap (λ (x : Facts). x.parser) e)
 stands_as c table flag i e =
@@ -192,6 +199,29 @@ play_in = each_same (facts (built_sub play_shape).rules play_items) wanted _ pla
 pub serve_in : Each (IsIn (built_sub serve_shape).rules serve_items) serve_items
 unfolding clap_on_literals
 serve_in = each_same (facts (built_sub serve_shape).rules serve_items) wanted _ serve_items (is_in _ serve_items) refl
+
+abbrev pub load_rules : List Rule
+load_rules = (built_sub load_shape).rules
+
+load_number : IsIn load_rules load_items run_number
+unfolding clap_on_literals
+load_number = record {
+  fits = (
+    record { by_index = refl; by_id = refl; id = refl; action = refl; least = refl; most = refl; single = refl; last = refl },
+    refl,
+    omega arith,
+  );
+  named = record { id = refl; reading = refl };
+  by_id = refl;
+  own = refl;
+  defaults = refl;
+  numeric = refl;
+  unsigned = refl;
+}
+
+pub load_in : Each (IsIn load_rules load_items) load_items
+unfolding clap_on_literals
+load_in = (load_number, each_same (facts load_rules load_items) wanted (IsIn load_rules load_items) play_items (is_in load_rules load_items) refl)
 
 pub at_item : (P : Item → Type 0) (table : List Item) (i : Item) → Each P table → IsOneOf i table → P i
 at_item P [] i all one = absurd one

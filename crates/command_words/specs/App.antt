@@ -6,7 +6,7 @@ use Rattle.clap.specs.Walk.{Rule}
 use Rattle.clap.specs.declared.builder.action.ArgAction.TheVariants.{Set, SetTrue}
 use Rattle.clap.specs.declared.builder.value_parser.ValueParser.{ValueParser}
 use Rattle.clap.specs.declared.builder.value_parser.ValueParser.TheVariants as vp
-use Rattle.command_words.specs.Options.{Item, Kind, Text, number, directory, flag, play_items, serve_items}
+use Rattle.command_words.specs.Options.{Item, Kind, Text, number, bare, directory, flag, play_items, serve_items, load_items}
 
 abbrev pub texts : List (Bor (List ℕ)) → List (List ℕ)
 texts words = map (λ w. w.now) words
@@ -18,6 +18,10 @@ value_rule name parser = record (new_rule name) {
   parser = Some parser;
 }
 
+-- a value that stands without a name
+abbrev pub bare_rule : Text → ValueParser → Rule
+bare_rule name parser = record (new_rule name) { action = Some Set; parser = Some parser }
+
 abbrev pub flag_rule : Text → Rule
 flag_rule name = record (new_rule name) { long = Some name; action = Some SetTrue }
 
@@ -28,6 +32,7 @@ or_default (Some text) r = record r { defaults = text ∷ [] }
 
 abbrev pub rule_by : Kind → Text → Option Text → Rule
 rule_by (number low high) name default = or_default default (value_rule name (vp.Unsigned low high))
+rule_by (bare low high) name default = or_default default (bare_rule name (vp.Unsigned low high))
 rule_by directory name default = or_default default (value_rule name vp.NonEmptyString)
 rule_by flag name default = flag_rule name
 
@@ -50,6 +55,9 @@ play_shape = shape_for (codes "play") (map rule_for play_items)
 abbrev pub serve_shape : Shape
 serve_shape = shape_for (codes "serve") (map rule_for serve_items)
 
+abbrev pub load_shape : Shape
+load_shape = shape_for (codes "load") (map rule_for load_items)
+
 abbrev pub bare_top : Shape
 bare_top = record (new_shape (codes "script_server")) {
   subcommand_required = true;
@@ -59,5 +67,5 @@ bare_top = record (new_shape (codes "script_server")) {
 abbrev pub app : App
 app = record {
   top = record bare_top { is_leaf = false };
-  subs = check_shape ∷ play_shape ∷ serve_shape ∷ [];
+  subs = check_shape ∷ play_shape ∷ serve_shape ∷ load_shape ∷ [];
 }

@@ -9,9 +9,11 @@ use Rattle.server_limits.specs.Limits.{most_connections, most_fuel, most_instanc
 abbrev pub Text : Type 0
 Text = List ℕ
 
--- what stands behind an option: a number from the first to the second, a directory, or nothing
+-- what stands behind an option: a number from the first to the second, a directory, or nothing; or such a number that stands without
+-- a name, behind the command's
 pub data Kind : Type 0 where
   number : ℕ → ℕ → Kind
+  bare : ℕ → ℕ → Kind
   directory : Kind
   flag : Kind
 
@@ -43,16 +45,35 @@ shelves = record { name = codes "shelves"; kind = number 1 most_shelves; default
 abbrev pub port : Item
 port = record { name = codes "port"; kind = number 0 65535; default = None }
 
+-- the most workers that serve at once
+abbrev pub most_workers : ℕ
+most_workers = 16
+
+abbrev pub workers : Item
+workers = record { name = codes "workers"; kind = number 1 most_workers; default = Some (codes "4") }
+
 abbrev pub connections : Item
 connections = record { name = codes "connections"; kind = number 1 most_connections; default = Some (codes "10000") }
+
+-- the greatest number of a measured run
+abbrev pub most_run : ℕ
+most_run = 9223372036854775807
+
+-- the number of a measured run
+abbrev pub run_number : Item
+run_number = record { name = codes "number"; kind = bare 1 most_run; default = None }
 
 -- the options of `play`
 abbrev pub play_items : List Item
 play_items = fuel ∷ life ∷ instances ∷ pages ∷ journal ∷ shelves ∷ []
 
--- the options of `serve`: those of `play`, and two of its own
+-- the options of `serve`: those of `play`, and three of its own
 abbrev pub serve_items : List Item
-serve_items = fuel ∷ life ∷ instances ∷ pages ∷ journal ∷ shelves ∷ port ∷ connections ∷ []
+serve_items = fuel ∷ life ∷ instances ∷ pages ∷ journal ∷ shelves ∷ port ∷ connections ∷ workers ∷ []
+
+-- what `load` takes: its number, and the options of `play`
+abbrev pub load_items : List Item
+load_items = run_number ∷ fuel ∷ life ∷ instances ∷ pages ∷ journal ∷ shelves ∷ []
 
 -- ---- options as they are written
 
@@ -71,13 +92,15 @@ begins_with_hyphen (x ∷ xs) = x == 45
 
 abbrev pub IsPlainText : Kind → Text → Type 0
 IsPlainText (number low high) text = IsPlainNumber low high text
+IsPlainText (bare low high) text = IsPlainNumber low high text
 IsPlainText directory [] = ⊥
 IsPlainText directory (x ∷ xs) = (x == 45) ≡ false
 IsPlainText flag text = text ≡ codes "true"
 
--- `--name TEXT`, and a flag as `--name`
+-- `--name TEXT`, a flag as `--name`, and a number without a name as it is
 abbrev pub words_for : Kind → Text → Text → List Text
 words_for flag name text = (45 ∷ 45 ∷ name) ∷ []
+words_for (bare low high) name text = text ∷ []
 words_for kind name text = (45 ∷ 45 ∷ name) ∷ text ∷ []
 
 abbrev pub spelled : List Setting → List Text

@@ -1,12 +1,14 @@
 -- Plain words, and what they ask for.
 use Rattle.std.specs.Prelude.{⊤, ◌≡◌, ◌<◌, ◌≤◌, ◌∷◌, List, [], codes, length}
-use Rattle.server_limits.specs.Limits.{AreConnections, AreInstances, ArePages, AreShelves, IsFuel, IsLife}
-use Rattle.command_words.specs.Options.{ArePlain, Setting, Text, number_of, play_items, serve_items, spelled, text_of}
-use Rattle.command_words.specs.Options.{connections, fuel, instances, journal, life, pages, port, shelves}
+use Rattle.std.specs.Str.Parse.{digits_value}
+use Rattle.server_limits.specs.Limits.{AreConnections, AreInstances, ArePages, AreShelves, IsFuel, IsLife, IsWithin}
+use Rattle.command_words.specs.Options.{ArePlain, IsPlainNumber, Setting, Text, most_run, number_of, play_items, serve_items, spelled, text_of, most_workers}
+use Rattle.command_words.specs.Options.{connections, fuel, instances, journal, life, pages, port, shelves, workers}
 use Rattle.command_words.specs.declared.Command.{Command}
-use Rattle.command_words.specs.declared.Command.TheVariants.{Check, Play, Serve}
+use Rattle.command_words.specs.declared.Command.TheVariants.{Check, Play, Serve, Load}
 use Rattle.command_words.specs.declared.Options.{Options}
 use Rattle.command_words.specs.declared.Service.{Service}
+use Rattle.command_words.specs.declared.LoadOptions.{LoadOptions}
 
 -- what settings ask for
 abbrev pub chosen : List Setting → Options
@@ -24,7 +26,12 @@ service_chosen s = record {
   options = chosen s;
   port = number_of port s;
   connections = number_of connections s;
+  workers = number_of workers s;
 }
+
+-- what the text of a number and settings ask for
+abbrev pub load_chosen : Text → List Setting → LoadOptions
+load_chosen text s = record { number = digits_value 10 text; options = chosen s }
 
 -- the words behind the program's name
 abbrev pub ArePlainFor : List Text → Command → Type 0
@@ -33,8 +40,11 @@ ArePlainFor words (Play o) =
     (s : List Setting) × (words ≡ codes "play" ∷ spelled s) × ArePlain play_items s × (o ≡ chosen s)
 ArePlainFor words (Serve v) =
     (s : List Setting) × (words ≡ codes "serve" ∷ spelled s) × ArePlain serve_items s × (v ≡ service_chosen s)
+ArePlainFor words (Load l) =
+    (text : Text) × (s : List Setting) × (words ≡ codes "load" ∷ text ∷ spelled s) × IsPlainNumber 1 most_run text
+    × ArePlain play_items s × (l ≡ load_chosen text s)
 
--- plain words are the program's name, a command, then its options
+-- plain words are the program's name, a command, for `load` its number, then its options
 abbrev pub IsPlain : List Text → Command → Type 0
 IsPlain words asked =
     (name : Text) × (after : List Text) × (words ≡ name ∷ after) × ArePlainFor after asked
@@ -53,8 +63,15 @@ pub record CanServe (s : Service) : Type 0 where
   pub options : AreInRange s.options
   pub port : s.port ≤ 65535
   pub connections : AreConnections s.connections
+  pub workers : IsWithin 1 most_workers s.workers
+
+pub record CanLoad (l : LoadOptions) : Type 0 where
+  pub options : AreInRange l.options
+  pub low : 1 ≤ l.number
+  pub high : l.number ≤ most_run
 
 abbrev pub IsInRange : Command → Type 0
 IsInRange Check = ⊤
 IsInRange (Play o) = AreInRange o
 IsInRange (Serve s) = CanServe s
+IsInRange (Load l) = CanLoad l

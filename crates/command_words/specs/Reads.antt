@@ -7,11 +7,12 @@ use Rattle.clap.specs.Values.{IsUnsignedIn}
 use Rattle.clap.specs.Walk.{Row, first_of, one_of, rows_of}
 use Rattle.clap.specs.Matches.{found_of}
 use Rattle.clap.specs.declared.parser.matches.ArgMatches.{ArgMatches}
-use Rattle.command_words.specs.Options.{Item, Kind, Text, directory, flag, number, play_items, serve_items}
+use Rattle.command_words.specs.Options.{Item, Kind, Text, bare, directory, flag, load_items, number, play_items, serve_items}
 use Rattle.command_words.specs.declared.Command.{Command}
-use Rattle.command_words.specs.declared.Command.TheVariants.{Check, Play, Serve}
+use Rattle.command_words.specs.declared.Command.TheVariants.{Check, Play, Serve, Load}
 use Rattle.command_words.specs.declared.Options.{Options}
 use Rattle.command_words.specs.declared.Service.{Service}
+use Rattle.command_words.specs.declared.LoadOptions.{LoadOptions}
 
 abbrev pub rows_in : ArgMatches → List Row
 rows_in m = rows_of (found_of m)
@@ -41,7 +42,11 @@ service_at rows = record {
   options = options_at rows;
   port = number_at rows (codes "port");
   connections = number_at rows (codes "connections");
+  workers = number_at rows (codes "workers");
 }
+
+abbrev pub load_at : List Row → LoadOptions
+load_at rows = record { number = number_at rows (codes "number"); options = options_at rows }
 
 -- the command of this name, with the values in its rows
 abbrev pub asked_as : Text → List Row → Option Command
@@ -49,7 +54,8 @@ asked_as name rows =
     if bytes_eq name (codes "check") then Some Check
     else (if bytes_eq name (codes "play") then Some (Play (options_at rows))
     else (if bytes_eq name (codes "serve") then Some (Serve (service_at rows))
-    else None))
+    else (if bytes_eq name (codes "load") then Some (Load (load_at rows))
+    else None)))
 
 abbrev pub asked_from : Option (Text × List Row) → Option Command
 asked_from = option_and_then (λ p. asked_as p.0 p.1)
@@ -67,6 +73,7 @@ HoldsText rows id = (t : Text) × (first_of id rows ≡ Some t) × (0 < length t
 -- a value that the option takes
 abbrev pub HoldsAs : Kind → List Row → Text → Type 0
 HoldsAs (number low high) rows id = HoldsNumber low high rows id
+HoldsAs (bare low high) rows id = HoldsNumber low high rows id
 HoldsAs directory rows id = HoldsText rows id
 HoldsAs flag rows id = (t : Text) × (one_of id rows ≡ Some t)
 
@@ -79,6 +86,7 @@ pub data HoldsFor (name : Text) (rows : List Row) : Type 0 where
   for_check : name ≡ codes "check" → HoldsFor name rows
   for_play : name ≡ codes "play" → Holds play_items rows → HoldsFor name rows
   for_serve : name ≡ codes "serve" → Holds serve_items rows → HoldsFor name rows
+  for_load : name ≡ codes "load" → Holds load_items rows → HoldsFor name rows
 
 abbrev pub HoldsAsked : Option (Text × List Row) → Type 0
 HoldsAsked None = ⊥

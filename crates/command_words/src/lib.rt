@@ -7,10 +7,10 @@ ghost use Rattle.clap.specs.Simple.{app_of, subcommand_of, subcommand_rows_of};
 ghost use Rattle.clap.specs.Faults.{fault_of};
 ghost use Rattle.clap.specs.Walk.{rule_of};
 ghost use Rattle.clap.specs.declared.builder.command.Command.TheViews.{out-Command as fields_of};
-ghost use Rattle.command_words.specs.App.{app, bare_top, play_shape, rule_for, serve_shape, texts, value_rule, with_rules};
-ghost use Rattle.command_words.specs.Options.{connections, fuel, instances, journal, life, pages, play_items, port, serve_items, shelves};
+ghost use Rattle.command_words.specs.App.{app, bare_top, load_shape, play_shape, rule_for, serve_shape, texts, value_rule, with_rules};
+ghost use Rattle.command_words.specs.Options.{connections, fuel, instances, journal, life, load_items, most_run, pages, play_items, port, run_number, serve_items, shelves, workers};
 ghost use Rattle.command_words.specs.Plain.{IsInRange, IsPlain};
-ghost use Rattle.command_words.specs.Reads.{AsksFor, Holds, HoldsAsked, HoldsNoNumber, HoldsText, asked_from, options_at, number_at, rows_in, service_at, text_at};
+ghost use Rattle.command_words.specs.Reads.{AsksFor, Holds, HoldsAsked, HoldsNoNumber, HoldsText, asked_from, options_at, load_at, number_at, rows_in, service_at, text_at};
 ghost use Rattle.command_words.specs.declared.Command.{Command};
 
 use clap::builder::ValueParser;
@@ -23,7 +23,13 @@ use server_limits::{
 use std::alloc::{AllocError, Global};
 use thiserror::Error;
 
-/// What the options that `play` and `serve` share say, each in its range.
+/// The greatest number of a measured run.
+pub const MOST_RUN: u64 = 9_223_372_036_854_775_807;
+
+/// The most workers that serve at once.
+pub const MOST_WORKERS: u32 = 16;
+
+/// What the options that `play`, `serve` and `load` share say, each in its range.
 #[derive(Drop)]
 pub struct Options {
     /// The most that a segment may cost, 1 to `MOST_FUEL`.
@@ -47,8 +53,19 @@ pub struct Service {
     pub options: Options,
     /// The port to listen at, 0 to 65,535. At 0 the machine chooses one.
     pub port: u16,
-    /// The most links that are served, 1 to `MOST_CONNECTIONS`.
+    /// The most links that a worker serves, 1 to `MOST_CONNECTIONS`.
     pub connections: u64,
+    /// How many workers serve at once, 1 to `MOST_WORKERS`.
+    pub workers: u32,
+}
+
+/// What the words of `load` say, each in its range.
+#[derive(Drop)]
+pub struct LoadOptions {
+    /// The number of the measured run, 1 to `MOST_RUN`.
+    pub number: u64,
+    /// The options, which are those of `play`.
+    pub options: Options,
 }
 
 /// What the words ask for.
@@ -60,6 +77,8 @@ pub enum Command {
     Play(Options),
     /// Reads a setup, and serves it over HTTP.
     Serve(Service),
+    /// Performs a measured run, and tells what it came to.
+    Load(LoadOptions),
 }
 
 /// Why words were refused.
@@ -188,7 +207,31 @@ fn connections_arg<'a>(alloc: Global) -> Arg<'a>
     .default_value("10000")
 }
 
-/// The command with the options that `play` and `serve` share.
+/// `N`, behind the word `load`
+fn run_number_arg<'a>(alloc: Global) -> Arg<'a>
+    ensures rule { rule_of result ≡ rule_for run_number }
+    ensures local { result.global ≡ false }
+{
+    Arg::new(alloc, "number")
+        .action(ArgAction::Set)
+        .value_parser(value_parser!(u64).range(1..=MOST_RUN as i64))
+        .required(true)
+}
+
+/// `--workers N`
+fn workers_arg<'a>(alloc: Global) -> Arg<'a>
+    ensures rule { rule_of result ≡ rule_for workers }
+    ensures local { result.global ≡ false }
+{
+    value_arg(
+        alloc,
+        "workers",
+        value_parser!(u64).range(1..=MOST_WORKERS as i64),
+    )
+    .default_value("4")
+}
+
+/// The command with the options that `play`, `serve` and `load` share.
 fn with_options<'a>(
     alloc: Global,
     command: clap::Command<'a>,
@@ -218,7 +261,16 @@ fn serve_command<'a>(alloc: Global) -> Result<clap::Command<'a>, AllocError>
 {
     with_options(alloc, clap::Command::new(alloc, "serve"))?
         .arg(port_arg(alloc))?
-        .arg(connections_arg(alloc))
+        .arg(connections_arg(alloc))?
+        .arg(workers_arg(alloc))
+}
+
+fn load_command<'a>(alloc: Global) -> Result<clap::Command<'a>, AllocError>
+    ensures app { IfOk result (λ c. (app_of c).top ≡ load_shape) }
+    ensures local { IfOk result (λ c. (fields_of c).has_globals ≡ false) }
+{
+    let command = clap::Command::new(alloc, "load").arg(run_number_arg(alloc))?;
+    with_options(alloc, command)
 }
 
 fn new_command_line<'a>(alloc: Global) -> clap::Command<'a>
@@ -235,7 +287,8 @@ fn command_line<'a>(alloc: Global) -> Result<clap::Command<'a>, AllocError>
     new_command_line(alloc)
         .subcommand(clap::Command::new(alloc, "check"))?
         .subcommand(play_command(alloc)?)?
-        .subcommand(serve_command(alloc)?)
+        .subcommand(serve_command(alloc)?)?
+        .subcommand(load_command(alloc)?)
 }
 
 /// What `clap` finds in the words.
@@ -309,6 +362,17 @@ fn service_of(alloc: Global, matches: &ArgMatches<'_>) -> Result<Service, WordsF
         options: options_of(alloc, matches)?,
         port: port_number(matches, "port")?,
         connections: number(matches, "connections")?,
+        workers: short_number(matches, "workers")?,
+    })
+}
+
+fn load_of(alloc: Global, matches: &ArgMatches<'_>) -> Result<LoadOptions, WordsFault>
+    ensures value { IfOk result (λ l. l ≡ load_at (rows_in matches.now)) }
+    ensures refused { result ≡ Err WordsFault.Usage → Holds load_items (rows_in matches.now) → ⊥ }
+{
+    Ok(LoadOptions {
+        number: number(matches, "number")?,
+        options: options_of(alloc, matches)?,
     })
 }
 
@@ -323,6 +387,7 @@ fn command_of(alloc: Global, matches: &ArgMatches<'_>) -> Result<Command, WordsF
         "check" => Ok(Command::Check),
         "play" => Ok(Command::Play(options_of(alloc, inner)?)),
         "serve" => Ok(Command::Serve(service_of(alloc, inner)?)),
+        "load" => Ok(Command::Load(load_of(alloc, inner)?)),
         _ => Err(WordsFault::Usage),
     }
 }

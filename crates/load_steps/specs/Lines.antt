@@ -9,13 +9,17 @@ use Rattle.load_steps.specs.declared.step.LoadStep.TheVariants.{Crash, Tick, Pub
 abbrev pub visit_line : List ℕ → ℕ → List ℕ → List ℕ
 visit_line word worker target = word ++ codes " " ++ decimal worker ++ codes " " ++ target
 
+-- the step of `play` that it is
+abbrev pub played : LoadStep → play.Step
+played (Crash shelf) = play.crash shelf
+played (Tick time) = play.tick time
+played (Publish worker) = play.publish worker
+played (Take worker target) = play.take worker target
+played (Get worker target) = play.get worker target
+
 -- the line of a step, without the newline
 abbrev pub line_of : LoadStep → List ℕ
-line_of (Crash shelf) = play.line_of (play.crash shelf)
-line_of (Tick time) = play.line_of (play.tick time)
-line_of (Publish worker) = play.line_of (play.publish worker)
-line_of (Take worker target) = play.line_of (play.take worker target)
-line_of (Get worker target) = play.line_of (play.get worker target)
+line_of step = play.line_of (played step)
 
 -- the shelf, the worker, the time and the target of a step are in their ranges
 abbrev pub IsLoadStep : (shelves : ℕ) → LoadStep → Type 0

@@ -1,6 +1,8 @@
 ghost use Rattle.std.specs.Prelude.{◌≡◌, IfOk};
+ghost use Rattle.play_steps.specs.Views.{meaning};
 ghost use Rattle.load_steps.specs.Lines as spec;
 
+use play_steps::Step;
 use script_value::Bytes;
 use std::alloc::{AllocError, Global};
 
@@ -20,6 +22,25 @@ pub enum LoadStep {
 }
 
 impl LoadStep {
+    /// The step of `play` that it is.
+    pub fn as_step(&self) -> Step<'_>
+        ensures { meaning result ≡ spec.played self.now }
+    {
+        match self {
+            LoadStep::Crash { shelf } => Step::Crash { shelf: *shelf },
+            LoadStep::Tick { time } => Step::Tick { time: *time },
+            LoadStep::Publish { worker } => Step::Publish { worker: *worker },
+            LoadStep::Take { worker, target } => Step::Take {
+                worker: *worker,
+                target: target.as_slice(),
+            },
+            LoadStep::Get { worker, target } => Step::Get {
+                worker: *worker,
+                target: target.as_slice(),
+            },
+        }
+    }
+
     /// The line that spells it, without the newline: `crash S`, `tick T`, `publish W`,
     /// `take W TARGET` or `get W TARGET`.
     pub fn line(&self, alloc: Global) -> Result<Vec<u8>, AllocError>

@@ -1,4 +1,4 @@
-ghost use Rattle.std.specs.Prelude.{◌≡◌, ◌≤◌, ◌<◌, ℕ, IsTrue, IfOk, IsErrOf, length};
+ghost use Rattle.std.specs.Prelude.{◌≡◌, ◌≤◌, ◌<◌, ℕ, IsTrue, IfOk, OnOk, IsErrOf, length};
 ghost use Rattle.web_outside.specs.Causes.{Rose};
 ghost use Rattle.script_nodes.specs.Views.{scripts_of};
 ghost use Rattle.play_desk.specs.Opening.{CrashesShelf};
@@ -27,6 +27,7 @@ pub fn crash<D: Disk, R: Rack<D>>(
     requires home { IsHome staff.old.shelves.items (R.view rack.old).out }
     ensures step { IsTrue R.tells → IsTrue D.tells →
         IfOk result (λ live. CrashesShelf setup.now staff.old place live staff.new) }
+    ensures count { OnOk result (length staff.new.shelves.items ≡ length staff.old.shelves.items) }
     ensures fit { IsFit D.view D.tells (scripts_of setup.now) staff.new }
     ensures home { IsHome staff.new.shelves.items (R.view rack.new).out }
     ensures damaged { IsTrue R.tells → IsTrue D.tells → (at : ℕ) → IsErrOf result (Reopen.Damaged at) → ⊥ }

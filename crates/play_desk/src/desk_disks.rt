@@ -99,6 +99,7 @@ pub fn open_desk<'s, D: Disk, R: Rack<D>>(
     ensures setup { IfOk result (λ d. d.setup.now ≡ setup.entry.now) }
     ensures desk { IsTrue R.tells → IsTrue D.tells → IfOk result (λ d. desk_of d.setup.now d.staff
         ≡ first_desk (rules_at (scripts_of setup.now) rules) (scripts_of setup.now) rules.shelves) }
+    ensures count { IfOk result (λ d. length d.staff.shelves.items ≡ rules.shelves) }
     ensures empty { IsTrue R.tells → IsTrue D.tells →
         IfOk result (λ d. (k : ℕ) → k < rules.shelves → (R.view rack.old).holds k []) }
     ensures sound { IfOk result (λ d. IsFit D.view D.tells (scripts_of d.setup.now) d.staff) }

@@ -1,6 +1,8 @@
 use crate::racks::RackPlan;
-use server_command::command;
+use server_command::{NoPast, command};
 use std::alloc::{AllocError, Global};
+use std::sync::Wait;
+use std::thread::Threads;
 use web_outside::{ListDoor, ListSeeds, OpenGate, SetClock, TextSink, TextSource};
 
 // The most that a run writes.
@@ -14,7 +16,7 @@ pub struct Outcome {
 }
 
 /// What a command with these words and this input comes to, over an outside that never fails but as its rack is planned.
-pub fn ran<R>(
+pub fn ran<R: Threads + Wait + Sync>(
     rt: &R,
     alloc: Global,
     words: &[&str],
@@ -38,6 +40,7 @@ pub fn ran<R>(
         &clock,
         &mut seeds,
         &OpenGate,
+        &mut NoPast,
     );
     let mut end = plan.shown(alloc, &rack)?;
     end.extend_from_slice(format!(in alloc; "status {status}\n")?.as_bytes())?;

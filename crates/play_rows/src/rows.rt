@@ -4,6 +4,8 @@ use crate::steps::unfolded;
 use crate::transcript::transcript;
 use std::alloc::{AllocError, Global};
 use std::mem;
+use std::sync::Wait;
+use std::thread::Threads;
 
 // A script of a name.
 #[derive(Drop)]
@@ -55,7 +57,7 @@ fn shelves_of(options: &str) -> usize {
 }
 
 // What is told of a command with these words and this input.
-fn told_of<R>(
+fn told_of<R: Threads + Wait + Sync>(
     rt: &R,
     alloc: Global,
     words: &str,
@@ -69,7 +71,12 @@ fn told_of<R>(
 }
 
 // What a start of a script is answered.
-fn started<R>(rt: &R, alloc: Global, script: &str, plan: &RackPlan) -> Result<Vec<u8>, AllocError> {
+fn started<R: Threads + Wait + Sync>(
+    rt: &R,
+    alloc: Global,
+    script: &str,
+    plan: &RackPlan,
+) -> Result<Vec<u8>, AllocError> {
     let length = script.len();
     let input = format!(in alloc; "script a {length}\n{script}\nsteps\nget 0 /servlets/a\n")?;
     told_of(rt, alloc, "play", input.as_str(), plan)
@@ -109,7 +116,7 @@ impl Rows {
     }
 
     // The run of a command over the scripts that its head names, and steps.
-    fn played<R>(
+    fn played<R: Threads + Wait + Sync>(
         &self,
         rt: &R,
         alloc: Global,
@@ -143,7 +150,11 @@ impl Rows {
     }
 
     // What a block comes to.
-    fn ended<R>(&mut self, rt: &R, alloc: Global) -> Result<Vec<u8>, AllocError> {
+    fn ended<R: Threads + Wait + Sync>(
+        &mut self,
+        rt: &R,
+        alloc: Global,
+    ) -> Result<Vec<u8>, AllocError> {
         match mem::replace(&mut self.block, Block::Between) {
             Block::Between => Ok(Vec::new(alloc)),
             Block::Script(script) => {
@@ -162,7 +173,12 @@ impl Rows {
     }
 
     // What is written for a line between two blocks, or for the first of one.
-    fn begin<R>(&mut self, rt: &R, alloc: Global, line: &str) -> Result<Vec<u8>, AllocError> {
+    fn begin<R: Threads + Wait + Sync>(
+        &mut self,
+        rt: &R,
+        alloc: Global,
+        line: &str,
+    ) -> Result<Vec<u8>, AllocError> {
         let (word, rest) = line.split_once(' ').unwrap_or((line, ""));
         let text = String::new(alloc);
         match word {
@@ -186,7 +202,12 @@ impl Rows {
     }
 
     /// What is written for one more line.
-    pub fn line<R>(&mut self, rt: &R, alloc: Global, line: &str) -> Result<Vec<u8>, AllocError> {
+    pub fn line<R: Threads + Wait + Sync>(
+        &mut self,
+        rt: &R,
+        alloc: Global,
+        line: &str,
+    ) -> Result<Vec<u8>, AllocError> {
         if line == "." {
             return self.ended(rt, alloc);
         }

@@ -5,3 +5,4 @@ pub mod Sweeping
 pub mod Goes
 pub mod Spelled
 pub mod Risings
+pub mod Within

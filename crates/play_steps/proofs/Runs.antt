@@ -49,7 +49,7 @@ begin r all start =
     }
 
 -- one step of a run
-one : (r : StageRules) (s t : Spot r) (number : ℕ) (step : Step) (rest : List (Option Step)) (told : List Report)
+pub one : (r : StageRules) (s t : Spot r) (number : ℕ) (step : Step) (rest : List (Option Step)) (told : List Report)
     (g : Goes r step told s t) (later : List r.Fate)
     → transcript r s.state number (Some step ∷ rest) (g.came.fates ++ later)
     ≡ behind r told (transcript r t.state (number + lines_in step) rest later)
@@ -94,7 +94,7 @@ one_more r all start here there number step left told g reached written = record
   risen = rises_then r reached.fates g.came.fates start.spot.faults here.spot.faults there.spot.faults reached.risen g.came.risen;
 }
 
-over : (r : StageRules) (s : r.State) (number : ℕ) (fates : List r.Fate) → transcript r s number [] fates ≡ went r [] s fates
+pub over : (r : StageRules) (s : r.State) (number : ℕ) (fates : List r.Fate) → transcript r s number [] fates ≡ went r [] s fates
 unfolding transcript
 over r s number fates = refl
 

@@ -57,3 +57,7 @@ StaysUp {Devices = Devices} before now = (devices : Devices) → before devices 
 -- a stage is at home with any devices that it was at home with
 abbrev pub StaysHome : {Devices : Type 0} → (before now : Devices → Type 0) → Type 0
 StaysHome {Devices = Devices} before now = (devices : Devices) → before devices → now devices
+
+-- there are as many shelves as before
+abbrev pub KeepsShelves : (r : StageRules) → (old new : r.State) → Type 0
+KeepsShelves r old new = r.shelves new ≡ r.shelves old

@@ -133,6 +133,14 @@ IsStep (get worker target) = (worker < 16) × (is_target target ≡ true)
 IsStep (tick time) = time < 2 ^ 62
 IsStep (crash shelf) = shelf < 2 ^ 32
 
+-- the worker, the time and the shelf of a step are in their ranges, whatever its target is
+abbrev pub IsWithin : Step → Type 0
+IsWithin (take worker target) = worker < 16
+IsWithin (publish worker) = worker < 16
+IsWithin (get worker target) = worker < 16
+IsWithin (tick time) = time < 2 ^ 62
+IsWithin (crash shelf) = shelf < 2 ^ 32
+
 abbrev pub AreSteps : List Step → Type 0
 AreSteps [] = Unit {0}
 AreSteps (s ∷ steps) = IsStep s × AreSteps steps

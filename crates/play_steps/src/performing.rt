@@ -1,7 +1,7 @@
-ghost use Rattle.std.specs.Prelude.{◌≡◌, ◌≤◌, ◌<◌, ◌^◌, ◌∷◌, [], ℕ, Some, IsTrue, IsErrOf, MatchResult, true};
+ghost use Rattle.std.specs.Prelude.{◌≡◌, ◌≤◌, ◌<◌, ◌^◌, ◌∷◌, [], ℕ, Some, IsTrue, IsErrOf, OnOk, MatchResult, true};
 ghost use Rattle.web_outside.specs.Causes.{Rose};
-ghost use Rattle.play_steps.specs.Step.{IsStep, is_told, tick};
-ghost use Rattle.play_steps.specs.Rules.{StaysHome, StaysUp};
+ghost use Rattle.play_steps.specs.Step.{IsWithin, is_told, tick};
+ghost use Rattle.play_steps.specs.Rules.{KeepsShelves, StaysHome, StaysUp};
 ghost use Rattle.play_steps.specs.Transcript.{fits};
 ghost use Rattle.play_steps.specs.Views.{meaning};
 ghost use Rattle.play_steps.specs.Played.{Lengthens, Performs, SweepsAll, TellsCrash, spot};
@@ -40,7 +40,7 @@ impl<T: Drop> From<AllocFailed<T>> for Halt {
 /// Whether the step fits what the workers hold, and the shelves that there are.
 pub fn fits<T: Stage>(stage: &T, step: &Step) -> bool
     requires sound { T.sound stage.now }
-    requires range { IsStep (meaning step.now) }
+    requires range { IsWithin (meaning step.now) }
     ensures { result ≡ fits T.rules (meaning step.now) (T.state stage.now) }
 {
     match step {
@@ -83,6 +83,7 @@ fn sweep_all<T: Stage>(alloc: Global, stage: &mut T, time: u64) -> Result<Vec<Re
     ensures sound { T.sound stage.new }
     ensures home { StaysHome (T.at_home stage.old) (T.at_home stage.new) }
     ensures later { StaysUp (T.faults stage.old) (T.faults stage.new) }
+    ensures shelves { KeepsShelves T.rules (T.state stage.old) (T.state stage.new) }
 {
     let count = stage.shelves();
     let mut told = Ok(Vec::new(alloc));
@@ -106,7 +107,7 @@ fn crash_report(alloc: Global, shelf: u32, opened: Result<u32, Reopen>) -> Resul
 
 /// Performs a step that fits, and gives what its events told. Every event of the step takes place,
 /// also where there is no memory for that; but of a shelf that is not opened again nothing more is
-/// known.
+/// known. What is told leaves as many shelves as there were.
 pub fn perform<T: Stage>(
     alloc: Global,
     stage: &mut T,
@@ -114,13 +115,14 @@ pub fn perform<T: Stage>(
     step: &Step,
 ) -> Result<Vec<Report>, Halt>
     requires sound { T.sound stage.old }
-    requires range { IsStep (meaning step.now) }
+    requires range { IsWithin (meaning step.now) }
     requires fitting { fits T.rules (meaning step.now) (T.state stage.old) ≡ true }
     requires home { T.at_home stage.old devices.old }
     ensures came { is_told T.tells (Some (meaning step.now) ∷ []) ≡ true →
         Performs T.rules (meaning step.now) result
         (spot T.rules (T.state stage.old) (T.faults stage.old devices.old))
         (spot T.rules (T.state stage.new) (T.faults stage.new devices.new)) }
+    ensures shelves { OnOk result (KeepsShelves T.rules (T.state stage.old) (T.state stage.new)) }
     ensures sound { T.sound stage.new }
     ensures home { T.at_home stage.new devices.new }
     ensures later { T.faults stage.old devices.old ≤ T.faults stage.new devices.new }

@@ -1,6 +1,6 @@
 ghost use Rattle.std.specs.Prelude.{◌≡◌, ◌≤◌, ◌∷◌, [], ℕ, IsTrue, Some, true, false};
 ghost use Rattle.web_outside.specs.Causes.{Rose};
-ghost use Rattle.play_steps.specs.Step.{IsStep, is_told, steps_of};
+ghost use Rattle.play_steps.specs.Step.{IsWithin, is_told, steps_of};
 ghost use Rattle.play_steps.specs.Played.{end_of, scene, Leaves, Turns};
 ghost use Rattle.play_steps.specs.Views.{meaning};
 
@@ -55,7 +55,7 @@ fn play_step<T: Stage, O: Sink>(
     sink: &mut O,
 ) -> Turn
     requires sound { T.sound stage.old }
-    requires range { IsStep (meaning step.now) }
+    requires range { IsWithin (meaning step.now) }
     requires home { T.at_home stage.old devices.old }
     ensures turned { is_told T.tells (Some (meaning step.now) ∷ []) ≡ true →
         Turns T.rules (meaning step.now) result

@@ -1,4 +1,4 @@
-ghost use Rattle.std.specs.Prelude.{◌≡◌, ◌≤◌, ℕ, ◌<◌, ◌^◌, Bool, true, false, IsTrue, IfOk, IsErrOf};
+ghost use Rattle.std.specs.Prelude.{◌≡◌, ◌≤◌, ℕ, ◌<◌, ◌^◌, Bool, true, false, IsTrue, IfOk, OnOk, IsErrOf};
 ghost use Rattle.web_outside.specs.Causes.{Rose};
 ghost use Rattle.play_steps.specs.Rules.{StageRules, Takes, Publishes, Sweeps, Crashes, RoseOver, StaysUp, StaysHome};
 
@@ -59,6 +59,7 @@ pub trait Stage {
         ensures step { Takes rules (RoseOver (faults self.old) (faults self.new))
             (state self.old) worker target.now result (state self.new) }
         ensures held { IfOk result (λ _. rules.holds (state self.new) worker ≡ true) }
+        ensures shelves { rules.shelves (state self.new) ≡ rules.shelves (state self.old) }
         ensures sound { sound self.new }
         ensures home { StaysHome (at_home self.old) (at_home self.new) }
         ensures later { StaysUp (faults self.old) (faults self.new) };
@@ -70,6 +71,7 @@ pub trait Stage {
         requires held { rules.holds (state self.old) worker ≡ true }
         ensures step { Publishes rules (RoseOver (faults self.old) (faults self.new))
             (state self.old) worker result (state self.new) }
+        ensures shelves { rules.shelves (state self.new) ≡ rules.shelves (state self.old) }
         ensures sound { sound self.new }
         ensures home { StaysHome (at_home self.old) (at_home self.new) }
         ensures later { StaysUp (faults self.old) (faults self.new) };
@@ -97,6 +99,7 @@ pub trait Stage {
         ensures step { IsTrue tells → IfOk result (λ live. Crashes rules
             (Rose (faults self.old devices.old) (faults self.new devices.new))
             (state self.old) shelf live (state self.new)) }
+        ensures shelves { OnOk result (rules.shelves (state self.new) ≡ rules.shelves (state self.old)) }
         ensures sound { sound self.new }
         ensures home { at_home self.new devices.new }
         ensures later { faults self.old devices.old ≤ faults self.new devices.new }

@@ -166,10 +166,11 @@ fn parse(line: &[u8]) -> Option<Step>
 /// The step at the front of these bytes, and the bytes behind its lines. A step is a line:
 /// `take W TARGET`, `publish W` or `get W TARGET` of a worker from 0 to 15, `tick T` of a time
 /// below 2^62, in seconds, or `crash S` of a shelf.
-#[tactic(auto, unfolding(crate::specs::Step::first_step))]
+#[tactic(auto, unfolding(crate::specs::Step::first_step), using(crate::proofs::Within::step_within))]
 pub fn read_step(bytes: &[u8]) -> Option<(Step<'_>, &[u8])>
     ensures spelled { option_map (λ found. (meaning found.0, found.1.now)) result ≡ spec.first_step bytes.now }
     ensures range { IfSome result (λ found. spec.IsStep (meaning found.0)) }
+    ensures within { IfSome result (λ found. spec.IsWithin (meaning found.0)) }
 {
     let (line, rest) = cut_at(b'\n', bytes)?;
     let step = parse(line)?;

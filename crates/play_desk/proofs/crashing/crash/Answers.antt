@@ -1,10 +1,10 @@
-use Rattle.std.proofs.Common.{◌≡◌, ◌≤◌, ◌∙◌, ap, sym, subst, List, map, option_map, Err}
+use Rattle.std.proofs.Common.{◌≡◌, ◌≤◌, ◌∙◌, ap, sym, subst, List, length, map, option_map, Err}
 use Rattle.web_outside.specs.Causes.{Rose}
 use Rattle.script_nodes.specs.Views.{scripts_of}
 use Rattle.web_outside.specs.declared.nonces.Counting.{Counting}
 use Rattle.shelf.specs.declared.shelf.Shelf.{Shelf}
 use Rattle.std.specs.Prelude.{insert}
-use Rattle.std.proofs.lemmas.List.{length-map}
+use Rattle.std.proofs.lemmas.List.{length-map, length-set}
 use Rattle.instance_book.specs.Views.{instance_of, ticket_of}
 use Rattle.play_steps.specs.Rules.{Comes}
 use Rattle.play_steps.specs.declared.stage.Reopen.{Reopen}
@@ -123,3 +123,12 @@ returns-in-Ok-insert-clause-step g c rack_tells disk_tells =
     (desk_with scripts ys c.lose_tickets.new.tickets)) (sym now)
     (crash_comes scripts xs s.tickets c.lose_tickets.new.tickets k c.live-live.result x y here (c.in-Ok.ensures.crashed rack_tells disk_tells)
     c.in-Ok.ensures.rules c.in-Ok.ensures.nonces (length-map y.book.instances.things.items (instance_of scripts) ∙ sym c.live-live.ensures) held)
+
+pub returns-in-Ok-insert-clause-count : goal.returns-in-Ok-insert-clause-count
+returns-in-Ok-insert-clause-count g c =
+    let xs = c.args.staff.now.shelves.items in
+    let k = c.args.place in
+    let y = c.in-Ok.shelf in
+    let left = c.remove-shelf.ensures.by_index.2 ∙ taken_out xs k c.requires.place in
+    let now = c.in-Ok-insert.ensures.items ∙ ap (λ (ys : List (Shelf g.row.D.Denot Counting)). insert ys k y) left ∙ put_in xs k y c.requires.place in
+    ap length now ∙ length-set xs k y

@@ -64,3 +64,7 @@ returns-clause-desk g c rack_tells disk_tells =
 pub returns-clause-sound : goal.returns-clause-sound
 returns-clause-sound g c =
     fit_opened _ _ _ _ _ _ _ _ _ c.no_tickets.result c.loop-number.invariant (omega (arith, c.requires.range.shelves)) c.no_tickets.ensures
+
+pub returns-clause-count : goal.returns-clause-count
+returns-clause-count g c =
+    let all : c.loop-number.number ≡ c.args.rules.shelves = omega arith in c.loop-number.invariant.size ∙ all

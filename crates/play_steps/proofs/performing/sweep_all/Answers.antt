@@ -44,4 +44,5 @@ returns g c = record {
   sound = c.loop-shelf.invariant.sound;
   home = c.loop-shelf.invariant.home;
   later = c.loop-shelf.invariant.later;
+  shelves = c.loop-shelf.invariant.shelves ∙ c.shelves-count.ensures;
 }
