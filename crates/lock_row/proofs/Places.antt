@@ -3,7 +3,7 @@ use Rattle.std.proofs.Common.{◌≡◌, ℕ, zero, suc, ◌<◌, List, [], ◌�
 use Rattle.std.proofs.lemmas.Option.{slice_get_within}
 use Rattle.atomic_table.specs.Seated.{TableId}
 use Rattle.shelf_lock.specs.declared.view.View.{View}
-use Rattle.lock_row.specs.Spots.{Spot, spot, Home, home, Homes, home_of, IsOf, At}
+use Rattle.lock_row.specs.Spots.{Spot, spot, Home, home, home_of, At}
 
 pub map_length : {A B : Type 0} (f : A → B) (xs : List A) → length (map f xs) ≡ length xs
 map_length f [] = refl

@@ -1,2 +1,3 @@
 pub mod Spots
 pub mod Rows
+pub mod Locking

@@ -1,15 +1,15 @@
 -- What the calls of a row do.
-use Rattle.std.specs.Prelude.{◌≡◌, ℕ, ◌<◌, ◌≤◌, ◌^◌, List, [], ◌∷◌, length, Some, slice_get}
+use Rattle.std.specs.Prelude.{◌≡◌, ℕ, ◌+◌, ◌-◌, ◌<◌, ◌≤◌, ◌^◌, List, [], ◌∷◌, length, Some, slice_get}
 use Rattle.std.specs.Fn.{Once}
 use denote.Ref.{MutBor}
 use mathlib.Core.List.{IsPrefix}
 use Rattle.shelf_lock.specs.declared.kept.Kept.{Ghosts}
 use Rattle.shelf_lock.specs.declared.view.View.{View}
 use Rattle.shelf_lock.specs.declared.view.Role.TheVariants.{Outside}
-use Rattle.shelf_lock.specs.Order.{made_by, posed, longer, both, Told, Each, MadeBelow}
+use Rattle.shelf_lock.specs.Order.{made_by, posed, longer, both, Told, Begins, Each, MadeBelow}
 use Rattle.shelf_lock.specs.Turns.{MayCall, KeepsEach}
 use Rattle.shelf_lock.specs.declared.rule.Start.{Start}
-use Rattle.lock_row.specs.Spots.{Spot, spot}
+use Rattle.lock_row.specs.Spots.{Spot, spot, Home, IsAt}
 
 module _ {S O E : Type 0} (g : Ghosts S O E) where
   -- a value that may be put behind a lock: it has no entry
@@ -46,6 +46,12 @@ module _ {S O E : Type 0} (g : Ghosts S O E) where
   IsClosed start x =
       g.sound x × (g.opening x ≡ g.opening start.value.value) × MadeBelow g start.seats (g.history x)
 
+  -- what is told of this pass is told of each of these
+  abbrev pub TellsAll : List (List (Spot O E)) → List (Spot O E) → Type 0
+  TellsAll passes pass =
+      (k : ℕ) (a : Spot O E) → slice_get pass k ≡ Some a → (log : List E) → Begins g log a.known
+      → (j : ℕ) (p : List (Spot O E)) → slice_get passes j ≡ Some p → (b : Spot O E) → slice_get p k ≡ Some b → Begins g log b.known
+
   -- a value that was given back: of this opening, and of so many callers
   pub record IsBack (opening : List O) (seats : ℕ) (x : S) : Type 0 where
     pub sound : g.sound x
@@ -64,6 +70,19 @@ module _ {O E : Type 0} where
   -- a caller that has seen nothing yet
   abbrev pub IsNewFor : ℕ → Spot O E → Type 0
   IsNewFor caller s = (s.known.caller ≡ caller) × (s.known.seen ≡ []) × (s.known.heard ≡ [])
+
+  -- so at each lock
+  abbrev pub IsNewPass : ℕ → List (Spot O E) → Type 0
+  IsNewPass caller pass = (k : ℕ) (s : Spot O E) → slice_get pass k ≡ Some s → IsNewFor caller s
+
+  -- a pass at these locks that a caller of this number may get
+  abbrev pub IsSpare : List (Home O) → ℕ → List (Spot O E) → Type 0
+  IsSpare homes caller pass = IsAt homes pass × IsNewPass caller pass
+
+  -- so each of these, of which the last is the next caller's
+  abbrev pub AreSpare : List (Home O) → (next : ℕ) → List (List (Spot O E)) → Type 0
+  AreSpare homes next spare =
+      (j : ℕ) (p : List (Spot O E)) → slice_get spare j ≡ Some p → IsSpare homes (next + (length spare - 1 - j)) p
 
 -- a walk from the last place on, so far: from this place on each was changed so, and the others are as they were
 abbrev pub ZipsFrom : {A B : Type 0} → (B → A → A → Type 0) → ℕ → List A → List B → List A → Type 0

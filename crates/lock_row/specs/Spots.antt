@@ -1,5 +1,5 @@
 -- The locks of a row, and what a pass knows at each.
-use Rattle.std.specs.Prelude.{◌≡◌, ℕ, List, [], ◌∷◌, Some, slice_get, slice_set, map}
+use Rattle.std.specs.Prelude.{◌≡◌, ℕ, ◌+◌, ◌-◌, List, [], ◌∷◌, Some, slice_get, slice_set, map}
 use Rattle.atomic_table.specs.Seated.{TableId}
 use Rattle.shelf_lock.specs.declared.view.View.{View}
 
@@ -19,10 +19,15 @@ pub record Home (O : Type 0) : Type 0 where
 abbrev pub home : {O : Type 0} → TableId → List O → Home O
 home table opening = record { table = table; opening = opening }
 
--- the locks in their order, and how many callers each has
+-- the locks in their order; how many callers have their pass, which are numbered from 0; and for how many more there are seats
 pub record Homes (O : Type 0) : Type 0 where
   pub homes : List (Home O)
   pub seats : ℕ
+  pub left : ℕ
+
+-- one caller more has his pass
+abbrev pub one_dealt : {O : Type 0} → Homes O → Homes O
+one_dealt row = record { homes = row.homes; seats = row.seats + 1; left = row.left - 1 }
 
 module _ {O E : Type 0} where
   -- the lock that a spot is at
@@ -30,8 +35,11 @@ module _ {O E : Type 0} where
   home_of s = home s.table s.known.opening
 
   -- a pass has a seat at each of these locks, in their order
+  abbrev pub IsAt : List (Home O) → List (Spot O E) → Type 0
+  IsAt homes pass = map home_of pass ≡ homes
+
   abbrev pub IsOf : Homes O → List (Spot O E) → Type 0
-  IsOf row pass = map home_of pass ≡ row.homes
+  IsOf row pass = IsAt row.homes pass
 
   -- a note is of these locks, in their order
   abbrev pub IsNoteIn : Homes O → List (Spot O E) → Type 0

@@ -1,6 +1,7 @@
 //! A row of locks, and passes that have a seat at each of them.
 #![tactic(auto)]
 
+mod locking;
 mod row;
 mod seats;
 

@@ -1,8 +1,8 @@
 //! The locks.
 ghost use Rattle.std.specs.Prelude.{◌≡◌, ℕ, ◌<◌, ◌≤◌, ◌+◌, [], ◌∷◌, Some, IfOk, MatchResult, vec_len, vec_capacity, reverse, length, slice_get, map};
 ghost use Rattle.std.specs.List.{AllZip};
-ghost use Rattle.lock_row.specs.Spots.{Spot, spot, home, home_of, IsOf, IsNoteIn, At};
-ghost use Rattle.lock_row.specs.Rows.{MayCallAt, KeepsEachAt, Hears, TellsOf, IsBack, IsClosed, IsNoteOf, Absorbs, ZipsAll};
+ghost use Rattle.lock_row.specs.Spots.{Spot, spot, home, home_of, one_dealt, IsAt, IsOf, IsNoteIn, At};
+ghost use Rattle.lock_row.specs.Rows.{MayCallAt, KeepsEachAt, Hears, TellsOf, IsBack, IsClosed, IsNoteOf, IsNewPass, TellsAll, Absorbs, ZipsAll};
 ghost use Rattle.shelf_lock.specs.Order.{Begins, GoesOn, posed, longer, both};
 ghost use Rattle.shelf_lock.specs.Turns.{Turned, FoundWorn};
 ghost use Rattle.shelf_lock.specs.declared.view.Role.TheVariants.{Outside};
@@ -13,28 +13,39 @@ use std::alloc::{AllocError, Global};
 use std::marker::Model;
 use std::sync::Wait;
 
-/// Values, each behind a lock of its own. Contracts see where the locks are, and how many callers each has.
+/// Values, each behind a lock of its own. Contracts see where the locks are, how many callers have their pass, and for how
+/// many more there are seats.
 #[derive(Drop)]
 pub struct LockRow<V: Kept> {
     pub(crate) locks: Vec<ShelfLock<V>>,
     // Where the values go when the row is closed.
     pub(crate) room: Vec<V>,
-    pub(crate) seats: u32,
+    // The passes that no caller has yet; the last is the next caller's.
+    pub(crate) spare: Vec<RowPass<V>>,
+    // That of a caller behind them, who has none.
+    pub(crate) own: RowPass<V>,
+    // How many callers have theirs.
+    pub(crate) dealt: u32,
 }
 
 impl<V: Kept> Model for LockRow<V> {
-    ghost use Rattle.std.specs.Prelude.{◌≡◌, ◌≤◌, [], ◌∷◌, ℕ, Some, slice_get, map, vec_len, vec_capacity};
+    ghost use Rattle.std.specs.Prelude.{◌≡◌, ◌≤◌, ◌<◌, ◌+◌, ◌^◌, [], ◌∷◌, ℕ, Some, slice_get, map, length, vec_len, vec_capacity};
     ghost use Rattle.lock_row.specs.Spots.{Homes, home};
+    ghost use Rattle.lock_row.specs.Rows.{IsSpare, AreSpare};
 
     ghost Value = { Homes V.Opening };
 
     ghost view = { λ s. record {
       homes = map (λ l. home l.board.shared.table_id (V.opening l.board.shared.key.value.value ∷ [])) s.locks.items;
-      seats = s.seats;
+      seats = s.dealt;
+      left = length s.spare.items;
     } };
 
     ghost invariant = { λ s. (s.room.items ≡ []) × (vec_len s.room ≡ 0) × (vec_len s.locks ≤ vec_capacity s.room)
-        × ((k : ℕ) (l : _) → slice_get s.locks.items k ≡ Some l → l.board.shared.key.seats ≡ s.seats) };
+        × ((k : ℕ) (l : _) → slice_get s.locks.items k ≡ Some l → l.board.shared.key.seats ≡ s.dealt + length s.spare.items + 1)
+        × (s.dealt + length s.spare.items + 1 < 2 ^ 32)
+        × AreSpare (map (λ l. home l.board.shared.table_id (V.opening l.board.shared.key.value.value ∷ [])) s.locks.items) s.dealt s.spare.items
+        × IsSpare (map (λ l. home l.board.shared.table_id (V.opening l.board.shared.key.value.value ∷ [])) s.locks.items) (s.dealt + length s.spare.items) s.own };
 }
 
 impl<V: Kept> LockRow<V> {
@@ -43,6 +54,18 @@ impl<V: Kept> LockRow<V> {
         ensures { result ≡ length self.now.homes }
     {
         self.locks.len()
+    }
+
+    /// The pass of the next caller, who has seen nothing.
+    pub fn deal(&mut self) -> RowPass<V>
+        requires { 0 < self.old.left }
+        ensures dealt { self.new ≡ one_dealt self.old }
+        ensures own { IsOf self.new result }
+        ensures new { IsNewPass self.old.seats result }
+    {
+        let pass = self.spare.pop().unwrap();
+        self.dealt += 1;
+        pass
     }
 
     /// Calls `f` on the value at this place, while no other pass has it, and gives the answer of `f`. It may wait for other
@@ -86,16 +109,6 @@ impl<V: Kept> LockRow<V> {
         self.locks[place].join(&mut pass.seats[place], note);
     }
 
-    fn absorb_at(&self, pass: &mut RowPass<V>, place: usize, other: Pass<V>)
-        requires own { IsOf self.now pass.old }
-        requires place { place < length self.now.homes }
-        requires other { (a : _) × (slice_get pass.old place ≡ Some a) × (other.seat.table_id ≡ a.table) }
-        ensures own { IsOf self.now pass.new }
-        ensures both { At place (λ v w. w ≡ both v other.seat.me.0) pass.old pass.new }
-    {
-        self.locks[place].absorb(&mut pass.seats[place], other);
-    }
-
     /// A note of what the pass has seen. Want of memory changes nothing.
     pub fn tell(&self, alloc: Global, pass: &mut RowPass<V>) -> Result<RowNote<V>, AllocError>
         requires own { IsOf self.now pass.old }
@@ -126,45 +139,68 @@ impl<V: Kept> LockRow<V> {
         notes.destroy_empty();
     }
 
-    // Takes another pass in: what is then told of this one is told of both.
-    fn absorb(&self, pass: &mut RowPass<V>, other: RowPass<V>)
-        requires own { IsOf self.now pass.old × IsOf self.now other }
-        ensures own { IsOf self.now pass.new }
-        ensures both { ZipsAll Absorbs pass.old other pass.new }
-    {
-        let RowPass { mut seats } = other;
-        while let Some(seat) = seats.pop() {
-            self.absorb_at(pass, seats.len(), seat);
-        }
-        seats.destroy_empty();
-    }
-
     /// Waits for each value, and gives them all back, in the order of the places. It takes no memory. Each history tells of
-    /// each pass, and of no further caller.
-    pub fn close<R: Wait>(self, rt: &R, mut passes: Vec<RowPass<V>>) -> Vec<V>
-        requires some { 0 < length passes.items }
+    /// each pass, and callers who have none made nothing.
+    pub fn close<R: Wait>(self, rt: &R, passes: Vec<RowPass<V>>) -> Vec<V>
         requires own { (j : ℕ) (p : _) → slice_get passes.items j ≡ Some p → IsOf self p }
         ensures back { AllZip (λ h x. IsBack V.Kept h.opening self.seats x) self.homes result.items }
         ensures told { (k : ℕ) (x : _) → slice_get result.items k ≡ Some x
             → (j : ℕ) (p : _) → slice_get passes.items j ≡ Some p
             → (a : _) → slice_get p k ≡ Some a → Begins V.Kept (V.history x) a.known }
     {
-        let mut first = passes.pop().unwrap();
-        while let Some(other) = passes.pop() {
-            self.absorb(&mut first, other);
-        }
-        passes.destroy_empty();
         let LockRow {
             locks,
             room,
-            seats: _,
+            mut own,
+            spare,
+            dealt: _,
         } = self;
-        let RowPass { seats } = first;
+        take_in(&locks, &mut own, passes);
+        take_in(&locks, &mut own, spare);
+        let RowPass { seats } = own;
         let mut values = room;
         shut(rt, locks, seats, &mut values);
         values.reverse();
         values
     }
+}
+
+// Takes passes in: what is then told of this one is told of all.
+fn take_in<V: Kept>(locks: &[ShelfLock<V>], pass: &mut RowPass<V>, mut others: Vec<RowPass<V>>)
+    requires own { IsAt (map (λ l. home l.board.shared.table_id (V.opening l.board.shared.key.value.value ∷ [])) locks.now) pass.old }
+    requires others { (j : ℕ) (p : _) → slice_get others.items j ≡ Some p
+        → IsAt (map (λ l. home l.board.shared.table_id (V.opening l.board.shared.key.value.value ∷ [])) locks.now) p }
+    ensures own { IsAt (map (λ l. home l.board.shared.table_id (V.opening l.board.shared.key.value.value ∷ [])) locks.now) pass.new }
+    ensures told { TellsAll V.Kept (pass.old ∷ others.items) pass.new }
+{
+    while let Some(other) = others.pop() {
+        absorb(locks, pass, other);
+    }
+    others.destroy_empty();
+}
+
+// Takes another pass in: what is then told of this one is told of both.
+fn absorb<V: Kept>(locks: &[ShelfLock<V>], pass: &mut RowPass<V>, other: RowPass<V>)
+    requires own { IsAt (map (λ l. home l.board.shared.table_id (V.opening l.board.shared.key.value.value ∷ [])) locks.now) pass.old }
+    requires other { IsAt (map (λ l. home l.board.shared.table_id (V.opening l.board.shared.key.value.value ∷ [])) locks.now) other }
+    ensures own { IsAt (map (λ l. home l.board.shared.table_id (V.opening l.board.shared.key.value.value ∷ [])) locks.now) pass.new }
+    ensures both { ZipsAll Absorbs pass.old other pass.new }
+{
+    let RowPass { mut seats } = other;
+    while let Some(seat) = seats.pop() {
+        absorb_at(locks, pass, seats.len(), seat);
+    }
+    seats.destroy_empty();
+}
+
+fn absorb_at<V: Kept>(locks: &[ShelfLock<V>], pass: &mut RowPass<V>, place: usize, other: Pass<V>)
+    requires own { IsAt (map (λ l. home l.board.shared.table_id (V.opening l.board.shared.key.value.value ∷ [])) locks.now) pass.old }
+    requires place { place < length locks.now }
+    requires other { (a : _) × (slice_get pass.old place ≡ Some a) × (other.seat.table_id ≡ a.table) }
+    ensures own { IsAt (map (λ l. home l.board.shared.table_id (V.opening l.board.shared.key.value.value ∷ [])) locks.now) pass.new }
+    ensures both { At place (λ v w. w ≡ both v other.seat.me.0) pass.old pass.new }
+{
+    locks[place].absorb(&mut pass.seats[place], other);
 }
 
 // Closes each lock with its seat, from the last on.

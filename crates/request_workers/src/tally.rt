@@ -35,9 +35,10 @@ pub struct Tally {
 }
 
 impl Tally {
-    // Nothing was counted yet.
-    pub(crate) fn nothing() -> Tally
-        ensures { count_of result ≡ spec.nothing }
+    /// The tally of a worker that has counted nothing yet.
+    pub fn nothing() -> Tally
+        ensures count { count_of result ≡ spec.nothing }
+        ensures end { result.end ≡ WorkEnd.Done }
     {
         Tally {
             pages: 0,

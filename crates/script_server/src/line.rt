@@ -1,9 +1,8 @@
 // A connection, which is waited for no longer than it has time.
 use std::alloc::Global;
-use std::cell::Cell;
 use std::io::{self, ErrorKind, Read, Write};
 use std::net::{Shutdown, TcpStream};
-use std::rc::Rc;
+use std::sync::{Arc, OnceLock};
 use std::time::{Clock, Duration, Instant};
 
 // What still comes at the end of a line is read and dropped so often, and each time for at most so many milliseconds.
@@ -26,8 +25,9 @@ pub struct Line<C> {
     clock: C,
     socket: TcpStream,
     rest: Duration,
-    until: Cell<Instant>,
-    head_ended: Cell<bool>,
+    // When the wait for the end of its head is over; and the wait for all behind it, once it has ended.
+    until: Instant,
+    later: OnceLock<Instant>,
 }
 
 // The moment that lies so far ahead.
@@ -47,23 +47,23 @@ impl<C: Clock + Drop> Line<C> {
             clock,
             socket,
             rest: patience.rest,
-            until: Cell::new(until),
-            head_ended: Cell::new(false),
+            until,
+            later: OnceLock::new(),
         })
     }
 
     // The head has ended, or is waited for no more: the second time begins, unless it did before.
     fn end_head(&self) -> io::Result<()> {
-        if !self.head_ended.get() {
-            self.head_ended.set(true);
-            self.until.set(moment_in(&self.clock, self.rest)?);
+        if self.later.get().is_none() {
+            let _ = self.later.try_set(moment_in(&self.clock, self.rest)?);
         }
         Ok(())
     }
 
     // The time that is left, which is not nothing.
     fn left(&self) -> io::Result<Duration> {
-        let left = self.until.get().duration_since(Instant::now(&self.clock)?);
+        let until = self.later.get().copied().unwrap_or(self.until);
+        let left = until.duration_since(Instant::now(&self.clock)?);
         if left.is_zero() {
             return Err(io::Error::from(ErrorKind::TimedOut));
         }
@@ -113,13 +113,13 @@ impl Head {
 /// What a line's other side sends.
 #[derive(Drop)]
 pub struct Heard<C> {
-    line: Rc<Line<C>>,
+    line: Arc<Line<C>>,
     head: Head,
 }
 
 impl<C: Clock + Drop> Heard<C> {
     /// Nothing was read yet.
-    pub fn new(line: Rc<Line<C>>) -> Heard<C> {
+    pub fn new(line: Arc<Line<C>>) -> Heard<C> {
         Heard {
             line,
             head: Head::Blank,
@@ -145,12 +145,12 @@ impl<C: Clock + Drop> Read for Heard<C> {
 /// What a line's other side is sent.
 #[derive(Drop)]
 pub struct Told<C> {
-    line: Rc<Line<C>>,
+    line: Arc<Line<C>>,
 }
 
 impl<C: Clock + Drop> Told<C> {
     /// Nothing was written yet.
-    pub fn new(line: Rc<Line<C>>) -> Told<C> {
+    pub fn new(line: Arc<Line<C>>) -> Told<C> {
         Told { line }
     }
 }

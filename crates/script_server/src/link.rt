@@ -8,7 +8,7 @@ use crate::line::{Heard, Line, Patience, Told};
 use std::alloc::Global;
 use std::io;
 use std::net::TcpStream;
-use std::rc::Rc;
+use std::sync::Arc;
 use std::time::Clock;
 use web_outside::Link;
 
@@ -23,7 +23,7 @@ pub type Telling<C> = Together<Writing<Told<C>>>;
 pub struct SocketLink<C> {
     input: Hearing<C>,
     output: Telling<C>,
-    line: Rc<Line<C>>,
+    line: Arc<Line<C>>,
 }
 
 impl<C: Clock + Drop> Link for SocketLink<C> {
@@ -58,7 +58,7 @@ impl<C: Clock + Drop> SocketLink<C> {
         socket: TcpStream,
         patience: Patience,
     ) -> io::Result<SocketLink<C>> {
-        let line = Rc::new(alloc, Line::new(clock, socket, patience)?)?;
+        let line = Arc::new(alloc, Line::new(clock, socket, patience)?)?;
         let input = Reading {
             inner: Heard::new(line.clone()?),
             count: 0,

@@ -20,13 +20,15 @@ use door::SocketDoor;
 use file_disk::ServedRack;
 use line::Patience;
 use machine::{MachineClock, MachineSeeds};
-use server_command::command;
+use server_command::{NoPast, command};
 use std::alloc::AllocError;
 use std::fs::{File, Files};
 use std::io::ErrorKind;
 use std::net::{Net, TcpListener, TcpStream};
 use std::process::ExitCode;
 use std::rt::Env;
+use std::sync::Wait;
+use std::thread::Threads;
 use std::time::{Clock, Duration};
 use std::{env, io};
 use web_outside::{OpenGate, Sink, write_or_drop};
@@ -61,7 +63,10 @@ where
         + AllocGlobal
         + Files<File = File>
         + Clock
-        + Net<Listener = TcpListener, Stream = TcpStream>,
+        + Net<Listener = TcpListener, Stream = TcpStream>
+        + Threads
+        + Wait
+        + Sync,
 {
     let alloc = rt.alloc();
     let mut input = Reading {
@@ -103,6 +108,7 @@ where
         &clock,
         &mut seeds,
         &OpenGate,
+        &mut NoPast,
     )
 }
 

@@ -11,15 +11,17 @@ use Rattle.web_outside.specs.declared.source.InputFault.TheVariants as faults
 use Rattle.web_outside.proofs.Writes.{appends_none}
 use Rattle.command_words.specs.App.{app}
 use Rattle.command_words.specs.Plain.{IsPlain}
-use Rattle.command_words.specs.declared.Command.TheVariants.{Check, Play, Serve}
+use Rattle.command_words.specs.declared.Command.TheVariants.{Check, Play, Serve, Load}
 use Rattle.command_words.specs.declared.Service.{Service}
 use Rattle.command_words.specs.declared.Command.{Command}
 use Rattle.command_words.specs.Reads.{asked_from}
 use Rattle.command_words.proofs.PlainWords.{plain_means}
+use Rattle.server_command.specs.declared.program.Job.{Job}
+use Rattle.server_command.specs.declared.program.Job.TheVariants as job
 use Rattle.server_command.specs.declared.program.Status.{Status}
 use Rattle.server_command.specs.declared.program.Status.TheVariants as status
 use Rattle.server_command.specs.Output.{Chances, nothing}
-use Rattle.server_command.specs.Command.{Met, Prints, Untouched, ReadToEnd, HasDone, HasServed, Leaves, Outputs, Comes, ComesServing, CameServing, ComesTo, Came, Refuses, Explains, Explained, IsUnread, asked_unless, asked_in, unread_line, unread_status}
+use Rattle.server_command.specs.Command.{Met, Prints, Untouched, ReadToEnd, HasDone, HasServed, Leaves, Outputs, Comes, ComesServing, CameServing, ComesTo, Came, Refuses, Explains, Explained, IsUnread, ReadsInput, asked_of, asked_unless, asked_in, unread_line, unread_status}
 use Rattle.server_command.specs.Serving.{Serves, RackFailed, LeavesInput}
 use Rattle.server_command.proofs.Endings.{whole_input, always, tells, no_chances}
 
@@ -117,6 +119,11 @@ pub served_came : (serves : Serves) (v : Service) (s : Status) (met : Met) (byte
     → length bytes ≤ 16777216 → ((chances : Chances) × LeavesInput serves v bytes chances s met.output met.door met.seeds) → CameServing serves v s met
 served_came serves v s met bytes same read end short p = (p.0, served_comes serves v s met bytes p.0 same read end short p.1)
 
+-- a job reads its input
+pub job_reads : (j : Job) → ReadsInput (Some (asked_of j))
+job_reads job.Check = tt
+job_reads (job.Play options) = tt
+
 -- ---- words
 
 pub asks : (words : List (List ℕ)) (asked : Command) → faults_in app words ≡ [] → asked_from (subcommand_of app words) ≡ Some asked → asked_in words ≡ Some asked
@@ -147,6 +154,7 @@ never_usage : (serves : Serves) (asked : Command) (chances : Chances) (met : Met
 never_usage serves Check chances met h = h
 never_usage serves (Play o) chances met h = h
 never_usage serves (Serve v) chances met h = h
+never_usage serves (Load l) chances met h = h.1
 
 refuted : (serves : Serves) (met : Met) (asked : Command) (chances : Chances) → asked_in met.words ≡ Some asked → Explains serves status.Usage chances met → ⊥
 refuted serves met asked chances is (inl h) = not_refused (asked_in met.words) asked met is h

@@ -1,10 +1,11 @@
 -- Which status is due, and what lawful inputs end with.
-use Rattle.std.proofs.Common.{◌≡◌, ◌≢◌, ◌≤◌, ◌<◌, ◌⊎◌, ℕ, List, [], length, nat_le, true, false, Option, Some, None, Result, Ok, Err, IfSome, IsTrue, refl, sym, ap, ◌∙◌, subst, inl, inr, arith, length-append}
+use Rattle.std.proofs.Common.{◌≡◌, ◌≢◌, ◌≤◌, ◌<◌, ◌⊎◌, ℕ, List, [], length, nat_le, true, false, Option, Some, None, Result, Ok, Err, IfSome, IsTrue, refl, sym, ap, ◌∙◌, subst, inl, inr, ⊎_elim, arith, length-append}
 use Rattle.std.proofs.lemmas.Bool.{le-leb, lt-leb}
 use Rattle.std.specs.Io.KnownBytes.{Consumes}
 use Rattle.web_outside.specs.Causes.{Rose}
 use Rattle.web_outside.specs.Pieces.{ReadsPast}
-use Rattle.command_words.specs.declared.Command.TheVariants.{Check, Play, Serve}
+use Rattle.command_words.specs.declared.Command.TheVariants.{Check, Play, Serve, Load}
+use Rattle.command_words.specs.declared.LoadOptions.{LoadOptions}
 use Rattle.command_words.specs.declared.Service.{Service}
 use Rattle.command_words.specs.declared.Command.{Command}
 use Rattle.setup_reader.specs.Setup.{Parsed, Fault, setup_of}
@@ -15,8 +16,11 @@ use Rattle.play_desk.specs.Laws.{TranscriptsAreRuns}
 use Rattle.server_command.specs.declared.program.Status.{Status}
 use Rattle.server_command.specs.declared.program.Status.TheVariants as status
 use Rattle.server_command.specs.Racks.{Racks, AreTaken, Unfit, first_unfit, unfit_new, unfit_left}
-use Rattle.server_command.specs.Output.{Chances, output_of, counted, ending_of, ended, finished, served, written, run_of, unless_shut, BeforeOpening, at_first, at_crash}
-use Rattle.server_command.specs.Command.{Met, ReadToEnd, Gives, HasDone, HasServed, Leaves, Settles, TakesDisks, Comes, ComesServing, ComesTo, Refuses, Explains, Explained, IsDue, EndsAs, Ends, EndsWell, IsLawful, AreFit, JournalsOpen, GoesWell, asked_in, code_of, due, due_to, reached_by, with_setup}
+use Rattle.server_command.specs.Output.{Chances, output_of, counted, ending_of, ended, finished, served, written, run_of, unless_shut, loaded, run_loaded, BeforeOpening, at_first, at_crash}
+use Rattle.load_run.specs.Drawing.{most_steps}
+use Rattle.load_run.specs.Counting.{line_for}
+use Rattle.server_command.proofs.Loads.{loads_events}
+use Rattle.server_command.specs.Command.{Met, ReadToEnd, Gives, HasDone, HasServed, Leaves, Settles, TakesDisks, Comes, ComesLoading, ComesServing, ComesTo, EndsAsLoad, ReadsInput, Refuses, Explains, Explained, IsDue, EndsAs, Ends, EndsWell, IsLawful, AreFit, JournalsOpen, GoesWell, asked_in, code_of, due, due_to, reached_by, with_setup}
 use Rattle.server_command.specs.Serving.{Serves, HaveRisen, LeavesInput, Opens, RackFailed, Shuts}
 use Rattle.setup_reader.specs.declared.setup.Ending.TheVariants.{Input}
 use Rattle.server_command.proofs.Racks.{fit_opens}
@@ -173,12 +177,13 @@ serving_exact serves v status.Journal met bytes chances same e is settles h =
 serving_exact serves v status.Door met bytes chances same e is settles h = inr (inr (inr (inr (inl (refl, h.1)))))
 serving_exact serves v status.Key met bytes chances same e is settles h = inr (inr (inr (inr (inr (inl (refl, h.1))))))
 
-exact_to : (serves : Serves) (asked : Command) (s : Status) (met : Met) (bytes : List ℕ) (chances : Chances) → serves.rack ≡ met.rack → met.input ≡ Some bytes
+exact_to : (serves : Serves) (asked : Command) (s : Status) (met : Met) (bytes : List ℕ) (chances : Chances) → ReadsInput (asked_in met.words) → serves.rack ≡ met.rack → met.input ≡ Some bytes
     → asked_in met.words ≡ Some asked → Settles met.rack (reached_by (asked_in met.words) bytes) → ComesTo serves asked chances s met
     → EndsAs (code_of s) met bytes chances
-exact_to serves Check s met bytes chances same e is settles h = asked_exact Check s met bytes chances e is settles h
-exact_to serves (Play o) s met bytes chances same e is settles h = asked_exact (Play o) s met bytes chances e is settles h
-exact_to serves (Serve v) s met bytes chances same e is settles h = serving_exact serves v s met bytes chances same e is settles h
+exact_to serves Check s met bytes chances reads same e is settles h = asked_exact Check s met bytes chances e is settles h
+exact_to serves (Play o) s met bytes chances reads same e is settles h = asked_exact (Play o) s met bytes chances e is settles h
+exact_to serves (Serve v) s met bytes chances reads same e is settles h = serving_exact serves v s met bytes chances same e is settles h
+exact_to serves (Load l) s met bytes chances reads same e is settles h = absurd (subst ReadsInput is reads)
 
 refused_exact : (s : Status) (met : Met) (bytes : List ℕ) (chances : Chances) → Refuses (asked_in met.words) s met → EndsAs (code_of s) met bytes chances
 refused_exact status.Usage met bytes chances h = inl (record {
@@ -188,15 +193,46 @@ refused_exact status.Usage met bytes chances h = inl (record {
 refused_exact status.Memory met bytes chances h = inr (inr (inr (inr (inr (inr refl)))))
 refused_exact s met bytes chances h = absurd h
 
-exact : (serves : Serves) (s : Status) (met : Met) (bytes : List ℕ) (chances : Chances) → serves.rack ≡ met.rack → met.input ≡ Some bytes
+exact : (serves : Serves) (s : Status) (met : Met) (bytes : List ℕ) (chances : Chances) → ReadsInput (asked_in met.words) → serves.rack ≡ met.rack → met.input ≡ Some bytes
     → Settles met.rack (reached_by (asked_in met.words) bytes) → Explains serves s chances met → EndsAs (code_of s) met bytes chances
-exact serves s met bytes chances same e settles (inl h) = refused_exact s met bytes chances h
-exact serves s met bytes chances same e settles (inr h) = exact_to serves h.0 s met bytes chances same e h.1.0 settles h.1.1
+exact serves s met bytes chances reads same e settles (inl h) = refused_exact s met bytes chances h
+exact serves s met bytes chances reads same e settles (inr h) = exact_to serves h.0 s met bytes chances reads same e h.1.0 settles h.1.1
 
 exact_if : (serves : Serves) (s : Status) (met : Met) (chances : Chances) (o : Option (List ℕ)) → serves.rack ≡ met.rack → met.input ≡ o → Explains serves s chances met
-    → IfSome o (λ bytes. Settles met.rack (reached_by (asked_in met.words) bytes) → EndsAs (code_of s) met bytes chances)
+    → IfSome o (λ bytes. ReadsInput (asked_in met.words) → Settles met.rack (reached_by (asked_in met.words) bytes) → EndsAs (code_of s) met bytes chances)
 exact_if serves s met chances None same e h = tt
-exact_if serves s met chances (Some bytes) same e h = λ settles. exact serves s met bytes chances same e settles h
+exact_if serves s met chances (Some bytes) same e h = λ reads settles. exact serves s met bytes chances reads same e settles h
+
+refused_complete : (s : Status) (met : Met) (asked : Command) → asked_in met.words ≡ Some asked → Refuses (asked_in met.words) s met → code_of s ≡ 10
+refused_complete status.Usage met asked is h = absurd (let no : None ≡ Some asked = sym h.0 ∙ is in cc)
+refused_complete status.Memory met asked is h = refl
+refused_complete s met asked is h = absurd h
+
+same_asked : (o : Option Command) (a b : Command) → o ≡ Some a → o ≡ Some b → a ≡ b
+same_asked o a b e f = cc
+
+-- what a measured run came to is due
+load_due : (l : LoadOptions) (s : Status) (met : Met) (chances : Chances) → IsTrue met.rack.tells → ComesLoading l chances s met
+    → EndsAsLoad (code_of s) met l chances
+load_due l status.Done met chances t h = (let g = (h.1 t).0 in inl (record { same = sym g.answered.0; taken = g.taken }))
+load_due l status.Write met chances t h = inr (inl (refl, h.1.0))
+load_due l status.Disk met chances t h = inr (inr (inl (refl, h.1.0)))
+load_due l status.Journal met chances t h = (let g = h.1 t in inl (record { same = sym g.answered.0; taken = g.taken }))
+load_due l status.Memory met chances t h = inr (inr (inr refl))
+load_due l _ met chances t h = absurd h.1
+
+-- what was asked for was the run
+load_came : (serves : Serves) (l : LoadOptions) (s : Status) (met : Met) (chances : Chances) → asked_in met.words ≡ Some (Load l)
+    → Explains serves s chances met → ComesLoading l chances s met ⊎ (code_of s ≡ 10)
+load_came serves l s met chances is (inl h) = inr (refused_complete s met (Load l) is h)
+load_came serves l s met chances is (inr h) =
+    let one = same_asked (asked_in met.words) h.0 (Load l) h.1.0 is in
+    inl (subst (λ a. ComesTo serves a chances s met) one h.1.1)
+
+load_exact : (serves : Serves) (l : LoadOptions) (s : Status) (met : Met) (chances : Chances) → asked_in met.words ≡ Some (Load l)
+    → IsTrue met.rack.tells → Explains serves s chances met → EndsAsLoad (code_of s) met l chances
+load_exact serves l s met chances is t h =
+    ⊎_elim (λ came. load_due l s met chances t came) (λ memory. inr (inr (inr memory))) (load_came serves l s met chances is h)
 
 pub ends : (serves : Serves) → TranscriptsAreRuns → (result : ℕ) (s : Status) (met : Met) → serves.rack ≡ met.rack → result ≡ code_of s → Explained serves s met
     → Ends serves result met
@@ -206,8 +242,10 @@ ends serves law result s met same code h = record {
   code = code;
   explained = h.1;
   events = λ o bytes setup asked input is none. plays_events law o bytes setup h.0 is none;
-  exact = subst (λ n. IfSome met.input (λ bytes. Settles met.rack (reached_by (asked_in met.words) bytes) → EndsAs n met bytes h.0)) (sym code)
+  load_events = λ l asked. loads_events law l h.0.fates;
+  exact = subst (λ n. IfSome met.input (λ bytes. ReadsInput (asked_in met.words) → Settles met.rack (reached_by (asked_in met.words) bytes) → EndsAs n met bytes h.0)) (sym code)
       (exact_if serves s met h.0 met.input same refl h.1);
+  exact_load = λ l asked t. subst (λ n. EndsAsLoad n met l h.0) (sym code) (load_exact serves l s met h.0 asked t h.1);
 }
 
 -- ---- lawful inputs
@@ -221,6 +259,11 @@ abbrev IsFine : Command → Parsed → Chances → Type 0
 IsFine asked setup chances =
     ((written asked (Ok setup) chances).status ≡ 0) ⊎ ((written asked (Ok setup) chances).status ≡ 4)
 
+-- where no shelf is shut a measured run is told
+opens_fine : (l : LoadOptions) (chances : Chances) → first_unfit unfit_new 0 chances.disks ≡ None → (loaded l chances).status ≡ 0
+opens_fine l chances none =
+    ap (λ f. (unless_shut f (record { text = line_for most_steps (run_loaded l chances.fates).told; error = []; status = 0 })).status) none
+
 setup_status : (asked : Command) (setup : Parsed) (chances : Chances) (rack : Racks) → JournalsOpen asked setup.scripts rack
     → TakesDisks rack (Some (asked, setup)) chances.disks → IsFine asked setup chances
 setup_status Check setup chances rack opens taken = inl refl
@@ -233,6 +276,7 @@ setup_status (Serve v) setup chances rack opens taken =
     subst (λ f. ((unless_shut f (record { text = []; error = []; status = 0 })).status ≡ 0)
     ⊎ ((unless_shut f (record { text = []; error = []; status = 0 })).status ≡ 4))
     (sym (fit_opens (unfit_left setup.scripts) rack.before.holds 0 chances.disks opens.1 taken.held)) (inl refl)
+setup_status (Load l) setup chances rack opens taken = inl (opens_fine l chances (fit_opens unfit_new rack.before.holds 0 chances.disks opens.1 taken.held))
 
 not_3 : (n : ℕ) → (n ≡ 0) ⊎ (n ≡ 4) → n ≡ 3 → ⊥
 not_3 n (inl e) h = omega arith
@@ -264,6 +308,7 @@ open_settles asked met bytes l opens =
     tells Check setup h = tt
     tells (Play o) setup h = h.0
     tells (Serve v) setup h = h.0
+    tells (Load l) setup h = h.0
 
 asked_complete : (asked : Command) (s : Status) (met : Met) (bytes : List ℕ) (chances : Chances) → met.input ≡ Some bytes → (l : IsLawful asked bytes)
     → JournalsOpen asked l.setup.scripts met.rack → (Rose met.input_before met.input_after → ⊥) → (Rose met.output.before met.output.after → ⊥)
@@ -345,6 +390,25 @@ check_complete status.Journal met bytes chances e l read write h =
 check_complete status.Door met bytes chances e l read write h = absurd h
 check_complete status.Key met bytes chances e l read write h = absurd h
 
+-- a measured run on disks that hold nothing
+loading_complete : (l : LoadOptions) (s : Status) (met : Met) (chances : Chances) → IsTrue met.rack.tells × AreFit unfit_new met.rack.before.holds
+    → (Rose met.output.before met.output.after → ⊥) → (RackFailed met.rack → ⊥) → ComesLoading l chances s met → (code_of s ≡ 0) ⊎ (code_of s ≡ 10)
+loading_complete l status.Done met chances opens write well h = inl refl
+loading_complete l status.Write met chances opens write well h = absurd (write h.1.0)
+loading_complete l status.Disk met chances opens write well h = absurd (well h.1.0)
+loading_complete l status.Journal met chances opens write well h =
+    let g = h.1 opens.0 in
+    let fine = opens_fine l chances (fit_opens unfit_new met.rack.before.holds 0 chances.disks opens.1 g.taken.held) in
+    absurd (omega (arith, fine, g.answered.0))
+loading_complete l status.Memory met chances opens write well h = inr refl
+loading_complete l _ met chances opens write well h = absurd h.1
+
+pub load_complete : (serves : Serves) (s : Status) (met : Met) (l : LoadOptions) → asked_in met.words ≡ Some (Load l) → JournalsOpen (Load l) [] met.rack
+    → (Rose met.output.before met.output.after → ⊥) → GoesWell (Load l) met → (chances : Chances) → Explains serves s chances met
+    → EndsWell (Load l) (code_of s)
+load_complete serves s met l is opens write well chances h =
+    ⊎_elim (λ came. loading_complete l s met chances opens write well came) (λ memory. inr memory) (load_came serves l s met chances is h)
+
 complete_to : (serves : Serves) (asked : Command) (s : Status) (met : Met) (bytes : List ℕ) (chances : Chances) → serves.rack ≡ met.rack → met.input ≡ Some bytes
     → (l : IsLawful asked bytes) → JournalsOpen asked l.setup.scripts met.rack → (Rose met.input_before met.input_after → ⊥)
     → (Rose met.output.before met.output.after → ⊥) → GoesWell asked met → ComesTo serves asked chances s met → EndsWell asked (code_of s)
@@ -352,19 +416,13 @@ complete_to serves Check s met bytes chances same e l opens read write well h = 
 complete_to serves (Play o) s met bytes chances same e l opens read write well h = asked_complete (Play o) s met bytes chances e l opens read write well h
 complete_to serves (Serve v) s met bytes chances same e l opens read write well h =
     serving_complete serves v s met bytes chances same e l opens read write well h
+complete_to serves (Load o) s met bytes chances same e l opens read write well h = loading_complete o s met chances opens write well h
 
 memory_ends : (asked : Command) (n : ℕ) → n ≡ 10 → EndsWell asked n
 memory_ends Check n e = inr e
 memory_ends (Play o) n e = inr (inr e)
 memory_ends (Serve v) n e = inr e
-
-refused_complete : (s : Status) (met : Met) (asked : Command) → asked_in met.words ≡ Some asked → Refuses (asked_in met.words) s met → code_of s ≡ 10
-refused_complete status.Usage met asked is h = absurd (let no : None ≡ Some asked = sym h.0 ∙ is in cc)
-refused_complete status.Memory met asked is h = refl
-refused_complete s met asked is h = absurd h
-
-same_asked : (o : Option Command) (a b : Command) → o ≡ Some a → o ≡ Some b → a ≡ b
-same_asked o a b e f = cc
+memory_ends (Load l) n e = inr e
 
 -- what was asked for is what is lawful
 record IsLawfulFor (asked : Command) (met : Met) (bytes : List ℕ) : Type 0 where
@@ -388,16 +446,19 @@ door_of : (serves : Serves) (asked : Command) (chances : Chances) (met : Met) �
 door_of serves Check chances met h = absurd h
 door_of serves (Play o) chances met h = absurd h
 door_of serves (Serve v) chances met h = h.1
+door_of serves (Load l) chances met h = absurd h.1
 
 key_of : (serves : Serves) (asked : Command) (chances : Chances) (met : Met) → ComesTo serves asked chances status.Key met → HaveRisen met.seeds
 key_of serves Check chances met h = absurd h
 key_of serves (Play o) chances met h = absurd h
 key_of serves (Serve v) chances met h = h.1
+key_of serves (Load l) chances met h = absurd h.1
 
 disk_of : (serves : Serves) (asked : Command) (chances : Chances) (met : Met) → ComesTo serves asked chances status.Disk met → RackFailed met.rack
 disk_of serves Check chances met h = h.1
 disk_of serves (Play o) chances met h = h.1
 disk_of serves (Serve v) chances met h = h.1
+disk_of serves (Load l) chances met h = h.1.0
 
 is_door : (s : Status) → code_of s ≡ 9 → s ≡ status.Door
 is_door s e = grind (arith, e)

@@ -6,7 +6,7 @@ use Rattle.web_outside.specs.Causes.{Rose}
 use Rattle.web_outside.specs.Pieces.{AppendsUnlessFault}
 use Rattle.web_outside.proofs.Writes.{appends_none, appends_then, appends_kept}
 use Rattle.command_words.specs.declared.Command.{Command}
-use Rattle.command_words.specs.declared.Command.TheVariants.{Check, Play, Serve}
+use Rattle.command_words.specs.declared.Command.TheVariants.{Check, Play, Serve, Load}
 use Rattle.script_nodes.specs.Setup.{Named}
 use Rattle.setup_reader.specs.declared.setup.Ending.TheVariants.{Input}
 use Rattle.setup_reader.specs.Setup.{Parsed, Fault, setup_of}
@@ -15,7 +15,7 @@ use Rattle.server_command.specs.declared.program.Status.{Status}
 use Rattle.server_command.specs.declared.program.Status.TheVariants as status
 use Rattle.server_command.specs.Racks.{Racks}
 use Rattle.server_command.specs.Output.{Chances, Sinks, output_of, counted, told_scripts, ending_of, faulty, sinks, Tells, Answers, BreaksOff, nothing}
-use Rattle.server_command.specs.Command.{Counts, Known, Outputs, StandFor, TakesDisks, TellsFaultLine, with_setup}
+use Rattle.server_command.specs.Command.{Counts, Known, Outputs, ReadsInput, StandFor, TakesDisks, TellsFaultLine, with_setup}
 
 -- what was read to its end is the input
 pub whole_input : (left rest : Option (List ℕ)) (bytes : List ℕ) (P : List ℕ → Type 0)
@@ -100,16 +100,17 @@ whole_text rack asked bytes chances s old new before mid after whole le (inr e) 
     (chances, (rose_since before mid after le e.1, λ settles. (let w = whole settles in inr (w.status, w.text))))
 
 -- a setup that has a fault is all that is told
-pub faulty_output : (asked : Command) (bytes : List ℕ) (chances : Chances) (e : Fault) → setup_of (ending_of asked) bytes ≡ Err e
+pub faulty_output : (asked : Command) → ReadsInput (Some asked) → (bytes : List ℕ) (chances : Chances) (e : Fault) → setup_of (ending_of asked) bytes ≡ Err e
     → output_of asked bytes chances ≡ faulty e
-faulty_output Check bytes chances e h = rw h refl
-faulty_output (Play o) bytes chances e h = rw h refl
-faulty_output (Serve v) bytes chances e h = rw h refl
+faulty_output Check reads bytes chances e h = rw h refl
+faulty_output (Play o) reads bytes chances e h = rw h refl
+faulty_output (Serve v) reads bytes chances e h = rw h refl
+faulty_output (Load l) reads bytes chances e h = absurd reads
 
-fault_tells : (rack : Racks) (asked : Command) (bytes : List ℕ) (e : Fault) (out : Sinks) → setup_of (ending_of asked) bytes ≡ Err e
+fault_tells : (rack : Racks) (asked : Command) → ReadsInput (Some asked) → (bytes : List ℕ) (e : Fault) (out : Sinks) → setup_of (ending_of asked) bytes ≡ Err e
     → AppendsUnlessFault out.held out.holds (fault_line e) out.before out.after → Outputs rack asked bytes status.Setup out
-fault_tells rack asked bytes e out h p =
-    let is = faulty_output asked bytes no_chances e h in
+fault_tells rack asked reads bytes e out h p =
+    let is = faulty_output asked reads bytes no_chances e h in
     let told = tells out.held out.held out.holds [] (fault_line e) out.before out.after (appends_none out.held) p in (
       no_chances,
       record {
@@ -118,12 +119,12 @@ fault_tells rack asked bytes e out h p =
       },
     )
 
-pub fault_outputs : (rack : Racks) (asked : Command) (bytes : List ℕ) (e : Fault) (s : Status) (out : Sinks) → setup_of (ending_of asked) bytes ≡ Err e
+pub fault_outputs : (rack : Racks) (asked : Command) → ReadsInput (Some asked) → (bytes : List ℕ) (e : Fault) (s : Status) (out : Sinks) → setup_of (ending_of asked) bytes ≡ Err e
     → TellsFaultLine e s out → Outputs rack asked bytes s out
-fault_outputs rack asked bytes e status.Setup out h p = fault_tells rack asked bytes e out h p
-fault_outputs rack asked bytes e status.Memory out h p =
+fault_outputs rack asked reads bytes e status.Setup out h p = fault_tells rack asked reads bytes e out h p
+fault_outputs rack asked reads bytes e status.Memory out h p =
     early rack asked bytes status.Memory out.held out.holds out.before out.after refl p
-fault_outputs rack asked bytes e s out h p = absurd p
+fault_outputs rack asked reads bytes e s out h p = absurd p
 
 -- the number of the scripts is all that is told
 pub counts_outputs : (rack : Racks) (bytes : List ℕ) (setup : Parsed) (s : Status) (out : Sinks) → setup_of Input bytes ≡ Ok setup → Counts setup.scripts s out

@@ -6,7 +6,8 @@ pub mod Dues
 pub mod Servings
 pub mod Openings
 pub mod Shelves
-pub mod Beginning
+pub mod Giving
 pub mod Short
 pub mod Opened
 pub mod Runs
+pub mod Loads

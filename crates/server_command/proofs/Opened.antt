@@ -24,10 +24,10 @@ use Rattle.server_command.proofs.Playing.{IsFull, Lost, full_outputs, lost_outpu
 pub tells_crashes : (b : Bool) (steps : List (Option Step)) → IsTrue b → is_told b steps ≡ true
 tells_crashes b steps t = rw t refl
 
-same_line : (a b : List ℕ) → Some a ≡ Some b → a ≡ b
+pub same_line : (a b : List ℕ) → Some a ≡ Some b → a ≡ b
 same_line a b e = cc
 
-is_full : (rack : Racks) (o : Options) (shelf : ℕ) → (shelf < o.shelves) × IsNotEmpty rack.before.holds shelf → IsFull rack o shelf
+pub is_full : (rack : Racks) (o : Options) (shelf : ℕ) → (shelf < o.shelves) × IsNotEmpty rack.before.holds shelf → IsFull rack o shelf
 is_full rack o shelf h = by_image h.1.image h.1.held h.1.some
   where
     by_image : (image : List ℕ) → rack.before.holds shelf image → image ≢ [] → IsFull rack o shelf

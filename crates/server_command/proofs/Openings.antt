@@ -4,10 +4,10 @@ use Rattle.std.specs.Prelude.{min, ◌&&◌}
 use Rattle.std.proofs.lemmas.Bool.{and_parts}
 use Rattle.std.proofs.lemmas.List.{length-append}
 use Rattle.web_outside.specs.Causes.{Rose}
-use Rattle.web_disk.specs.View.{RackView, AreAmong}
+use Rattle.web_disk.specs.View.{View, RackView, AreAmong}
 use Rattle.script_nodes.specs.Setup.{Named}
 use Rattle.server_command.specs.Racks.{KeepsHome, damaged, other, first_unfit, unfit_left}
-use Rattle.server_command.specs.Opening.{HasTaken, IsRefused, IsRefusedAt, IsUntaken, TakesBack}
+use Rattle.server_command.specs.Opening.{HasTaken, IsRefused, IsUntaken, TakesBack, seen_on}
 use Rattle.server_command.specs.declared.opening.Unopened.{Unopened}
 use Rattle.server_command.specs.declared.opening.Unopened.TheVariants as unopened
 use Rattle.server_command.proofs.Racks.{held_more, unfit_behind}
@@ -19,13 +19,6 @@ pub record Gives (before after : RackView) (number faults : ℕ) : Type 0 where
   pub home : after.out number ≡ false
   pub others_out : (n : ℕ) → n ≢ number → after.out n ≡ before.out n
   pub counts : after.faults ≡ min (before.faults + faults) (2 ^ 64 - 1)
-
--- the numbers from the first one up to this are home
-pub record GivesUpTo (before now : RackView) (first number : ℕ) : Type 0 where
-  pub home : KeepsHome before now
-  pub back : (k : ℕ) → first ≤ k → k < number → now.out k ≡ false
-  pub later : before.faults ≤ now.faults
-  pub low : now.faults ≤ 2 ^ 64 - 1
 
 pub same_or_not : (m n : ℕ) → (m ≡ n) ⊎ (m ≢ n)
 same_or_not zero zero = inl refl
@@ -39,38 +32,6 @@ keeps_home before now after number faults kept g k home =
       | inl e ↦ subst (λ n. after.out n ≡ false) (sym e) g.home
       | inr d ↦ g.others_out k d ∙ kept k home
     ]
-
-pub gives_one : (before after : RackView) (number faults : ℕ) → before.faults ≤ 2 ^ 64 - 1 → Gives before after number faults → TakesBack before after number 1
-gives_one before after number faults low g = record {
-  home = keeps_home before before after number faults (λ k home. home) g;
-  back = λ k above below. subst (λ n. after.out n ≡ false) (omega (arith, above, below)) g.home;
-  later = omega (arith, g.counts, low);
-}
-
-pub gives_first : (before : RackView) (first : ℕ) → before.faults ≤ 2 ^ 64 - 1 → GivesUpTo before before first first
-gives_first before first low = record {
-  home = λ k home. home;
-  back = λ k above below. absurd (omega (arith, above, below));
-  later = omega arith;
-  low = low;
-}
-
-pub gives_next : (before now after : RackView) (first number faults : ℕ) → first ≤ number → GivesUpTo before now first number → Gives now after number faults
-    → GivesUpTo before after first (number + 1)
-gives_next before now after first number faults le p g = record {
-  home = keeps_home before now after number faults p.home g;
-  back = λ k above below. elim (same_or_not k number) [
-    | inl e ↦ subst (λ n. after.out n ≡ false) (sym e) g.home
-    | inr d ↦ g.others_out k d ∙ p.back k above (omega (arith, d, below))
-  ];
-  later = omega (arith, p.later, p.low, g.counts);
-  low = omega (arith, g.counts);
-}
-
-pub gives_all : (before after : RackView) (first count : ℕ) → GivesUpTo before after first (first + count) → TakesBack before after first count
-gives_all before after first count p = record { home = p.home; back = p.back; later = p.later }
-
--- ---- the same from the last down to the first
 
 -- the numbers from this one up to the count are home, and those below it as they were
 pub record GivesDownTo (before now : RackView) (number count : ℕ) : Type 0 where
@@ -138,18 +99,6 @@ refused_since told before mid after scripts images (unopened.Damaged shelf place
 refused_since told before mid after scripts images (unopened.Other shelf place) le h = h
 refused_since told before mid after scripts images unopened.Memory le h = tt
 
--- a shelf that is refused behind others that were opened
-pub refused_behind : (told : Type 0) (before mid after : ℕ) (scripts : List Named) (front rest : List (List ℕ)) (image : List ℕ) (n : ℕ) (why : Unopened)
-    → length front ≡ n → mid ≤ after → (told → first_unfit (unfit_left scripts) 0 front ≡ None)
-    → IsRefusedAt told (Rose before mid) scripts n image why → IsRefused told (Rose before after) scripts (front ++ image ∷ rest) why
-refused_behind told before mid after scripts front rest image n (unopened.Disk shelf) count le fit h = omega (arith, le, h)
-refused_behind told before mid after scripts front rest image n (unopened.NotEmpty shelf) count le fit h = h
-refused_behind told before mid after scripts front rest image n (unopened.Damaged shelf place) count le fit h = λ t.
-    unfit_behind (unfit_left scripts) 0 n front rest image (damaged place) (omega (arith, count)) (fit t) (h.1 t) ∙ ap (λ k. Some (k, damaged place)) (sym h.0)
-refused_behind told before mid after scripts front rest image n (unopened.Other shelf place) count le fit h = λ t.
-    unfit_behind (unfit_left scripts) 0 n front rest image (other place) (omega (arith, count)) (fit t) (h.1 t) ∙ ap (λ k. Some (k, other place)) (sym h.0)
-refused_behind told before mid after scripts front rest image n unopened.Memory count le fit h = tt
-
 below_or_not : (k n : ℕ) → (k < n) ⊎ (n ≤ k)
 below_or_not zero zero = inr (omega arith)
 below_or_not zero (suc n) = inl (omega arith)
@@ -213,6 +162,14 @@ takes_next told before now after number images image p one here = record {
   home = λ n le. one.others_out n (λ e. omega (arith, e, le)) ∙ p.home n (omega (arith, le));
 }
 
+pub seen_more : {D : Type 0} (view : D → View) (front : List D) (disk : D) → seen_on view (front ++ disk ∷ []) ≡ seen_on view front ++ (view disk).seen ∷ []
+seen_more view [] disk = refl
+seen_more view (d ∷ front) disk = ap (λ xs. (view d).seen ∷ xs) (seen_more view front disk)
+
+pub seen_size : {D : Type 0} (view : D → View) (front : List D) → length (seen_on view front) ≡ length front
+seen_size view [] = refl
+seen_size view (d ∷ front) = ap suc (seen_size view front)
+
 -- disks that were taken came home, where one of them was not taken
 pub some_home : (told : Type 0) (before mid after last : RackView) (count : ℕ) (images : List (List ℕ)) → TakesUpTo told before mid count images
     → ((n : ℕ) → after.out n ≡ mid.out n) → TakesBack after last 0 count → KeepsHome before last
@@ -225,18 +182,3 @@ some_home told before mid after last count images p same back k home =
 -- both the rack and its disks tell
 pub both_tell : (a b : Bool) → IsTrue (a && b) → IsTrue a × IsTrue b
 both_tell a b h = and_parts a b h
-
--- a shelf's disk, those behind it and those before it came home
-pub back_all : (first second third last : RackView) (n rest total : ℕ) → TakesBack first second n 1 → TakesBack second third (n + 1) rest → TakesBack third last 0 n
-    → n + 1 + rest ≡ total → TakesBack first last 0 total
-back_all first second third last n rest total one behind before is = record {
-  home = λ k home. before.home k (behind.home k (one.home k home));
-  back = λ k above below. elim (below_or_not k n) [
-    | inl low ↦ before.back k (omega arith) (omega (arith, low))
-    | inr high ↦ before.home k (elim (same_or_not k n) [
-      | inl e ↦ behind.home k (one.back k (omega (arith, e)) (omega (arith, e)))
-      | inr d ↦ behind.back k (omega (arith, high, d)) (omega (arith, below, is))
-    ])
-  ];
-  later = omega (arith, one.later, behind.later, before.later);
-}

@@ -30,7 +30,7 @@ use Rattle.server_command.specs.declared.program.Status.TheVariants as status
 use Rattle.server_command.proofs.Endings.{IsWhole, no_chances, whole_text, tells, since}
 
 -- what is there where this holds, and something else where not
-decided : {X : Type 0} (b : Bool) (P : X → Type 0) → X → (IsTrue b → (x : X) × P x) → (x : X) × (IsTrue b → P x)
+pub decided : {X : Type 0} (b : Bool) (P : X → Type 0) → X → (IsTrue b → (x : X) × P x) → (x : X) × (IsTrue b → P x)
 decided true P x f = let y = f refl in (y.0, λ t. y.1)
 decided false P x f = (x, λ t. absurd (let no : ⊥ = cc in no))
 
@@ -50,10 +50,10 @@ pub record Begins (rack : Racks) (o : Options) (scripts : List Named) (d : Desk)
   pub empty : (k : ℕ) → k < o.shelves → rack.before.holds k []
 
 -- its chances, by the fates of its events
-abbrev chances_of : Options → List Fate → Chances
+abbrev pub chances_of : Options → List Fate → Chances
 chances_of o fates = record { disks = replicate o.shelves []; fates = fates }
 
-none_unfit : (n k : ℕ) → first_unfit unfit_new k (replicate n []) ≡ None
+pub none_unfit : (n k : ℕ) → first_unfit unfit_new k (replicate n []) ≡ None
 none_unfit zero k = refl
 none_unfit (suc n) k = none_unfit n (k + 1)
 
@@ -65,7 +65,7 @@ so_many : (n : ℕ) (x : List ℕ) → length (replicate n x) ≡ n
 so_many zero x = refl
 so_many (suc n) x = ap suc (so_many n x)
 
-are_taken : (rack : Racks) (o : Options) (scripts : List Named) (d : Desk) → Begins rack o scripts d
+pub are_taken : (rack : Racks) (o : Options) (scripts : List Named) (d : Desk) → Begins rack o scripts d
     → AreTaken unfit_new rack.before.holds o.shelves (replicate o.shelves [])
 are_taken rack o scripts d b = record {
   held = all_held rack.before.holds o.shelves 0 o.shelves (omega arith) b.empty;
@@ -312,11 +312,11 @@ pub record IsFull (rack : Racks) (o : Options) (shelf : ℕ) : Type 0 where
 full_chances : (rack : Racks) (o : Options) (shelf : ℕ) → IsFull rack o shelf → Chances
 full_chances rack o shelf p = record { disks = replicate shelf [] ++ (p.byte ∷ p.bytes) ∷ []; fates = [] }
 
-full_unfit : (n k : ℕ) (b : ℕ) (bs : List ℕ) (m : ℕ) → k + n ≡ m → first_unfit unfit_new k (replicate n [] ++ (b ∷ bs) ∷ []) ≡ Some (m, not_empty)
+pub full_unfit : (n k : ℕ) (b : ℕ) (bs : List ℕ) (m : ℕ) → k + n ≡ m → first_unfit unfit_new k (replicate n [] ++ (b ∷ bs) ∷ []) ≡ Some (m, not_empty)
 full_unfit zero k b bs m is = let same : k ≡ m = omega (arith, is) in ap (λ j. Some (j, not_empty)) same
 full_unfit (suc n) k b bs m is = full_unfit n (k + 1) b bs m (omega (arith, is))
 
-full_held : (holds : ℕ → List ℕ → Type 0) (n k : ℕ) (image : List ℕ) (m : ℕ) → k + n ≡ m → ((j : ℕ) → j < m → holds j []) → holds m image
+pub full_held : (holds : ℕ → List ℕ → Type 0) (n k : ℕ) (image : List ℕ) (m : ℕ) → k + n ≡ m → ((j : ℕ) → j < m → holds j []) → holds m image
     → AreHeld holds k (replicate n [] ++ image ∷ [])
 full_held holds zero k image m is each here = (subst (λ j. holds j image) (sym (let same : k ≡ m = omega (arith, is) in same)) here, tt)
 full_held holds (suc n) k image m is each here =

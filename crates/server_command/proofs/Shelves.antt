@@ -1,249 +1,161 @@
--- Lists of shelves: opened one behind the other, visited at a place, swept in order, closed from the last to the first.
-use Rattle.std.proofs.Common.{◌≡◌, ◌≢◌, ◌<◌, ◌≤◌, ◌+◌, ◌++◌, ◌∷◌, ◌∙◌, ◌⊎◌, inl, inr, ℕ, zero, suc, List, [], length, Bool, true, IsTrue, Some, None, Result, refl, sym, ap, subst, arith}
-use Rattle.std.specs.Prelude.{slice_get, slice_set, slice_index_or}
-use Rattle.std.proofs.lemmas.List.{length-set, length-append}
-use Rattle.std.proofs.lemmas.Option.{slice_get_within}
-use Rattle.web_disk.specs.View.{View, RackView, AreAmong}
-use Rattle.script_value.specs.Val.{Val}
-use Rattle.script_value.specs.declared.outcome.Reply.{Reply}
-use Rattle.page_names.specs.Names.{Destination}
+-- The shelves of a site: opened one behind the other, and standing when they were given back.
+use Rattle.std.proofs.Common.{◌≡◌, ◌≢◌, ◌<◌, ◌≤◌, ◌+◌, ◌++◌, ◌∷◌, ◌∙◌, ℕ, zero, suc, List, [], length, Bool, IsTrue, Option, Some, None, refl, sym, ap, subst, arith}
+use Rattle.std.specs.Prelude.{slice_get}
+use Rattle.lock_row.specs.Spots.{Home}
+use Rattle.web_outside.specs.Causes.{Rose}
+use Rattle.web_disk.specs.View.{View, AreAmong}
 use Rattle.script_nodes.specs.Setup.{Named}
+use Rattle.script_nodes.specs.Views.{scripts_of}
+use Rattle.script_nodes.specs.declared.setup.Setup.{Setup}
 use Rattle.replay_spec.specs.Book.{Book}
-use Rattle.replay_spec.specs.Rules.{Rules}
+use Rattle.replay_spec.specs.Rules as spec
+use Rattle.journal_books.specs.Making.{book_in_bytes}
 use Rattle.journal_books.specs.Standing.{Stands}
-use Rattle.shelf.specs.declared.shelf.Shelf.{Shelf}
-use Rattle.shelf.specs.Views.{book_in, IsInOrder}
-use Rattle.server_command.specs.Racks.{StandsAt, first_unfit, unfit_left}
-use Rattle.server_command.specs.Serial.{AreInOrder, AreSwept, IsDone, IsSwept, Visited, VisitsOne, shelf_at, there}
-use Rattle.server_command.specs.Serving.{AreOpened, IsOpened}
-use Rattle.server_command.specs.Opening.{AreOut}
+use Rattle.lock_row.proofs.Places.{get_there}
+use Rattle.shelf.specs.declared.begin.BeginFault.{BeginFault}
+use Rattle.shelf.specs.declared.begin.BeginFault.TheVariants as fault
+use Rattle.shelf.specs.Opening.{IsFaultOf, MakesBook}
+use Rattle.shelf.specs.Views.{book_in, rules_of}
+use Rattle.shelf.specs.declared.rules.Rules.{Rules}
+use Rattle.site.specs.declared.entry.KeptEntry.{KeptEntry}
+use Rattle.site.specs.declared.opening.Opening.{Opening}
+use Rattle.site.specs.declared.fault.SiteFault.{SiteFault}
+use Rattle.site.specs.Beginnings.{IsBegunAt, IsNotBegun}
+use Rattle.site.specs.Beginnings as site
+use Rattle.site.specs.Entries.{entries_of}
+use Rattle.site.specs.Openings.{book_then}
+use Rattle.site_serving.specs.Serving.{AreEnded, openings_of}
+use Rattle.command_words.specs.declared.Options.{Options}
+use Rattle.server_command.specs.Opening.{AreAsked, IsRefused, seen_on, unopened_by}
+use Rattle.server_command.specs.Output.{rules_for}
+use Rattle.server_command.specs.Racks.{StandsAt, Unfit, found_unfit, first_unfit, unfit_left, unfit_making, damaged, other}
+use Rattle.server_command.specs.Serving.{AllStand, AreOpened, IsOpened}
 use Rattle.server_command.proofs.Racks.{made_fits}
-use Rattle.server_command.proofs.Openings.{Gives, GivesDownTo, gives_before, same_or_not}
 
 same_some : {A : Type 0} (x y : A) → Some x ≡ Some y → x ≡ y
 same_some x y e = cc
 
--- what stands at a place of a list that has one more
-at_more : {A : Type 0} (xs : List A) (x y : A) (k : ℕ) → slice_get (xs ++ x ∷ []) k ≡ Some y → (slice_get xs k ≡ Some y) ⊎ ((k ≡ length xs) × (x ≡ y))
-at_more [] x y zero e = inr (refl, same_some x y e)
-at_more [] x y (suc k) e = absurd (let no : None ≡ Some y = e in cc)
-at_more (z ∷ xs) x y zero e = inl e
-at_more (z ∷ xs) x y (suc k) e = elim (at_more xs x y k e) [ inl h ↦ inl h | inr h ↦ inr (ap suc h.0, h.1) ]
-
-pub last_is : {A : Type 0} (xs ys : List A) (x : A) → slice_get (xs ++ x ∷ ys) (length xs) ≡ Some x
-last_is [] ys x = refl
-last_is (z ∷ xs) ys x = last_is xs ys x
-
--- and at a place of a list of which one was changed
-at_changed : {A : Type 0} (xs : List A) (k j : ℕ) (x y : A) → slice_get (slice_set xs k x) j ≡ Some y
-    → ((j ≡ k) × (x ≡ y)) ⊎ ((j ≢ k) × (slice_get xs j ≡ Some y))
-at_changed [] k j x y e = absurd (let no : None ≡ Some y = e in cc)
-at_changed (z ∷ xs) zero zero x y e = inl (refl, same_some x y e)
-at_changed (z ∷ xs) zero (suc j) x y e = inr ((λ h. omega arith), e)
-at_changed (z ∷ xs) (suc k) zero x y e = inr ((λ h. omega arith), e)
-at_changed (z ∷ xs) (suc k) (suc j) x y e = elim (at_changed xs k j x y e) [ inl h ↦ inl (ap suc h.0, h.1) | inr h ↦ inr ((λ s. h.0 (omega (arith, s))), h.1) ]
-
--- and at another place
-set_other : {A : Type 0} (xs : List A) (k j : ℕ) (x : A) → j ≢ k → slice_get (slice_set xs k x) j ≡ slice_get xs j
-set_other [] k j x other = refl
-set_other (z ∷ xs) zero zero x other = absurd (other refl)
-set_other (z ∷ xs) zero (suc j) x other = refl
-set_other (z ∷ xs) (suc k) zero x other = refl
-set_other (z ∷ xs) (suc k) (suc j) x other = set_other xs k j x (λ e. other (ap suc e))
-
--- what an index gives
-pub at_index : {A : Type 0} (xs : List A) (k : ℕ) (x : A) → k < length xs → x ≡ slice_index_or xs k x → slice_get xs k ≡ Some x
-at_index [] k x low is = absurd (omega (arith, low))
-at_index (z ∷ xs) zero x low is = ap Some (sym is)
-at_index (z ∷ xs) (suc k) x low is = at_index xs k x (omega (arith, low)) is
-
-pub at_index_or : {A : Type 0} (xs : List A) (k : ℕ) (d : A) → k < length xs → slice_get xs k ≡ Some (slice_index_or xs k d)
-at_index_or [] k d low = absurd (omega (arith, low))
-at_index_or (z ∷ xs) zero d low = refl
-at_index_or (z ∷ xs) (suc k) d low = at_index_or xs k d (omega (arith, low))
-
 -- ---- opened
 
-pub opened_more : {D N : Type 0} (told : Type 0) (nonce : N → ℕ → ℕ) (rules : ℕ → Rules) (scripts : List Named) (k n : ℕ) (images : List (List ℕ)) (sources : List N)
-    (shelves : List (Shelf D N)) (image : List ℕ) (source : N) (s : Shelf D N) → k + length images ≡ n → AreOpened told nonce rules scripts k images sources shelves
-    → IsOpened told nonce (rules n) scripts n image source s → AreOpened told nonce rules scripts k (images ++ image ∷ []) (sources ++ source ∷ []) (shelves ++ s ∷ [])
-opened_more told nonce rules scripts k n [] [] [] image source s is opened here =
-    (subst (λ m. IsOpened told nonce (rules m) scripts m image source s) (omega (arith, is)) here, tt)
-opened_more told nonce rules scripts k n (i ∷ images) (z ∷ sources) (x ∷ shelves) image source s is opened here =
-    (opened.0, opened_more told nonce rules scripts (k + 1) n images sources shelves image source s (omega (arith, is)) opened.1 here)
-opened_more told nonce rules scripts k n [] [] (x ∷ shelves) image source s is opened here = absurd opened
-opened_more told nonce rules scripts k n [] (z ∷ sources) shelves image source s is opened here = absurd opened
-opened_more told nonce rules scripts k n (i ∷ images) [] shelves image source s is opened here = absurd opened
-opened_more told nonce rules scripts k n (i ∷ images) (z ∷ sources) [] image source s is opened here = absurd opened
+-- the limits that were asked for, with the number of a shelf
+asked_rules : (o : Options) (r : Rules) (k : ℕ) (scripts : List Named) → AreAsked o r → rules_of scripts (site.rules_for r k) ≡ rules_for o k scripts
+asked_rules o r k scripts a = λ at. record (rules_for o k scripts) { fuel = a.fuel at; life = a.life at; instances = a.instances at; pages = a.pages at }
+
+module _ {D N : Type 0} (view : D → View) (tells : Bool) (told : Type 0) (nonce : N → ℕ → ℕ) (o : Options) (setup : Setup) (rules : Rules) where
+  opened_one : (k : ℕ) (d : D) (n : N) (h : Home (Opening D N)) → (told → IsTrue tells) → AreAsked o rules → (b : IsBegunAt view tells setup rules k d n h)
+      → IsOpened told nonce (rules_for o k (scripts_of setup)) (scripts_of setup) k (view d).seen n b.opening
+  opened_one k d n h knows asked b = record {
+    setup = ap scripts_of b.setup_is;
+    limits = ap (rules_of (scripts_of setup)) b.shelf.rules_are ∙ asked_rules o rules k (scripts_of setup) asked;
+    number = ap (λ (r : Rules). r.number) b.shelf.rules_are;
+    book = λ t. b.shelf.book (knows t);
+    opened = b.shelf.opened;
+    stream = λ j. ap (λ (x : N). nonce x j) b.shelf.nonces_are ∙ ap (nonce n) (let same : j ≡ 0 + j = omega arith in same);
+  }
+
+  -- the shelves of a site that was begun, from this number on
+  pub opened_from : (k : ℕ) (disks : List D) (nonces : List N) (homes : List (Home (Opening D N))) → length nonces ≡ length disks → length homes ≡ length disks
+      → (told → IsTrue tells) → AreAsked o rules
+      → ((i j : ℕ) (d : D) (n : N) (h : Home (Opening D N)) → j ≡ k + i → slice_get disks i ≡ Some d → slice_get nonces i ≡ Some n → slice_get homes i ≡ Some h
+      → IsBegunAt view tells setup rules j d n h)
+      → AreOpened told nonce (λ j. rules_for o j (scripts_of setup)) (scripts_of setup) k (seen_on view disks) nonces (openings_of homes)
+  opened_from k [] [] [] ns hs knows asked each = tt
+  opened_from k [] (n ∷ nonces) homes ns hs knows asked each = absurd (omega (arith, ns))
+  opened_from k [] [] (h ∷ homes) ns hs knows asked each = absurd (omega (arith, hs))
+  opened_from k (d ∷ disks) [] homes ns hs knows asked each = absurd (omega (arith, ns))
+  opened_from k (d ∷ disks) (n ∷ nonces) [] ns hs knows asked each = absurd (omega (arith, hs))
+  opened_from k (d ∷ disks) (n ∷ nonces) (h ∷ homes) ns hs knows asked each =
+      let b = each 0 k d n h (omega arith) refl refl refl in
+      let rest = opened_from (k + 1) disks nonces homes (omega (arith, ns)) (omega (arith, hs)) knows asked
+      (λ i j x y z is a b c. each (suc i) j x y z (omega (arith, is)) a b c) in
+      subst (λ os. AreOpened told nonce (λ j. rules_for o j (scripts_of setup)) (scripts_of setup) k (seen_on view (d ∷ disks)) (n ∷ nonces) (os ++ openings_of homes))
+      (sym b.opening_is) (opened_one k d n h knows asked b, rest)
 
 -- each disk of a shelf that was opened is fit
-pub opened_fits : {D N : Type 0} (told : Type 0) (nonce : N → ℕ → ℕ) (rules : ℕ → Rules) (scripts : List Named) (k : ℕ) (images : List (List ℕ)) (sources : List N)
-    (shelves : List (Shelf D N)) → AreOpened told nonce rules scripts k images sources shelves → told → first_unfit (unfit_left scripts) k images ≡ None
-opened_fits told nonce rules scripts k [] sources shelves opened t = refl
-opened_fits told nonce rules scripts k (i ∷ images) (z ∷ sources) (x ∷ shelves) opened t =
-    rw (made_fits scripts k _ (book_in scripts x) (opened.0.book t)) (opened_fits told nonce rules scripts (k + 1) images sources shelves opened.1 t)
-opened_fits told nonce rules scripts k (i ∷ images) [] shelves opened t = absurd opened
+pub opened_fits : {D N : Type 0} (told : Type 0) (nonce : N → ℕ → ℕ) (rules : ℕ → spec.Rules) (scripts : List Named) (k : ℕ) (images : List (List ℕ)) (sources : List N)
+    (openings : List (Opening D N)) → AreOpened told nonce rules scripts k images sources openings → told → first_unfit (unfit_left scripts) k images ≡ None
+opened_fits told nonce rules scripts k [] sources openings opened t = refl
+opened_fits told nonce rules scripts k (i ∷ images) (z ∷ sources) (x ∷ openings) opened t =
+    rw (made_fits scripts k _ (book_in scripts x.shelf.value) (opened.0.book t)) (opened_fits told nonce rules scripts (k + 1) images sources openings opened.1 t)
+opened_fits told nonce rules scripts k (i ∷ images) [] openings opened t = absurd opened
 opened_fits told nonce rules scripts k (i ∷ images) (z ∷ sources) [] opened t = absurd opened
 
-pub no_order : {D N : Type 0} (view : D → View) (tells : Bool) (scripts : List Named) → AreInOrder {D = D} {N = N} view tells scripts []
-no_order {D = D} {N = N} view tells scripts = record {
-  each = λ k s e. absurd (let no : None ≡ Some s = e in cc);
-  numbers = λ k s e. absurd (let no : None ≡ Some s = e in cc);
-}
+-- ---- the first that is not opened
 
-pub order_more : {D N : Type 0} (view : D → View) (tells : Bool) (scripts : List Named) (shelves : List (Shelf D N)) (s : Shelf D N) → AreInOrder view tells scripts shelves
-    → IsInOrder view tells scripts s → s.rules.number ≡ length shelves → AreInOrder view tells scripts (shelves ++ s ∷ [])
-order_more {D = D} {N = N} view tells scripts shelves s are is number = record {
-  each = λ k x e. elim (at_more shelves s x k e) [
-    | inl h ↦ are.each k x h
-    | inr h ↦ subst (IsInOrder view tells scripts) h.1 is
-  ];
-  numbers = λ k x e. elim (at_more shelves s x k e) [
-    | inl h ↦ are.numbers k x h
-    | inr h ↦ ap (λ (y : Shelf D N). y.rules.number) (sym h.1) ∙ (number ∙ sym h.0)
-  ];
-}
+-- behind disks that make books, one that makes none
+pub first_bad : {D : Type 0} (view : D → View) (scripts : List Named) (k i n : ℕ) (disks : List D) (d : D) (why : Unfit) → n ≡ k + i
+    → ((j m : ℕ) (x : D) → j < i → m ≡ k + j → slice_get disks j ≡ Some x → (b : Book) × MakesBook scripts m (view x) b)
+    → slice_get disks i ≡ Some d → unfit_left scripts n (view d).seen ≡ Some why → first_unfit (unfit_left scripts) k (seen_on view disks) ≡ Some (n, why)
+first_bad view scripts k i n [] d why is fit here bad = absurd (let no : ⊥ = cc here in no)
+first_bad view scripts k zero n (x ∷ disks) d why is fit here bad =
+    let same : n ≡ k = omega (arith, is) in
+    let one : x ≡ d = same_some x d here in
+    let found : unfit_left scripts k (view x).seen ≡ Some why = ap (λ y. unfit_left scripts k (view y).seen) one ∙ (ap (λ m. unfit_left scripts m (view d).seen) (sym same) ∙ bad) in
+    ap (λ f. found_unfit k f (first_unfit (unfit_left scripts) (k + 1) (seen_on view disks))) found ∙ ap (λ m. Some (m, why)) (sym same)
+first_bad view scripts k (suc i) n (x ∷ disks) d why is fit here bad =
+    let first = fit 0 k x (omega arith) (omega arith) refl in
+    let rest = first_bad view scripts (k + 1) i n disks d why (omega (arith, is)) (λ j m y low at e. fit (suc j) m y (omega (arith, low)) (omega (arith, at)) e) here bad in
+    ap (λ f. found_unfit k f (first_unfit (unfit_left scripts) (k + 1) (seen_on view disks))) (made_fits scripts k (book_in_bytes scripts k (view x).seen) first.0 first.1) ∙ rest
 
--- ---- visited
-
-pub order_set : {D N : Type 0} (view : D → View) (tells : Bool) (scripts : List Named) (shelves : List (Shelf D N)) (k : ℕ) (old new : Shelf D N)
-    → slice_get shelves k ≡ Some old → AreInOrder view tells scripts shelves → IsInOrder view tells scripts new → new.rules ≡ old.rules
-    → AreInOrder view tells scripts (slice_set shelves k new)
-order_set {D = D} {N = N} view tells scripts shelves k old new here are is rules = record {
-  each = λ j x e. elim (at_changed shelves k j new x e) [
-    | inl h ↦ subst (IsInOrder view tells scripts) h.1 is
-    | inr h ↦ are.each j x h.1
-  ];
-  numbers = λ j x e. elim (at_changed shelves k j new x e) [
-    | inl h ↦ ap (λ (y : Shelf D N). y.rules.number) (sym h.1) ∙ (ap (λ r. r.number) rules ∙ (are.numbers k old here ∙ sym h.0))
-    | inr h ↦ are.numbers j x h.1
-  ];
-}
-
--- there is one at each place of a list
-one_at : {A : Type 0} (xs : List A) (k : ℕ) → k < length xs → (x : A) × (slice_get xs k ≡ Some x)
-one_at [] k low = absurd (omega (arith, low))
-one_at (z ∷ xs) zero low = (z, refl)
-one_at (z ∷ xs) (suc k) low = one_at xs k (omega (arith, low))
-
--- the shelf of a destination was visited
-pub visits_there : {D N : Type 0} (scripts : List Named) (nonce : N → ℕ → ℕ) (sources : List N) (old : List (Shelf D N)) (d : Destination) (answer : Val) (reply : Reply)
-    (k : ℕ) (before after : Shelf D N) → k ≡ shelf_at d → length old ≡ length sources → slice_get old k ≡ Some before
-    → ((source : ℕ → ℕ) → IsDone scripts nonce source before after (λ given s t. Visited given s d answer reply t))
-    → VisitsOne scripts nonce sources old d answer reply (slice_set old k after)
-visits_there scripts nonce sources old d answer reply k before after is count here done =
-    let low : k < length old = slice_get_within old k before here in
-    let own = one_at sources (shelf_at d) (omega (arith, low, is, count)) in
-    there (record {
-      source = own.0;
-      before = before;
-      after = after;
-      drawn = own.1;
-      here = subst (λ j. slice_get old j ≡ Some before) is here;
-      done = done (nonce own.0);
-      there = ap (λ j. slice_set old j after) is;
-    })
-
--- ---- swept
-
--- so many shelves were swept, and the others are as they were
-pub record SweptUpTo {D N : Type 0} (scripts : List Named) (nonce : N → ℕ → ℕ) (tick : ℕ) (sources : List N) (old : List (Shelf D N))
-    (answers : List (Result ℕ Reply)) (new : List (Shelf D N)) (n : ℕ) : Type 0 where
-  pub count : length new ≡ length old
-  pub told : length answers ≡ n
-  pub each : (k : ℕ) (source : N) (s t : Shelf D N) (r : Result ℕ Reply) → slice_get sources k ≡ Some source → slice_get old k ≡ Some s
-      → slice_get new k ≡ Some t → slice_get answers k ≡ Some r → IsDone scripts nonce (nonce source) s t (λ given x y. IsSwept given x tick r y)
-  pub kept : (k : ℕ) → n ≤ k → slice_get new k ≡ slice_get old k
-
-pub swept_none : {D N : Type 0} (scripts : List Named) (nonce : N → ℕ → ℕ) (tick : ℕ) (sources : List N) (old : List (Shelf D N))
-    → SweptUpTo scripts nonce tick sources old [] old 0
-swept_none scripts nonce tick sources old = record {
-  count = refl;
-  told = refl;
-  each = λ k source s t r a b c e. absurd (let no : None ≡ Some r = e in cc);
-  kept = λ k le. refl;
-}
-
-pub swept_more : {D N : Type 0} (scripts : List Named) (nonce : N → ℕ → ℕ) (tick : ℕ) (sources : List N) (old : List (Shelf D N)) (answers : List (Result ℕ Reply))
-    (new : List (Shelf D N)) (n : ℕ) (s t : Shelf D N) (r : Result ℕ Reply) → SweptUpTo scripts nonce tick sources old answers new n → slice_get new n ≡ Some s
-    → ((source : ℕ → ℕ) → IsDone scripts nonce source s t (λ given x y. IsSwept given x tick r y))
-    → SweptUpTo scripts nonce tick sources old (answers ++ r ∷ []) (slice_set new n t) (n + 1)
-swept_more {D = D} {N = N} scripts nonce tick sources old answers new n s t r p here done = record {
-  count = length-set new n t ∙ p.count;
-  told = omega (arith, p.told, length-append answers (r ∷ []));
-  each = λ k source x y a drawn before after told. elim (at_more answers r a k told) [
-    | inl earlier ↦ elim (at_changed new n k t y after) [
-      | inl h ↦ absurd (let low = slice_get_within answers k a earlier in omega (arith, low, h.0, p.told))
-      | inr h ↦ p.each k source x y a drawn before h.1 earlier
-    ]
-    | inr last ↦ this k source x y a last before after
-  ];
-  kept = λ k le. set_other new n k t (λ e. omega (arith, e, le)) ∙ p.kept k (omega (arith, le));
-}
+-- a site was not begun, and why is told as the first shelf that is not opened
+pub refused_at : {D N : Type 0} (view : D → View) (tells : Bool) (setup : Setup) (told : Type 0) (disks : List D) (nonces : List N)
+    (f : SiteFault D N) (before after : ℕ) → (told → IsTrue tells) → IsNotBegun view tells setup disks nonces f
+    → ((k : ℕ) (e : D) → slice_get f.disks.items k ≡ Some e → 1 ≤ (view e).faults → Rose before after)
+    → IsRefused told (Rose before after) (scripts_of setup) (seen_on view disks) (unopened_by f.shelf f.fault)
+refused_at {D = D} view tells setup told disks nonces f before after knows not risen = by_fault f.fault refl
   where
-    this : (k : ℕ) (source : N) (x y : Shelf D N) (a : Result ℕ Reply) → (k ≡ length answers) × (r ≡ a) → slice_get old k ≡ Some x → slice_get (slice_set new n t) k ≡ Some y
-        → IsDone scripts nonce (nonce source) x y (λ given v w. IsSwept given v tick a w)
-    this k source x y a last before after =
-        let at : k ≡ n = last.0 ∙ p.told in
-        let same : s ≡ x = same_some s x (sym here ∙ (p.kept n (omega arith) ∙ (ap (slice_get old) (sym at) ∙ before))) in
-        let now : t ≡ y = elim (at_changed new n k t y after) [ inl h ↦ h.1 | inr h ↦ absurd (h.0 at) ] in
-        subst (λ z. IsDone scripts nonce (nonce source) x z (λ given v w. IsSwept given v tick a w)) now
-        (subst (λ z. IsDone scripts nonce (nonce source) z t (λ given v w. IsSwept given v tick a w)) same
-        (subst (λ b. IsDone scripts nonce (nonce source) s t (λ given v w. IsSwept given v tick b w)) last.1 (done (nonce source))))
+    scripts : List Named
+    scripts = scripts_of setup
 
-pub swept_all : {D N : Type 0} (scripts : List Named) (nonce : N → ℕ → ℕ) (tick : ℕ) (sources : List N) (old : List (Shelf D N)) (answers : List (Result ℕ Reply))
-    (new : List (Shelf D N)) → SweptUpTo scripts nonce tick sources old answers new (length old) → AreSwept scripts nonce tick sources old answers new
-swept_all scripts nonce tick sources old answers new p = record { count = p.count; told = p.told; each = p.each }
+    there : (d : D) × (slice_get disks f.shelf ≡ Some d)
+    there = get_there disks f.shelf not.disks_back.within
 
--- ---- closed
+    back : (e : D) × (slice_get f.disks.items f.shelf ≡ Some e)
+    back = get_there f.disks.items f.shelf (let low = not.disks_back.within in let size = not.disks_back.returned.many in omega (arith, low, size))
 
--- what fewer bytes may be held for stands all the more
-pub stands_among : (scripts : List Named) (k : ℕ) (old new : List ℕ → Type 0) (b : Book) → AreAmong new old → StandsAt scripts k old b → StandsAt scripts k new b
-stands_among scripts k old new b among s = (s.0, λ image h. s.1 image (among image h))
+    found : told → (why : Unfit) → unfit_left scripts f.shelf (view there.0).seen ≡ Some why → first_unfit (unfit_left scripts) 0 (seen_on view disks) ≡ Some (f.shelf, why)
+    found t why bad =
+        first_bad view scripts 0 f.shelf f.shelf disks there.0 why (omega arith)
+        (λ j m x low at x_is. let same : j ≡ m = omega (arith, at) in
+        subst (λ n. (b : Book) × MakesBook scripts n (view x) b) same (not.disks_back.earlier (knows t) j x low x_is)) there.1 bad
 
--- shelves from this place on were closed
-pub record ClosesDownTo {D N : Type 0} (told : Type 0) (scripts : List Named) (all : List (Shelf D N)) (before now : RackView) (m : ℕ) : Type 0 where
-  pub down : GivesDownTo before now m (length all)
-  pub stand : told → AreOut before (length all) → (k : ℕ) (s : Shelf D N) → m ≤ k → slice_get all k ≡ Some s → StandsAt scripts k (now.holds k) (book_in scripts s)
+    by_fault : (e : BeginFault) → f.fault ≡ e → IsRefused told (Rose before after) scripts (seen_on view disks) (unopened_by f.shelf e)
+    by_fault (fault.Damaged place) is = λ t.
+        found t (damaged place) (ap unfit_making (subst (IsFaultOf scripts f.shelf (view there.0)) is (not.disks_back.why (knows t) there.0 there.1)))
+    by_fault (fault.Other place) is = λ t.
+        found t (other place) (ap unfit_making (subst (IsFaultOf scripts f.shelf (view there.0)) is (not.disks_back.why (knows t) there.0 there.1)))
+    by_fault fault.DiskFault is =
+        let rose = not.disks_back.cause is there.0 back.0 there.1 back.1 in risen f.shelf back.0 back.1 (omega (arith, rose))
+    by_fault fault.Memory is = tt
 
--- what a disk that is given back may hold
-pub record Holds (told : Type 0) (before after : RackView) (number : ℕ) (images : List ℕ → Type 0) : Type 0 where
-  pub among : told → before.out number ≡ true → AreAmong (after.holds number) images
-  pub others : (n : ℕ) → n ≢ number → AreAmong (after.holds n) (before.holds n)
+-- ---- given back
 
-pub closes_next : {D N : Type 0} (view : D → View) (tells : Bool) (told : Type 0) (scripts : List Named) (all front back : List (Shelf D N)) (s : Shelf D N)
-    (before now after : RackView) (faults next : ℕ) → (told → IsTrue tells) → all ≡ front ++ s ∷ back → length front + 1 ≡ next → AreInOrder view tells scripts all
-    → ClosesDownTo told scripts all before now next → Gives now after (length front) faults → Holds told now after (length front) (view s.journal.disk).images
-    → ClosesDownTo told scripts all before after (length front)
-closes_next {D = D} {N = N} view tells told scripts all front back s before now after faults next knows is count are p gives holds = record {
-  down = gives_before before now after (length front) next (length all) faults count p.down gives;
-  stand = λ t out k x above here. elim (same_or_not k (length front)) [
-    | inl e ↦ this t out k x e here
-    | inr d ↦ stands_among scripts k (now.holds k) (after.holds k) (book_in scripts x) (holds.others k d) (p.stand t out k x (omega (arith, above, d, count)) here)
-  ];
-}
-  where
-    there : slice_get all (length front) ≡ Some s
-    there = ap (λ xs. slice_get xs (length front)) is ∙ last_is front back s
-
-    below : length front < length all
-    below = slice_get_within all (length front) s there
-
-    this : told → AreOut before (length all) → (k : ℕ) (x : Shelf D N) → k ≡ length front → slice_get all k ≡ Some x
-        → StandsAt scripts k (after.holds k) (book_in scripts x)
-    this t out k x e here =
-        let same : s ≡ x = same_some s x (sym there ∙ (ap (slice_get all) (sym e) ∙ here)) in
-        let order = are.each (length front) s there in
-        let number = are.numbers (length front) s there in
-        let stands = subst (λ n. Stands scripts n (view s.journal.disk) (book_in scripts s)) number (order.fit (knows t)).stands in
-        let home : now.out (length front) ≡ true = p.down.lower (length front) (omega (arith, count)) ∙ out (length front) below in
-        let at : StandsAt scripts (length front) (after.holds (length front)) (book_in scripts s) =
-        (stands.0, λ image h. stands.1 image (holds.among t home image h)) in
-        subst (λ n. StandsAt scripts n (after.holds n) (book_in scripts x)) (sym e)
-        (subst (λ (y : Shelf D N). StandsAt scripts (length front) (after.holds (length front)) (book_in scripts y)) same at)
-
--- the shelves behind these were closed
-pub record ClosesAll {D N : Type 0} (told : Type 0) (scripts : List Named) (all front : List (Shelf D N)) (before now : RackView) : Type 0 where
-  pub back : List (Shelf D N)
-  pub is : all ≡ front ++ back
-  pub closed : ClosesDownTo told scripts all before now (length front)
+module _ {D N : Type 0} (view : D → View) (tells : Bool) (told : Type 0) (nonce : N → ℕ → ℕ) (rules : ℕ → spec.Rules) (scripts : List Named) where
+  -- disks that stand for the books of histories, and what may be held of them
+  pub stands_from : (k workers : ℕ) (holds : ℕ → List ℕ → Type 0) (images : List (List ℕ)) (sources : List N) (openings : List (Opening D N)) (disks : List D)
+      (histories : List (List KeptEntry)) → IsTrue tells → AreOpened told nonce rules scripts k images sources openings
+      → AreEnded view tells nonce workers openings disks histories
+      → ((i j : ℕ) (d : D) → j ≡ k + i → slice_get disks i ≡ Some d → AreAmong (holds j) (view d).images)
+      → (i j : ℕ) (o : Opening D N) (h : List KeptEntry) → j ≡ k + i → slice_get openings i ≡ Some o → slice_get histories i ≡ Some h
+      → StandsAt scripts j (holds j) (book_then nonce o (entries_of h))
+  stands_from k workers holds images sources [] disks histories t opened ended held i j o h is o_is h_is = absurd (let no : ⊥ = cc o_is in no)
+  stands_from k workers holds [] sources (x ∷ openings) disks histories t opened ended held i j o h is o_is h_is = absurd (no_shelf sources opened)
+    where
+      no_shelf : (ns : List N) → AreOpened told nonce rules scripts k [] ns (x ∷ openings) → ⊥
+      no_shelf [] a = a
+      no_shelf (n ∷ ns) a = a
+  stands_from k workers holds (image ∷ images) [] (x ∷ openings) disks histories t opened ended held i j o h is o_is h_is = absurd opened
+  stands_from k workers holds (image ∷ images) (n ∷ sources) (x ∷ openings) [] histories t opened ended held i j o h is o_is h_is = absurd ended
+  stands_from k workers holds (image ∷ images) (n ∷ sources) (x ∷ openings) (d ∷ disks) [] t opened ended held i j o h is o_is h_is = absurd ended
+  stands_from k workers holds (image ∷ images) (n ∷ sources) (x ∷ openings) (d ∷ disks) (e ∷ histories) t opened ended held zero j o h is o_is h_is =
+      let at : j ≡ k = omega (arith, is) in
+      let stands = ended.0.stands.stands t in
+      let there = subst (λ s. Stands s x.shelf.value.rules.number (view d) (book_then nonce x (entries_of e))) opened.0.setup stands in
+      let here = subst (λ m. Stands scripts m (view d) (book_then nonce x (entries_of e))) (opened.0.number ∙ sym at) there in
+      let among = held 0 j d (omega (arith, at)) refl in
+      let whole : StandsAt scripts j (holds j) (book_then nonce x (entries_of e)) = (here.0, λ y y_is. here.1 y (among y y_is)) in
+      subst (λ z. StandsAt scripts j (holds j) (book_then nonce z (entries_of h))) (same_some x o o_is)
+      (subst (λ z. StandsAt scripts j (holds j) (book_then nonce x (entries_of z))) (same_some e h h_is) whole)
+  stands_from k workers holds (image ∷ images) (n ∷ sources) (x ∷ openings) (d ∷ disks) (e ∷ histories) t opened ended held (suc i) j o h is o_is h_is =
+      stands_from (k + 1) workers holds images sources openings disks histories t opened.1 ended.1 (λ a b y at y_is. held (suc a) b y (omega (arith, at)) y_is) i j o h
+      (omega (arith, is)) o_is h_is

@@ -15,8 +15,9 @@ use Rattle.script_nodes.specs.Setup.{Named}
 use Rattle.command_words.specs.App.{app}
 use Rattle.command_words.specs.Plain.{IsPlain}
 use Rattle.command_words.specs.declared.Command.{Command}
-use Rattle.command_words.specs.declared.Command.TheVariants.{Check, Play, Serve}
+use Rattle.command_words.specs.declared.Command.TheVariants.{Check, Play, Serve, Load}
 use Rattle.command_words.specs.declared.Options.{Options}
+use Rattle.command_words.specs.declared.LoadOptions.{LoadOptions}
 use Rattle.command_words.specs.declared.Service.{Service}
 use Rattle.command_words.specs.Reads.{asked_from}
 use Rattle.setup_reader.specs.declared.setup.Ending.TheVariants.{Steps}
@@ -34,7 +35,8 @@ use Rattle.server_command.specs.Serving.{Serves, Faults, HaveRisen, RackFailed, 
 use Rattle.play_desk.specs.Ledger.{print_of}
 use Rattle.play_desk.specs.Laws.{IsRunOfEvents}
 use Rattle.play_desk.specs.Opening.{HoldTheBooks}
-use Rattle.server_command.specs.Output.{Chances, Output, output_of, told_scripts, desk_for, run_of, Sinks, PrintsTo, Answers, BreaksOff, Pauses, Loses, ending_of}
+use Rattle.server_command.specs.Output.{Chances, Output, output_of, told_scripts, desk_for, loaded, run_of, Sinks, PrintsTo, Answers, BreaksOff, Pauses, Loses, ending_of}
+use Rattle.server_command.specs.Loading.{LeavesLoad, LoadsEvents}
 
 -- what is done with an input alone
 abbrev pub asked_of : Job → Command
@@ -147,12 +149,14 @@ reached_by (Some asked) bytes =
 abbrev pub TakesDisks : Racks → Option (Command × Parsed) → List (List ℕ) → Type 0
 TakesDisks rack (Some (Play o, setup)) disks = AreTaken unfit_new rack.before.holds o.shelves disks
 TakesDisks rack (Some (Serve s, setup)) disks = AreTaken (unfit_left setup.scripts) rack.before.holds s.options.shelves disks
+TakesDisks rack (Some (Load l, setup)) disks = AreTaken unfit_new rack.before.holds l.options.shelves disks
 TakesDisks rack _ disks = ⊤
 
 -- it takes none, or they tell their bytes
 abbrev pub Settles : Racks → Option (Command × Parsed) → Type 0
 Settles rack (Some (Play o, setup)) = IsTrue rack.tells
 Settles rack (Some (Serve s, setup)) = IsTrue rack.tells
+Settles rack (Some (Load l, setup)) = IsTrue rack.tells
 Settles rack _ = ⊤
 
 -- what hangs on disks is said where they tell their bytes
@@ -229,10 +233,15 @@ ComesServing serves s chances status.Read met = IsUnread fault.Failed met × ser
 ComesServing serves s chances status.Long met = IsUnread fault.Long met × serves.unopened
 ComesServing serves s chances _ met = ⊥
 
+-- a measured run reads no input
+abbrev pub ComesLoading : LoadOptions → Chances → Status → Met → Type 0
+ComesLoading l chances how met = Untouched met × LeavesLoad met.rack l how chances met.output
+
 abbrev pub ComesTo : Serves → Command → Chances → Status → Met → Type 0
 ComesTo serves Check chances how met = Comes Check chances how met
 ComesTo serves (Play o) chances how met = Comes (Play o) chances how met
 ComesTo serves (Serve s) chances how met = ComesServing serves s chances how met
+ComesTo serves (Load l) chances how met = ComesLoading l chances how met
 
 -- words without a command, or want of memory for them, leave the input unread
 abbrev pub Refuses : Option Command → Status → Met → Type 0
@@ -269,15 +278,31 @@ EndsAs status met bytes chances =
     ⊎ (((status ≡ 7) × RackFailed met.rack)
     ⊎ (((status ≡ 9) × HaveRisen met.door) ⊎ (((status ≡ 14) × HaveRisen met.seeds) ⊎ (status ≡ 10))))))
 
+-- all but a measured run reads its input
+abbrev pub ReadsInput : Option Command → Type 0
+ReadsInput (Some (Load l)) = ⊥
+ReadsInput _ = ⊤
+
+-- the status of a measured run is the one that is due, by the disks that were taken
+pub record IsDueLoad (status : ℕ) (met : Met) (l : LoadOptions) (chances : Chances) : Type 0 where
+  pub same : status ≡ (loaded l chances).status
+  pub taken : AreTaken unfit_new met.rack.before.holds l.options.shelves chances.disks
+
+-- it is so, or that of an output or a rack that failed, or that of want of memory
+abbrev pub EndsAsLoad : (status : ℕ) → Met → LoadOptions → Chances → Type 0
+EndsAsLoad status met l chances =
+    IsDueLoad status met l chances
+    ⊎ (((status ≡ 6) × Rose met.output.before met.output.after) ⊎ (((status ≡ 7) × RackFailed met.rack) ⊎ (status ≡ 10)))
+
 -- the steps that are played are events, and the text of the output is the print of the replies of a run of these
 pub record PlaysEvents (o : Options) (setup : Parsed) (fates : List Fate) (output : Output) : Type 0 where
   pub replies : List Reply
   pub text : output.text ≡ print_of (desk_for o setup.scripts) 1 (steps_of setup.steps) fates replies
   pub run : IsRunOfEvents (desk_for o setup.scripts) 1 (steps_of setup.steps) fates replies
 
--- How the command ended, by what its disks held and the fates of its visits: why; that the output which is due to steps is that of a
--- run of events, where each shelf begins on an empty disk; and that the status is due but for faults of the outside and want of
--- memory.
+-- How the command ended, by what its disks held and the fates of its visits: why; that the output which is due to steps, or to a
+-- measured run, is that of a run of events, where each shelf begins on an empty disk; and that the status is due but for faults of
+-- the outside and want of memory.
 pub record Ends (serves : Serves) (result : ℕ) (met : Met) : Type 0 where
   pub chances : Chances
   pub status : Status
@@ -286,7 +311,10 @@ pub record Ends (serves : Serves) (result : ℕ) (met : Met) : Type 0 where
   pub events : (o : Options) (bytes : List ℕ) (setup : Parsed) → asked_in met.words ≡ Some (Play o) → met.input ≡ Some bytes
       → setup_of Steps bytes ≡ Ok setup → first_unfit unfit_new 0 chances.disks ≡ None
       → PlaysEvents o setup chances.fates (output_of (Play o) bytes chances)
-  pub exact : IfSome met.input (λ bytes. Settles met.rack (reached_by (asked_in met.words) bytes) → EndsAs result met bytes chances)
+  pub load_events : (l : LoadOptions) → asked_in met.words ≡ Some (Load l) → LoadsEvents l chances.fates
+  pub exact : IfSome met.input (λ bytes. ReadsInput (asked_in met.words) → Settles met.rack (reached_by (asked_in met.words) bytes)
+      → EndsAs result met bytes chances)
+  pub exact_load : (l : LoadOptions) → asked_in met.words ≡ Some (Load l) → IsTrue met.rack.tells → EndsAsLoad result met l chances
 
 -- telling a line of the steps leaves its error's line, or that of want of memory
 abbrev pub TellsLine : (number : ℕ) → Status → Sinks → Type 0
@@ -347,12 +375,14 @@ AreFit unfit holds = (shelf : ℕ) (image : List ℕ) → holds shelf image → 
 abbrev pub JournalsOpen : Command → List Named → Racks → Type 0
 JournalsOpen Check scripts rack = ⊤
 JournalsOpen (Play o) scripts rack = IsTrue rack.tells × AreFit unfit_new rack.before.holds
+JournalsOpen (Load l) scripts rack = IsTrue rack.tells × AreFit unfit_new rack.before.holds
 JournalsOpen (Serve s) scripts rack = IsTrue rack.tells × AreFit (unfit_left scripts) rack.before.holds
 
 -- neither the rack nor the door nor the seeds failed, where they are asked for
 abbrev pub GoesWell : Command → Met → Type 0
 GoesWell Check met = ⊤
 GoesWell (Play o) met = ¬ (RackFailed met.rack)
+GoesWell (Load l) met = ¬ (RackFailed met.rack)
 GoesWell (Serve s) met = ¬ (RackFailed met.rack) × ¬ (HaveRisen met.door) × ¬ (HaveRisen met.seeds)
 
 -- it ended well, at a step that does not fit, or for want of memory
@@ -368,3 +398,9 @@ IsComplete result met =
     → JournalsOpen asked l.setup.scripts met.rack
     → ¬ (Rose met.input_before met.input_after) → ¬ (Rose met.output.before met.output.after) → GoesWell asked met
     → EndsWell asked result
+
+-- A measured run that plain words ask for ends well, or for want of memory, whatever the input is.
+abbrev pub IsCompleteLoad : (result : ℕ) → Met → Type 0
+IsCompleteLoad result met =
+    (l : LoadOptions) → IsPlain met.words (Load l) → JournalsOpen (Load l) [] met.rack
+    → ¬ (Rose met.output.before met.output.after) → GoesWell (Load l) met → EndsWell (Load l) result

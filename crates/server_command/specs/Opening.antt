@@ -1,19 +1,18 @@
 -- What opening the shelves of a server comes to.
-use Rattle.std.specs.Prelude.{⊤, ◌≡◌, ◌≤◌, ◌<◌, ◌+◌, ℕ, Bool, true, false, List, map, length, Some}
+use Rattle.std.specs.Prelude.{⊤, ◌≡◌, ◌≤◌, ◌<◌, ◌+◌, ℕ, Bool, true, false, List, map, length, Some, slice_get}
 use Rattle.web_outside.specs.Causes.{Rose}
-use Rattle.web_disk.specs.View.{View, RackView}
+use Rattle.web_disk.specs.View.{View, RackView, AreAmong}
 use Rattle.script_nodes.specs.Setup.{Named}
 use Rattle.replay_spec.specs.Rules.{Rules}
 use Rattle.journal_records.specs.Records.{IsInGrammar, begin_of}
 use Rattle.shelf.specs.declared.begin.BeginFault.{BeginFault}
 use Rattle.shelf.specs.declared.begin.BeginFault.TheVariants as fault
 use Rattle.shelf.specs.declared.rules.Rules.{Rules as Limits}
-use Rattle.shelf.specs.declared.shelf.Shelf.{Shelf}
+use Rattle.site.specs.declared.opening.Opening.{Opening}
 use Rattle.command_words.specs.declared.Options.{Options}
 use Rattle.server_command.specs.declared.opening.Unopened.{Unopened}
 use Rattle.server_command.specs.declared.opening.Unopened.TheVariants as unopened
 use Rattle.server_command.specs.Racks.{AreHeld, KeepsHome, damaged, other, first_unfit, unfit_left}
-use Rattle.server_command.specs.Serial.{AreOwn}
 use Rattle.server_command.specs.Serving.{AreOpened}
 
 -- what reads of disks give
@@ -67,16 +66,6 @@ IsUntaken risen (unopened.Disk shelf) = risen
 IsUntaken risen unopened.Memory = ⊤
 IsUntaken risen _ = ⊥
 
--- why a shelf was not opened on a disk that holds this
-abbrev pub IsRefusedAt : (told risen : Type 0) → List Named → (shelf : ℕ) → (image : List ℕ) → Unopened → Type 0
-IsRefusedAt told risen scripts shelf image (unopened.Disk k) = risen
-IsRefusedAt told risen scripts shelf image (unopened.NotEmpty k) = ⊥
-IsRefusedAt told risen scripts shelf image (unopened.Damaged k place) =
-    (k ≡ shelf) × (told → unfit_left scripts shelf image ≡ Some (damaged place))
-IsRefusedAt told risen scripts shelf image (unopened.Other k place) =
-    (k ≡ shelf) × (told → unfit_left scripts shelf image ≡ Some (other place))
-IsRefusedAt told risen scripts shelf image unopened.Memory = ⊤
-
 -- why a shelf was not opened, of those on disks that hold these
 abbrev pub IsRefused : (told risen : Type 0) → List Named → (images : List (List ℕ)) → Unopened → Type 0
 IsRefused told risen scripts images (unopened.Disk shelf) = risen
@@ -87,18 +76,18 @@ IsRefused told risen scripts images (unopened.Other shelf place) =
     told → first_unfit (unfit_left scripts) 0 images ≡ Some (shelf, other place)
 IsRefused told risen scripts images unopened.Memory = ⊤
 
--- all shelves were opened, on disks that hold these
-pub record HasOpened {D N : Type 0} (view : D → View) (tells : Bool) (told : Type 0) (nonce : N → ℕ → ℕ) (rules : ℕ → Rules)
-    (scripts : List Named) (images : List (List ℕ)) (sources : List N) (shelves : List (Shelf D N)) : Type 0 where
-  pub opened : AreOpened told nonce rules scripts 0 images sources shelves
-  pub own : AreOwn view tells scripts sources shelves
+-- each of these disks was given back to the place of its number: the rack holds what a crash may leave on it, where both tell
+-- that; and a fault of one is a fault of the rack
+pub record AreGiven {D : Type 0} (view : D → View) (told : Type 0) (before after : RackView) (disks : List D) : Type 0 where
+  pub held : told → AreOut before (length disks) → (k : ℕ) (d : D) → slice_get disks k ≡ Some d → AreAmong (after.holds k) (view d).images
+  pub faults : (k : ℕ) (d : D) → slice_get disks k ≡ Some d → 1 ≤ (view d).faults → Rose before.faults after.faults
 
--- the same of the disks of a rack; or why they were not
-pub record OpensOn {D N : Type 0} (view : D → View) (tells : Bool) (told : Type 0) (nonce : N → ℕ → ℕ) (rules : ℕ → Rules)
-    (scripts : List Named) (sources : List N) (before after : RackView) (shelves : List (Shelf D N)) : Type 0 where
+-- the shelves were opened so on the disks of a rack; or why they were not
+pub record OpensOn {D N : Type 0} (told : Type 0) (nonce : N → ℕ → ℕ) (rules : ℕ → Rules) (scripts : List Named) (sources : List N)
+    (before after : RackView) (openings : List (Opening D N)) : Type 0 where
   pub images : List (List ℕ)
   pub taken : HasTaken told before after (length sources) images
-  pub opened : HasOpened view tells told nonce rules scripts images sources shelves
+  pub opened : AreOpened told nonce rules scripts 0 images sources openings
 
 pub record RefusesOn (told : Type 0) (scripts : List Named) (count : ℕ) (before after : RackView) (why : Unopened) : Type 0 where
   pub images : List (List ℕ)

@@ -15,8 +15,13 @@ use Rattle.setup_reader.specs.declared.setup.Ending.TheVariants.{Steps, Input}
 use Rattle.setup_reader.specs.Setup.{Parsed, Fault, setup_of}
 use Rattle.setup_reader.specs.Faults.{fault_line}
 use Rattle.command_words.specs.declared.Command.{Command}
-use Rattle.command_words.specs.declared.Command.TheVariants.{Check, Play, Serve}
+use Rattle.command_words.specs.declared.Command.TheVariants.{Check, Play, Serve, Load}
 use Rattle.command_words.specs.declared.Options.{Options}
+use Rattle.command_words.specs.declared.LoadOptions.{LoadOptions}
+use Rattle.load_steps.specs.Generator.{source_of}
+use Rattle.load_run.specs.Drawing.{most_steps, run_drawn}
+use Rattle.load_run.specs.Counting.{line_for}
+use Rattle.load_setup.specs.Scripts.{load_scripts}
 use Rattle.journal_records.specs.Records.{journal_rules}
 use Rattle.play_desk.specs.Desk.{Desk, first_desk, desk_rules}
 use Rattle.server_command.specs.Racks.{Unfit, first_unfit, unfit_new, unfit_left, unfit_line, disk_line}
@@ -83,16 +88,28 @@ served (Err e) chances = faulty e
 served (Ok setup) chances =
     unless_shut (first_unfit (unfit_left setup.scripts) 0 chances.disks) (record { text = []; error = []; status = 0 })
 
+-- the transcript of the 20,000 steps of a measured run, where its events have these fates
+abbrev pub run_loaded : LoadOptions → List Fate → Run desk_rules
+run_loaded l fates = run_drawn desk_rules most_steps (source_of l.number) (desk_for l.options load_scripts) fates
+
+-- what is due to a measured run, which reads no input: the line of its counts, and of the hash of its transcript
+abbrev pub loaded : LoadOptions → Chances → Output
+loaded l chances =
+    unless_shut (first_unfit unfit_new 0 chances.disks)
+    (record { text = line_for most_steps (run_loaded l chances.fates).told; error = []; status = 0 })
+
 -- a setup ends with the input where it is checked or served, and with the line `steps` where it is played
 abbrev pub ending_of : Command → Ending
 ending_of Check = Input
 ending_of (Play c) = Steps
 ending_of (Serve s) = Input
+ending_of (Load l) = Input
 
 abbrev pub written : Command → Result Parsed Fault → Chances → Output
 written Check setup chances = counted setup
 written (Play o) setup chances = played o setup chances
 written (Serve s) setup chances = served setup chances
+written (Load l) setup chances = loaded l chances
 
 -- what a command writes for an input
 abbrev pub output_of : Command → List ℕ → Chances → Output

@@ -1,11 +1,8 @@
 -- What serving a setup over HTTP comes to.
-use Rattle.std.specs.Prelude.{⊤, ◌≡◌, ◌==◌, ◌⊎◌, ◌++◌, ◌∷◌, [], ℕ, ◌+◌, List, Bool, length, Option, Some, None, All, IfSome, IsTrue, Result, Ok, Err, Vec, codes, slice_get, if◌then◌else◌}
-use Rattle.std.specs.declared.alloc.Global.{Global}
+use Rattle.std.specs.Prelude.{⊤, ◌≡◌, ◌==◌, ◌⊎◌, ◌++◌, ◌∷◌, [], ℕ, ◌+◌, List, length, Option, Some, None, IfSome, IsTrue, Result, Ok, Err, codes, slice_get, if◌then◌else◌}
 use Rattle.std.specs.Fmt.{decimal}
 use Rattle.web_outside.specs.Causes.{Rose}
-use Rattle.web_outside.specs.Doors.{GiveLists, HaveNone}
-use Rattle.web_outside.specs.View.{LinkView, PorchView, DoorView, SeedsView}
-use Rattle.web_disk.specs.View.{View}
+use Rattle.web_outside.specs.View.{DoorView, SeedsView}
 use Rattle.script_nodes.specs.Setup.{Named}
 use Rattle.command_words.specs.declared.Service.{Service}
 use Rattle.setup_reader.specs.declared.setup.Ending.TheVariants.{Input}
@@ -14,14 +11,22 @@ use Rattle.replay_spec.specs.Book.{reopened}
 use Rattle.replay_spec.specs.Rules.{Rules}
 use Rattle.journal_books.specs.Making.{begun, book_in_bytes}
 use Rattle.journal_books.specs.Standing.{IsBook}
-use Rattle.request_workers.specs.Counting.{Count, nothing, both}
-use Rattle.request_workers.specs.Working.{EndsBy, Worked}
+use Rattle.request_workers.specs.Counting.{Count}
 use Rattle.request_workers.specs.Tallies.{count_of}
 use Rattle.request_workers.specs.declared.tally.Tally.{Tally}
 use Rattle.request_workers.specs.declared.tally.WorkEnd.{WorkEnd}
 use Rattle.request_workers.specs.declared.tally.WorkEnd.TheVariants as ends
-use Rattle.shelf.specs.declared.shelf.Shelf.{Shelf}
+use Rattle.worker_threads.specs.Totals.{total}
 use Rattle.shelf.specs.Views.{book_in, rules_of, HasGiven}
+use Rattle.site.specs.declared.entry.KeptEntry.{KeptEntry}
+use Rattle.site.specs.declared.opening.Opening.{Opening}
+use Rattle.site.specs.Entries.{entries_of}
+use Rattle.site.specs.Openings.{scripts_in, book_then}
+use Rattle.site_serving.specs.declared.serving.Watch.{Watch}
+use Rattle.site_serving.specs.declared.serving.ServingFault.{ServingFault}
+use Rattle.site_serving.specs.declared.serving.ServingFault.TheVariants as faults
+use Rattle.site_serving.specs.Kept.{Kept}
+use Rattle.site_serving.specs.Serving.{IsUnserved, Leaves, Pasts, Views}
 use Rattle.server_command.specs.declared.program.Status.{Status}
 use Rattle.server_command.specs.declared.program.Status.TheVariants as status
 use Rattle.server_command.specs.declared.opening.Unopened.{Unopened}
@@ -30,7 +35,6 @@ use Rattle.server_command.specs.declared.serving.ServeFault.{ServeFault}
 use Rattle.server_command.specs.declared.serving.ServeFault.TheVariants as fault
 use Rattle.server_command.specs.Output.{Chances, Output, Sinks, PrintsTo, Answers, BreaksOff, rules_for, served}
 use Rattle.server_command.specs.Racks.{Racks, AreTaken, StandsAt, Unfit, damaged, other, disk_line, first_unfit, unfit_left, unfit_line}
-use Rattle.server_command.specs.Serial.{pass_rules}
 
 -- ---- what is told
 
@@ -52,138 +56,70 @@ TellsCount c _ out = ⊥
 
 -- ---- what was served
 
--- what contracts see of a disk, and whether it tells its bytes; of a link, of a porch and of a source of nonces; and what the
--- clock shows
-pub record Views (D P L N : Type 0) : Type 1 where
-  pub disk : D → View
-  pub told : Bool
-  pub link : L → LinkView
-  pub porch : P → PorchView L
-  pub nonce : N → ℕ → ℕ
-  pub shown : Option ℕ
-
-abbrev pub views : {D P L N : Type 0} → (disk : D → View) → (told : Bool) → (link : L → LinkView) → (porch : P → PorchView L)
-    → (nonce : N → ℕ → ℕ) → (shown : Option ℕ) → Views D P L N
-views disk told link porch nonce shown =
-    record { disk = disk; told = told; link = link; porch = porch; nonce = nonce; shown = shown }
-
--- the same of a serving, with its rack and its door before it and behind it, and the seeds before it
+-- what contracts see of what a serving meets; its rack, its door and its past before it and behind it; and the seeds before it
 pub record Outside (D P L N : Type 0) : Type 1 where
   pub views : Views D P L N
   pub rack : Racks
   pub before : DoorView P L
   pub after : DoorView P L
   pub seeds : SeedsView N
+  pub past : Pasts
 
-abbrev pub outside : {D P L N : Type 0} → Views D P L N → Racks → (before after : DoorView P L) → (seeds : SeedsView N) → Outside D P L N
-outside views rack before after seeds = record { views = views; rack = rack; before = before; after = after; seeds = seeds }
+abbrev pub outside : {D P L N : Type 0} → Views D P L N → Racks → (before after : DoorView P L) → (seeds : SeedsView N) → Pasts → Outside D P L N
+outside views rack before after seeds past =
+    record { views = views; rack = rack; before = before; after = after; seeds = seeds; past = past }
 
--- how a worker ended, and what it counted
-pub record Worker : Type 0 where
-  pub end : WorkEnd
-  pub count : Count
+-- what a service asks of its door
+abbrev pub watch_of : Service → Watch
+watch_of s = record { port = s.port; workers = s.workers; connections = s.connections }
 
-abbrev pub worker_of : Tally → Worker
-worker_of tally = record { end = tally.end; count = count_of tally }
-
--- The shelf of this number was opened under these rules, with nonces of this source: its book is what the bytes of its disk make,
--- and empty where they have no record.
+-- The shelf of this number was opened under this setup and these rules, with nonces of this source: its book is what the bytes of
+-- its disk make, and empty where they have no record.
 pub record IsOpened {D N : Type 0} (told : Type 0) (nonce : N → ℕ → ℕ) (rules : Rules) (scripts : List Named) (k : ℕ) (image : List ℕ)
-    (source : N) (s : Shelf D N) : Type 0 where
-  pub limits : rules_of scripts s.rules ≡ rules
-  pub book : told → IsBook (begun scripts k (book_in_bytes scripts k image)) (book_in scripts s)
-  pub opened : book_in scripts s ≡ reopened (book_in scripts s)
-  pub stream : HasGiven (nonce source) 0 (nonce s.nonces)
+    (source : N) (o : Opening D N) : Type 0 where
+  pub setup : scripts_in o ≡ scripts
+  pub limits : rules_of scripts o.shelf.value.rules ≡ rules
+  pub number : o.shelf.value.rules.number ≡ k
+  pub book : told → IsBook (begun scripts k (book_in_bytes scripts k image)) (book_in scripts o.shelf.value)
+  pub opened : book_in scripts o.shelf.value ≡ reopened (book_in scripts o.shelf.value)
+  pub stream : HasGiven (nonce source) 0 (nonce o.shelf.value.nonces)
 
 -- so were all shelves from this number on
 abbrev pub AreOpened : {D N : Type 0} → (told : Type 0) → (nonce : N → ℕ → ℕ) → (ℕ → Rules) → List Named → ℕ → List (List ℕ) → List N
-    → List (Shelf D N) → Type 0
+    → List (Opening D N) → Type 0
 AreOpened told nonce rules scripts k [] [] [] = ⊤
-AreOpened told nonce rules scripts k (image ∷ images) (source ∷ sources) (s ∷ shelves) =
-    IsOpened told nonce (rules k) scripts k image source s × AreOpened told nonce rules scripts (k + 1) images sources shelves
-AreOpened told nonce rules scripts k images sources shelves = ⊥
+AreOpened told nonce rules scripts k (image ∷ images) (source ∷ sources) (o ∷ openings) =
+    IsOpened told nonce (rules k) scripts k image source o × AreOpened told nonce rules scripts (k + 1) images sources openings
+AreOpened told nonce rules scripts k images sources openings = ⊥
 
--- what the disks of shelves may hold makes their books
-abbrev pub AllStand : {D N : Type 0} → List Named → (ℕ → List ℕ → Type 0) → List (Shelf D N) → Type 0
-AllStand {D} {N} scripts holds shelves = (k : ℕ) (s : Shelf D N) → slice_get shelves k ≡ Some s → StandsAt scripts k (holds k) (book_in scripts s)
+-- what the disks of shelves may hold makes the books of their histories
+abbrev pub AllStand : {D N : Type 0} → (nonce : N → ℕ → ℕ) → List Named → (ℕ → List ℕ → Type 0) → List (Opening D N) → List (List KeptEntry) → Type 0
+AllStand {D} {N} nonce scripts holds openings histories =
+    (k : ℕ) (o : Opening D N) (h : List KeptEntry) → slice_get openings k ≡ Some o → slice_get histories k ≡ Some h
+    → StandsAt scripts k (holds k) (book_then nonce o (entries_of h))
 
--- a worker served the links of a porch over these shelves, which it left so
-pub record WorksOver {D P L N : Type 0} (v : Views D P L N) (scripts : List Named) (sources : List N) (first last : Vec (Shelf D N) Global)
-    (old new : P) (worker : Worker) : Type 0 where
-  pub worked : Worked (pass_rules v.disk v.told scripts v.nonce sources) v.link v.shown first last (v.porch old) (v.porch new) worker.count
-  pub ended : EndsBy worker.end (v.porch old) (v.porch new)
-
--- The workers served the links of their porches. Here one worker serves all shelves.
-abbrev pub AreServed : {D P L N : Type 0} → Views D P L N → List Named → (sources : List N) → (first last : Vec (Shelf D N) Global)
-    → (old new : List P) → List Worker → Type 0
-AreServed v scripts sources first last (old ∷ []) (new ∷ []) (worker ∷ []) = WorksOver v scripts sources first last old new worker
-AreServed v scripts sources first last old new workers = ⊥
-
--- the one porch that there is, before and afterwards
-pub record WorksFirst {D P L N : Type 0} (v : Views D P L N) (scripts : List Named) (sources : List N) (first last : Vec (Shelf D N) Global)
-    (old new : List P) (worker : Worker) : Type 0 where
-  pub before : P
-  pub after : P
-  pub had : old ≡ before ∷ []
-  pub has : new ≡ after ∷ []
-  pub works : WorksOver v scripts sources first last before after worker
-
--- what workers counted together
-abbrev pub total : List Worker → Count
-total [] = nothing
-total (w ∷ workers) = both w.count (total workers)
-
--- of two ends a failure is told
-abbrev pub end_with : WorkEnd → WorkEnd → WorkEnd
-end_with ends.Done later = later
-end_with ends.Failed later = ends.Failed
-
--- they ended as no more links came, or a porch failed
-abbrev pub end_of : List Worker → WorkEnd
-end_of [] = ends.Done
-end_of (w ∷ workers) = end_with w.end (end_of workers)
-
--- The links of the door's port were served over these shelves, and counted so. The porches were fresh and had the door's links; and
--- the door closed the porches as they were left.
-pub record ServedFrom {D P L N : Type 0} (v : Views D P L N) (before after : DoorView P L) (s : Service) (scripts : List Named)
-    (sources : List N) (first last : Vec (Shelf D N) Global) (end : WorkEnd) (count : Count) : Type 0 where
-  pub old : List P
-  pub new : List P
-  pub workers : List Worker
-  pub came : GiveLists v.porch old (before.links s.port)
-  pub fresh : HaveNone v.porch old
-  pub none : All (λ p. (v.porch p).given ≡ 0) old
-  pub most : All (λ p. (v.porch p).most ≡ s.connections) old
-  pub works : AreServed v scripts sources first last old new workers
-  pub ended : end ≡ end_of workers
-  pub counted : count ≡ total workers
-  pub closed : IfSome after.closed (λ porches. porches ≡ new)
-
--- the same, or that the door failed at once, or memory ran out
-abbrev pub ServesFrom : {D P L N : Type 0} → Views D P L N → (before after : DoorView P L) → Service → List Named → (sources : List N)
-    → (first last : Vec (Shelf D N) Global) → Result Tally ServeFault → Type 0
-ServesFrom v before after s scripts sources first last (Ok tally) =
-    ServedFrom v before after s scripts sources first last ends.Done (count_of tally)
-ServesFrom v before after s scripts sources first last (Err fault.Door) =
-    (after.closed ≡ before.closed) ⊎ ((count : Count) × ServedFrom v before after s scripts sources first last ends.Failed count)
-ServesFrom v before after s scripts sources first last (Err fault.Memory) = after.closed ≡ before.closed
-ServesFrom v before after s scripts sources first last (Err e) = ⊥
-
--- Links were served so from shelves on that were opened on disks which held this, with nonces of the sources that the seeds gave; and
--- the disks stand for the books that were left.
+-- Links were served from shelves that were opened on disks which held this, with nonces of the sources that the seeds gave, and this
+-- was kept of it: a legal history of each shelf, which ends with the book that its disk stands for, and what each worker counted.
 pub record Served {D P L N : Type 0} (o : Outside D P L N) (s : Service) (scripts : List Named) (images : List (List ℕ)) (end : WorkEnd)
-    (count : Count) : Type 0 where
+    (kept : Kept) : Type 0 where
   pub sources : List N
-  pub first : Vec (Shelf D N) Global
-  pub last : Vec (Shelf D N) Global
+  pub openings : List (Opening D N)
+  pub disks : List D
   pub shelves : length sources ≡ s.options.shelves
   pub drawn : IfSome (o.seeds.gives s.options.shelves) (λ given. given ≡ sources)
-  pub opened : AreOpened (IsTrue o.rack.tells) o.views.nonce (λ k. rules_for s.options k scripts) scripts 0 images sources first.items
-  pub served : ServedFrom o.views o.before o.after s scripts sources first last end count
-  pub stands : IsTrue o.rack.tells → AllStand scripts o.rack.after.holds last.items
+  pub opened : AreOpened (IsTrue o.rack.tells) o.views.nonce (λ k. rules_for s.options k scripts) scripts 0 images sources openings
+  pub leaves : Leaves o.views openings o.before o.after o.past (watch_of s) disks end kept
+  pub stands : IsTrue o.rack.tells → AllStand o.views.nonce scripts o.rack.after.holds openings kept.histories
+
+-- it ended so, and this was counted
+pub record ServedSo {D P L N : Type 0} (o : Outside D P L N) (s : Service) (scripts : List Named) (images : List (List ℕ)) (end : WorkEnd)
+    (count : Count) : Type 0 where
+  pub kept : Kept
+  pub served : Served o s scripts images end kept
+  pub counted : count ≡ total kept.tallies
 
 -- what a serving may come to, over what its disks held: links were served to their end and counted so; they were served until a
--- porch failed; or no door was opened, and so none was closed
+-- porch failed; or no door was opened, and so none was closed and nothing was kept
 pub record Serves : Type 1 where
   pub rack : Racks
   pub can : Service → List Named → List (List ℕ) → Count → Type 0
@@ -193,9 +129,9 @@ pub record Serves : Type 1 where
 abbrev pub serves_over : {D P L N : Type 0} → Outside D P L N → Serves
 serves_over o = record {
   rack = o.rack;
-  can = λ s scripts images count. Served o s scripts images ends.Done count;
-  fails = λ s scripts images count. Served o s scripts images ends.Failed count;
-  unopened = o.after.closed ≡ o.before.closed;
+  can = λ s scripts images count. ServedSo o s scripts images ends.Done count;
+  fails = λ s scripts images count. ServedSo o s scripts images ends.Failed count;
+  unopened = IsUnserved o.before o.after o.past;
 }
 
 -- each shelf was opened on what its disk held
@@ -233,6 +169,12 @@ ShutsBy rack s scripts images (unopened.NotEmpty shelf) = ⊥
 ShutsBy rack s scripts images (unopened.Damaged shelf place) = Shuts rack s scripts images shelf (damaged place)
 ShutsBy rack s scripts images (unopened.Other shelf place) = Shuts rack s scripts images shelf (other place)
 ShutsBy rack s scripts images unopened.Memory = ⊤
+
+-- what was counted, or why nothing was, as the command tells it
+abbrev pub told_as : Result Tally ServingFault → Result Tally ServeFault
+told_as (Ok tally) = Ok tally
+told_as (Err faults.Door) = Err fault.Door
+told_as (Err faults.Memory) = Err fault.Memory
 
 -- what was served, by how a serving ended
 abbrev pub ServesBy : Serves → Service → List Named → List (List ℕ) → Result Tally ServeFault → Type 0

@@ -1,11 +1,13 @@
-//! What the program's words come to: setups that are checked, steps that are played, and links that are served.
+//! What the program's words come to: setups that are checked, steps that are played, links that are served, and
+//! runs that are measured.
 #![tactic(auto)]
 
+mod loading;
 mod opening;
 mod program;
-mod serial;
 mod serving;
 mod telling;
 
 pub use opening::Unopened;
 pub use program::{Status, command};
+pub use site_serving::{KeptPast, NoPast, Past};

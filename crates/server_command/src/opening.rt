@@ -1,23 +1,23 @@
 ghost use Rattle.std.specs.Prelude.{List, ◌&&◌, ◌≡◌, ◌≤◌, ◌<◌, ◌+◌, [], ℕ, true, length, slice_get, Some, None, IsTrue, IfOk, IfErr, OnOk, OnErr, vec_len};
-ghost use Rattle.std.specs.VecDeque.{deque_len};
 ghost use Rattle.web_outside.specs.Causes.{Rose};
+ghost use Rattle.web_disk.specs.View.{AreAmong};
 ghost use Rattle.script_nodes.specs.Setup.{Named};
 ghost use Rattle.script_nodes.specs.Views.{scripts_of};
-ghost use Rattle.journal_records.specs.Records.{IsInGrammar, begin_of};
 ghost use Rattle.shelf.specs.Ranges as ranges;
-ghost use Rattle.shelf.specs.Views.{IsInOrder, book_in, rules_of};
+ghost use Rattle.shelf.specs.Views.{rules_of};
+ghost use Rattle.site.specs.Beginnings.{IsReady};
+ghost use Rattle.site_serving.specs.Serving.{openings_of};
 ghost use Rattle.command_words.specs.Plain.{AreInRange};
 ghost use Rattle.server_command.specs.Output.{rules_for};
 ghost use Rattle.server_command.specs.Racks.{KeepsHome};
-ghost use Rattle.server_command.specs.Serial.{AreInOrder};
-ghost use Rattle.server_command.specs.Serving.{AllStand, IsOpened};
-ghost use Rattle.server_command.specs.Opening.{AreAsked, AreOut, CanBegin, HasOpened, HasTaken, IsRefused, IsRefusedAt, IsUntaken, OpensOn, RefusesOn, TakesBack, seen_on, unopened_by};
+ghost use Rattle.server_command.specs.Opening.{AreAsked, AreGiven, AreOut, CanBegin, HasTaken, IsUntaken, OpensOn, RefusesOn, TakesBack, seen_on, unopened_by};
 
 use command_words::Options;
 use script_nodes::Setup;
-use shelf::{BeginFault, Rules, Shelf};
+use shelf::{BeginFault, Rules};
+use site::{Site, SiteFault};
 use std::alloc::{AllocError, Global};
-use std::collections::VecDeque;
+use std::sync::Wait;
 use web_disk::{Disk, Rack, RackFault};
 use web_outside::Nonces;
 
@@ -77,18 +77,17 @@ pub fn rules_of(options: &Options, number: u32) -> Rules
     }
 }
 
-// Gives back disks, the first of which has this number.
-fn give_all<D: Disk, R: Rack<D>>(rack: &mut R, disks: VecDeque<D>, first: u32)
-    requires { first + deque_len disks ≤ 16 }
-    ensures { TakesBack (R.view rack.old) (R.view rack.new) first (deque_len disks) }
+/// Gives back disks, of which that of place 0 has the number 0. Their faults count as the rack's.
+pub fn give_all<D: Disk, R: Rack<D>>(rack: &mut R, disks: Vec<D>)
+    requires few { length disks.items ≤ 16 }
+    ensures back { TakesBack (R.view rack.old) (R.view rack.new) 0 (length disks.items) }
+    ensures given { AreGiven D.view (IsTrue R.tells) (R.view rack.old) (R.view rack.new) disks.items }
 {
     let mut disks = disks;
-    let mut number = first;
     // A count is below 2^64, so it does not fall where that of a disk is added.
     let _count = rack.faults();
-    'giving: while let Some(disk) = disks.pop_front() {
-        rack.give(number, disk);
-        number += 1;
+    'giving: while let Some(disk) = disks.pop() {
+        rack.give(disks.len() as u32, disk);
     }
     disks.destroy_empty();
 }
@@ -99,7 +98,7 @@ fn take_all<D: Disk, R: Rack<D>>(
     rack: &mut R,
     directory: &str,
     count: u32,
-) -> Result<VecDeque<D>, Unopened>
+) -> Result<Vec<D>, Unopened>
     requires { count ≤ 16 }
     ensures taken { IfOk result (λ disks. HasTaken (IsTrue (R.tells && D.tells)) (R.view rack.old) (R.view rack.new)
         count (seen_on D.view disks.items)) }
@@ -107,12 +106,12 @@ fn take_all<D: Disk, R: Rack<D>>(
     ensures refused { IfErr result (IsUntaken (Rose (R.view rack.old).faults (R.view rack.new).faults)) }
     ensures later { (R.view rack.old).faults ≤ (R.view rack.new).faults }
 {
-    let mut disks = VecDeque::with_capacity(alloc, count as usize)?;
+    let mut disks = Vec::with_capacity(alloc, count as usize)?;
     'taking: for number in 0..count {
         match rack.take(alloc, directory, number) {
-            Ok(disk) => disks.push_back_reserved(disk),
+            Ok(disk) => disks.push_reserved(disk),
             Err(fault) => {
-                give_all(rack, disks, 0);
+                give_all(rack, disks);
                 return Err(match fault {
                     RackFault::Failed => Unopened::Disk { shelf: number },
                     RackFault::Memory => Unopened::Memory,
@@ -123,125 +122,44 @@ fn take_all<D: Disk, R: Rack<D>>(
     Ok(disks)
 }
 
-/// Gives back the disks of shelves, of which that of place 0 has the number 0. They stand for the shelves' books.
-pub fn close_all<D: Disk, R: Rack<D>, N: Nonces + Drop>(
-    rack: &mut R,
-    setup: &Setup,
-    shelves: Vec<Shelf<D, N>>,
-)
-    requires few { vec_len shelves ≤ 16 }
-    requires in_order { AreInOrder D.view D.tells (scripts_of setup.now) shelves.items }
-    ensures back { TakesBack (R.view rack.old) (R.view rack.new) 0 (vec_len shelves) }
-    ensures stand { IsTrue (R.tells && D.tells) → AreOut (R.view rack.old) (vec_len shelves)
-        → AllStand (scripts_of setup.now) (R.view rack.new).holds shelves.items }
-{
-    let _ = setup;
-    let mut shelves = shelves;
-    let _count = rack.faults();
-    'closing: while let Some(shelf) = shelves.pop() {
-        let (disk, nonces) = shelf.close();
-        drop(nonces);
-        rack.give(shelves.len() as u32, disk);
-    }
-    shelves.destroy_empty();
-}
-
-// Opens the shelf of these rules on its disk, or gives the disk back.
-fn begin_one<D: Disk, R: Rack<D>, N: Nonces + Drop>(
-    alloc: Global,
-    rack: &mut R,
-    disk: D,
-    source: &N,
-    setup: &Setup,
-    rules: Rules,
-) -> Result<Shelf<D, N>, Unopened>
-    requires range { ranges.AreInRange rules }
-    requires few { length (scripts_of setup.now) ≤ 256 }
-    requires begins { IsInGrammar (begin_of rules.number (scripts_of setup.now)) }
-    ensures opened { IfOk result (λ s. IsOpened (IsTrue (R.tells && D.tells)) N.nonce (rules_of (scripts_of setup.now) rules)
-        (scripts_of setup.now) rules.number (D.view disk).seen source.now s) }
-    ensures in_order { IfOk result (IsInOrder D.view D.tells (scripts_of setup.now)) }
-    ensures rules { IfOk result (λ s. s.rules ≡ rules) }
-    ensures same { OnOk result (rack.new ≡ rack.old) }
-    ensures back { OnErr result (TakesBack (R.view rack.old) (R.view rack.new) rules.number 1) }
-    ensures refused { IfErr result (IsRefusedAt (IsTrue (R.tells && D.tells))
-        (Rose (R.view rack.old).faults (R.view rack.new).faults) (scripts_of setup.now) rules.number (D.view disk).seen) }
-{
-    match Shelf::begin(alloc, disk, source.again(), setup, rules) {
-        Ok(shelf) => Ok(shelf),
-        Err((fault, disk, nonces)) => {
-            drop(nonces);
-            let _count = rack.faults();
-            rack.give(rules.number, disk);
-            Err(why_unopened(rules.number, fault))
-        }
-    }
-}
-
-// Opens the shelves on their disks, with a source of nonces for each, or gives all disks back.
-fn begin_all<D: Disk, R: Rack<D>, N: Nonces + Drop>(
-    alloc: Global,
-    rack: &mut R,
-    disks: VecDeque<D>,
-    sources: &[N],
-    setup: &Setup,
-    options: &Options,
-) -> Result<Vec<Shelf<D, N>>, Unopened>
-    requires range { AreInRange options.now }
-    requires few { length (scripts_of setup.now) ≤ 256 }
-    requires begins { CanBegin options.now.shelves (scripts_of setup.now) }
-    requires count { deque_len disks ≡ options.now.shelves }
-    requires sources { length sources.now ≡ options.now.shelves }
-    ensures opened { IfOk result (λ shelves. HasOpened D.view D.tells (IsTrue (R.tells && D.tells)) N.nonce
-        (λ k. rules_for options.now k (scripts_of setup.now)) (scripts_of setup.now) (seen_on D.view disks.items) sources.now shelves.items) }
-    ensures same { OnOk result (rack.new ≡ rack.old) }
-    ensures back { OnErr result (TakesBack (R.view rack.old) (R.view rack.new) 0 options.now.shelves) }
-    ensures refused { IfErr result (IsRefused (IsTrue (R.tells && D.tells))
-        (Rose (R.view rack.old).faults (R.view rack.new).faults) (scripts_of setup.now) (seen_on D.view disks.items)) }
-{
-    let mut disks = disks;
-    let Ok(mut shelves) = Vec::with_capacity(alloc, sources.len()) else {
-        give_all(rack, disks, 0);
-        return Err(Unopened::Memory);
-    };
-    let mut number = 0;
-    'beginning: for source in sources {
-        let Some(disk) = disks.pop_front() else {
-            unreachable!()
-        };
-        match begin_one(alloc, rack, disk, source, setup, rules_of(options, number)) {
-            Ok(shelf) => shelves.push_reserved(shelf),
-            Err(why) => {
-                give_all(rack, disks, number + 1);
-                close_all(rack, setup, shelves);
-                return Err(why);
-            }
-        }
-        number += 1;
-    }
-    disks.destroy_empty();
-    Ok(shelves)
-}
-
-/// Opens the shelves on the disks of a directory, with a source of nonces for each. All disks are taken first; where a shelf
+/// Opens a site on the disks of a directory, with a source of nonces for each shelf. All disks are taken first; where a shelf
 /// is not opened, all are given back.
-pub fn open_all<D: Disk, R: Rack<D>, N: Nonces + Drop>(
+pub fn open_site<W: Wait, D: Disk, R: Rack<D>, N: Nonces + Drop>(
+    rt: &W,
     alloc: Global,
     rack: &mut R,
-    sources: &[N],
-    setup: &Setup,
+    sources: Vec<N>,
+    setup: Setup,
     options: &Options,
-) -> Result<Vec<Shelf<D, N>>, Unopened>
+) -> Result<Site<D, N>, Unopened>
     requires range { AreInRange options.now }
-    requires few { length (scripts_of setup.now) ≤ 256 }
-    requires begins { CanBegin options.now.shelves (scripts_of setup.now) }
-    requires sources { length sources.now ≡ options.now.shelves }
-    ensures opened { IfOk result (λ shelves. OpensOn D.view D.tells (IsTrue (R.tells && D.tells)) N.nonce
-        (λ k. rules_for options.now k (scripts_of setup.now)) (scripts_of setup.now) sources.now (R.view rack.old) (R.view rack.new) shelves.items) }
-    ensures refused { IfErr result (RefusesOn (IsTrue (R.tells && D.tells)) (scripts_of setup.now) options.now.shelves
+    requires few { length (scripts_of setup) ≤ 256 }
+    requires begins { CanBegin options.now.shelves (scripts_of setup) }
+    requires sources { length sources.items ≡ options.now.shelves }
+    ensures opened { IfOk result (λ site. OpensOn (IsTrue (R.tells && D.tells)) N.nonce
+        (λ k. rules_for options.now k (scripts_of setup)) (scripts_of setup) sources.items (R.view rack.old) (R.view rack.new)
+        (openings_of site.row.homes)) }
+    ensures count { IfOk result (λ site. length site.row.homes ≡ options.now.shelves) }
+    ensures ready { IfOk result IsReady }
+    ensures refused { IfErr result (RefusesOn (IsTrue (R.tells && D.tells)) (scripts_of setup) options.now.shelves
         (R.view rack.old) (R.view rack.new)) }
     ensures later { (R.view rack.old).faults ≤ (R.view rack.new).faults }
 {
+    let rules = rules_of(options, 0);
     let disks = take_all(alloc, rack, options.journal.as_str(), options.shelves)?;
-    begin_all(alloc, rack, disks, sources, setup, options)
+    match Site::begin(rt, alloc, setup, disks, sources, rules) {
+        Ok(site) => Ok(site),
+        Err(
+            SiteFault {
+                shelf,
+                fault,
+                disks,
+                nonces,
+            },
+        ) => {
+            drop(nonces);
+            give_all(rack, disks);
+            Err(why_unopened(shelf, fault))
+        }
+    }
 }

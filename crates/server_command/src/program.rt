@@ -7,14 +7,16 @@ ghost use Rattle.setup_reader.specs.Views.{parsed_of};
 ghost use Rattle.command_words.specs.Plain.{AreInRange, CanServe, IsInRange, IsPlain};
 ghost use Rattle.command_words.specs.declared.Command.{Command as Asked};
 ghost use Rattle.server_command.specs.Command as spec;
-ghost use Rattle.server_command.specs.Command.{Came, CameServing, Ends, Explained, IsComplete, Outputs, OutputsFor, PlaysSteps, texts, asked_in, asked_of, met_of};
+ghost use Rattle.server_command.specs.Command.{Came, CameServing, Ends, Explained, IsComplete, IsCompleteLoad, Outputs, OutputsFor, PlaysSteps, texts, asked_in, asked_of, met_of};
 ghost use Rattle.server_command.specs.Opening.{CanBegin};
 ghost use Rattle.server_command.specs.Output.{Chances, ending_of, sinks_of};
 ghost use Rattle.server_command.specs.Racks.{KeepsHome, racks_of};
-ghost use Rattle.server_command.specs.Serving.{Faults, LeavesInput, LeavesServing, faults_of, outside, serves_over, views};
+ghost use Rattle.site_serving.specs.Serving.{pasts_of, views};
+ghost use Rattle.server_command.specs.Serving.{Faults, LeavesInput, LeavesServing, faults_of, outside, serves_over};
 ghost use Rattle.play_desk.specs.Opening.{AreHome};
 ghost use Rattle.server_command.specs.Telling.{unopened_again, unopened_first};
 
+use crate::loading::load_all;
 use crate::opening::{Unopened, rules_of};
 use crate::serving::{ServeFault, serve};
 use crate::telling::{
@@ -25,9 +27,14 @@ use play_desk::{OpenCause, OpenFault, open_desk, transcripts_are_runs};
 use play_steps::{PlayEnd, Reopen, play};
 use script_nodes::Setup;
 use setup_reader::{Ending, Parsed, SetupFault};
+use site_serving::Past;
 use std::alloc::Global;
+use std::sync::Wait;
+use std::thread::Threads;
 use web_disk::{Disk, Rack};
-use web_outside::{Clock, Door, Gate, Nonces, Seeds, Sink, Source, read_all, write_or_drop};
+use web_outside::{
+    Clock, Door, Gate, Link, Nonces, Porch, Seeds, Sink, Source, read_all, write_or_drop,
+};
 
 /// How a command ended.
 #[derive(Clone, Copy, Debug, PartialEq, Eq)]
@@ -85,8 +92,8 @@ fn code_of(status: Status) -> u8
     }
 }
 
-// Why a run of steps did not begin.
-fn unopened_first(fault: OpenFault) -> Unopened
+/// Why a run of steps did not begin.
+pub(crate) fn unopened_first(fault: OpenFault) -> Unopened
     ensures { result ≡ unopened_first fault }
 {
     let OpenFault { shelf, why } = fault;
@@ -99,8 +106,8 @@ fn unopened_first(fault: OpenFault) -> Unopened
     }
 }
 
-// Why a shelf was not opened again.
-fn unopened_again(shelf: u32, why: Reopen) -> Unopened
+/// Why a shelf was not opened again.
+pub(crate) fn unopened_again(shelf: u32, why: Reopen) -> Unopened
     ensures { result ≡ unopened_again shelf why }
 {
     match why {
@@ -238,32 +245,41 @@ fn run_job<I: Source, O: Sink, D: Disk, R: Rack<D>>(
 
 // Serves a setup, and tells what was counted.
 fn serve_setup<
+    W: Threads + Wait + Sync,
     O: Sink,
-    D: Disk,
+    D: Disk + Send + Sync,
     R: Rack<D>,
     A: Door,
-    C: Clock,
-    N: Nonces + Drop,
+    C: Clock + Sync,
+    N: Nonces + Drop + Send + Sync,
     S: Seeds<N>,
-    G: Gate,
+    G: Gate + Sync,
+    P: Past,
 >(
+    rt: &W,
     alloc: Global,
     service: &Service,
-    setup: &Setup,
+    setup: Setup,
     output: &mut O,
     rack: &mut R,
     door: &mut A,
     clock: &C,
     seeds: &mut S,
     gate: &G,
+    past: &mut P,
 ) -> Status
+where
+    A::Porch: Send,
+    <A::Porch as Porch>::Link: Send,
+    <<A::Porch as Porch>::Link as Link>::Input: Send,
+    <<A::Porch as Porch>::Link as Link>::Output: Send,
     requires can { CanServe service.now }
-    requires few { length (scripts_of setup.now) ≤ 15 }
-    requires short { AreShort (scripts_of setup.now) }
+    requires few { length (scripts_of setup) ≤ 15 }
+    requires short { AreShort (scripts_of setup) }
     ensures outputs { let o = outside (views D.view D.tells A.Porch.Link.view A.Porch.view N.nonce (C.shows clock.now))
         (racks_of (R.tells && D.tells) (R.view rack.old) (R.view rack.new))
-        (A.view door.old) (A.view door.new) (S.view seeds.old) in
-        (images : List (List ℕ)) × LeavesServing (serves_over o) service.now (scripts_of setup.now) images result
+        (A.view door.old) (A.view door.new) (S.view seeds.old) (pasts_of (P.told past.old) (P.told past.new)) in
+        (images : List (List ℕ)) × LeavesServing (serves_over o) service.now (scripts_of setup) images result
         (sinks_of (O.view output.old) (O.view output.new))
         (faults_of (A.view door.old).faults (A.view door.new).faults)
         (faults_of (S.view seeds.old).faults (S.view seeds.new).faults) }
@@ -275,7 +291,9 @@ fn serve_setup<
     ensures home { KeepsHome (R.view rack.old) (R.view rack.new) }
     ensures rack_later { (R.view rack.old).faults ≤ (R.view rack.new).faults }
 {
-    match serve(alloc, service, setup, rack, door, clock, seeds, gate) {
+    match serve(
+        rt, alloc, service, setup, rack, door, clock, seeds, gate, past,
+    ) {
         Ok(tally) => tell_tally(alloc, &tally, output),
         Err(ServeFault::Key) => {
             write_or_drop(output, b"error 14 key\n");
@@ -292,15 +310,18 @@ fn serve_setup<
 
 // Serves the setup that an input is.
 fn serve_input<
+    W: Threads + Wait + Sync,
     O: Sink,
-    D: Disk,
+    D: Disk + Send + Sync,
     R: Rack<D>,
     A: Door,
-    C: Clock,
-    N: Nonces + Drop,
+    C: Clock + Sync,
+    N: Nonces + Drop + Send + Sync,
     S: Seeds<N>,
-    G: Gate,
+    G: Gate + Sync,
+    P: Past,
 >(
+    rt: &W,
     alloc: Global,
     service: &Service,
     input: &[u8],
@@ -310,11 +331,17 @@ fn serve_input<
     clock: &C,
     seeds: &mut S,
     gate: &G,
+    past: &mut P,
 ) -> Status
+where
+    A::Porch: Send,
+    <A::Porch as Porch>::Link: Send,
+    <<A::Porch as Porch>::Link as Link>::Input: Send,
+    <<A::Porch as Porch>::Link as Link>::Output: Send,
     requires { CanServe service.now }
     ensures outputs { let o = outside (views D.view D.tells A.Porch.Link.view A.Porch.view N.nonce (C.shows clock.now))
         (racks_of (R.tells && D.tells) (R.view rack.old) (R.view rack.new))
-        (A.view door.old) (A.view door.new) (S.view seeds.old) in
+        (A.view door.old) (A.view door.new) (S.view seeds.old) (pasts_of (P.told past.old) (P.told past.new)) in
         (chances : Chances) × LeavesInput (serves_over o) service.now input.now chances result
         (sinks_of (O.view output.old) (O.view output.new))
         (faults_of (A.view door.old).faults (A.view door.new).faults)
@@ -328,17 +355,12 @@ fn serve_input<
     ensures rack_later { (R.view rack.old).faults ≤ (R.view rack.new).faults }
 {
     match Parsed::parse(alloc, Ending::Input, input) {
-        Ok(parsed) => serve_setup(
-            alloc,
-            service,
-            &parsed.setup,
-            output,
-            rack,
-            door,
-            clock,
-            seeds,
-            gate,
-        ),
+        Ok(parsed) => {
+            let Parsed { setup, steps: _ } = parsed;
+            serve_setup(
+                rt, alloc, service, setup, output, rack, door, clock, seeds, gate, past,
+            )
+        }
         Err(SetupFault::At(error)) => tell_fault(alloc, &error, output),
         Err(SetupFault::Memory) => no_memory(output),
     }
@@ -346,16 +368,19 @@ fn serve_input<
 
 // Reads the input and serves it.
 fn run_service<
+    W: Threads + Wait + Sync,
     I: Source,
     O: Sink,
-    D: Disk,
+    D: Disk + Send + Sync,
     R: Rack<D>,
     A: Door,
-    C: Clock,
-    N: Nonces + Drop,
+    C: Clock + Sync,
+    N: Nonces + Drop + Send + Sync,
     S: Seeds<N>,
-    G: Gate,
+    G: Gate + Sync,
+    P: Past,
 >(
+    rt: &W,
     alloc: Global,
     service: &Service,
     input: &mut I,
@@ -365,11 +390,17 @@ fn run_service<
     clock: &C,
     seeds: &mut S,
     gate: &G,
+    past: &mut P,
 ) -> Status
+where
+    A::Porch: Send,
+    <A::Porch as Porch>::Link: Send,
+    <<A::Porch as Porch>::Link as Link>::Input: Send,
+    <<A::Porch as Porch>::Link as Link>::Output: Send,
     requires { CanServe service.now }
     ensures comes { let o = outside (views D.view D.tells A.Porch.Link.view A.Porch.view N.nonce (C.shows clock.now))
         (racks_of (R.tells && D.tells) (R.view rack.old) (R.view rack.new))
-        (A.view door.old) (A.view door.new) (S.view seeds.old) in
+        (A.view door.old) (A.view door.new) (S.view seeds.old) (pasts_of (P.told past.old) (P.told past.new)) in
         (words : List (List ℕ)) → CameServing (serves_over o) service.now result
         (met_of words (I.view input.old) (I.view input.new)
         (sinks_of (O.view output.old) (O.view output.new))
@@ -387,7 +418,7 @@ fn run_service<
 {
     match read_all(alloc, input) {
         Ok(bytes) => serve_input(
-            alloc, service, &bytes, output, rack, door, clock, seeds, gate,
+            rt, alloc, service, &bytes, output, rack, door, clock, seeds, gate, past,
         ),
         Err(fault) => tell_unread(fault, output),
     }
@@ -395,16 +426,19 @@ fn run_service<
 
 // Reads the words, and does what they ask for.
 fn run<
+    W: Threads + Wait + Sync,
     I: Source,
     O: Sink,
-    D: Disk,
+    D: Disk + Send + Sync,
     R: Rack<D>,
     A: Door,
-    C: Clock,
-    N: Nonces + Drop,
+    C: Clock + Sync,
+    N: Nonces + Drop + Send + Sync,
     S: Seeds<N>,
-    G: Gate,
+    G: Gate + Sync,
+    P: Past,
 >(
+    rt: &W,
     alloc: Global,
     words: &[&str],
     input: &mut I,
@@ -414,11 +448,17 @@ fn run<
     clock: &C,
     seeds: &mut S,
     gate: &G,
+    past: &mut P,
 ) -> Status
+where
+    A::Porch: Send,
+    <A::Porch as Porch>::Link: Send,
+    <<A::Porch as Porch>::Link as Link>::Input: Send,
+    <<A::Porch as Porch>::Link as Link>::Output: Send,
     requires { AreHome (R.view rack.old).out }
     ensures explained { let o = outside (views D.view D.tells A.Porch.Link.view A.Porch.view N.nonce (C.shows clock.now))
         (racks_of (R.tells && D.tells) (R.view rack.old) (R.view rack.new))
-        (A.view door.old) (A.view door.new) (S.view seeds.old) in
+        (A.view door.old) (A.view door.new) (S.view seeds.old) (pasts_of (P.told past.old) (P.told past.new)) in
         Explained (serves_over o) result
         (met_of (texts words.now) (I.view input.old) (I.view input.new)
         (sinks_of (O.view output.old) (O.view output.new))
@@ -438,11 +478,10 @@ fn run<
     match read_words(alloc, words) {
         Ok(Command::Check) => run_job(alloc, &Job::Check, input, output, rack),
         Ok(Command::Play(options)) => run_job(alloc, &Job::Play(options), input, output, rack),
-        Ok(Command::Serve(service)) => {
-            run_service(
-                alloc, &service, input, output, rack, door, clock, seeds, gate,
-            )
-        }
+        Ok(Command::Load(options)) => load_all(alloc, &options, output, rack),
+        Ok(Command::Serve(service)) => run_service(
+            rt, alloc, &service, input, output, rack, door, clock, seeds, gate, past,
+        ),
         Err(WordsFault::Usage) => {
             write_or_drop(output, b"error 2 usage\n");
             Status::Usage
@@ -451,25 +490,26 @@ fn run<
     }
 }
 
-/// Does what the words ask for with the setup and the steps that the input has, writes what is due, and answers the
-/// process's status.
+/// Does what the words ask for with the setup and the steps that the input has, or performs a measured run, which reads
+/// no input; writes what is due, and answers the process's status.
 ///
 /// Each visit that is accepted shows what its script, run again from its start, shows next when fed the answers of
 /// its page's own ancestors and their reads of shared cells, and then its own; each other reply is the script's own
 /// fault or exactly the refusal that admission, cost or limits name, or want of memory.
 pub fn command<
-    T,
+    W: Threads + Wait + Sync,
     I: Source,
     O: Sink,
-    D: Disk,
+    D: Disk + Send + Sync,
     R: Rack<D>,
     A: Door,
-    C: Clock,
-    N: Nonces + Drop,
+    C: Clock + Sync,
+    N: Nonces + Drop + Send + Sync,
     S: Seeds<N>,
-    G: Gate,
+    G: Gate + Sync,
+    P: Past,
 >(
-    _rt: &T,
+    rt: &W,
     alloc: Global,
     words: &[&str],
     input: &mut I,
@@ -479,13 +519,19 @@ pub fn command<
     clock: &C,
     seeds: &mut S,
     gate: &G,
+    past: &mut P,
 ) -> u8
+where
+    A::Porch: Send,
+    <A::Porch as Porch>::Link: Send,
+    <<A::Porch as Porch>::Link as Link>::Input: Send,
+    <<A::Porch as Porch>::Link as Link>::Output: Send,
     requires { AreHome (R.view rack.old).out }
     // How it ended, and what was written, by what the disks held and the fates of its visits; the status is the one that is due
     // to the words and the input by these, but for faults of the outside and for want of memory.
     ensures ended { let o = outside (views D.view D.tells A.Porch.Link.view A.Porch.view N.nonce (C.shows clock.now))
         (racks_of (R.tells && D.tells) (R.view rack.old) (R.view rack.new))
-        (A.view door.old) (A.view door.new) (S.view seeds.old) in
+        (A.view door.old) (A.view door.new) (S.view seeds.old) (pasts_of (P.told past.old) (P.told past.new)) in
         Ends (serves_over o) result
         (met_of (texts words.now) (I.view input.old) (I.view input.new)
         (sinks_of (O.view output.old) (O.view output.new))
@@ -494,6 +540,13 @@ pub fn command<
         (faults_of (S.view seeds.old).faults (S.view seeds.new).faults)) }
     // Plain words over a lawful input end well, at a step that does not fit, or for want of memory, where nothing outside fails.
     ensures complete { IsComplete result
+        (met_of (texts words.now) (I.view input.old) (I.view input.new)
+        (sinks_of (O.view output.old) (O.view output.new))
+        (racks_of (R.tells && D.tells) (R.view rack.old) (R.view rack.new))
+        (faults_of (A.view door.old).faults (A.view door.new).faults)
+        (faults_of (S.view seeds.old).faults (S.view seeds.new).faults)) }
+    // So does a measured run, which reads no input.
+    ensures complete_load { IsCompleteLoad result
         (met_of (texts words.now) (I.view input.old) (I.view input.new)
         (sinks_of (O.view output.old) (O.view output.new))
         (racks_of (R.tells && D.tells) (R.view rack.old) (R.view rack.new))
@@ -519,5 +572,7 @@ pub fn command<
     ensures key { result ≡ 14 → Rose (S.view seeds.old).faults (S.view seeds.new).faults }
 {
     transcripts_are_runs();
-    code_of(run(alloc, words, input, output, rack, door, clock, seeds, gate))
+    code_of(run(
+        rt, alloc, words, input, output, rack, door, clock, seeds, gate, past,
+    ))
 }

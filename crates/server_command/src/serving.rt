@@ -1,22 +1,22 @@
-ghost use Rattle.std.specs.Prelude.{◌&&◌, ◌≡◌, ◌≤◌, ◌∷◌, [], List, ℕ, length, IfOk, IfSome, IsErrOf, IsTrue, OnOk, OnErr, vec_len};
+ghost use Rattle.std.specs.Prelude.{◌&&◌, ◌≡◌, ◌≤◌, List, ℕ, length, IfOk, IfSome, IsErrOf, IsTrue, vec_len};
 ghost use Rattle.web_outside.specs.Causes.{Rose};
 ghost use Rattle.script_nodes.specs.Views.{scripts_of};
 ghost use Rattle.command_words.specs.Plain.{CanServe};
+ghost use Rattle.site_serving.specs.Serving.{pasts_of, views};
 ghost use Rattle.server_command.specs.Opening.{CanBegin};
 ghost use Rattle.server_command.specs.Racks.{KeepsHome, racks_of};
-ghost use Rattle.server_command.specs.Serial.{AreOwn};
-ghost use Rattle.server_command.specs.Serving.{ServesBy, ServesFrom, WorksFirst, outside, serves_over, views, worker_of};
+ghost use Rattle.server_command.specs.Serving.{ServesBy, outside, serves_over, told_as, watch_of};
 
-use crate::opening::{Unopened, close_all, open_all};
-use crate::serial::Serial;
+use crate::opening::{Unopened, give_all, open_site};
 use command_words::Service;
-use request_workers::{Tally, WorkEnd, work};
+use request_workers::Tally;
 use script_nodes::Setup;
-use shelf::Shelf;
+use site_serving::{Past, ServingFault, Watch, serve_site};
 use std::alloc::Global;
-use std::marker::PhantomData;
+use std::sync::Wait;
+use std::thread::Threads;
 use web_disk::{Disk, Rack};
-use web_outside::{Clock, Door, DoorFault, Gate, Nonces, Porch, SeedFault, Seeds};
+use web_outside::{Clock, Door, Gate, Link, Nonces, Porch, SeedFault, Seeds};
 
 /// Why a serving came to no counts.
 #[derive(Clone, Copy, Debug, PartialEq, Eq)]
@@ -25,10 +25,32 @@ pub enum ServeFault {
     Key,
     /// A shelf was not opened.
     Shelf(Unopened),
-    /// The door failed, or its porch.
+    /// The door failed, or a porch.
     Door,
     /// Memory ran out.
     Memory,
+}
+
+// What the service asks of its door.
+fn watch_of(service: &Service) -> Watch
+    ensures { result ≡ watch_of service.now }
+{
+    Watch {
+        port: service.port,
+        workers: service.workers,
+        connections: service.connections,
+    }
+}
+
+// What was counted, or why nothing was, as the command tells it.
+fn told_as(outcome: Result<Tally, ServingFault>) -> Result<Tally, ServeFault>
+    ensures { result ≡ told_as outcome }
+{
+    match outcome {
+        Ok(tally) => Ok(tally),
+        Err(ServingFault::Door) => Err(ServeFault::Door),
+        Err(ServingFault::Memory) => Err(ServeFault::Memory),
+    }
 }
 
 // The sources of nonces that the seeds give, one for each shelf.
@@ -51,76 +73,44 @@ fn draw_sources<N: Nonces + Drop, S: Seeds<N>>(
     }
 }
 
-// Serves the links of the one porch.
-fn work_first<D: Disk, P: Porch, C: Clock, N: Nonces + Drop, G: Gate>(
-    alloc: Global,
-    serial: &Serial<'_, D, N>,
-    shelves: &mut Vec<Shelf<D, N>>,
-    porches: &mut Vec<P>,
-    clock: &C,
-    gate: &G,
-) -> Tally
-    requires one { vec_len porches.old ≡ 1 }
-    requires own { AreOwn D.view D.tells (scripts_of serial.now.setup.now) serial.now.sources.items shelves.old.items }
-    ensures own { AreOwn D.view D.tells (scripts_of serial.now.setup.now) serial.now.sources.items shelves.new.items }
-    ensures works { WorksFirst (views D.view D.tells P.Link.view P.view N.nonce (C.shows clock.now)) (scripts_of serial.now.setup.now)
-        serial.now.sources.items shelves.old shelves.new porches.old.items porches.new.items (worker_of result) }
-{
-    work(alloc, serial, shelves, &mut porches[0], clock, gate)
-}
-
-// Serves links of the door from shelves that are open.
-fn serve_links<D: Disk, A: Door, C: Clock, N: Nonces + Drop, G: Gate>(
+/// Serves a setup by as many workers as the service says: links of the door, each with one request, until each worker served
+/// as many as it says, or no more come. The shelves go on with what the journals of their disks make. When the workers have
+/// ended, what each shelf's callers did and what each worker counted is kept, once. An error is that of the seeds, of a shelf
+/// that was not opened, of the door or a porch, or want of memory.
+pub fn serve<
+    W: Threads + Wait + Sync,
+    D: Disk + Send + Sync,
+    R: Rack<D>,
+    A: Door,
+    C: Clock + Sync,
+    N: Nonces + Drop + Send + Sync,
+    S: Seeds<N>,
+    G: Gate + Sync,
+    P: Past,
+>(
+    rt: &W,
     alloc: Global,
     service: &Service,
-    serial: &Serial<'_, D, N>,
-    shelves: &mut Vec<Shelf<D, N>>,
-    door: &mut A,
-    clock: &C,
-    gate: &G,
-) -> Result<Tally, ServeFault>
-    requires can { CanServe service.now }
-    requires own { AreOwn D.view D.tells (scripts_of serial.now.setup.now) serial.now.sources.items shelves.old.items }
-    ensures own { AreOwn D.view D.tells (scripts_of serial.now.setup.now) serial.now.sources.items shelves.new.items }
-    ensures served { ServesFrom (views D.view D.tells A.Porch.Link.view A.Porch.view N.nonce (C.shows clock.now)) (A.view door.old)
-        (A.view door.new) service.now (scripts_of serial.now.setup.now) serial.now.sources.items shelves.old shelves.new result }
-    ensures door { IsErrOf result ServeFault.Door → Rose (A.view door.old).faults (A.view door.new).faults }
-    ensures later { (A.view door.old).faults ≤ (A.view door.new).faults }
-{
-    let mut porches = match door.listen(alloc, service.port, 1, service.connections) {
-        Ok(porches) => porches,
-        Err(DoorFault::Failed) => return Err(ServeFault::Door),
-        Err(DoorFault::Memory) => return Err(ServeFault::Memory),
-    };
-    let tally = work_first(alloc, serial, shelves, &mut porches, clock, gate);
-    // A count is below 2^64, so it does not fall where those of the porches are added.
-    let _count = door.faults();
-    door.close(porches);
-    match tally.end {
-        WorkEnd::Done => Ok(tally),
-        WorkEnd::Failed => Err(ServeFault::Door),
-    }
-}
-
-/// Serves a setup: links of the door, each with one request, until as many came as the service says, or no more come. The
-/// shelves go on with what the journals of their disks make. An error is that of the seeds, of a shelf that was not opened, of
-/// the door or its porch, or want of memory.
-pub fn serve<D: Disk, R: Rack<D>, A: Door, C: Clock, N: Nonces + Drop, S: Seeds<N>, G: Gate>(
-    alloc: Global,
-    service: &Service,
-    setup: &Setup,
+    setup: Setup,
     rack: &mut R,
     door: &mut A,
     clock: &C,
     seeds: &mut S,
     gate: &G,
+    past: &mut P,
 ) -> Result<Tally, ServeFault>
+where
+    A::Porch: Send,
+    <A::Porch as Porch>::Link: Send,
+    <<A::Porch as Porch>::Link as Link>::Input: Send,
+    <<A::Porch as Porch>::Link as Link>::Output: Send,
     requires can { CanServe service.now }
-    requires few { length (scripts_of setup.now) ≤ 256 }
-    requires begins { CanBegin service.now.options.shelves (scripts_of setup.now) }
+    requires few { length (scripts_of setup) ≤ 256 }
+    requires begins { CanBegin service.now.options.shelves (scripts_of setup) }
     ensures served { let o = outside (views D.view D.tells A.Porch.Link.view A.Porch.view N.nonce (C.shows clock.now))
-        (racks_of (R.tells && D.tells) (R.view rack.old) (R.view rack.new)) (A.view door.old) (A.view door.new) (S.view seeds.old) in
-        (images : List (List ℕ)) × ServesBy (serves_over o) service.now (scripts_of setup.now) images result }
+        (racks_of (R.tells && D.tells) (R.view rack.old) (R.view rack.new)) (A.view door.old) (A.view door.new) (S.view seeds.old)
+        (pasts_of (P.told past.old) (P.told past.new)) in
+        (images : List (List ℕ)) × ServesBy (serves_over o) service.now (scripts_of setup) images result }
     ensures key { IsErrOf result ServeFault.Key → Rose (S.view seeds.old).faults (S.view seeds.new).faults }
     ensures door { IsErrOf result ServeFault.Door → Rose (A.view door.old).faults (A.view door.new).faults }
     ensures door_later { (A.view door.old).faults ≤ (A.view door.new).faults }
@@ -129,21 +119,11 @@ pub fn serve<D: Disk, R: Rack<D>, A: Door, C: Clock, N: Nonces + Drop, S: Seeds<
     ensures home { KeepsHome (R.view rack.old) (R.view rack.new) }
 {
     let sources = draw_sources(alloc, seeds, service.options.shelves)?;
-    let mut shelves = match open_all(alloc, rack, &sources, setup, &service.options) {
-        Ok(shelves) => shelves,
+    let site = match open_site(rt, alloc, rack, sources, setup, &service.options) {
+        Ok(site) => site,
         Err(why) => return Err(ServeFault::Shelf(why)),
     };
-    let serial = Serial {
-        setup,
-        sources,
-        disks: PhantomData,
-    };
-    let outcome = serve_links(alloc, service, &serial, &mut shelves, door, clock, gate);
-    close_all(rack, setup, shelves);
-    let Serial {
-        setup: _,
-        sources: _,
-        disks: _,
-    } = serial;
-    outcome
+    let (disks, outcome) = serve_site(rt, alloc, site, &watch_of(service), door, clock, gate, past);
+    give_all(rack, disks);
+    told_as(outcome)
 }

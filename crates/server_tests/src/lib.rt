@@ -5,6 +5,8 @@
 #[cfg(test)]
 mod endings;
 #[cfg(test)]
+mod loading;
+#[cfg(test)]
 mod outside;
 #[cfg(test)]
 mod serving;

@@ -1,10 +1,19 @@
 //! An outside in memory, which fails where it is told to, and what a command comes to over it.
 
 use file_disk::ServedRack;
-use server_command::command;
+use server_command::{NoPast, command};
 use std::alloc::Global;
+use std::fs::{File, Files};
+use std::sync::Wait;
 use std::test::Fail;
+use std::thread::Threads;
+use std::time::Clock;
 use web_outside::{ListDoor, ListSeeds, OpenGate, SetClock, TextSink, TextSource};
+
+/// What a command is run on: it may start threads, and tells of them and of files on the standard error.
+pub trait Machine: AllocGlobal + Clock + Eprint + Files<File = File> + Sync + Threads + Wait {}
+
+impl<R: AllocGlobal + Clock + Eprint + Files<File = File> + Sync + Threads + Wait> Machine for R {}
 
 /// How the outside treats a run: which reads and writes fail, the greatest piece of a read, the room of the output, and
 /// whether its flushes fail.
@@ -50,8 +59,8 @@ pub struct Outcome {
 }
 
 /// What a command with these words and this input comes to.
-pub fn ran(
-    rt: &HostRuntime,
+pub fn ran<R: Machine>(
+    rt: &R,
     words: &[&str],
     input: &[u8],
     outside: &Outside,
@@ -78,6 +87,7 @@ pub fn ran(
         &clock,
         &mut seeds,
         &OpenGate,
+        &mut NoPast,
     );
     Ok(Outcome {
         status,
@@ -103,7 +113,7 @@ pub fn input_of(alloc: Global, scripts: &[(&str, &str)], steps: &str) -> Result<
 }
 
 /// What `play` comes to for a script of the name `sum` and steps.
-pub fn answered(rt: &HostRuntime, script: &str, steps: &str) -> Result<Outcome, Fail> {
+pub fn answered<R: Machine>(rt: &R, script: &str, steps: &str) -> Result<Outcome, Fail> {
     let input = input_of(rt.alloc(), &[("sum", script)], steps)?;
     ran(rt, PLAY, input.as_bytes(), &FAIR)
 }

@@ -1,10 +1,10 @@
 //! Limits of setups and of scripts, as `play` and `check` tell them, by texts that are too long for rows.
 
-use crate::outside::{CHECK, FAIR, PLAY, answered, ran, repeated, setup_of};
+use crate::outside::{CHECK, FAIR, Machine, PLAY, answered, ran, repeated, setup_of};
 use std::test::Fail;
 
 // Whether the script of this text is refused with this fault.
-fn is_refused(rt: &HostRuntime, script: &str, fault: &str) -> Result<bool, Fail> {
+fn is_refused<R: Machine>(rt: &R, script: &str, fault: &str) -> Result<bool, Fail> {
     let outcome = answered(rt, script, "")?;
     let line = format!(in rt.alloc(); "error 3 sum {fault}\n")?;
     Ok(outcome.status == 3 && outcome.text.as_str() == line.as_str())

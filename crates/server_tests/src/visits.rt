@@ -1,6 +1,6 @@
 //! Two visits under way on one page, for each two ways in which their segments stop; and transactions, for each way to leave them.
 
-use crate::outside::{FAIR, PLAY, answered, input_of, parts_of, ran, repeated};
+use crate::outside::{FAIR, Machine, PLAY, answered, input_of, parts_of, ran, repeated};
 use crate::transcripts::QUIZ_SCRIPT;
 use std::alloc::Global;
 use std::test::Fail;
@@ -13,7 +13,7 @@ type Run = (
 );
 
 // The first run under these options that is not as its transcript, in words.
-fn first_wrong(rt: &HostRuntime, runs: &[Run]) -> Result<Option<String>, Fail> {
+fn first_wrong<R: Machine>(rt: &R, runs: &[Run]) -> Result<Option<String>, Fail> {
     let alloc = rt.alloc();
     for (options, scripts, transcript) in runs {
         let wanted = parts_of(alloc, transcript)?;

@@ -7,7 +7,7 @@ use Rattle.request_workers.proofs.worker.work.Goals as goal
 
 pub loop-tally-init : goal.loop-tally-init
 loop-tally-init g c =
-    let zero = c.nothing-tally.ensures in
+    let zero = c.nothing-tally.ensures.count in
     record {
       own = c.requires;
       worked = begin _ _ _ _ _ _ zero;

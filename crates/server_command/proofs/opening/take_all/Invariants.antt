@@ -1,13 +1,12 @@
 use Rattle.std.proofs.Common.{◌≡◌, ◌≤◌}
-use Rattle.std.specs.Prelude.{IsTrue, ◌&&◌}
-use Rattle.std.specs.VecDeque.{deque_len, deque_capacity}
+use Rattle.std.specs.Prelude.{IsTrue, ◌&&◌, vec_len, vec_capacity}
 use Rattle.server_command.specs.Opening.{seen_on}
 use Rattle.server_command.proofs.Openings.{TakesUpTo}
 use Rattle.server_command.proofs.opening.take_all.Given as goal
 
 abbrev pub invariant-taking : goal.invariant-taking
 invariant-taking g l = record {
-  size : deque_len l.disks ≡ l.number;
-  room : l.fn.count ≤ deque_capacity l.disks;
+  size : vec_len l.disks ≡ l.number;
+  room : l.fn.count ≤ vec_capacity l.disks;
   taken : TakesUpTo (IsTrue (g.R.Rack.tells && g.D.Disk.tells)) (g.R.Rack.view l.fn.rack) (g.R.Rack.view l.rack) l.number (seen_on g.D.Disk.view l.disks.items);
 }

@@ -1,11 +1,12 @@
 use Rattle.std.proofs.Common.{◌≡◌, Ok, Err, inl, inr, refl, rules}
-use Rattle.command_words.specs.declared.Command.TheVariants.{Check, Play, Serve}
+use Rattle.command_words.specs.declared.Command.TheVariants.{Check, Play, Serve, Load}
 use Rattle.command_words.specs.declared.WordsFault.TheVariants.{Usage}
 use Rattle.server_command.specs.Command.{met_of, texts}
 use Rattle.std.specs.Prelude.{◌&&◌}
+use Rattle.site_serving.specs.Serving.{pasts_of, views}
 use Rattle.server_command.specs.Racks.{racks_of}
 use Rattle.server_command.specs.Output.{sinks_of}
-use Rattle.server_command.specs.Serving.{faults_of, outside, serves_over, views}
+use Rattle.server_command.specs.Serving.{faults_of, outside, serves_over}
 use Rattle.server_command.proofs.Causes.{asks_if, asks_nothing, plain_asks, unworded}
 use Rattle.server_command.proofs.Endings.{no_chances}
 use Rattle.server_command.proofs.program.run.Goals as goal
@@ -27,6 +28,15 @@ returns-in-Ok-Play-clause-explained g c =
 
 pub returns-in-Ok-Play-clause-plain : goal.returns-in-Ok-Play-clause-plain
 returns-in-Ok-Play-clause-plain g c = λ asked p. plain_asks _ asked p
+
+pub returns-in-Ok-Load-clause-explained : goal.returns-in-Ok-Load-clause-explained
+returns-in-Ok-Load-clause-explained g c =
+    let is : c.read_words.result ≡ Ok (Load c.in-Ok-Load.options) = search rules in
+    let left = c.load_all.ensures.leaves in
+    (left.0, inr (Load c.in-Ok-Load.options, (asks_if (texts c.args.words.now) _ (Load c.in-Ok-Load.options) is c.read_words.ensures.fine c.read_words.ensures.found, ((refl, refl), left.1))))
+
+pub returns-in-Ok-Load-clause-plain : goal.returns-in-Ok-Load-clause-plain
+returns-in-Ok-Load-clause-plain g c = λ asked p. plain_asks _ asked p
 
 pub returns-in-Ok-Serve-clause-explained : goal.returns-in-Ok-Serve-clause-explained
 returns-in-Ok-Serve-clause-explained g c =
@@ -55,5 +65,5 @@ returns-in-Err-Memory-clause-explained g c =
     (sinks_of (g.O.Sink.view c.args.output.now) (g.O.Sink.view c.no_memory.new.output)) rack
     (faults_of (g.A.Door.view c.args.door.now).faults (g.A.Door.view c.args.door.now).faults) (faults_of (g.S.Seeds.view c.args.seeds.now).faults (g.S.Seeds.view c.args.seeds.now).faults) in
     let o = outside (views g.D.Disk.view g.D.Disk.tells g.A.Porch.Link.Link.view g.A.Porch.Porch.view g.N.Nonces.nonce (g.C.Clock.shows c.args.clock.now)) rack
-    (g.A.Door.view c.args.door.now) (g.A.Door.view c.args.door.now) (g.S.Seeds.view c.args.seeds.now) in
+    (g.A.Door.view c.args.door.now) (g.A.Door.view c.args.door.now) (g.S.Seeds.view c.args.seeds.now) (pasts_of (g.P.Past.told c.args.past.now) (g.P.Past.told c.args.past.now)) in
     unworded (serves_over o) c.no_memory.result met c.no_memory.ensures.status c.no_memory.ensures.line (refl, refl)

@@ -1,41 +1,43 @@
-use Rattle.std.proofs.Common.{◌≡◌, ◌∙◌, length, subst, sym}
-use Rattle.std.specs.Prelude.{IsTrue, ◌&&◌, vec_len}
+use Rattle.std.proofs.Common.{◌≡◌, ◌≤◌, ◌<◌, ◌∙◌, ℕ, length, Some, slice_get, subst, sym, arith}
+use Rattle.std.specs.Prelude.{IsTrue, ◌&&◌}
 use Rattle.script_nodes.specs.Views.{scripts_of}
-use Rattle.server_command.specs.Opening.{AreOut, OpensOn, TakesBack}
-use Rattle.server_command.specs.Output.{rules_for}
+use Rattle.site_serving.specs.Serving.{ComesTo, openings_of, pasts_of, views}
+use Rattle.server_command.specs.Opening.{AreOut, TakesBack}
 use Rattle.server_command.specs.Racks.{racks_of}
-use Rattle.server_command.specs.Serving.{outside, views}
-use Rattle.server_command.proofs.Openings.{all_home}
+use Rattle.server_command.specs.Serving.{ServesBy, outside, serves_over}
+use Rattle.server_command.proofs.Openings.{all_home, both_tell}
 use Rattle.server_command.proofs.Servings.{serves_of}
 use Rattle.server_command.proofs.serving.serve.Goals as goal
 
 pub returns-clause-served : goal.returns-clause-served
 returns-clause-served g c =
-    let scripts = scripts_of c.args.setup.now in
+    let scripts = scripts_of c.args.setup in
     let before = g.R.Rack.view c.args.rack.now in
-    let middle = g.R.Rack.view c.open_all.new.rack in
-    let last = c.serve_links-outcome.new.shelves in
+    let middle = g.R.Rack.view c.open_site.new.rack in
+    let last = g.R.Rack.view c.give_all.new.rack in
     let sources = c.in_ok-sources.sources.items in
+    let disks = c.serve_site-disks.result.0.items in
     let o = outside (views g.D.Disk.view g.D.Disk.tells g.A.Porch.Link.Link.view g.A.Porch.Porch.view g.N.Nonces.nonce (g.C.Clock.shows c.args.clock.now))
-    (racks_of (g.R.Rack.tells && g.D.Disk.tells) before (g.R.Rack.view c.close_all.new.rack)) (g.A.Door.view c.args.door.now)
-    (g.A.Door.view c.serve_links-outcome.new.door) (g.S.Seeds.view c.args.seeds.now) in
-    let p = subst (λ ss. OpensOn g.D.Disk.view g.D.Disk.tells (IsTrue (g.R.Rack.tells && g.D.Disk.tells)) g.N.Nonces.nonce (λ k. rules_for c.args.service.now.options k scripts)
-    scripts ss before middle c.in-Ok.shelves.items) c.deref.ensures.value c.in-Ok.ensures.opened in
-    let many : length sources ≡ vec_len last = sym (last.ok.0 ∙ c.serve_links-outcome.ensures.own.count) in (
-      p.images,
-      serves_of o c.args.service.now scripts sources middle c.in-Ok.shelves last c.serve_links-outcome.result c.in_ok-sources.ensures.count
-          c.in_ok-sources.ensures.drawn p (λ t. c.close_all.ensures.stand t (subst (AreOut middle) many p.taken.out)) c.serve_links-outcome.ensures.served,
-    )
+    (racks_of (g.R.Rack.tells && g.D.Disk.tells) before last) (g.A.Door.view c.args.door.now) (g.A.Door.view c.serve_site-disks.new.door)
+    (g.S.Seeds.view c.args.seeds.now) (pasts_of (g.P.Past.told c.args.past.now) (g.P.Past.told c.serve_site-disks.new.past)) in
+    let p = c.in-Ok.ensures.opened in
+    let count = c.in_ok-sources.ensures.count in
+    let many : length disks ≡ length sources = c.serve_site-disks.ensures.disks ∙ (c.in-Ok.ensures.count ∙ sym count) in
+    let comes = subst (λ w. ComesTo o.views (openings_of c.in-Ok.site.row.homes) o.before o.after o.past w disks c.serve_site-disks.result.1)
+    c.watch_of.ensures c.serve_site-disks.ensures.comes in
+    let served = serves_of o c.args.service.now scripts sources middle (openings_of c.in-Ok.site.row.homes) disks c.serve_site-disks.result.1 count c.in_ok-sources.ensures.drawn p
+    (λ t. (both_tell _ _ t).1)
+    (λ t k d d_is. c.give_all.ensures.given.held (both_tell _ _ t).0 (subst (AreOut middle) (sym many) p.taken.out) k d d_is)
+    comes in
+    (p.images, subst (ServesBy (serves_over o) c.args.service.now scripts p.images) (sym c.told_as.ensures) served)
 
 pub returns-clause-home : goal.returns-clause-home
 returns-clause-home g c =
-    let scripts = scripts_of c.args.setup.now in
     let before = g.R.Rack.view c.args.rack.now in
-    let middle = g.R.Rack.view c.open_all.new.rack in
-    let last = c.serve_links-outcome.new.shelves in
-    let sources = c.in_ok-sources.sources.items in
-    let p = subst (λ ss. OpensOn g.D.Disk.view g.D.Disk.tells (IsTrue (g.R.Rack.tells && g.D.Disk.tells)) g.N.Nonces.nonce (λ k. rules_for c.args.service.now.options k scripts)
-    scripts ss before middle c.in-Ok.shelves.items) c.deref.ensures.value c.in-Ok.ensures.opened in
-    let many : vec_len last ≡ length sources = last.ok.0 ∙ c.serve_links-outcome.ensures.own.count in
-    all_home (IsTrue (g.R.Rack.tells && g.D.Disk.tells)) before middle (g.R.Rack.view c.close_all.new.rack) (length sources) p.images p.taken
-    (subst (TakesBack middle (g.R.Rack.view c.close_all.new.rack) 0) many c.close_all.ensures.back)
+    let middle = g.R.Rack.view c.open_site.new.rack in
+    let last = g.R.Rack.view c.give_all.new.rack in
+    let p = c.in-Ok.ensures.opened in
+    let many : length c.serve_site-disks.result.0.items ≡ length c.in_ok-sources.sources.items =
+    c.serve_site-disks.ensures.disks ∙ (c.in-Ok.ensures.count ∙ sym c.in_ok-sources.ensures.count) in
+    all_home (IsTrue (g.R.Rack.tells && g.D.Disk.tells)) before middle last (length c.in_ok-sources.sources.items) p.images p.taken
+    (subst (TakesBack middle last 0) many c.give_all.ensures.back)

@@ -1,61 +1,78 @@
-use Rattle.std.proofs.Common.{rules, ◌≡◌, ◌++◌, ◌∷◌, [], suc, slice_get, length, length-append, ap, sym, subst, ◌∙◌, arith, map}
-use mathlib.Core.List.{IsPrefix}
-use Rattle.std.proofs.lemmas.List.{append-nil}
-use Rattle.shelf_lock.proofs.Closings.{prefix_at, prefix_less, none_behind}
+use Rattle.std.proofs.Common.{rules, ◌≡◌, ◌∷◌, [], ◌<◌, suc, ℕ, Some, slice_get, length, ap, sym, subst, ◌∙◌, arith, map, refl}
 use Rattle.std.specs.List.{AllZip}
-use Rattle.shelf_lock.specs.Order.{Begins}
-use Rattle.lock_row.specs.Spots.{Spot, spot, home}
+use Rattle.std.proofs.lemmas.Option.{slice_get_within}
+use Rattle.shelf_lock.specs.Order.{Begins, MadeBelow}
+use Rattle.lock_row.specs.Spots.{Spot, spot, home, IsAt}
 use Rattle.lock_row.specs.Rows.{IsBack}
-use Rattle.lock_row.proofs.Ends.{TellsFrom, tells_on, tells_first, zip_get, zip_back, zip_along}
-use Rattle.lock_row.proofs.Places.{get_map, map_map, homes, tables_of, tables_in}
+use Rattle.lock_row.proofs.Ends.{zip_get, zip_back, zip_along, none_above, tells_both}
+use Rattle.lock_row.proofs.Places.{get_map, map_map, map_length, homes, tables_of}
 use Rattle.lock_row.proofs.row.LockRow.close.Goals as goal
 
-pub loop-other-init : goal.loop-other-init
-loop-other-init g c =
-    let items : c.args.passes.items ≡ c.pop.new.self.items ++ c.unwrap-first.result ∷ [] = search rules in
-    let at = prefix_at c.pop.new.self.items c.args.passes.items c.unwrap-first.result ([], append-nil _ ∙ sym items) in (
-      c.requires.own _ _ at,
-      (c.unwrap-first.result ∷ [], sym items),
-      tells_first g.V.Kept c.args.passes.items (length c.pop.new.self.items) c.unwrap-first.result at
-          (none_behind (λ p. ⊥) c.args.passes.items (length c.pop.new.self.items) (ap length items ∙ omega (arith, length-append c.pop.new.self.items (c.unwrap-first.result ∷ [])))),
-    )
+pub take_in-requires-clause-own : goal.take_in-requires-clause-own
+take_in-requires-clause-own g c =
+    let locks : c.deref.result.now ≡ c.self.inside.locks.items = search rules in
+    subst (λ l. IsAt (map (λ k. home k.board.shared.table_id (g.V.Kept.opening k.board.shared.key.value.value ∷ [])) l) c.self.inside.own) (sym locks) c.self.invariant.6.0
 
-pub absorb-requires : goal.absorb-requires
-absorb-requires g c =
-    let i = c.loop-other.invariant in
-    let before : IsPrefix (c.pop-in-loop-other.new.self.items ++ c.in-Some.other ∷ []) c.args.passes.items = subst (λ l. IsPrefix l c.args.passes.items) c.in-Some.ensures.items i.1 in
-    record { own = (i.0, c.requires.own _ _ (prefix_at _ _ _ before)) }
+pub take_in-requires-clause-others : goal.take_in-requires-clause-others
+take_in-requires-clause-others g c j p e =
+    let locks : c.deref.result.now ≡ c.self.inside.locks.items = search rules in
+    subst (λ l. IsAt (map (λ k. home k.board.shared.table_id (g.V.Kept.opening k.board.shared.key.value.value ∷ [])) l) p) (sym locks)
+    (c.requires.own j p e ∙ sym (ap (λ r. r.homes) c.self.view_is))
 
-pub loop-other-preserved : goal.loop-other-preserved
-loop-other-preserved g c =
-    let i = c.loop-other.invariant in
-    let before : IsPrefix (c.pop-in-loop-other.new.self.items ++ c.in-Some.other ∷ []) c.args.passes.items = subst (λ l. IsPrefix l c.args.passes.items) c.in-Some.ensures.items i.1 in
-    let at = prefix_at _ _ _ before in
-    let of = c.requires.own _ _ at in
-    let longer_by : length c.loop-other.passes.items ≡ suc (length c.pop-in-loop-other.new.self.items) = ap length c.in-Some.ensures.items ∙ omega (arith, length-append c.pop-in-loop-other.new.self.items (c.in-Some.other ∷ [])) in (
-      c.absorb.ensures.own,
-      prefix_less _ _ _ before,
-      tells_on g.V.Kept c.args.passes.items (length c.pop-in-loop-other.new.self.items) c.loop-other.first c.absorb.new.pass c.in-Some.other
-          (subst (λ n. TellsFrom g.V.Kept n c.args.passes.items c.loop-other.first) longer_by i.2) at (i.0 ∙ sym c.absorb.ensures.own) (of ∙ sym c.absorb.ensures.own) c.absorb.ensures.both,
-    )
+pub take_in-requires-2-clause-own : goal.take_in-requires-2-clause-own
+take_in-requires-2-clause-own g c =
+    let locks : c.deref.result.now ≡ c.self.inside.locks.items = search rules in
+    let again : c.deref-2.result.now ≡ c.self.inside.locks.items = search rules in
+    subst (λ l. IsAt (map (λ k. home k.board.shared.table_id (g.V.Kept.opening k.board.shared.key.value.value ∷ [])) l) c.take_in.new.pass) (locks ∙ sym again) c.take_in.ensures.own
+
+pub take_in-requires-2-clause-others : goal.take_in-requires-2-clause-others
+take_in-requires-2-clause-others g c j p e =
+    let again : c.deref-2.result.now ≡ c.self.inside.locks.items = search rules in
+    subst (λ l. IsAt (map (λ k. home k.board.shared.table_id (g.V.Kept.opening k.board.shared.key.value.value ∷ [])) l) p) (sym again) (c.self.invariant.5 j p e).0
 
 pub shut-requires-clause-own : goal.shut-requires-clause-own
 shut-requires-clause-own g c =
-    let seats = c.first.inside.seats.items in
-    sym (map_map (λ q. spot q.seat.table_id q.seat.me.0) (λ (s : Spot _ _). s.table) seats)
-    ∙ (tables_of (map (λ q. spot q.seat.table_id q.seat.me.0) seats) c.args.self.homes (ap homes c.first.view_is ∙ c.loop-other.invariant.0)
-    ∙ (sym (ap (λ r. tables_in r.homes) c.self-2.view_is)
-    ∙ map_map (λ l. home l.board.shared.table_id (g.V.Kept.opening l.board.shared.key.value.value ∷ [])) (λ h. h.table) c.self-2.inside.locks.items))
+    let again : c.deref-2.result.now ≡ c.self.inside.locks.items = search rules in
+    let h = λ (k : _). home k.board.shared.table_id (g.V.Kept.opening k.board.shared.key.value.value ∷ []) in
+    let own = c.take_in-2.ensures.own ∙ ap (map h) again in
+    sym (map_map (λ q. spot q.seat.table_id q.seat.me.0) (λ (s : Spot _ _). s.table) c.own.inside.seats.items)
+    ∙ (ap (map (λ (s : Spot _ _). s.table)) c.own.view_is
+    ∙ (tables_of c.take_in-2.new.pass (map h c.self.inside.locks.items) own
+    ∙ map_map h (λ h. h.table) c.self.inside.locks.items))
+
+-- what is told of the last pass at a place
+reached : (g : _) (c : goal.After-reverse g) (k : ℕ) (x : g.row.V.Denot) → slice_get c.reverse.new.self.items k ≡ Some x → (a : Spot _ _) × (slice_get c.take_in-2.new.pass k ≡ Some a) × Begins g.V.Kept (g.V.Kept.history x) a.known
+reached g c k x e =
+    let all = subst (AllZip (λ q y. Begins g.V.Kept (g.V.Kept.history y) q.seat.me.0) c.own.inside.seats.items) (sym c.reverse.ensures.items) c.shut.ensures.told in
+    let z = zip_get _ _ _ k x all e in
+    (spot z.0.seat.table_id z.0.seat.me.0, ap (λ l. slice_get l k) (sym c.own.view_is) ∙ get_map (λ q. spot q.seat.table_id q.seat.me.0) c.own.inside.seats.items k z.0 z.1, z.2)
+
+same_homes : (g : _) (c : goal.After-reverse g) → homes c.take_in.new.pass ≡ homes c.take_in-2.new.pass
+same_homes g c =
+    let h = λ (k : _). home k.board.shared.table_id (g.V.Kept.opening k.board.shared.key.value.value ∷ []) in
+    let locks : c.deref.result.now ≡ c.self.inside.locks.items = search rules in
+    let again : c.deref-2.result.now ≡ c.self.inside.locks.items = search rules in
+    c.take_in.ensures.own ∙ (ap (map h) (locks ∙ sym again) ∙ sym c.take_in-2.ensures.own)
 
 pub returns-clause-back : goal.returns-clause-back
 returns-clause-back g c =
-    let n = ap (λ r. r.seats) c.self-2.view_is in
-    let all = zip_back g.V.Kept (λ l. l.board.shared.table_id) (λ l. l.board.shared.key) c.args.self.seats c.self-2.inside.locks.items _ (λ k l e. c.self-2.invariant.3 k l e ∙ n) c.shut.ensures.closed in
-    zip_along (λ h x. IsBack g.V.Kept h.opening c.args.self.seats x) _ _ _ _ (ap (λ r. r.homes) c.self-2.view_is) (sym c.reverse.ensures.items) all
+    let i = c.self.invariant in
+    let h = λ (k : _). home k.board.shared.table_id (g.V.Kept.opening k.board.shared.key.value.value ∷ []) in
+    let turned = sym c.reverse.ensures.items in
+    let closed = subst (AllZip _ c.self.inside.locks.items) turned c.shut.ensures.closed in
+    let all = zip_back g.V.Kept (λ l. l.board.shared.table_id) (λ l. l.board.shared.key) c.self.inside.dealt c.self.inside.locks.items c.reverse.new.self.items
+    (λ k l x l_is x_is below.
+    let a = reached g c k x x_is in
+    let told = tells_both g.V.Kept c.self.inside.own c.take_in.new.pass c.take_in-2.new.pass c.args.passes.items c.self.inside.spare.items k a.0 (g.V.Kept.history x) (same_homes g c) c.take_in.ensures.told c.take_in-2.ensures.told a.1 a.2 in
+    let few : k < length (map h c.self.inside.locks.items) = (let within = slice_get_within c.self.inside.locks.items k l l_is in let n = map_length h c.self.inside.locks.items in omega arith) in
+    none_above g.V.Kept (g.V.Kept.history x) (map h c.self.inside.locks.items) c.self.inside.dealt k c.self.inside.spare.items c.self.inside.own few i.5 i.6
+    (λ b b_is. told.0 0 c.self.inside.own refl b b_is) told.1 (subst (λ n. MadeBelow g.V.Kept n (g.V.Kept.history x)) (i.3 k l l_is) below)) closed in
+    let seats = ap (λ r. r.seats) c.self.view_is in
+    zip_along (λ z x. IsBack g.V.Kept z.opening c.args.self.seats x) _ _ _ _ (ap (λ r. r.homes) c.self.view_is) refl
+    (subst (λ n. AllZip (λ z x. IsBack g.V.Kept z.opening n x) (map h c.self.inside.locks.items) c.reverse.new.self.items) seats all)
 
 pub returns-clause-told : goal.returns-clause-told
-returns-clause-told g c k x e j p p_is a a_is =
-    let all = subst (AllZip (λ q y. Begins g.V.Kept (g.V.Kept.history y) q.seat.me.0) c.first.inside.seats.items) (sym c.reverse.ensures.items) c.shut.ensures.told in
-    let z = zip_get _ _ _ k x all e in
-    let at = ap (λ l. slice_get l k) (sym c.first.view_is) ∙ get_map (λ q. spot q.seat.table_id q.seat.me.0) c.first.inside.seats.items k z.0 z.1 in
-    c.loop-other.invariant.2 k (spot z.0.seat.table_id z.0.seat.me.0) at (g.V.Kept.history x) z.2 j p (search (rules, arith)) p_is a a_is
+returns-clause-told g c k x e j p p_is b b_is =
+    let a = reached g c k x e in
+    let told = tells_both g.V.Kept c.self.inside.own c.take_in.new.pass c.take_in-2.new.pass c.args.passes.items c.self.inside.spare.items k a.0 (g.V.Kept.history x) (same_homes g c) c.take_in.ensures.told c.take_in-2.ensures.told a.1 a.2 in
+    told.0 (suc j) p p_is b b_is

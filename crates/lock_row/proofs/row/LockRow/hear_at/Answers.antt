@@ -1,6 +1,6 @@
-use Rattle.std.proofs.Common.{◌≡◌, ◌∷◌, [], ◌<◌, ℕ, length, ap, sym, ◌∙◌, subst, slice_get}
+use Rattle.std.proofs.Common.{◌≡◌, ◌∷◌, [], ◌<◌, ℕ, length, ap, sym, ◌∙◌, subst}
 use Rattle.shelf_lock.specs.Order.{GoesOn}
-use Rattle.lock_row.specs.Spots.{spot, home}
+use Rattle.lock_row.specs.Spots.{home}
 use Rattle.lock_row.proofs.Places.{own_at, spot_of, kept_own, goes_at, one_of}
 use Rattle.lock_row.proofs.row.LockRow.hear_at.Goals as goal
 

@@ -1,4 +1,4 @@
-use Rattle.std.proofs.Common.{◌≡◌, ◌∷◌, [], ◌<◌, length, ap, sym, ◌∙◌, slice_get}
+use Rattle.std.proofs.Common.{◌≡◌, ◌∷◌, [], ◌<◌, length, ap, ◌∙◌}
 use Rattle.lock_row.specs.Spots.{spot, home}
 use Rattle.lock_row.proofs.Places.{own_at, spot_of, spot_same}
 use Rattle.lock_row.proofs.row.LockRow.note_at.Goals as goal

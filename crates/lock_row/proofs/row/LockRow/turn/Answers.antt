@@ -1,7 +1,7 @@
-use Rattle.std.proofs.Common.{◌≡◌, ◌∷◌, [], ◌<◌, length, Result, MatchResult, ap, sym, ◌∙◌, subst}
-use Rattle.shelf_lock.specs.Turns.{MayCall, KeepsEach, Turned, FoundWorn}
+use Rattle.std.proofs.Common.{◌≡◌, ◌∷◌, [], ◌<◌, length, ap}
+use Rattle.shelf_lock.specs.Turns.{Turned, FoundWorn}
 use Rattle.shelf_lock.proofs.Turning.{match_map, match_same}
-use Rattle.lock_row.specs.Spots.{spot, home, At}
+use Rattle.lock_row.specs.Spots.{home, At}
 use Rattle.lock_row.proofs.Places.{own_at, spot_of, kept_own, goes_at}
 use Rattle.lock_row.proofs.row.LockRow.turn.Goals as goal
 

@@ -1,0 +1,91 @@
+use Rattle.std.proofs.Common.{◌≡◌, ◌<◌, Err, subst, List, arith, rules}
+use Rattle.std.specs.Prelude.{◌&&◌}
+use Rattle.std.proofs.lemmas.List.{length-map}
+use Rattle.script_nodes.specs.Setup.{Named}
+use Rattle.script_nodes.specs.Views.{scripts_of}
+use Rattle.play_steps.specs.declared.performing.Halt.TheVariants.{Reopen}
+use Rattle.play_desk.specs.Opening.{IsClosedBy}
+use Rattle.play_steps.specs.declared.stage.Reopen.TheVariants as again
+use Rattle.play_desk.specs.Staff.{desk_of, faults_in, shelf_at, total}
+use Rattle.server_command.specs.Output.{sinks_of}
+use Rattle.server_command.specs.Racks.{racks_of}
+use Rattle.server_command.specs.Telling.{TellsUnopened}
+use Rattle.server_command.proofs.Loads.{again_leaves, error_is, first_leaves, loaded_by, lost_if, measure_leaves, memory_leaves}
+use Rattle.server_command.proofs.Openings.{both_tell}
+use Rattle.server_command.proofs.Playing.{Begins}
+use Rattle.server_command.proofs.Runs.{begins}
+use Rattle.server_command.proofs.Short.{can_begin}
+use Rattle.server_command.proofs.loading.load_all.Goals as goal
+
+pub returns-in_default-clause-leaves : goal.returns-in_default-clause-leaves
+returns-in_default-clause-leaves g c = memory_leaves _ c.args.options.now _ _ _ _ _ c.no_memory.ensures.status c.no_memory.ensures.line
+
+pub open_desk-requires-clause-begins : goal.open_desk-requires-clause-begins
+open_desk-requires-clause-begins g c =
+    let begin = can_begin c.args.options.now.options.shelves (scripts_of c.in-Ok.setup) c.requires.range.options.shelves.1 c.in-Ok.ensures.few c.in-Ok.ensures.short in
+    λ k low. begin k (subst (λ n. k < n) c.rules_of-rules.ensures.asked.shelves low)
+
+pub load-end-requires-clause-some : goal.load-end-requires-clause-some
+load-end-requires-clause-some g c =
+    let shelves = c.in-Ok-open_desk.desk.staff.shelves.items in
+    let as_many = length-map shelves (shelf_at (scripts_of c.in-Ok-open_desk.desk.setup.now)) in
+    omega (arith, as_many, c.in-Ok-open_desk.ensures.count, c.rules_of-rules.ensures.asked.shelves, c.requires.range.options.shelves.0)
+
+pub returns-in-Err-clause-leaves : goal.returns-in-Err-clause-leaves
+returns-in-Err-clause-leaves g c =
+    let rack = racks_of (g.R.Rack.tells && g.D.Disk.tells) (g.R.Rack.view c.args.rack.now) (g.R.Rack.view c.open_desk.new.rack) in
+    let fault = c.in-Err.fault in
+    let old = g.O.Sink.view c.args.output.now in
+    let new = g.O.Sink.view c.tell_unopened.new.output in
+    first_leaves rack c.args.options.now fault.shelf fault.why c.tell_unopened.result old.written new.written old.faults new.faults
+    (λ t. let b = both_tell g.R.Rack.tells g.D.Disk.tells t in
+    subst (λ n. IsClosedBy rack.before.holds n fault.shelf fault.why) c.rules_of-rules.ensures.asked.shelves (c.in-Err.ensures.closed b.0 b.1))
+    c.in-Err.ensures.disk
+    (subst (λ why. TellsUnopened why c.tell_unopened.result (sinks_of old new)) c.unopened_first.ensures c.tell_unopened.ensures.tells)
+
+pub returns-in-Ok-end-clause-leaves : goal.returns-in-Ok-end-clause-leaves
+returns-in-Ok-end-clause-leaves g c =
+    let l = c.args.options.now in
+    let rack = racks_of (g.R.Rack.tells && g.D.Disk.tells) (g.R.Rack.view c.args.rack.now) (g.R.Rack.view c.close.new.rack) in
+    let first = c.in-Ok-open_desk.desk in
+    let last = c.load-end.new.stage in
+    measure_leaves rack l c.in-Ok-end.measure c.tell_measure.result (sinks_of (g.O.Sink.view c.args.output.now) (g.O.Sink.view c.tell_measure.new.output))
+    (λ t. let b = both_tell g.R.Rack.tells g.D.Disk.tells t in
+    loaded_by rack l c.in-Ok-end.measure (desk_of first.setup.now first.staff) (desk_of last.setup.now last.staff)
+    (total (g.R.Rack.view c.open_desk.new.rack).faults (faults_in g.D.Disk.view first.staff.shelves.items))
+    (total (g.R.Rack.view c.load-end.new.devices).faults (faults_in g.D.Disk.view last.staff.shelves.items))
+    (subst (λ (ss : List Named). Begins rack l.options ss (desk_of first.setup.now first.staff)) c.in-Ok.ensures.scripts
+    (begins rack l.options (scripts_of c.in-Ok.setup) c.rules_of-rules.result (desk_of first.setup.now first.staff) c.rules_of-rules.ensures.asked
+    (c.in-Ok-open_desk.ensures.desk b.0 b.1) (c.in-Ok-open_desk.ensures.empty b.0 b.1)))
+    (c.in-Ok-end.ensures.measured t) (c.close.ensures.books b.0 b.1))
+    c.tell_measure.ensures.outputs
+
+pub returns-in-Err-Memory-clause-leaves : goal.returns-in-Err-Memory-clause-leaves
+returns-in-Err-Memory-clause-leaves g c =
+    memory_leaves _ c.args.options.now _ _ _ _ _ c.no_memory-in-Err-Memory.ensures.status c.no_memory-in-Err-Memory.ensures.line
+
+pub returns-clause-leaves : goal.returns-clause-leaves
+returns-clause-leaves g c =
+    let l = c.args.options.now in
+    let rack = racks_of (g.R.Rack.tells && g.D.Disk.tells) (g.R.Rack.view c.args.rack.now) (g.R.Rack.view c.close.new.rack) in
+    let first = c.in-Ok-open_desk.desk in
+    let last = c.load-end.new.stage in
+    let old = g.O.Sink.view c.args.output.now in
+    let new = g.O.Sink.view c.tell_unopened-in-Err-Reopen.new.output in
+    let shelf = c.in-Err-Reopen.shelf in
+    let why = c.in-Err-Reopen.why in
+    let is : c.load-end.result ≡ Err (Reopen c.in-Err-Reopen.shelf c.in-Err-Reopen.why) = search rules in
+    again_leaves rack l shelf why c.tell_unopened-in-Err-Reopen.result old.written new.written old.faults new.faults
+    (λ t. let b = both_tell g.R.Rack.tells g.D.Disk.tells t in
+    lost_if rack l shelf why c.load-end.result (desk_of first.setup.now first.staff) (desk_of last.setup.now last.staff)
+    (total (g.R.Rack.view c.open_desk.new.rack).faults (faults_in g.D.Disk.view first.staff.shelves.items))
+    (total (g.R.Rack.view c.load-end.new.devices).faults (faults_in g.D.Disk.view last.staff.shelves.items)) is
+    (subst (λ (ss : List Named). Begins rack l.options ss (desk_of first.setup.now first.staff)) c.in-Ok.ensures.scripts
+    (begins rack l.options (scripts_of c.in-Ok.setup) c.rules_of-rules.result (desk_of first.setup.now first.staff) c.rules_of-rules.ensures.asked
+    (c.in-Ok-open_desk.ensures.desk b.0 b.1) (c.in-Ok-open_desk.ensures.empty b.0 b.1)))
+    (c.load-end.ensures.measured t))
+    (λ e. let rose = c.load-end.ensures.disk shelf (error_is c.load-end.result shelf why again.Disk is e) in
+    omega (arith, rose, c.in-Ok-open_desk.ensures.later_open, c.close.ensures.later))
+    (λ t place e. c.load-end.ensures.damaged t shelf place (error_is c.load-end.result shelf why (again.Damaged place) is e))
+    (λ t place e. c.load-end.ensures.other t shelf place (error_is c.load-end.result shelf why (again.Other place) is e))
+    (subst (λ u. TellsUnopened u c.tell_unopened-in-Err-Reopen.result (sinks_of old new)) c.unopened_again.ensures c.tell_unopened-in-Err-Reopen.ensures.tells)

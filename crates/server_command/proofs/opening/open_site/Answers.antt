@@ -1,0 +1,67 @@
+use Rattle.std.proofs.Common.{◌≡◌, ◌≤◌, ◌+◌, ◌∙◌, [], length, Some, slice_get, Err, sym, subst, arith, rules}
+use Rattle.std.specs.Prelude.{IsTrue, ◌&&◌}
+use Rattle.script_nodes.specs.Views.{scripts_of}
+use Rattle.web_outside.specs.Causes.{Rose}
+use Rattle.site.specs.Beginnings.{IsBegunAt}
+use Rattle.server_command.specs.Opening.{HasTaken, IsRefused, TakesBack, seen_on, unopened_by}
+use Rattle.server_command.proofs.Openings.{all_home, both_tell, rose_since, seen_size, untaken_refused}
+use Rattle.server_command.proofs.Shelves.{opened_from, refused_at}
+use Rattle.server_command.proofs.opening.open_site.Goals as goal
+
+pub returns-in_err-disks-clause-refused : goal.returns-in_err-disks-clause-refused
+returns-in_err-disks-clause-refused g c =
+    let why = c.in_err-disks.field-0.0 in
+    let told : c.from_residual.result ≡ Err why = search rules in
+    rw told (record {
+      images = [];
+      held = λ t. tt;
+      refused = untaken_refused _ _ (scripts_of c.args.setup) [] why c.in_err-disks.ensures.refused;
+      home = c.in_err-disks.ensures.home;
+    })
+
+pub returns-in-Ok-clause-opened : goal.returns-in-Ok-clause-opened
+returns-in-Ok-clause-opened g c =
+    let told = IsTrue (g.R.Rack.tells && g.D.Disk.tells) in
+    let disks = c.in_ok-disks.disks.items in
+    let taken = c.in_ok-disks.ensures.taken in
+    let size = seen_size g.D.Disk.view disks in
+    let sources = c.requires.sources in
+    let begun = c.in-Ok.ensures.begun in
+    record {
+      images = seen_on g.D.Disk.view disks;
+      taken = subst (λ n. HasTaken told (g.R.Rack.view c.args.rack.now) (g.R.Rack.view c.take_all.new.rack) n (seen_on g.D.Disk.view disks)) (sym sources) taken;
+      opened = opened_from g.D.Disk.view g.D.Disk.tells told g.N.Nonces.nonce c.args.options.now c.args.setup c.rules_of-rules.result 0 disks c.args.sources.items c.in-Ok.site.row.homes
+          (omega (arith, sources, taken.many, size)) begun.many (λ t. (both_tell _ _ t).1) c.rules_of-rules.ensures.asked
+          (λ i j d n h at d_is n_is h_is. let same : i ≡ j = omega (arith, at) in
+          subst (λ m. IsBegunAt {D = g.row.D.Denot} {N = g.row.N.Denot} g.D.Disk.view g.D.Disk.tells c.args.setup c.rules_of-rules.result m d n h) same (begun.each i d n h d_is n_is h_is));
+    }
+
+pub returns-in-Ok-clause-count : goal.returns-in-Ok-clause-count
+returns-in-Ok-clause-count g c =
+    let size = seen_size g.D.Disk.view c.in_ok-disks.disks.items in
+    let taken = c.in_ok-disks.ensures.taken.many in
+    let many = c.in-Ok.ensures.begun.many in
+    omega (arith, size, taken, many)
+
+pub returns-in-Err-clause-refused : goal.returns-in-Err-clause-refused
+returns-in-Err-clause-refused g c =
+    let told = IsTrue (g.R.Rack.tells && g.D.Disk.tells) in
+    let before = g.R.Rack.view c.args.rack.now in
+    let middle = g.R.Rack.view c.take_all.new.rack in
+    let last = g.R.Rack.view c.give_all.new.rack in
+    let scripts = scripts_of c.args.setup in
+    let disks = c.in_ok-disks.disks.items in
+    let taken = c.in_ok-disks.ensures.taken in
+    let not = c.in-Err.ensures.fault in
+    let size = seen_size g.D.Disk.view disks in
+    let many : length c.in-Err.field-0.disks.items ≡ c.args.options.now.shelves = omega (arith, not.disks_back.returned.many, size, taken.many) in
+    let why : unopened_by c.in-Err.field-0.shelf c.in-Err.field-0.fault ≡ c.why_unopened.result = sym c.why_unopened.ensures in
+    let refused = refused_at g.D.Disk.view g.D.Disk.tells c.args.setup told disks c.args.sources.items c.in-Err.field-0 before.faults last.faults
+    (λ t. (both_tell _ _ t).1) not
+    (λ k e e_is some. rose_since before.faults middle.faults last.faults taken.later (c.give_all.ensures.given.faults k e e_is some)) in
+    record {
+      images = seen_on g.D.Disk.view disks;
+      held = taken.held;
+      refused = subst (IsRefused told (Rose before.faults last.faults) scripts (seen_on g.D.Disk.view disks)) why refused;
+      home = all_home told before middle last c.args.options.now.shelves (seen_on g.D.Disk.view disks) taken (subst (TakesBack middle last 0) many c.give_all.ensures.back);
+    }

@@ -1,0 +1,74 @@
+ghost use Rattle.std.specs.Prelude.{◌&&◌, ◌≡◌, ◌≤◌};
+ghost use Rattle.web_outside.specs.Pieces.{HandsAllOn, HandsOn};
+ghost use Rattle.command_words.specs.Plain.{CanLoad};
+ghost use Rattle.play_desk.specs.Opening.{AreHome};
+ghost use Rattle.server_command.specs.Loading.{HasLeft, TellsMeasure};
+ghost use Rattle.server_command.specs.Output.{sinks_of};
+ghost use Rattle.server_command.specs.Racks.{racks_of};
+
+use crate::opening::rules_of;
+use crate::program::{Status, unopened_again, unopened_first};
+use crate::telling::{hand_on, no_memory, tell_unopened};
+use command_words::LoadOptions;
+use load_run::{LOAD_STEPS, Measure, load};
+use load_setup::load_setup;
+use play_desk::open_desk;
+use play_steps::Halt;
+use std::alloc::Global;
+use web_disk::{Disk, Rack};
+use web_outside::{Sink, write_all};
+
+// Tells what a measured run came to.
+fn tell_measure<O: Sink>(alloc: Global, measure: &Measure, output: &mut O) -> Status
+    ensures outputs { TellsMeasure measure.now result (sinks_of (O.view output.old) (O.view output.new)) }
+    ensures handed { HandsAllOn (O.view output.old) (O.view output.new) }
+    ensures later { (O.view output.old).faults ≤ (O.view output.new).faults }
+    ensures done { result ≡ Status.Done → HandsOn (O.view output.new).written (O.view output.new).handed }
+{
+    let Ok(text) = measure.line(alloc) else {
+        return no_memory(output);
+    };
+    match write_all(output, text.as_bytes()) {
+        Ok(()) => hand_on(output),
+        Err(_) => Status::Write,
+    }
+}
+
+/// Performs a measured run on empty disks, and tells what it came to. Of its steps nothing is written.
+pub fn load_all<O: Sink, D: Disk, R: Rack<D>>(
+    alloc: Global,
+    options: &LoadOptions,
+    output: &mut O,
+    rack: &mut R,
+) -> Status
+    requires range { CanLoad options.now }
+    requires home { AreHome (R.view rack.old).out }
+    ensures leaves { HasLeft (racks_of (R.tells && D.tells) (R.view rack.old) (R.view rack.new)) options.now
+        result (sinks_of (O.view output.old) (O.view output.new)) }
+    ensures handed { HandsAllOn (O.view output.old) (O.view output.new) }
+    ensures later { (O.view output.old).faults ≤ (O.view output.new).faults }
+    ensures done { result ≡ Status.Done → HandsOn (O.view output.new).written (O.view output.new).handed }
+    ensures home { AreHome (R.view rack.new).out }
+    ensures rack_later { (R.view rack.old).faults ≤ (R.view rack.new).faults }
+{
+    let Ok(setup) = load_setup(alloc) else {
+        return no_memory(output);
+    };
+    let rules = rules_of(&options.options, 0);
+    let directory = options.options.journal.as_str();
+    let mut desk = match open_desk(alloc, rack, directory, &setup, rules) {
+        Ok(desk) => desk,
+        Err(fault) => return tell_unopened(alloc, unopened_first(fault), output),
+    };
+    let end = load(alloc, &mut desk, rack, options.number, LOAD_STEPS);
+    desk.close(rack);
+    match end {
+        Ok(measure) => tell_measure(alloc, &measure, output),
+        Err(Halt::Memory) => no_memory(output),
+        Err(Halt::Reopen { shelf, why }) => tell_unopened(
+            alloc,
+            unopened_again(shelf, why),
+            output,
+        ),
+    }
+}

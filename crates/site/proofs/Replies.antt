@@ -1,0 +1,109 @@
+-- What replies tell.
+use Rattle.std.proofs.Common.{◌≡◌, ◌⊎◌, inl, inr, ℕ, ◌≤◌, ◌<◌, ◌-◌, ◌^◌, refl, ap, sym, ◌∙◌, arith}
+use Rattle.std.specs.Prelude.{Option, Some, None, Bool, true, false, ◌==◌}
+use mathlib.Core.Logic.{dite}
+use native.Mathlib.Decide.{ℕ_discrete}
+use Rattle.script_value.specs.declared.outcome.Refusal.{Refusal}
+use Rattle.page_names.specs.Names.{Destination, start, page}
+use Rattle.replay_spec.specs.Book.{Book, Doubt, draw}
+use Rattle.replay_spec.specs.Admission.{when, or_else, refusal_of, admit}
+use Rattle.replay_spec.specs.Step.{Reply, taken, shown, finished, ended, refusal, fault, out_of_fuel, shelf_full, instance_full, disk_failed, down, oversize, journal_full, worn, memory, swept, live, down_by, refused_by, take_unless, take, plain, disk_fault, step}
+use Rattle.script_value.specs.Val.{Val}
+use Rattle.replay_spec.specs.Rules.{Rules}
+use Rattle.web_outside.specs.Causes.{Rose}
+use Rattle.shelf_history.specs.Histories as histories
+use Rattle.shelf_history.specs.Histories.{IsCounted}
+use Rattle.shelf.specs.Views as views
+use Rattle.shelf.specs.Events.{TellsCount}
+
+-- a shelf reads the fate of a reply as its history does
+pub same_fate : (r : Reply) → views.fate_by r ≡ histories.fate_by r
+same_fate (taken n k) = refl
+same_fate (shown p u) = refl
+same_fate (finished p) = refl
+same_fate (ended p) = refl
+same_fate (refusal x) = refl
+same_fate (fault f) = refl
+same_fate (out_of_fuel c) = refl
+same_fate (shelf_full c) = refl
+same_fate (instance_full c) = refl
+same_fate (disk_failed c) = refl
+same_fate (down c) = refl
+same_fate (oversize l) = refl
+same_fate (journal_full l) = refl
+same_fate worn = refl
+same_fate memory = refl
+same_fate (swept n) = refl
+same_fate (live n) = refl
+
+rose_counted : (opened before now count : ℕ) → opened ≤ before → opened < 2 ^ 64 → count ≡ now → Rose before now → ((opened < count) ⊎ (count ≡ 2 ^ 64 - 1)) × (count ≤ now)
+rose_counted opened before now count le low is rose =
+    (dite (ℕ_discrete count (2 ^ 64 - 1)) (λ e. inr e) (λ ne. inl (omega arith)), omega arith)
+
+-- a count that rose in a call is above that of the opening, or the last
+pub counted : (opened before now : ℕ) (r : Reply) → opened ≤ before → opened < 2 ^ 64 → TellsCount before now r → IsCounted opened now r
+counted opened before now (taken n k) le low h = tt
+counted opened before now (shown p u) le low h = tt
+counted opened before now (finished p) le low h = tt
+counted opened before now (ended p) le low h = tt
+counted opened before now (refusal x) le low h = tt
+counted opened before now (fault f) le low h = tt
+counted opened before now (out_of_fuel c) le low h = tt
+counted opened before now (shelf_full c) le low h = tt
+counted opened before now (instance_full c) le low h = tt
+counted opened before now (disk_failed c) le low h = rose_counted opened before now c le low h.0 h.1
+counted opened before now (down c) le low h = tt
+counted opened before now (oversize l) le low h = tt
+counted opened before now (journal_full l) le low h = tt
+counted opened before now worn le low h = tt
+counted opened before now memory le low h = tt
+counted opened before now (swept n) le low h = tt
+counted opened before now (live n) le low h = tt
+
+-- what was taken was admitted, and is
+took : (b c : Book) (nonce n k : ℕ) (o : Option Doubt) (worn_out : Bool) (r : Option Refusal) → take_unless (or_else (down_by o) (or_else (when worn_out worn) (refused_by r))) b nonce ≡ (taken n k, c)
+    → (r ≡ None) × (c ≡ draw b)
+took b c nonce n k (Some doubt) worn_out r h = absurd (let no : down doubt.count ≡ taken n k = ap (λ p. p.0) h in cc)
+took b c nonce n k None true r h = absurd (let no : worn ≡ taken n k = ap (λ p. p.0) h in cc)
+took b c nonce n k None false None h = (refl, sym (ap (λ p. p.1) h))
+took b c nonce n k None false (Some r) h = absurd (let no : refusal r ≡ taken n k = ap (λ p. p.0) h in cc)
+
+admit_drawn : (b : Book) (d : Destination) → admit (draw b) d ≡ admit b d
+admit_drawn b (start name) = refl
+admit_drawn b (page name n) = refl
+
+pub take_admits : (rules : Rules) (b c : Book) (d : Destination) (a : Val) (nonce n k : ℕ) → step rules b nonce (take d a) plain ≡ (taken n k, c) → refusal_of (admit c d) ≡ None
+unfolding step
+take_admits rules b c d a nonce n k h =
+    let t = took b c nonce n k b.down (b.drawn == 2 ^ 62) (refusal_of (admit b d)) h in
+    ap (λ (x : Book). refusal_of (admit x d)) t.1 ∙ (ap refusal_of (admit_drawn b d) ∙ t.0)
+
+-- no take is told a fault of the disk
+no_fault : (b c : Book) (nonce count : ℕ) (o : Option Doubt) (worn_out : Bool) (r : Option Refusal) → take_unless (or_else (down_by o) (or_else (when worn_out worn) (refused_by r))) b nonce ≡ (disk_failed count, c) → ⊥
+no_fault b c nonce count (Some doubt) worn_out r h = let no : down doubt.count ≡ disk_failed count = ap (λ p. p.0) h in cc
+no_fault b c nonce count None true r h = let no : worn ≡ disk_failed count = ap (λ p. p.0) h in cc
+no_fault b c nonce count None false None h = let no : taken b.drawn nonce ≡ disk_failed count = ap (λ p. p.0) h in cc
+no_fault b c nonce count None false (Some r) h = let no : refusal r ≡ disk_failed count = ap (λ p. p.0) h in cc
+
+faulty_take : (rules : Rules) (b c : Book) (d : Destination) (a : Val) (nonce count : ℕ) → step rules b nonce (take d a) (disk_fault count) ≡ (disk_failed count, c) → ⊥
+unfolding step
+faulty_take rules b c d a nonce count h = no_fault b c nonce count b.down (b.drawn == 2 ^ 62) (refusal_of (admit b d)) h
+
+pub take_tells : (rules : Rules) (b c : Book) (d : Destination) (a : Val) (nonce before now : ℕ) (r : Reply) → step rules b nonce (take d a) (views.fate_by r) ≡ (r, c) → TellsCount before now r
+take_tells rules b c d a nonce before now (taken n k) h = tt
+take_tells rules b c d a nonce before now (shown p u) h = tt
+take_tells rules b c d a nonce before now (finished p) h = tt
+take_tells rules b c d a nonce before now (ended p) h = tt
+take_tells rules b c d a nonce before now (refusal x) h = tt
+take_tells rules b c d a nonce before now (fault f) h = tt
+take_tells rules b c d a nonce before now (out_of_fuel n) h = tt
+take_tells rules b c d a nonce before now (shelf_full n) h = tt
+take_tells rules b c d a nonce before now (instance_full n) h = tt
+take_tells rules b c d a nonce before now (disk_failed n) h = absurd (faulty_take rules b c d a nonce n h)
+take_tells rules b c d a nonce before now (down n) h = tt
+take_tells rules b c d a nonce before now (oversize l) h = tt
+take_tells rules b c d a nonce before now (journal_full l) h = tt
+take_tells rules b c d a nonce before now worn h = tt
+take_tells rules b c d a nonce before now memory h = tt
+take_tells rules b c d a nonce before now (swept n) h = tt
+take_tells rules b c d a nonce before now (live n) h = tt

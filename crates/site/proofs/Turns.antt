@@ -1,0 +1,182 @@
+-- What a turn at one lock tells its pass.
+use Rattle.std.proofs.Common.{◌≡◌, ◌==◌, ◌≤◌, inl, inr, ℕ, Bool, true, false, cond, List, [], ◌∷◌, ◌++◌, map, refl, sym, ◌∙◌, ap, subst}
+use Rattle.std.specs.Prelude.{Result, Ok, Err, IfOk, MatchResult}
+use Rattle.std.proofs.lemmas.List.{append-nil}
+use Rattle.std.proofs.lemmas.List.Elements.{Contains-push}
+use Rattle.std.specs.Fn.{Once, FnOnceReturnsAtMut}
+use denote.Ref.{MutBor}
+use mathlib.Core.List.{IsPrefix}
+use Rattle.web_disk.specs.View.{View}
+use Rattle.shelf_lock.specs.declared.view.Role.TheVariants.{Outside}
+use Rattle.shelf_lock.specs.Order.{posed, made_by, Adds}
+use Rattle.lock_row.proofs.Places.{map_snoc}
+use Rattle.script_value.specs.Val.{Val}
+use Rattle.script_value.specs.declared.outcome.Reply as answers
+use Rattle.page_names.specs.Names.{Destination}
+use Rattle.replay_spec.specs.Step as step
+use Rattle.replay_spec.specs.Step.{Event}
+use Rattle.instance_book.specs.declared.ticket.Ticket.{Ticket}
+use Rattle.instance_book.specs.Views.{ticket_of, reply_of}
+use Rattle.shelf.specs.Views.{taken_of, swept_of}
+use Rattle.shelf_history.specs.Histories.{Entry, own_of, IsLegal}
+use Rattle.shelf_history.specs.Passes.{IsSeenBy, Goes}
+use Rattle.shelf_history.proofs.Going.{go_on}
+use Rattle.shelf_history.proofs.Behind.{never_back}
+use Rattle.shelf_history.proofs.Passing.{turn}
+use Rattle.site.specs.declared.entry.Did.{Did}
+use Rattle.site.specs.declared.entry.Did.TheVariants as did
+use Rattle.site.specs.declared.entry.KeptEntry.{KeptEntry}
+use Rattle.site.specs.declared.kept.KeptShelf.{KeptShelf}
+use Rattle.site.specs.declared.opening.Opening.{Opening}
+use Rattle.site.specs.Entries.{entry, done_by, entry_of, entries_of, Comes, Sweeps}
+use Rattle.site.specs.Openings.{start_of, source_of, count_of, book_then}
+use Rattle.site.specs.Sound.{IsSound, Holds, Gives}
+use Rattle.site.specs.Passes.{Known, seen_by, GoesFrom, HoldsTicket, Took, Published, HasReached, Swept}
+
+-- an entry is its caller's
+caller_done : (caller : ℕ) (d : Did) → (done_by caller d).caller ≡ caller
+caller_done caller (did.Take target answer told) = refl
+caller_done caller (did.Publish ticket told) = refl
+caller_done caller (did.Sweep tick told) = refl
+
+map_cond : (b : Bool) (e : KeptEntry) (l : List KeptEntry) → cond b (entry_of e ∷ entries_of l) (entries_of l) ≡ entries_of (cond b (e ∷ l) l)
+map_cond true e l = refl
+map_cond false e l = refl
+
+pub own_map : (c : ℕ) (l : List KeptEntry) → own_of c (entries_of l) ≡ entries_of (made_by (λ (e : KeptEntry). e.caller) c l)
+own_map c [] = refl
+own_map c (e ∷ l) =
+    (λ i. cond (caller_done e.caller e.did i == c) (entry_of e ∷ own_map c l i) (own_map c l i)) ∙ map_cond (e.caller == c) e (made_by (λ (x : KeptEntry). x.caller) c l)
+
+pub map_append : {A B : Type 0} (f : A → B) (xs ys : List A) → map f (xs ++ ys) ≡ map f xs ++ map f ys
+map_append f [] ys = refl
+map_append f (x ∷ xs) ys = ap (λ l. f x ∷ l) (map_append f xs ys)
+
+pub prefix_map : (xs ys : List KeptEntry) → IsPrefix xs ys → IsPrefix (entries_of xs) (entries_of ys)
+prefix_map xs ys p = (entries_of p.0, sym (map_append entry_of xs p.0) ∙ ap entries_of p.1)
+
+-- what a caller has seen of a history, and all its entries
+pub seen_so : (c : ℕ) (xs ys : List KeptEntry) → IsPrefix xs ys → made_by (λ (e : KeptEntry). e.caller) c ys ≡ made_by (λ (e : KeptEntry). e.caller) c xs → IsSeenBy c (entries_of xs) (entries_of ys)
+seen_so c xs ys p own = record { front = prefix_map xs ys p; own = own_map c ys ∙ (ap entries_of own ∙ sym (own_map c xs)) }
+
+pub ok_of : {A B : Type 0} (r : Result A B) (a : A) (P : A → Type 0) → IfOk r P → r ≡ Ok a → P a
+ok_of (Ok x) a P h is = subst P (let z : x ≡ a = cc is in z) h
+ok_of (Err e) a P h is = absurd (let no : ⊥ = cc is in no)
+
+-- one entry more at most, of this caller
+pub adds_one : (by who : ℕ) (event : Event) (r : step.Reply) (old new : List KeptEntry) → who ≡ by → Comes by event r old new → Adds (λ (e : KeptEntry). e.caller) who old new
+adds_one by who event r old new is c = inr (c.entry_made, c.caller_is ∙ sym is, c.is)
+
+pub adds_swept : (by who tick : ℕ) (result : Result ℕ answers.Reply) (clock : ℕ) (old new : List KeptEntry) → who ≡ by → Sweeps by tick result clock old new → Adds (λ (e : KeptEntry). e.caller) who old new
+adds_swept by who tick result clock old new is (inl over) = inl over.1
+adds_swept by who tick result clock old new is (inr more) = adds_one by who (step.sweep tick) (swept_of result) old new is more.1
+
+module _ {D N : Type 0} (view : D → View) (tells : Bool) (coming : N → ℕ → ℕ) where
+  -- a turn found x, which begins with all that v had seen and has no other entry of its caller, and left y, which w has seen
+  pub record Turn (v w : Known D N) (x y : KeptShelf D N) : Type 0 where
+    pub opening_is : v.opening ≡ x.opened ∷ []
+    pub begins : IsPrefix v.seen x.history
+    pub own_is : made_by (λ (e : KeptEntry). e.caller) v.caller x.history ≡ made_by (λ (e : KeptEntry). e.caller) v.caller v.seen
+    pub sound : IsSound view tells coming x.opened y.shelf (entries_of y.history)
+    pub seen_is : w ≡ posed Outside y.history v
+
+  module _ (v w : Known D N) (x y : KeptShelf D N) (t : Turn v w x y) where
+    known : IsSeenBy v.caller (entries_of v.seen) (entries_of x.history)
+    known = seen_so v.caller v.seen x.history t.begins t.own_is
+
+    posed_so : w ≡ posed Outside w.seen v
+    posed_so = t.seen_is ∙ ap (λ (l : List KeptEntry). posed Outside l v) (sym (ap (λ (u : Known D N). u.seen) t.seen_is))
+
+    seen_now : entries_of y.history ≡ seen_by w
+    seen_now = sym (ap (λ (u : Known D N). seen_by u) t.seen_is)
+
+    pub goes_none : y.history ≡ x.history → GoesFrom view tells coming v [] w
+    goes_none same =
+        let o = x.opened in
+        let source = source_of coming o in
+        let opened = count_of view o.shelf.value in
+        let now = count_of view y.shelf in
+        let legal : IsLegal source opened now (start_of o) (entries_of x.history) = subst (λ (l : List KeptEntry). IsLegal source opened now (start_of o) (entries_of l)) same t.sound.kept.legal in
+        let goes = (turn source opened now (start_of o) v.caller (entries_of v.seen) (entries_of x.history) known legal).0 in
+        record {
+          opening = o;
+          opening_is = t.opening_is;
+          now = now;
+          is = posed_so;
+          goes = subst (λ (l : List Entry). Goes source opened now (start_of o) v.caller (entries_of v.seen) [] l) (ap entries_of (sym same) ∙ seen_now) goes;
+        }
+
+    pub goes_one : (by : ℕ) (event : Event) (r : step.Reply) → v.caller ≡ by → Comes by event r x.history y.history → GoesFrom view tells coming v (entry v.caller event r ∷ []) w
+    goes_one by event r is c =
+        let o = x.opened in
+        let source = source_of coming o in
+        let opened = count_of view o.shelf.value in
+        let now = count_of view y.shelf in
+        let es = entries_of x.history in
+        let e : Entry = entry v.caller event r in
+        let grown : entries_of y.history ≡ es ++ e ∷ [] = ap entries_of c.is ∙ (map_snoc entry_of x.history c.entry_made ∙ (λ i. es ++ (c.entry_is ∙ ap (λ (n : ℕ). entry n event r) (sym is)) i ∷ [])) in
+        let legal : IsLegal source opened now (start_of o) (es ++ e ∷ []) = subst (IsLegal source opened now (start_of o)) grown t.sound.kept.legal in
+        let before = (go_on source opened now (start_of o) es).2 (e ∷ []) legal in
+        let goes = (turn source opened now (start_of o) v.caller (entries_of v.seen) es known before).1 e ((go_on source opened now (start_of o) es).1 e legal) refl in
+        record {
+          opening = o;
+          opening_is = t.opening_is;
+          now = now;
+          is = posed_so;
+          goes = subst (λ (l : List Entry). Goes source opened now (start_of o) v.caller (entries_of v.seen) (e ∷ []) l) (sym grown ∙ seen_now) goes;
+        }
+
+    pub holds_so : (by : ℕ) (u : Ticket) → v.caller ≡ by → Holds view tells coming x.opened (entries_of y.history) by u → HoldsTicket view tells coming w u
+    holds_so by u is h = record {
+      opening = x.opened;
+      opening_is = ap (λ (z : Known D N). z.opening) t.seen_is ∙ t.opening_is;
+      holds = subst (λ (n : ℕ). Holds view tells coming x.opened (seen_by w) n u) (sym is ∙ sym (ap (λ (z : Known D N). z.caller) t.seen_is)) (subst (λ (l : List Entry). Holds view tells coming x.opened l by u) seen_now h);
+    }
+
+    pub took : (by : ℕ) (target : Destination) (answer : Val) (result : Result Ticket answers.Reply) → v.caller ≡ by → Comes by (step.take target answer) (taken_of result) x.history y.history
+        → Gives view tells coming x.opened (entries_of y.history) by target answer result
+        → Took view tells coming v target answer result w
+    took by target answer (Ok u) is c given = record {
+      goes = subst (λ (e : Entry). GoesFrom view tells coming v (e ∷ []) w) (λ i. entry v.caller (step.take (sym given.ticket.0 i) (sym given.ticket.1 i)) (step.taken u.number u.nonce)) (goes_one by (step.take target answer) (taken_of (Ok u)) is c);
+      holds = holds_so by u is given.held;
+      target_is = given.ticket.0;
+      answer_is = given.ticket.1;
+    }
+    took by target answer (Err r) is c given = inl (goes_one by (step.take target answer) (reply_of r) is c)
+
+    pub published : (by : ℕ) (u : Ticket) (r : answers.Reply) → v.caller ≡ by → Comes by (step.publish (ticket_of u)) (reply_of r) x.history y.history → Published view tells coming v u r w
+    published by u r is c = inl (goes_one by (step.publish (ticket_of u)) (reply_of r) is c)
+
+    reaches : (tick : ℕ) → tick ≤ (book_then coming x.opened (entries_of y.history)).clock → HasReached view tells coming w tick
+    reaches tick le o is =
+        let same : x.opened ≡ o = cc (sym t.opening_is ∙ (sym (ap (λ (u : Known D N). u.opening) t.seen_is) ∙ is)) in
+        subst (λ (p : Opening D N). tick ≤ (book_then coming p (seen_by w)).clock) same (subst (λ (l : List Entry). tick ≤ (book_then coming x.opened l).clock) seen_now le)
+
+    pub swept : (by tick : ℕ) (result : Result ℕ answers.Reply) → v.caller ≡ by → Sweeps by tick result (book_then coming x.opened (entries_of x.history)).clock x.history y.history → Swept view tells coming v tick result w
+    swept by tick (Ok n) is (inl over) =
+        (inr (let z : n ≡ 0 = cc over.2 in z, goes_none over.1), reaches tick (subst (λ (l : List KeptEntry). tick ≤ (book_then coming x.opened (entries_of l)).clock) (sym over.1) over.0))
+    swept by tick (Ok n) is (inr more) =
+        let o = x.opened in
+        let es = entries_of x.history in
+        let e : Entry = entry by (step.sweep tick) (step.swept n) in
+        let grown : entries_of y.history ≡ es ++ e ∷ [] = ap entries_of more.1.is ∙ (map_snoc entry_of x.history more.1.entry_made ∙ (λ i. es ++ more.1.entry_is i ∷ [])) in
+        let legal = subst (IsLegal (source_of coming o) (count_of view o.shelf.value) (count_of view y.shelf) (start_of o)) (grown ∙ sym (append-nil (es ++ e ∷ []))) t.sound.kept.legal in
+        let there = (never_back (source_of coming o) (count_of view o.shelf.value) (count_of view y.shelf) (start_of o) (es ++ e ∷ []) [] t.sound.opened legal).1 by tick n (Contains-push es e) in (
+          inl (goes_one by (step.sweep tick) (step.swept n) is more.1),
+          reaches tick (subst (λ (l : List Entry). tick ≤ (book_then coming o l).clock) (append-nil (es ++ e ∷ []) ∙ sym grown) there),
+        )
+    swept by tick (Err r) is (inl over) = absurd (let no : ⊥ = cc over.2 in no)
+    swept by tick (Err r) is (inr more) = inl (goes_one by (step.sweep tick) (reply_of r) is more.1)
+
+pub match_ok : {A B : Type 0} (P : A → Type 0) (Q : B → Type 0) (r : Result A B) (a : A) → MatchResult r P Q → r ≡ Ok a → P a
+match_ok P Q (Ok b) a m e = subst P (let z : b ≡ a = cc e in z) m
+match_ok P Q (Err b) a m e = absurd (let no : ⊥ = cc e in no)
+
+pub match_err : {A B : Type 0} (P : A → Type 0) (Q : B → Type 0) (r : Result A B) (b : B) → MatchResult r P Q → r ≡ Err b → Q b
+match_err P Q (Ok a) b m e = absurd (let no : ⊥ = cc e in no)
+match_err P Q (Err a) b m e = subst Q (let z : a ≡ b = cc e in z) m
+
+-- what holds of each answer of a function holds of one
+pub from_did : {S F A : Type 0} {call : Once F (MutBor S × Unit {0}) (A × (MutBor S × Unit {0}))} {f : F} (x : S) (a : A) (y : S) → FnOnceReturnsAtMut call f x a y → (P : S → A → S → Type 0)
+    → ((x' : S) (a' : A) (y' : S) → FnOnceReturnsAtMut call f x' a' y' → P x' a' y') → P x a y
+from_did x a y did P each = each x a y did

@@ -1,0 +1,15 @@
+use Rattle.std.proofs.Common.{◌≡◌, ◌++◌, ◌+◌, ◌≤◌, List, length, map, reverse}
+use Rattle.std.specs.Vec.{vec_len, vec_capacity}
+use Rattle.site.specs.Beginnings.{AreFreshOn}
+use Rattle.site.proofs.begin.open_all.Given as goal
+
+abbrev pub invariant-loop-number : goal.invariant-loop-number
+invariant-loop-number g l = record {
+  fresh : AreFreshOn {D = g.row.D.Denot} {N = g.row.N.Denot} g.D.Disk.view g.D.Disk.tells g.N.Nonces.nonce l.fn.setup l.fn.rules (reverse l.fn.disks.items) (reverse l.fn.nonces.items) l.shelves.items;
+  many : (vec_len l.shelves ≡ l.number) × (length l.shelves.items ≡ l.number);
+  room : l.fn.rules.shelves ≤ vec_capacity l.shelves;
+  left : (vec_len l.disks + l.number ≡ l.fn.rules.shelves) × (vec_len l.nonces + l.number ≡ l.fn.rules.shelves);
+  capacity : (vec_capacity l.disks ≡ vec_capacity l.fn.disks) × (vec_capacity l.nonces ≡ vec_capacity l.fn.nonces);
+  disks : (front : List _) × (reverse l.fn.disks.items ≡ front ++ reverse l.disks.items) × (length front ≡ l.number);
+  nonces : reverse l.fn.nonces.items ≡ map (λ k. k.shelf.nonces) l.shelves.items ++ reverse l.nonces.items;
+}

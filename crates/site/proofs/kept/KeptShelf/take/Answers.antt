@@ -1,0 +1,82 @@
+use Rattle.std.proofs.Common.{arith, ◌≡◌, ◌≤◌, ◌∷◌, ◌++◌, [], List, refl, sym, subst, ap, ◌∙◌}
+use Rattle.std.specs.Prelude.{IfOk}
+use Rattle.script_value.specs.Views.{meaning}
+use Rattle.script_nodes.specs.Views.{scripts_of}
+use Rattle.page_names.specs.Views.{target_of}
+use Rattle.replay_spec.specs.Admission.{admit}
+use Rattle.replay_spec.specs.Step as step
+use Rattle.instance_book.specs.Fits.{FitsAs, IsForSome}
+use Rattle.lock_row.proofs.Places.{map_snoc}
+use Rattle.shelf.specs.Views.{IsInOrder, IsEvent, book_in, taken_of}
+use Rattle.shelf_history.specs.Histories.{Entry}
+use Rattle.site.specs.declared.entry.Did.TheVariants.{Take}
+use Rattle.site.specs.Entries.{entry, entry_of, entries_of}
+use Rattle.site.specs.Openings.{count_of}
+use Rattle.site.specs.Sound.{IsSound, Holds}
+use Rattle.site.proofs.Sounds.{kept_push, ever_same, take_told, sound_push}
+use Rattle.site.proofs.Holding.{holds_told, told_ticket}
+use Rattle.site.proofs.kept.KeptShelf.take.Goals as goal
+
+-- the history behind the take
+grown : (g : _) (c : goal.After-push g) → entries_of c.push.new.self ≡ entries_of c.args.self.now.history ++ entry c.args.by (step.take (target_of c.args.target.now) (meaning c.args.answer)) (taken_of c.take-told.result) ∷ []
+grown g c =
+    ap entries_of c.push.ensures.behind
+    ∙ (map_snoc entry_of c.args.self.now.history _
+    ∙ (λ i. entries_of c.args.self.now.history ++ entry c.args.by (step.take (target_of (c.of.ensures i)) (meaning (c.of-asked.ensures i))) (taken_of (c.of-2.ensures i)) ∷ []))
+
+pub returns-clause-sound : goal.returns-clause-sound
+returns-clause-sound g c =
+    let view = g.D.Disk.view in
+    let tells = g.D.Disk.tells in
+    let coming = g.N.Nonces.nonce in
+    let o = c.args.self.now.opened in
+    let s = c.args.self.now.shelf in
+    let t = c.take-told.new.self in
+    let es = entries_of c.args.self.now.history in
+    let p = c.requires.sound in
+    let told = c.take-told.ensures in
+    let target = target_of c.args.target.now in
+    let answer = meaning c.args.answer in
+    let r = taken_of c.take-told.result in
+    let does : IsEvent {D = g.row.D.Denot} {N = g.row.N.Denot} coming (scripts_of o.setup.value) s t (step.take target answer) r = subst (λ (z : _). IsEvent {D = g.row.D.Denot} {N = g.row.N.Denot} coming (scripts_of z) s t (step.take target answer) r) c.requires.setup told.event in
+    let order : IsInOrder {D = g.row.D.Denot} {N = g.row.N.Denot} view tells (scripts_of o.setup.value) t = subst (λ (z : _). IsInOrder {D = g.row.D.Denot} {N = g.row.N.Denot} view tells (scripts_of z) t) c.requires.setup told.in_order in
+    let later : count_of {D = g.row.D.Denot} {N = g.row.N.Denot} view s ≤ count_of {D = g.row.D.Denot} {N = g.row.N.Denot} view t = (let same = ap (λ j. (view j.disk).faults) told.journal in omega arith) in
+    let behind = kept_push {D = g.row.D.Denot} {N = g.row.N.Denot} view tells coming o s t es p c.args.by (step.take target answer) r tt does later (take_told {D = g.row.D.Denot} {N = g.row.N.Denot} view tells coming o s t es p target answer r does) in
+    subst (λ (l : List Entry). IsSound {D = g.row.D.Denot} {N = g.row.N.Denot} view tells coming o t l) (sym (grown g c))
+    (sound_push {D = g.row.D.Denot} {N = g.row.N.Denot} view tells coming o s t es p c.args.by (step.take target answer) r order told.rules later behind
+    (ever_same {D = g.row.D.Denot} {N = g.row.N.Denot} view tells coming o s t es p (entry c.args.by (step.take target answer) r) told.journal))
+
+pub returns-clause-gives : goal.returns-clause-gives
+returns-clause-gives g c =
+    let view = g.D.Disk.view in
+    let tells = g.D.Disk.tells in
+    let coming = g.N.Nonces.nonce in
+    let o = c.args.self.now.opened in
+    let s = c.args.self.now.shelf in
+    let t = c.take-told.new.self in
+    let es = entries_of c.args.self.now.history in
+    let p = c.requires.sound in
+    let told = c.take-told.ensures in
+    let target = target_of c.args.target.now in
+    let answer = meaning c.args.answer in
+    let r = taken_of c.take-told.result in
+    let does : IsEvent {D = g.row.D.Denot} {N = g.row.N.Denot} coming (scripts_of o.setup.value) s t (step.take target answer) r = subst (λ (z : _). IsEvent {D = g.row.D.Denot} {N = g.row.N.Denot} coming (scripts_of z) s t (step.take target answer) r) c.requires.setup told.event in
+    let later : count_of {D = g.row.D.Denot} {N = g.row.N.Denot} view s ≤ count_of {D = g.row.D.Denot} {N = g.row.N.Denot} view t = (let same = ap (λ j. (view j.disk).faults) told.journal in omega arith) in
+    let behind = kept_push {D = g.row.D.Denot} {N = g.row.N.Denot} view tells coming o s t es p c.args.by (step.take target answer) r tt does later (take_told {D = g.row.D.Denot} {N = g.row.N.Denot} view tells coming o s t es p target answer r does) in
+    let fits = subst (λ (z : _). IfOk c.take-told.result (λ x. FitsAs (scripts_of z) (book_in {D = g.row.D.Denot} {N = g.row.N.Denot} (scripts_of z) t) x (admit (book_in {D = g.row.D.Denot} {N = g.row.N.Denot} (scripts_of z) t) (target_of x.target)))) c.requires.setup told.fits in
+    let runs = subst (λ (z : _). IfOk c.take-told.result (IsForSome (scripts_of z))) c.requires.setup told.runs in
+    let is = told_ticket {D = g.row.D.Denot} {N = g.row.N.Denot} coming c.args.setup.now s c.args.target.now c.args.answer c.take-told.result told.ticket in
+    record {
+      held =
+          subst (λ (l : List Entry). IfOk c.take-told.result (λ x. Holds {D = g.row.D.Denot} {N = g.row.N.Denot} view tells coming o l c.args.by x)) (sym (grown g c))
+          (holds_told {D = g.row.D.Denot} {N = g.row.N.Denot} view tells coming o s t es p c.args.by _ _ target answer c.take-told.result does behind is fits runs);
+      ticket = is;
+    }
+
+pub returns-clause-entry : goal.returns-clause-entry
+returns-clause-entry g c = record {
+  entry_made = record { caller = c.args.by; did = Take c.of.result c.of-asked.result c.of-2.result };
+  caller_is = refl;
+  entry_is = λ i. entry c.args.by (step.take (target_of (c.of.ensures i)) (meaning (c.of-asked.ensures i))) (taken_of (c.of-2.ensures i));
+  is = c.push.ensures.behind;
+}

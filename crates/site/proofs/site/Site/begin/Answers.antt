@@ -1,0 +1,98 @@
+use Rattle.std.proofs.Common.{rules, ◌≡◌, ◌++◌, ◌∷◌, ◌<◌, ◌≤◌, ◌^◌, [], length, refl, ap, sym, ◌∙◌, subst, arith, map, reverse}
+use Rattle.std.proofs.lemmas.List.{reverse-reverse}
+use Rattle.script_nodes.specs.Views.{scripts_of}
+use Rattle.shelf.specs.declared.begin.BeginFault.TheVariants.{Memory}
+use Rattle.site.specs.declared.site.Site.{Site}
+use Rattle.site.specs.Entries.{entries_of}
+use Rattle.site.specs.Beginnings.{AreUnopened}
+use Rattle.site.proofs.Begins.{disk_in, nonces_in, turned_fresh, sources_of, fresh_there, begun_of, under_of, as_many, unopened_after, same_shelves, same_parts}
+use Rattle.site.proofs.site.Site.begin.Goals as goal
+
+pub new-requires-clause-fresh : goal.new-requires-clause-fresh
+new-requires-clause-fresh g c k x e =
+    let view = g.D.Disk.view in
+    let tells = g.D.Disk.tells in
+    let coming = g.N.Nonces.nonce in
+    let ks = c.in-Ok-open_all.shelves.items in
+    let fresh = turned_fresh {D = g.row.D.Denot} {N = g.row.N.Denot} view tells coming c.args.setup c.args.rules c.args.disks.items c.reverse.new.self.items c.args.nonces.items c.reverse-2.new.self.items ks c.reverse.ensures.items c.reverse-2.ensures.items c.in-Ok-open_all.ensures.opened in
+    let long : length c.args.nonces.items ≡ length c.args.disks.items = c.requires.nonces ∙ sym c.requires.disks in
+    let many : length ks ≡ length c.args.disks.items = c.in-Ok-open_all.ensures.many.0 ∙ sym c.requires.disks in
+    let f = fresh_there {D = g.row.D.Denot} {N = g.row.N.Denot} view tells coming c.args.setup c.args.rules c.args.disks.items c.args.nonces.items ks long fresh many k x e in
+    (f.2.sound, f.2.history_is, omega arith)
+
+pub returns-in-Ok-new-clause-begun : goal.returns-in-Ok-new-clause-begun
+returns-in-Ok-new-clause-begun g c =
+    let view = g.D.Disk.view in
+    let tells = g.D.Disk.tells in
+    let coming = g.N.Nonces.nonce in
+    let ks = c.in-Ok-open_all.shelves.items in
+    let fresh = turned_fresh {D = g.row.D.Denot} {N = g.row.N.Denot} view tells coming c.args.setup c.args.rules c.args.disks.items c.reverse.new.self.items c.args.nonces.items c.reverse-2.new.self.items ks c.reverse.ensures.items c.reverse-2.ensures.items c.in-Ok-open_all.ensures.opened in
+    let long : length c.args.nonces.items ≡ length c.args.disks.items = c.requires.nonces ∙ sym c.requires.disks in
+    let many : length ks ≡ length c.args.disks.items = c.in-Ok-open_all.ensures.many.0 ∙ sym c.requires.disks in
+    begun_of {D = g.row.D.Denot} {N = g.row.N.Denot} view tells coming c.args.setup c.args.rules c.args.disks.items c.args.nonces.items ks long fresh many _ refl refl c.in-Ok-new.ensures.homes
+
+pub returns-in-Ok-new-clause-ready : goal.returns-in-Ok-new-clause-ready
+returns-in-Ok-new-clause-ready g c =
+    let view = g.D.Disk.view in
+    let tells = g.D.Disk.tells in
+    let coming = g.N.Nonces.nonce in
+    let ks = c.in-Ok-open_all.shelves.items in
+    let fresh = turned_fresh {D = g.row.D.Denot} {N = g.row.N.Denot} view tells coming c.args.setup c.args.rules c.args.disks.items c.reverse.new.self.items c.args.nonces.items c.reverse-2.new.self.items ks c.reverse.ensures.items c.reverse-2.ensures.items c.in-Ok-open_all.ensures.opened in
+    let long : length c.args.nonces.items ≡ length c.args.disks.items = c.requires.nonces ∙ sym c.requires.disks in
+    let many : length ks ≡ length c.args.disks.items = c.in-Ok-open_all.ensures.many.0 ∙ sym c.requires.disks in
+    let site : Site g.row.D.Denot g.row.N.Denot = record { setup = c.args.setup; fuel = c.args.rules.fuel; row = c.in-Ok-new.row; disks = c.open_all.new.disks; nonces = c.open_all.new.nonces; histories = c.in-Ok.histories } in
+    let under = under_of {D = g.row.D.Denot} {N = g.row.N.Denot} view tells coming c.args.setup c.args.rules c.args.disks.items c.args.nonces.items ks long fresh many site refl refl c.in-Ok-new.ensures.homes in
+    let same = as_many {D = g.row.D.Denot} {N = g.row.N.Denot} view tells coming c.args.setup c.args.rules c.args.disks.items c.args.nonces.items ks long fresh many site refl refl c.in-Ok-new.ensures.homes in
+    let gone = c.in-Ok-open_all.ensures.gone in
+    let fuel = c.requires.range.fuel in
+    let shelves = c.requires.range.shelves in
+    let disks = c.requires.disks in
+    record {
+      whole = record {
+        fuel = omega arith;
+        some = omega arith;
+        under = under;
+        room = record {
+          no_disks = gone.2;
+          no_nonces = gone.3;
+          no_histories = search (rules, arith);
+          empty = (gone.0, gone.1, search rules);
+          disks = search (rules, arith);
+          nonces = search (rules, arith);
+          histories = search (rules, arith);
+        };
+      };
+      given = c.in-Ok-new.ensures.seats.0;
+      left = c.in-Ok-new.ensures.seats.1;
+    }
+
+pub returns-in-Err-new-clause-fault : goal.returns-in-Err-new-clause-fault
+returns-in-Err-new-clause-fault g c =
+    let view = g.D.Disk.view in
+    let tells = g.D.Disk.tells in
+    let coming = g.N.Nonces.nonce in
+    let ks = c.in-Ok-open_all.shelves.items in
+    let js = c.in-Err-new.shelves.items in
+    let fresh = turned_fresh {D = g.row.D.Denot} {N = g.row.N.Denot} view tells coming c.args.setup c.args.rules c.args.disks.items c.reverse.new.self.items c.args.nonces.items c.reverse-2.new.self.items ks c.reverse.ensures.items c.reverse-2.ensures.items c.in-Ok-open_all.ensures.opened in
+    let long : length c.args.nonces.items ≡ length c.args.disks.items = c.requires.nonces ∙ sym c.requires.disks in
+    let many : length ks ≡ length c.args.disks.items = c.in-Ok-open_all.ensures.many.0 ∙ sym c.requires.disks in
+    let range = c.requires.range.shelves in
+    let disks = c.requires.disks in
+    let some : 0 < length c.args.disks.items = omega arith in
+    let same = same_shelves {D = g.row.D.Denot} {N = g.row.N.Denot} ks js c.in-Err-new.ensures.back
+    (λ k x y x_is r.
+    let f = fresh_there {D = g.row.D.Denot} {N = g.row.N.Denot} view tells coming c.args.setup c.args.rules c.args.disks.items c.args.nonces.items ks long fresh many k x x_is in
+    r.0.untouched (ap entries_of r.2) ∙ (ap (λ o. o.shelf.value) r.1 ∙ f.2.opened_is)) in
+    let gone = c.in-Ok-open_all.ensures.gone in
+    let back : c.handed-in-Err-new.result.disks.items ≡ map disk_in ks =
+    c.handed-in-Err-new.ensures.disks ∙ (ap reverse (c.give_back.ensures.disks ∙ ap (λ l. l ++ reverse (map disk_in js)) gone.0) ∙ (reverse-reverse (map disk_in js) ∙ same_parts {D = g.row.D.Denot} {N = g.row.N.Denot} (λ s. s.journal.disk) ks js same)) in
+    let sources : c.handed-in-Err-new.result.nonces.items ≡ map nonces_in ks =
+    c.handed-in-Err-new.ensures.nonces ∙ (ap reverse (c.give_back.ensures.nonces ∙ ap (λ l. l ++ reverse (map nonces_in js)) gone.1) ∙ (reverse-reverse (map nonces_in js) ∙ same_parts {D = g.row.D.Denot} {N = g.row.N.Denot} (λ s. s.nonces) ks js same)) in
+    let un = unopened_after {D = g.row.D.Denot} {N = g.row.N.Denot} view tells coming c.args.setup c.args.rules c.args.disks.items c.args.nonces.items ks long fresh many some in
+    let told = c.handed-in-Err-new.ensures.fault in
+    record {
+      disks_back = subst (λ l. AreUnopened {D = g.row.D.Denot} view tells (scripts_of c.args.setup) c.args.disks.items l c.handed-in-Err-new.result.shelf c.handed-in-Err-new.result.fault) (sym back)
+          (subst (λ k. AreUnopened {D = g.row.D.Denot} view tells (scripts_of c.args.setup) c.args.disks.items (map disk_in ks) k c.handed-in-Err-new.result.fault) (sym told.0)
+          (subst (λ w. AreUnopened {D = g.row.D.Denot} view tells (scripts_of c.args.setup) c.args.disks.items (map disk_in ks) 0 w) (sym told.1) un));
+      sources_back = sources ∙ sources_of {D = g.row.D.Denot} {N = g.row.N.Denot} view tells coming c.args.setup c.args.rules c.args.disks.items c.args.nonces.items ks long fresh many;
+    }

@@ -1,0 +1,98 @@
+use Rattle.std.proofs.Common.{rules, arith, ◌≡◌, ◌<◌, ◌^◌, inr, ℕ, refl, sym, ◌∙◌, subst, ap, length}
+use Rattle.replay_spec.specs.Step as step
+use Rattle.instance_book.specs.Views.{ticket_of, reply_of}
+use Rattle.shelf.specs.Views.{IsRunIfAny}
+use Rattle.script_nodes.specs.Views.{scripts_of}
+use Rattle.site.specs.Entries.{entries_of, Comes}
+use Rattle.site.specs.Sound.{IsSound, Holds}
+use Rattle.site.proofs.Holding.{holds_on}
+use Rattle.site.proofs.Turns.{Turn, published, goes_none, adds_one, match_ok, match_err, seen_so, from_did}
+use Rattle.site.proofs.Seats.{setup_at, own_on, same_opening}
+use Rattle.site.proofs.site.Site.publish_at.Goals as goal
+
+pub turn-told-requires-clause-callable : goal.turn-told-requires-clause-callable
+turn-told-requires-clause-callable g c = λ a at p reached.
+    let view = g.D.Disk.view in
+    let tells = g.D.Disk.tells in
+    let coming = g.N.Nonces.nonce in
+    let by = c.caller-by.result in
+    let most = reached.3 in
+    let room : length p.now.history < 2 ^ 62 = omega (arith, most) in
+    let setup = setup_at {D = g.row.D.Denot} {N = g.row.N.Denot} c.args.self.now c.args.pass.now c.args.shelf a p.now.opened c.requires.own at reached.1.0 in
+    let sound = reached.0 in
+    let by_is : a.known.caller ≡ by = (c.requires.own.seats c.args.shelf a at).caller_is ∙ sym c.caller-by.ensures in
+    let h = c.requires.held a at in
+    let so = seen_so a.known.caller a.known.seen p.now.history reached.2.0 reached.2.1 in
+    let same = same_opening a.known.opening h.opening p.now.opened h.opening_is reached.1.0 in
+    let mine : Holds {D = g.row.D.Denot} {N = g.row.N.Denot} view tells coming p.now.opened (entries_of p.now.history) by c.args.ticket =
+    subst (λ (n : ℕ). Holds {D = g.row.D.Denot} {N = g.row.N.Denot} view tells coming p.now.opened (entries_of p.now.history) n c.args.ticket) by_is
+    (holds_on {D = g.row.D.Denot} {N = g.row.N.Denot} view tells coming p.now.opened (entries_of a.known.seen) (entries_of p.now.history) a.known.caller c.args.ticket so.front so.own
+    (subst (λ (o : _). Holds {D = g.row.D.Denot} {N = g.row.N.Denot} view tells coming o (entries_of a.known.seen) a.known.caller c.args.ticket) same h.holds)) in
+    let run : IsRunIfAny (scripts_of c.args.self.now.setup) p.now.opened.shelf.value.rules.fuel c.args.ticket c.args.segment =
+    subst (λ (z : _). IsRunIfAny (scripts_of z) p.now.opened.shelf.value.rules.fuel c.args.ticket c.args.segment) (sym setup) (c.requires.segment a p.now.opened at reached.1.0) in
+    search rules
+
+pub turn-told-requires-clause-keeps : goal.turn-told-requires-clause-keeps
+turn-told-requires-clause-keeps g c = λ a at x told y reached did.
+    let met = did.met in
+    let view = g.D.Disk.view in
+    let tells = g.D.Disk.tells in
+    let coming = g.N.Nonces.nonce in
+    let by = c.caller-by.result in
+    let by_is : a.known.caller ≡ by = (c.requires.own.seats c.args.shelf a at).caller_is ∙ sym c.caller-by.ensures in
+    let sound : IsSound {D = g.row.D.Denot} {N = g.row.N.Denot} view tells coming did.left.now.opened did.left.now.shelf (entries_of did.left.now.history) = search rules in
+    let opened : did.left.now.opened ≡ did.shown.now.opened = search rules in
+    let comes-there : Comes by (step.publish (ticket_of c.args.ticket)) (reply_of told) did.shown.now.history did.left.now.history = search rules in
+    let comes : Comes by (step.publish (ticket_of c.args.ticket)) (reply_of told) x.history y.history = subst (λ (z : _). Comes by (step.publish (ticket_of c.args.ticket)) (reply_of told) z.history y.history) did.shows (subst (λ (z : _). Comes by (step.publish (ticket_of c.args.ticket)) (reply_of told) did.shown.now.history z.history) did.leaves comes-there) in (
+      subst (λ (z : _). IsSound {D = g.row.D.Denot} {N = g.row.N.Denot} view tells coming z.opened z.shelf (entries_of z.history)) did.leaves sound,
+      sym (ap (λ z. z.opened) did.leaves) ∙ (opened ∙ ap (λ z. z.opened) did.shows),
+      refl,
+      adds_one by a.known.caller (step.publish (ticket_of c.args.ticket)) (reply_of told) x.history y.history by_is comes,
+    )
+
+pub returns-in-Ok-clause-own : goal.returns-in-Ok-clause-own
+returns-in-Ok-clause-own g c =
+    let at = match_ok _ _ _ _ c.turn-told.ensures.turned c.in-Ok.is in
+    own_on {D = g.row.D.Denot} {N = g.row.N.Denot} c.args.self.now c.args.pass.now _ c.args.shelf _ c.requires.own c.turn-told.ensures.own at (ap (λ u. u.opening) at.4.5) (ap (λ u. u.caller) at.4.5)
+
+pub returns-in-Err-clause-own : goal.returns-in-Err-clause-own
+returns-in-Err-clause-own g c =
+    let at = match_err _ _ _ _ c.turn-told.ensures.turned c.in-Err.is in
+    own_on {D = g.row.D.Denot} {N = g.row.N.Denot} c.args.self.now c.args.pass.now _ c.args.shelf _ c.requires.own c.turn-told.ensures.own at (ap (λ u. u.opening) at.4.5) (ap (λ u. u.caller) at.4.5)
+
+pub returns-in-Ok-clause-published : goal.returns-in-Ok-clause-published
+returns-in-Ok-clause-published g c =
+    let view = g.D.Disk.view in
+    let tells = g.D.Disk.tells in
+    let coming = g.N.Nonces.nonce in
+    let by = c.caller-by.result in
+    let comes =
+    from_did _ _ _ (match_ok _ _ _ _ c.turn-told.ensures.turned c.in-Ok.is).4.3 (λ (x : _) (told : _) (y : _). Comes by (step.publish (ticket_of c.args.ticket)) (reply_of told) x.history y.history) (λ x told y did.
+    let met = did.met in
+    let there : Comes by (step.publish (ticket_of c.args.ticket)) (reply_of told) did.shown.now.history did.left.now.history = search rules in
+    subst (λ (z : _). Comes by (step.publish (ticket_of c.args.ticket)) (reply_of told) z.history y.history) did.shows (subst (λ (z : _). Comes by (step.publish (ticket_of c.args.ticket)) (reply_of told) did.shown.now.history z.history) did.leaves there)) in
+    let told = c.in-Ok.told in
+    let at = match_ok _ _ _ _ c.turn-told.ensures.turned c.in-Ok.is in
+    let t = at.4 in
+    let x = t.0 in
+    let y = t.1 in
+    let by_is : at.0.known.caller ≡ by = (c.requires.own.seats c.args.shelf at.0 at.2).caller_is ∙ sym c.caller-by.ensures in
+    let turn : Turn {D = g.row.D.Denot} {N = g.row.N.Denot} view tells coming at.0.known at.1 x y = record {
+      opening_is = t.2.1.0;
+      begins = t.2.2.0;
+      own_is = t.2.2.1;
+      sound = subst (λ o. IsSound {D = g.row.D.Denot} {N = g.row.N.Denot} view tells coming o y.shelf (entries_of y.history)) t.4.1 t.4.0;
+      seen_is = t.5;
+    } in
+    (at.0, at.1, at.2, at.3, published {D = g.row.D.Denot} {N = g.row.N.Denot} view tells coming at.0.known at.1 x y turn by c.args.ticket told by_is comes)
+
+pub returns-in-Err-clause-published : goal.returns-in-Err-clause-published
+returns-in-Err-clause-published g c =
+    let view = g.D.Disk.view in
+    let tells = g.D.Disk.tells in
+    let coming = g.N.Nonces.nonce in
+    let at = match_err _ _ _ _ c.turn-told.ensures.turned c.in-Err.is in
+    let t = at.4 in
+    let x = t.0 in
+    let turn : Turn {D = g.row.D.Denot} {N = g.row.N.Denot} view tells coming at.0.known at.1 x x = record { opening_is = t.2.0; begins = t.3.0; own_is = t.3.1; sound = t.1; seen_is = t.5 } in
+    (at.0, at.1, at.2, at.3, inr (refl, goes_none {D = g.row.D.Denot} {N = g.row.N.Denot} view tells coming at.0.known at.1 x x turn refl))

@@ -1,0 +1,155 @@
+-- What a site begins with, and what it hands back where it does not begin.
+use Rattle.std.specs.Prelude.{◌≡◌, ◌≤◌, ◌<◌, ◌+◌, ◌-◌, ◌^◌, ℕ, Bool, IsTrue, List, [], ◌∷◌, length, Some, slice_get, vec_len, vec_capacity}
+use Rattle.web_outside.specs.Causes.{Rose}
+use Rattle.web_disk.specs.View.{View}
+use Rattle.script_nodes.specs.Setup.{Named}
+use Rattle.script_nodes.specs.declared.setup.Setup.{Setup}
+use Rattle.script_nodes.specs.Views.{scripts_of}
+use Rattle.replay_spec.specs.Book.{Book, reopened}
+use Rattle.journal_records.specs.Records.{IsInGrammar, begin_of}
+use Rattle.journal_books.specs.Standing.{StaysThroughout, IsOneOf}
+use Rattle.shelf.specs.declared.begin.BeginFault.{BeginFault}
+use Rattle.shelf.specs.declared.begin.BeginFault.TheVariants.{DiskFault}
+use Rattle.shelf.specs.declared.rules.Rules.{Rules}
+use Rattle.shelf.specs.declared.shelf.Shelf.{Shelf}
+use Rattle.shelf.specs.Opening.{MakesBook, IsFaultOf}
+use Rattle.shelf.specs.Views.{IsInOrder, book_in}
+use Rattle.lock_row.specs.Spots.{Home, Homes}
+use Rattle.lock_row.specs.Rows.{IsNewPass}
+use Rattle.site.specs.declared.kept.KeptShelf.{KeptShelf}
+use Rattle.site.specs.declared.opening.Opening.{Opening}
+use Rattle.site.specs.declared.fault.SiteFault.{SiteFault}
+use Rattle.site.specs.declared.site.Site.{Site}
+use Rattle.site.specs.Entries.{entries_of}
+use Rattle.site.specs.Sound.{IsSound}
+use Rattle.site.specs.Passes.{Spots}
+use Rattle.site.specs.Sites.{IsOwn}
+
+-- the limits of the shelf of this number
+abbrev pub rules_for : Rules → ℕ → Rules
+rules_for rules k = record rules { number = k }
+
+-- the record that a journal begins with can be written, of each of so many shelves
+abbrev pub CanBegin : List Named → (shelves : ℕ) → Type 0
+CanBegin scripts shelves = (k : ℕ) → k < shelves → IsInGrammar (begin_of k scripts)
+
+module _ {D N : Type 0} (view : D → View) (tells : Bool) (scripts : List Named) where
+  -- A shelf that was opened on this disk under these limits: its book is what the disk's bytes make, as after a crash, and empty
+  -- where they have no record. A crash at any moment of the opening left the disk between the books that it stood between.
+  pub record IsOpenedOn (rules : Rules) (disk : D) (nonces : N) (s : Shelf D N) : Type 0 where
+    pub rules_are : s.rules ≡ rules
+    pub nonces_are : s.nonces ≡ nonces
+    pub in_order : IsInOrder view tells scripts s
+    pub opened : book_in scripts s ≡ reopened (book_in scripts s)
+    pub book : IsTrue tells → MakesBook scripts rules.number (view disk) (book_in scripts s)
+    pub one_of : IsTrue tells → IsOneOf scripts rules.number (view disk) (book_in scripts s)
+    pub any_moment : IsTrue tells → StaysThroughout scripts rules.number (view disk) (view s.journal.disk)
+    pub later : (view disk).faults ≤ (view s.journal.disk).faults
+
+module _ {D N : Type 0} (view : D → View) (tells : Bool) (coming : N → ℕ → ℕ) (setup : Setup) where
+  -- a shelf that was opened so and has no entry yet
+  pub record IsFreshOn (rules : Rules) (disk : D) (nonces : N) (k : KeptShelf D N) : Type 0 where
+    pub setup_is : k.opened.setup.value ≡ setup
+    pub opened_is : k.opened.shelf.value ≡ k.shelf
+    pub history_is : k.history ≡ []
+    pub sound : IsSound view tells coming k.opened k.shelf (entries_of k.history)
+    pub shelf : IsOpenedOn view tells (scripts_of setup) rules disk nonces k.shelf
+
+  -- so each of these, on the disk and with the source of its place
+  abbrev pub AreFreshOn : Rules → List D → List N → List (KeptShelf D N) → Type 0
+  AreFreshOn rules disks nonces ks =
+      (k : ℕ) (d : D) (n : N) (s : KeptShelf D N) → slice_get disks k ≡ Some d → slice_get nonces k ≡ Some n → slice_get ks k ≡ Some s
+      → IsFreshOn (rules_for rules k) d n s
+
+module _ {D : Type 0} (view : D → View) (tells : Bool) (scripts : List Named) where
+  -- A disk that is handed back as the shelf's of this number: a crash at any moment left it between the books that it stood
+  -- between, and its count has not fallen.
+  pub record IsReturned (k : ℕ) (disk back : D) : Type 0 where
+    pub any_moment : IsTrue tells → StaysThroughout scripts k (view disk) (view back)
+    pub later : (view disk).faults ≤ (view back).faults
+
+  -- the shelf of this number was not opened, and its disk is handed back
+  pub record IsUnopened (k : ℕ) (disk back : D) (fault : BeginFault) : Type 0 where
+    pub returned : IsReturned k disk back
+    pub why : IsTrue tells → IsFaultOf scripts k (view disk) fault
+    pub cause : fault ≡ DiskFault → Rose (view disk).faults (view back).faults
+
+  -- disks are handed back, each in its place
+  pub record AreReturned (disks back : List D) : Type 0 where
+    pub many : length back ≡ length disks
+    pub each : (k : ℕ) (d e : D) → slice_get disks k ≡ Some d → slice_get back k ≡ Some e → IsReturned k d e
+
+  -- A shelf was not opened, the first of those that can't be: what makes no shelf stands on its disk, or a call of its disk failed,
+  -- or memory ended.
+  pub record AreUnopened (disks back : List D) (shelf : ℕ) (fault : BeginFault) : Type 0 where
+    pub returned : AreReturned disks back
+    pub within : shelf < length disks
+    pub earlier : IsTrue tells → (k : ℕ) (d : D) → k < shelf → slice_get disks k ≡ Some d → (b : Book) × MakesBook scripts k (view d) b
+    pub why : IsTrue tells → (d : D) → slice_get disks shelf ≡ Some d → IsFaultOf scripts shelf (view d) fault
+    pub cause : fault ≡ DiskFault → (d e : D) → slice_get disks shelf ≡ Some d → slice_get back shelf ≡ Some e
+        → Rose (view d).faults (view e).faults
+
+module _ {D N : Type 0} (view : D → View) (tells : Bool) (setup : Setup) (rules : Rules) where
+  -- the shelf of this number was opened so, and lies behind its lock
+  pub record IsBegunAt (k : ℕ) (disk : D) (nonces : N) (h : Home (Opening D N)) : Type 0 where
+    pub opening : Opening D N
+    pub opening_is : h.opening ≡ opening ∷ []
+    pub setup_is : opening.setup.value ≡ setup
+    pub shelf : IsOpenedOn view tells (scripts_of setup) (rules_for rules k) disk nonces opening.shelf.value
+
+  -- each shelf of the site was opened on the disk of its place, with the source of its place
+  pub record IsBegun (disks : List D) (nonces : List N) (site : Site D N) : Type 0 where
+    pub setup_is : site.setup ≡ setup
+    pub fuel_is : site.fuel ≡ rules.fuel
+    pub many : length site.row.homes ≡ length disks
+    pub each : (k : ℕ) (d : D) (n : N) (h : Home (Opening D N)) → slice_get disks k ≡ Some d → slice_get nonces k ≡ Some n
+        → slice_get site.row.homes k ≡ Some h → IsBegunAt k d n h
+
+-- A shelf was not opened, the first of those that can't be, and all disks and sources are handed back, in their order.
+pub record IsNotBegun {D N : Type 0} (view : D → View) (tells : Bool) (setup : Setup) (disks : List D) (nonces : List N) (f : SiteFault D N) : Type 0 where
+  pub disks_back : AreUnopened view tells (scripts_of setup) disks f.disks.items f.shelf f.fault
+  pub sources_back : f.nonces.items ≡ nonces
+
+-- how many passes a site gives, at most
+abbrev pub most_passes : ℕ
+most_passes = 16
+
+-- so many callers have their pass
+abbrev pub given_out : {O : Type 0} → ℕ → Homes O → Homes O
+given_out n row = record { homes = row.homes; seats = n; left = most_passes - n }
+
+module _ {D N : Type 0} where
+  -- the opening of a shelf of the site is under its setup, with its fuel for a visit
+  pub record IsUnder (site : Site D N) (h : Home (Opening D N)) : Type 0 where
+    pub opening : Opening D N
+    pub opening_is : h.opening ≡ opening ∷ []
+    pub setup_is : opening.setup.value ≡ site.setup
+    pub fuel_is : opening.shelf.value.rules.fuel ≡ site.fuel
+
+  -- There is room for what a site hands back when it is closed. (The room is empty.)
+  pub record HasRoom (shelves : ℕ) (site : Site D N) : Type 0 where
+    pub no_disks : vec_len site.disks ≡ 0
+    pub no_nonces : vec_len site.nonces ≡ 0
+    pub no_histories : vec_len site.histories ≡ 0
+    pub empty : (site.disks.items ≡ []) × (site.nonces.items ≡ []) × (site.histories.items ≡ [])
+    pub disks : shelves ≤ vec_capacity site.disks
+    pub nonces : shelves ≤ vec_capacity site.nonces
+    pub histories : shelves ≤ vec_capacity site.histories
+
+  -- what holds of a site from its beginning to its end
+  pub record IsWhole (site : Site D N) : Type 0 where
+    pub fuel : site.fuel < 2 ^ 63
+    pub some : 0 < length site.row.homes
+    pub under : (k : ℕ) (h : Home (Opening D N)) → slice_get site.row.homes k ≡ Some h → IsUnder site h
+    pub room : HasRoom (length site.row.homes) site
+
+  -- a site that gave no pass yet
+  pub record IsReady (site : Site D N) : Type 0 where
+    pub whole : IsWhole site
+    pub given : site.row.seats ≡ 0
+    pub left : site.row.left ≡ most_passes
+
+  -- a pass of the site that has seen nothing, of this caller
+  pub record IsFirstPass (site : Site D N) (caller : ℕ) (pass : Spots D N) : Type 0 where
+    pub own : IsOwn site pass
+    pub fresh : IsNewPass caller pass

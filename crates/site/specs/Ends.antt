@@ -1,0 +1,28 @@
+-- What notes tell, and what a site that is closed hands back.
+use Rattle.std.specs.Prelude.{◌≡◌, ◌≤◌, ℕ, Bool, List, [], ◌∷◌}
+use mathlib.Core.List.{IsPrefix}
+use Rattle.web_disk.specs.View.{View}
+use Rattle.shelf_lock.specs.declared.view.Role.TheVariants.{Outside}
+use Rattle.shelf_lock.specs.Order.{posed, longer}
+use Rattle.lock_row.specs.Spots.{Spot, spot}
+use Rattle.shelf_history.specs.Histories.{Entry, own_of}
+use Rattle.site.specs.declared.entry.KeptEntry.{KeptEntry}
+use Rattle.site.specs.declared.opening.Opening.{Opening}
+use Rattle.site.specs.Passes.{seen_by}
+use Rattle.site.specs.Sound.{StandsFor}
+
+-- The pass has then seen the longer history of both. What it and the note had seen begin it, and it has no further entry of the
+-- pass's caller.
+pub record HearsOf {D N : Type 0} (note a b : Spot (Opening D N) KeptEntry) : Type 0 where
+  pub is : b ≡ spot a.table (posed Outside (longer a.known.seen note.known.seen) a.known)
+  pub had : IsPrefix (seen_by a.known) (seen_by b.known)
+  pub heard : IsPrefix (seen_by note.known) (seen_by b.known)
+  pub own : own_of a.known.caller (seen_by b.known) ≡ own_of a.known.caller (seen_by a.known)
+
+-- What is handed back of a shelf of this opening: the disk and the source of nonces stand for its history, and callers from this
+-- number on have no entries in it.
+pub record IsBack {D N : Type 0} (view : D → View) (tells : Bool) (coming : N → ℕ → ℕ) (opening : List (Opening D N)) (given : ℕ) (disk : D) (nonces : N) (es : List Entry) : Type 0 where
+  pub opened : Opening D N
+  pub opening_is : opening ≡ opened ∷ []
+  pub stands : StandsFor view tells coming opened disk nonces es
+  pub callers : (who : ℕ) → given ≤ who → own_of who es ≡ []

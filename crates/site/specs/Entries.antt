@@ -1,0 +1,41 @@
+-- What the entries of a history stand for.
+use Rattle.std.specs.Prelude.{◌≡◌, ℕ, List, [], ◌∷◌, ◌++◌, map, ◌⊎◌, ◌≤◌, ◌<◌, Result, Ok}
+use Rattle.script_value.specs.declared.outcome.Reply.{Reply}
+use Rattle.script_value.specs.Views.{meaning}
+use Rattle.page_names.specs.Views.{target_of}
+use Rattle.replay_spec.specs.Step as step
+use Rattle.replay_spec.specs.Step.{Event}
+use Rattle.instance_book.specs.Views.{ticket_of, reply_of}
+use Rattle.shelf.specs.Views.{taken_of, swept_of}
+use Rattle.shelf_history.specs.Histories.{Entry}
+use Rattle.site.specs.declared.entry.KeptEntry.{KeptEntry}
+use Rattle.site.specs.declared.entry.Did.{Did}
+use Rattle.site.specs.declared.entry.Did.TheVariants.{Take, Publish, Sweep}
+
+abbrev pub entry : (caller : ℕ) → Event → step.Reply → Entry
+entry caller event reply = record { caller = caller; event = event; reply = reply }
+
+-- what was done, and what it was answered
+abbrev pub done_by : (caller : ℕ) → Did → Entry
+done_by caller (Take target answer told) =
+    entry caller (step.take (target_of target.value) (meaning answer.value)) (taken_of told.value)
+done_by caller (Publish ticket told) = entry caller (step.publish (ticket_of ticket.value)) (reply_of told.value)
+done_by caller (Sweep tick told) = entry caller (step.sweep tick) (swept_of told.value)
+
+abbrev pub entry_of : KeptEntry → Entry
+entry_of e = done_by e.caller e.did
+
+abbrev pub entries_of : List KeptEntry → List Entry
+entries_of es = map entry_of es
+
+-- this is the next entry
+pub record Comes (caller : ℕ) (event : Event) (reply : step.Reply) (old new : List KeptEntry) : Type 0 where
+  pub entry_made : KeptEntry
+  pub caller_is : entry_made.caller ≡ caller
+  pub entry_is : entry_of entry_made ≡ entry caller event reply
+  pub is : new ≡ old ++ entry_made ∷ []
+
+-- a tick that is over does nothing; the sweep to a later one is the next entry
+abbrev pub Sweeps : (caller tick : ℕ) → Result ℕ Reply → (clock : ℕ) → (old new : List KeptEntry) → Type 0
+Sweeps caller tick result clock old new =
+    ((tick ≤ clock) × (new ≡ old) × (result ≡ Ok 0)) ⊎ ((clock < tick) × Comes caller (step.sweep tick) (swept_of result) old new)

@@ -1,0 +1,24 @@
+-- What holds of the histories of a closed site.
+use Rattle.std.specs.Prelude.{◌≡◌, ℕ, Bool, List, [], ◌∷◌, ◌++◌}
+use Rattle.script_value.specs.declared.outcome.TxName.{TxName}
+use Rattle.web_disk.specs.View.{View}
+use Rattle.replay_spec.specs.Invariant as invariant
+use Rattle.replay_spec.specs.Laws.{Leaves, IsOn, IsRefusal, without_effect}
+use Rattle.shelf_history.specs.Histories.{Entry}
+use Rattle.shelf_history.specs.Laws.{moment_of}
+use Rattle.site.specs.declared.opening.Opening.{Opening}
+use Rattle.site.specs.Openings.{start_of, source_of, book_then}
+use Rattle.site.specs.Sound.{StandsFor}
+
+-- Behind an entry that left a transaction none leaves it, of whichever caller; and each on a page that is inside it, or was in the
+-- book behind any beginning of the history, is refused without effect. So it is of a shelf that was opened with a sound book.
+abbrev pub ClosedIsClosedOverThreads : {D N : Type 0} → (D → View) → Bool → (N → ℕ → ℕ) → Type 0
+ClosedIsClosedOverThreads {D} {N} view tells coming =
+    (o : Opening D N) (disk : D) (nonces : N) (es : List Entry) → StandsFor view tells coming o disk nonces es → invariant.IsSound (start_of o).book
+    → (before between more : List Entry) (leaving next : Entry) (name : TxName)
+    → let until = before ++ leaving ∷ between in
+    es ≡ (until ++ next ∷ []) ++ more
+    → Leaves name (book_then coming o before) (moment_of (source_of coming o) (start_of o) before leaving)
+    → (Leaves name (book_then coming o until) (moment_of (source_of coming o) (start_of o) until next) → ⊥)
+    × ((early later : List Entry) → until ≡ early ++ later → IsOn name (book_then coming o early) next.event
+    → IsRefusal next.reply × (book_then coming o (until ++ next ∷ []) ≡ without_effect next.event (book_then coming o until)))

@@ -1,0 +1,9 @@
+pub mod Entries
+pub mod Openings
+pub mod Sound
+pub mod Passes
+pub mod Sites
+pub mod Beginnings
+pub mod Ends
+pub mod Rules
+pub mod Laws

@@ -1,0 +1,35 @@
+-- What a shelf was when it was opened.
+use Rattle.std.specs.Prelude.{ℕ, List}
+use Rattle.script_nodes.specs.Setup.{Named}
+use Rattle.script_nodes.specs.Views.{scripts_of}
+use Rattle.web_disk.specs.View.{View}
+use Rattle.replay_spec.specs.Book.{Book}
+use Rattle.replay_spec.specs.Runs as runs
+use Rattle.shelf_history.specs.Histories.{Entry, IsLegal, book_behind}
+use Rattle.shelf.specs.declared.shelf.Shelf.{Shelf}
+use Rattle.shelf.specs.Views.{shelf_of}
+use Rattle.site.specs.declared.opening.Opening.{Opening}
+
+-- its scripts
+abbrev pub scripts_in : {D N : Type 0} → Opening D N → List Named
+scripts_in o = scripts_of o.setup.value
+
+-- the shelf, whose source has given nothing yet
+abbrev pub start_of : {D N : Type 0} → Opening D N → runs.Shelf
+start_of o = shelf_of (scripts_in o) 0 o.shelf.value
+
+-- the nonces of its source
+abbrev pub source_of : {D N : Type 0} → (N → ℕ → ℕ) → Opening D N → ℕ → ℕ
+source_of coming o = coming o.shelf.value.nonces
+
+-- how often a call of a shelf's disk has failed
+abbrev pub count_of : {D N : Type 0} → (D → View) → Shelf D N → ℕ
+count_of view s = (view s.journal.disk).faults
+
+-- a history from there, by when the disk's count is this
+abbrev pub HasLegal : {D N : Type 0} → (D → View) → (N → ℕ → ℕ) → Opening D N → (now : ℕ) → List Entry → Type 0
+HasLegal view coming o now es = IsLegal (source_of coming o) (count_of view o.shelf.value) now (start_of o) es
+
+-- the book behind it
+abbrev pub book_then : {D N : Type 0} → (N → ℕ → ℕ) → Opening D N → List Entry → Book
+book_then coming o es = book_behind (source_of coming o) (start_of o) es

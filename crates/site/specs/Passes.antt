@@ -1,0 +1,90 @@
+-- What a pass has seen of a shelf, and what a call of it does there.
+use Rattle.std.specs.Prelude.{◌≡◌, ◌⊎◌, ◌≤◌, ℕ, Bool, List, [], ◌∷◌, Result, Ok, Err}
+use Rattle.script_value.specs.Val.{Val}
+use Rattle.script_value.specs.declared.outcome.Reply.{Reply}
+use Rattle.script_value.specs.declared.outcome.Reply.TheVariants.{Worn}
+use Rattle.script_nodes.specs.declared.setup.Setup.{Setup}
+use Rattle.page_names.specs.Names.{Destination}
+use Rattle.web_disk.specs.View.{View}
+use Rattle.shelf_lock.specs.declared.view.View as lock
+use Rattle.shelf_lock.specs.declared.view.Role.TheVariants.{Outside}
+use Rattle.shelf_lock.specs.Order.{posed}
+use Rattle.lock_row.specs.Spots.{Spot}
+use Rattle.replay_spec.specs.Step as step
+use Rattle.instance_book.specs.declared.ticket.Ticket.{Ticket}
+use Rattle.instance_book.specs.Views.{ticket_of, reply_of}
+use Rattle.shelf_history.specs.Histories.{Entry}
+use Rattle.shelf_history.specs.Laws.{take_of}
+use Rattle.shelf_history.specs.Passes.{Goes, publish_of}
+use Rattle.site.specs.declared.entry.KeptEntry.{KeptEntry}
+use Rattle.site.specs.declared.opening.Opening.{Opening}
+use Rattle.site.specs.Entries.{entry, entries_of}
+use Rattle.site.specs.Openings.{start_of, source_of, count_of, book_then}
+use Rattle.site.specs.Sound.{Holds}
+
+-- what a pass knows of a shelf
+abbrev pub Known : Type 0 → Type 0 → Type 0
+Known D N = lock.View (Opening D N) KeptEntry
+
+-- what a pass of a site knows of each shelf
+abbrev pub Spots : Type 0 → Type 0 → Type 0
+Spots D N = List (Spot (Opening D N) KeptEntry)
+
+-- the history that it has seen
+abbrev pub seen_by : {D N : Type 0} → Known D N → List Entry
+seen_by v = entries_of v.seen
+
+-- the seat of a worker at a shelf that was opened under this setup, with this fuel for a visit
+pub record IsSeat {D N : Type 0} (setup : Setup) (fuel worker : ℕ) (v : Known D N) : Type 0 where
+  pub opening : Opening D N
+  pub opening_is : v.opening ≡ opening ∷ []
+  pub setup_is : opening.setup.value ≡ setup
+  pub fuel_is : opening.shelf.value.rules.fuel ≡ fuel
+  pub caller_is : v.caller ≡ worker
+
+module _ {D N : Type 0} (view : D → View) (tells : Bool) (coming : N → ℕ → ℕ) where
+  -- A call that ends with these entries: the pass has then seen a legal history of the shelf since its opening. It begins with
+  -- what the pass had seen and ends with the entries added, which are all new ones of its caller; what stands between are
+  -- entries of others.
+  pub record GoesFrom (v : Known D N) (added : List Entry) (w : Known D N) : Type 0 where
+    pub opening : Opening D N
+    pub opening_is : v.opening ≡ opening ∷ []
+    pub now : ℕ
+    pub is : w ≡ posed Outside w.seen v
+    pub goes : Goes (source_of coming opening) (count_of view opening.shelf.value) now (start_of opening) v.caller (seen_by v) added (seen_by w)
+
+  -- the pass holds the ticket, by what it has seen
+  pub record HoldsTicket (v : Known D N) (t : Ticket) : Type 0 where
+    pub opening : Opening D N
+    pub opening_is : v.opening ≡ opening ∷ []
+    pub holds : Holds view tells coming opening (seen_by v) v.caller t
+
+  -- the lock was worn, and no entry was made
+  abbrev pub IsWorn : Known D N → Reply → Known D N → Type 0
+  IsWorn v r w = (r ≡ Worn) × GoesFrom v [] w
+
+  -- a take is one entry of the caller, with its answer; where that is a ticket, the pass holds it
+  pub record Takes (v : Known D N) (target : Destination) (answer : Val) (t : Ticket) (w : Known D N) : Type 0 where
+    pub goes : GoesFrom v (take_of v.caller (ticket_of t) ∷ []) w
+    pub holds : HoldsTicket w t
+    pub target_is : (ticket_of t).target ≡ target
+    pub answer_is : (ticket_of t).answer ≡ answer
+
+  abbrev pub Took : Known D N → Destination → Val → Result Ticket Reply → Known D N → Type 0
+  Took v target answer (Ok t) w = Takes v target answer t w
+  Took v target answer (Err r) w = GoesFrom v (entry v.caller (step.take target answer) (reply_of r) ∷ []) w ⊎ IsWorn v r w
+
+  -- a publish is one entry of the caller, with its reply
+  abbrev pub Published : Known D N → Ticket → Reply → Known D N → Type 0
+  Published v t r w = GoesFrom v (publish_of v.caller (ticket_of t) (reply_of r) ∷ []) w ⊎ IsWorn v r w
+
+  -- the clock of the history that was seen is at the tick, at least
+  abbrev pub HasReached : Known D N → (tick : ℕ) → Type 0
+  HasReached w tick = (o : Opening D N) → w.opening ≡ o ∷ [] → tick ≤ (book_then coming o (seen_by w)).clock
+
+  -- A sweep is one entry of the caller, with its answer; there is none where the clock was at the tick before. Behind an answer
+  -- that is no refusal the clock is at the tick, at least.
+  abbrev pub Swept : Known D N → (tick : ℕ) → Result ℕ Reply → Known D N → Type 0
+  Swept v tick (Ok n) w =
+      (GoesFrom v (entry v.caller (step.sweep tick) (step.swept n) ∷ []) w ⊎ ((n ≡ 0) × GoesFrom v [] w)) × HasReached w tick
+  Swept v tick (Err r) w = GoesFrom v (entry v.caller (step.sweep tick) (reply_of r) ∷ []) w ⊎ IsWorn v r w

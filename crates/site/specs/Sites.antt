@@ -1,0 +1,88 @@
+-- What the calls of a site do to a pass.
+use Rattle.std.specs.Prelude.{◌≡◌, ◌⊎◌, ◌≤◌, ◌%◌, ◌<◌, ◌^◌, ℕ, Bool, List, [], ◌∷◌, length, Option, Some, None, nat_lt, if◌then◌else◌, slice_get, Result, Ok, Err}
+use Rattle.script_value.specs.Val.{Val}
+use Rattle.script_value.specs.declared.outcome.Reply.{Reply}
+use Rattle.script_value.specs.declared.outcome.Reply.TheVariants.{Refused}
+use Rattle.script_value.specs.declared.outcome.Refusal.TheVariants.{Unknown}
+use Rattle.page_names.specs.Names.{Destination, start, page}
+use Rattle.web_disk.specs.View.{View}
+use Rattle.lock_row.specs.Spots.{Spot, spot, IsOf, At, caller_at}
+use Rattle.instance_book.specs.declared.ticket.Ticket.{Ticket}
+use Rattle.instance_book.specs.Views.{ticket_of}
+use Rattle.site.specs.declared.entry.KeptEntry.{KeptEntry}
+use Rattle.site.specs.declared.opening.Opening.{Opening}
+use Rattle.site.specs.declared.site.Site.{Site}
+use Rattle.stored_states.specs.declared.segment.Segment.{Segment}
+use Rattle.shelf.specs.Views.{IsRunIfAny}
+use Rattle.site.specs.Openings.{scripts_in}
+use Rattle.site.specs.Passes.{Spots, IsSeat, HoldsTicket, Took, Published, Swept, Known}
+
+-- The shelf that a target is on, among so many: a page is on the one that it names, and a start on the one that its worker
+-- starts on. A page of a shelf that is not there is on none.
+abbrev pub shelf_for : (shelves worker : ℕ) → Destination → Option ℕ
+shelf_for shelves worker (start name) = if nat_lt 0 shelves then Some (worker % shelves) else None
+shelf_for shelves worker (page name n) = if nat_lt n.shelf shelves then Some n.shelf else None
+
+module _ {D N : Type 0} where
+  -- a pass of this site: its worker has a seat at each shelf
+  pub record IsOwn (site : Site D N) (pass : Spots D N) : Type 0 where
+    pub of : IsOf site.row pass
+    pub fuel : site.fuel < 2 ^ 63
+    pub seats : (k : ℕ) (a : Spot (Opening D N) KeptEntry) → slice_get pass k ≡ Some a → IsSeat site.setup site.fuel (caller_at pass) a.known
+
+  -- the segment is that of the ticket's run, under the limits of the shelf at this place
+  abbrev pub IsRunThere : ℕ → Spots D N → Ticket → Option Segment → Type 0
+  IsRunThere k pass t segment =
+      (a : Spot (Opening D N) KeptEntry) (o : Opening D N) → slice_get pass k ≡ Some a → a.known.opening ≡ o ∷ []
+      → IsRunIfAny (scripts_in o) o.shelf.value.rules.fuel t segment
+
+  -- the segment is that of the ticket's run
+  abbrev pub IsRunAt : Spots D N → Ticket → Option Segment → Type 0
+  IsRunAt pass t segment =
+      (k : ℕ) → shelf_for (length pass) (caller_at pass) (ticket_of t).target ≡ Some k → IsRunThere k pass t segment
+
+module _ {D N : Type 0} (view : D → View) (tells : Bool) (coming : N → ℕ → ℕ) where
+  -- what a take on the shelf of the target comes to, where it is on one
+  abbrev pub TakesOn : Option ℕ → Spots D N → Destination → Val → Result Ticket Reply → Spots D N → Type 0
+  TakesOn None old target answer result new = (result ≡ Err (Refused Unknown)) × (new ≡ old)
+  TakesOn (Some k) old target answer result new =
+      At k (λ v w. Took view tells coming v target answer result w) old new
+
+  abbrev pub TakesAt : Spots D N → Destination → Val → Result Ticket Reply → Spots D N → Type 0
+  TakesAt old target answer result new = TakesOn (shelf_for (length old) (caller_at old) target) old target answer result new
+
+  -- the pass holds the ticket at this shelf
+  pub record HoldsAt (pass : Spots D N) (t : Ticket) : Type 0 where
+    pub shelf : ℕ
+    pub is : shelf_for (length pass) (caller_at pass) (ticket_of t).target ≡ Some shelf
+    pub spot : Spot (Opening D N) KeptEntry
+    pub at : slice_get pass shelf ≡ Some spot
+    pub holds : HoldsTicket view tells coming spot.known t
+
+  -- so at this place
+  abbrev pub HoldsThere : ℕ → Spots D N → Ticket → Type 0
+  HoldsThere k pass t =
+      (a : Spot (Opening D N) KeptEntry) → slice_get pass k ≡ Some a → HoldsTicket view tells coming a.known t
+
+  -- a publish of its ticket
+  abbrev pub PublishesAt : Spots D N → Ticket → Reply → Spots D N → Type 0
+  PublishesAt old t r new =
+      (k : ℕ) × (shelf_for (length old) (caller_at old) (ticket_of t).target ≡ Some k)
+      × At k (λ v w. Published view tells coming v t r w) old new
+
+  -- a take that gave a ticket and the publish of that; or a take that gave none
+  abbrev pub VisitsAt : Spots D N → Destination → Val → Reply → Spots D N → Type 0
+  VisitsAt old target answer reply new =
+      ((t : Ticket) × (middle : Spots D N) × TakesAt old target answer (Ok t) middle × PublishesAt middle t reply new)
+      ⊎ TakesAt old target answer (Err reply) new
+
+  -- a tick so far: each shelf that answered was swept, and the others are as they were
+  pub record TicksSoFar (old : Spots D N) (tick : ℕ) (answers : List (Result ℕ Reply)) (new : Spots D N) : Type 0 where
+    pub swept : (k : ℕ) (r : Result ℕ Reply) → slice_get answers k ≡ Some r → (a : Spot (Opening D N) KeptEntry) → slice_get old k ≡ Some a
+        → (w : Known D N) × (slice_get new k ≡ Some (spot a.table w)) × Swept view tells coming a.known tick r w
+    pub others : (k : ℕ) → length answers ≤ k → slice_get new k ≡ slice_get old k
+
+  -- each shelf was swept, and answered in its place
+  pub record Ticks (old : Spots D N) (tick : ℕ) (answers : List (Result ℕ Reply)) (new : Spots D N) : Type 0 where
+    pub all : length answers ≡ length old
+    pub so : TicksSoFar old tick answers new

@@ -1,0 +1,264 @@
+//! Opening the shelves of a site, and handing them back.
+ghost use Rattle.std.specs.Prelude.{◌≡◌, ◌≤◌, ◌+◌, ◌++◌, [], length, IfOk, IfErr, OnOk, OnErr, reverse, map, vec_len, vec_capacity};
+ghost use Rattle.script_nodes.specs.Views.{scripts_of};
+ghost use Rattle.journal_records.specs.Records.{IsInGrammar, begin_of};
+ghost use Rattle.shelf.specs.Ranges.{AreInRange};
+ghost use Rattle.site.specs.Beginnings.{rules_for, CanBegin, IsFreshOn, AreFreshOn, IsUnopened, AreUnopened};
+
+use crate::entry::KeptEntry;
+use crate::fault::SiteFault;
+use crate::kept::KeptShelf;
+use crate::pass::SitePass;
+use crate::site::Site;
+use lock_row::LockRow;
+use past::History;
+use script_nodes::Setup;
+use shelf::{BeginFault, Rules, Shelf};
+use std::alloc::{AllocError, Global};
+use std::sync::Wait;
+use web_disk::Disk;
+use web_outside::Nonces;
+
+/// How many passes a site gives, at most.
+pub const MOST_PASSES: u32 = 16;
+
+impl<D: Disk, N: Nonces + Drop> Site<D, N> {
+    ghost use Rattle.std.specs.Prelude.{Some, ℕ, slice_get};
+    ghost use Rattle.shelf_history.specs.Passes.{IsSeenBy};
+    ghost use Rattle.site.specs.Entries.{entries_of};
+    ghost use Rattle.site.specs.Passes.{seen_by};
+    ghost use Rattle.site.specs.Sites.{IsOwn};
+    ghost use Rattle.site.specs.Ends.{IsBack};
+    ghost use Rattle.site.specs.Beginnings.{IsBegun, IsNotBegun, IsReady, IsWhole, IsFirstPass, given_out};
+
+    /// Opens the shelves, each on the disk of its place, with the source of nonces of its place and under the limits with its
+    /// place for their number, and puts them behind locks. Where a shelf is not opened, or memory ends, all disks and sources
+    /// are handed back, in their order.
+    ///
+    /// It asks for one disk and one source a shelf, for limits in their ranges, and for scripts that a journal can begin with.
+    /// It may wait, where memory ends and it takes shelves from their locks.
+    pub fn begin<R: Wait>(
+        rt: &R,
+        alloc: Global,
+        setup: Setup,
+        disks: Vec<D>,
+        nonces: Vec<N>,
+        rules: Rules,
+    ) -> Result<Site<D, N>, SiteFault<D, N>>
+        requires range { AreInRange (rules_for rules 0) }
+        requires disks { length disks.items ≡ rules.shelves }
+        requires nonces { length nonces.items ≡ rules.shelves }
+        requires few { length (scripts_of setup) ≤ 256 }
+        requires begins { CanBegin (scripts_of setup) rules.shelves }
+        ensures begun { IfOk result (IsBegun D.view D.tells setup rules disks.items nonces.items) }
+        ensures ready { IfOk result IsReady }
+        ensures fault { IfErr result (IsNotBegun D.view D.tells setup disks.items nonces.items) }
+    {
+        let mut disks = disks;
+        let mut nonces = nonces;
+        let Ok(histories) = Vec::with_capacity(alloc, disks.len()) else {
+            return Err(SiteFault {
+                shelf: 0,
+                fault: BeginFault::Memory,
+                disks,
+                nonces,
+            });
+        };
+        disks.reverse();
+        nonces.reverse();
+        let shelves = match open_all(alloc, &setup, rules, &mut disks, &mut nonces) {
+            Ok(shelves) => shelves,
+            Err((shelf, fault)) => return Err(handed(disks, nonces, shelf, fault)),
+        };
+        match LockRow::new(rt, alloc, shelves, MOST_PASSES) {
+            Ok(row) => Ok(Site {
+                setup,
+                fuel: rules.fuel,
+                row,
+                disks,
+                nonces,
+                histories,
+            }),
+            Err(shelves) => {
+                give_back(shelves, &mut disks, &mut nonces);
+                Err(handed(disks, nonces, 0, BeginFault::Memory))
+            }
+        }
+    }
+
+    /// The passes of so many workers, 1 to 16: that of place k is for worker k, and has seen nothing. Want of memory changes
+    /// nothing; else the site gives no others.
+    pub fn passes(&mut self, alloc: Global, n: u32) -> Result<Vec<SitePass<D, N>>, AllocError>
+        requires ready { IsReady self.old }
+        requires count { (1 ≤ n) × (n ≤ 16) }
+        ensures whole { IsWhole self.new }
+        ensures memory { OnErr result (self.new ≡ self.old) }
+        ensures given { OnOk result (self.new ≡ record self.old { row = given_out n self.old.row }) }
+        ensures count { IfOk result (λ v. length v.items ≡ n) }
+        ensures passes { IfOk result (λ v. (k : ℕ) (p : _) → slice_get v.items k ≡ Some p → IsFirstPass self.new k p) }
+    {
+        let mut passes = Vec::with_capacity(alloc, n as usize)?;
+        for caller in 0..n {
+            let _ = caller;
+            passes.push_reserved(self.row.deal());
+        }
+        Ok(passes)
+    }
+
+    /// Waits for each shelf, and gives back, in their order, the disks, the sources of nonces and the histories, of which
+    /// each is legal and has its disk stand for its book. It takes no memory. Each pass has seen a beginning of each history,
+    /// with all entries of its caller, and callers to whom the site gave no pass have none.
+    ///
+    /// What is told is told of the passes that are handed in, so it is handed all.
+    pub fn close<R: Wait>(
+        self,
+        rt: &R,
+        passes: Vec<SitePass<D, N>>,
+    ) -> (Vec<D>, Vec<N>, Vec<History<KeptEntry>>)
+        requires whole { IsWhole self }
+        requires own { (j : ℕ) (p : _) → slice_get passes.items j ≡ Some p → IsOwn self p }
+        ensures disks { length result.0.items ≡ length self.row.homes }
+        ensures nonces { length result.1.items ≡ length self.row.homes }
+        ensures histories { length result.2.items ≡ length self.row.homes }
+        ensures back { (k : ℕ) (h d n es : _) → slice_get self.row.homes k ≡ Some h → slice_get result.0.items k ≡ Some d
+            → slice_get result.1.items k ≡ Some n → slice_get result.2.items k ≡ Some es
+            → IsBack D.view D.tells N.nonce h.opening self.row.seats d n (entries_of es) }
+        ensures told { (k : ℕ) (es : _) → slice_get result.2.items k ≡ Some es
+            → (j : ℕ) (p : _) → slice_get passes.items j ≡ Some p
+            → (a : _) → slice_get p k ≡ Some a → IsSeenBy a.known.caller (seen_by a.known) (entries_of es) }
+    {
+        let Site {
+            setup: _,
+            fuel: _,
+            row,
+            mut disks,
+            mut nonces,
+            mut histories,
+        } = self;
+        let mut shelves = row.close(rt, passes);
+        shelves.reverse();
+        while let Some(shelf) = shelves.pop() {
+            let (disk, source, history) = shelf.close();
+            disks.push_reserved(disk);
+            nonces.push_reserved(source);
+            histories.push_reserved(history);
+        }
+        shelves.destroy_empty();
+        (disks, nonces, histories)
+    }
+}
+
+// The limits with this number.
+fn rules_with(rules: Rules, number: u32) -> Rules
+    ensures { result ≡ rules_for rules number }
+{
+    Rules {
+        number,
+        shelves: rules.shelves,
+        fuel: rules.fuel,
+        life: rules.life,
+        instances: rules.instances,
+        pages: rules.pages,
+    }
+}
+
+// Opens one shelf.
+fn open_one<D: Disk, N: Nonces + Drop>(
+    alloc: Global,
+    setup: &Setup,
+    rules: Rules,
+    disk: D,
+    source: N,
+) -> Result<KeptShelf<D, N>, (BeginFault, D, N)>
+    requires range { AreInRange rules }
+    requires few { length (scripts_of setup.now) ≤ 256 }
+    requires begins { IsInGrammar (begin_of rules.number (scripts_of setup.now)) }
+    ensures opened { IfOk result (IsFreshOn D.view D.tells N.nonce setup.now rules disk source) }
+    ensures unopened { IfErr result (λ e. IsUnopened D.view D.tells (scripts_of setup.now) rules.number disk e.1 e.0) }
+    ensures source { IfErr result (λ e. e.2 ≡ source) }
+{
+    match Shelf::begin(alloc, disk, source, setup, rules) {
+        Ok(shelf) => Ok(KeptShelf::new(setup, shelf)),
+        Err(unopened) => Err(unopened),
+    }
+}
+
+// Opens the shelves on their disks, of which that of the first shelf is the last. Where one is not opened, all disks and sources
+// are there again.
+fn open_all<D: Disk, N: Nonces + Drop>(
+    alloc: Global,
+    setup: &Setup,
+    rules: Rules,
+    disks: &mut Vec<D>,
+    nonces: &mut Vec<N>,
+) -> Result<Vec<KeptShelf<D, N>>, (u32, BeginFault)>
+    requires range { AreInRange (rules_for rules 0) }
+    requires disks { length disks.old.items ≡ rules.shelves }
+    requires nonces { length nonces.old.items ≡ rules.shelves }
+    requires few { length (scripts_of setup.now) ≤ 256 }
+    requires begins { CanBegin (scripts_of setup.now) rules.shelves }
+    ensures opened { IfOk result (λ v. AreFreshOn D.view D.tells N.nonce setup.now rules (reverse disks.old.items) (reverse nonces.old.items) v.items) }
+    ensures many { IfOk result (λ v. (length v.items ≡ rules.shelves) × (vec_len v ≡ rules.shelves)) }
+    ensures gone { OnOk result ((disks.new.items ≡ []) × (nonces.new.items ≡ []) × (vec_len disks.new ≡ 0) × (vec_len nonces.new ≡ 0)) }
+    ensures room { (vec_capacity disks.new ≡ vec_capacity disks.old) × (vec_capacity nonces.new ≡ vec_capacity nonces.old) }
+    ensures unopened { IfErr result (λ e. AreUnopened D.view D.tells (scripts_of setup.now) (reverse disks.old.items) (reverse disks.new.items) e.0 e.1) }
+    ensures sources { OnErr result (reverse nonces.new.items ≡ reverse nonces.old.items) }
+{
+    let Ok(mut shelves) = Vec::with_capacity(alloc, disks.len()) else {
+        return Err((0, BeginFault::Memory));
+    };
+    for number in 0..rules.shelves {
+        let disk = disks.pop().unwrap();
+        let source = nonces.pop().unwrap();
+        match open_one(alloc, setup, rules_with(rules, number), disk, source) {
+            Ok(shelf) => shelves.push_reserved(shelf),
+            Err((fault, disk, source)) => {
+                disks.push_reserved(disk);
+                nonces.push_reserved(source);
+                give_back(shelves, disks, nonces);
+                return Err((number, fault));
+            }
+        }
+    }
+    Ok(shelves)
+}
+
+// Closes shelves, and puts their disks and sources behind the others, those of the last shelf first.
+fn give_back<D: Disk, N: Nonces + Drop>(
+    mut shelves: Vec<KeptShelf<D, N>>,
+    disks: &mut Vec<D>,
+    nonces: &mut Vec<N>,
+)
+    requires room { (vec_len disks.old + vec_len shelves ≤ vec_capacity disks.old) × (vec_len nonces.old + vec_len shelves ≤ vec_capacity nonces.old) }
+    ensures disks { disks.new.items ≡ disks.old.items ++ reverse (map (λ k. k.shelf.journal.disk) shelves.items) }
+    ensures nonces { nonces.new.items ≡ nonces.old.items ++ reverse (map (λ k. k.shelf.nonces) shelves.items) }
+    ensures room { (vec_capacity disks.new ≡ vec_capacity disks.old) × (vec_capacity nonces.new ≡ vec_capacity nonces.old) }
+{
+    while let Some(shelf) = shelves.pop() {
+        let (disk, source, _) = shelf.close();
+        disks.push_reserved(disk);
+        nonces.push_reserved(source);
+    }
+    shelves.destroy_empty();
+}
+
+// What was not begun, with disks and sources that were turned.
+fn handed<D, N>(
+    mut disks: Vec<D>,
+    mut nonces: Vec<N>,
+    shelf: u32,
+    fault: BeginFault,
+) -> SiteFault<D, N>
+    ensures disks { result.disks.items ≡ reverse disks.items }
+    ensures nonces { result.nonces.items ≡ reverse nonces.items }
+    ensures fault { (result.shelf ≡ shelf) × (result.fault ≡ fault) }
+{
+    disks.reverse();
+    nonces.reverse();
+    SiteFault {
+        shelf,
+        fault,
+        disks,
+        nonces,
+    }
+}

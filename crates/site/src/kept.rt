@@ -1,0 +1,189 @@
+//! What lies behind the lock of a shelf.
+use crate::entry::{Did, KeptEntry};
+use crate::opening::Opening;
+use instance_book::Ticket;
+use journal_books::images_make_books;
+use page_names::Target;
+use past::History;
+use script_nodes::Setup;
+use script_value::{Reply, Value};
+use send_suspend::Segment;
+use shelf::{Shelf, tickets_go_on_to_fit};
+use shelf_lock::Kept;
+use std::alloc::Global;
+use std::snapshot::Snapshot;
+use web_disk::Disk;
+use web_outside::Nonces;
+
+/// A shelf, as what it was opened, and its history since. Only the shelf and a count have bytes.
+#[derive(Drop)]
+pub struct KeptShelf<D: Disk, N: Drop> {
+    pub(crate) shelf: Shelf<D, N>,
+    pub(crate) opened: Opening<D, N>,
+    pub(crate) history: History<KeptEntry>,
+}
+
+impl<D: Disk, N: Nonces + Drop> KeptShelf<D, N> {
+    ghost use Rattle.std.specs.Prelude.{◌≡◌, ◌<◌, ◌≤◌, ◌^◌, [], ◌∷◌, ◌++◌, length, IfOk, MatchResult, Ok};
+    ghost use Rattle.script_value.specs.Views.{meaning};
+    ghost use Rattle.script_nodes.specs.Views.{scripts_of};
+    ghost use Rattle.page_names.specs.Views.{target_of};
+    ghost use Rattle.replay_spec.specs.Book.{reopened};
+    ghost use Rattle.replay_spec.specs.Step as step;
+    ghost use Rattle.instance_book.specs.Views.{ticket_of, reply_of};
+    ghost use Rattle.shelf.specs.Views.{IsInOrder, IsRunIfAny, book_in, taken_of, swept_of};
+    ghost use Rattle.site.specs.Entries.{entries_of, Comes, Sweeps};
+    ghost use Rattle.site.specs.Openings.{scripts_in, book_then};
+    ghost use Rattle.site.specs.Sound.{IsSound, Holds, Gives};
+
+    /// A shelf that was opened under this setup, with no entry yet.
+    pub fn new(setup: &Setup, shelf: Shelf<D, N>) -> KeptShelf<D, N>
+        requires in_order { IsInOrder D.view D.tells (scripts_of setup.now) shelf }
+        requires opened { book_in (scripts_of setup.now) shelf ≡ reopened (book_in (scripts_of setup.now) shelf) }
+        ensures opened { (result.opened.setup.value ≡ setup.now) × (result.opened.shelf.value ≡ shelf) }
+        ensures shelf { result.shelf ≡ shelf }
+        ensures fresh { result.history ≡ [] }
+        ensures sound { IsSound D.view D.tells N.nonce result.opened result.shelf (entries_of result.history) }
+    {
+        images_make_books();
+        let _count = shelf.faults();
+        let opened = Opening {
+            setup: Snapshot::of(setup),
+            shelf: Snapshot::of(&shelf),
+        };
+        KeptShelf {
+            shelf,
+            opened,
+            history: History::new(),
+        }
+    }
+
+    /// Takes the next number for a visit of the target: one entry of the caller.
+    pub fn take(
+        &mut self,
+        alloc: Global,
+        setup: &Setup,
+        by: u64,
+        target: &Target,
+        answer: Value,
+    ) -> Result<Ticket, Reply>
+        requires room { length self.old.history < 2 ^ 62 }
+        requires setup { setup.now ≡ self.old.opened.setup.value }
+        requires sound { IsSound D.view D.tells N.nonce self.old.opened self.old.shelf (entries_of self.old.history) }
+        ensures sound { IsSound D.view D.tells N.nonce self.new.opened self.new.shelf (entries_of self.new.history) }
+        ensures opened { self.new.opened ≡ self.old.opened }
+        ensures entry { Comes by (step.take (target_of target.now) (meaning answer)) (taken_of result) self.old.history self.new.history }
+        ensures gives { Gives D.view D.tells N.nonce self.old.opened (entries_of self.new.history) by (target_of target.now) (meaning answer) result }
+    {
+        let asked = Snapshot::of(&answer);
+        let told = self.shelf.take(alloc, setup, target, answer);
+        self.history.push(KeptEntry {
+            caller: by,
+            did: Did::Take {
+                target: Snapshot::of(target),
+                answer: asked,
+                told: Snapshot::of(&told),
+            },
+        });
+        told
+    }
+
+    /// Publishes the segment of a ticket that the caller holds: one entry of the caller.
+    pub fn publish(
+        &mut self,
+        alloc: Global,
+        setup: &Setup,
+        by: u64,
+        ticket: Ticket,
+        segment: Option<Segment>,
+    ) -> Reply
+        requires room { length self.old.history < 2 ^ 62 }
+        requires setup { setup.now ≡ self.old.opened.setup.value }
+        requires sound { IsSound D.view D.tells N.nonce self.old.opened self.old.shelf (entries_of self.old.history) }
+        requires held { Holds D.view D.tells N.nonce self.old.opened (entries_of self.old.history) by ticket }
+        requires segment { IsRunIfAny (scripts_of setup.now) self.old.opened.shelf.value.rules.fuel ticket segment }
+        ensures sound { IsSound D.view D.tells N.nonce self.new.opened self.new.shelf (entries_of self.new.history) }
+        ensures opened { self.new.opened ≡ self.old.opened }
+        ensures entry { Comes by (step.publish (ticket_of ticket)) (reply_of result) self.old.history self.new.history }
+    {
+        images_make_books();
+        tickets_go_on_to_fit();
+        let owed = Snapshot::of(&ticket);
+        let told = self.shelf.publish(alloc, setup, ticket, segment);
+        self.history.push(KeptEntry {
+            caller: by,
+            did: Did::Publish {
+                ticket: owed,
+                told: Snapshot::of(&told),
+            },
+        });
+        told
+    }
+
+    /// Sweeps to a tick above the clock, in seconds: one entry of the caller. At any other tick it does nothing.
+    pub fn sweep(&mut self, alloc: Global, by: u64, tick: u64) -> Result<u32, Reply>
+        requires room { length self.old.history < 2 ^ 62 }
+        requires tick { tick < 2 ^ 62 }
+        requires sound { IsSound D.view D.tells N.nonce self.old.opened self.old.shelf (entries_of self.old.history) }
+        ensures sound { IsSound D.view D.tells N.nonce self.new.opened self.new.shelf (entries_of self.new.history) }
+        ensures opened { self.new.opened ≡ self.old.opened }
+        ensures swept { Sweeps by tick result (book_then N.nonce self.old.opened (entries_of self.old.history)).clock self.old.history self.new.history }
+    {
+        images_make_books();
+        if tick <= self.shelf.book().clock() {
+            return Ok(0);
+        }
+        let told = self.shelf.sweep(alloc, tick);
+        self.history.push(KeptEntry {
+            caller: by,
+            did: Did::Sweep {
+                tick,
+                told: Snapshot::of(&told),
+            },
+        });
+        told
+    }
+
+    /// Its disk, its source of nonces and its history.
+    pub(crate) fn close(self) -> (D, N, History<KeptEntry>)
+        ensures disk { result.0 ≡ self.shelf.journal.disk }
+        ensures nonces { result.1 ≡ self.shelf.nonces }
+        ensures history { result.2 ≡ self.history }
+    {
+        let KeptShelf {
+            shelf,
+            opened: _,
+            history,
+        } = self;
+        let (disk, nonces) = shelf.close();
+        (disk, nonces, history)
+    }
+}
+
+impl<D: Disk, N: Nonces + Drop> Kept for KeptShelf<D, N> {
+    ghost use Rattle.std.specs.Prelude.{◌≡◌, ℕ};
+    ghost use Rattle.site.specs.Entries.{entries_of};
+    ghost use Rattle.site.specs.Sound.{IsSound};
+
+    type Opening = Opening<D, N>;
+
+    type Entry = KeptEntry;
+
+    ghost opening = { λ k. k.opened };
+
+    ghost first = { λ _. 0 };
+
+    ghost history = { λ k. k.history };
+
+    ghost caller = { λ e. e.caller };
+
+    ghost sound = { λ k. IsSound D.view D.tells N.nonce k.opened k.shelf (entries_of k.history) };
+
+    fn first_number(&self) -> u64 {
+        0
+    }
+
+    fn entry_count(&self) -> u64 {
+        self.history.len()
+    }
+}

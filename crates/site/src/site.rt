@@ -1,0 +1,291 @@
+//! The shelves of a site.
+use crate::entry::KeptEntry;
+use crate::kept::KeptShelf;
+use crate::pass::{SiteNote, SitePass};
+use instance_book::Ticket;
+use lock_row::LockRow;
+use page_names::Target;
+use past::History;
+use script_nodes::Setup;
+use script_value::{Refusal, Reply, Value};
+use send_suspend::Segment;
+use shelf::run_ticket;
+use shelf_lock::Worn;
+use std::alloc::{AllocError, Global};
+use std::sync::Wait;
+use web_disk::Disk;
+use web_outside::{Gate, Nonces};
+
+/// Shelves, each behind a lock of its own, under one setup.
+#[derive(Drop)]
+pub struct Site<D: Disk, N: Nonces + Drop> {
+    pub(crate) setup: Setup,
+    // What a visit may cost, on each shelf.
+    pub(crate) fuel: u64,
+    pub(crate) row: LockRow<KeptShelf<D, N>>,
+    // Where all goes when the site is closed.
+    pub(crate) disks: Vec<D>,
+    pub(crate) nonces: Vec<N>,
+    pub(crate) histories: Vec<History<KeptEntry>>,
+}
+
+impl<D: Disk, N: Nonces + Drop> Site<D, N> {
+    ghost use Rattle.std.specs.Prelude.{◌≡◌, ◌<◌, ◌^◌, length, Some, IfOk, OnErr, ℕ, slice_get, List};
+    ghost use Rattle.std.specs.List.{AllZip};
+    ghost use Rattle.shelf_history.specs.Passes.{IsSeenBy};
+    ghost use Rattle.site.specs.Entries.{entries_of};
+    ghost use Rattle.site.specs.Ends.{HearsOf, IsBack};
+    ghost use Rattle.lock_row.specs.Rows.{IsNoteOf, ZipsAll};
+    ghost use Rattle.script_value.specs.Views.{meaning};
+    ghost use Rattle.page_names.specs.Views.{target_of};
+    ghost use Rattle.lock_row.specs.Spots.{At, IsNoteIn};
+    ghost use Rattle.site.specs.Passes.{Took, Published, Swept, seen_by};
+    ghost use Rattle.site.specs.Sites.{IsOwn, HoldsThere, HoldsAt, IsRunThere, IsRunAt, shelf_for, TakesAt, PublishesAt, VisitsAt, Ticks};
+    ghost use Rattle.script_nodes.specs.Views.{scripts_of};
+    ghost use Rattle.instance_book.specs.Fits.{IsForSome};
+    ghost use Rattle.shelf.specs.Views.{IsRunIfAny};
+
+    /// How many shelves there are.
+    pub fn shelves(&self) -> usize
+        ensures { result ≡ length self.now.row.homes }
+    {
+        self.row.len()
+    }
+
+    // The shelf that a target of the worker is on.
+    fn shelf_for(&self, worker: u64, target: &Target) -> Option<usize>
+        ensures { result ≡ shelf_for (length self.now.row.homes) worker (target_of target.now) }
+    {
+        let shelves = self.shelves();
+        match target {
+            Target::Start(_) => {
+                if shelves > 0 {
+                    Some(worker as usize % shelves)
+                } else {
+                    None
+                }
+            }
+            Target::Page(_, page) => {
+                let shelf = page.shelf as usize;
+                if shelf < shelves { Some(shelf) } else { None }
+            }
+        }
+    }
+
+    fn take_at<R: Wait>(
+        &self,
+        rt: &R,
+        alloc: Global,
+        pass: &mut SitePass<D, N>,
+        shelf: usize,
+        target: &Target,
+        answer: Value,
+    ) -> Result<Ticket, Reply>
+        requires own { IsOwn self.now pass.old }
+        requires shelf { shelf < length self.now.row.homes }
+        ensures own { IsOwn self.now pass.new }
+        ensures took { At shelf (λ v w. Took D.view D.tells N.nonce v (target_of target.now) (meaning answer) result w) pass.old pass.new }
+    {
+        let by = pass.caller();
+        let told = self.row.turn(
+            rt,
+            pass,
+            shelf,
+            |kept: &mut KeptShelf<D, N>| kept.take(alloc, &self.setup, by, target, answer),
+        );
+        match told {
+            Ok(told) => told,
+            Err(Worn) => Err(Reply::Worn),
+        }
+    }
+
+    fn publish_at<R: Wait>(
+        &self,
+        rt: &R,
+        alloc: Global,
+        pass: &mut SitePass<D, N>,
+        shelf: usize,
+        ticket: Ticket,
+        segment: Option<Segment>,
+    ) -> Reply
+        requires own { IsOwn self.now pass.old }
+        requires shelf { shelf < length self.now.row.homes }
+        requires held { HoldsThere D.view D.tells N.nonce shelf pass.old ticket }
+        requires segment { IsRunThere shelf pass.old ticket segment }
+        ensures own { IsOwn self.now pass.new }
+        ensures published { At shelf (λ v w. Published D.view D.tells N.nonce v ticket result w) pass.old pass.new }
+    {
+        let by = pass.caller();
+        let told = self.row.turn(
+            rt,
+            pass,
+            shelf,
+            |kept: &mut KeptShelf<D, N>| kept.publish(alloc, &self.setup, by, ticket, segment),
+        );
+        match told {
+            Ok(told) => told,
+            Err(Worn) => Reply::Worn,
+        }
+    }
+
+    fn sweep_at<R: Wait>(
+        &self,
+        rt: &R,
+        alloc: Global,
+        pass: &mut SitePass<D, N>,
+        shelf: usize,
+        tick: u64,
+    ) -> Result<u32, Reply>
+        requires own { IsOwn self.now pass.old }
+        requires shelf { shelf < length self.now.row.homes }
+        requires tick { tick < 2 ^ 62 }
+        ensures own { IsOwn self.now pass.new }
+        ensures swept { At shelf (λ v w. Swept D.view D.tells N.nonce v tick result w) pass.old pass.new }
+    {
+        let by = pass.caller();
+        let told = self.row.turn(
+            rt,
+            pass,
+            shelf,
+            |kept: &mut KeptShelf<D, N>| kept.sweep(alloc, by, tick),
+        );
+        match told {
+            Ok(told) => told,
+            Err(Worn) => Err(Reply::Worn),
+        }
+    }
+
+    /// Takes the next number of the target's shelf for a visit. A target on no shelf makes no entry.
+    pub fn take<R: Wait>(
+        &self,
+        rt: &R,
+        alloc: Global,
+        pass: &mut SitePass<D, N>,
+        target: &Target,
+        answer: Value,
+    ) -> Result<Ticket, Reply>
+        requires own { IsOwn self.now pass.old }
+        ensures own { IsOwn self.now pass.new }
+        ensures took { TakesAt D.view D.tells N.nonce pass.old (target_of target.now) (meaning answer) result pass.new }
+    {
+        let Some(shelf) = self.shelf_for(pass.caller(), target) else {
+            return Err(Reply::Refused(Refusal::Unknown));
+        };
+        self.take_at(rt, alloc, pass, shelf, target, answer)
+    }
+
+    /// Publishes the segment of a ticket that the pass holds.
+    pub fn publish<R: Wait>(
+        &self,
+        rt: &R,
+        alloc: Global,
+        pass: &mut SitePass<D, N>,
+        ticket: Ticket,
+        segment: Option<Segment>,
+    ) -> Reply
+        requires own { IsOwn self.now pass.old }
+        requires held { HoldsAt D.view D.tells N.nonce pass.old ticket }
+        requires segment { IsRunAt pass.old ticket segment }
+        ensures own { IsOwn self.now pass.new }
+        ensures published { PublishesAt D.view D.tells N.nonce pass.old ticket result pass.new }
+    {
+        let Some(shelf) = self.shelf_for(pass.caller(), &ticket.target) else {
+            unreachable!()
+        };
+        self.publish_at(rt, alloc, pass, shelf, ticket, segment)
+    }
+
+    /// Takes, runs the visit, goes through the gate and publishes. The run and the gate are under no lock.
+    pub fn visit<R: Wait, G: Gate>(
+        &self,
+        rt: &R,
+        alloc: Global,
+        pass: &mut SitePass<D, N>,
+        target: &Target,
+        answer: Value,
+        gate: &G,
+    ) -> Reply
+        requires own { IsOwn self.now pass.old }
+        ensures own { IsOwn self.now pass.new }
+        ensures visited { VisitsAt D.view D.tells N.nonce pass.old (target_of target.now) (meaning answer) result pass.new }
+    {
+        let ticket = match self.take(rt, alloc, pass, target, answer) {
+            Ok(ticket) => ticket,
+            Err(reply) => return reply,
+        };
+        let segment = self.run(alloc, pass, &ticket);
+        gate.pass(ticket.number);
+        self.publish(rt, alloc, pass, ticket, segment)
+    }
+
+    /// The segment of a ticket that the pass holds, over the cells of its take, where there is memory for the run. It is under
+    /// no lock.
+    pub fn run(&self, alloc: Global, pass: &SitePass<D, N>, ticket: &Ticket) -> Option<Segment>
+        requires own { IsOwn self.now pass.now }
+        requires held { HoldsAt D.view D.tells N.nonce pass.now ticket.now }
+        ensures { IsRunAt pass.now ticket.now result }
+    {
+        let _ = pass;
+        self.segment_of(alloc, ticket)
+    }
+
+    fn segment_of(&self, alloc: Global, ticket: &Ticket) -> Option<Segment>
+        requires fits { IsForSome (scripts_of self.now.setup) ticket.now }
+        requires fuel { self.now.fuel < 2 ^ 63 }
+        ensures { IsRunIfAny (scripts_of self.now.setup) self.now.fuel ticket.now result }
+    {
+        match run_ticket(alloc, &self.setup, ticket, &ticket.cells, self.fuel) {
+            Ok(segment) => Some(segment),
+            Err(AllocError) => None,
+        }
+    }
+
+    /// Sweeps each shelf whose clock is lower than the tick, in seconds: how many instances it freed, or the reply that says
+    /// why none, in the order of the shelves. An error is want of memory for their list, and changes nothing.
+    pub fn tick<R: Wait>(
+        &self,
+        rt: &R,
+        alloc: Global,
+        pass: &mut SitePass<D, N>,
+        tick: u64,
+    ) -> Result<Vec<Result<u32, Reply>>, AllocError>
+        requires own { IsOwn self.now pass.old }
+        requires tick { tick < 2 ^ 62 }
+        ensures own { IsOwn self.now pass.new }
+        ensures swept { IfOk result (λ v. Ticks D.view D.tells N.nonce pass.old tick v.items pass.new) }
+        ensures memory { OnErr result (pass.new ≡ pass.old) }
+    {
+        let shelves = self.shelves();
+        let mut answers = Vec::with_capacity(alloc, shelves)?;
+        for shelf in 0..shelves {
+            answers.push_reserved(self.sweep_at(rt, alloc, pass, shelf, tick));
+        }
+        Ok(answers)
+    }
+
+    /// A note of what the pass has seen. It makes no entry; want of memory changes nothing.
+    pub fn tell(
+        &self,
+        alloc: Global,
+        pass: &mut SitePass<D, N>,
+    ) -> Result<SiteNote<D, N>, AllocError>
+        requires own { IsOwn self.now pass.old }
+        ensures same { pass.new ≡ pass.old }
+        ensures own { IfOk result (λ n. IsNoteIn self.now.row n) }
+        ensures note { IfOk result (λ n. (k : ℕ) (m : _) → slice_get n k ≡ Some m
+            → (a : _) × (slice_get pass.old k ≡ Some a) × IsNoteOf a m) }
+    {
+        self.row.tell(alloc, pass)
+    }
+
+    /// Hears a note: of each shelf the pass has then seen what the note's maker had, if that is longer. Both are of one
+    /// history, and the pass makes no entry.
+    pub fn hear(&self, pass: &mut SitePass<D, N>, note: SiteNote<D, N>)
+        requires own { IsOwn self.now pass.old }
+        requires note { IsNoteIn self.now.row note }
+        ensures own { IsOwn self.now pass.new }
+        ensures heard { ZipsAll HearsOf pass.old note pass.new }
+    {
+        self.row.hear(pass, note);
+    }
+}

@@ -1,0 +1,225 @@
+-- The pages that a worker counts are the publishes of its caller that were answered with a page.
+use Rattle.std.proofs.Common.{◌≡◌, ◌⊎◌, ℕ, zero, suc, ◌+◌, ◌≤◌, List, [], ◌∷◌, ◌++◌, length, Option, Some, None, slice_get, set, Result, Ok, Err, refl, ap, sym, ◌∙◌, subst, inl, inr, arith}
+use Rattle.std.specs.Prelude.{Bool}
+use Rattle.std.specs.declared.alloc.AllocError.{AllocError}
+use Rattle.std.proofs.lemmas.Option.{slice_get_within}
+use Rattle.web_disk.specs.View.{View}
+use Rattle.web_outside.specs.View.{LinkView}
+use Rattle.script_value.specs.Val.{Val}
+use Rattle.script_value.specs.declared.outcome.Reply.{Reply}
+use Rattle.script_value.specs.declared.outcome.Reply.TheVariants as replies
+use Rattle.script_value.specs.declared.outcome.Refusal.TheVariants as refusals
+use Rattle.page_names.specs.Names.{Destination}
+use Rattle.replay_spec.specs.Step as step
+use Rattle.instance_book.specs.declared.ticket.Ticket.{Ticket}
+use Rattle.instance_book.specs.Views.{ticket_of, reply_of}
+use Rattle.shelf_history.specs.Histories.{Entry, own_of}
+use Rattle.shelf_history.specs.Laws.{take_of}
+use Rattle.shelf_history.specs.Passes.{publish_of}
+use Rattle.http_forms.specs.Passes as passes
+use Rattle.request_workers.specs.Counting.{Count, visit_count, link_count, served_count}
+use Rattle.request_workers.specs.Serving.{ServesOrDrops, Serves, Replies, Visits}
+use Rattle.request_workers.specs.declared.serve.Served.{Served}
+use Rattle.request_workers.specs.declared.serve.Served.TheVariants as served
+use Rattle.request_workers.specs.Working.{AfterTick, Turns, Works}
+use Rattle.lock_row.specs.Spots.{Spot, spot, At, caller_at}
+use Rattle.lock_row.proofs.Places.{get_there, one_of}
+use Rattle.site.specs.declared.entry.KeptEntry.{KeptEntry}
+use Rattle.site.specs.declared.opening.Opening.{Opening}
+use Rattle.site.specs.declared.site.Site.{Site}
+use Rattle.site.specs.Entries.{entry}
+use Rattle.site.specs.Passes.{Known, Spots, seen_by, GoesFrom, Took, Published, Swept}
+use Rattle.site.specs.Sites.{shelf_for, TakesOn, VisitsAt, Ticks}
+use Rattle.site.specs.Rules.{TicksAs, site_rules}
+use Rattle.site_serving.specs.Pages.{page_count, pages_in, own_pages}
+use Rattle.site_serving.proofs.Steps.{last_take}
+
+pub pages_append : (xs ys : List Entry) → pages_in (xs ++ ys) ≡ pages_in xs + pages_in ys
+pages_append [] ys = omega arith
+pages_append (x ∷ xs) ys = let more = pages_append xs ys in omega arith
+
+-- a reply counts as it is told
+counts_as_told : (r : Reply) → (visit_count r).pages ≡ page_count (reply_of r)
+counts_as_told (replies.Page bytes url) = refl
+counts_as_told (replies.Finished bytes) = refl
+counts_as_told (replies.Ended bytes) = refl
+counts_as_told (replies.Refused refusals.Unknown) = refl
+counts_as_told (replies.Refused refusals.Revoked) = refl
+counts_as_told (replies.Refused (refusals.Closed name)) = refl
+counts_as_told (replies.Refused (refusals.Expired deadline)) = refl
+counts_as_told (replies.Fault fault) = refl
+counts_as_told (replies.Fuel cost) = refl
+counts_as_told (replies.ShelfFull count) = refl
+counts_as_told (replies.InstanceFull count) = refl
+counts_as_told (replies.Oversize size) = refl
+counts_as_told (replies.JournalFull size) = refl
+counts_as_told (replies.DiskFault count) = refl
+counts_as_told (replies.Down count) = refl
+counts_as_told replies.Worn = refl
+counts_as_told replies.Memory = refl
+
+module _ {D N : Type 0} where
+  -- the caller's own pages at one shelf
+  abbrev pages_at : Known D N → ℕ
+  pages_at v = pages_in (own_of v.caller (seen_by v))
+
+  -- what a step adds for its caller at a shelf
+  record AddsAt (more : ℕ) (v w : Known D N) : Type 0 where
+    pages : pages_at w ≡ pages_at v + more
+    caller : w.caller ≡ v.caller
+
+  -- what steps add for the caller of a pass
+  pub record Adds (old new : Spots D N) (more : ℕ) : Type 0 where
+    pub pages : own_pages new ≡ own_pages old + more
+    pub caller : caller_at new ≡ caller_at old
+
+  adds_none : (old new : Spots D N) → new ≡ old → Adds old new 0
+  adds_none old new is = record { pages = (let e = ap own_pages is in omega arith); caller = ap caller_at is }
+
+  adds_both : (old mid new : Spots D N) (one two sum : ℕ) → Adds old mid one → Adds mid new two → sum ≡ one + two → Adds old new sum
+  adds_both old mid new one two sum a b is =
+      record { pages = (let x = a.pages in let y = b.pages in omega arith); caller = b.caller ∙ a.caller }
+
+  set_adds : (old : Spots D N) (k : ℕ) (a b : Spot (Opening D N) KeptEntry) (more : ℕ) → slice_get old k ≡ Some a → AddsAt more a.known b.known → Adds old (set old k b) more
+  set_adds [] k a b more at adds = absurd (let no : ⊥ = cc at in no)
+  set_adds (x ∷ xs) zero a b more at adds =
+      let same : x ≡ a = one_of at in
+      let eq = ap (λ (s : Spot (Opening D N) KeptEntry). pages_at s.known) same in
+      let here = adds.pages in
+      record { pages = omega arith; caller = adds.caller ∙ ap (λ (s : Spot (Opening D N) KeptEntry). s.known.caller) (sym same) }
+  set_adds (x ∷ xs) (suc k) a b more at adds =
+      let rest = (set_adds xs k a b more at adds).pages in record { pages = omega arith; caller = refl }
+
+  at_adds : (k more : ℕ) (R : Known D N → Known D N → Type 0) (old new : Spots D N) → At k R old new → ((v w : Known D N) → R v w → AddsAt more v w) → Adds old new more
+  at_adds k more R old new at adds =
+      subst (λ p. Adds old p more) (sym at.3) (set_adds old k at.0 (spot at.0.table at.1) more at.2 (adds at.0.known at.1 at.4))
+
+  -- shelves of which none got a page, and no further ones
+  each_adds : (old new : Spots D N)
+      → ((k : ℕ) (a : Spot (Opening D N) KeptEntry) → slice_get old k ≡ Some a → (w : Known D N) × (slice_get new k ≡ Some (spot a.table w)) × AddsAt 0 a.known w)
+      → ((k : ℕ) → length old ≤ k → slice_get new k ≡ slice_get old k) → Adds old new 0
+  each_adds [] [] each past = record { pages = refl; caller = refl }
+  each_adds [] (y ∷ ys) each past = absurd (let e = past 0 (omega arith) in let no : ⊥ = cc e in no)
+  each_adds (x ∷ xs) [] each past = absurd (let e = (each 0 x refl).1 in let no : ⊥ = cc e in no)
+  each_adds (x ∷ xs) (y ∷ ys) each past =
+      let first = each 0 x refl in
+      let same : y ≡ spot x.table first.0 = one_of first.1 in
+      let eq = ap (λ (s : Spot (Opening D N) KeptEntry). pages_at s.known) same in
+      let here = first.2.pages in
+      let rest = (each_adds xs ys (λ k a e. each (suc k) a e) (λ k le. past (suc k) (omega (arith, le)))).pages in
+      record { pages = omega arith; caller = ap (λ (s : Spot (Opening D N) KeptEntry). s.known.caller) same ∙ first.2.caller }
+
+module _ {D N : Type 0} (view : D → View) (tells : Bool) (coming : N → ℕ → ℕ) where
+  goes_adds : (v w : Known D N) (added : List Entry) → GoesFrom view tells coming v added w → AddsAt (pages_in added) v w
+  goes_adds v w added g =
+      let same : w.caller ≡ v.caller = ap (λ (u : Known D N). u.caller) g.is in
+      record {
+        pages = ap (λ c. pages_in (own_of c (seen_by w))) same ∙ (ap pages_in g.goes.own ∙ pages_append (own_of v.caller (seen_by v)) added);
+        caller = same;
+      }
+
+  took_adds : (v w : Known D N) (target : Destination) (answer : Val) (r : Result Ticket Reply) → Took view tells coming v target answer r w → AddsAt 0 v w
+  took_adds v w target answer (Ok t) took = goes_adds v w (take_of v.caller (ticket_of t) ∷ []) took.goes
+  took_adds v w target answer (Err r) (inl g) = goes_adds v w (entry v.caller (step.take target answer) (reply_of r) ∷ []) g
+  took_adds v w target answer (Err r) (inr worn) = goes_adds v w [] worn.1
+
+  -- a take that gave no ticket was answered with no page
+  took_counts : (v w : Known D N) (target : Destination) (answer : Val) (r : Reply) → Took view tells coming v target answer (Err r) w → (visit_count r).pages ≡ 0
+  took_counts v w target answer r (inl g) =
+      counts_as_told r ∙ last_take _ _ _ _ (seen_by v ++ g.goes.between) (seen_by w) v.caller target answer (reply_of r) g.goes.is g.goes.legal
+  took_counts v w target answer r (inr worn) = ap (λ x. (visit_count x).pages) worn.0
+
+  published_adds : (v w : Known D N) (t : Ticket) (r : Reply) → Published view tells coming v t r w → AddsAt (visit_count r).pages v w
+  published_adds v w t r (inl g) =
+      subst (λ n. AddsAt n v w) (let told = counts_as_told r in let sum : page_count (reply_of r) + 0 ≡ (visit_count r).pages = omega arith in sum)
+      (goes_adds v w (publish_of v.caller (ticket_of t) (reply_of r) ∷ []) g)
+  published_adds v w t r (inr worn) = subst (λ x. AddsAt (visit_count x).pages v w) (sym worn.0) (goes_adds v w [] worn.1)
+
+  swept_adds : (v w : Known D N) (tick : ℕ) (r : Result ℕ Reply) → Swept view tells coming v tick r w → AddsAt 0 v w
+  swept_adds v w tick (Ok n) s = by_cases s.0
+    where
+      by_cases : GoesFrom view tells coming v (entry v.caller (step.sweep tick) (step.swept n) ∷ []) w ⊎ ((n ≡ 0) × GoesFrom view tells coming v [] w) → AddsAt 0 v w
+      by_cases (inl g) = goes_adds v w (entry v.caller (step.sweep tick) (step.swept n) ∷ []) g
+      by_cases (inr g) = goes_adds v w [] g.1
+  swept_adds v w tick (Err r) (inl g) = goes_adds v w (entry v.caller (step.sweep tick) (reply_of r) ∷ []) g
+  swept_adds v w tick (Err r) (inr worn) = goes_adds v w [] worn.1
+
+  takes_adds : (place : Option ℕ) (old new : Spots D N) (target : Destination) (answer : Val) (r : Result Ticket Reply)
+      → TakesOn view tells coming place old target answer r new → Adds old new 0
+  takes_adds None old new target answer r t = adds_none old new t.1
+  takes_adds (Some k) old new target answer r at =
+      at_adds k 0 (λ v w. Took view tells coming v target answer r w) old new at (λ v w t. took_adds v w target answer r t)
+
+  takes_counts : (place : Option ℕ) (old new : Spots D N) (target : Destination) (answer : Val) (r : Reply)
+      → TakesOn view tells coming place old target answer (Err r) new → (visit_count r).pages ≡ 0
+  takes_counts None old new target answer r t =
+      let is : r ≡ replies.Refused refusals.Unknown = (let e = t.0 in cc) in ap (λ x. (visit_count x).pages) is
+  takes_counts (Some k) old new target answer r at = took_counts at.0.known at.1 target answer r at.4
+
+  visits_adds : (old new : Spots D N) (target : Destination) (answer : Val) (reply : Reply) → VisitsAt view tells coming old target answer reply new
+      → Adds old new (visit_count reply).pages
+  visits_adds old new target answer reply (inl (t, middle, took, published)) =
+      adds_both old middle new 0 (visit_count reply).pages (visit_count reply).pages
+      (takes_adds (shelf_for (length old) (caller_at old) target) old middle target answer (Ok t) took)
+      (at_adds published.0 (visit_count reply).pages (λ v w. Published view tells coming v t reply w) middle new published.2
+      (λ v w p. published_adds v w t reply p))
+      (omega arith)
+  visits_adds old new target answer reply (inr took) =
+      let place = shelf_for (length old) (caller_at old) target in
+      subst (Adds old new) (sym (takes_counts place old new target answer reply took)) (takes_adds place old new target answer (Err reply) took)
+
+  ticks_adds : (old new : Spots D N) (tick : ℕ) (answers : List (Result ℕ Reply)) → Ticks view tells coming old tick answers new → Adds old new 0
+  ticks_adds old new tick answers t = each_adds old new (λ k a here.
+      let r = get_there answers k (let within = slice_get_within old k a here in let all = t.all in omega arith) in
+      let s = t.so.swept k r.0 r.1 a here in
+      (s.0, s.1, swept_adds a.known s.0 tick r.0 s.2))
+      (λ k le. t.so.others k (let all = t.all in omega (arith, le)))
+
+  as_adds : (old new : Spots D N) (tick : ℕ) (swept : passes.Swept) → TicksAs view tells coming old tick swept new → Adds old new 0
+  as_adds old new tick (Ok answers) t = ticks_adds old new tick answers t
+  as_adds old new tick (Err e) t = adds_none old new t
+
+  module _ (site : Site D N) {L : Type 0} (link : L → LinkView) (shown : Option ℕ) where
+    replies_adds : (old new : Spots D N) (target : Option Destination) (answer : Val) (reply : Reply) → Replies (site_rules view tells coming site) old target answer reply new
+        → Adds old new (visit_count reply).pages
+    replies_adds old new None answer reply r = subst (λ x. Adds old new (visit_count x).pages) (sym r.0) (adds_none old new r.1)
+    replies_adds old new (Some target) answer reply v = visits_adds old new target answer reply v
+
+    visit_adds : (old new : Spots D N) (before after : LinkView) (reply : Reply) → Visits (site_rules view tells coming site) old new before after reply
+        → Adds old new (visit_count reply).pages
+    visit_adds old new before after reply v = replies_adds old new v.visit.destination v.visit.answer reply v.replied
+
+    serves_adds : (old new : Spots D N) (before after : LinkView) (how : Served) → Serves (site_rules view tells coming site) old new before after how
+        → Adds old new (served_count how).pages
+    serves_adds old new before after (served.Answered reply) s = visit_adds old new before after reply s.0
+    serves_adds old new before after (served.Refused reason) s = adds_none old new s.0.same
+    serves_adds old new before after served.Idle s = adds_none old new s.1
+    serves_adds old new before after served.ReadFault s = adds_none old new s.2
+    serves_adds old new before after (served.WriteFault (Some reply)) s =
+        let v = visit_adds old new before after reply s.0 in record { pages = (let p = v.pages in omega arith); caller = v.caller }
+    serves_adds old new before after (served.WriteFault None) s = adds_none old new s.1.same
+
+    drops_adds : (old new : Spots D N) (before after : LinkView) (how : Result Served AllocError) → ServesOrDrops (site_rules view tells coming site) old new before after how
+        → Adds old new (link_count how).pages
+    drops_adds old new before after (Ok how) s = serves_adds old new before after how s
+    drops_adds old new before after (Err e) s = adds_none old new s.0
+
+    behind_adds : (swept : passes.Swept) (old new : Spots D N) (given back : L) (count : Count) → AfterTick (site_rules view tells coming site) link swept old new given back count
+        → Adds old new count.pages
+    behind_adds (Ok answers) old new given back count s =
+        subst (λ (c : Count). Adds old new c.pages) (sym s.2) (drops_adds old new (link given) (link back) s.0 s.1)
+    behind_adds (Err e) old new given back count s = subst (λ (c : Count). Adds old new c.pages) (sym s.2) (adds_none old new s.0)
+
+    turns_adds : (old new : Spots D N) (given back : L) (count : Count) → Turns (site_rules view tells coming site) link shown old new given back count → Adds old new count.pages
+    turns_adds old new given back count t =
+        adds_both old t.middle new 0 count.pages count.pages (as_adds old t.middle t.tick t.swept t.ticked) (behind_adds t.swept t.middle new given back count t.served) (omega arith)
+
+    -- what a worker counts as pages its caller has published, and the caller stays the same
+    pub works_adds : (old new : Spots D N) (given back : List L) (count : Count) → Works (site_rules view tells coming site) link shown old new given back count
+        → Adds old new count.pages
+    works_adds old new [] [] count w = subst (λ (c : Count). Adds old new c.pages) (sym w.1) (adds_none old new w.0)
+    works_adds old new [] (b ∷ back) count w = absurd w
+    works_adds old new (g ∷ given) [] count w = absurd w
+    works_adds old new (g ∷ given) (b ∷ back) count w =
+        adds_both old w.0 new w.1.pages w.2.pages count.pages (turns_adds old w.0 g b w.1 w.3) (works_adds w.0 new given back w.2 w.4)
+        (ap (λ (c : Count). c.pages) w.5)

@@ -1,0 +1,238 @@
+-- Which of the parts of a shelf may go to another thread.
+use denote.RattleType.{RattleType}
+use denote.Struct.Declared.{fields, shape}
+use denote.Param.Send.{AllSend, AllSync, IsSend, IsSync, sendable, struct_send, struct_sync, part_keyless}
+use Rattle.std.proofs.Crossing.{crosses}
+use Rattle.std.proofs.MapsCrossing as maps
+use Rattle.script_value.proofs.value.Items.TheLaws.TheKnot as knot
+use Rattle.instance_cells.specs.contracts.cells.Cells as Cells
+use Rattle.transactions.specs.contracts.closed.Closed as Closed
+use Rattle.stored_states.specs.contracts.frame.Frame as Frame
+use Rattle.stored_states.specs.contracts.frame.Suspended as Suspended
+use Rattle.web_cells.specs.contracts.shades.Shades as Shades
+use Rattle.instance_book.specs.contracts.book.Book as Book
+use Rattle.instance_cells.specs.contracts.effect.Effect as Effect
+use Rattle.instance_book.specs.contracts.after.After as After
+use Rattle.instance_book.specs.contracts.after.Show as Show
+use Rattle.instance_book.specs.contracts.prepared.Opening as Opening
+use Rattle.instance_book.specs.contracts.prepared.Extension as Extension
+use Rattle.instance_book.specs.contracts.prepared.Ending as Ending
+use Rattle.instance_book.specs.contracts.prepared.Finish as Finish
+use Rattle.instance_book.specs.contracts.prepared.Change as Change
+use Rattle.page_journal.specs.contracts.journal.Journal as Journal
+use Rattle.page_journal.proofs.journal.Journal.TheSendSync as journals
+use Rattle.shelf.proofs.rules.Rules.TheSendSync as rules
+use Rattle.shelf.specs.contracts.doubt.Doubted as Doubted
+use Rattle.shelf.specs.contracts.doubt.Doubt as Doubt
+use Rattle.shelf_lock.proofs.pass.Pass.TheSendSync as passes
+use Rattle.shelf_lock.proofs.lock.ShelfLock.TheSendSync as locks
+use Rattle.shelf_lock.specs.declared.kept.Kept.{Ghosts}
+use Rattle.past.specs.contracts.history.History as History
+use Rattle.site.specs.contracts.opening.Opening as Opened
+use Rattle.site.specs.contracts.entry.KeptEntry as KeptEntry
+use Rattle.shelf.specs.contracts.shelf.Shelf as Shelf
+use Rattle.site.specs.contracts.kept.KeptShelf as KeptShelf
+use Rattle.shelf_lock.specs.contracts.pass.Pass as Pass
+use Rattle.shelf_lock.specs.contracts.lock.ShelfLock as ShelfLock
+use Rattle.site.specs.contracts.site.Site as Site
+use Rattle.instance_book.specs.contracts.in_order.InOrder as InOrder
+use Rattle.instance_book.specs.contracts.instance.KeptInstance as KeptInstance
+use Rattle.instance_book.specs.contracts.page.KeptPage as KeptPage
+use Rattle.lock_row.specs.contracts.seats.RowPass as RowPass
+use Rattle.lock_row.specs.contracts.row.LockRow as LockRow
+use Rattle.script_nodes.specs.contracts.setup.Setup as Setup
+use Rattle.script_nodes.specs.contracts.setup.NamedScript as NamedScript
+use Rattle.script_nodes.specs.contracts.script.Script as Script
+use Rattle.script_nodes.specs.contracts.script.Node as Node
+use Rattle.script_nodes.proofs.script.SendKind.TheSendSync as kinds
+use Rattle.script_value.proofs.outcome.Op.TheSendSync as op
+use Rattle.script_value.proofs.value.Bytes.TheSendSync as bytes
+use Rattle.page_names.proofs.names.ScriptName.TheSendSync as name
+use Rattle.atomic_table.specs.contracts.shared.Seat as Seat
+use Rattle.atomic_table.proofs.shared.Seat.TheSendSync as seats
+use Rattle.web_disk.specs.declared.disk.Disk as disk
+use Rattle.web_outside.specs.declared.nonces.Nonces as nonces
+
+cells : IsSend Cells.the_field.row
+cells = search (sendable, crosses, knot.crosses) depth 40 fits 100000
+
+closed : IsSend Closed.the_field.row
+closed = search (sendable, crosses, maps.crosses) depth 40 fits 100000
+
+frame : IsSend Frame.the_field.row
+frame = search (sendable, crosses, knot.crosses) depth 40 fits 100000
+
+shades : IsSend Shades.the_field.row
+shades = search (sendable, crosses, knot.crosses) depth 40 fits 100000
+
+suspended : IsSend Suspended.the_field.row
+suspended = search (sendable, crosses, knot.crosses, frame, shades) depth 40 fits 100000
+
+page : IsSend KeptPage.the_field.row
+page = search (sendable, crosses, knot.crosses, suspended) depth 40 fits 100000
+
+in_order : (T : RattleType) → IsSend T → IsSend (InOrder.the_field T).row
+in_order T s = search (sendable, crosses) depth 40 fits 100000
+
+instance : IsSend KeptInstance.the_field.row
+instance = search (sendable, cells, closed, in_order, page) depth 40 fits 100000
+
+pub book : IsSend Book.the_field.row
+book = search (sendable, crosses, in_order, instance) depth 40 fits 100000
+
+effect : IsSend Effect.the_field.row
+effect = search (sendable, crosses, knot.crosses) depth 40 fits 100000
+
+after : IsSend After.the_field.row
+after = search (sendable, closed, cells) depth 40 fits 100000
+
+show : IsSend Show.the_field.row
+show = search (sendable, in_order, page, after) depth 40 fits 100000
+
+opening : IsSend Opening.the_field.row
+opening = search (sendable, crosses, effect, instance, page) depth 40 fits 100000
+
+extension : IsSend Extension.the_field.row
+extension = search (sendable, crosses, knot.crosses, effect, show) depth 40 fits 100000
+
+ending : IsSend Ending.the_field.row
+ending = search (sendable, crosses, knot.crosses, effect, after) depth 40 fits 100000
+
+finish : IsSend Finish.the_field.row
+finish = search (sendable, crosses, knot.crosses, effect) depth 40 fits 100000
+
+pub change : IsSend Change.the_field.row
+change = search (sendable, opening, extension, ending, finish) depth 40 fits 100000
+
+doubted : IsSend Doubted.the_field.row
+doubted = search (sendable, change) depth 40 fits 100000
+
+doubt : IsSend Doubt.the_field.row
+doubt = search (sendable, doubted) depth 40 fits 100000
+
+journal : (D : RattleType) → IsSend D → IsSend (Journal.the_field D).row
+journal D d = search (sendable, crosses, journals.the_field_send) depth 40 fits 100000
+
+pub shelf : (D N : RattleType) → IsSend D → IsSend N → IsSend (Shelf.the_field D N).row
+shelf D N d n = search (sendable, journal, book, doubt, rules.the_field_send) depth 40 fits 100000
+
+opened : (D N : RattleType) → IsSend (Opened.the_field D N).row
+opened D N = search (sendable, crosses) depth 40 fits 100000
+
+history : (E : RattleType) → IsSend (History.the_field E).row
+history E = search (sendable, crosses) depth 40 fits 100000
+
+pub kept : (D N : RattleType) → IsSend D → IsSend N → IsSend (KeptShelf.the_field D N).row
+kept D N d n =
+    let all : AllSend (fields (KeptShelf.the_type D N)) = (shelf D N d n, (opened D N, (history KeptEntry.the_row, tt))) in
+    struct_send (shape (KeptShelf.the_type D N)) all
+
+cells_sync : IsSync Cells.the_field.row
+cells_sync = search (sendable, crosses, knot.crosses) depth 40 fits 100000
+
+closed_sync : IsSync Closed.the_field.row
+closed_sync = search (sendable, crosses, maps.crosses) depth 40 fits 100000
+
+frame_sync : IsSync Frame.the_field.row
+frame_sync = search (sendable, crosses, knot.crosses) depth 40 fits 100000
+
+shades_sync : IsSync Shades.the_field.row
+shades_sync = search (sendable, crosses, knot.crosses) depth 40 fits 100000
+
+suspended_sync : IsSync Suspended.the_field.row
+suspended_sync = search (sendable, crosses, knot.crosses, frame_sync, shades_sync) depth 40 fits 100000
+
+page_sync : IsSync KeptPage.the_field.row
+page_sync = search (sendable, crosses, knot.crosses, suspended_sync) depth 40 fits 100000
+
+in_order_sync : (T : RattleType) → IsSync T → IsSync (InOrder.the_field T).row
+in_order_sync T s = search (sendable, crosses) depth 40 fits 100000
+
+instance_sync : IsSync KeptInstance.the_field.row
+instance_sync = search (sendable, cells_sync, closed_sync, in_order_sync, page_sync) depth 40 fits 100000
+
+pub book_sync : IsSync Book.the_field.row
+book_sync = search (sendable, crosses, in_order_sync, instance_sync) depth 40 fits 100000
+
+effect_sync : IsSync Effect.the_field.row
+effect_sync = search (sendable, crosses, knot.crosses) depth 40 fits 100000
+
+after_sync : IsSync After.the_field.row
+after_sync = search (sendable, closed_sync, cells_sync) depth 40 fits 100000
+
+show_sync : IsSync Show.the_field.row
+show_sync = search (sendable, in_order_sync, page_sync, after_sync) depth 40 fits 100000
+
+opening_sync : IsSync Opening.the_field.row
+opening_sync = search (sendable, crosses, effect_sync, instance_sync, page_sync) depth 40 fits 100000
+
+extension_sync : IsSync Extension.the_field.row
+extension_sync = search (sendable, crosses, knot.crosses, effect_sync, show_sync) depth 40 fits 100000
+
+ending_sync : IsSync Ending.the_field.row
+ending_sync = search (sendable, crosses, knot.crosses, effect_sync, after_sync) depth 40 fits 100000
+
+finish_sync : IsSync Finish.the_field.row
+finish_sync = search (sendable, crosses, knot.crosses, effect_sync) depth 40 fits 100000
+
+pub change_sync : IsSync Change.the_field.row
+change_sync = search (sendable, opening_sync, extension_sync, ending_sync, finish_sync) depth 40 fits 100000
+
+doubted_sync : IsSync Doubted.the_field.row
+doubted_sync = search (sendable, change_sync) depth 40 fits 100000
+
+doubt_sync : IsSync Doubt.the_field.row
+doubt_sync = search (sendable, doubted_sync) depth 40 fits 100000
+
+journal_sync : (D : RattleType) → IsSync D → IsSync (Journal.the_field D).row
+journal_sync D d = search (sendable, crosses, journals.the_field_sync) depth 40 fits 100000
+
+pub shelf_sync : (D N : RattleType) → IsSync D → IsSync N → IsSync (Shelf.the_field D N).row
+shelf_sync D N d n = search (sendable, journal_sync, book_sync, doubt_sync, rules.the_field_sync) depth 40 fits 100000
+
+opened_sync : (D N : RattleType) → IsSync (Opened.the_field D N).row
+opened_sync D N = search (sendable, crosses) depth 40 fits 100000
+
+history_sync : (E : RattleType) → IsSync (History.the_field E).row
+history_sync E = search (sendable, crosses) depth 40 fits 100000
+
+pub kept_sync : (D N : RattleType) → IsSync D → IsSync N → IsSync (KeptShelf.the_field D N).row
+kept_sync D N d n =
+    let all : AllSync (fields (KeptShelf.the_type D N)) = (shelf_sync D N d n, (opened_sync D N, (history_sync KeptEntry.the_row, tt))) in
+    struct_sync (shape (KeptShelf.the_type D N)) all
+
+pub pass : (T T' T'' : RattleType) (g : Ghosts T.Denot T'.Denot T''.Denot) → IsSend T → IsSend (Pass.the_field T T' T'' g).row
+pass T T' T'' g t = search (sendable, passes.the_field_send) depth 40 fits 100000
+
+pub lock : (T T' T'' : RattleType) (g : Ghosts T.Denot T'.Denot T''.Denot) → IsSend T → IsSync (ShelfLock.the_field T T' T'' g).row
+lock T T' T'' g t = search (sendable, locks.the_field_sync) depth 40 fits 100000
+
+pub row_pass : (T T' T'' : RattleType) (g : Ghosts T.Denot T'.Denot T''.Denot) → IsSend T → IsSend (RowPass.the_field T T' T'' g).row
+row_pass T T' T'' g t = search (sendable, crosses, pass) depth 40 fits 100000
+
+seat_sync : (S V : RattleType) → IsSend S → IsSync (Seat.the_row S V)
+seat_sync S V s = record { shared = λ d b o ν q. part_keyless (Seat.the_row S V) (seats.the_send S V s) q d b o }
+
+pass_sync : (T T' T'' : RattleType) (g : Ghosts T.Denot T'.Denot T''.Denot) → IsSend T → IsSync (Pass.the_field T T' T'' g).row
+pass_sync T T' T'' g t = search (sendable, seat_sync) depth 40 fits 100000
+
+row_pass_sync : (T T' T'' : RattleType) (g : Ghosts T.Denot T'.Denot T''.Denot) → IsSend T → IsSync (RowPass.the_field T T' T'' g).row
+row_pass_sync T T' T'' g t = search (sendable, crosses, pass_sync) depth 40 fits 100000
+
+row_sync : (T T' T'' : RattleType) (g : Ghosts T.Denot T'.Denot T''.Denot) → IsSend T → IsSync T → IsSync (LockRow.the_field T T' T'' g).row
+row_sync T T' T'' g t y = search (sendable, crosses, lock, row_pass_sync) depth 40 fits 100000
+
+node_sync : IsSync Node.the_field.row
+node_sync = search (sendable, crosses, knot.crosses, op.the_field_sync, kinds.the_field_sync) depth 60 fits 100000
+
+script_sync : IsSync Script.the_field.row
+script_sync = search (sendable, crosses, knot.crosses, node_sync) depth 60 fits 100000
+
+named_sync : IsSync NamedScript.the_field.row
+named_sync = search (sendable, crosses, script_sync, name.the_field_sync, bytes.the_sync) depth 60 fits 100000
+
+pub setup_sync : IsSync Setup.the_field.row
+setup_sync = search (sendable, crosses, named_sync) depth 60 fits 100000
+
+pub site_sync : (D N : RattleType) (d : disk.Ghosts D.Denot) (n : nonces.Ghosts N.Denot) → IsSend D → IsSend N → IsSync D → IsSync N → IsSync (Site.the_field D N d n).row
+site_sync D N d n ds ns dy ny = search (sendable, crosses, row_sync, setup_sync, kept, kept_sync) depth 40 fits 100000

@@ -1,0 +1,10 @@
+//! Links that are served from the shelves of a site by several workers, and the past that is kept of it.
+#![tactic(auto)]
+
+mod keeping;
+mod kept_past;
+mod serving;
+
+pub use keeping::{NoPast, Past};
+pub use kept_past::{KeptPast, KeptServing};
+pub use serving::{ServingFault, Watch, serve_site};

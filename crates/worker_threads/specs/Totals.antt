@@ -1,0 +1,21 @@
+-- What workers counted together.
+use Rattle.std.specs.Prelude.{List, [], ◌∷◌}
+use Rattle.request_workers.specs.Counting.{Count, nothing, both}
+use Rattle.request_workers.specs.Tallies.{count_of}
+use Rattle.request_workers.specs.declared.tally.Tally.{Tally}
+use Rattle.request_workers.specs.declared.tally.WorkEnd.{WorkEnd}
+use Rattle.request_workers.specs.declared.tally.WorkEnd.TheVariants as ends
+
+abbrev pub total : List Tally → Count
+total [] = nothing
+total (t ∷ tallies) = both (count_of t) (total tallies)
+
+-- of two ends a failure is told
+abbrev pub end_with : WorkEnd → WorkEnd → WorkEnd
+end_with ends.Done later = later
+end_with ends.Failed later = ends.Failed
+
+-- they ended as no more links came, or a porch failed
+abbrev pub end_of : List Tally → WorkEnd
+end_of [] = ends.Done
+end_of (t ∷ tallies) = end_with t.end (end_of tallies)

@@ -1,0 +1,51 @@
+-- What workers do with their porches.
+use Rattle.std.specs.Prelude.{◌≡◌, ◌≤◌, ℕ, [], List, Option, map, vec_len, vec_capacity}
+use Rattle.std.specs.List.{AllZip}
+use Rattle.web_outside.specs.View.{LinkView, PorchView}
+use Rattle.http_forms.specs.Passes.{PassRules}
+use Rattle.request_workers.specs.Tallies.{count_of, IsBelow}
+use Rattle.request_workers.specs.Working.{EndsBy, Worked}
+use Rattle.request_workers.specs.declared.tally.Tally.{Tally}
+use Rattle.worker_threads.specs.declared.worker.Room.{Room}
+use Rattle.worker_threads.specs.declared.worker.Worker.{Worker}
+
+-- It served the links of its porch through its pass, to their end or until the porch failed, and has counted what came of them:
+-- of each thing one a link at most, and a million links.
+pub record WorksAs {S P L : Type 0} (rules : PassRules S) (link : L → LinkView) (porch : P → PorchView L) (shown : Option ℕ)
+    (old new : Worker S P) : Type 0 where
+  pub worked : Worked rules link shown old.pass new.pass (porch old.porch) (porch new.porch) (count_of new.tally)
+  pub ended : EndsBy new.tally.end (porch old.porch) (porch new.porch)
+  pub small : IsBelow (count_of new.tally) 1000001
+  pub most : (porch new.porch).most ≡ (porch old.porch).most
+  pub later : (porch old.porch).faults ≤ (porch new.porch).faults
+
+-- the passes of workers, their porches, and what they counted
+abbrev pub passes_of : {S P : Type 0} → List (Worker S P) → List S
+passes_of workers = map (λ w. w.pass) workers
+
+abbrev pub porches_of : {S P : Type 0} → List (Worker S P) → List P
+porches_of workers = map (λ w. w.porch) workers
+
+abbrev pub tallies_of : {S P : Type 0} → List (Worker S P) → List Tally
+tallies_of workers = map (λ w. w.tally) workers
+
+-- Each of the old passes served the links of the porch of its place. These are what the workers were before and behind.
+pub record AreServed {S P L : Type 0} (rules : PassRules S) (link : L → LinkView) (porch : P → PorchView L) (shown : Option ℕ)
+    (old_passes : List S) (old_porches : List P) (passes : List S) (porches : List P) (tallies : List Tally) : Type 0 where
+  pub before : List (Worker S P)
+  pub after : List (Worker S P)
+  pub had_passes : passes_of before ≡ old_passes
+  pub had_porches : porches_of before ≡ old_porches
+  pub has_passes : passes_of after ≡ passes
+  pub has_porches : porches_of after ≡ porches
+  pub counted : tallies_of after ≡ tallies
+  pub works : AllZip (WorksAs rules link porch shown) before after
+
+-- there is room for so many workers and for what they count, and nothing is there yet
+pub record IsRoomFor {S P : Type 0} (count : ℕ) (room : Room S P) : Type 0 where
+  pub no_workers : room.workers.items ≡ []
+  pub no_worker : vec_len room.workers ≡ 0
+  pub workers : count ≤ vec_capacity room.workers
+  pub no_tallies : room.tallies.items ≡ []
+  pub no_tally : vec_len room.tallies ≡ 0
+  pub tallies : count ≤ vec_capacity room.tallies

@@ -1,0 +1,11 @@
+//! Workers that serve links, each in a thread of its own, and what they count together.
+#![tactic(auto)]
+
+mod crew;
+mod tallies;
+mod worker;
+mod workers;
+
+pub use tallies::total;
+pub use worker::{Room, Worker};
+pub use workers::serve_all;

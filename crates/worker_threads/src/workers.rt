@@ -1,0 +1,99 @@
+//! Workers in threads of their own.
+ghost use Rattle.std.specs.Prelude.{◌≡◌, ℕ, ◌<◌, Some, length, slice_get, slice_index_or, vec_len};
+ghost use Rattle.worker_threads.specs.Workers.{AreServed, IsRoomFor, WorksAs};
+
+use crate::crew::{dismiss_all, hire_all};
+use crate::worker::{Room, Worker};
+use http_forms::Answering;
+use request_workers::{Tally, work};
+use std::alloc::Global;
+use std::thread::{Threads, for_each_mut};
+use web_outside::{Clock, Gate, Link, Porch};
+
+// The most threads that work at once.
+const MOST_THREADS: usize = 16;
+
+// Serves the links of the worker's porch.
+fn work_as<A: Answering, P: Porch, C: Clock, G: Gate>(
+    alloc: Global,
+    answering: &A,
+    worker: &mut Worker<A::Pass, P>,
+    clock: &C,
+    gate: &G,
+)
+    requires { (A.rules answering.now).IsOwn worker.old.pass }
+    ensures own { (A.rules answering.now).IsOwn worker.new.pass }
+    ensures works { WorksAs (A.rules answering.now) P.Link.view P.view (C.shows clock.now) worker.old worker.new }
+{
+    let Worker { pass, porch, tally } = worker;
+    *tally = work(alloc, answering, pass, porch, clock, gate);
+}
+
+// Each worker serves the links of its porch, in a thread of its own. Where no thread can be made, the caller serves them.
+fn work_all<
+    A: Answering + Sync,
+    P: Porch + Send,
+    C: Clock + Sync,
+    G: Gate + Sync,
+    R: Threads + Sync,
+>(rt: &R, alloc: Global, answering: &A, workers: &mut [Worker<A::Pass, P>], clock: &C, gate: &G)
+where
+    A::Pass: Send,
+    P::Link: Send,
+    <P::Link as Link>::Input: Send,
+    <P::Link as Link>::Output: Send,
+    requires { (k : ℕ) (w : _) → k < length workers.old
+        → (A.rules answering.now).IsOwn (slice_index_or workers.old k w).pass }
+    ensures own { (k : ℕ) (w : _) → k < length workers.old
+        → (A.rules answering.now).IsOwn (slice_index_or workers.new k w).pass }
+    ensures works { (k : ℕ) (w : _) → k < length workers.old
+        → WorksAs (A.rules answering.now) P.Link.view P.view (C.shows clock.now)
+        (slice_index_or workers.old k w) (slice_index_or workers.new k w) }
+{
+    for_each_mut(
+        rt,
+        workers,
+        MOST_THREADS,
+        &|_, worker| work_as(alloc, answering, worker, clock, gate),
+    );
+}
+
+/// Through each pass the links of the porch of its place are served, in a thread of its own; where no thread can be made, by
+/// the caller. It gives what was counted of each porch, and takes no memory beside the room.
+pub fn serve_all<
+    A: Answering + Sync,
+    P: Porch + Send,
+    C: Clock + Sync,
+    G: Gate + Sync,
+    R: Threads + Sync,
+>(
+    rt: &R,
+    alloc: Global,
+    answering: &A,
+    passes: &mut Vec<A::Pass>,
+    porches: &mut Vec<P>,
+    room: Room<A::Pass, P>,
+    clock: &C,
+    gate: &G,
+) -> Vec<Tally>
+where
+    A::Pass: Send,
+    P::Link: Send,
+    <P::Link as Link>::Input: Send,
+    <P::Link as Link>::Output: Send,
+    requires pairs { vec_len porches.old ≡ vec_len passes.old }
+    requires own { (k : ℕ) (p : _) → slice_get passes.old.items k ≡ Some p → (A.rules answering.now).IsOwn p }
+    requires room { IsRoomFor (vec_len passes.old) room }
+    ensures own { (k : ℕ) (p : _) → slice_get passes.new.items k ≡ Some p → (A.rules answering.now).IsOwn p }
+    ensures served { AreServed (A.rules answering.now) P.Link.view P.view (C.shows clock.now)
+        passes.old.items porches.old.items passes.new.items porches.new.items result.items }
+{
+    let Room {
+        mut workers,
+        mut tallies,
+    } = room;
+    hire_all(passes, porches, &mut workers);
+    work_all(rt, alloc, answering, &mut workers, clock, gate);
+    dismiss_all(workers, passes, porches, &mut tallies);
+    tallies
+}
