@@ -1,6 +1,7 @@
 /* Accepts links on a free port of 127.0.0.1, reads a request's head from each, sends one fixed reply and closes it: what a
- * server costs that does nothing. bench/serve.sh compiles it with `cc -O2` and compares `serve` with it. Its one word says
- * how many links it serves. */
+ * server costs that does nothing. bench/serve.sh and bench/threads.sh compile it with `cc -O2` and compare `serve` with it.
+ * Its first word says how many links it serves, its second in how many processes at once (1 if it is not given): then each
+ * of them serves so many. */
 #include <arpa/inet.h>
 #include <netinet/in.h>
 #include <netinet/tcp.h>
@@ -28,6 +29,7 @@ static void read_head(int link) {
 
 int main(int count, char **words) {
     long links = count > 1 ? atol(words[1]) : 1000;
+    long processes = count > 2 ? atol(words[2]) : 1;
     int listener = socket(AF_INET, SOCK_STREAM, 0), on = 1;
     struct sockaddr_in here = {.sin_family = AF_INET, .sin_addr.s_addr = htonl(INADDR_LOOPBACK)};
     socklen_t size = sizeof here;
@@ -37,6 +39,8 @@ int main(int count, char **words) {
         return 1;
     }
     fprintf(stderr, "listening on 127.0.0.1:%d\n", ntohs(here.sin_port));
+    for (long more = 1; more < processes; more++)
+        if (fork() == 0) break;
     for (long served = 0; served < links; served++) {
         int link = accept(listener, 0, 0);
         if (link < 0) {

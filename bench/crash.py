@@ -4,6 +4,7 @@ nothing it was told is lost. crash.sh starts it with the words that start the se
 After each start: every page that a reply told answers, but where what was told since closed or revoked it or freed its
 instance; what was closed stays closed; and no two replies ever told the same page with another nonce."""
 
+import atexit
 import os
 import random
 import re
@@ -14,10 +15,13 @@ import sys
 import threading
 import time
 
-FOLDER, TIMES = sys.argv[1], int(sys.argv[2])
+FOLDER = sys.argv[1]
 SERVER = sys.argv[3:]
 URL = re.compile(rb"/servlets/([a-z-]+);(\d+)\*(\d+)\*(\d+)\*([0-9a-f]{16})")
 CHANCE = random.Random(20261128)
+
+# How many seconds a reply is waited for.
+PATIENCE = 30
 
 
 def fail(text):
@@ -35,6 +39,7 @@ class Server:
     def __init__(self):
         self.process = subprocess.Popen(SERVER, stdin=open(FOLDER + "/setup", "rb"), stdout=subprocess.DEVNULL,
                                         stderr=subprocess.PIPE)
+        atexit.register(self.process.kill)
         self.told = []
         for line in self.process.stderr:
             self.told.append(line.decode())
@@ -45,10 +50,10 @@ class Server:
             fail("it does not listen: " + "".join(self.told))
         threading.Thread(target=self.process.stderr.read, daemon=True).start()
 
-    def ask(self, target, timeout=30):
+    def ask(self, target):
         """The status and the body of the reply to this target."""
         try:
-            link = socket.create_connection(("127.0.0.1", self.port), timeout)
+            link = socket.create_connection(("127.0.0.1", self.port), PATIENCE)
             link.sendall(b"GET " + target + b" HTTP/1.0\r\n\r\n")
             parts = []
             while part := link.recv(65536):
@@ -121,29 +126,30 @@ def answer(server, known, url):
         fail("%r was shown and answers %d %r" % (url, status, body[:40]))
 
 
-def visit(server, known):
+def visit(server, known, chance):
     """One random visit, whose reply is noted."""
-    if CHANCE.random() < 0.3 or not known.pages:
-        status, body = server.ask(b"/servlets/" + CHANCE.choice([b"sum", b"quiz", b"pay", b"pay"]))
+    if chance.random() < 0.3 or not known.pages:
+        status, body = server.ask(b"/servlets/" + chance.choice([b"sum", b"quiz", b"pay", b"pay"]))
         if status == 200:
             known.note(body)
         return
-    answer(server, known, CHANCE.choice(list(known.pages)[-60:]))
+    answer(server, known, chance.choice(list(known.pages)[-60:]))
 
 
 def main():
+    times = int(sys.argv[2])
     known, served = Known(), 0
-    for life in range(TIMES + 1):
+    for life in range(times + 1):
         server = Server()
         for url in list(known.pages)[-30:] + CHANCE.sample(list(known.pages), min(30, len(known.pages))):
             answer(server, known, url)
-        if life == TIMES:
+        if life == times:
             break
         killer = threading.Timer(0.02 + CHANCE.random() * 0.3, server.kill)
         killer.start()
         try:
             while True:
-                visit(server, known)
+                visit(server, known, CHANCE)
                 served += 1
         except Gone:
             pass
@@ -158,4 +164,5 @@ def main():
           % (served, len(known.pages), len(known.closed), size))
 
 
-main()
+if __name__ == "__main__":
+    main()

@@ -9,6 +9,9 @@ import time
 PORT = int(sys.argv[1])
 ONLY = sys.argv[2:]
 
+# How many workers the server has.
+WORKERS = 4
+
 # What a link may take up to the end of its head, and then for its body and its reply; and what a visitor may wait beside.
 HEAD = BODY = 30
 SLACK = 5
@@ -39,6 +42,29 @@ def post(length, body):
 
 def silent():
     return link(), HEAD, b""
+
+
+def silent_beside_others():
+    """It holds one worker up to its deadline; meanwhile the others serve each visitor at once."""
+    began = time.monotonic()
+    sock = link()
+    while time.monotonic() < began + HEAD - SLACK:
+        if (took := Visit().took()) > 1:
+            raise AssertionError(f"a visitor waited {took:.1f} s beside one silent client")
+        time.sleep(0.1)
+    return sock, HEAD, b"", began, Visit()
+
+
+def silent_at_each_worker():
+    """As many as there are workers hold the server, up to their deadline."""
+    began = time.monotonic()
+    socks = [link() for _ in range(WORKERS)]
+    visit = Visit()
+    for sock in socks[1:]:
+        if read(sock):
+            raise AssertionError("one of them got a reply")
+        sock.close()
+    return socks[0], HEAD, b"", began, visit
 
 
 def ended_at_once():
@@ -208,6 +234,8 @@ def tried(client):
 
 CLIENTS = [
     silent,
+    silent_beside_others,
+    silent_at_each_worker,
     ended_at_once,
     half_a_head,
     half_a_head_and_its_end,

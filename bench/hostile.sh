@@ -1,7 +1,7 @@
 #!/bin/sh
 # Starts `serve` through the launcher on a free port of this machine, and lets each client of docs/OPERATING.md at it,
 # one after the other: that each meets what the table says, and that a visitor who comes behind it is served in time. It
-# takes about four minutes. Words pick clients by their names in hostile.py. No part of the gate. Needs python3.
+# takes about five minutes. Words pick clients by their names in hostile.py. No part of the gate. Needs python3.
 
 here=$(CDPATH='' cd -- "$(dirname -- "$0")/.." && pwd) || exit 1
 work=$(mktemp -d "${TMPDIR:-/tmp}/hovgyelit-hostile.XXXXXX") || exit 1
@@ -22,7 +22,7 @@ awk 'BEGIN {
 }' >"$work/long.scm"
 
 "$here/hovgyelit" check -- "$here/examples/shop.scm" "$work/long.scm" || exit 1
-"$here/hovgyelit" serve --port 0 --connections 1000000 --fuel 10000000 --instances 4096 \
+"$here/hovgyelit" serve --port 0 --workers 4 --connections 1000000 --fuel 10000000 --instances 4096 \
     -- "$here/examples/shop.scm" "$work/long.scm" >"$work/counts" 2>"$work/where" &
 server=$!
 tries=0

@@ -6,8 +6,11 @@
 # stays: where time grows with the cost alone, the last column stays. Then the operations over one long operand and over
 # many short ones, at the same cost: where none is slower than its operands' size, the ratio is near 1. Then the reading of
 # scripts: with twice the names and references the ratio is near 2, and with ten times the levels of a template of one size
-# near 1. Then 9,000 answers to pages with few and with many pages behind them: a visit goes on from what is kept of its page,
-# so they take the same time. Last, how many bytes a started instance takes with its page, and one page more of an instance.
+# near 1. Then 9,000 answers to pages with few and with many pages behind them, of a walk, which keeps nothing of its answers, and
+# of a quiz, which keeps them: a visit goes on from what is kept of its page, so they take the same time, but for the size of
+# that. A page 32 deep is 32 links from one whose state is kept by itself,
+# and one 33 deep is such a page. Last, how many bytes a started instance takes with its page, and one page more of an instance,
+# behind few and many pages and behind a short and a long answer.
 
 here=$(CDPATH='' cd -- "$(dirname -- "$0")/.." && pwd) || exit 1
 # The program by itself: the launcher looks at the sources first, and is a process with a peak of its own.
@@ -229,21 +232,30 @@ peak() {
     peak=$(($(tail -n 1 "$work/peak") * 1024))
 }
 
-# So many runs of a quiz of 300 questions, in each of them answers up to a page so many pages deep, and then so many answers to
-# that page, each of which shows a page.
+# A script of sixty pages in a row that keeps nothing of their answers, so what is kept of it is the same at each of them.
+walk_text() {
+    awk 'BEGIN {
+        printf "(begin"
+        for (i = 0; i < 60; i++) printf " (send/suspend (lambda (u) `(a ((href ,u)) \"on\")))"
+        printf " `(p))"
+    }'
+}
+
+# So many runs of that walk, or of a quiz of 300 questions, which keeps the answers: in each of them answers up to a page so many
+# pages deep, and then so many answers to that page, each of which shows a page.
 deep() {
-    setup_of quiz
-    awk -v depth="$1" -v answers="$2" -v runs="$3" "$page"'
+    if [ "$1" = walk ]; then setup_with walk "$(walk_text)"; else setup_of "$1"; fi
+    awk -v name="$1" -v depth="$2" -v answers="$3" -v runs="$4" "$page"'
         BEGIN {
             for (number = run = 0; run < runs; run++) {
                 first = last = number++
-                print "get 0 /servlets/quiz"
+                print "get 0 /servlets/" name
                 for (j = 0; j < depth; j++) {
-                    print "get 0 " page("quiz", first, last, j == 0 ? "?count=300" : "?word=x")
+                    print "get 0 " page(name, first, last, j == 0 ? "?count=300" : "?word=x")
                     last = number++
                 }
                 for (j = 0; j < answers; j++) {
-                    print "get 0 " page("quiz", first, last, "?word=y")
+                    print "get 0 " page(name, first, last, "?word=y")
                     number++
                 }
             }
@@ -255,15 +267,15 @@ play_deep() {
     deep "$@" >"$work/in"
     play --pages 1024
     pages=$(grep -c '^0 200 ' "$work/out")
-    [ "$pages" -eq $(($3 * (1 + $1 + $2))) ] || { echo "$pages pages $1 deep" >&2; exit 1; }
+    [ "$pages" -eq $(($4 * (1 + $2 + $3))) ] || { echo "$pages pages $2 deep" >&2; exit 1; }
 }
 
-# The time of 9,000 answers to pages of this depth, without that of the way to them.
+# The time of 9,000 answers to pages of this script and depth, without that of the way to them.
 depth() {
-    play_deep "$1" 0 10
+    play_deep "$1" "$2" 0 10
     way=$took
-    play_deep "$1" 900 10
-    echo "9,000 answers to pages $1 deep: $((took - way)) ms"
+    play_deep "$1" "$2" 900 10
+    echo "9,000 answers to pages of a $1, $2 deep: $((took - way)) ms"
 }
 
 # What the peak with 4,000 live instances has more than that with 1,000 is what 3,000 of them take. Both runs read and write
@@ -277,7 +289,7 @@ bytes_of_an_instance() {
 
 # The peak of the program's memory where so many answers were given to a page of this depth, in bytes.
 peak_deep() {
-    deep "$1" "$2" 1 >"$work/in"
+    deep quiz "$1" "$2" 1 >"$work/in"
     /usr/bin/time -f %M -o "$work/peak" "$program" play --pages 1024 <"$work/in" >"$work/out" ||
         { echo "play ended with status $?" >&2; exit 1; }
     peak=$(($(tail -n 1 "$work/peak") * 1024))
@@ -289,6 +301,41 @@ bytes_of_a_page() {
     few=$peak
     peak_deep "$1" 900
     echo "bytes of a page behind one $1 deep: $(((peak - few) / 600))"
+}
+
+# So many answers with this query to the first page of an example, of which the first so many find the page, and the others
+# name one that is not there.
+answers() {
+    setup_of "$1"
+    awk -v name="$1" -v count="$2" -v found="$3" -v query="$4" "$page"'
+        BEGIN {
+            print "get 0 /servlets/" name
+            for (j = 0; j < count; j++) print "get 0 " page(name, 0, j < found ? 0 : 100000, "") query
+        }'
+}
+
+# The peak of the program's memory over those answers, in bytes, where the journal is a file.
+peak_of_answers() {
+    answers "$1" "$2" "$3" "$4" >"$work/in"
+    rm -rf "$work/journal"
+    /usr/bin/time -f %M -o "$work/peak" "$program" play --pages 1024 --journal "$work/journal" <"$work/in" >"$work/out" ||
+        { echo "play ended with status $?" >&2; exit 1; }
+    pages=$(grep -c '^0 200 ' "$work/out")
+    [ "$pages" -eq $(($3 + 1)) ] || { echo "$pages pages for $3 answers" >&2; exit 1; }
+    peak=$(($(tail -n 1 "$work/peak") * 1024))
+}
+
+# What most of so many answers take, each with the page that it leaves; all runs read as many bytes.
+bytes_of_answers() {
+    peak_of_answers "$1" "$3" $(($3 / 3)) "$4"
+    few=$peak
+    peak_of_answers "$1" "$3" "$3" "$4"
+    echo "bytes of a page behind the first of $1, with $2: $(((peak - few) / ($3 - $3 / 3)))"
+}
+
+# A query of so many names without a value.
+names_alone() {
+    awk -v count="$1" 'BEGIN { printf "?a"; for (i = 1; i < count; i++) printf "&a" }'
 }
 
 # The program is built, if need be, before anything is timed.
@@ -317,7 +364,10 @@ both_sizes '(string=? t t)'
 reading names 2000 4000
 reading levels 10 100
 
-for pages in 1 10 50; do depth "$pages"; done
+for pages in 1 10 32 33 50; do depth walk "$pages"; done
+for pages in 1 10 32 33 50; do depth quiz "$pages"; done
 
 bytes_of_an_instance
 for pages in 1 10 50; do bytes_of_a_page "$pages"; done
+bytes_of_answers sum 'a number' 900 '?n=3'
+bytes_of_answers pay '65,536 bytes of a&a&..' 90 "$(names_alone 32768)"

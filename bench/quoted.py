@@ -71,7 +71,7 @@ def names():
     for law in laws ^ there:
         wrong(f"docs/PROOFS.md: {law} is {'no law' if law in laws else 'a law that is not told'}")
     crate = None
-    for row in re.findall(r"^\| ([a-z_]*) ?\| (`.*?) \|", part(proofs, "## Crate by crate", "## The bottom"), re.M):
+    for row in re.findall(r"^\| ([a-z_]*) ?\| (`.*?) \|", part(proofs, "## Crate by crate", "## Stored states"), re.M):
         crate = row[0] or crate
         for name in re.findall(r"\w+", " ".join(re.findall(r"`([^`]+)`", row[1]))):
             if not re.search(rf"\b{name}\b", source.get(crate, "")):

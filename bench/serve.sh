@@ -39,7 +39,7 @@ rate_of() {
 
 requests=${1:-1000}
 visits=7
-"$here/hovgyelit" serve --port 0 --connections "$((requests + visits))" -- "$here/examples/sum.scm" \
+"$here/hovgyelit" serve --port 0 --workers 1 --connections "$((requests + visits))" -- "$here/examples/sum.scm" \
     >"$work/counts" 2>"$work/where" &
 server=$!
 host=$(address_in "$work/where") || exit 1
