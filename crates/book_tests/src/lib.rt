@@ -7,8 +7,6 @@ mod copies;
 #[cfg(test)]
 mod cuts;
 #[cfg(test)]
-mod numbers;
-#[cfg(test)]
 mod setups;
 #[cfg(test)]
 mod shelves;
