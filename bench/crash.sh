@@ -19,9 +19,9 @@ for name in $scripts; do
 done >"$work/setup"
 "$here/hovgyelit" check <"$work/setup" >/dev/null || exit 1
 
-options="--port 0 --connections 1000000 --shelves 2 --instances 4096 --pages 1024"
+options="--port 0 --connections 1000000 --instances 4096 --pages 1024"
 # shellcheck disable=SC2086
-python3 "$here/bench/crash.py" "$work" "${1:-200}" "$program" serve $options --journal "$work/journal" || exit 1
+python3 "$here/bench/crash.py" "$work" "${1:-200}" "$program" serve $options --shelves 2 --journal "$work/journal" || exit 1
 
 mkdir "$work/small" || exit 1
 if ! mount -t tmpfs -o size=1m hovgyelit-crash "$work/small" 2>/dev/null; then
@@ -29,5 +29,6 @@ if ! mount -t tmpfs -o size=1m hovgyelit-crash "$work/small" 2>/dev/null; then
     exit 0
 fi
 mounted=$work/small
+# One shelf: where there are more, those that met no fault go on.
 # shellcheck disable=SC2086
 python3 "$here/bench/full.py" "$work" "$program" serve $options --journal "$work/small/journal"

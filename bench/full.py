@@ -11,7 +11,12 @@ FOLDER, SERVER = sys.argv[1], sys.argv[2:]
 URL = re.compile(rb"/servlets/[a-z-]+;\d+\*\d+\*\d+\*[0-9a-f]{16}")
 
 
+process = None
+
+
 def fail(text):
+    if process:
+        stop(process)
     print("WRONG: " + text, file=sys.stderr)
     sys.exit(1)
 
