@@ -5,21 +5,8 @@ ghost use Rattle.std.specs.Prelude.{◌≡◌, codes};
 ghost use Rattle.web_outside.specs.Pieces.{HandsAllOn};
 ghost use Rattle.server_command.specs.Output.{sinks_of, PrintsTo};
 
-mod adapters;
-mod buffers;
-mod door;
-mod line;
-mod link;
-mod machine;
-mod porch;
-#[cfg(test)]
-mod tests;
-
-use adapters::{Reading, Writing};
-use door::SocketDoor;
 use file_disk::ServedRack;
-use line::Patience;
-use machine::{MachineClock, MachineSeeds};
+use machine_outside::{MachineClock, MachineSeeds, Patience, Reading, SocketDoor, Writing};
 use server_command::{NoPast, command};
 use std::alloc::AllocError;
 use std::fs::{File, Files};

@@ -1,6 +1,0 @@
-use Rattle.std.proofs.Common.{◌≡◌, vec_len, All}
-use Rattle.script_server.specs.Sockets.{IsOpened}
-use Rattle.script_server.proofs.door.SocketDoor.porches_of.Given as goal
-
-abbrev pub invariant-loop : goal.invariant-loop
-invariant-loop g l = (vec_len l.porches ≡ l.counter) × All (IsOpened l.connections) l.porches.items

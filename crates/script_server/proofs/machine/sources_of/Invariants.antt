@@ -1,6 +1,0 @@
-use Rattle.std.proofs.Common.{◌≡◌, vec_len}
-use Rattle.script_server.specs.Streams.{sources_of}
-use Rattle.script_server.proofs.machine.sources_of.Given as goal
-
-abbrev pub invariant-loop-stream : goal.invariant-loop-stream
-invariant-loop-stream l = (l.sources.items ≡ sources_of l.key l.stream) × (vec_len l.sources ≡ l.stream)
