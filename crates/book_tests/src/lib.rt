@@ -1,11 +1,15 @@
-//! Tests of copies of the book and what it gives, of setups, and of shelves on disks that fail or are damaged: what no row of
-//! steps says.
+//! Tests of copies of the book and what it gives, of setups, and of shelves on disks that fail, are damaged or full: what no
+//! row of steps says.
 #![tactic(auto)]
 
 #[cfg(test)]
 mod copies;
 #[cfg(test)]
 mod cuts;
+#[cfg(test)]
+mod full;
+#[cfg(test)]
+mod numbers;
 #[cfg(test)]
 mod setups;
 #[cfg(test)]

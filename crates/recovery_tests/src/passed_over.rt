@@ -24,6 +24,8 @@ const MAKE: &[(&[&str], Made)] = &[
         &["2 q1 q9 0 1 5 d0 d1 2 0 q1 d1 q0 d0 0 q100"],
         (0, 2, 0, None),
     ),
+    // One with an effect on a cell that is not there.
+    (&["2 q1 q9 0 1 5 d0 d1 2 1 q1 d0 0 q100"], (0, 2, 0, None)),
     // An answer to page 1 whose page lives longer; one to another instance, to another page, and one that is sent otherwise.
     (
         &[START, "2 q2 q9 1 q1 q1 5 d0 d0 d0 0 q200", "5 q100"],
@@ -40,6 +42,30 @@ const MAKE: &[(&[&str], Made)] = &[
     (
         &[START, "2 q2 q9 1 q1 q1 5 d0 d0 d0 1 q200", "5 q100"],
         (0, 3, 100, None),
+    ),
+    // One of a number that was told; one behind which the script ends, and one behind which it faults.
+    (
+        &[START, "2 q1 q9 1 q1 q1 5 d0 d0 d0 0 q200", "5 q100"],
+        (0, 2, 100, None),
+    ),
+    (
+        &[
+            START,
+            "2 q2 q9 1 q1 q1 5 d0 d0 d0 0 q100",
+            "2 q3 q9 1 q1 q2 5 d0 d1 2 0 q2 d0 0 q200",
+            "5 q100",
+        ],
+        (0, 4, 100, None),
+    ),
+    (
+        &[
+            "2 q1 q9 0 0 5 d0 d0 d0 0 q100",
+            "2 q2 q9 1 q1 q1 5 d0 d0 d0 0 q100",
+            "2 q3 q9 1 q1 q2 5 d0 d0 d0 0 q100",
+            "2 q4 q9 1 q1 q3 5 d0 d0 d0 0 q200",
+            "5 q100",
+        ],
+        (0, 5, 100, None),
     ),
     // A last page that adds 2; of another instance, of another page, of a number that was told, on a cell that is not there,
     // and with a read that does not hold.

@@ -5,6 +5,6 @@ mod openings;
 mod texts;
 
 pub use openings::{
-    MemoryShelf, answered, begun, bytes_of, created, next_number, opened, tried, visited,
+    LongShelf, MemoryShelf, answered, begun, bytes_of, created, next_number, opened, tried, visited,
 };
 pub use texts::{SUM, data, datum, is_datum, script, setup, target, text_of};

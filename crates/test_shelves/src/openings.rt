@@ -10,11 +10,14 @@ use script_value::{Reply, Value};
 use shelf::{BeginFault, Rules, Shelf, run_ticket};
 use std::alloc::Global;
 use std::test::Fail;
-use web_disk::MemoryDisk;
+use web_disk::{Disk, MemoryDisk, RepeatDisk};
 use web_outside::Counting;
 
 /// A shelf on a disk in memory.
 pub type MemoryShelf = Shelf<MemoryDisk, Counting>;
+
+/// A shelf on a disk that repeats a block.
+pub type LongShelf = Shelf<RepeatDisk, Counting>;
 
 const RULES: Rules = Rules {
     number: 7,
@@ -26,12 +29,12 @@ const RULES: Rules = Rules {
 };
 
 /// The shelf of a disk; or why it was not opened, and the disk.
-pub fn tried(
+pub fn tried<D: Disk + Drop>(
     alloc: Global,
-    disk: MemoryDisk,
+    disk: D,
     setup: &Setup,
-) -> Result<Result<MemoryShelf, (BeginFault, MemoryDisk)>, Fail>
-    ensures { IfOk result (λ r. IfOk r (IsInOrder memory_view true (scripts_of setup.now))) }
+) -> Result<Result<Shelf<D, Counting>, (BeginFault, D)>, Fail>
+    ensures { IfOk result (λ r. IfOk r (IsInOrder D.view D.tells (scripts_of setup.now))) }
 {
     if setup.len() > 256 || !can_begin(RULES.number, setup) {
         return Err(Fail::from("no setup of a shelf"));
@@ -88,15 +91,15 @@ pub fn bytes_of(alloc: Global, shelf: MemoryShelf) -> Result<Vec<u8>, Fail> {
 }
 
 /// What a visit of a path with this answer is answered.
-pub fn answered(
+pub fn answered<D: Disk>(
     alloc: Global,
-    shelf: &mut MemoryShelf,
+    shelf: &mut Shelf<D, Counting>,
     setup: &Setup,
     path: &str,
     answer: Value,
 ) -> Result<Reply, Fail>
-    requires { IsInOrder memory_view true (scripts_of setup.now) shelf.old }
-    ensures { IsInOrder memory_view true (scripts_of setup.now) shelf.new }
+    requires { IsInOrder D.view D.tells (scripts_of setup.now) shelf.old }
+    ensures { IsInOrder D.view D.tells (scripts_of setup.now) shelf.new }
 {
     let target = target(path)?;
     let ticket = match shelf.take(alloc, setup, &target, answer) {
