@@ -5,36 +5,7 @@ use frame_codec::{Delta, decode_delta, delta, encode_delta, is_delta_spelled, is
 use script_nodes::Script;
 use script_value::Bytes;
 use std::alloc::{AllocError, Global};
-use stored_states::{Outcome, Suspended};
-
-// A script, and the pages that were shown over the answers of a row.
-#[derive(Drop)]
-struct Visited {
-    script: Script,
-    chain: Chain,
-}
-
-// The pages of a row, or the first fault of its script or its answers.
-fn pages_of(alloc: Global, row: &str) -> Result<Result<Visited, String>, AllocError> {
-    let asked = match question_of(alloc, row)? {
-        Ok(asked) => asked,
-        Err(fault) => return Ok(Err(fault)),
-    };
-    let chain = chain_of(alloc, &asked.script, asked.answers.as_slice(), asked.fuel)?;
-    let script = asked.script;
-    Ok(Ok(Visited { script, chain }))
-}
-
-impl Visited {
-    // What is kept at the page that was shown so many pages before the last.
-    fn page(&self, before: usize) -> Option<&Suspended> {
-        let twins = self.chain.segments.iter().rev().nth(before)?;
-        match &twins.machine.outcome {
-            Outcome::Shown { state, .. } => Some(state),
-            _ => None,
-        }
-    }
-}
+use stored_states::Suspended;
 
 // The spelling of what differs between two states, if it has one.
 fn spelled(
@@ -84,19 +55,19 @@ fn is_joined(
     })
 }
 
-/// What differs between the last page of a row and the one before it: how many bytes, and these bytes.
-pub fn difference_told(alloc: Global, row: &str) -> Result<String, AllocError> {
-    let visited = match pages_of(alloc, row)? {
-        Ok(visited) => visited,
-        Err(fault) => return Ok(fault),
-    };
-    let (Some(state), Some(parent)) = (visited.page(0), visited.page(1)) else {
+/// What differs between the last page and the one before it: how many bytes, and these bytes.
+pub fn difference_told(
+    alloc: Global,
+    script: &Script,
+    chain: &Chain,
+) -> Result<String, AllocError> {
+    let (Some(state), Some(parent)) = (chain.page(0), chain.page(1)) else {
         return String::from_str(alloc, "no pages");
     };
     let Some(bytes) = spelled(alloc, parent, state)? else {
         return String::from_str(alloc, "no spelling");
     };
-    if !is_joined(alloc, &visited.script, parent, state, bytes.as_slice())? {
+    if !is_joined(alloc, script, parent, state, bytes.as_slice())? {
         return String::from_str(alloc, "another state");
     }
     let count = bytes.len();
@@ -104,20 +75,17 @@ pub fn difference_told(alloc: Global, row: &str) -> Result<String, AllocError> {
     format!(in alloc; "{count} {digits}")
 }
 
-/// Whether the bytes that stand first in a row, in hexadecimal digits without spaces, are a difference from its last page.
-pub fn read_told(alloc: Global, row: &str) -> Result<String, AllocError> {
-    let (digits, row) = row.split_once(' ').unwrap_or((row, ""));
-    let Some(bytes) = bytes_of(alloc, digits)? else {
-        return String::from_str(alloc, "no bytes");
-    };
-    let visited = match pages_of(alloc, row)? {
-        Ok(visited) => visited,
-        Err(fault) => return Ok(fault),
-    };
-    let Some(parent) = visited.page(0) else {
+// Whether these bytes are a difference from the last page.
+fn reading_told(
+    alloc: Global,
+    script: &Script,
+    chain: &Chain,
+    bytes: &[u8],
+) -> Result<String, AllocError> {
+    let Some(parent) = chain.page(0) else {
         return String::from_str(alloc, "no page");
     };
-    let found = read(alloc, &visited.script, parent, bytes.as_slice())?;
+    let found = read(alloc, script, parent, bytes)?;
     String::from_str(
         alloc,
         if found.is_some() {
@@ -126,4 +94,18 @@ pub fn read_told(alloc: Global, row: &str) -> Result<String, AllocError> {
             "none"
         },
     )
+}
+
+/// Whether the bytes that stand first in a row, in hexadecimal digits without spaces, are a difference from its last page.
+pub fn read_told(alloc: Global, row: &str) -> Result<String, AllocError> {
+    let (digits, row) = row.split_once(' ').unwrap_or((row, ""));
+    let Some(bytes) = bytes_of(alloc, digits)? else {
+        return String::from_str(alloc, "no bytes");
+    };
+    let asked = match question_of(alloc, row)? {
+        Ok(asked) => asked,
+        Err(fault) => return Ok(fault),
+    };
+    let chain = chain_of(alloc, &asked.script, asked.answers.as_slice(), asked.fuel)?;
+    reading_told(alloc, &asked.script, &chain, bytes.as_slice())
 }

@@ -1,6 +1,5 @@
-use crate::runs::question_of;
 use crate::states::spelling;
-use crate::twins::chain_of;
+use crate::twins::Chain;
 use frame_codec::{Need, copied_front, join};
 use kept_states::{Found, KeptState, next_links};
 use script_nodes::Script;
@@ -52,14 +51,9 @@ fn kept_in(alloc: Global, kept: &KeptState) -> Result<String, AllocError> {
     }
 }
 
-/// How the states of the pages of a row are kept, each behind what was read of the one before: how many links it is from one that
-/// is kept by itself, and in how many bytes.
-pub fn kept_told(alloc: Global, row: &str) -> Result<String, AllocError> {
-    let asked = match question_of(alloc, row)? {
-        Ok(asked) => asked,
-        Err(fault) => return Ok(fault),
-    };
-    let chain = chain_of(alloc, &asked.script, asked.answers.as_slice(), asked.fuel)?;
+/// How the states of pages are kept, each behind what was read of the one before: how many links it is from one that is kept by
+/// itself, and in how many bytes.
+pub fn kept_told(alloc: Global, script: &Script, chain: &Chain) -> Result<String, AllocError> {
     let mut told = String::new(alloc);
     let mut links = 0;
     let mut before = Origin::Start;
@@ -68,7 +62,7 @@ pub fn kept_told(alloc: Global, row: &str) -> Result<String, AllocError> {
             return Ok(told);
         };
         let kept = KeptState::of(alloc, &before, links, state.try_clone(alloc)?)?;
-        let Some(back) = found(alloc, &asked.script, &before, &kept)? else {
+        let Some(back) = found(alloc, script, &before, &kept)? else {
             return String::from_str(alloc, "not found");
         };
         if !are_alike(alloc, state, &back)? {

@@ -1,5 +1,35 @@
+use crate::runs::{Asked, question_of};
+use crate::twins::{Chain, chain_of};
 use crate::{differences, first, kept, read, runs, states, syntax, text, twins, values};
 use std::alloc::{AllocError, Global};
+
+// What is asked of the pages that a script shows over answers.
+fn told_of_pages(
+    alloc: Global,
+    word: &str,
+    asked: &Asked,
+    chain: &Chain,
+) -> Result<String, AllocError> {
+    match word {
+        "both" => twins::each_told(alloc, chain),
+        "last" => twins::last_told(alloc, chain),
+        "bytes" => states::bytes_told(alloc, chain),
+        "cuts" => states::cuts_told(alloc, &asked.script, chain),
+        "changes" => states::changes_told(alloc, &asked.script, chain),
+        "differs" => differences::difference_told(alloc, &asked.script, chain),
+        _ => kept::kept_told(alloc, &asked.script, chain),
+    }
+}
+
+// The same of a row.
+fn of_pages(alloc: Global, word: &str, row: &str) -> Result<String, AllocError> {
+    let asked = match question_of(alloc, row)? {
+        Ok(asked) => asked,
+        Err(fault) => return Ok(fault),
+    };
+    let chain = chain_of(alloc, &asked.script, asked.answers.as_slice(), asked.fuel)?;
+    told_of_pages(alloc, word, &asked, &chain)
+}
 
 // What is asked of a text: the word of a row, and the rest of its line.
 fn answer(alloc: Global, word: &str, row: &str) -> Result<String, AllocError> {
@@ -14,23 +44,16 @@ fn answer(alloc: Global, word: &str, row: &str) -> Result<String, AllocError> {
         "alike" => read::alike_told(alloc, asked),
         "expand" => syntax::fault_told(alloc, asked),
         "nodes" => syntax::nodes_of(alloc, asked),
-        "run" => runs::end_of(alloc, asked),
-        "cost" => runs::cost_of(alloc, asked),
-        "effects" => runs::effects_of(alloc, asked),
-        "names" => runs::names_of(alloc, asked),
+        "run" | "cost" | "effects" | "names" => runs::run_told(alloc, word, asked),
         "recorded" => runs::recorded(alloc, asked),
         "value" => runs::value_told(alloc, asked),
         "first" => first::first_told(alloc, asked),
-        "both" => twins::each_told(alloc, asked),
-        "last" => twins::last_told(alloc, asked),
+        "both" | "last" | "bytes" | "cuts" | "changes" | "differs" | "kept" => {
+            of_pages(alloc, word, asked)
+        }
         "again" => twins::again_told(alloc, asked),
-        "bytes" => states::bytes_told(alloc, asked),
         "state" => states::read_told(alloc, asked),
-        "cuts" => states::cuts_told(alloc, asked),
-        "differs" => differences::difference_told(alloc, asked),
         "against" => differences::read_told(alloc, asked),
-        "kept" => kept::kept_told(alloc, asked),
-        "changes" => states::changes_told(alloc, asked),
         "page" => values::page_told(alloc, asked),
         "measure" => values::measures_told(alloc, asked),
         "number" => values::number_told(alloc, asked),

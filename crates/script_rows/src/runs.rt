@@ -67,17 +67,17 @@ fn run_behind(
 fn run_over(
     alloc: Global,
     script: &Script,
-    answers: Vec<Value>,
+    answers: &[Value],
     fuel: u64,
 ) -> Result<Rerun, AllocError> {
     let mut past = Vec::new(alloc);
-    let mut last = Value::Truth(false);
+    let mut last = &Value::Truth(false);
     for value in answers {
         let number = past.len() as u64;
-        past.push(ran_behind(alloc, number, last, Items::new(alloc))?)?;
+        past.push(ran_behind(alloc, number, last.try_clone(alloc)?, Items::new(alloc))?)?;
         last = value;
     }
-    run_behind(alloc, script, past.as_slice(), &last, fuel)
+    run_behind(alloc, script, past.as_slice(), last, fuel)
 }
 
 // The fuel that stands first in a row, and the rest of it.
@@ -117,23 +117,6 @@ pub fn question_of(alloc: Global, row: &str) -> Result<Result<Asked, String>, Al
     }
 }
 
-// What the script of a row comes to over its answers, or the first fault of either. The machine of stored frames comes to the same.
-fn ran(alloc: Global, row: &str) -> Result<Result<Rerun, String>, AllocError> {
-    let asked = match question_of(alloc, row)? {
-        Ok(asked) => asked,
-        Err(fault) => return Ok(Err(fault)),
-    };
-    if !engines_agree(alloc, &asked)? {
-        return Ok(Err(String::from_str(alloc, "the engines differ")?));
-    }
-    let Asked {
-        script,
-        answers,
-        fuel,
-    } = asked;
-    Ok(Ok(run_over(alloc, &script, answers, fuel)?))
-}
-
 /// How a run stopped.
 pub fn end_told(alloc: Global, end: &PlainEnd) -> Result<String, AllocError> {
     let (word, page) = match end {
@@ -150,24 +133,11 @@ pub fn end_told(alloc: Global, end: &PlainEnd) -> Result<String, AllocError> {
     format!(in alloc; "{word} {page}")
 }
 
-/// How a run stops.
-pub fn end_of(alloc: Global, row: &str) -> Result<String, AllocError> {
-    match ran(alloc, row)? {
-        Ok(run) => end_told(alloc, &run.end),
-        Err(fault) => Ok(fault),
-    }
-}
-
-/// How a run stops, and what its last segment costs.
-pub fn cost_of(alloc: Global, row: &str) -> Result<String, AllocError> {
-    match ran(alloc, row)? {
-        Ok(run) => {
-            let end = end_told(alloc, &run.end)?;
-            let cost = run.cost;
-            format!(in alloc; "{end}, {cost}")
-        }
-        Err(fault) => Ok(fault),
-    }
+// How a run stopped, and what its last segment costs.
+fn with_cost(alloc: Global, run: &Rerun) -> Result<String, AllocError> {
+    let end = end_told(alloc, &run.end)?;
+    let cost = run.cost;
+    format!(in alloc; "{end}, {cost}")
 }
 
 // An effect on a number.
@@ -189,14 +159,6 @@ fn with_effects(alloc: Global, run: &Rerun) -> Result<String, AllocError> {
     Ok(told)
 }
 
-/// How a run stops, and the effects of its last segment.
-pub fn effects_of(alloc: Global, row: &str) -> Result<String, AllocError> {
-    match ran(alloc, row)? {
-        Ok(run) => with_effects(alloc, &run),
-        Err(fault) => Ok(fault),
-    }
-}
-
 // Names of transactions.
 fn names_told(alloc: Global, names: &[TxName]) -> Result<String, AllocError> {
     let mut told = String::new(alloc);
@@ -208,15 +170,29 @@ fn names_told(alloc: Global, names: &[TxName]) -> Result<String, AllocError> {
     Ok(told)
 }
 
-/// The transactions that are open where a run stops, and those that its last segment left.
-pub fn names_of(alloc: Global, row: &str) -> Result<String, AllocError> {
-    match ran(alloc, row)? {
-        Ok(run) => {
-            let entered = names_told(alloc, run.entered.as_slice())?;
-            let left = names_told(alloc, run.left.as_slice())?;
-            format!(in alloc; "open{entered}, left{left}")
-        }
-        Err(fault) => Ok(fault),
+// The transactions that are open where a run stopped, and those that its last segment left.
+fn transactions_told(alloc: Global, run: &Rerun) -> Result<String, AllocError> {
+    let entered = names_told(alloc, run.entered.as_slice())?;
+    let left = names_told(alloc, run.left.as_slice())?;
+    format!(in alloc; "open{entered}, left{left}")
+}
+
+/// What is asked of a script's run over the answers of a row: how it stops, and with it its cost or its effects, or its
+/// transactions; or the first fault of the script or of the answers. The machine of stored frames comes to the same.
+pub fn run_told(alloc: Global, word: &str, row: &str) -> Result<String, AllocError> {
+    let asked = match question_of(alloc, row)? {
+        Ok(asked) => asked,
+        Err(fault) => return Ok(fault),
+    };
+    if !engines_agree(alloc, &asked)? {
+        return String::from_str(alloc, "the engines differ");
+    }
+    let run = run_over(alloc, &asked.script, asked.answers.as_slice(), asked.fuel)?;
+    match word {
+        "cost" => with_cost(alloc, &run),
+        "effects" => with_effects(alloc, &run),
+        "names" => transactions_told(alloc, &run),
+        _ => end_told(alloc, &run.end),
     }
 }
 
@@ -224,7 +200,7 @@ pub fn names_of(alloc: Global, row: &str) -> Result<String, AllocError> {
 pub fn value_told(alloc: Global, row: &str) -> Result<String, AllocError> {
     let (expression, value) = row.split_once(" <- ").unwrap_or((row, ""));
     let text = format!(in alloc; "(if (equal? {expression} '{value}) \"same\" \"other\")")?;
-    end_of(alloc, text.as_str())
+    run_told(alloc, "run", text.as_str())
 }
 
 // A run whose first segment read these values, and copies of the past and of the run.

@@ -1,18 +1,10 @@
-use crate::runs::question_of;
 use crate::syntax::script_of;
-use crate::twins::chain_of;
+use crate::twins::Chain;
 use frame_codec::{decode, encode, is_spelled, length};
 use script_nodes::Script;
 use script_value::Bytes;
 use std::alloc::{AllocError, Global};
 use stored_states::{Outcome, Suspended};
-
-// A script, and the spelling of what is kept of it at a page.
-#[derive(Drop)]
-struct Kept {
-    script: Script,
-    bytes: Bytes,
-}
 
 /// The spelling of a state, if it has one.
 pub fn spelling(alloc: Global, state: &Suspended) -> Result<Option<Bytes>, AllocError> {
@@ -23,27 +15,19 @@ pub fn spelling(alloc: Global, state: &Suspended) -> Result<Option<Bytes>, Alloc
     }
 }
 
-// What is kept of the script of a row behind its answers, or why nothing is.
-fn kept_at_last(alloc: Global, row: &str) -> Result<Result<Kept, String>, AllocError> {
-    let asked = match question_of(alloc, row)? {
-        Ok(asked) => asked,
-        Err(fault) => return Ok(Err(fault)),
+// The spelling of what is kept at the last page, if there is one, and it is as long as it is said to be.
+fn kept_at_last(alloc: Global, chain: &Chain) -> Result<Option<Bytes>, AllocError> {
+    let Some(Outcome::Shown { state, .. }) = chain.last_stop() else {
+        return Ok(None);
     };
-    let chain = chain_of(alloc, &asked.script, asked.answers.as_slice(), asked.fuel)?;
-    let Some(last) = chain.segments.last() else {
-        return Ok(Err(String::from_str(alloc, "no segment")?));
-    };
-    let Outcome::Shown { state, .. } = &last.machine.outcome else {
-        return Ok(Err(String::from_str(alloc, "no page")?));
-    };
-    let Some(bytes) = spelling(alloc, state)? else {
-        return Ok(Err(String::from_str(alloc, "no spelling")?));
-    };
-    if length(state) != bytes.len() as u64 {
-        return Ok(Err(String::from_str(alloc, "another length")?));
+    match spelling(alloc, state)? {
+        Some(bytes) if length(state) == bytes.len() as u64 => Ok(Some(bytes)),
+        _ => Ok(None),
     }
-    let script = asked.script;
-    Ok(Ok(Kept { script, bytes }))
+}
+
+fn nothing_kept(alloc: Global) -> Result<String, AllocError> {
+    String::from_str(alloc, "no page, no spelling or another length")
 }
 
 /// Bytes as two hexadecimal digits each.
@@ -77,15 +61,15 @@ pub fn bytes_of(alloc: Global, digits: &str) -> Result<Option<Vec<u8>>, AllocErr
     Ok(if high.is_none() { Some(bytes) } else { None })
 }
 
-/// What is kept of a script at the page behind its answers: how many bytes, and these bytes.
-pub fn bytes_told(alloc: Global, row: &str) -> Result<String, AllocError> {
-    match kept_at_last(alloc, row)? {
-        Ok(kept) => {
-            let count = kept.bytes.len();
-            let digits = digits(alloc, kept.bytes.as_slice())?;
+/// What is kept of a script at its last page: how many bytes, and these bytes.
+pub fn bytes_told(alloc: Global, chain: &Chain) -> Result<String, AllocError> {
+    match kept_at_last(alloc, chain)? {
+        Some(kept) => {
+            let count = kept.len();
+            let digits = digits(alloc, kept.as_slice())?;
             format!(in alloc; "{count} {digits}")
         }
-        Err(fault) => Ok(fault),
+        None => nothing_kept(alloc),
     }
 }
 
@@ -154,61 +138,71 @@ impl Counts {
     }
 }
 
-/// How many of the beginnings of a page's state, and of what it is with one byte more, are states.
-pub fn cuts_told(alloc: Global, row: &str) -> Result<String, AllocError> {
-    let kept = match kept_at_last(alloc, row)? {
-        Ok(kept) => kept,
-        Err(fault) => return Ok(fault),
+// Of the beginnings of these bytes, and of what they are with one byte more.
+fn count_cuts(
+    alloc: Global,
+    script: &Script,
+    kept: &[u8],
+    counts: &mut Counts,
+) -> Result<(), AllocError> {
+    let mut front = Vec::new(alloc);
+    for byte in kept {
+        counts.count(reading_of(alloc, script, front.as_slice())?);
+        front.push(*byte)?;
+    }
+    for behind in 0..=255_u8 {
+        front.push(behind)?;
+        counts.count(reading_of(alloc, script, front.as_slice())?);
+        front.pop();
+    }
+    Ok(())
+}
+
+/// How many of the beginnings of the last page's state, and of what it is with one byte more, are states.
+pub fn cuts_told(alloc: Global, script: &Script, chain: &Chain) -> Result<String, AllocError> {
+    let Some(kept) = kept_at_last(alloc, chain)? else {
+        return nothing_kept(alloc);
     };
     let mut counts = Counts {
         states: 0,
         misread: 0,
     };
-    let mut front = Vec::new(alloc);
-    for byte in kept.bytes.as_slice() {
-        counts.count(reading_of(alloc, &kept.script, front.as_slice())?);
-        front.push(*byte)?;
-    }
-    for behind in 0..=255_u8 {
-        front.push(behind)?;
-        counts.count(reading_of(alloc, &kept.script, front.as_slice())?);
-        front.pop();
-    }
+    count_cuts(alloc, script, kept.as_slice(), &mut counts)?;
     counts.told(alloc)
 }
 
 // Counts the changes of the byte at a place.
 fn count_changes(
     alloc: Global,
-    kept: &Kept,
+    script: &Script,
+    kept: &[u8],
     place: usize,
     counts: &mut Counts,
 ) -> Result<(), AllocError> {
-    let mut changed = kept.bytes.as_slice().to_vec(alloc)?;
+    let mut changed = kept.to_vec(alloc)?;
     for value in 0..=255_u8 {
         let Some(byte) = changed.get_mut(place) else {
             return Ok(());
         };
         *byte = value;
-        if changed.as_slice() != kept.bytes.as_slice() {
-            counts.count(reading_of(alloc, &kept.script, changed.as_slice())?);
+        if changed.as_slice() != kept {
+            counts.count(reading_of(alloc, script, changed.as_slice())?);
         }
     }
     Ok(())
 }
 
-/// How many of the changes of one byte of a page's state are states.
-pub fn changes_told(alloc: Global, row: &str) -> Result<String, AllocError> {
-    let kept = match kept_at_last(alloc, row)? {
-        Ok(kept) => kept,
-        Err(fault) => return Ok(fault),
+/// How many of the changes of one byte of the last page's state are states.
+pub fn changes_told(alloc: Global, script: &Script, chain: &Chain) -> Result<String, AllocError> {
+    let Some(kept) = kept_at_last(alloc, chain)? else {
+        return nothing_kept(alloc);
     };
     let mut counts = Counts {
         states: 0,
         misread: 0,
     };
-    for place in 0..kept.bytes.len() {
-        count_changes(alloc, &kept, place, &mut counts)?;
+    for place in 0..kept.len() {
+        count_changes(alloc, script, kept.as_slice(), place, &mut counts)?;
     }
     counts.told(alloc)
 }

@@ -15,7 +15,7 @@ use send_suspend::run_segment;
 use std::alloc::{AllocError, Global};
 use std::marker::Brand;
 use std::sync::ledger::{Blank, Ledger};
-use stored_states::{Origin, Outcome, Segment};
+use stored_states::{Origin, Outcome, Segment, Suspended};
 
 /// The most that a segment may cost, and the most steps that are counted.
 const MOST: u64 = i64::MAX as u64;
@@ -233,6 +233,19 @@ impl Chain {
         })
     }
 
+    /// How the last segment stopped, by the machine.
+    pub fn last_stop(&self) -> Option<&Outcome> {
+        Some(&self.segments.last()?.machine.outcome)
+    }
+
+    /// What is kept at the page that was shown so many pages before the last.
+    pub fn page(&self, before: usize) -> Option<&Suspended> {
+        match &self.segments.iter().rev().nth(before)?.machine.outcome {
+            Outcome::Shown { state, .. } => Some(state),
+            _ => None,
+        }
+    }
+
     // Keeps of a segment what the slow engine is told of it, and what it did to the cells.
     fn note(&mut self, alloc: Global, answer: &Value, segment: &Segment) -> Result<(), AllocError>
         ensures { self.new.from ≡ self.old.from }
@@ -385,13 +398,8 @@ pub fn engines_agree(alloc: Global, asked: &Asked) -> Result<bool, AllocError> {
     )
 }
 
-/// How each segment of a row stops, by both engines.
-pub fn each_told(alloc: Global, row: &str) -> Result<String, AllocError> {
-    let asked = match question_of(alloc, row)? {
-        Ok(asked) => asked,
-        Err(fault) => return Ok(fault),
-    };
-    let chain = chain_of(alloc, &asked.script, asked.answers.as_slice(), asked.fuel)?;
+/// How each segment stops, by both engines.
+pub fn each_told(alloc: Global, chain: &Chain) -> Result<String, AllocError> {
     let mut told = String::new(alloc);
     for (place, twins) in chain.segments.iter().enumerate() {
         if place > 0 {
@@ -402,13 +410,8 @@ pub fn each_told(alloc: Global, row: &str) -> Result<String, AllocError> {
     Ok(told)
 }
 
-/// How many segments a row has, and how the last of them stops, by both engines.
-pub fn last_told(alloc: Global, row: &str) -> Result<String, AllocError> {
-    let asked = match question_of(alloc, row)? {
-        Ok(asked) => asked,
-        Err(fault) => return Ok(fault),
-    };
-    let chain = chain_of(alloc, &asked.script, asked.answers.as_slice(), asked.fuel)?;
+/// How many segments there are, and how the last of them stops, by both engines.
+pub fn last_told(alloc: Global, chain: &Chain) -> Result<String, AllocError> {
     let count = chain.segments.len();
     match chain.segments.last() {
         Some(twins) => {
@@ -417,6 +420,27 @@ pub fn last_told(alloc: Global, row: &str) -> Result<String, AllocError> {
         }
         None => String::from_str(alloc, "no segment"),
     }
+}
+
+// How a page goes on with each of these answers, from what was kept there, by both engines.
+fn each_told_behind(
+    alloc: Global,
+    script: &Script,
+    chain: &Chain,
+    answers: &[Value],
+    fuel: u64,
+) -> Result<String, AllocError>
+    requires fits { IfSome chain.now.from (λ f. FitsFrom script.now f) }
+    requires fuel { fuel < 2 ^ 63 }
+{
+    let mut told = String::new(alloc);
+    for (place, answer) in answers.iter().enumerate() {
+        if place > 0 {
+            told.push_str("; ")?;
+        }
+        told.push_str(told_behind(alloc, script, chain, answer, fuel)?.as_str())?;
+    }
+    Ok(told)
 }
 
 // How a page goes on with this answer, by both engines.
@@ -444,12 +468,5 @@ pub fn again_told(alloc: Global, row: &str) -> Result<String, AllocError> {
     };
     let fuel = asked.fuel.min(MOST);
     let chain = chain_of(alloc, &asked.script, &[], fuel)?;
-    let mut told = String::new(alloc);
-    for (place, answer) in asked.answers.iter().enumerate() {
-        if place > 0 {
-            told.push_str("; ")?;
-        }
-        told.push_str(told_behind(alloc, &asked.script, &chain, answer, fuel)?.as_str())?;
-    }
-    Ok(told)
+    each_told_behind(alloc, &asked.script, &chain, asked.answers.as_slice(), fuel)
 }
