@@ -1,9 +1,9 @@
 #!/bin/sh
-# Times the journal on this folder's disk, or in the folder that the first word names. First how many visits a second are
-# published, by `play --journal` over 5,000 steps that each leave a record, beside a bare loop of write, sync, write, sync of
-# as many bytes a round (sync_loop.c, by `cc -O2`); the better of three runs of each, in turn. Then how long `serve` takes
-# from its start until it listens, over journals of 10,000 and of 20,000 records, and how many bytes a record has. No part
-# of the gate. Needs cc, and a date that knows %N.
+# Times the journal on this folder's disk, or in the folder that the first word names. First how many visits a second there
+# are in `play --journal` over 5,000 steps that each leave a record, and how many publishes: these are timed without what the
+# same steps take in memory. Beside both, a bare loop of write, sync, write, sync of as many bytes a round (sync_loop.c, by
+# `cc -O2`); the best of five runs of each, in turn. Then how long `serve` takes from its start until it listens, over journals
+# of 10,000 and of 20,000 records, and how many bytes a record has. No part of the gate. Needs cc, and a date that knows %N.
 
 here=$(CDPATH='' cd -- "$(dirname -- "$0")/.." && pwd) || exit 1
 program=$here/crates/script_server/out/script_server
@@ -41,33 +41,47 @@ steps() {
         }'
 }
 
+# The microseconds that the steps take, with the journal in this folder, or in memory where it is `-`.
 played() {
     rm -rf "$work/journal"
-    before=$(milliseconds)
-    "$program" play --instances 4096 --life 1 --journal "$work/journal" <"$work/steps" >"$work/replies" || fail "play ended badly"
-    took=$(($(milliseconds) - before))
+    before=$(($(date +%s%N) / 1000))
+    "$program" play --instances 4096 --life 1 --journal "$1" <"$work/steps" >"$work/replies" 2>"$work/told" || fail "play ended badly"
+    took=$(($(date +%s%N) / 1000 - before))
     grep -q -v '^[0-9]* 200\|^<\|^$\|^shelf' "$work/replies" && fail "a visit was refused: $(grep -m 1 -v '^[0-9]* 200\|^<\|^$\|^shelf' "$work/replies")"
-    echo $((5000 * 1000 / (took + 1)))
+    echo "$took"
 }
 
-better() {
+greater() {
     [ "$1" -gt "$2" ] && echo "$1" || echo "$2"
+}
+
+less() {
+    [ "$1" -lt "$2" ] && echo "$1" || echo "$2"
+}
+
+# Runs of 5,000 rounds a second, where they took so many microseconds.
+rounds() {
+    echo $((5000 * 1000000 / $1))
 }
 
 "$here/hovgyelit" check -- "$here/examples/sum.scm" >/dev/null || exit 1
 cc -O2 -o "$work/loop" "$here/bench/sync_loop.c" || exit 1
 steps 5000 >"$work/steps"
-ours=0 bare=0
-for turn in 1 2 3; do
-    ours=$(better "$(played)" "$ours")
+kept=1000000000 memory=1000000000 bare=0
+for turn in 1 2 3 4 5; do
+    kept=$(less "$(played "$work/journal")" "$kept")
     bytes=$((($(wc -c <"$work/journal/shelf-0") + 2500) / 5000))
-    bare=$(better "$("$work/loop" "$work/file" 5000 "$bytes")" "$bare")
+    memory=$(less "$(played -)" "$memory")
+    bare=$(greater "$("$work/loop" "$work/file" 5000 "$bytes")" "$bare")
 done
-echo "published a second: $ours; rounds of a bare loop: $bare ($((ours * 100 / bare)) percent); bytes a record: $bytes"
+visits=$(rounds "$kept")
+publishes=$(rounds $((kept - memory)))
+echo "visits a second: $visits, $(rounds "$memory") in memory; publishes alone: $publishes"
+echo "rounds of a bare loop: $bare (visits $((visits * 100 / bare)) percent, publishes $((publishes * 100 / bare))); bytes a record: $bytes"
 
 for count in 10000 20000; do
     steps "$count" >"$work/steps"
-    played >/dev/null
+    played "$work/journal" >/dev/null
     sed '/^steps$/,$d' "$work/steps" >"$work/setup"
     before=$(milliseconds)
     "$program" serve --port 0 --instances 4096 --life 1 --journal "$work/journal" <"$work/setup" >/dev/null 2>"$work/told" &
