@@ -59,7 +59,7 @@ less() {
     [ "$1" -lt "$2" ] && echo "$1" || echo "$2"
 }
 
-# Runs of 5,000 rounds a second, where they took so many microseconds.
+# How many rounds a second there were, where 5,000 took so many microseconds.
 rounds() {
     echo $((5000 * 1000000 / $1))
 }
