@@ -1,6 +1,7 @@
 -- The names of forms and operations.
 use Rattle.std.specs.Prelude.{ℕ, List, Option, Some, None, codes, if◌then◌else◌}
 use Rattle.std.specs.Str.{bytes_eq}
+use Rattle.std.specs.Option.{option_or}
 use Rattle.script_value.specs.declared.outcome.Op.TheVariants as op
 use Rattle.script_nodes.specs.declared.script.SendKind.TheVariants.{Suspend, Forward}
 use Rattle.core_syntax.specs.declared.heads.Head.{Head}
@@ -9,9 +10,9 @@ use Rattle.core_syntax.specs.declared.heads.CellKind.TheVariants.{Web, Instance}
 use Rattle.core_syntax.specs.declared.heads.Store.TheVariants.{Shadow, Set, Add}
 use Rattle.core_syntax.specs.declared.heads.LastPage.TheVariants.{Finish, Back}
 
--- the form or the operation of a name at the head of a list
-unfoldable pub head_of : List ℕ → Option Head
-head_of s =
+-- the forms of the language
+unfoldable pub syntax_of : List ℕ → Option Head
+syntax_of s =
     if bytes_eq s (codes "quote") then Some head.Quote else
     if bytes_eq s (codes "quasiquote") then Some head.Quasiquote else
     if bytes_eq s (codes "let") then Some head.Let else
@@ -22,6 +23,11 @@ head_of s =
     if bytes_eq s (codes "and") then Some head.And else
     if bytes_eq s (codes "or") then Some head.Or else
     if bytes_eq s (codes "for/list") then Some head.For else
+    if bytes_eq s (codes "define") then Some head.Define else None
+
+-- the forms that read or change cells, or send pages
+unfoldable pub page_form_of : List ℕ → Option Head
+page_form_of s =
     if bytes_eq s (codes "web-cell-ref") then Some (head.Ref Web) else
     if bytes_eq s (codes "web-cell-shadow") then Some (head.Store Shadow) else
     if bytes_eq s (codes "instance-cell-ref") then Some (head.Ref Instance) else
@@ -31,8 +37,11 @@ head_of s =
     if bytes_eq s (codes "send/forward") then Some (head.Send Forward) else
     if bytes_eq s (codes "send/finish") then Some (head.Last Finish) else
     if bytes_eq s (codes "send/back") then Some (head.Last Back) else
-    if bytes_eq s (codes "isolate") then Some head.Isolate else
-    if bytes_eq s (codes "define") then Some head.Define else
+    if bytes_eq s (codes "isolate") then Some head.Isolate else None
+
+-- the operations on numbers, and the tests of what a value is
+unfoldable pub number_operation_of : List ℕ → Option Head
+number_operation_of s =
     if bytes_eq s (codes "+") then Some (head.Apply op.Add) else
     if bytes_eq s (codes "*") then Some (head.Apply op.Multiply) else
     if bytes_eq s (codes "-") then Some (head.Apply op.Subtract) else
@@ -50,7 +59,11 @@ head_of s =
     if bytes_eq s (codes "symbol?") then Some (head.Apply op.IsSymbol) else
     if bytes_eq s (codes "boolean?") then Some (head.Apply op.IsBoolean) else
     if bytes_eq s (codes "list?") then Some (head.Apply op.IsList) else
-    if bytes_eq s (codes "null?") then Some (head.Apply op.IsNull) else
+    if bytes_eq s (codes "null?") then Some (head.Apply op.IsNull) else None
+
+-- the operations on lists, texts and answers
+unfoldable pub data_operation_of : List ℕ → Option Head
+data_operation_of s =
     if bytes_eq s (codes "list") then Some (head.Apply op.List) else
     if bytes_eq s (codes "cons") then Some (head.Apply op.Cons) else
     if bytes_eq s (codes "car") then Some (head.Apply op.Car) else
@@ -69,3 +82,7 @@ head_of s =
     if bytes_eq s (codes "extract-binding/single") then Some (head.Apply op.ExtractBindingSingle) else
     if bytes_eq s (codes "extract-bindings") then Some (head.Apply op.ExtractBindings) else
     if bytes_eq s (codes "exists-binding?") then Some (head.Apply op.ExistsBinding) else None
+
+-- the form or the operation of a name at the head of a list
+abbrev pub head_of : List ℕ → Option Head
+head_of s = option_or (option_or (syntax_of s) (page_form_of s)) (option_or (number_operation_of s) (data_operation_of s))

@@ -1,5 +1,5 @@
 ghost use Rattle.std.specs.Prelude.{◌≡◌};
-ghost use Rattle.core_syntax.specs.Heads.{head_of};
+ghost use Rattle.core_syntax.specs.Heads.{head_of, syntax_of, page_form_of, number_operation_of, data_operation_of};
 
 use script_nodes::SendKind;
 use script_value::Op;
@@ -59,10 +59,10 @@ pub enum Head {
     Apply(Op),
 }
 
-/// The form or the operation of a name.
-#[tactic(auto, unfolding(crate::specs::Heads::head_of))]
-pub fn head_of(name: &str) -> Option<Head>
-    ensures { result ≡ head_of name.now }
+// The form of the language that a name begins.
+#[tactic(auto, unfolding(crate::specs::Heads::syntax_of))]
+fn syntax_of(name: &str) -> Option<Head>
+    ensures { result ≡ syntax_of name.now }
 {
     match name {
         "quote" => Some(Head::Quote),
@@ -75,6 +75,17 @@ pub fn head_of(name: &str) -> Option<Head>
         "and" => Some(Head::And),
         "or" => Some(Head::Or),
         "for/list" => Some(Head::For),
+        "define" => Some(Head::Define),
+        _ => None,
+    }
+}
+
+// The form of a name that reads or changes cells, or sends a page.
+#[tactic(auto, unfolding(crate::specs::Heads::page_form_of))]
+fn page_form_of(name: &str) -> Option<Head>
+    ensures { result ≡ page_form_of name.now }
+{
+    match name {
         "web-cell-ref" => Some(Head::Ref(CellKind::Web)),
         "web-cell-shadow" => Some(Head::Store(Store::Shadow)),
         "instance-cell-ref" => Some(Head::Ref(CellKind::Instance)),
@@ -85,7 +96,16 @@ pub fn head_of(name: &str) -> Option<Head>
         "send/finish" => Some(Head::Last(LastPage::Finish)),
         "send/back" => Some(Head::Last(LastPage::Back)),
         "isolate" => Some(Head::Isolate),
-        "define" => Some(Head::Define),
+        _ => None,
+    }
+}
+
+// The operation of a name on numbers, or its test of what a value is.
+#[tactic(auto, unfolding(crate::specs::Heads::number_operation_of))]
+fn number_operation_of(name: &str) -> Option<Head>
+    ensures { result ≡ number_operation_of name.now }
+{
+    match name {
         "+" => Some(Head::Apply(Op::Add)),
         "*" => Some(Head::Apply(Op::Multiply)),
         "-" => Some(Head::Apply(Op::Subtract)),
@@ -104,6 +124,16 @@ pub fn head_of(name: &str) -> Option<Head>
         "boolean?" => Some(Head::Apply(Op::IsBoolean)),
         "list?" => Some(Head::Apply(Op::IsList)),
         "null?" => Some(Head::Apply(Op::IsNull)),
+        _ => None,
+    }
+}
+
+// The operation of a name on lists, texts or answers.
+#[tactic(auto, unfolding(crate::specs::Heads::data_operation_of))]
+fn data_operation_of(name: &str) -> Option<Head>
+    ensures { result ≡ data_operation_of name.now }
+{
+    match name {
         "list" => Some(Head::Apply(Op::List)),
         "cons" => Some(Head::Apply(Op::Cons)),
         "car" => Some(Head::Apply(Op::Car)),
@@ -124,4 +154,13 @@ pub fn head_of(name: &str) -> Option<Head>
         "exists-binding?" => Some(Head::Apply(Op::ExistsBinding)),
         _ => None,
     }
+}
+
+/// The form or the operation of a name.
+pub fn head_of(name: &str) -> Option<Head>
+    ensures { result ≡ head_of name.now }
+{
+    syntax_of(name)
+        .or(page_form_of(name))
+        .or(number_operation_of(name).or(data_operation_of(name)))
 }
