@@ -181,18 +181,27 @@ all_weaker : (P Q : ℕ → Type 0) (ps : List ℕ) → ((p : ℕ) → P p → Q
 all_weaker P Q [] f h = tt
 all_weaker P Q (p ∷ ps) f h = (f p h.0, all_weaker P Q ps f h.1)
 
--- the parts of a node stand behind it
-pub behind : (a : Arena) → IsScript a → (n : ℕ) (x : Option Node) → slice_get a.nodes n ≡ x → AllByRecursion (IsBehind n (length a.nodes)) (parts (unwrap_or x (node.Lit (Truth false))))
-behind a i n None e = tt
-behind a i n (Some x) e = parts_behind a i n x e
+-- the parts of each node stand behind it
+abbrev pub AreBehind : Arena → Type 0
+AreBehind a = (n : ℕ) (x : Node) → slice_get a.nodes n ≡ Some x → AllByRecursion (IsBehind n (length a.nodes)) (parts x)
 
-pub good : (a : Arena) → IsScript a → (k n : ℕ) → length a.nodes ≤ k + n → Good a n
+parts_of : (a : Arena) → AreBehind a → (n : ℕ) (x : Option Node) → slice_get a.nodes n ≡ x → AllByRecursion (IsBehind n (length a.nodes)) (parts (unwrap_or x (node.Lit (Truth false))))
+parts_of a i n None e = tt
+parts_of a i n (Some x) e = i n x e
+
+pub behind : (a : Arena) → IsScript a → (n : ℕ) (x : Option Node) → slice_get a.nodes n ≡ x → AllByRecursion (IsBehind n (length a.nodes)) (parts (unwrap_or x (node.Lit (Truth false))))
+behind a i n x e = parts_of a (parts_behind a i) n x e
+
+good : (a : Arena) → AreBehind a → (k n : ℕ) → length a.nodes ≤ k + n → Good a n
 good a i zero n h fs l env s =
     by_next a (visit n) env fs s (node_ends a n (node_at a n) refl
-    (all_weaker (IsBehind n (length a.nodes)) (Good a) (parts (node_at a n)) (λ p q. absurd (let x = q.0 in let y = q.1 in omega arith)) (behind a i n (slice_get a.nodes n) refl)) fs l env s)
+    (all_weaker (IsBehind n (length a.nodes)) (Good a) (parts (node_at a n)) (λ p q. absurd (let x = q.0 in let y = q.1 in omega arith)) (parts_of a i n (slice_get a.nodes n) refl)) fs l env s)
 good a i (suc k) n h fs l env s =
     by_next a (visit n) env fs s (node_ends a n (node_at a n) refl
-    (all_weaker (IsBehind n (length a.nodes)) (Good a) (parts (node_at a n)) (λ p q. good a i k p (let x = q.0 in omega arith)) (behind a i n (slice_get a.nodes n) refl)) fs l env s)
+    (all_weaker (IsBehind n (length a.nodes)) (Good a) (parts (node_at a n)) (λ p q. good a i k p (let x = q.0 in omega arith)) (parts_of a i n (slice_get a.nodes n) refl)) fs l env s)
+
+pub nodes_stop : (a : Arena) → AreBehind a → (t : Tape) → Stops a (started a t)
+nodes_stop a i t = good a i (length a.nodes) 0 (omega arith) [] (λ v env s. by_next a (value v) env [] s tt) [] (started a t).state
 
 pub script_stops : (a : Arena) → IsScript a → (t : Tape) → Stops a (started a t)
-script_stops a i t = good a i (length a.nodes) 0 (omega arith) [] (λ v env s. by_next a (value v) env [] s tt) [] (started a t).state
+script_stops a i t = nodes_stop a (parts_behind a i) t

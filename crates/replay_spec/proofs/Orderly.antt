@@ -160,7 +160,7 @@ doubt_fewer b count n c inside here m (inr (inr h)) = inr (inr h)
 pub is_out : (b : Book) (n : ℕ) (c : Change) → Among n b.out → IsOf n c → (m : ℕ) → IsOf m c → Unused b m
 is_out b n c out is_it m h = inl (subst (λ (x : ℕ). Among x b.out) (is_same n m c is_it h) out)
 
-failed : (b : Book) (count n : ℕ) (c : Change) (inside : List TxName) → IsOrderly b → Among n b.out → IsOrderlyChange b.clock b.instances c → IsOf n c
+pub failed : (b : Book) (count n : ℕ) (c : Change) (inside : List TxName) → IsOrderly b → Among n b.out → IsOrderlyChange b.clock b.instances c → IsOf n c
     → Later b (doubting count c inside (spend n b))
 failed b count n c inside g out fits is_it =
     still b (doubting count c inside (spend n b)) g refl refl refl (doubt_fewer b count n c inside (is_out b n c out is_it))
@@ -168,7 +168,7 @@ failed b count n c inside g out fits is_it =
     (λ m h. let e = is_same m n c h is_it in (subst (λ (x : ℕ). x < b.drawn) (sym e) (g.below n out), λ there. (among_spent m n b.out there).1 e))
     g.logged fits
 
-failed_at : (b : Book) (count tick : ℕ) → IsOrderly b → b.clock < tick → Later b (doubting count (sweeps tick) [] b)
+pub failed_at : (b : Book) (count tick : ℕ) → IsOrderly b → b.clock < tick → Later b (doubting count (sweeps tick) [] b)
 failed_at b count tick g later = still b (doubting count (sweeps tick) [] b) g refl refl refl fewer g.below g.different (λ m h. absurd h) g.logged later
   where
     fewer : (m : ℕ) → Unused (doubting count (sweeps tick) [] b) m → Unused b m
@@ -226,7 +226,7 @@ pub published_fewer : (rules : Rules) (b : Book) (n : ℕ) (c : Change) (inside 
 published_fewer rules b n c inside up is_it = landed_fewer b (land rules c inside (spend n b)) c refl up
     (λ m h. let there = among_spent m n b.out h in (inl there.0, λ e. there.1 (is_same m n c e is_it)))
 
-published : (rules : Rules) (b : Book) (n : ℕ) (c : Change) (inside : List TxName) → IsOrderly b → Among n b.out → b.down ≡ None
+pub published : (rules : Rules) (b : Book) (n : ℕ) (c : Change) (inside : List TxName) → IsOrderly b → Among n b.out → b.down ≡ None
     → IsOrderlyChange b.clock b.instances c → IsOf n c → Later b (land rules c inside (spend n b))
 published rules b n c inside g out up fits is_it =
     landed b (land rules c inside (spend n b)) c inside g fits (is_out b n c out is_it) refl refl refl up (published_fewer rules b n c inside up is_it)
@@ -235,7 +235,7 @@ published rules b n c inside g out up fits is_it =
 pub swept_fewer : (rules : Rules) (b : Book) (tick : ℕ) → b.down ≡ None → (m : ℕ) → Unused (land rules (sweeps tick) [] b) m → Unused b m × (IsOf m (sweeps tick) → ⊥)
 swept_fewer rules b tick up = landed_fewer b (land rules (sweeps tick) [] b) (sweeps tick) refl up (λ m h. (inl h, λ e. e))
 
-swept : (rules : Rules) (b : Book) (tick : ℕ) → IsOrderly b → b.clock < tick → b.down ≡ None → Later b (land rules (sweeps tick) [] b)
+pub swept : (rules : Rules) (b : Book) (tick : ℕ) → IsOrderly b → b.clock < tick → b.down ≡ None → Later b (land rules (sweeps tick) [] b)
 swept rules b tick g later up =
     landed b (land rules (sweeps tick) [] b) (sweeps tick) [] g later (λ m e. absurd e) refl refl refl up (swept_fewer rules b tick up) g.below g.different (omega (arith, g.logged))
 
@@ -247,7 +247,7 @@ kept_fewer rules scripts b doubt =
 pub is_doubted : (b : Book) (doubt : Doubt) → b.down ≡ Some doubt → (m : ℕ) → IsOf m doubt.change → Unused b m
 is_doubted b doubt down m e = inr (inl (subst (IsDoubted m) (sym down) e))
 
-kept : (rules : Rules) (scripts : List Named) (b : Book) (doubt : Doubt) → IsOrderly b → b.down ≡ Some doubt → Later b (reopened_with scripts (land rules doubt.change doubt.inside b))
+pub kept : (rules : Rules) (scripts : List Named) (b : Book) (doubt : Doubt) → IsOrderly b → b.down ≡ Some doubt → Later b (reopened_with scripts (land rules doubt.change doubt.inside b))
 kept rules scripts b doubt g down =
     landed b (reopened_with scripts (land rules doubt.change doubt.inside b)) doubt.change doubt.inside g (subst (IsOrderlyDoubt b.clock b.instances) down g.doubt)
     (is_doubted b doubt down) refl refl refl refl (kept_fewer rules scripts b doubt) (λ m h. absurd h) tt (omega arith)
