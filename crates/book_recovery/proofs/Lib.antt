@@ -1,4 +1,3 @@
-pub mod Claimed
-pub mod Replayed
+pub mod Retold
 pub mod Made
 pub mod Took

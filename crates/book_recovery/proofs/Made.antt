@@ -1,5 +1,5 @@
 -- What a reader of records makes.
-use Rattle.std.proofs.Common.{◌≡◌, ◌∙◌, ap, sym, subst, ℕ, ◌+◌, ◌≤◌, ◌<◌, ◌^◌, ◌==◌, max, Bool, true, false, List, [], ◌∷◌, length, Option, Some, None, if◌then◌else◌, refl, arith, inl, inr}
+use Rattle.std.proofs.Common.{◌≡◌, ◌∙◌, ap, sym, subst, ℕ, ◌+◌, ◌≤◌, ◌^◌, ◌==◌, max, Bool, true, false, List, [], ◌∷◌, length, Option, Some, None, if◌then◌else◌, refl, arith, inl, inr}
 use Rattle.std.proofs.lemmas.Bool.Decides.{nat_tests}
 use Rattle.script_value.specs.declared.outcome.TxName.{TxName}
 use Rattle.script_nodes.specs.Setup.{Named}
@@ -7,34 +7,42 @@ use Rattle.replay_spec.specs.Book.{Change, opens, extends, ends, finishes, sweep
 use Rattle.replay_spec.specs.Rules.{Rules}
 use Rattle.replay_spec.specs.Change.{logged_by, longer_by, put_in_order}
 use Rattle.replay_spec.specs.Admission.{is_one}
-use Rattle.replay_spec.specs.Recovery.{Made, nothing_made, number_in, is_repeated, with_number, remade, taken_in, redone, redo}
+use Rattle.replay_spec.specs.Recovery.{Made, nothing_made, number_in, is_repeated, with_number, redone}
 use Rattle.replay_spec.specs.Invariant.{Among}
 use Rattle.replay_spec.specs.Remade.{IsOrderlyMade}
 use Rattle.replay_spec.proofs.Stand.{orderly_less}
 use Rattle.replay_spec.proofs.Recovered.{made_orderly}
+use Rattle.machine_spec.specs.Machine.{inside_of}
 use Rattle.instance_book.specs.declared.numbered.Numbered.{Numbered}
 use Rattle.instance_book.specs.declared.in_order.InOrder.{InOrder}
 use Rattle.instance_book.specs.declared.book.Book as kept
 use Rattle.instance_book.specs.Orders.{numbers_of}
-use Rattle.instance_book.specs.Makes.{HasItsStates}
+use Rattle.instance_book.specs.Makes.{HasPlaces, HasItsStates}
 use Rattle.instance_book.specs.Swept.{IsEmpty}
-use Rattle.instance_book.specs.Told.{no_rules, book_beside, Counts, IsReopened}
-use Rattle.journal_records.specs.Records.{Record, begins, changes, ChangeFits, IsInGrammar, body_of, begin_of, texts_of, record_length, begun_length}
+use Rattle.instance_book.specs.Told.{no_rules, book_beside, IsReopened}
+use Rattle.journal_records.specs.Records.{Record, begins, changes, ChangeFits, IsInGrammar, body_of, begin_of, texts_of, begun_length}
 use Rattle.journal_records.specs.Reading.{read_record}
-use Rattle.journal_records.specs.Laws.{AreRecordsExact, IsBodyOf}
-use Rattle.journal_books.specs.Making.{Making, made, damaged, rules_over, first_by, next_by, with_body}
+use Rattle.journal_records.specs.Laws.{IsBodyOf}
+use Rattle.journal_books.specs.Retaking.{Told, unread, misread, told, script_for, told_by, held, landing, rules_for, retaken}
+use Rattle.journal_books.specs.Making.{Making, made, damaged, rules_over, has_script, first_by, told_next, next_by, with_body}
+use Rattle.journal_books.specs.Owning.{IsOwnRecord}
 use Rattle.journal_books.specs.Laws.{OnlyItsBeginBegins}
-use Rattle.book_recovery.specs.Remaking.{IsReadyFor, IsMadeBy, number_by}
-use Rattle.book_recovery.specs.Reading.{seen_by, made_in, IsUnderWay, IsMadeAnew, IsRedoneBy, Sees, is_later, IsMadeAs, IsNothing}
+use Rattle.journal_books.proofs.Retaken.{retaken_orderly}
+use Rattle.book_recovery.specs.Remaking.{told_in, is_read, names_told, IsFree, IsMadeBy, number_by}
+use Rattle.book_recovery.specs.Reading.{seen_by, made_in, IsUnderWay, IsRedoneBy, Sees, SeesNumber, is_later, IsMadeAs, IsNothing}
 
 -- ---- how many numbers records count
 
-logged_low : (c : Change) → ChangeFits c → logged_by c ≤ 2 ^ 62
-logged_low (opens o) fits = let low = fits.ticket in omega (arith, low)
-logged_low (extends x) fits = let low = fits.ticket in omega (arith, low)
-logged_low (ends e) fits = let low = fits.ticket in omega (arith, low)
-logged_low (finishes f) fits = let low = fits.ticket in omega (arith, low)
-logged_low (sweeps tick) fits = omega arith
+logged_low : (c : Change) (state : Option (List ℕ)) → ChangeFits c state → logged_by c ≤ 2 ^ 62
+logged_low (opens o) None fits = absurd fits
+logged_low (opens o) (Some s) fits = let low = fits.ticket in omega (arith, low)
+logged_low (extends x) None fits = absurd fits
+logged_low (extends x) (Some s) fits = let low = fits.ticket in omega (arith, low)
+logged_low (ends e) None fits = let low = fits.ticket in omega (arith, low)
+logged_low (ends e) (Some s) fits = absurd fits
+logged_low (finishes f) None fits = let low = fits.ticket in omega (arith, low)
+logged_low (finishes f) (Some s) fits = absurd fits
+logged_low (sweeps tick) state fits = omega arith
 
 redone_logged : (rules : Rules) (c : Change) (o : Option (List TxName)) (b : Book) → (redone rules c o b).logged ≡ max b.logged (logged_by c)
 redone_logged rules c None b = refl
@@ -44,16 +52,36 @@ redone_shelf : (rules : Rules) (c : Change) (o : Option (List TxName)) (b : Book
 redone_shelf rules c None b = refl
 redone_shelf rules c (Some names) b = refl
 
-pub low_logged : (scripts : List Named) (r : Record) (old new : kept.Book) → IsInGrammar r → IsMadeBy scripts r old new → old.logged ≤ 2 ^ 62 → new.logged ≤ 2 ^ 62
-low_logged scripts (begins shelf named) old new fits h low = let e = ap (λ (b : Book). b.logged) (h 0) in omega (arith, e, low)
-low_logged scripts (changes c) old new fits h low =
+pub low_logged : (scripts : List Named) (r : Record) (seen : Bool) (old new : kept.Book) → IsInGrammar r → IsMadeBy scripts r seen true old new → old.logged ≤ 2 ^ 62 → new.logged ≤ 2 ^ 62
+low_logged scripts (begins shelf named) seen old new fits h low = let e = ap (λ (b : Book). b.logged) (h 0) in omega (arith, e, low)
+low_logged scripts (changes c state) seen old new fits h low =
     let b = book_beside scripts 0 old in
-    let e : new.logged ≡ max old.logged (logged_by c) = ap (λ (x : Book). x.logged) (h 0) ∙ redone_logged no_rules c (remade b c) b in
-    omega (arith, e, low, logged_low c fits)
+    let e : new.logged ≡ max old.logged (logged_by c) =
+    ap (λ (x : Book). x.logged) (h.book refl 0) ∙ redone_logged no_rules c (names_told seen b c (told_in scripts old c state)) b in
+    omega (arith, e, low, logged_low c state fits)
 
-pub made_anew : (scripts : List Named) (r : Record) (old mid new : kept.Book) → IsMadeBy scripts r old mid → IsReopened mid new → IsMadeAnew scripts r old new
-made_anew scripts (begins shelf named) old mid new h again = tt
-made_anew scripts (changes c) old mid new h again = λ length. again scripts length ∙ ap (λ (b : Book). reopened b) (h length)
+-- ---- what a record makes
+
+misread_is : (x : Told) → false ≡ is_read x → x ≡ misread
+misread_is unread e = absurd (let no : ⊥ = cc in no)
+misread_is misread e = refl
+misread_is (told d) e = absurd (let no : ⊥ = cc in no)
+
+pub redone_none : (scripts : List Named) (before : InOrder (Unit {0})) (r : Record) (seen : Bool) (old mid : kept.Book) → IsMadeBy scripts r seen false old mid → IsRedoneBy scripts before r old None
+redone_none scripts before (begins shelf named) seen old mid h = tt
+redone_none scripts before (changes c state) seen old mid h = misread_is (told_in scripts old c state) h.read_is
+
+pub redone_some : (scripts : List Named) (before : InOrder (Unit {0})) (r : Record) (seen : Bool) (old mid new : kept.Book) → seen ≡ is_repeated (number_by r) (seen_by before)
+    → IsMadeBy scripts r seen true old mid → IsReopened mid new → IsRedoneBy scripts before r old (Some new)
+redone_some scripts before (begins shelf named) seen old mid new is h again = tt
+redone_some scripts before (changes c state) seen old mid new is h again = record {
+  read = λ bad. let yes : true ≡ false = h.read_is ∙ ap is_read bad in let no : ⊥ = cc in no;
+  made = λ length.
+      let b = book_beside scripts length old in
+      again scripts length
+      ∙ (ap (λ (x : Book). reopened x) (h.book refl length)
+      ∙ ap (λ (t : Bool). reopened (redone no_rules c (names_told t b c (told_in scripts old c state)) b)) is);
+}
 
 -- ---- numbers that were seen
 
@@ -91,50 +119,22 @@ orderly_alike m n book seen h =
       again = h.again;
     })
 
-pub ready : (scripts : List Named) (shelf : ℕ) (seen : InOrder (Unit {0})) (b : kept.Book) (o : Option ℕ) → IsUnderWay scripts shelf seen b
-    → ((n : ℕ) → o ≡ Some n → is_one n (seen_by seen) ≡ false) → IsReadyFor scripts o b
-ready scripts shelf seen b o h free = record {
-  states = h.states;
-  orderly =
-      orderly_less (λ n. Among n (seen_by seen) → ⊥) (λ n. o ≡ Some n) (book_beside scripts 0 b).instances
-      (λ n e there. let yes = among_is n (seen_by seen) there in let no_one = free n e in let not : ⊥ = cc in not) h.orderly.instances;
-}
-
--- ---- a record whose number was seen, and one of a new number
-
-number_logged : (c : Change) (n : ℕ) → number_in c ≡ Some n → logged_by c ≡ n + 1
-number_logged (opens o) n e = let same : o.number ≡ n = cc in ap (λ (k : ℕ). k + 1) same
-number_logged (extends x) n e = let same : x.number ≡ n = cc in ap (λ (k : ℕ). k + 1) same
-number_logged (ends x) n e = let same : x.number ≡ n = cc in ap (λ (k : ℕ). k + 1) same
-number_logged (finishes f) n e = let same : f.number ≡ n = cc in ap (λ (k : ℕ). k + 1) same
-number_logged (sweeps tick) n e = absurd (let not : ⊥ = cc in not)
-
 repeated_is : (o : Option ℕ) (n : ℕ) (seen : List ℕ) → o ≡ Some n → is_repeated o seen ≡ is_one n seen
 repeated_is o n seen e = ap (λ (p : Option ℕ). is_repeated p seen) e
 
-pub seen_before : (scripts : List Named) (seen : InOrder (Unit {0})) (r : Record) (n : ℕ) (old mid new : kept.Book) → number_by r ≡ Some n → is_one n (seen_by seen) ≡ true
-    → Counts n old mid → IsReopened mid new → IsRedoneBy scripts seen r old new
-seen_before scripts seen (begins shelf named) n old mid new number there counts again = tt
-seen_before scripts seen (changes c) n old mid new number there counts again = λ length.
-    let b = book_beside scripts length old in
-    let repeated : is_repeated (number_in c) (seen_by seen) ≡ true = repeated_is (number_in c) n (seen_by seen) number ∙ there in
-    let passed : taken_in (made_in scripts length old seen) c ≡ None = ap (λ (t : Bool). if t then None else remade b c) repeated in
-    again scripts length
-    ∙ (ap (λ (x : Book). reopened x) (counts scripts length None)
-    ∙ (ap (λ (m : ℕ). reopened (record b { logged = max b.logged m })) (sym (number_logged c n number))
-    ∙ ap (λ (o : Option (List TxName)). reopened (redone no_rules c o b)) (sym passed)))
+-- a number that was not seen names nothing that stands
+free : (scripts : List Named) (shelf : ℕ) (before : InOrder (Unit {0})) (b : kept.Book) (o : Option ℕ) → IsUnderWay scripts shelf before b
+    → is_repeated o (seen_by before) ≡ false → IsFree scripts o b
+free scripts shelf before b o h new =
+    orderly_less (λ n. Among n (seen_by before) → ⊥) (λ n. o ≡ Some n) (book_beside scripts 0 b).instances
+    (λ n e there. let yes = among_is n (seen_by before) there in let no_one = sym (repeated_is o n (seen_by before) e) ∙ new in let not : ⊥ = cc in not) h.orderly.instances
 
-new_repeats : (o : Option ℕ) (seen : List ℕ) → ((n : ℕ) → o ≡ Some n → is_one n seen ≡ false) → is_repeated o seen ≡ false
-new_repeats None seen free = refl
-new_repeats (Some n) seen free = free n refl
-
-pub seen_first : (scripts : List Named) (seen : InOrder (Unit {0})) (r : Record) (old new : kept.Book) → ((n : ℕ) → number_by r ≡ Some n → is_one n (seen_by seen) ≡ false)
-    → IsMadeAnew scripts r old new → IsRedoneBy scripts seen r old new
-seen_first scripts seen (begins shelf named) old new free h = tt
-seen_first scripts seen (changes c) old new free h = λ length.
-    let b = book_beside scripts length old in
-    let taken : taken_in (made_in scripts length old seen) c ≡ remade b c = ap (λ (t : Bool). if t then None else remade b c) (new_repeats (number_in c) (seen_by seen) free) in
-    h length ∙ ap (λ (o : Option (List TxName)). reopened (redone no_rules c o b)) (sym taken)
+pub states_then : (scripts : List Named) (shelf : ℕ) (before : InOrder (Unit {0})) (r : Record) (seen read : Bool) (old new : kept.Book) → IsUnderWay scripts shelf before old
+    → seen ≡ is_repeated (number_by r) (seen_by before) → IsMadeBy scripts r seen read old new → IsOwnRecord (book_beside scripts 0 old) (Some r) → HasItsStates scripts old
+    → is_later (length scripts) r ≡ true → HasItsStates scripts new
+states_then scripts shelf before (begins s named) seen read old new way is h own states later = absurd (let not : ⊥ = cc in not)
+states_then scripts shelf before (changes c state) seen read old new way is h own states later =
+    h.states (λ none. free scripts shelf before old (number_in c) way (sym is ∙ none)) own states
 
 -- ---- a later record
 
@@ -152,43 +152,116 @@ lengthened : (rules : Rules) (c : Change) (o : Option (List TxName)) (b : Book)
 lengthened rules c None b = refl
 lengthened rules c (Some names) b = refl
 
-redo_alike : (rules : Rules) (c : Change) (m n : Made) → m.book ≡ n.book → ((k : ℕ) → is_one k m.seen ≡ is_one k n.seen) → (redo rules c m).book ≡ (redo rules c n).book
-redo_alike rules c m n book seen =
-    ap (λ (t : Bool). reopened (redone rules c (if t then None else remade m.book c) m.book)) (repeated_alike (number_in c) m.seen n.seen seen)
-    ∙ ap (λ (b : Book). reopened (redone rules c (if is_repeated (number_in c) n.seen then None else remade b c) b)) book
+landing_alike : (m n : Made) (c : Change) (names : List TxName) → m.book ≡ n.book → ((k : ℕ) → is_one k m.seen ≡ is_one k n.seen) → landing m c names ≡ landing n c names
+landing_alike m n c names book seen =
+    ap (λ (t : Bool). if t then None else held m.book c names) (repeated_alike (number_in c) m.seen n.seen seen)
+    ∙ ap (λ (b : Book). if is_repeated (number_in c) n.seen then None else held b c names) book
 
-pub later_made : AreRecordsExact → (scripts : List Named) (shelf place : ℕ) (body : List ℕ) (r : Record) → read_record body ≡ Some r → IsBodyOf body r → is_later (length scripts) r ≡ true
-    → length body < 2 ^ 63 → (before after : InOrder (Unit {0})) (old new : kept.Book) → IsRedoneBy scripts before r old new → Sees r before after
-    → (m : Making) → IsMadeAs scripts (place + 1) old before m → IsMadeAs scripts (place + 5 + length body + 1) new after (with_body scripts shelf place body m)
-later_made x scripts shelf place body (begins s named) read spelled later small before after old new h sees m is = absurd (let not : ⊥ = cc in not)
-later_made x scripts shelf place body (changes c) read spelled later small before after old new h sees m is =
-    let rules = rules_over scripts shelf in
-    let n = is.whole in
+-- the script of a record does not look at the length of the journal
+pub script_beside : (scripts : List Named) (k l : ℕ) (b : kept.Book) (c : Change) → script_for (book_beside scripts k b) c ≡ script_for (book_beside scripts l b) c
+script_beside scripts k l b (opens o) = refl
+script_beside scripts k l b (extends x) = refl
+script_beside scripts k l b (ends e) = refl
+script_beside scripts k l b (finishes f) = refl
+script_beside scripts k l b (sweeps tick) = refl
+
+told_there : (scripts : List Named) (k : ℕ) (b : kept.Book) (x : Book) (c : Change) (state : Option (List ℕ)) → x ≡ book_beside scripts k b → told_by (script_for x c) state ≡ told_in scripts b c state
+told_there scripts k b x c state is =
+    ap (λ (y : Book). told_by (script_for y c) state) is ∙ ap (λ (s : Option Named). told_by s state) (script_beside scripts k 0 b c)
+
+-- with these names
+named_made : (scripts : List Named) (place size : ℕ) (c : Change) (names : List TxName) (before after : InOrder (Unit {0})) (old new : kept.Book) (n : Made)
+    → n.book ≡ book_beside scripts (place + 1) old → ((k : ℕ) → is_one k n.seen ≡ is_one k (seen_by before))
+    → (let b = book_beside scripts (place + 1) old in book_beside scripts (place + 1) new ≡ reopened (redone no_rules c (landing (made_in scripts (place + 1) old before) c names) b))
+    → SeesNumber (number_in c) before after
+    → (m : Making) → m ≡ made (retaken size c (landing n c names) n) → IsMadeAs scripts (place + 5 + size + 1) new after m
+named_made scripts place size c names before after old new n book numbers h sees m is =
     let b = book_beside scripts (place + 1) old in
-    let whole = redo rules c n in
-    let size : record_length c ≡ length body = x.measured c spelled.fits (let e = ap length spelled.spelled in omega (arith, e, small)) ∙ sym (ap length spelled.spelled) in
-    let long : longer_by rules.journal b c ≡ place + 5 + length body + 1 = omega (arith, size) in
+    let mine = made_in scripts (place + 1) old before in
+    let o = landing mine c names in
+    let long : place + 1 + (size + 5) ≡ place + 5 + size + 1 = omega arith in
     record {
-      whole = whole;
-      is = ap (with_body scripts shelf place body) is.is ∙ (ap (next_by scripts shelf place n) read ∙ ap (λ (t : Bool). if t then made whole else damaged place) later);
+      whole = retaken size c (landing n c names) n;
+      is = is;
       book =
-          redo_alike rules c n (made_in scripts (place + 1) old before) is.book is.numbers
-          ∙ (lengthened rules c (taken_in (made_in scripts (place + 1) old before) c) b
-          ∙ (ap (λ (y : Book). record y { length = longer_by rules.journal b c }) (sym (h (place + 1)))
-          ∙ ap (λ (l : ℕ). book_beside scripts l new) long));
-      numbers = λ k. with_alike (number_in c) n.seen (seen_by before) is.numbers k ∙ sym (sees k);
+          ap (λ (p : Option (List TxName)). reopened (redone (rules_for size) c p n.book)) (landing_alike n mine c names book numbers)
+          ∙ (ap (λ (x : Book). reopened (redone (rules_for size) c o x)) book
+          ∙ (lengthened (rules_for size) c o b
+          ∙ (ap (λ (y : Book). record y { length = place + 1 + (size + 5) }) (sym h)
+          ∙ ap (λ (l : ℕ). book_beside scripts l new) long)));
+      numbers = λ k. with_alike (number_in c) n.seen (seen_by before) numbers k ∙ sym (sees k);
     }
+
+told_made : (scripts : List Named) (place size : ℕ) (c : Change) (x : Told) (before after : InOrder (Unit {0})) (old new : kept.Book) (n : Made)
+    → n.book ≡ book_beside scripts (place + 1) old → ((k : ℕ) → is_one k n.seen ≡ is_one k (seen_by before))
+    → (let b = book_beside scripts (place + 1) old in book_beside scripts (place + 1) new ≡ reopened (redone no_rules c (names_told (is_repeated (number_in c) (seen_by before)) b c x) b))
+    → (x ≡ misread → ⊥) → SeesNumber (number_in c) before after
+    → (m : Making) → m ≡ told_next place size n c x → IsMadeAs scripts (place + 5 + size + 1) new after m
+told_made scripts place size c unread before after old new n book numbers h good sees m is = named_made scripts place size c [] before after old new n book numbers h sees m is
+told_made scripts place size c misread before after old new n book numbers h good sees m is = absurd (good refl)
+told_made scripts place size c (told d) before after old new n book numbers h good sees m is =
+    named_made scripts place size c (inside_of d.frames) before after old new n book numbers h sees m is
+
+-- what the body of a record makes of what was made
+next_is : (scripts : List Named) (shelf place : ℕ) (body : List ℕ) (c : Change) (state : Option (List ℕ)) (x : Told) (m : Making) (n : Made) → read_record body ≡ Some (changes c state)
+    → has_script (length scripts) c ≡ true → m ≡ made n → told_by (script_for n.book c) state ≡ x → with_body scripts shelf place body m ≡ told_next place (length body) n c x
+next_is scripts shelf place body c state x m n read later is its =
+    ap (with_body scripts shelf place body) is
+    ∙ (ap (next_by scripts place (length body) n) read
+    ∙ (ap (λ (t : Bool). if t then told_next place (length body) n c (told_by (script_for n.book c) state) else damaged place) later
+    ∙ ap (told_next place (length body) n c) its))
+
+pub later_made : (scripts : List Named) (shelf place : ℕ) (body : List ℕ) (r : Record) → read_record body ≡ Some r → is_later (length scripts) r ≡ true
+    → (before after : InOrder (Unit {0})) (old new : kept.Book) → IsRedoneBy scripts before r old (Some new) → Sees r before after
+    → (m : Making) → IsMadeAs scripts (place + 1) old before m → IsMadeAs scripts (place + 5 + length body + 1) new after (with_body scripts shelf place body m)
+later_made scripts shelf place body (begins s named) read later before after old new h sees m is = absurd (let not : ⊥ = cc in not)
+later_made scripts shelf place body (changes c state) read later before after old new h sees m is =
+    let x = told_in scripts old c state in
+    told_made scripts place (length body) c x before after old new is.whole is.book is.numbers (h.made (place + 1)) h.read sees (with_body scripts shelf place body m)
+    (next_is scripts shelf place body c state x m is.whole read later is.is (told_there scripts (place + 1) old is.whole.book c state is.book))
+
+pub later_damaged : (scripts : List Named) (shelf place : ℕ) (body : List ℕ) (r : Record) → read_record body ≡ Some r → is_later (length scripts) r ≡ true
+    → (before : InOrder (Unit {0})) (old : kept.Book) → IsRedoneBy scripts before r old None
+    → (m : Making) → IsMadeAs scripts (place + 1) old before m → with_body scripts shelf place body m ≡ damaged place
+later_damaged scripts shelf place body (begins s named) read later before old h m is = absurd (let not : ⊥ = cc in not)
+later_damaged scripts shelf place body (changes c state) read later before old h m is =
+    next_is scripts shelf place body c state misread m is.whole read later is.is (told_there scripts (place + 1) old is.whole.book c state is.book ∙ h)
+
+-- a book that was made goes on to be orderly, whatever its journal's length is
+relength : (m : Made) (l : ℕ) → IsOrderlyMade m → IsOrderlyMade (record m { book = record m.book { length = l } })
+relength m l h = record { instances = h.instances; counted = h.counted; again = ap (λ (b : Book). record b { length = l }) h.again }
+
+shortened : (c : Change) (o : Option (List TxName)) (b : Book) → reopened (redone no_rules c o b) ≡ record (reopened (redone (rules_for 0) c o b)) { length = b.length }
+shortened c None b = refl
+shortened c (Some names) b = refl
+
+named_kept : (scripts : List Named) (shelf : ℕ) (c : Change) (names : List TxName) (before after : InOrder (Unit {0})) (old new : kept.Book) → IsUnderWay scripts shelf before old
+    → book_beside scripts 0 new ≡ reopened (redone no_rules c (landing (made_in scripts 0 old before) c names) (book_beside scripts 0 old)) → SeesNumber (number_in c) before after
+    → HasPlaces scripts new → IsUnderWay scripts shelf after new
+named_kept scripts shelf c names before after old new way h sees placed =
+    let m = made_in scripts 0 old before in
+    let o = landing m c names in
+    let whole : Made = retaken 0 c o m in
+    record {
+      placed = placed;
+      shelf_is = ap (λ (b : Book). b.shelf) h ∙ (redone_shelf no_rules c o m.book ∙ way.shelf_is);
+      orderly =
+          orderly_alike (made_in scripts 0 new after) (record whole { book = record whole.book { length = 0 } }) (h ∙ shortened c o m.book) sees
+          (relength whole 0 (retaken_orderly 0 c names m way.orderly));
+    }
+
+told_kept : (scripts : List Named) (shelf : ℕ) (c : Change) (x : Told) (before after : InOrder (Unit {0})) (old new : kept.Book) → IsUnderWay scripts shelf before old
+    → book_beside scripts 0 new ≡ reopened (redone no_rules c (names_told (is_repeated (number_in c) (seen_by before)) (book_beside scripts 0 old) c x) (book_beside scripts 0 old))
+    → (x ≡ misread → ⊥) → SeesNumber (number_in c) before after → HasPlaces scripts new → IsUnderWay scripts shelf after new
+told_kept scripts shelf c unread before after old new way h good sees placed = named_kept scripts shelf c [] before after old new way h sees placed
+told_kept scripts shelf c misread before after old new way h good sees placed = absurd (good refl)
+told_kept scripts shelf c (told d) before after old new way h good sees placed = named_kept scripts shelf c (inside_of d.frames) before after old new way h sees placed
 
 pub later_kept : (scripts : List Named) (shelf : ℕ) (r : Record) → is_later (length scripts) r ≡ true → (before after : InOrder (Unit {0})) (old new : kept.Book) → IsUnderWay scripts shelf before old
-    → IsRedoneBy scripts before r old new → Sees r before after → HasItsStates scripts new → IsUnderWay scripts shelf after new
-later_kept scripts shelf (begins s named) later before after old new way h sees states = absurd (let not : ⊥ = cc in not)
-later_kept scripts shelf (changes c) later before after old new way h sees states =
-    let m = made_in scripts 0 old before in
-    record {
-      states = states;
-      shelf_is = ap (λ (b : Book). b.shelf) (h 0) ∙ (redone_shelf no_rules c (taken_in m c) m.book ∙ way.shelf_is);
-      orderly = orderly_alike (made_in scripts 0 new after) (redo no_rules c m) (h 0) sees ((made_orderly no_rules).1 c m way.orderly);
-    }
+    → IsRedoneBy scripts before r old (Some new) → Sees r before after → HasPlaces scripts new → IsUnderWay scripts shelf after new
+later_kept scripts shelf (begins s named) later before after old new way h sees placed = absurd (let not : ⊥ = cc in not)
+later_kept scripts shelf (changes c state) later before after old new way h sees placed =
+    told_kept scripts shelf c (told_in scripts old c state) before after old new way (h.made 0) h.read sees placed
 
 -- ---- the first record
 
@@ -208,9 +281,9 @@ first_made law scripts shelf place body r read spelled begin b empty seen m is =
       numbers = λ k. ap (is_one k) (sym is.none);
     }
 
-pub first_kept : (scripts : List Named) (shelf : ℕ) (b : kept.Book) → IsEmpty shelf b → HasItsStates scripts b → (seen : InOrder (Unit {0})) → seen_by seen ≡ [] → IsUnderWay scripts shelf seen b
-first_kept scripts shelf b empty states seen none = record {
-  states = states;
+pub first_kept : (scripts : List Named) (shelf : ℕ) (b : kept.Book) → IsEmpty shelf b → HasPlaces scripts b → (seen : InOrder (Unit {0})) → seen_by seen ≡ [] → IsUnderWay scripts shelf seen b
+first_kept scripts shelf b empty placed seen none = record {
+  placed = placed;
   shelf_is = ap (λ (x : Book). x.shelf) (empty scripts no_rules);
   orderly =
       orderly_alike (made_in scripts 0 b seen) (nothing_made no_rules scripts shelf) (empty scripts no_rules) (λ k. ap (is_one k) none) ((made_orderly no_rules).0 scripts shelf);

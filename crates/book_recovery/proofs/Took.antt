@@ -1,26 +1,32 @@
 -- What a reader has made of all records.
-use Rattle.std.proofs.Common.{◌≡◌, ◌∙◌, ap, sym, subst, ℕ, ◌+◌, List, [], ◌∷◌, length, refl, arith, length-append}
+use Rattle.std.proofs.Common.{◌≡◌, ◌∙◌, ap, sym, subst, ℕ, ◌+◌, List, [], ◌∷◌, ◌++◌, length, Option, Some, None, refl, arith, length-append, append_assoc}
 use Rattle.script_nodes.specs.Setup.{Named}
 use Rattle.script_nodes.specs.Views.{scripts_of}
 use Rattle.script_nodes.specs.declared.setup.Setup.{Setup}
 use Rattle.page_journal.specs.Records.{framed, frames, at_rest}
 use Rattle.page_journal.specs.Taken.{TakesAll}
 use Rattle.page_journal.proofs.Frames.{length-framed, length-at_rest}
-use Rattle.replay_spec.specs.Book.{Book, reopened}
+use Rattle.replay_spec.specs.Book.{Change, opens, extends, ends, finishes, sweeps, Book, reopened}
 use Rattle.replay_spec.specs.Invariant.{IsOrderly}
-use Rattle.replay_spec.specs.Remade.{NameTheirCells}
 use Rattle.instance_book.specs.declared.in_order.InOrder.{InOrder}
 use Rattle.instance_book.specs.declared.book.Book as kept
 use Rattle.instance_book.specs.Told.{book_beside}
+use Rattle.journal_records.specs.Records.{Record, begins, changes}
+use Rattle.journal_records.specs.Reading.{read_record}
+use Rattle.journal_books.specs.Retaking.{Told, unread, misread, told, script_for, told_by}
+use Rattle.journal_books.specs.Lengths.{state_by}
 use Rattle.journal_books.specs.Making.{Making, nothing, made, with_body, with_bodies, book_of}
-use Rattle.journal_books.specs.Keeping.{AreAllBytes, AreNamed}
+use Rattle.journal_books.specs.Owning.{IsOwnState, IsOwnRecord, AreOwn}
+use Rattle.journal_books.specs.Keeping.{AreAllBytes, AreWhole, HasWholeScripts}
 use Rattle.journal_books.specs.Spelling.{IsInRange}
 use Rattle.journal_books.specs.Laws.{BodiesMakeFittingBooks}
+use Rattle.journal_books.proofs.Makings.{with_push}
 use Rattle.book_recovery.specs.declared.found.Found.{Found}
 use Rattle.book_recovery.specs.declared.found.Found.TheVariants as found
 use Rattle.book_recovery.specs.declared.reader.Reader.{Reader}
-use Rattle.book_recovery.specs.Found.{Finds, IsFoundInOrder}
-use Rattle.book_recovery.specs.Reading.{seen_by, Gives, IsUnderWay, IsKept, IsTaken}
+use Rattle.book_recovery.specs.Found.{Finds, IsFoundInOrder, HasStates}
+use Rattle.book_recovery.specs.Reading.{seen_by, Gives, IsUnderWay, IsKept, IsOwnFor, IsTaken}
+use Rattle.book_recovery.proofs.Made.{script_beside}
 
 pub all_taken : (setup : Setup) (shelf place : ℕ) (bodies : List (List ℕ)) (old new : Reader) → TakesAll IsTaken old place bodies new → old.setup.now ≡ setup → old.shelf ≡ shelf
     → (m : Making) → Gives (scripts_of setup) (place + 1) old.found old.seen m
@@ -84,26 +90,109 @@ orderly_beside scripts k n b h = record {
   doubt = h.doubt;
 }
 
-pub in_order : BodiesMakeFittingBooks → (scripts : List Named) (shelf : ℕ) (bodies : List (List ℕ)) → AreNamed scripts → AreAllBytes bodies → (n : ℕ) (f : Found) (seen : InOrder (Unit {0}))
+pub in_order : BodiesMakeFittingBooks → (scripts : List Named) (shelf : ℕ) (bodies : List (List ℕ)) → AreWhole scripts → AreAllBytes bodies → (n : ℕ) (f : Found) (seen : InOrder (Unit {0}))
     → IsKept scripts shelf seen f → Gives scripts n f seen (book_of scripts shelf bodies) → IsFoundInOrder scripts shelf f
-in_order law scripts shelf bodies named bytes n found.Nothing seen way is = tt
-in_order law scripts shelf bodies named bytes n (found.Made b) seen way is =
+in_order law scripts shelf bodies whole bytes n found.Nothing seen way is = tt
+in_order law scripts shelf bodies whole bytes n (found.Made b) seen way is =
     let fits = law scripts shelf bodies is.whole is.is in
-    let good = fits.recoverable named in
+    let good = fits.recoverable whole in
     let orderly : IsOrderly (book_beside scripts n b) = subst IsOrderly is.book good.orderly in
-    let cells : NameTheirCells (book_beside scripts n b) = subst NameTheirCells is.book good.named in
+    let scripts_are : HasWholeScripts (book_beside scripts n b) = subst HasWholeScripts is.book good.whole in
     let range : IsInRange (book_beside scripts n b) = subst IsInRange is.book (fits.range bytes) in
     record {
-      states = way.states;
+      placed = way.placed;
       shelf_is = way.shelf_is;
       orderly = λ k. orderly_beside scripts n k b orderly;
-      named = λ k. record { setup = cells.setup; instances = cells.instances };
+      whole = λ k. record { setup = scripts_are.setup; instances = scripts_are.instances };
       range = λ k. record { drawn = range.drawn; clock = range.clock; doubt = range.doubt };
       again = again_at scripts shelf seen b way;
     }
-in_order law scripts shelf bodies named bytes n (found.Damaged place) seen way is = tt
-in_order law scripts shelf bodies named bytes n (found.Other place) seen way is = tt
-in_order law scripts shelf bodies named bytes n found.Memory seen way is = tt
+in_order law scripts shelf bodies whole bytes n (found.Damaged place) seen way is = tt
+in_order law scripts shelf bodies whole bytes n (found.Other place) seen way is = tt
+in_order law scripts shelf bodies whole bytes n found.Memory seen way is = tt
+
+-- ---- where each record is an own one
+
+frames_behind : (front : List (List ℕ)) (body : List ℕ) → length (frames (front ++ body ∷ [])) ≡ length (frames front) + (length body + 5)
+frames_behind [] body = omega (arith, length-append (framed body) [], length-framed body)
+frames_behind (first ∷ front) body =
+    omega (arith, length-append (framed first) (frames (front ++ body ∷ [])), length-append (framed first) (frames front), frames_behind front body)
+
+-- it does not look at the length of the journal
+state_beside : (scripts : List Named) (k l : ℕ) (b : kept.Book) (c : Change) → state_by (book_beside scripts k b) c ≡ state_by (book_beside scripts l b) c
+state_beside scripts k l b (opens o) = refl
+state_beside scripts k l b (extends x) = refl
+state_beside scripts k l b (ends e) = refl
+state_beside scripts k l b (finishes f) = refl
+state_beside scripts k l b (sweeps tick) = refl
+
+own_state_beside : (scripts : List Named) (k l : ℕ) (b : kept.Book) (c : Change) (x : Told) → IsOwnState (book_beside scripts k b) c x → IsOwnState (book_beside scripts l b) c x
+own_state_beside scripts k l b c unread h = tt
+own_state_beside scripts k l b c misread h = tt
+own_state_beside scripts k l b c (told d) h = state_beside scripts l k b c ∙ h
+
+own_beside : (scripts : List Named) (k l : ℕ) (b : kept.Book) (r : Option Record) → IsOwnRecord (book_beside scripts k b) r → IsOwnRecord (book_beside scripts l b) r
+own_beside scripts k l b None h = tt
+own_beside scripts k l b (Some (begins shelf named)) h = tt
+own_beside scripts k l b (Some (changes c state)) h =
+    let same = script_beside scripts k l b c in
+    subst (λ (s : Option Named). IsOwnState (book_beside scripts l b) c (told_by s state)) same
+    (own_state_beside scripts k l b c (told_by (script_for (book_beside scripts k b) c) state) h)
+
+own_found : (scripts : List Named) (shelf n : ℕ) (front rest : List (List ℕ)) (body : List ℕ) (f : Found) (seen : InOrder (Unit {0})) → AreOwn scripts shelf (front ++ body ∷ rest)
+    → Gives scripts n f seen (book_of scripts shelf front) → IsOwnFor scripts f body
+own_found scripts shelf n front rest body found.Nothing seen own is = tt
+own_found scripts shelf n front rest body (found.Made b) seen own is =
+    own_beside scripts n 0 b (read_record body) (subst (λ (x : Book). IsOwnRecord x (read_record body)) is.book (own front rest body is.whole refl is.is))
+own_found scripts shelf n front rest body (found.Damaged place) seen own is = tt
+own_found scripts shelf n front rest body (found.Other place) seen own is = tt
+own_found scripts shelf n front rest body found.Memory seen own is = tt
+
+-- a reader takes one body under its own setup
+one_given : (setup : Setup) (shelf place : ℕ) (body : List ℕ) (old new : Reader) → old.setup.now ≡ setup → old.shelf ≡ shelf → IsTaken old place body new
+    → (m : Making) → Gives (scripts_of setup) (place + 1) old.found old.seen m
+    → Gives (scripts_of setup) (place + 5 + length body + 1) new.found new.seen (with_body (scripts_of setup) shelf place body m)
+one_given setup shelf place body old new same number t m is =
+    let P : Setup → ℕ → Type 0 =
+    λ u k. Gives (scripts_of u) (place + 1) old.found old.seen m → Gives (scripts_of u) (place + 5 + length body + 1) new.found new.seen (with_body (scripts_of u) k place body m) in
+    let mine : P old.setup.now old.shelf = t.gives m in
+    let there : P setup shelf = subst (λ (k : ℕ). P setup k) number (subst (λ (u : Setup). P u old.shelf) same mine) in
+    there is
+
+one_owned : (setup : Setup) (place : ℕ) (body : List ℕ) (old new : Reader) → old.setup.now ≡ setup → IsTaken old place body new
+    → IsOwnFor (scripts_of setup) old.found body → HasStates (scripts_of setup) old.found → HasStates (scripts_of setup) new.found
+one_owned setup place body old new same t =
+    let P : Setup → Type 0 = λ u. IsOwnFor (scripts_of u) old.found body → HasStates (scripts_of u) old.found → HasStates (scripts_of u) new.found in
+    subst P same t.owns
+
+frames_more : (place : ℕ) (front : List (List ℕ)) (body : List ℕ) → place ≡ 8 + length (frames front) → place + 5 + length body ≡ 8 + length (frames (front ++ body ∷ []))
+frames_more place front body at = omega (arith, at, frames_behind front body)
+
+pub all_owned : (setup : Setup) (shelf place : ℕ) (front bodies : List (List ℕ)) (old new : Reader) → TakesAll IsTaken old place bodies new → old.setup.now ≡ setup → old.shelf ≡ shelf
+    → place ≡ 8 + length (frames front) → AreOwn (scripts_of setup) shelf (front ++ bodies)
+    → Gives (scripts_of setup) (place + 1) old.found old.seen (book_of (scripts_of setup) shelf front)
+    → HasStates (scripts_of setup) old.found → HasStates (scripts_of setup) new.found
+all_owned setup shelf place front [] old new t same number at own is states = subst (λ (r : Reader). HasStates (scripts_of setup) r.found) (sym t) states
+all_owned setup shelf place front (body ∷ bodies) old new t same number at own is states =
+    let scripts = scripts_of setup in
+    let mid = t.0 in
+    let here : IsOwnFor scripts old.found body = own_found scripts shelf (place + 1) front bodies body old.found old.seen own is in
+    let given = one_given setup shelf place body old mid same number t.1 (book_of scripts shelf front) is in
+    let pushed : with_body scripts shelf place body (book_of scripts shelf front) ≡ book_of scripts shelf (front ++ body ∷ []) =
+    ap (λ (p : ℕ). with_body scripts shelf p body (book_of scripts shelf front)) at ∙ sym (with_push scripts shelf 8 front body nothing) in
+    let more : front ++ body ∷ bodies ≡ (front ++ body ∷ []) ++ bodies = sym (append_assoc front (body ∷ []) bodies) in
+    let next : place + 5 + length body ≡ 8 + length (frames (front ++ body ∷ [])) = frames_more place front body at in
+    all_owned setup shelf (place + 5 + length body) (front ++ body ∷ []) bodies mid new t.2 (t.1.same.setup ∙ same) (t.1.same.shelf ∙ number) next
+    (subst (AreOwn scripts shelf) more own) (subst (Gives scripts (place + 5 + length body + 1) mid.found mid.seen) pushed given)
+    (one_owned setup place body old mid same t.1 here states)
+
+-- from no record on
+pub owned_of_all : (setup : Setup) (shelf : ℕ) (bodies : List (List ℕ)) (old new : Reader) → old.setup.now ≡ setup → old.shelf ≡ shelf → old.found ≡ found.Nothing → seen_by old.seen ≡ []
+    → TakesAll IsTaken old 8 bodies new → AreOwn (scripts_of setup) shelf bodies → HasStates (scripts_of setup) new.found
+owned_of_all setup shelf bodies old new same number empty none t own =
+    let start : Gives (scripts_of setup) 9 old.found old.seen nothing =
+    subst (λ (f : Found). Gives (scripts_of setup) 9 f old.seen nothing) (sym empty) (record { is = refl; long = refl; none = none }) in
+    all_owned setup shelf 8 [] bodies old new t same number refl own start (subst (HasStates (scripts_of setup)) (sym empty) tt)
 
 -- what was kept of a reader under its own setup
 pub kept_under : (setup : Setup) (shelf : ℕ) (r : Reader) → r.setup.now ≡ setup → r.shelf ≡ shelf → IsKept (scripts_of r.setup.now) r.shelf r.seen r.found

@@ -4,12 +4,12 @@ use Rattle.script_nodes.specs.Setup.{Named}
 use Rattle.replay_spec.specs.Book as spec
 use Rattle.replay_spec.specs.Book.{reopened}
 use Rattle.replay_spec.specs.Invariant.{IsOrderly}
-use Rattle.replay_spec.specs.Remade.{NameTheirCells}
 use Rattle.instance_book.specs.declared.book.Book.{Book}
 use Rattle.instance_book.specs.Views.{book_of}
-use Rattle.instance_book.specs.Makes.{HasItsStates}
+use Rattle.instance_book.specs.Makes.{HasPlaces, HasItsStates}
 use Rattle.journal_books.specs.Making.{Making, nothing, damaged, other}
 use Rattle.journal_books.specs.Standing.{IsBook}
+use Rattle.journal_books.specs.Keeping.{HasWholeScripts}
 use Rattle.journal_books.specs.Spelling.{IsInRange}
 use Rattle.book_recovery.specs.declared.found.Found.{Found}
 use Rattle.book_recovery.specs.declared.found.Found.TheVariants.{Nothing, Made, Damaged, Other, Memory}
@@ -36,15 +36,20 @@ Finds scripts shelf length (Damaged place) making = making ≡ damaged place
 Finds scripts shelf length (Other place) making = making ≡ other place
 Finds scripts shelf length Memory making = ⊤
 
--- a book that a shelf of this number can go on with, whatever the records were: each page has the state of its chain
+-- a book that a shelf of this number can go on with, whatever the records were
 pub record IsBookInOrder (scripts : List Named) (shelf : ℕ) (b : Book) : Type 0 where
-  pub states : HasItsStates scripts b
+  pub placed : HasPlaces scripts b
   pub shelf_is : b.shelf ≡ shelf
   pub orderly : (length : ℕ) → IsOrderly (book_with scripts length b)
-  pub named : (length : ℕ) → NameTheirCells (book_with scripts length b)
+  pub whole : (length : ℕ) → HasWholeScripts (book_with scripts length b)
   pub range : (length : ℕ) → IsInRange (book_with scripts length b)
   pub again : (length : ℕ) → IsReopened (book_with scripts length b)
 
 abbrev pub IsFoundInOrder : List Named → (shelf : ℕ) → Found → Type 0
 IsFoundInOrder scripts shelf (Made b) = IsBookInOrder scripts shelf b
 IsFoundInOrder scripts shelf _ = ⊤
+
+-- each page has the state of its chain
+abbrev pub HasStates : List Named → Found → Type 0
+HasStates scripts (Made b) = HasItsStates scripts b
+HasStates scripts _ = ⊤

@@ -1,4 +1,3 @@
 pub mod Found
-pub mod Claims
 pub mod Remaking
 pub mod Reading

@@ -1,23 +1,27 @@
 -- What a reader of records has made so far.
-use Rattle.std.specs.Prelude.{◌≡◌, ℕ, ◌+◌, Bool, true, false, List, [], length, ⊤}
+use Rattle.std.specs.Prelude.{◌≡◌, ℕ, ◌+◌, Bool, true, false, List, [], length, Option, Some, None, ⊤}
 use Rattle.script_nodes.specs.Setup.{Named}
 use Rattle.script_nodes.specs.Views.{scripts_of}
 use Rattle.value_bytes.specs.Laws.{AreBytes}
-use Rattle.replay_spec.specs.Book.{reopened}
+use Rattle.replay_spec.specs.Book.{Change, reopened}
 use Rattle.replay_spec.specs.Admission.{is_one}
-use Rattle.replay_spec.specs.Recovery.{Made, remade, redone, redo, with_number}
+use Rattle.replay_spec.specs.Recovery.{Made, number_in, is_repeated, redone, with_number}
 use Rattle.replay_spec.specs.Remade.{IsOrderlyMade}
 use Rattle.instance_book.specs.declared.in_order.InOrder.{InOrder}
 use Rattle.instance_book.specs.declared.book.Book.{Book}
 use Rattle.instance_book.specs.Orders.{numbers_of}
-use Rattle.instance_book.specs.Makes.{HasItsStates}
+use Rattle.instance_book.specs.Makes.{HasPlaces}
 use Rattle.instance_book.specs.Told.{no_rules, book_beside}
 use Rattle.journal_records.specs.Records.{Record, begins, changes}
+use Rattle.journal_records.specs.Reading.{read_record}
+use Rattle.journal_books.specs.Retaking.{misread}
 use Rattle.journal_books.specs.Making.{Making, nothing, made, damaged, other, has_script, with_body}
+use Rattle.journal_books.specs.Owning.{IsOwnRecord}
 use Rattle.book_recovery.specs.declared.found.Found.{Found}
 use Rattle.book_recovery.specs.declared.found.Found.TheVariants as found
 use Rattle.book_recovery.specs.declared.reader.Reader.{Reader}
-use Rattle.book_recovery.specs.Remaking.{number_by}
+use Rattle.book_recovery.specs.Found.{HasStates}
+use Rattle.book_recovery.specs.Remaking.{told_in, names_told, number_by}
 
 -- the numbers that were seen
 abbrev pub seen_by : InOrder (Unit {0}) → List ℕ
@@ -27,36 +31,41 @@ seen_by seen = numbers_of seen.things.items
 abbrev pub made_in : List Named → (length : ℕ) → Book → InOrder (Unit {0}) → Made
 made_in scripts length b seen = record { book = book_beside scripts length b; seen = seen_by seen }
 
--- a book that is made: each page has the state of its chain, and it is orderly and as after a crash
+-- a book that is made: each instance is of a script of the setup, and it is orderly and as after a crash
 pub record IsUnderWay (scripts : List Named) (shelf : ℕ) (seen : InOrder (Unit {0})) (b : Book) : Type 0 where
-  pub states : HasItsStates scripts b
+  pub placed : HasPlaces scripts b
   pub shelf_is : b.shelf ≡ shelf
   pub orderly : IsOrderlyMade (made_in scripts 0 b seen)
 
--- a record makes this of the book, as after a crash, where its number was not seen before; and whether it was or not
-abbrev pub IsMadeAnew : List Named → Record → (old new : Book) → Type 0
-IsMadeAnew scripts (begins shelf named) old new = ⊤
-IsMadeAnew scripts (changes c) old new =
-    (length : ℕ)
-    → let b = book_beside scripts length old in book_beside scripts length new ≡ reopened (redone no_rules c (remade b c) b)
+-- A record whose state can be read makes this of the book, as after a crash, where these numbers were seen before it.
+pub record IsRedoneAs (scripts : List Named) (seen : InOrder (Unit {0})) (c : Change) (state : Option (List ℕ)) (old new : Book) : Type 0 where
+  pub read : told_in scripts old c state ≡ misread → ⊥
+  pub made : (length : ℕ)
+      → let b = book_beside scripts length old in
+      book_beside scripts length new
+      ≡ reopened (redone no_rules c (names_told (is_repeated (number_in c) (seen_by seen)) b c (told_in scripts old c state)) b)
 
-abbrev pub IsRedoneBy : List Named → InOrder (Unit {0}) → Record → (old new : Book) → Type 0
+-- where it can't be read there is no book
+abbrev pub IsRedoneBy : List Named → InOrder (Unit {0}) → Record → (old : Book) → Option Book → Type 0
 IsRedoneBy scripts seen (begins shelf named) old new = ⊤
-IsRedoneBy scripts seen (changes c) old new =
-    (length : ℕ) → book_beside scripts length new ≡ (redo no_rules c (made_in scripts length old seen)).book
+IsRedoneBy scripts seen (changes c state) old None = told_in scripts old c state ≡ misread
+IsRedoneBy scripts seen (changes c state) old (Some new) = IsRedoneAs scripts seen c state old new
 
 -- the record's number is seen from then on
+abbrev pub SeesNumber : Option ℕ → (old new : InOrder (Unit {0})) → Type 0
+SeesNumber number old new = (k : ℕ) → is_one k (seen_by new) ≡ is_one k (with_number number (seen_by old))
+
 abbrev pub Sees : Record → (old new : InOrder (Unit {0})) → Type 0
-Sees r old new = (k : ℕ) → is_one k (seen_by new) ≡ is_one k (with_number (number_by r) (seen_by old))
+Sees r old new = SeesNumber (number_by r) old new
 
 -- a record that may follow others, and one that begins a journal
 abbrev pub is_later : (scripts : ℕ) → Record → Bool
 is_later scripts (begins shelf named) = false
-is_later scripts (changes c) = has_script scripts c
+is_later scripts (changes c state) = has_script scripts c
 
 abbrev pub is_begin : Record → Bool
 is_begin (begins shelf named) = true
-is_begin (changes c) = false
+is_begin (changes c state) = false
 
 -- it is this, where the journal is this long: the same numbers were seen
 pub record IsMadeAs (scripts : List Named) (length : ℕ) (b : Book) (seen : InOrder (Unit {0})) (m : Making) : Type 0 where
@@ -98,8 +107,15 @@ pub record IsSameReader (old new : Reader) : Type 0 where
   pub setup : new.setup.now ≡ old.setup.now
   pub shelf : new.shelf ≡ old.shelf
 
+-- the record of this body is an own one of the book
+abbrev pub IsOwnFor : List Named → Found → (body : List ℕ) → Type 0
+IsOwnFor scripts (found.Made b) body = IsOwnRecord (book_beside scripts 0 b) (read_record body)
+IsOwnFor scripts _ body = ⊤
+
 -- a reader takes one body more, which is bytes
 pub record IsTaken (old : Reader) (place : ℕ) (body : List ℕ) (new : Reader) : Type 0 where
   pub same : IsSameReader old new
   pub bytes : AreBytes body
   pub gives : GivesWith (scripts_of old.setup.now) old.shelf place body old.found new.found old.seen new.seen
+  pub owns : IsOwnFor (scripts_of old.setup.now) old.found body → HasStates (scripts_of old.setup.now) old.found
+      → HasStates (scripts_of old.setup.now) new.found

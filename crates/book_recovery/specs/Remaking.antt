@@ -1,29 +1,33 @@
 -- What a record makes of the program's book.
-use Rattle.std.specs.Prelude.{◌≡◌, ℕ, List, map, Option, Some, None}
+use Rattle.std.specs.Prelude.{◌≡◌, ℕ, Bool, true, false, List, [], map, Option, Some, None, if◌then◌else◌}
 use Rattle.script_value.specs.Views.{meaning}
+use Rattle.script_value.specs.declared.outcome.TxName.{TxName}
 use Rattle.script_value.specs.declared.value.Value.{Value}
+use Rattle.script_nodes.specs.Arena.{Arena}
 use Rattle.script_nodes.specs.Setup.{Named}
 use Rattle.instance_cells.specs.Views.{effect_of}
 use Rattle.replay_spec.specs.Book as spec
-use Rattle.replay_spec.specs.Book.{opens, extends}
-use Rattle.replay_spec.specs.Recovery.{remade, redone, number_in}
+use Rattle.replay_spec.specs.Book.{Change}
+use Rattle.replay_spec.specs.Recovery.{redone, number_in}
 use Rattle.replay_spec.specs.Invariant.{AreOrderly}
+use Rattle.machine_spec.specs.Machine.{inside_of}
+use Rattle.stored_states.specs.Views.{suspended_of}
+use Rattle.frame_codec.specs.Spelling.{StateHasBytes}
+use Rattle.frame_codec.specs.Reading.{read_state}
 use Rattle.instance_book.specs.declared.book.Book.{Book}
+use Rattle.instance_book.specs.declared.retold.ToldPage.{ToldPage}
 use Rattle.instance_book.specs.Makes.{HasItsStates}
 use Rattle.instance_book.specs.Told.{no_rules, book_beside}
 use Rattle.journal_records.specs.Records.{Record, begins, changes}
-use Rattle.book_recovery.specs.declared.claim.Claim.{Claim}
+use Rattle.journal_books.specs.Retaking.{Told, unread, misread, told, script_for, told_by, held}
+use Rattle.journal_books.specs.Owning.{IsOwnState}
+use Rattle.book_recovery.specs.declared.remake.Claim.{Claim}
 
--- under this setup the change is made again, or passed over, as recovery decides
-abbrev pub IsRemade : List Named → spec.Change → (old new : Book) → Type 0
-IsRemade scripts c old new =
-    (length : ℕ) → let b = book_beside scripts length old in book_beside scripts length new ≡ redone no_rules c (remade b c) b
-
--- the opening and the extension of a record
-abbrev pub opening_told : (script number nonce : ℕ) → Claim → spec.Change
-opening_told script number nonce c = opens (record {
-  number = number;
-  nonce = nonce;
+-- the change that a claim is of a start, and of an answer to a page
+abbrev pub opening_told : (script : ℕ) → Claim → Change
+opening_told script c = spec.opens (record {
+  number = c.number;
+  nonce = c.nonce;
   script = script;
   effects = map effect_of c.effects.items;
   left = c.left.items;
@@ -31,10 +35,10 @@ opening_told script number nonce c = opens (record {
   deadline = c.deadline;
 })
 
-abbrev pub extension_told : (instance page : ℕ) → Value → (number nonce : ℕ) → Claim → spec.Change
-extension_told instance page answer number nonce c = extends (record {
-  number = number;
-  nonce = nonce;
+abbrev pub extension_told : (instance page : ℕ) → Value → Claim → Change
+extension_told instance page answer c = spec.extends (record {
+  number = c.number;
+  nonce = c.nonce;
   instance = instance;
   page = page;
   answer = meaning answer;
@@ -44,17 +48,50 @@ extension_told instance page answer number nonce c = extends (record {
   deadline = c.deadline;
 })
 
--- each page of the book has its state, and the instances are orderly, where a record's number is one that nothing has
-pub record IsReadyFor (scripts : List Named) (number : Option ℕ) (b : Book) : Type 0 where
-  pub states : HasItsStates scripts b
-  pub orderly : AreOrderly (λ n. number ≡ Some n) (book_beside scripts 0 b).instances
+-- the page is the one that was claimed, with the state that its bytes are for this script, inside the transactions of that state
+pub record IsPageOf (a : Arena) (c : Claim) (p : ToldPage) : Type 0 where
+  pub kind : p.kind ≡ c.kind
+  pub effects : p.effects.items ≡ c.effects.items
+  pub left : p.left.items ≡ c.left.items
+  pub deadline : p.deadline ≡ c.deadline
+  pub state : read_state a c.state ≡ Some (suspended_of p.state)
+  pub bytes : StateHasBytes (suspended_of p.state)
+  pub inside : p.inside.items ≡ inside_of (suspended_of p.state).frames
+
+-- what is told of the state of a record's page
+abbrev pub told_in : List Named → Book → Change → Option (List ℕ) → Told
+told_in scripts b c state = told_by (script_for (book_beside scripts 0 b) c) state
+
+abbrev pub is_read : Told → Bool
+is_read misread = false
+is_read unread = true
+is_read (told d) = true
+
+-- the names that the record lands with, where what is told is its state; none where its number was seen
+abbrev pub names_told : (seen : Bool) → spec.Book → Change → Told → Option (List TxName)
+names_told seen b c unread = if seen then None else held b c []
+names_told seen b c misread = None
+names_told seen b c (told d) = if seen then None else held b c (inside_of d.frames)
+
+-- the number of a record names nothing that stands
+abbrev pub IsFree : List Named → Option ℕ → Book → Type 0
+IsFree scripts number b = AreOrderly (λ n. number ≡ Some n) (book_beside scripts 0 b).instances
+
+-- Whether the state could be read. The record then lands, or is passed over, as recovery decides; else the book is as it was. Where
+-- the state is the one that the script leaves, and the number was seen or names nothing, each page goes on to have its own.
+pub record IsTold (scripts : List Named) (c : Change) (state : Option (List ℕ)) (seen read : Bool) (old new : Book) : Type 0 where
+  pub read_is : read ≡ is_read (told_in scripts old c state)
+  pub book : read ≡ true → (length : ℕ)
+      → let b = book_beside scripts length old in book_beside scripts length new ≡ redone no_rules c (names_told seen b c (told_in scripts old c state)) b
+  pub states : (seen ≡ false → IsFree scripts (number_in c) old) → IsOwnState (book_beside scripts 0 old) c (told_in scripts old c state)
+      → HasItsStates scripts old → HasItsStates scripts new
 
 -- the number of a record
 abbrev pub number_by : Record → Option ℕ
 number_by (begins shelf scripts) = None
-number_by (changes c) = number_in c
+number_by (changes c state) = number_in c
 
 -- what a record makes: the first of a journal is none of a change
-abbrev pub IsMadeBy : List Named → Record → (old new : Book) → Type 0
-IsMadeBy scripts (begins shelf named) old new = (length : ℕ) → book_beside scripts length new ≡ book_beside scripts length old
-IsMadeBy scripts (changes c) old new = IsRemade scripts c old new
+abbrev pub IsMadeBy : List Named → Record → (seen read : Bool) → (old new : Book) → Type 0
+IsMadeBy scripts (begins shelf named) seen read old new = (length : ℕ) → book_beside scripts length new ≡ book_beside scripts length old
+IsMadeBy scripts (changes c state) seen read old new = IsTold scripts c state seen read old new

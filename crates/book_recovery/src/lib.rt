@@ -1,12 +1,11 @@
-//! What the records of a journal make: the book of a shelf, whose scripts are run again.
+//! What the records of a journal make: the book of a shelf, which carry the states of its pages.
 #![tactic(auto)]
 
-mod claim;
 mod found;
 mod read;
 mod reader;
 mod remake;
-mod setup_cells;
+mod setup_scripts;
 mod sound;
 
 pub use found::Found;

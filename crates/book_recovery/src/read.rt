@@ -3,10 +3,11 @@ ghost use Rattle.script_nodes.specs.Views.{scripts_of};
 ghost use Rattle.page_journal.specs.Scanned.{IsQuiet};
 ghost use Rattle.page_journal.specs.Settled.{HasFailed, IsSettled, IsSound, view_of, bodies_in, length_of, is_broken};
 ghost use Rattle.journal_books.specs.Making.{book_of};
-ghost use Rattle.book_recovery.specs.Found.{Finds, IsFoundInOrder};
+ghost use Rattle.book_recovery.specs.Found.{Finds, IsFoundInOrder, HasStates};
+ghost use Rattle.journal_books.specs.Owning.{AreOwn};
 
 use crate::found::Found;
-use crate::setup_cells::each_names_its_cells;
+use crate::setup_scripts::each_is_whole;
 use crate::sound::SoundReader;
 use journal_books::bodies_make_fitting_books;
 use journal_records::records_are_exact;
@@ -17,7 +18,7 @@ use web_disk::Disk;
 
 /// Makes the book that the records of a journal tell of, for a shelf of this number under this setup.
 ///
-/// It reads each record once, and runs the script of each page once, from the state of the page before it. Nothing is written.
+/// It reads each record once, and runs no script: the record of a page has the page's state. Nothing is written.
 /// Where a call of the disk fails, or memory runs out, the journal is as it was.
 pub fn read_book<D: Disk>(
     alloc: Global,
@@ -32,6 +33,9 @@ pub fn read_book<D: Disk>(
         (book_of (scripts_of setup.now) shelf (bodies_in D.view journal.old))) }
     // Also of a disk that does not tell its bytes.
     ensures in_order { IfOk result (λ f. IsFoundInOrder (scripts_of setup.now) shelf f) }
+    // Where each record is an own one, each page has the state of its chain.
+    ensures states { IsTrue D.tells → AreOwn (scripts_of setup.now) shelf (bodies_in D.view journal.old)
+        → IfOk result (HasStates (scripts_of setup.now)) }
     ensures quiet { IsQuiet (view_of D.view journal.old) (view_of D.view journal.new) }
     ensures len { length_of journal.new ≡ length_of journal.old }
     ensures whole { is_broken journal.new ≡ is_broken journal.old }
@@ -42,7 +46,7 @@ pub fn read_book<D: Disk>(
 {
     records_are_exact();
     bodies_make_fitting_books();
-    each_names_its_cells(setup);
+    each_is_whole(setup);
     let mut reader = SoundReader::new(alloc, setup, shelf);
     journal.for_each(&mut reader)?;
     Ok(reader.finish())

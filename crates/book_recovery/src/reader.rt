@@ -1,9 +1,9 @@
-ghost use Rattle.std.specs.Prelude.{◌≡◌, ◌<◌, ◌≤◌, ◌+◌, ◌^◌, length, IfOk, IfSome, OnOk};
+ghost use Rattle.std.specs.Prelude.{◌≡◌, ◌<◌, ◌≤◌, ◌+◌, ◌^◌, length, IfOk, IfSome, OnOk, Some, true};
 ghost use Rattle.script_nodes.specs.Views.{scripts_of};
-ghost use Rattle.instance_book.specs.Makes.{HasItsStates};
+ghost use Rattle.instance_book.specs.Makes.{HasPlaces, HasItsStates};
 ghost use Rattle.journal_records.specs.Records.{IsInGrammar};
 ghost use Rattle.journal_records.specs.Views.{logged_of};
-ghost use Rattle.book_recovery.specs.Remaking.{IsReadyFor, number_by};
+ghost use Rattle.book_recovery.specs.Remaking.{number_by};
 ghost use Rattle.book_recovery.specs.Reading.{is_begin};
 
 use crate::found::Found;
@@ -44,7 +44,11 @@ fn number_of(logged: &Logged) -> Option<u64>
 
 impl Reader<'_> {
     ghost use Rattle.book_recovery.specs.declared.found.Found.TheVariants as found;
-    ghost use Rattle.book_recovery.specs.Reading.{IsUnderWay, IsMadeAnew, IsRedoneBy, Sees, is_later, is_begin, GivesWith, IsKept, IsSoundReader, IsSameReader, IsTaken};
+    ghost use Rattle.book_recovery.specs.Reading.{IsUnderWay, IsRedoneBy, Sees, SeesNumber, is_later, is_begin, GivesWith, IsKept, IsOwnFor, IsSoundReader, IsSameReader, IsTaken, seen_by};
+    ghost use Rattle.book_recovery.specs.Found.{HasStates};
+    ghost use Rattle.replay_spec.specs.Recovery.{is_repeated};
+    ghost use Rattle.journal_books.specs.Owning.{IsOwnRecord};
+    ghost use Rattle.instance_book.specs.Told.{book_beside};
 
     // Whether a record may follow others: it is a change, and a start is of a script of the setup.
     fn is_later(&self, logged: &Logged) -> bool
@@ -62,41 +66,45 @@ impl Reader<'_> {
         }
     }
 
-    // The book where a record of a new number is made again.
-    fn remade(&self, book: Book, logged: Logged) -> Result<Book, AllocError>
-        requires fits { IsInGrammar (logged_of logged) }
-        requires ready { IsReadyFor (scripts_of self.now.setup.now) (number_by (logged_of logged)) book }
-        requires logged { book.logged ≤ 2 ^ 62 }
-        ensures made { IfOk result (λ b. IsMadeAnew (scripts_of self.now.setup.now) (logged_of logged) book b) }
-        ensures states { IfOk result (HasItsStates (scripts_of self.now.setup.now)) }
-    {
-        let mut book = book;
-        remake(self.alloc, self.setup, &mut book, logged)?;
-        book.reopen();
-        Ok(book)
-    }
-
-    // The book with one record more, which is passed over where its number was seen.
-    fn redo(&mut self, book: Book, logged: Logged) -> Result<Book, AllocError>
-        requires fits { IsInGrammar (logged_of logged) }
-        requires kept { IsUnderWay (scripts_of self.old.setup.now) self.old.shelf self.old.seen book }
-        ensures made { IfOk result (λ b. IsRedoneBy (scripts_of self.old.setup.now) self.old.seen (logged_of logged) book b) }
-        ensures states { IfOk result (HasItsStates (scripts_of self.old.setup.now)) }
-        ensures sees { OnOk result (Sees (logged_of logged) self.old.seen self.new.seen) }
+    // Whether the number of a record was seen, and it is from now on. What has no number was not.
+    fn sees(&mut self, number: Option<u64>) -> Result<bool, AllocError>
+        requires { IfSome number (λ n. n < 2 ^ 62) }
+        ensures seen { IfOk result (λ s. s ≡ is_repeated number (seen_by self.old.seen)) }
+        ensures sees { OnOk result (SeesNumber number self.old.seen self.new.seen) }
         ensures same { IsSameReader self.old self.new }
+        ensures found { self.new.found ≡ self.old.found }
     {
-        let Some(number) = number_of(&logged) else {
-            return Ok(self.remade(book, logged)?);
+        let Some(number) = number else {
+            return Ok(false);
         };
         if self.seen.has(number) {
-            let mut book = book;
-            book.pass_over(number);
-            book.reopen();
-            return Ok(book);
+            return Ok(true);
         }
         self.seen.make_room()?;
         self.seen.put(Numbered { number, item: () });
-        Ok(self.remade(book, logged)?)
+        Ok(false)
+    }
+
+    // The book with one record more, which is passed over where its number was seen; none where its state can't be read.
+    fn redo(&mut self, book: Book, logged: Logged) -> Result<Option<Book>, AllocError>
+        requires fits { IsInGrammar (logged_of logged) }
+        requires kept { IsUnderWay (scripts_of self.old.setup.now) self.old.shelf self.old.seen book }
+        ensures made { IfOk result (IsRedoneBy (scripts_of self.old.setup.now) self.old.seen (logged_of logged) book) }
+        ensures placed { IfOk result (λ found. IfSome found (HasPlaces (scripts_of self.old.setup.now))) }
+        ensures states { is_later (length (scripts_of self.old.setup.now)) (logged_of logged) ≡ true
+            → IsOwnRecord (book_beside (scripts_of self.old.setup.now) 0 book) (Some (logged_of logged))
+            → HasItsStates (scripts_of self.old.setup.now) book
+            → IfOk result (λ found. IfSome found (HasItsStates (scripts_of self.old.setup.now))) }
+        ensures sees { OnOk result (Sees (logged_of logged) self.old.seen self.new.seen) }
+        ensures same { IsSameReader self.old self.new }
+    {
+        let seen = self.sees(number_of(&logged))?;
+        let mut book = book;
+        if !remake(self.alloc, self.setup, &mut book, logged, seen)? {
+            return Ok(None);
+        }
+        book.reopen();
+        Ok(Some(book))
     }
 
     // What a later record makes.
@@ -105,6 +113,8 @@ impl Reader<'_> {
         requires room { place + 6 + length body.now ≤ 2 ^ 30 }
         ensures gives { GivesWith (scripts_of self.old.setup.now) self.old.shelf place body.now
             (found.Made book) result self.old.seen self.new.seen }
+        ensures owns { IsOwnFor (scripts_of self.old.setup.now) (found.Made book) body.now
+            → HasItsStates (scripts_of self.old.setup.now) book → HasStates (scripts_of self.old.setup.now) result }
         ensures kept { IsKept (scripts_of self.old.setup.now) self.old.shelf self.new.seen result }
         ensures same { IsSameReader self.old self.new }
     {
@@ -118,7 +128,8 @@ impl Reader<'_> {
             return Found::Damaged { place };
         }
         match self.redo(book, logged) {
-            Ok(book) => Found::Made(book),
+            Ok(Some(book)) => Found::Made(book),
+            Ok(None) => Found::Damaged { place },
             Err(_) => Found::Memory,
         }
     }
@@ -127,6 +138,7 @@ impl Reader<'_> {
     fn first(&self, place: u64, body: &[u8]) -> Found
         ensures gives { GivesWith (scripts_of self.now.setup.now) self.now.shelf place body.now
             found.Nothing result self.now.seen self.now.seen }
+        ensures owns { HasStates (scripts_of self.now.setup.now) result }
         ensures kept { IsKept (scripts_of self.now.setup.now) self.now.shelf self.now.seen found.Nothing
             → IsKept (scripts_of self.now.setup.now) self.now.shelf self.now.seen result }
     {

@@ -1,52 +1,117 @@
-ghost use Rattle.std.specs.Prelude.{◌≡◌, ◌<◌, ◌^◌, Some, OnOk};
+ghost use Rattle.std.specs.Prelude.{◌≡◌, ◌<◌, ◌^◌, ◌&&◌, List, IfOk, OnOk, map, length, Some, None, true, false};
+ghost use Rattle.script_nodes.specs.Setup.{Named};
 ghost use Rattle.script_nodes.specs.Views.{scripts_of};
-ghost use Rattle.instance_book.specs.Makes.{HasItsStates, KeepsStates};
-ghost use Rattle.instance_book.specs.Told.{IsRedone};
+ghost use Rattle.instance_cells.specs.Views.{effect_of};
+ghost use Rattle.instance_book.specs.Makes.{HasPlaces, KeepsPlaces};
 ghost use Rattle.replay_spec.specs.Book.{ends, finishes};
-ghost use Rattle.journal_records.specs.Reading.{page_change};
+ghost use Rattle.replay_spec.specs.Recovery.{are_on, hold_over};
 ghost use Rattle.journal_records.specs.Records.{IsInGrammar, PageFits, EndingFits, FinishFits};
+ghost use Rattle.journal_records.specs.Reading.{page_change};
 ghost use Rattle.journal_records.specs.Views.{page_of, ending_of, finish_of, logged_of};
-ghost use Rattle.book_recovery.specs.Remaking.{IsRemade, opening_told, extension_told, IsReadyFor, IsMadeBy, number_by};
+ghost use Rattle.book_recovery.specs.Remaking.{IsMadeBy, IsTold, opening_told, extension_told, number_by};
 
-use crate::claim::Claim;
-use instance_book::Book;
+use frame_codec::decode;
+use instance_book::{Book, ToldPage};
+use instance_cells::{Cells, Effect};
 use journal_records::{Logged, LoggedEnded, LoggedFinish, LoggedPage, Origin};
-use script_nodes::Setup;
-use script_value::Value;
-use server_limits::MOST_FUEL;
+use script_nodes::{Script, SendKind, Setup};
+use script_value::{Bytes, TxName, Value};
 use std::alloc::{AllocError, Global};
-use ticket_runs::run_ticket;
 
-// A start showed a page: its script is run again.
+/// What the record of a page tells of it, apart from where its segment began.
+#[derive(Drop)]
+pub struct Claim {
+    pub number: u64,
+    pub nonce: u64,
+    pub kind: SendKind,
+    pub effects: Vec<Effect>,
+    pub left: Vec<TxName>,
+    /// From this tick on it can't be answered, in seconds.
+    pub deadline: u64,
+    /// The bytes of its state, which may be of no script.
+    pub state: Bytes,
+}
+
+impl Claim {
+    ghost use Rattle.std.specs.Prelude.{IfSome, IfNone};
+    ghost use Rattle.script_nodes.specs.Arena.{script_of};
+    ghost use Rattle.frame_codec.specs.Reading.{read_state};
+    ghost use Rattle.journal_books.specs.Retaking.{arena_of};
+    ghost use Rattle.book_recovery.specs.Remaking.{IsPageOf};
+
+    // The page that was claimed, where its bytes are a state of this script.
+    fn page(self, alloc: Global, script: &Script) -> Result<Option<ToldPage>, AllocError>
+        ensures some { IfOk result (λ page. IfSome page (IsPageOf (arena_of (script_of script.now)) self)) }
+        ensures none { IfOk result (λ page. IfNone page (read_state (arena_of (script_of script.now)) self.state ≡ None)) }
+    {
+        let _root = script.root();
+        let Some(state) = decode(alloc, script, self.state.as_slice())? else {
+            return Ok(None);
+        };
+        Ok(Some(ToldPage {
+            kind: self.kind,
+            effects: self.effects,
+            inside: state.inside(alloc)?,
+            left: self.left,
+            deadline: self.deadline,
+            state,
+        }))
+    }
+}
+
+// Whether effects are on these cells and hold over them.
+fn are_held(cells: &Cells, effects: &[Effect]) -> bool
+    ensures { result ≡ (are_on (length cells.now) (map effect_of effects.now) && hold_over (map effect_of effects.now) cells.now) }
+{
+    if !cells.are_on(effects) {
+        return false;
+    }
+    cells.holds(effects)
+}
+
+// A start of the script of this place showed a page; one of a number that was seen is passed over.
+//
+// Whether its state could be read.
 fn remake_opening(
     alloc: Global,
     setup: &Setup,
     book: &mut Book,
     script: u8,
-    number: u64,
-    nonce: u64,
     claim: Claim,
-) -> Result<(), AllocError>
-    requires number { number < 2 ^ 62 }
-    requires states { HasItsStates (scripts_of setup.now) book.old }
-    ensures made { OnOk result
-        (IsRemade (scripts_of setup.now) (opening_told script number nonce claim) book.old book.new) }
-    ensures states { OnOk result (HasItsStates (scripts_of setup.now) book.new) }
+    seen: bool,
+) -> Result<bool, AllocError>
+    requires number { claim.number < 2 ^ 62 }
+    requires placed { HasPlaces (scripts_of setup.now) book.old }
+    ensures told { IfOk result (λ read. IsTold (scripts_of setup.now) (opening_told script claim) (Some claim.state) seen read book.old book.new) }
+    ensures placed { OnOk result (HasPlaces (scripts_of setup.now) book.new) }
 {
-    let Some(ticket) = book.told_start(alloc, setup, script as usize, number, nonce)? else {
+    let number = claim.number;
+    let Some(ticket) = book.told_start(alloc, setup, script as usize, number, claim.nonce)? else {
         book.pass_over(number);
-        return Ok(());
+        return Ok(true);
     };
-    let segment = run_ticket(alloc, setup, &ticket, &ticket.cells, MOST_FUEL)?;
-    let Some(page) = claim.met_by(segment) else {
+    let Some(named) = setup.get(script as usize) else {
         book.pass_over(number);
-        return Ok(());
+        return Ok(true);
     };
+    let Some(page) = claim.page(alloc, &named.script)? else {
+        return Ok(false);
+    };
+    if seen {
+        book.pass_over(number);
+        return Ok(true);
+    }
+    if !are_held(&ticket.cells, &page.effects) {
+        book.pass_over(number);
+        return Ok(true);
+    }
     book.land_opening(alloc, &ticket, page)?;
-    Ok(())
+    Ok(true)
 }
 
-// An answer to a page showed a page: its segment is run again, from the state of that page, over the cells of now.
+// An answer to a page showed a page; one of a number that was seen is passed over.
+//
+// Whether its state could be read, where the page that it answers stands.
 fn remake_extension(
     alloc: Global,
     setup: &Setup,
@@ -54,28 +119,45 @@ fn remake_extension(
     instance: u64,
     answered: u64,
     answer: Value,
-    number: u64,
-    nonce: u64,
     claim: Claim,
-) -> Result<(), AllocError>
-    requires number { number < 2 ^ 62 }
-    requires ready { IsReadyFor (scripts_of setup.now) (Some number) book.old }
-    ensures made { OnOk result (IsRemade (scripts_of setup.now)
-        (extension_told instance answered answer number nonce claim) book.old book.new) }
-    ensures states { OnOk result (HasItsStates (scripts_of setup.now) book.new) }
+    seen: bool,
+) -> Result<bool, AllocError>
+    requires number { claim.number < 2 ^ 62 }
+    requires placed { HasPlaces (scripts_of setup.now) book.old }
+    ensures told { IfOk result (λ read. IsTold (scripts_of setup.now) (extension_told instance answered answer claim) (Some claim.state) seen read book.old book.new) }
+    ensures placed { OnOk result (HasPlaces (scripts_of setup.now) book.new) }
 {
-    let Some(ticket) = book.told_answer(alloc, setup, instance, answered, answer, number, nonce)?
+    let number = claim.number;
+    let Some(ticket) = book.told_answer(
+        alloc,
+        setup,
+        instance,
+        answered,
+        answer,
+        number,
+        claim.nonce,
+    )?
     else {
         book.pass_over(number);
-        return Ok(());
+        return Ok(true);
     };
-    let segment = run_ticket(alloc, setup, &ticket, &ticket.cells, MOST_FUEL)?;
-    let Some(page) = claim.met_by(segment) else {
+    let Some(named) = book.script(setup, instance) else {
         book.pass_over(number);
-        return Ok(());
+        return Ok(true);
     };
+    let Some(page) = claim.page(alloc, &named.script)? else {
+        return Ok(false);
+    };
+    if seen {
+        book.pass_over(number);
+        return Ok(true);
+    }
+    if !are_held(&ticket.cells, &page.effects) {
+        book.pass_over(number);
+        return Ok(true);
+    }
     book.land_extension(alloc, &ticket, instance, answered, page)?;
-    Ok(())
+    Ok(true)
 }
 
 // A page was shown.
@@ -84,11 +166,12 @@ fn remake_page(
     setup: &Setup,
     book: &mut Book,
     page: LoggedPage,
-) -> Result<(), AllocError>
+    seen: bool,
+) -> Result<bool, AllocError>
     requires fits { PageFits (page_of page) }
-    requires ready { IsReadyFor (scripts_of setup.now) (Some page.ticket) book.old }
-    ensures made { OnOk result (IsRemade (scripts_of setup.now) (page_change (page_of page)) book.old book.new) }
-    ensures states { OnOk result (HasItsStates (scripts_of setup.now) book.new) }
+    requires placed { HasPlaces (scripts_of setup.now) book.old }
+    ensures told { IfOk result (λ read. IsTold (scripts_of setup.now) (page_change (page_of page)) (Some page.state) seen read book.old book.new) }
+    ensures placed { OnOk result (HasPlaces (scripts_of setup.now) book.new) }
 {
     let LoggedPage {
         ticket,
@@ -98,62 +181,76 @@ fn remake_page(
         left,
         kind,
         deadline,
+        state,
     } = page;
     let claim = Claim {
+        number: ticket,
+        nonce,
         kind,
         effects,
         left,
         deadline,
+        state,
     };
     match origin {
-        Origin::Start { script } => {
-            remake_opening(alloc, setup, book, script, ticket, nonce, claim)?;
-        }
+        Origin::Start { script } => remake_opening(alloc, setup, book, script, claim, seen),
         Origin::Answer {
             instance,
             page,
             answer,
-        } => {
-            remake_extension(
-                alloc, setup, book, instance, page, answer, ticket, nonce, claim,
-            )?;
-        }
+        } => remake_extension(alloc, setup, book, instance, page, answer, claim, seen),
     }
-    Ok(())
 }
 
-/// Makes the change of a record again, or passes it over, as the book decides; the record that a journal begins with is none.
+/// Makes the change of a record again, or passes it over, as the book decides; one of a number that was seen before is passed
+/// over, and the record that a journal begins with is none.
 ///
+/// Whether its state could be read: false where its bytes are no state of the page's script, and the book is then as it was.
 /// Where memory runs out, the book is to be given up.
 pub fn remake(
     alloc: Global,
     setup: &Setup,
     book: &mut Book,
     logged: Logged,
-) -> Result<(), AllocError>
+    seen: bool,
+) -> Result<bool, AllocError>
     requires fits { IsInGrammar (logged_of logged) }
-    requires ready { IsReadyFor (scripts_of setup.now) (number_by (logged_of logged)) book.old }
-    ensures made { OnOk result (IsMadeBy (scripts_of setup.now) (logged_of logged) book.old book.new) }
-    ensures states { OnOk result (HasItsStates (scripts_of setup.now) book.new) }
+    requires unnumbered { number_by (logged_of logged) ≡ None → seen ≡ false }
+    requires placed { HasPlaces (scripts_of setup.now) book.old }
+    ensures made { IfOk result (λ read. IsMadeBy (scripts_of setup.now) (logged_of logged) seen read book.old book.new) }
+    ensures placed { OnOk result (HasPlaces (scripts_of setup.now) book.new) }
 {
     match logged {
         Logged::Begin {
             shelf: _shelf,
             scripts: _scripts,
-        } => (),
-        Logged::Page(page) => remake_page(alloc, setup, book, page)?,
-        Logged::Ended(ended) => remake_ending(alloc, book, ended)?,
-        Logged::Finish(finish) => remake_finish(alloc, book, finish),
-        Logged::Sweep { clock } => book.redo_sweep(clock),
+        } => Ok(true),
+        Logged::Page(page) => remake_page(alloc, setup, book, page, seen),
+        Logged::Ended(ended) => {
+            remake_ending(alloc, book, ended, seen)?;
+            Ok(true)
+        }
+        Logged::Finish(finish) => {
+            remake_finish(alloc, book, finish, seen);
+            Ok(true)
+        }
+        Logged::Sweep { clock } => {
+            book.redo_sweep(clock);
+            Ok(true)
+        }
     }
-    Ok(())
 }
 
 // A page was answered with a last page.
-fn remake_ending(alloc: Global, book: &mut Book, ended: LoggedEnded) -> Result<(), AllocError>
+fn remake_ending(
+    alloc: Global,
+    book: &mut Book,
+    ended: LoggedEnded,
+    seen: bool,
+) -> Result<(), AllocError>
     requires { EndingFits (ending_of ended) }
-    ensures made { OnOk result (IsRedone (ends (ending_of ended)) book.old book.new) }
-    ensures states { KeepsStates book.old book.new }
+    ensures told { OnOk result ((scripts : List Named) → IsTold scripts (ends (ending_of ended)) None seen true book.old book.new) }
+    ensures placed { KeepsPlaces book.old book.new }
 {
     let LoggedEnded {
         ticket,
@@ -163,15 +260,18 @@ fn remake_ending(alloc: Global, book: &mut Book, ended: LoggedEnded) -> Result<(
         effects,
         left,
     } = ended;
-    book.redo_ending(alloc, ticket, instance, page, answer, effects, left)?;
-    Ok(())
+    if seen {
+        book.pass_over(ticket);
+        return Ok(());
+    }
+    book.redo_ending(alloc, ticket, instance, page, answer, effects, left)
 }
 
 // A page was answered with a last page, and its instance is gone.
-fn remake_finish(alloc: Global, book: &mut Book, finish: LoggedFinish)
+fn remake_finish(alloc: Global, book: &mut Book, finish: LoggedFinish, seen: bool)
     requires { FinishFits (finish_of finish) }
-    ensures made { IsRedone (finishes (finish_of finish)) book.old book.new }
-    ensures states { KeepsStates book.old book.new }
+    ensures told { (scripts : List Named) → IsTold scripts (finishes (finish_of finish)) None seen true book.old book.new }
+    ensures placed { KeepsPlaces book.old book.new }
 {
     let LoggedFinish {
         ticket,
@@ -180,5 +280,9 @@ fn remake_finish(alloc: Global, book: &mut Book, finish: LoggedFinish)
         answer,
         effects,
     } = finish;
+    if seen {
+        book.pass_over(ticket);
+        return;
+    }
     book.redo_finish(alloc, ticket, instance, page, answer, effects);
 }

@@ -10,7 +10,8 @@ use Rattle.replay_spec.specs.Invariant.{AreAncestors}
 use Rattle.replay_spec.proofs.Ancestors.{ancestors_one}
 use Rattle.machine_spec.specs.Machine.{Suspended}
 use Rattle.machine_spec.specs.Laws.{IsStateOf, EachPageHasOneState}
-use Rattle.kept_states.specs.Kept.{Kept, IsAlone, IsBehind, IsKeptBy, IsOfScript}
+use Rattle.frame_codec.specs.Stored.{IsStored}
+use Rattle.kept_states.specs.Kept.{Kept, IsAlone, IsBehind, IsKeptBy}
 use Rattle.kept_states.specs.Links.{next_links, links_at}
 use Rattle.kept_states.proofs.Read.{of_script}
 use Rattle.instance_book.specs.declared.numbered.Numbered.{Numbered}
@@ -62,11 +63,11 @@ pub arena_again : (a : Arena) → IsScript a → arena_of (script_of a) ≡ a
 arena_again a script = sym (ap (λ (ns : List Node). record a { nodes = ns }) script.numbered)
 
 module _ (law : EachPageHasOneState) (s : Named) (a : Arena) (script : IsScript a) (same : arena_of s.script ≡ a) (ps : InOrder KeptPage) where
-  -- a state is one of the script
-  pub is_of_script : (x : Numbered KeptPage) (has : AreStatesOf s ps x) → IsOfScript a has.own.state
+  -- a state fits the script
+  pub is_of_script : (x : Numbered KeptPage) (has : AreStatesOf s ps x) → IsStored a has.own.state
   is_of_script x has =
       let tape = page_tape has.home (reverse has.own.lineage.ancestors) (page_of x) in
-      of_script a script tape has.own.state (subst (λ (b : Arena). IsStateOf b tape has.own.state) same has.own.its)
+      of_script a script tape has.own.state (subst (λ (b : Arena). IsStateOf b tape has.own.state) same has.own.its) has.own.bytes
 
   pub is_alone : (x : Numbered KeptPage) (has : AreStatesOf s ps x) → x.item.state.links ≡ 0 → IsAlone has.own.state (kept_at x).form
   is_alone x has none = alone_behind s has.home has.own.lineage.ancestors has.own.state (kept_at x) none has.own.kept

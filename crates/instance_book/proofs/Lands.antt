@@ -127,6 +127,23 @@ module _ (scripts : List Named) (fuel life instances pages : ℕ) (b : Book) (t 
       → Prepares scripts rules b (settles rules b (length b.instances) (start_visit b (ticket_of t) k named) s) (Err reply.Memory)
   start_wants k named s kind bytes e full = subst IsRecord (sym (start_shows k named s kind bytes e full)) tt
 
+  -- a start's page, whatever the ticket is for
+  pub opening_itself : b.scripts ≡ scripts → (named : Named) → slice_get scripts t.script ≡ Some named → t.cells ≡ named.script.cells
+      → (bytes : List ℕ) (effects : List Effect) (inside left : List TxName) (kind : SendKind) (deadline : ℕ) (p : Prepared)
+      → IsOpening p t bytes effects inside left kind deadline
+      → IsCarriedOut scripts rules b (records (step.shown bytes t.url) (spec.opens (opening_by t effects left kind deadline)) inside) p
+  opening_itself setup named there cells bytes effects inside left kind deadline p o =
+      let x : spec.Opening = opening_by t effects left kind deadline in
+      let d : Decision = records (step.shown bytes t.url) (spec.opens x) inside in
+      let its : script_in scripts t.script ≡ named = get_or_from_slice_get scripts t.script named no_script there in
+      let begins : Instance = shown_by effects left kind (first_page t effects inside deadline) (fresh named t.number) in
+      let opened : opened_by (slice_get b.scripts t.script) x inside b.instances ≡ put_instance begins b.instances =
+      ap (λ (ss : List Named). opened_by (slice_get ss t.script) x inside b.instances) setup ∙ ap (λ (y : Option Named). opened_by y x inside b.instances) there in
+      let made : instances_after scripts p.change b.instances ≡ put_instance begins b.instances =
+      opens_as scripts p.change _ b.instances o.change ∙ ap (λ (i : Instance). put_instance i b.instances) (first_is scripts t named effects inside left kind deadline its cells) in
+      carried p d (put_instance begins) o.recorded.decision o.recorded.logged
+      (λ n. ap (λ (is : List Instance). (step.shown bytes t.url, logged_with (t.number + 1) is (spend n b))) opened) made
+
   pub opening_lands : b.scripts ≡ scripts → (k : ℕ) (named : Named) (s : Segment) (kind : SendKind) (bytes : List ℕ) (p : Prepared) → FitsStart scripts b t k named
       → s.outcome ≡ paged (shows kind) bytes → nat_le instances (length b.instances) ≡ false
       → IsOpening p t bytes s.effects s.entered s.left kind (b.clock + life)
@@ -135,19 +152,10 @@ module _ (scripts : List Named) (fuel life instances pages : ℕ) (b : Book) (t 
       let v = start_visit b (ticket_of t) k named in
       let deadline = b.clock + life in
       let record_of : ℕ → spec.Opening = λ m. record (opening_by t s.effects s.left kind deadline) { script = m } in
-      let d : Decision = records (step.shown bytes (url_for v)) (spec.opens (record_of k)) s.entered in
-      let same : records (step.shown bytes t.url) (spec.opens (record_of t.script)) s.entered ≡ d =
+      let same : records (step.shown bytes t.url) (spec.opens (record_of t.script)) s.entered ≡ records (step.shown bytes (url_for v)) (spec.opens (record_of k)) s.entered =
       ap (λ (u : List ℕ). records (step.shown bytes u) (spec.opens (record_of t.script)) s.entered) fits.run.url ∙ ap (λ (m : ℕ). records (step.shown bytes (url_for v)) (spec.opens (record_of m)) s.entered) fits.place in
-      let there : slice_get scripts k ≡ Some named = ap (slice_get scripts) (sym fits.place) ∙ fits.run.script in
-      let its : script_in scripts t.script ≡ named = get_or_from_slice_get scripts t.script named no_script fits.run.script in
-      let begins : Instance = shown_by s.effects s.left kind (first_page t s.effects s.entered deadline) (fresh named t.number) in
-      let opened : opened_by (slice_get b.scripts k) (record_of k) s.entered b.instances ≡ put_instance begins b.instances =
-      ap (λ (ss : List Named). opened_by (slice_get ss k) (record_of k) s.entered b.instances) setup ∙ ap (λ (x : Option Named). opened_by x (record_of k) s.entered b.instances) there in
-      let made : instances_after scripts p.change b.instances ≡ put_instance begins b.instances =
-      opens_as scripts p.change _ b.instances o.change ∙ ap (λ (i : Instance). put_instance i b.instances) (first_is scripts t named s.effects s.entered s.left kind deadline its fits.cells) in
-      subst (λ (x : Decision). Prepares scripts rules b x (Ok p)) (sym (start_shows k named s kind bytes e full))
-      (carried p d (put_instance begins) (o.recorded.decision ∙ same) o.recorded.logged
-      (λ n. ap (λ (is : List Instance). (step.shown bytes (url_for v), logged_with (t.number + 1) is (spend n b))) opened) made)
+      subst (λ (x : Decision). IsCarriedOut scripts rules b x p) (same ∙ sym (start_shows k named s kind bytes e full))
+      (opening_itself setup named fits.run.script fits.cells bytes s.effects s.entered s.left kind deadline p o)
 
   page_shows : (at : Place) (s : Segment) (kind : SendKind) (bytes : List ℕ) → s.outcome ≡ paged (shows kind) bytes → nat_le pages (length at.instance.pages) ≡ false
       → let v = page_visit b (ticket_of t) at in
@@ -182,36 +190,54 @@ module _ (scripts : List Named) (fuel life instances pages : ℕ) (b : Book) (t 
       → Prepares scripts rules b (settles rules b (length at.instance.pages) (page_visit b (ticket_of t) at) s) (Err reply.Memory)
   finish_wants at s bytes e = subst IsRecord (sym (page_finishes at s bytes e)) tt
 
+  -- the page of an answer to a page of this instance, and the end and the finish with one, whatever the ticket is for
+  module _ (i : Instance) (answered : ℕ) (bytes : List ℕ) (effects : List Effect) (inside left : List TxName) (p : Prepared) where
+    pub extension_itself : instance_at i.number b.instances ≡ Some i → (kind : SendKind) (deadline : ℕ)
+        → IsExtension p t i answered bytes effects inside left kind deadline (shown_by effects left kind (next_page t answered effects inside deadline))
+        → IsCarriedOut scripts rules b (records (step.shown bytes t.url) (spec.extends (extension_by t i.number answered effects left kind deadline)) inside) p
+    extension_itself found kind deadline x =
+        let d : Decision = records (step.shown bytes t.url) (spec.extends (extension_by t i.number answered effects left kind deadline)) inside in
+        let f : Instance → Instance = shown_by effects left kind (next_page t answered effects inside deadline) in
+        carried p d (mend i.number f) x.recorded.decision x.recorded.logged (λ n. refl) (extends_as scripts p.change i f b.instances found x.change)
+
+    pub ending_itself : instance_at i.number b.instances ≡ Some i → IsEnding p t i answered bytes effects inside left (done effects left)
+        → IsCarriedOut scripts rules b (records (step.ended bytes) (spec.ends (ending_by t i.number answered effects left)) inside) p
+    ending_itself found x =
+        let d : Decision = records (step.ended bytes) (spec.ends (ending_by t i.number answered effects left)) inside in
+        carried p d (mend i.number (done effects left)) x.recorded.decision x.recorded.logged (λ n. refl) (ends_as scripts p.change i (done effects left) b.instances found x.change)
+
+  pub finish_itself : (instance answered : ℕ) (bytes : List ℕ) (effects : List Effect) (inside : List TxName) (p : Prepared) → IsFinish p t instance answered bytes effects inside
+      → IsCarriedOut scripts rules b (records (step.finished bytes) (spec.finishes (finish_by t instance answered effects)) inside) p
+  finish_itself instance answered bytes effects inside p x =
+      let d : Decision = records (step.finished bytes) (spec.finishes (finish_by t instance answered effects)) inside in
+      let made : FreesAs scripts p.change b.instances d = subst (FreesAs scripts p.change b.instances) x.decision (finishes_as scripts (reply_of p.reply) p.change b.instances) in
+      carried p d (without instance) x.decision x.logged (λ n. refl) made
+
   pub extension_lands : (at : Place) (s : Segment) (kind : SendKind) (bytes : List ℕ) (p : Prepared) → IsFor scripts t (page_visit b (ticket_of t) at)
       → instance_at at.instance.number b.instances ≡ Some at.instance
       → s.outcome ≡ paged (shows kind) bytes → nat_le pages (length at.instance.pages) ≡ false
       → IsExtension p t at.instance at.page.number bytes s.effects s.entered s.left kind (b.clock + life) (shown_by s.effects s.left kind (next_page t at.page.number s.effects s.entered (b.clock + life)))
       → Prepares scripts rules b (settles rules b (length at.instance.pages) (page_visit b (ticket_of t) at) s) (Ok p)
   extension_lands at s kind bytes p fits found e full x =
-      let v = page_visit b (ticket_of t) at in
       let change : spec.Change = spec.extends (extension_by t at.instance.number at.page.number s.effects s.left kind (b.clock + life)) in
-      let d : Decision = records (step.shown bytes (url_for v)) change s.entered in
-      let f : Instance → Instance = shown_by s.effects s.left kind (next_page t at.page.number s.effects s.entered (b.clock + life)) in
-      let same : records (step.shown bytes t.url) change s.entered ≡ d = ap (λ (u : List ℕ). records (step.shown bytes u) change s.entered) fits.url in
-      subst (λ (y : Decision). Prepares scripts rules b y (Ok p)) (sym (page_shows at s kind bytes e full))
-      (carried p d (mend at.instance.number f) (x.recorded.decision ∙ same) x.recorded.logged (λ n. refl) (extends_as scripts p.change at.instance f b.instances found x.change))
+      let same : records (step.shown bytes t.url) change s.entered ≡ records (step.shown bytes (url_for (page_visit b (ticket_of t) at))) change s.entered =
+      ap (λ (u : List ℕ). records (step.shown bytes u) change s.entered) fits.url in
+      subst (λ (y : Decision). IsCarriedOut scripts rules b y p) (same ∙ sym (page_shows at s kind bytes e full))
+      (extension_itself at.instance at.page.number bytes s.effects s.entered s.left p found kind (b.clock + life) x)
 
   pub ending_lands : (at : Place) (s : Segment) (bytes : List ℕ) (p : Prepared) → instance_at at.instance.number b.instances ≡ Some at.instance
       → s.outcome ≡ paged ends bytes → IsEnding p t at.instance at.page.number bytes s.effects s.entered s.left (done s.effects s.left)
       → Prepares scripts rules b (settles rules b (length at.instance.pages) (page_visit b (ticket_of t) at) s) (Ok p)
   ending_lands at s bytes p found e x =
-      let d : Decision = records (step.ended bytes) (spec.ends (ending_by t at.instance.number at.page.number s.effects s.left)) s.entered in
-      subst (λ (y : Decision). Prepares scripts rules b y (Ok p)) (sym (page_ends at s bytes e))
-      (carried p d (mend at.instance.number (done s.effects s.left)) x.recorded.decision x.recorded.logged (λ n. refl) (ends_as scripts p.change at.instance (done s.effects s.left) b.instances found x.change))
+      subst (λ (y : Decision). IsCarriedOut scripts rules b y p) (sym (page_ends at s bytes e))
+      (ending_itself at.instance at.page.number bytes s.effects s.entered s.left p found x)
 
   pub finish_lands : (at : Place) (s : Segment) (bytes : List ℕ) (p : Prepared) → s.outcome ≡ paged finishes bytes
       → IsFinish p t at.instance.number at.page.number bytes s.effects s.entered
       → Prepares scripts rules b (settles rules b (length at.instance.pages) (page_visit b (ticket_of t) at) s) (Ok p)
   finish_lands at s bytes p e x =
-      let d : Decision = records (step.finished bytes) (spec.finishes (finish_by t at.instance.number at.page.number s.effects)) s.entered in
-      let made : FreesAs scripts p.change b.instances d = subst (FreesAs scripts p.change b.instances) x.decision (finishes_as scripts (reply_of p.reply) p.change b.instances) in
-      subst (λ (y : Decision). Prepares scripts rules b y (Ok p)) (sym (page_finishes at s bytes e))
-      (carried p d (without at.instance.number) x.decision x.logged (λ n. refl) made)
+      subst (λ (y : Decision). IsCarriedOut scripts rules b y p) (sym (page_finishes at s bytes e))
+      (finish_itself at.instance.number at.page.number bytes s.effects s.entered p x)
 
   -- an extension for which room was wanted too
   pub extended : (at : Place) (s : Segment) (kind : SendKind) (bytes : List ℕ) (made : Result Prepared AllocError) (r : Result Prepared Reply)

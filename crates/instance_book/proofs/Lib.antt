@@ -4,6 +4,7 @@ pub mod Seen
 pub mod States
 pub mod Behind
 pub mod Lands
+pub mod Itself
 pub mod Admitted
 pub mod Recorded
 pub mod Whole

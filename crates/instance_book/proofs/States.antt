@@ -36,8 +36,9 @@ use Rattle.instance_book.specs.declared.prepared.Change.{Change}
 use Rattle.instance_book.specs.declared.prepared.Change.TheVariants.{Opens, Extends, Ends, Finishes}
 use Rattle.instance_book.specs.declared.ticket.Ticket.{Ticket}
 use Rattle.instance_book.specs.Views.{page_of, pages_of, script_in, no_script, ticket_of}
-use Rattle.instance_book.specs.Places.{arena_of, kept_at, shown_of, shown_in, IsStateAt, IsKeptBehind, HasState, HaveStates, IsKeptAs, IsKept, IsNextIn, IsNextAt, OneMoreHasItsState}
-use Rattle.instance_book.specs.Changes.{OpensKept, HasStateBy}
+use Rattle.instance_book.specs.Places.{arena_of, kept_at, shown_of, shown_in, IsStateAt, IsKeptBehind, HasState, HaveStates, IsKeptAs, IsKept, IsPlaced, IsNextIn, IsNextAt, OneMoreHasItsState}
+use Rattle.frame_codec.specs.Spelling.{StateHasBytes}
+use Rattle.instance_book.specs.Changes.{OpensKept, HasStateBy, IsSpelledBy}
 use Rattle.instance_book.specs.Fits.{IsStateBehind, GoesOnFrom, IsFor, FitsAs, IsForSome}
 use Rattle.instance_book.specs.Prepares.{OpensAs, ExtendsAs, KeepsStateOf}
 use Rattle.instance_book.specs.Laws.{KeepsStateAs, AShownPageHasItsState}
@@ -47,7 +48,7 @@ use Rattle.instance_book.proofs.Seen.{all_put, all_at}
 states_grown : (s : Named) (h : Home) (ps qs : List Page) → Grown ps qs → length ps ≤ length qs → (xs : List (Page × Kept)) → HaveStates s h ps xs → HaveStates s h qs xs
 states_grown s h ps qs grown longer [] all = tt
 states_grown s h ps qs grown longer (x ∷ xs) all =
-    (record { lineage = lineage_grown ps qs grown longer x.0 all.0.lineage; state = all.0.state; its = all.0.its; kept = all.0.kept }, states_grown s h ps qs grown longer xs all.1)
+    (record { lineage = lineage_grown ps qs grown longer x.0 all.0.lineage; state = all.0.state; its = all.0.its; bytes = all.0.bytes; kept = all.0.kept }, states_grown s h ps qs grown longer xs all.1)
 
 pub one_more_state : OneMoreHasItsState
 one_more_state s h ps xs p d unused own all =
@@ -71,6 +72,13 @@ same_kept x y number place pages shown = rw (number, place, pages, shown) refl
 pub kept_as : (scripts : List Named) (shelf : ℕ) (x y : Numbered KeptInstance) → kept_of x ≡ kept_of y → IsKept scripts shelf y → IsKept scripts shelf x
 kept_as scripts shelf x y e kept =
     subst (λ (k : (ℕ × ℕ) × (List Page × List (Page × Kept))). IsKeptAs scripts shelf k.0.0 k.0.1 k.1.0 k.1.1) (sym e) kept
+
+-- and it is of a script of the setup as what is seen of it
+pub placed_alike : (scripts : List Named) (x y : Numbered KeptInstance) → x.item.script ≡ y.item.script → IsPlaced scripts y → IsPlaced scripts x
+placed_alike scripts x y place placed = subst (λ (k : ℕ). k < length scripts) (sym place) placed
+
+pub placed_as : (scripts : List Named) (x y : Numbered KeptInstance) → kept_of x ≡ kept_of y → IsPlaced scripts y → IsPlaced scripts x
+placed_as scripts x y e placed = placed_alike scripts x y (ap (λ (k : (ℕ × ℕ) × (List Page × List (Page × Kept))). k.0.1) e) placed
 
 -- with its next page it is kept too
 pub kept_next : (scripts : List Named) (shelf : ℕ) (x y : Numbered KeptInstance) (p : Numbered KeptPage) → y.number ≡ x.number → y.item.script ≡ x.item.script
@@ -107,8 +115,8 @@ below_length (y ∷ ys) (suc k) x h = omega (arith, below_length ys k x h)
 -- the first page of a start
 pub first_kept : (scripts : List Named) (b : Book) (t : Ticket) (k : ℕ) (s : Named) (effects : List Effect) (inside : List TxName) (d : Suspended) (o : Opening)
     → slice_get scripts t.script ≡ Some s → OpensAs t effects inside d o
-    → IsStateOf (arena_of s.script) (tape_for (start_visit b (ticket_of t) k s) (recorded (reads_of effects))) d → OpensKept scripts b.shelf o
-first_kept scripts b t k s effects inside d o found made state =
+    → IsStateOf (arena_of s.script) (tape_for (start_visit b (ticket_of t) k s) (recorded (reads_of effects))) d → StateHasBytes d → OpensKept scripts b.shelf o
+first_kept scripts b t k s effects inside d o found made state has =
     let its : script_in scripts o.instance.script ≡ s = ap (script_in scripts) made.script ∙ get_or_from_slice_get scripts t.script s no_script found in
     let p = page_of o.page in
     let parent : p.parent ≡ None = ap (λ (q : Page). q.parent) made.page in
@@ -123,6 +131,7 @@ first_kept scripts b t k s effects inside d o found made state =
         lineage = record { ancestors = []; are = parent; few = omega arith };
         state = d;
         its = subst (λ (x : Tape). IsStateOf (arena_of s.script) x d) (sym tape) state;
+        bytes = has;
         kept = made.state;
       });
     }
@@ -177,8 +186,8 @@ links_next s h ps p k has = ap next_links (links_of s h ps p k has) ∙ ap links
 pub next_kept : (scripts : List Named) (b : Book) (t : Ticket) (at : Place) (k m : ℕ) (effects : List Effect) (inside : List TxName) (d : Suspended) (x : Extension)
     → Lineage at.instance.pages at.page → page_at t.number at.instance.pages ≡ None → instance_at k b.instances ≡ Some at.instance → page_at m at.instance.pages ≡ Some at.page → ExtendsAs t k m effects inside d x
     → IsStateOf (arena_of at.instance.script.script) (tape_for (page_visit b (ticket_of t) at) (recorded (reads_of effects))) d
-    → IsFor scripts t (page_visit b (ticket_of t) at) → IsNextAt b.shelf b.instances x.instance x.show.page
-next_kept scripts b t at k m effects inside d x h free here shown made state fits i found =
+    → StateHasBytes d → IsFor scripts t (page_visit b (ticket_of t) at) → IsNextAt b.shelf b.instances x.instance x.show.page
+next_kept scripts b t at k m effects inside d x h free here shown made state has fits i found =
     let same : at.instance ≡ i = same_Some at.instance i (sym here ∙ (ap (λ (n : ℕ). instance_at n b.instances) (sym made.instance) ∙ found)) in
     subst (λ (j : Instance). IsNextIn b.shelf j (page_of x.show.page) (kept_at x.show.page)) same next
   where
@@ -211,6 +220,7 @@ next_kept scripts b t at k m effects inside d x h free here shown made state fit
             lineage = record { ancestors = at.page ∷ h.ancestors; are = mine; few = omega (arith, h.few, put_length (λ (q : Page). q.number) p ps unused) };
             state = d;
             its = subst (λ (y : Tape). IsStateOf (arena_of s.script) y d) (sym tape) state;
+            bytes = has;
             kept = (
               before.0,
               (
@@ -225,41 +235,42 @@ next_kept scripts b t at k m effects inside d x h free here shown made state fit
 -- by the kinds of admission and of change
 module _ (b : Book) (orderly : IsOrderly b) (t : Ticket) (out : Contains b.out t.number) (r : Segment) where
   start_keeps : (name : List ℕ) (a : Admission) → admit b (start name) ≡ a → refusal_of a ≡ None → FitsAs b.scripts b t a → KeepsStateAs b t a r
-      → (c : Option Change) → KeepsStateOf t r (start name) c → HasStateBy b.scripts b.shelf b.instances c
-  start_keeps name (resumes at) adm ok fits over c keeps = absurd (start_is_no_page b name at adm)
-  start_keeps name (refused why) adm ok fits over c keeps = absurd (cc)
-  start_keeps name (begins k s) adm ok fits over None keeps = tt
-  start_keeps name (begins k s) adm ok fits over (Some (Ends e)) keeps = tt
-  start_keeps name (begins k s) adm ok fits over (Some (Finishes f)) keeps = tt
-  start_keeps name (begins k s) adm ok fits over (Some (Opens o)) (inl none) = absurd none
-  start_keeps name (begins k s) adm ok fits over (Some (Opens o)) (inr from) =
+      → (c : Option Change) → KeepsStateOf t r (start name) c → IsSpelledBy c → HasStateBy b.scripts b.shelf b.instances c
+  start_keeps name (resumes at) adm ok fits over c keeps has = absurd (start_is_no_page b name at adm)
+  start_keeps name (refused why) adm ok fits over c keeps has = absurd (cc)
+  start_keeps name (begins k s) adm ok fits over None keeps has = tt
+  start_keeps name (begins k s) adm ok fits over (Some (Ends e)) keeps has = tt
+  start_keeps name (begins k s) adm ok fits over (Some (Finishes f)) keeps has = tt
+  start_keeps name (begins k s) adm ok fits over (Some (Opens o)) (inl none) has = absurd none
+  start_keeps name (begins k s) adm ok fits over (Some (Opens o)) (inr from) has =
       first_kept b.scripts b t k s (segment_of r).effects r.entered.items from.0 o fits.run.script from.1.1 (keeps_state r.outcome _ from.0 over from.1.0)
-  start_keeps name (begins k s) adm ok fits over (Some (Extends x)) (inl none) = absurd none
-  start_keeps name (begins k s) adm ok fits over (Some (Extends x)) (inr from) = absurd from.1.1
+      (subst StateHasBytes from.1.1.told has)
+  start_keeps name (begins k s) adm ok fits over (Some (Extends x)) (inl none) has = absurd none
+  start_keeps name (begins k s) adm ok fits over (Some (Extends x)) (inr from) has = absurd from.1.1
 
   page_keeps : (name : List ℕ) (n : PageName) (a : Admission) → admit b (page name n) ≡ a → refusal_of a ≡ None → FitsAs b.scripts b t a → KeepsStateAs b t a r
-      → (c : Option Change) → KeepsStateOf t r (page name n) c → HasStateBy b.scripts b.shelf b.instances c
-  page_keeps name n (begins k s) adm ok fits over c keeps = absurd (page_is_no_start b name n k s adm)
-  page_keeps name n (refused why) adm ok fits over c keeps = absurd (cc)
-  page_keeps name n (resumes at) adm ok fits over None keeps = tt
-  page_keeps name n (resumes at) adm ok fits over (Some (Ends e)) keeps = tt
-  page_keeps name n (resumes at) adm ok fits over (Some (Finishes f)) keeps = tt
-  page_keeps name n (resumes at) adm ok fits over (Some (Opens o)) (inl none) = absurd none
-  page_keeps name n (resumes at) adm ok fits over (Some (Opens o)) (inr from) = absurd from.1.1
-  page_keeps name n (resumes at) adm ok fits over (Some (Extends x)) (inl none) = absurd none
-  page_keeps name n (resumes at) adm ok fits over (Some (Extends x)) (inr from) =
+      → (c : Option Change) → KeepsStateOf t r (page name n) c → IsSpelledBy c → HasStateBy b.scripts b.shelf b.instances c
+  page_keeps name n (begins k s) adm ok fits over c keeps has = absurd (page_is_no_start b name n k s adm)
+  page_keeps name n (refused why) adm ok fits over c keeps has = absurd (cc)
+  page_keeps name n (resumes at) adm ok fits over None keeps has = tt
+  page_keeps name n (resumes at) adm ok fits over (Some (Ends e)) keeps has = tt
+  page_keeps name n (resumes at) adm ok fits over (Some (Finishes f)) keeps has = tt
+  page_keeps name n (resumes at) adm ok fits over (Some (Opens o)) (inl none) has = absurd none
+  page_keeps name n (resumes at) adm ok fits over (Some (Opens o)) (inr from) has = absurd from.1.1
+  page_keeps name n (resumes at) adm ok fits over (Some (Extends x)) (inl none) has = absurd none
+  page_keeps name n (resumes at) adm ok fits over (Some (Extends x)) (inr from) has =
       let stands = page_stands b name n at adm in
       let h = orderly.instances.lineage n.instance at.instance stands.here n.page at.page stands.shown in
       let free = orderly.instances.no_page t.number (inl (among_of b.out t.number out)) n.instance at.instance stands.here in
-      next_kept b.scripts b t at n.instance n.page (segment_of r).effects r.entered.items from.0 x h free stands.here stands.shown from.1.1 (keeps_state r.outcome _ from.0 over from.1.0) fits
+      next_kept b.scripts b t at n.instance n.page (segment_of r).effects r.entered.items from.0 x h free stands.here stands.shown from.1.1 (keeps_state r.outcome _ from.0 over from.1.0) (subst StateHasBytes from.1.1.told has) fits
 
   keeps_by : (d : Destination) (a : Admission) → admit b d ≡ a → refusal_of a ≡ None → FitsAs b.scripts b t a → KeepsStateAs b t a r
-      → (c : Option Change) → KeepsStateOf t r d c → HasStateBy b.scripts b.shelf b.instances c
-  keeps_by (start name) a adm ok fits over c keeps = start_keeps name a adm ok fits over c keeps
-  keeps_by (page name n) a adm ok fits over c keeps = page_keeps name n a adm ok fits over c keeps
+      → (c : Option Change) → KeepsStateOf t r d c → IsSpelledBy c → HasStateBy b.scripts b.shelf b.instances c
+  keeps_by (start name) a adm ok fits over c keeps has = start_keeps name a adm ok fits over c keeps has
+  keeps_by (page name n) a adm ok fits over c keeps has = page_keeps name n a adm ok fits over c keeps has
 
 pub a_shown_page_has_its_state : AShownPageHasItsState
-a_shown_page_has_its_state b orderly t out a adm ok fits r over c keeps = keeps_by b orderly t out r (target_of t.target) a adm ok fits over c keeps
+a_shown_page_has_its_state b orderly t out a adm ok fits r over c keeps has = keeps_by b orderly t out r (target_of t.target) a adm ok fits over c keeps has
 
 -- a visit whose pages are the chain of a page that has its state
 pub goes_on_from : (v : Visit) (ps : List Page) (p : Page) (k : Kept) → v.pages ≡ chain ps p → (has : HasState v.script (home_of v) ps p k) → IsStateBehind v has.state

@@ -23,9 +23,9 @@ use Rattle.instance_book.specs.declared.admission.Place.{Place}
 use Rattle.instance_book.specs.declared.admission.Admission.{Admission}
 use Rattle.instance_book.specs.declared.admission.Admission.TheVariants.{Begins, Resumes, Refused}
 use Rattle.instance_book.specs.declared.ticket.Ticket.{Ticket}
-use Rattle.instance_book.specs.Views.{page_of, pages_of, instance_of, book_of, ticket_of}
+use Rattle.instance_book.specs.Views.{page_of, pages_of, instance_of, instances_of, book_of, ticket_of}
 use Rattle.instance_book.specs.Places.{kept_at, shown_in, HasState, HaveStates}
-use Rattle.instance_book.specs.Fits.{IsFor, FitsStart, FitsAs}
+use Rattle.instance_book.specs.Fits.{IsFor, FitsStart, FitsAs, FitsIfStart}
 
 abbrev pub place_of : List Named → Place → spec.Place
 place_of scripts p = record { instance = instance_of scripts p.instance.now; page = page_of p.page.now }
@@ -35,9 +35,12 @@ admission_of scripts (Begins place script) = spec.begins place (named_of script.
 admission_of scripts (Resumes place) = spec.resumes (place_of scripts place)
 admission_of scripts (Refused r) = spec.refused r
 
--- the place's script is that of its instance, and each of its pages has the state of its chain, the place's page among them
+-- the place's script is that of its instance
+abbrev pub IsPlacedAt : List Named → Place → Type 0
+IsPlacedAt scripts p = slice_get scripts p.instance.now.item.script ≡ Some (named_of p.script.now)
+
+-- and each of its pages has the state of its chain, the place's page among them
 pub record IsKeptAt (scripts : List Named) (shelf : ℕ) (p : Place) : Type 0 where
-  pub script : slice_get scripts p.instance.now.item.script ≡ Some (named_of p.script.now)
   pub all :
       let s = named_of p.script.now in
       HaveStates s (home s shelf p.instance.now.number) (pages_of p.instance.now.item.pages) (shown_in p.instance.now.item.pages)
@@ -49,9 +52,12 @@ pub record IsKeptAt (scripts : List Named) (shelf : ℕ) (p : Place) : Type 0 wh
 abbrev pub IsWhyNot : (clock : ℕ) → Numbered KeptInstance → Numbered KeptPage → Option Refusal → Type 0
 IsWhyNot clock i p r = (scripts : List Named) → r ≡ spec.why_not clock (instance_of scripts i) (page_of p)
 
--- the script that stands there
+-- the script that stands there; that of the instance of a number
 abbrev pub named_if : Option (Bor NamedScript) → Option Named
 named_if s = option_map (λ n. named_of n.now) s
+
+abbrev pub script_at : List Named → (instance : ℕ) → Book → Option Named
+script_at scripts n b = option_map (λ i. i.script) (book.instance_at n (instances_of scripts b.instances))
 
 -- the book under this setup; admission looks at neither a journal nor a doubt
 abbrev pub book_under : Setup → Book → book.Book
@@ -100,7 +106,16 @@ FitsPlace setup b place t =
 abbrev pub FitsIn : Setup → Book → Target → Ticket → Type 0
 FitsIn setup b target t = FitsAs (scripts_of setup) (book_under setup b) t (admission_for setup b target)
 
--- what an admission resumes is kept so
+-- where the target is admitted as a start, the ticket is for the visit of it
+abbrev pub StartsIn : Setup → Book → Target → Ticket → Type 0
+StartsIn setup b target t = FitsIfStart (scripts_of setup) (book_under setup b) t (admission_for setup b target)
+
+-- what an admission resumes is of its instance's script
+abbrev pub ResumesPlaced : List Named → Admission → Type 0
+ResumesPlaced scripts (Resumes place) = IsPlacedAt scripts place
+ResumesPlaced scripts _ = ⊤
+
+-- and what it resumes is kept so
 abbrev pub ResumesKept : List Named → (shelf : ℕ) → Admission → Type 0
 ResumesKept scripts shelf (Resumes place) = IsKeptAt scripts shelf place
 ResumesKept scripts shelf _ = ⊤

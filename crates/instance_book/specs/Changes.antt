@@ -9,6 +9,8 @@ use Rattle.replay_spec.specs.Change.{put_page, put_instance, mend, without}
 use Rattle.replay_spec.specs.Next.{home}
 use Rattle.replay_spec.specs.Step as step
 use Rattle.replay_spec.specs.Step.{Decision, replies, records}
+use Rattle.stored_states.specs.Views.{suspended_of}
+use Rattle.frame_codec.specs.Spelling.{StateHasBytes}
 use Rattle.instance_book.specs.declared.numbered.Numbered.{Numbered}
 use Rattle.instance_book.specs.declared.in_order.InOrder.{InOrder}
 use Rattle.instance_book.specs.declared.instance.KeptInstance.{KeptInstance}
@@ -26,7 +28,7 @@ use Rattle.instance_book.specs.Orders.{numbers_of}
 use Rattle.instance_book.specs.Lists.{HasRoom}
 use Rattle.instance_book.specs.Views.{page_of, pages_of, script_in, instance_with, instance_of, instances_of, reply_of, HasRoomAt}
 use Rattle.instance_book.specs.Places.{kept_at, shown_in, HasState, IsNextAt}
-use Rattle.instance_book.specs.Makes.{HasItsStates}
+use Rattle.instance_book.specs.Makes.{HasItsStates, HasPlaces}
 
 -- the one that came anew, or else what there is
 abbrev pub renewed : {A : Type 0} → A → Option A → A
@@ -177,6 +179,28 @@ HasStateIn scripts shelf is _ = ⊤
 abbrev pub HasStateBy : List Named → (shelf : ℕ) → List spec.Instance → Option Change → Type 0
 HasStateBy scripts shelf is None = ⊤
 HasStateBy scripts shelf is (Some c) = HasStateIn scripts shelf is c
+
+-- a new instance is of a script of the setup; with it each goes on to be
+abbrev pub IsPlacedIn : List Named → Change → Type 0
+IsPlacedIn scripts (Opens o) = o.instance.script < length scripts
+IsPlacedIn scripts _ = ⊤
+
+abbrev pub IsPlacedBy : List Named → Option Change → Type 0
+IsPlacedBy scripts None = ⊤
+IsPlacedBy scripts (Some c) = IsPlacedIn scripts c
+
+abbrev pub KeepsPlacesBy : Option Change → (old new : Book) → Type 0
+KeepsPlacesBy c old new = (scripts : List Named) → IsPlacedBy scripts c → HasPlaces scripts old → HasPlaces scripts new
+
+-- the state of a change's new page has a spelling
+abbrev pub IsSpelledIn : Change → Type 0
+IsSpelledIn (Opens o) = StateHasBytes (suspended_of o.state)
+IsSpelledIn (Extends x) = StateHasBytes (suspended_of x.state)
+IsSpelledIn _ = ⊤
+
+abbrev pub IsSpelledBy : Option Change → Type 0
+IsSpelledBy None = ⊤
+IsSpelledBy (Some c) = IsSpelledIn c
 
 -- where the change's new page has the state of its chain too, each goes on to have its own
 abbrev pub KeepsStatesBy : Option Change → (old new : Book) → Type 0

@@ -1,12 +1,15 @@
 -- The visit that a ticket is for.
 use Rattle.std.specs.Prelude.{◌≡◌, ℕ, List, [], ◌∷◌, ◌++◌, Option, Some, None, slice_get, length, ⊤}
+use Rattle.script_nodes.specs.Arena.{Arena}
 use Rattle.script_nodes.specs.Setup.{Named}
 use Rattle.replay_spec.specs.Book as spec
 use Rattle.replay_spec.specs.Admission.{Admission, begins, resumes, refused}
 use Rattle.replay_spec.specs.Next.{Visit, url_for, home_of, page_tape, start_visit, page_visit}
 use Rattle.machine_spec.specs.Machine.{Suspended}
+use Rattle.machine_spec.specs.Fits.{Fits}
 use Rattle.machine_spec.specs.Laws.{IsStateOf}
 use Rattle.stored_states.specs.Views.{origin_of}
+use Rattle.stored_states.specs.declared.segment.Origin.{Origin}
 use Rattle.kept_states.specs.Links.{links_at}
 use Rattle.instance_book.specs.declared.ticket.Ticket.{Ticket}
 use Rattle.instance_book.specs.Views.{ticket_of}
@@ -43,7 +46,26 @@ FitsAs scripts b t (begins k s) = FitsStart scripts b t k s
 FitsAs scripts b t (resumes at) = IsFor scripts t (page_visit b (ticket_of t) at)
 FitsAs scripts b t (refused r) = ⊤
 
--- the ticket is for some visit of its own, so its segment can be run
+-- what a ticket goes on from fits a script
+abbrev pub FitsScript : Arena → Option Suspended → Type 0
+FitsScript a None = ⊤
+FitsScript a (Some d) = Fits a d
+
+abbrev pub IsOriginOf : Named → Origin → Type 0
+IsOriginOf s from = FitsScript (arena_of s.script) (origin_of from)
+
+-- the ticket's script is one of the setup, and what it goes on from fits it, so its segment can be run
+pub record IsRunnable (scripts : List Named) (t : Ticket) : Type 0 where
+  pub named : Named
+  pub script : slice_get scripts t.script ≡ Some named
+  pub from : IsOriginOf named t.from
+
+-- where the target is admitted as a start, the ticket is for the visit
+abbrev pub FitsIfStart : List Named → spec.Book → Ticket → Admission → Type 0
+FitsIfStart scripts b t (begins k s) = FitsStart scripts b t k s
+FitsIfStart scripts b t _ = ⊤
+
+-- the ticket is for some visit of its own
 pub record IsForSome (scripts : List Named) (t : Ticket) : Type 0 where
   pub visit : Visit
   pub ticket : visit.ticket ≡ ticket_of t

@@ -16,7 +16,7 @@ use Rattle.instance_book.specs.declared.ticket.Ticket.{Ticket}
 use Rattle.instance_book.specs.Views.{ticket_of}
 use Rattle.instance_book.specs.Places.{arena_of}
 use Rattle.instance_book.specs.Fits.{FitsAs}
-use Rattle.instance_book.specs.Changes.{HasStateBy}
+use Rattle.instance_book.specs.Changes.{HasStateBy, IsSpelledBy}
 use Rattle.instance_book.specs.Prepares.{KeepsItsState}
 
 -- where the segment waits for an answer, its state is kept over the visit's tape, with what was read recorded
@@ -31,9 +31,9 @@ KeepsStateAs b t (resumes at) r = KeepsStateOver (page_visit b (ticket_of t) at)
 KeepsStateAs b t (refused why) r = ⊤
 
 -- What a ticket's segment shows, where the target is admitted and the ticket is for the visit, is a page with the state of its
--- chain.
+-- chain, where that has a spelling.
 abbrev pub AShownPageHasItsState : Type 0
 AShownPageHasItsState =
     (b : Book) → IsOrderly b → (t : Ticket) → Contains b.out t.number → (a : Admission) → admit b (target_of t.target) ≡ a
-    → refusal_of a ≡ None → FitsAs b.scripts b t a → (r : Segment) → KeepsStateAs b t a r → (c : Option Change) → KeepsItsState t r c
+    → refusal_of a ≡ None → FitsAs b.scripts b t a → (r : Segment) → KeepsStateAs b t a r → (c : Option Change) → KeepsItsState t r c → IsSpelledBy c
     → HasStateBy b.scripts b.shelf b.instances c

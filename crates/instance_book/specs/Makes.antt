@@ -10,7 +10,7 @@ use Rattle.instance_book.specs.declared.page.KeptPage.{KeptPage}
 use Rattle.instance_book.specs.declared.instance.KeptInstance.{KeptInstance}
 use Rattle.instance_book.specs.declared.book.Book.{Book}
 use Rattle.instance_book.specs.Views.{instance_of, instances_of, book_of}
-use Rattle.instance_book.specs.Places.{IsKept, AreKept, IsNextAt}
+use Rattle.instance_book.specs.Places.{IsKept, AreKept, IsPlaced, ArePlaced, IsNextAt}
 
 -- whatever the setup, of the one list this was made
 abbrev pub AllBecome : (List spec.Instance → List spec.Instance) → (old new : InOrder KeptInstance) → Type 0
@@ -29,6 +29,10 @@ abbrev pub IsKeptAmong : InOrder KeptInstance → Option (Bor (Numbered KeptInst
 IsKeptAmong is i =
     (scripts : List Named) (shelf : ℕ) → AreKept scripts shelf is → IfSome i (λ x. IsKept scripts shelf x.now)
 
+-- it is of a script of the setup, as each is
+abbrev pub IsPlacedAmong : InOrder KeptInstance → Option (Bor (Numbered KeptInstance)) → Type 0
+IsPlacedAmong is i = (scripts : List Named) → ArePlaced scripts is → IfSome i (λ x. IsPlaced scripts x.now)
+
 -- Whatever the setup, the length of the journal and what is in doubt, of the one book this was made, under that setup.
 abbrev pub MakesUnder : (List Named → spec.Book → spec.Book) → (old new : Book) → Type 0
 MakesUnder f old new =
@@ -45,7 +49,14 @@ StaysSame old new = Makes (λ b. b) old new
 abbrev pub count_of : Book → ℕ
 count_of b = length b.instances.things.items
 
--- each instance is of a script of the setup, and each of its pages has the state of its chain; and so it goes on to be
+-- each instance is of a script of the setup; and so it goes on to be
+abbrev pub HasPlaces : List Named → Book → Type 0
+HasPlaces scripts b = ArePlaced scripts b.instances
+
+abbrev pub KeepsPlaces : (old new : Book) → Type 0
+KeepsPlaces old new = (scripts : List Named) → HasPlaces scripts old → HasPlaces scripts new
+
+-- and each of its pages has the state of its chain; and so it goes on to be
 abbrev pub HasItsStates : List Named → Book → Type 0
 HasItsStates scripts b = AreKept scripts b.shelf b.instances
 

@@ -13,6 +13,7 @@ use Rattle.machine_spec.specs.Laws.{IsStateOf}
 use Rattle.stored_states.specs.Views.{origin_of, suspended_of}
 use Rattle.stored_states.specs.declared.frame.Suspended as stored
 use Rattle.stored_states.specs.declared.segment.Origin.{Origin}
+use Rattle.frame_codec.specs.Spelling.{StateHasBytes}
 use Rattle.kept_states.specs.Kept.{Kept, IsKeptFrom, kept_of}
 use Rattle.kept_states.specs.Links.{links_at}
 use Rattle.instance_book.specs.declared.numbered.Numbered.{Numbered}
@@ -47,11 +48,12 @@ IsKeptBehind s h [] d k = IsKeptFrom None 0 d k
 IsKeptBehind s h (q ∷ older) d k =
     (before : Suspended) × (IsStateAt s h older q before × IsKeptFrom (Some before) (links_at (length (q ∷ older))) d k)
 
--- a page whose ancestors stand among these has a state, of which this is kept
+-- a page whose ancestors stand among these has a state with a spelling, of which this is kept
 pub record HasState (s : Named) (h : Home) (ps : List spec.Page) (p : spec.Page) (k : Kept) : Type 0 where
   pub lineage : Lineage ps p
   pub state : Suspended
   pub its : IsStateAt s h lineage.ancestors p state
+  pub bytes : StateHasBytes state
   pub kept : IsKeptBehind s h lineage.ancestors state k
 
 abbrev pub HaveStates : Named → Home → List spec.Page → List (spec.Page × Kept) → Type 0
@@ -68,6 +70,20 @@ IsKept scripts shelf i = IsKeptAs scripts shelf i.number i.item.script (pages_of
 
 abbrev pub AreKept : List Named → (shelf : ℕ) → InOrder KeptInstance → Type 0
 AreKept scripts shelf is = AllByRecursion (IsKept scripts shelf) is.things.items
+
+-- the instance is of a script of the setup; each instance is so
+abbrev pub IsPlaced : List Named → Numbered KeptInstance → Type 0
+IsPlaced scripts i = i.item.script < length scripts
+
+abbrev pub ArePlaced : List Named → InOrder KeptInstance → Type 0
+ArePlaced scripts is = AllByRecursion (IsPlaced scripts) is.things.items
+
+-- where each was so, each is; where this one is so too, each goes on to be
+abbrev pub StayPlaced : (old new : InOrder KeptInstance) → Type 0
+StayPlaced old new = (scripts : List Named) → ArePlaced scripts old → ArePlaced scripts new
+
+abbrev pub StayPlacedWith : Numbered KeptInstance → (old new : InOrder KeptInstance) → Type 0
+StayPlacedWith i old new = (scripts : List Named) → IsPlaced scripts i → ArePlaced scripts old → ArePlaced scripts new
 
 -- where this one is so too, each goes on to be
 abbrev pub StayKeptWith : Numbered KeptInstance → (old new : InOrder KeptInstance) → Type 0

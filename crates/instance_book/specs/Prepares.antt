@@ -1,5 +1,5 @@
 -- What a visit is prepared as.
-use Rattle.std.specs.Prelude.{◌≡◌, ◌⊎◌, ℕ, ◌+◌, List, [], ◌∷◌, length, Option, Some, None, IfSome, Result, Ok, Err, ⊤}
+use Rattle.std.specs.Prelude.{◌≡◌, ◌⊎◌, ℕ, ◌+◌, List, [], ◌∷◌, length, Option, Some, None, IfSome, Result, Ok, Err, ⊤, slice_get}
 use Rattle.script_value.specs.Val.{list, no_vals}
 use Rattle.script_value.specs.Views.{meaning}
 use Rattle.script_value.specs.declared.outcome.Reply.{Reply}
@@ -19,7 +19,7 @@ use Rattle.replay_spec.specs.Admission.{Place, Admission, begins, resumes, refus
 use Rattle.replay_spec.specs.Next.{start_visit, page_visit}
 use Rattle.replay_spec.specs.Step.{Decision, replies, records, settles, carried_out, refusal, shown, ended, finished}
 use Rattle.machine_spec.specs.Machine.{Suspended}
-use Rattle.stored_states.specs.Views.{origin_of, segment_of, state_of}
+use Rattle.stored_states.specs.Views.{origin_of, suspended_of, segment_of, state_of}
 use Rattle.stored_states.specs.declared.segment.Segment as stored
 use Rattle.instance_book.specs.declared.numbered.Numbered.{Numbered}
 use Rattle.instance_book.specs.declared.page.KeptPage.{KeptPage}
@@ -226,11 +226,13 @@ pub record OpensAs (t : Ticket) (effects : List Effect) (inside : List TxName) (
   pub shown : shown_in o.instance.pages ≡ []
   pub page : page_of o.page ≡ first_page t effects inside o.page.item.deadline
   pub state : IsKeptFrom None 0 d (kept_at o.page)
+  pub told : suspended_of o.state ≡ d
 
 pub record ExtendsAs (t : Ticket) (number answered : ℕ) (effects : List Effect) (inside : List TxName) (d : Suspended) (x : Extension) : Type 0 where
   pub instance : x.instance ≡ number
   pub page : page_of x.show.page ≡ next_page t answered effects inside x.show.page.item.deadline
   pub state : IsKeptOfTicket t d x.show.page
+  pub told : suspended_of x.state ≡ d
 
 abbrev pub OpensTo : Ticket → List Effect → (inside : List TxName) → Suspended → Option Change → Type 0
 OpensTo t effects inside d (Some (Opens o)) = OpensAs t effects inside d o
@@ -268,3 +270,41 @@ KeepsStateOf t r (page name n) c = AnswerKeepsState t r n.instance n.page c
 
 abbrev pub KeepsItsState : Ticket → stored.Segment → Option Change → Type 0
 KeepsItsState t r c = KeepsStateOf t r (target_of t.target) c
+
+-- ---- whatever the ticket is for
+
+-- the change is that of a ticket's segment: of a start, or of an answer to this page of this instance
+abbrev pub IsStartBy : Ticket → Segment → spec.Change → Type 0
+IsStartBy t s (spec.opens o) = (kind : SendKind) × ((deadline : ℕ) × (o ≡ opening_by t s.effects s.left kind deadline))
+IsStartBy t s _ = ⊥
+
+abbrev pub IsAnswerBy : Ticket → Segment → (instance answered : ℕ) → spec.Change → Type 0
+IsAnswerBy t s n m (spec.extends x) = (kind : SendKind) × ((deadline : ℕ) × (x ≡ extension_by t n m s.effects s.left kind deadline))
+IsAnswerBy t s n m (spec.ends e) = e ≡ ending_by t n m s.effects s.left
+IsAnswerBy t s n m (spec.finishes f) = f ≡ finish_by t n m s.effects
+IsAnswerBy t s n m _ = ⊥
+
+abbrev pub IsChangeBy : Ticket → Segment → Destination → spec.Change → Type 0
+IsChangeBy t s (start name) c = IsStartBy t s c
+IsChangeBy t s (page name n) c = IsAnswerBy t s n.instance n.page c
+
+-- and its page is inside the transactions in which the segment stopped
+abbrev pub IsDecisionBy : Ticket → Segment → Destination → Decision → Type 0
+IsDecisionBy t s d (replies r) = ⊤
+IsDecisionBy t s d (records r c inside) = IsChangeBy t s d c × (inside ≡ s.entered)
+
+-- what a start asks of the setup: the ticket's script stands there, and it has the cells that the script begins with
+abbrev pub HasItsScript : List Named → Ticket → Destination → Type 0
+HasItsScript scripts t (start name) = (named : Named) × ((slice_get scripts t.script ≡ Some named) × (t.cells ≡ named.script.cells))
+HasItsScript scripts t (page name n) = ⊤
+
+-- what is prepared carries out what it decides
+abbrev pub CarriesItself : Book → Ticket → Destination → Prepared → Type 0
+CarriesItself book t d p =
+    (scripts : List Named) (length_now : ℕ) (down : Option Doubt) → HasItsScript scripts t d
+    → IsCarriedOut scripts (rules_with 0 0 0 0) (book_of scripts length_now down book) (decision_of p) p
+
+-- What is prepared for a ticket is a change of its segment, or none, and carries itself out.
+pub record IsOfSegment (book : Book) (t : Ticket) (s : Segment) (d : Destination) (p : Prepared) : Type 0 where
+  pub decision : IsDecisionBy t s d (decision_of p)
+  pub lands : CarriesItself book t d p

@@ -1,5 +1,5 @@
 -- What a record that is told again makes of a book.
-use Rattle.std.specs.Prelude.{◌≡◌, ℕ, ◌+◌, max, List, [], length, map, Option, Some, None, slice_get}
+use Rattle.std.specs.Prelude.{◌≡◌, ◌<◌, ℕ, ◌+◌, max, List, [], length, map, Option, Some, None, slice_get}
 use Rattle.std.specs.Borrow.{Bor}
 use Rattle.script_value.specs.Val.{list, no_vals}
 use Rattle.script_value.specs.Views.{meaning}
@@ -25,6 +25,7 @@ use Rattle.replay_spec.specs.Invariant.{Lineage}
 use Rattle.machine_spec.specs.Machine.{Suspended}
 use Rattle.machine_spec.specs.Laws.{IsStateOf}
 use Rattle.stored_states.specs.Views.{suspended_of}
+use Rattle.frame_codec.specs.Spelling.{StateHasBytes}
 use Rattle.instance_book.specs.declared.numbered.Numbered.{Numbered}
 use Rattle.instance_book.specs.declared.instance.KeptInstance.{KeptInstance}
 use Rattle.instance_book.specs.declared.prepared.Opening.{Opening}
@@ -33,7 +34,7 @@ use Rattle.instance_book.specs.declared.book.Book.{Book}
 use Rattle.instance_book.specs.declared.ticket.Ticket.{Ticket}
 use Rattle.instance_book.specs.Views.{instance_of, ticket_of, book_of}
 use Rattle.instance_book.specs.Places.{arena_of}
-use Rattle.instance_book.specs.Makes.{Makes, HasItsStates}
+use Rattle.instance_book.specs.Makes.{Makes, HasPlaces, HasItsStates}
 use Rattle.instance_book.specs.Changes.{opening_of, begun_with}
 use Rattle.instance_book.specs.Prepares.{rules_with, first_instance, opening_by, extension_by, OpensAs}
 use Rattle.instance_book.specs.Fits.{IsFor, FitsStart}
@@ -54,7 +55,14 @@ pub record StartsAgain (setup : Setup) (b : Book) (script number nonce : ℕ) (t
   pub ticket : ticket_of t ≡ told_start named number nonce
   pub fits : FitsStart (scripts_of setup) (book_under setup b) t script named
 
--- the ticket is for an answer to the page that stands there, and has the cells of its instance
+-- the ticket is of an answer to the page that stands there, and has the cells of its instance
+pub record AnswersThere (setup : Setup) (b : Book) (instance page : ℕ) (answer : Value) (number nonce : ℕ) (t : Ticket) : Type 0 where
+  pub at : Place
+  pub found : page_of_numbers (book_under setup b) instance page ≡ Some at
+  pub ticket : ticket_of t ≡ told_answer at answer number nonce
+  pub cells : t.cells ≡ at.instance.cells
+
+-- and is for it
 pub record AnswersAgain (setup : Setup) (b : Book) (instance page : ℕ) (answer : Value) (number nonce : ℕ) (t : Ticket) : Type 0 where
   pub at : Place
   pub found : page_of_numbers (book_under setup b) instance page ≡ Some at
@@ -123,10 +131,10 @@ LandsExtension t instance answered p old new =
     → let b = book_beside scripts length old in instance_at instance b.instances ≡ Some i
     → book_beside scripts length new ≡ land no_rules (told_extension t instance answered p) p.inside.items b
 
--- the page has the state of a start of its script
+-- the page has the state of a start of its script, with a spelling
 abbrev pub HasStartState : List Named → Book → Ticket → ToldPage → Type 0
 HasStartState scripts b t p =
-    (named : Named) × ((slice_get scripts t.script ≡ Some named)
+    (named : Named) × ((slice_get scripts t.script ≡ Some named) × StateHasBytes (suspended_of p.state)
     × IsStateOf (arena_of named.script) (tape_for (start_visit (book_beside scripts 0 b) (ticket_of t) t.script named) (recorded (reads_of (effects_in p)))) (suspended_of p.state))
 
 -- the page is new in its instance, and has the state of the chain of the page that it answers, and the ticket is for that answer
@@ -136,9 +144,14 @@ pub record HasAnswerState (scripts : List Named) (b : Book) (t : Ticket) (instan
   pub shown : page_at answered at.instance.pages ≡ Some at.page
   pub lineage : Lineage at.instance.pages at.page
   pub unused : page_at t.number at.instance.pages ≡ None
+  pub bytes : StateHasBytes (suspended_of p.state)
   pub state :
       IsStateOf (arena_of at.instance.script.script) (tape_for (page_visit (book_beside scripts 0 b) (ticket_of t) at) (recorded (reads_of (effects_in p)))) (suspended_of p.state)
   pub fits : IsFor scripts t (page_visit (book_beside scripts 0 b) (ticket_of t) at)
+
+-- each instance goes on to be of a script of the setup, where the ticket's is one
+abbrev pub KeepsStartPlaces : Ticket → (old new : Book) → Type 0
+KeepsStartPlaces t old new = (scripts : List Named) → t.script < length scripts → HasPlaces scripts old → HasPlaces scripts new
 
 -- so each page goes on to have its own
 abbrev pub KeepsStartStates : Ticket → ToldPage → (old new : Book) → Type 0

@@ -5,8 +5,8 @@ ghost use Rattle.page_names.specs.Views.{name_of};
 ghost use Rattle.replay_spec.specs.Admission as spec;
 ghost use Rattle.replay_spec.specs.Names.{first_closed};
 ghost use Rattle.instance_book.specs.Views.{instance_of, page_of};
-ghost use Rattle.instance_book.specs.Makes.{HasItsStates};
-ghost use Rattle.instance_book.specs.Admissions.{IsWhyNot, named_if, IsPlaceOf, IsPlaceAt, IsStartOf, IsAdmittedAs, IsKeptAt, ResumesKept};
+ghost use Rattle.instance_book.specs.Makes.{HasItsStates, HasPlaces};
+ghost use Rattle.instance_book.specs.Admissions.{IsWhyNot, named_if, IsPlaceOf, IsPlaceAt, IsStartOf, IsAdmittedAs, IsPlacedAt, IsKeptAt, ResumesPlaced, ResumesKept};
 
 use crate::book::Book;
 use crate::instance::KeptInstance;
@@ -72,7 +72,10 @@ fn why_not(
 }
 
 // The script of an instance, which is one of the setup.
-fn script_of<'a>(setup: &'a Setup, instance: &Numbered<KeptInstance>) -> Option<&'a NamedScript>
+pub(crate) fn script_of<'a>(
+    setup: &'a Setup,
+    instance: &Numbered<KeptInstance>,
+) -> Option<&'a NamedScript>
     requires { instance.now.item.script < length (scripts_of setup.now) }
     ensures script { named_if result ≡ slice_get (scripts_of setup.now) instance.now.item.script }
     ensures its { named_if result ≡ Some (instance_of (scripts_of setup.now) instance.now).script }
@@ -87,9 +90,10 @@ pub(crate) fn place_of_numbers<'a>(
     instance: u64,
     page: u64,
 ) -> Option<Place<'a>>
-    requires { HasItsStates (scripts_of setup.now) book.now }
+    requires { HasPlaces (scripts_of setup.now) book.now }
     ensures place { IsPlaceOf setup.now book.now instance page result }
-    ensures states { IfSome result (IsKeptAt (scripts_of setup.now) book.now.shelf) }
+    ensures placed { IfSome result (IsPlacedAt (scripts_of setup.now)) }
+    ensures states { HasItsStates (scripts_of setup.now) book.now → IfSome result (IsKeptAt (scripts_of setup.now) book.now.shelf) }
 {
     let instance = book.instances.instance(instance)?;
     let script = script_of(setup, instance)?;
@@ -108,9 +112,10 @@ fn place_at<'a>(
     name: &ScriptName,
     page: &PageName,
 ) -> Option<Place<'a>>
-    requires { HasItsStates (scripts_of setup.now) book.now }
+    requires { HasPlaces (scripts_of setup.now) book.now }
     ensures place { IsPlaceAt setup.now book.now name.now page.now result }
-    ensures states { IfSome result (IsKeptAt (scripts_of setup.now) book.now.shelf) }
+    ensures placed { IfSome result (IsPlacedAt (scripts_of setup.now)) }
+    ensures states { HasItsStates (scripts_of setup.now) book.now → IfSome result (IsKeptAt (scripts_of setup.now) book.now.shelf) }
 {
     let place = place_of_numbers(book, setup, page.instance, page.page)?;
     if page.shelf == book.shelf
@@ -125,6 +130,7 @@ fn place_at<'a>(
 // What a start is admitted as.
 fn admission_of_start<'a>(setup: &'a Setup, name: &ScriptName) -> Admission<'a>
     ensures admission { IsStartOf setup.now name.now result }
+    ensures placed { ResumesPlaced (scripts_of setup.now) result }
     ensures states { (shelf : ℕ) → ResumesKept (scripts_of setup.now) shelf result }
 {
     let Some(place) = setup.place(name) else {
@@ -143,9 +149,10 @@ fn admission_of_page<'a>(
     name: &ScriptName,
     page: &PageName,
 ) -> Admission<'a>
-    requires { HasItsStates (scripts_of setup.now) book.now }
+    requires { HasPlaces (scripts_of setup.now) book.now }
     ensures admission { IsAdmittedAs setup.now book.now (Target.Page name.now page.now) result }
-    ensures states { ResumesKept (scripts_of setup.now) book.now.shelf result }
+    ensures placed { ResumesPlaced (scripts_of setup.now) result }
+    ensures states { HasItsStates (scripts_of setup.now) book.now → ResumesKept (scripts_of setup.now) book.now.shelf result }
 {
     let Some(place) = place_at(book, setup, name, page) else {
         return Admission::Refused(Refusal::Unknown);
@@ -158,9 +165,10 @@ fn admission_of_page<'a>(
 
 /// What a target is admitted as.
 pub fn admission_to<'a>(book: &'a Book, setup: &'a Setup, target: &Target) -> Admission<'a>
-    requires { HasItsStates (scripts_of setup.now) book.now }
+    requires { HasPlaces (scripts_of setup.now) book.now }
     ensures admission { IsAdmittedAs setup.now book.now target.now result }
-    ensures states { ResumesKept (scripts_of setup.now) book.now.shelf result }
+    ensures placed { ResumesPlaced (scripts_of setup.now) result }
+    ensures states { HasItsStates (scripts_of setup.now) book.now → ResumesKept (scripts_of setup.now) book.now.shelf result }
 {
     match target {
         Target::Start(name) => admission_of_start(setup, name),

@@ -3,11 +3,12 @@ ghost use Rattle.script_nodes.specs.Setup.{Named};
 ghost use Rattle.script_nodes.specs.Views.{named_of, scripts_of};
 ghost use Rattle.replay_spec.specs.Book as spec;
 ghost use Rattle.instance_book.specs.Views.{IsTicketFor};
-ghost use Rattle.instance_book.specs.Makes.{count_of, Makes, StaysSame, HasItsStates, KeepsStates};
-ghost use Rattle.instance_book.specs.Admissions.{IsKeptAt, HasCellsBy, FitsStartIn, FitsPlace, admission_for, refusal_for, FitsIn};
+ghost use Rattle.instance_book.specs.Fits.{IsRunnable};
+ghost use Rattle.instance_book.specs.Makes.{count_of, Makes, StaysSame, HasPlaces, KeepsPlaces, HasItsStates, KeepsStates};
+ghost use Rattle.instance_book.specs.Admissions.{IsPlacedAt, IsKeptAt, named_if, script_at, HasCellsBy, FitsStartIn, FitsPlace, admission_for, refusal_for, FitsIn, StartsIn};
 ghost use Rattle.instance_book.specs.Swept.{swept, cells_at, IsEmpty};
 
-use crate::admission::{Admission, Place, admission_to};
+use crate::admission::{Admission, Place, admission_to, script_of};
 use crate::book::Book;
 use crate::home::Home;
 use crate::in_order::InOrder;
@@ -25,6 +26,7 @@ impl Book {
     /// The book of a shelf with nothing in it; it takes no memory.
     pub fn empty(alloc: Global, shelf: u32) -> Book
         ensures book { IsEmpty shelf result }
+        ensures placed { (scripts : List Named) → HasPlaces scripts result }
         ensures states { (scripts : List Named) → HasItsStates scripts result }
     {
         Book {
@@ -74,9 +76,18 @@ impl Book {
         Some(&instance.item.cells)
     }
 
+    /// The script of an instance, where there is a live one of this number. It takes no memory.
+    pub fn script<'a>(&self, setup: &'a Setup, instance: u64) -> Option<&'a NamedScript>
+        requires { HasPlaces (scripts_of setup.now) self.now }
+        ensures { named_if result ≡ script_at (scripts_of setup.now) instance self.now }
+    {
+        let instance = self.instances.instance(instance)?;
+        script_of(setup, instance)
+    }
+
     /// Whether a target is admitted, and else why not. It takes no memory.
     pub fn admit(&self, setup: &Setup, target: &Target) -> Result<(), Refusal>
-        requires { HasItsStates (scripts_of setup.now) self.now }
+        requires { HasPlaces (scripts_of setup.now) self.now }
         ensures admitted { OnOk result (refusal_for setup.now self.now target.now ≡ None) }
         ensures refused { IfErr result (λ r. refusal_for setup.now self.now target.now ≡ Some r) }
     {
@@ -101,6 +112,7 @@ impl Book {
         requires { slice_get (scripts_of setup.now) place ≡ Some (named_of script.now) }
         ensures ticket { IfOk result (IsTicketFor target.now answer number nonce) }
         ensures fits { IfOk result (FitsStartIn setup.now self.now place (named_of script.now)) }
+        ensures runs { IfOk result (IsRunnable (scripts_of setup.now)) }
     {
         let home = Home {
             name: script.name,
@@ -131,9 +143,10 @@ impl Book {
         number: u64,
         nonce: u64,
     ) -> Result<Ticket, AllocError>
-        requires { IsKeptAt (scripts_of setup.now) self.now.shelf place }
+        requires { IsPlacedAt (scripts_of setup.now) place }
         ensures ticket { IfOk result (IsTicketFor target.now answer number nonce) }
-        ensures fits { IfOk result (FitsPlace setup.now self.now place.entry) }
+        ensures fits { IsKeptAt (scripts_of setup.now) self.now.shelf place.entry → IfOk result (FitsPlace setup.now self.now place.entry) }
+        ensures runs { IfOk result (IsRunnable (scripts_of setup.now)) }
         ensures cells { IfOk result (λ t. t.cells ≡ place.entry.instance.now.item.cells) }
     {
         let home = Home {
@@ -164,9 +177,11 @@ impl Book {
         number: u64,
         nonce: u64,
     ) -> Result<Ticket, AllocError>
-        requires { HasItsStates (scripts_of setup.now) self.now }
+        requires { HasPlaces (scripts_of setup.now) self.now }
         ensures ticket { IfOk result (IsTicketFor target.now answer number nonce) }
-        ensures fits { IfOk result (FitsIn setup.now self.now target.now) }
+        ensures fits { HasItsStates (scripts_of setup.now) self.now → IfOk result (FitsIn setup.now self.now target.now) }
+        ensures starts { IfOk result (StartsIn setup.now self.now target.now) }
+        ensures runs { IfOk result (IsRunnable (scripts_of setup.now)) }
         ensures cells { IfOk result (HasCellsBy (admission_for setup.now self.now target.now)) }
     {
         match admission_to(self, setup, target) {
@@ -182,7 +197,8 @@ impl Book {
 
     /// Takes the next number, for a visit of a target that is admitted.
     ///
-    /// Where memory runs out, nothing changes.
+    /// The ticket can be run. Where each page of the book has the state of its chain, it is for the visit of the target, and so
+    /// it is for a start. Where memory runs out, nothing changes.
     pub fn ticket(
         &mut self,
         alloc: Global,
@@ -193,12 +209,15 @@ impl Book {
     ) -> Result<Ticket, AllocError>
         requires admitted { refusal_for setup.now self.old target.now ≡ None }
         requires numbers { self.old.drawn < 2 ^ 62 }
-        requires states { HasItsStates (scripts_of setup.now) self.old }
+        requires placed { HasPlaces (scripts_of setup.now) self.old }
         ensures drawn { OnOk result (Makes spec.draw self.old self.new) }
         ensures ticket { IfOk result (IsTicketFor target.now answer self.old.drawn nonce) }
-        ensures fits { IfOk result (FitsIn setup.now self.old target.now) }
+        ensures fits { HasItsStates (scripts_of setup.now) self.old → IfOk result (FitsIn setup.now self.old target.now) }
+        ensures starts { IfOk result (StartsIn setup.now self.old target.now) }
+        ensures runs { IfOk result (IsRunnable (scripts_of setup.now)) }
         ensures cells { IfOk result (HasCellsBy (admission_for setup.now self.old target.now)) }
         ensures err { OnErr result (StaysSame self.old self.new) }
+        ensures placed { KeepsPlaces self.old self.new }
         ensures states { KeepsStates self.old self.new }
     {
         let number = self.drawn;
@@ -213,6 +232,7 @@ impl Book {
     pub fn spend(&mut self, number: u64)
         ensures book { Makes (spec.spend number) self.old self.new }
         ensures instances { self.new.instances ≡ self.old.instances }
+        ensures placed { KeepsPlaces self.old self.new }
         ensures states { KeepsStates self.old self.new }
     {
         self.out.retain(|other| *other != number);
@@ -224,6 +244,7 @@ impl Book {
         requires low { tick < 2 ^ 62 }
         ensures book { Makes (swept tick) self.old self.new }
         ensures count { result ≡ count_of self.old - count_of self.new }
+        ensures placed { KeepsPlaces self.old self.new }
         ensures states { KeepsStates self.old self.new }
     {
         let before = self.instances.len();

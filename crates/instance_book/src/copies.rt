@@ -1,8 +1,9 @@
 ghost use Rattle.std.specs.Prelude.{◌≡◌, IfOk};
 ghost use Rattle.instance_book.specs.Lists.{HasRoom};
 ghost use Rattle.instance_book.specs.Views.{page_of};
-ghost use Rattle.instance_book.specs.Places.{kept_at, StayKept};
-ghost use Rattle.instance_book.specs.Makes.{AllBecome, StaysSame, KeepsStates};
+ghost use Rattle.stored_states.specs.Views.{suspended_of};
+ghost use Rattle.instance_book.specs.Places.{kept_at, StayPlaced, StayKept};
+ghost use Rattle.instance_book.specs.Makes.{AllBecome, StaysSame, KeepsPlaces, KeepsStates};
 ghost use Rattle.instance_book.specs.Changes.{opening_of, ending_of, finish_of};
 ghost use Rattle.instance_book.specs.Copies.{IsSamePages, IsSameInstance, BeginsAlike, IsSameShow, IsSameExtension, IsSameChange, IsSameIf, IsSame};
 
@@ -71,6 +72,7 @@ impl InOrder<KeptInstance> {
     /// A copy, equal to its source.
     pub fn try_clone(&self, alloc: Global) -> Result<InOrder<KeptInstance>, AllocError>
         ensures instances { IfOk result (AllBecome (λ is. is) self.now) }
+        ensures placed { IfOk result (StayPlaced self.now) }
         ensures states { IfOk result (StayKept self.now) }
     {
         let mut things = Vec::new(alloc);
@@ -123,6 +125,7 @@ impl Opening {
         ensures opening { IfOk result (λ copy. opening_of copy ≡ opening_of self.now) }
         ensures page { IfOk result (λ copy. page_of copy.page ≡ page_of self.now.page) }
         ensures state { IfOk result (λ copy. kept_at copy.page ≡ kept_at self.now.page) }
+        ensures told { IfOk result (λ copy. suspended_of copy.state ≡ suspended_of self.now.state) }
         ensures script { IfOk result (λ copy. copy.instance.script ≡ self.now.instance.script) }
         ensures pages { IfOk result (λ copy. IsSamePages self.now.instance.pages copy.instance.pages) }
         ensures begun { IfOk result (BeginsAlike self.now) }
@@ -135,6 +138,7 @@ impl Opening {
             left: self.left.as_slice().to_vec(alloc)?,
             kind: self.kind,
             page: self.page.try_clone(alloc)?,
+            state: self.state.try_clone(alloc)?,
             instance,
         })
     }
@@ -152,6 +156,7 @@ impl Extension {
             effects: clone_effects(alloc, &self.effects)?,
             left: self.left.as_slice().to_vec(alloc)?,
             kind: self.kind,
+            state: self.state.try_clone(alloc)?,
             show: self.show.try_clone(alloc)?,
         })
     }
@@ -243,6 +248,7 @@ impl Book {
     /// A copy, equal to its source.
     pub fn try_clone(&self, alloc: Global) -> Result<Book, AllocError>
         ensures book { IfOk result (StaysSame self.now) }
+        ensures placed { IfOk result (KeepsPlaces self.now) }
         ensures states { IfOk result (KeepsStates self.now) }
     {
         let instances = self.instances.try_clone(alloc)?;

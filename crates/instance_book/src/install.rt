@@ -1,6 +1,6 @@
 ghost use Rattle.std.specs.Prelude.{◌≡◌};
 ghost use Rattle.instance_book.specs.Makes.{MakesUnder};
-ghost use Rattle.instance_book.specs.Changes.{changed_by, put_into, HasRoomFor, KeepsStatesBy};
+ghost use Rattle.instance_book.specs.Changes.{changed_by, put_into, HasRoomFor, KeepsPlacesBy, KeepsStatesBy};
 
 use crate::book::Book;
 use crate::instance::KeptInstance;
@@ -29,6 +29,7 @@ impl Opening {
             left: _,
             kind: _,
             page,
+            state: _,
             mut instance,
         } = self;
         let number = page.number;
@@ -45,6 +46,7 @@ impl Book {
     pub(crate) fn change(&mut self, change: Option<Change>)
         requires { HasRoomFor change self.old }
         ensures book { MakesUnder (λ scripts. changed_by scripts change) self.old self.new }
+        ensures placed { KeepsPlacesBy change self.old self.new }
         ensures states { KeepsStatesBy change self.old self.new }
     {
         let Some(change) = change else {
@@ -65,6 +67,7 @@ impl Book {
         requires { HasRoomFor prepared.change self.old }
         ensures book { MakesUnder (λ scripts. put_into scripts prepared) self.old self.new }
         ensures reply { result ≡ prepared.reply }
+        ensures placed { KeepsPlacesBy prepared.change self.old self.new }
         ensures states { KeepsStatesBy prepared.change self.old self.new }
     {
         let Prepared {

@@ -3,8 +3,8 @@ ghost use Rattle.replay_spec.specs.Book.{is_live};
 ghost use Rattle.replay_spec.specs.Change.{mend, without};
 ghost use Rattle.instance_book.specs.Lists.{HasRoom};
 ghost use Rattle.instance_book.specs.Views.{HasRoomAt};
-ghost use Rattle.instance_book.specs.Places.{StayKept, StayKeptWith};
-ghost use Rattle.instance_book.specs.Makes.{AllBecome, PutsInstance, IsInstanceAt, IsKeptAmong, StayKeptNext};
+ghost use Rattle.instance_book.specs.Places.{StayKept, StayKeptWith, StayPlaced, StayPlacedWith};
+ghost use Rattle.instance_book.specs.Makes.{AllBecome, PutsInstance, IsInstanceAt, IsPlacedAmong, IsKeptAmong, StayKeptNext};
 ghost use Rattle.instance_book.specs.Changes.{ended_with, shown_with};
 
 use crate::after::{After, Show};
@@ -17,6 +17,7 @@ impl InOrder<KeptInstance> {
     /// The instance of a number.
     pub fn instance(&self, number: u64) -> Option<&Numbered<KeptInstance>>
         ensures instance { IsInstanceAt number self.now result }
+        ensures placed { IsPlacedAmong self.now result }
         ensures states { IsKeptAmong self.now result }
     {
         self.get(number)
@@ -26,6 +27,7 @@ impl InOrder<KeptInstance> {
     pub fn make_room_in(&mut self, number: u64) -> Result<(), AllocError>
         ensures instances { AllBecome (λ is. is) self.old self.new }
         ensures room { OnOk result (HasRoomAt number self.new) }
+        ensures placed { StayPlaced self.old self.new }
         ensures states { StayKept self.old self.new }
     {
         match self.place(number) {
@@ -38,6 +40,7 @@ impl InOrder<KeptInstance> {
     pub fn put_instance(&mut self, instance: Numbered<KeptInstance>)
         requires { HasRoom self.old }
         ensures instances { PutsInstance instance self.old self.new }
+        ensures placed { StayPlacedWith instance self.old self.new }
         ensures states { StayKeptWith instance self.old self.new }
     {
         self.put(instance);
@@ -46,6 +49,7 @@ impl InOrder<KeptInstance> {
     /// All instances but the one of a number.
     pub fn free(&mut self, number: u64)
         ensures instances { AllBecome (without number) self.old self.new }
+        ensures placed { StayPlaced self.old self.new }
         ensures states { StayKept self.old self.new }
     {
         self.remove(number);
@@ -54,6 +58,7 @@ impl InOrder<KeptInstance> {
     /// The instances with a page that can be answered still at this tick.
     pub fn keep_live(&mut self, tick: u64)
         ensures instances { AllBecome (filter (is_live tick)) self.old self.new }
+        ensures placed { StayPlaced self.old self.new }
         ensures states { StayKept self.old self.new }
     {
         self.things
@@ -63,6 +68,7 @@ impl InOrder<KeptInstance> {
     /// The instances where that of a number is behind a segment.
     pub fn end(&mut self, number: u64, after: After)
         ensures instances { AllBecome (mend number (ended_with after)) self.old self.new }
+        ensures placed { StayPlaced self.old self.new }
         ensures states { StayKept self.old self.new }
     {
         match self.place(number) {
@@ -75,6 +81,7 @@ impl InOrder<KeptInstance> {
     pub fn show(&mut self, number: u64, show: Show)
         requires { HasRoomAt number self.old }
         ensures instances { AllBecome (mend number (shown_with show)) self.old self.new }
+        ensures placed { StayPlaced self.old self.new }
         ensures states { StayKeptNext number show.page self.old self.new }
     {
         match self.place(number) {

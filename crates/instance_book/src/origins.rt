@@ -1,12 +1,15 @@
-ghost use Rattle.std.specs.Prelude.{◌≡◌, ◌↔◌, IsTrue, IfOk, option_map};
+ghost use Rattle.std.specs.Prelude.{◌≡◌, IfOk};
 ghost use Rattle.script_nodes.specs.Views.{named_of};
-ghost use Rattle.instance_book.specs.Places.{AreStatesOf, IsStateIn, IsOriginIn};
+ghost use Rattle.stored_states.specs.Views.{suspended_of};
+ghost use Rattle.frame_codec.specs.Stored.{IsStored};
+ghost use Rattle.instance_book.specs.Places.{IsStateIn, IsOriginIn};
+ghost use Rattle.instance_book.specs.Fits.{IsOriginOf};
 ghost use Rattle.instance_book.specs.Fronts.{IsFrontIn};
 
 use crate::in_order::InOrder;
 use crate::numbered::Numbered;
 use crate::page::KeptPage;
-use frame_codec::{Need, join};
+use frame_codec::{Need, is_stored, join};
 use kept_states::Found;
 use machine_spec::each_page_has_one_state;
 use script_nodes::NamedScript;
@@ -15,6 +18,8 @@ use stored_states::{Origin, Suspended};
 
 // A front of the state of a page that is so many links from one whose state is kept by itself. Of the page before it reads what
 // this front shares, and no more. It recurses as deep, at most 32.
+//
+// Where each page has the state of its chain, each is found; what is not is told as want of memory.
 fn front_of(
     alloc: Global,
     script: &NamedScript,
@@ -23,24 +28,22 @@ fn front_of(
     need: Need,
     links: u8,
 ) -> Result<Suspended, AllocError>
-    requires links { page.now.item.state.links ≡ links }
-    requires states { AreStatesOf (named_of script.now) pages.now page.now }
-    ensures { IfOk result (IsFrontIn (named_of script.now) pages.now page.now need) }
+    ensures { page.now.item.state.links ≡ links → IfOk result (IsFrontIn (named_of script.now) pages.now page.now need) }
 {
     // A script's root tells that its nodes are its tree's.
     let _root = script.script.root();
     each_page_has_one_state();
     if links == 0 {
-        return match page.item.state.read_alone(alloc, &script.script, need)? {
-            Some(front) => Ok(front),
-            None => unreachable!(),
+        let Some(front) = page.item.state.read_alone(alloc, &script.script, need)? else {
+            return Err(AllocError);
         };
+        return Ok(front);
     }
     let Some(parent) = page.item.parent else {
-        unreachable!()
+        return Err(AllocError);
     };
     let Some(before) = pages.page(parent) else {
-        unreachable!()
+        return Err(AllocError);
     };
     match page.item.state.read_behind(alloc, &script.script, need)? {
         Some(Found::Front(front)) => Ok(front),
@@ -48,19 +51,20 @@ fn front_of(
             let shared = front_of(alloc, script, pages, before, own.shared(), links - 1)?;
             Ok(join(alloc, shared, own)?)
         }
-        None => unreachable!(),
+        None => Err(AllocError),
     }
 }
 
-// The state of a page.
+// The state of a page. A book that was read from a journal may keep a state that does not fit the script, which is told as want of
+// memory.
 fn state_of(
     alloc: Global,
     script: &NamedScript,
     pages: &InOrder<KeptPage>,
     page: &Numbered<KeptPage>,
 ) -> Result<Suspended, AllocError>
-    requires { AreStatesOf (named_of script.now) pages.now page.now }
-    ensures { IfOk result (IsStateIn (named_of script.now) pages.now page.now) }
+    ensures stored { IfOk result (λ d. IsStored script.now.script (suspended_of d)) }
+    ensures state { IfOk result (IsStateIn (named_of script.now) pages.now page.now) }
 {
     let links = page.item.state.links;
     let state = front_of(alloc, script, pages, page, Need::ALL, links)?;
@@ -69,6 +73,9 @@ fn state_of(
     let frames = state.frames.as_slice().len();
     prove!(variables < usize::MAX);
     prove!(frames < usize::MAX);
+    if !is_stored(&script.script, &state) {
+        return Err(AllocError);
+    }
     Ok(state)
 }
 
@@ -79,8 +86,10 @@ pub fn origin_at(
     pages: &InOrder<KeptPage>,
     page: &Numbered<KeptPage>,
 ) -> Result<Origin, AllocError>
-    requires { AreStatesOf (named_of script.now) pages.now page.now }
-    ensures { IfOk result (IsOriginIn (named_of script.now) pages.now page.now) }
+    ensures fits { IfOk result (IsOriginOf (named_of script.now)) }
+    ensures origin { IfOk result (IsOriginIn (named_of script.now) pages.now page.now) }
 {
+    // A script's root tells that its nodes are its tree's.
+    let _root = script.script.root();
     Ok(Origin::Page(state_of(alloc, script, pages, page)?))
 }

@@ -1,13 +1,15 @@
-ghost use Rattle.std.specs.Prelude.{◌≡◌, ◌<◌, ◌≤◌, ◌+◌, ◌^◌, ◌++◌, [], None, Ok, IfOk, IfErr, OnOk, map, length, Contains};
+ghost use Rattle.std.specs.Prelude.{◌≡◌, ◌<◌, ◌≤◌, ◌+◌, ◌^◌, ◌++◌, ℕ, List, [], None, Ok, IfOk, IfErr, OnOk, map, length, Contains};
 ghost use Rattle.instance_cells.specs.Cells.{AreOn, reads_of};
 ghost use Rattle.instance_cells.specs.Views.{effect_of};
 ghost use Rattle.stored_states.specs.Views.{segment_of, suspended_of};
+ghost use Rattle.page_names.specs.Names as names;
+ghost use Rattle.page_names.specs.Views.{target_of};
 ghost use Rattle.instance_book.specs.Lists.{HasRoom};
 ghost use Rattle.instance_book.specs.Views.{pages_of, HasRoomAt};
 ghost use Rattle.instance_book.specs.Places.{shown_in};
-ghost use Rattle.instance_book.specs.Makes.{StaysSame, KeepsStates};
+ghost use Rattle.instance_book.specs.Makes.{StaysSame, KeepsPlaces, KeepsStates};
 ghost use Rattle.instance_book.specs.Changes.{renewed, HasRoomFor};
-ghost use Rattle.instance_book.specs.Prepares.{StartsOn, AnswersOn, IsOnCells, AreOnCells, IsPrepared, IsKeptOfTicket, OpensTo, ExtendsTo, StartKeepsState, AnswerKeepsState, KeepsItsState};
+ghost use Rattle.instance_book.specs.Prepares.{StartsOn, AnswersOn, IsOnCells, AreOnCells, IsPrepared, IsKeptOfTicket, OpensTo, ExtendsTo, StartKeepsState, AnswerKeepsState, KeepsItsState, IsOfSegment};
 ghost use Rattle.instance_book.specs.Segments.{Revokes, BeginsBy, IsLeftBy, GoesOnBy, Shows, EndsOn, FinishesOn, OpensOn};
 
 use crate::after::{After, Show};
@@ -155,10 +157,10 @@ impl KeptInstance {
         inside: Vec<TxName>,
         left: &[TxName],
         deadline: u64,
-        state: Suspended,
+        state: &Suspended,
     ) -> Result<Show, AllocError>
         requires { AreOn (length self.now.cells) (map effect_of effects.now) }
-        ensures state { IfOk result (λ show. IsKeptOfTicket ticket.now (suspended_of state) show.page) }
+        ensures state { IfOk result (λ show. IsKeptOfTicket ticket.now (suspended_of state.now) show.page) }
         ensures instance { IfOk result (GoesOnBy ticket.now parent kind effects.now inside.items left.now deadline self.now) }
     {
         let after = self.after(alloc, effects, left)?;
@@ -207,7 +209,7 @@ impl Numbered<KeptInstance> {
     {
         let reply = shown(alloc, page, ticket)?;
         let show = self.item.shows(
-            alloc, ticket, answered, kind, &effects, inside, &left, deadline, state,
+            alloc, ticket, answered, kind, &effects, inside, &left, deadline, &state,
         )?;
         let answer = ticket.answer.try_clone(alloc)?;
         Ok(Prepared {
@@ -220,6 +222,7 @@ impl Numbered<KeptInstance> {
                 effects,
                 left,
                 kind,
+                state,
                 show,
             })),
         })
@@ -305,6 +308,7 @@ impl Book {
         requires number { ticket.now.number < 2 ^ 63 }
         requires few { length self.old.instances.things.items + 1 < 2 ^ 32 }
         ensures book { StaysSame self.old self.new }
+        ensures placed { KeepsPlaces self.old self.new }
         ensures states { KeepsStates self.old self.new }
         ensures room { IfOk result (λ p. HasRoomFor p.change self.new) }
         ensures state { IfOk result (λ p. OpensTo ticket.now (map effect_of effects.items) inside.items (suspended_of state) p.change) }
@@ -340,10 +344,12 @@ impl Book {
         requires life { life ≤ LONGEST_LIFE }
         requires number { ticket.now.number < 2 ^ 63 }
         ensures book { StaysSame self.old self.new }
+        ensures placed { KeepsPlaces self.old self.new }
         ensures states { KeepsStates self.old self.new }
         ensures room { IfOk result (λ p. HasRoomFor p.change self.new) }
         ensures state { IfOk result (λ p. StartKeepsState ticket.now segment p.change) }
         ensures decided { StartsOn self.old ticket.now (segment_of segment) instances life result }
+        ensures itself { (name : List ℕ) → IfOk result (IsOfSegment self.old ticket.now (segment_of segment) (names.start name)) }
     {
         let Segment {
             outcome,
@@ -380,6 +386,7 @@ impl Book {
         made: Result<Prepared, AllocError>,
     ) -> Result<Prepared, Reply>
         ensures book { StaysSame self.old self.new }
+        ensures placed { KeepsPlaces self.old self.new }
         ensures states { KeepsStates self.old self.new }
         ensures made { IfOk result (λ p. made ≡ Ok p) }
         ensures room { OnOk result (HasRoomAt instance self.new.instances) }
@@ -408,10 +415,12 @@ impl Book {
         requires life { life ≤ LONGEST_LIFE }
         requires number { ticket.now.number < 2 ^ 63 }
         ensures book { StaysSame self.old self.new }
+        ensures placed { KeepsPlaces self.old self.new }
         ensures states { KeepsStates self.old self.new }
         ensures room { IfOk result (λ p. HasRoomFor p.change self.new) }
         ensures state { IfOk result (λ p. AnswerKeepsState ticket.now segment page.now.instance page.now.page p.change) }
         ensures decided { AnswersOn self.old ticket.now page.now (segment_of segment) pages life result }
+        ensures itself { (name : List ℕ) → IfOk result (IsOfSegment self.old ticket.now (segment_of segment) (names.page name page.now)) }
     {
         let Some(instance) = self.instances.get(page.instance) else {
             return Ok(unchanged(Reply::Refused(Refusal::Unknown)));
@@ -469,7 +478,8 @@ impl Book {
     /// It asks for a number that is out, for a life in its range in seconds, and for effects on the cells of the visit's
     /// instance. The segment is the one over the present cells of an admitted target: then what is prepared is what the visit
     /// comes to, and carries it out, and a refusal is `ShelfFull`, `InstanceFull` or want of memory. A page that it shows
-    /// keeps the state of the segment.
+    /// keeps the state of the segment. Whatever the ticket is for, what is prepared is a change of its segment, or none, and
+    /// carries itself out.
     pub fn prepare(
         &mut self,
         alloc: Global,
@@ -483,10 +493,12 @@ impl Book {
         requires life { life ≤ LONGEST_LIFE }
         requires on { AreOnCells self.old ticket.now (map effect_of segment.effects.items) }
         ensures book { StaysSame self.old self.new }
+        ensures placed { KeepsPlaces self.old self.new }
         ensures states { KeepsStates self.old self.new }
         ensures room { IfOk result (λ p. HasRoomFor p.change self.new) }
         ensures state { IfOk result (λ p. KeepsItsState ticket.now segment p.change) }
         ensures decided { IsPrepared self.old ticket.now (segment_of segment) instances pages life result }
+        ensures itself { IfOk result (IsOfSegment self.old ticket.now (segment_of segment) (target_of ticket.now.target)) }
     {
         let _out = &self.out;
         match &ticket.target {

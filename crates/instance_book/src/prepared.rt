@@ -5,6 +5,7 @@ use crate::page::KeptPage;
 use instance_cells::Effect;
 use script_nodes::SendKind;
 use script_value::{Reply, TxName, Value};
+use stored_states::Suspended;
 
 /// A start showed a page.
 #[derive(Drop)]
@@ -14,6 +15,8 @@ pub struct Opening {
     pub kind: SendKind,
     /// The page, whose number is also that of its instance.
     pub page: Numbered<KeptPage>,
+    /// The state of the page, for its record.
+    pub state: Suspended,
     /// The instance behind the segment, with room for the page.
     pub instance: KeptInstance,
 }
@@ -28,6 +31,8 @@ pub struct Extension {
     pub effects: Vec<Effect>,
     pub left: Vec<TxName>,
     pub kind: SendKind,
+    /// The state of the page, for its record.
+    pub state: Suspended,
     /// The page, and what its segment makes of the instance.
     pub show: Show,
 }

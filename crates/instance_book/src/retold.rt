@@ -3,10 +3,10 @@ ghost use Rattle.script_value.specs.Val.{list, no_vals};
 ghost use Rattle.instance_cells.specs.Cells.{AreOn};
 ghost use Rattle.instance_cells.specs.Views.{effect_of};
 ghost use Rattle.replay_spec.specs.Book as spec;
-ghost use Rattle.instance_book.specs.Makes.{StaysSame, KeepsStates};
+ghost use Rattle.instance_book.specs.Makes.{StaysSame, KeepsPlaces, KeepsStates};
 ghost use Rattle.instance_book.specs.Changes.{HasRoomToOpen};
 ghost use Rattle.instance_book.specs.Prepares.{IsOnCells};
-ghost use Rattle.instance_book.specs.Told.{IsRedone, Counts, IsReopened, IsOpenedBy, LandsOpening, LandsExtension, KeepsStartStates, KeepsAnswerStates, told_ending, told_finish, EndsIn};
+ghost use Rattle.instance_book.specs.Told.{IsRedone, Counts, IsReopened, IsOpenedBy, LandsOpening, LandsExtension, KeepsStartPlaces, KeepsStartStates, KeepsAnswerStates, told_ending, told_finish, EndsIn};
 
 use crate::book::Book;
 use crate::instance::KeptInstance;
@@ -54,13 +54,14 @@ impl Book {
         requires on { AreOn (length ticket.now.cells) (map effect_of page.effects.items) }
         requires few { length self.old.instances.things.items + 1 < 2 ^ 32 }
         ensures book { StaysSame self.old self.new }
+        ensures placed { KeepsPlaces self.old self.new }
         ensures states { KeepsStates self.old self.new }
         ensures room { IfOk result (λ o. HasRoomToOpen o self.new) }
         ensures opens { IfOk result (IsOpenedBy ticket.now page) }
     {
         let reads = reads_in(alloc, &page.effects)?;
         let answer = no_answer(alloc)?;
-        let state = KeptState::of(alloc, &Origin::Start, 0, page.state)?;
+        let kept = KeptState::of(alloc, &Origin::Start, 0, &page.state)?;
         let instance = begun(alloc, ticket, &page.effects, &page.left)?;
         self.instances.make_room()?;
         Ok(Opening {
@@ -76,9 +77,10 @@ impl Book {
                     reads,
                     inside: page.inside,
                     deadline: page.deadline,
-                    state,
+                    state: kept,
                 },
             },
+            state: page.state,
             instance,
         })
     }
@@ -87,6 +89,7 @@ impl Book {
     pub fn pass_over(&mut self, number: u64)
         requires { number < 2 ^ 62 }
         ensures book { Counts number self.old self.new }
+        ensures placed { KeepsPlaces self.old self.new }
         ensures states { KeepsStates self.old self.new }
     {
         self.logged = self.logged.max(number + 1);
@@ -104,6 +107,7 @@ impl Book {
         requires on { AreOn (length ticket.now.cells) (map effect_of page.effects.items) }
         requires number { ticket.now.number < 2 ^ 62 }
         ensures lands { OnOk result (LandsOpening ticket.now page self.old self.new) }
+        ensures placed { OnOk result (KeepsStartPlaces ticket.now self.old self.new) }
         ensures states { OnOk result (KeepsStartStates ticket.now page self.old self.new) }
     {
         if self.instances.len() >= u32::MAX as usize {
@@ -129,6 +133,7 @@ impl Book {
         requires on { IsOnCells self.old instance (map effect_of page.effects.items) }
         requires number { ticket.now.number < 2 ^ 62 }
         ensures lands { OnOk result (LandsExtension ticket.now instance answered page self.old self.new) }
+        ensures placed { OnOk result (KeepsPlaces self.old self.new) }
         ensures states { OnOk result (KeepsAnswerStates ticket.now instance answered page self.old self.new) }
     {
         let ToldPage {
@@ -143,7 +148,7 @@ impl Book {
             return Err(AllocError);
         };
         let show = kept.item.shows(
-            alloc, ticket, answered, kind, &effects, inside, &left, deadline, state,
+            alloc, ticket, answered, kind, &effects, inside, &left, deadline, &state,
         )?;
         let answer = ticket.answer.try_clone(alloc)?;
         self.instances.make_room_in(instance)?;
@@ -154,6 +159,7 @@ impl Book {
             effects,
             left,
             kind,
+            state,
             show,
         })));
         self.pass_over(ticket.number);
@@ -197,6 +203,7 @@ impl Book {
         requires { number < 2 ^ 62 }
         ensures redone { OnOk result (IsRedone
             (told_ending number instance page answer (map effect_of effects.items) left.items) self.old self.new) }
+        ensures placed { KeepsPlaces self.old self.new }
         ensures states { KeepsStates self.old self.new }
     {
         let Some(kept) = self.ended(instance, page, &effects) else {
@@ -231,6 +238,7 @@ impl Book {
     )
         requires { number < 2 ^ 62 }
         ensures redone { IsRedone (told_finish number instance page answer (map effect_of effects.items)) self.old self.new }
+        ensures placed { KeepsPlaces self.old self.new }
         ensures states { KeepsStates self.old self.new }
     {
         let Some(_ended) = self.ended(instance, page, &effects) else {
@@ -252,6 +260,7 @@ impl Book {
     pub fn redo_sweep(&mut self, tick: u64)
         requires { tick < 2 ^ 62 }
         ensures redone { IsRedone (spec.sweeps tick) self.old self.new }
+        ensures placed { KeepsPlaces self.old self.new }
         ensures states { KeepsStates self.old self.new }
     {
         if self.clock < tick {
@@ -263,6 +272,7 @@ impl Book {
     pub fn reopen(&mut self)
         requires { self.old.logged ≤ 2 ^ 62 }
         ensures book { IsReopened self.old self.new }
+        ensures placed { KeepsPlaces self.old self.new }
         ensures states { KeepsStates self.old self.new }
     {
         self.out.clear();

@@ -1,9 +1,10 @@
 ghost use Rattle.std.specs.Prelude.{◌≡◌, None, slice_get, IfOk, IfSome, IfNone};
 ghost use Rattle.script_nodes.specs.Views.{scripts_of};
 ghost use Rattle.replay_spec.specs.Recovery.{page_of_numbers};
-ghost use Rattle.instance_book.specs.Makes.{HasItsStates};
+ghost use Rattle.instance_book.specs.Makes.{HasPlaces, HasItsStates};
 ghost use Rattle.instance_book.specs.Admissions.{book_under};
-ghost use Rattle.instance_book.specs.Told.{StartsAgain, AnswersAgain};
+ghost use Rattle.instance_book.specs.Fits.{IsRunnable};
+ghost use Rattle.instance_book.specs.Told.{StartsAgain, AnswersThere, AnswersAgain};
 
 use crate::admission::place_of_numbers;
 use crate::book::Book;
@@ -51,9 +52,11 @@ impl Book {
         number: u64,
         nonce: u64,
     ) -> Result<Option<Ticket>, AllocError>
-        requires { HasItsStates (scripts_of setup.now) self.now }
+        requires { HasPlaces (scripts_of setup.now) self.now }
         ensures none { IfOk result (λ t. IfNone t (page_of_numbers (book_under setup.now self.now) instance page ≡ None)) }
-        ensures some { IfOk result (λ t. IfSome t (AnswersAgain setup.now self.now instance page answer number nonce)) }
+        ensures some { IfOk result (λ t. IfSome t (AnswersThere setup.now self.now instance page answer number nonce)) }
+        ensures runs { IfOk result (λ t. IfSome t (IsRunnable (scripts_of setup.now))) }
+        ensures again { HasItsStates (scripts_of setup.now) self.now → IfOk result (λ t. IfSome t (AnswersAgain setup.now self.now instance page answer number nonce)) }
     {
         let Some(place) = place_of_numbers(self, setup, instance, page) else {
             return Ok(None);

@@ -1,25 +1,29 @@
 -- What disks that stand between two books hold.
-use Rattle.std.proofs.Common.{◌≡◌, ◌⊎◌, inl, inr, ℕ, ◌≤◌, List, [], ◌∷◌, ◌++◌, Option, Some, None, option_map, refl, sym, ◌∙◌, ap, subst, ⊎_elim}
+use Rattle.std.proofs.Common.{◌≡◌, ◌⊎◌, inl, inr, ℕ, ◌+◌, List, [], ◌∷◌, ◌++◌, length, Option, Some, None, option_map, refl, sym, ◌∙◌, ap, subst, ⊎_elim}
 use Rattle.std.proofs.lemmas.List.{append-nil}
 use Rattle.script_nodes.specs.Setup.{Named}
 use Rattle.page_journal.specs.Records.{records, Intact}
 use Rattle.page_journal.proofs.Holds.{just_these, before_or_after}
 use Rattle.replay_spec.specs.Book.{Change, Doubt, Book, reopened, reopened_with}
 use Rattle.replay_spec.specs.Rules.{Journal, Rules}
-use Rattle.replay_spec.specs.Change.{land, longer_by}
+use Rattle.replay_spec.specs.Change.{land}
+use Rattle.replay_spec.specs.Admission.{◌>>=◌}
 use Rattle.replay_spec.specs.Step.{crash, lost, kept, recovered, step}
 use Rattle.replay_spec.specs.Runs.{doubted, lands}
 use Rattle.replay_spec.specs.Remade.{made_of}
 use Rattle.replay_spec.proofs.Going.{Goes, stays, draws, spends, publishes, fails, goes_to, fails_at, keeps, loses, goes}
-use Rattle.server_limits.specs.Limits.{most_fuel}
-use Rattle.journal_records.specs.Records.{journal_rules}
+use Rattle.machine_spec.specs.Machine.{Suspended}
+use Rattle.journal_records.specs.Records.{changes, body_of, IsInGrammar}
 use Rattle.journal_records.specs.Laws.{AreRecordsExact}
-use Rattle.journal_books.specs.Making.{Making, made, rules_over, by_log, book_of, book_in_bytes}
-use Rattle.journal_books.specs.Standing.{IsBook, Makes, MakesIn, flight, HasRoom, Between, Hold, if_kept}
-use Rattle.journal_books.specs.Keeping.{Keeps, body_by, with_landed, IsSpelled, at_stake}
-use Rattle.journal_books.specs.Laws.{ImagesMakeBooks, BooksStandAlike, ACrashIsLostOrKept, EventsStandBetween}
+use Rattle.journal_books.specs.Retaking.{rules_for}
+use Rattle.journal_books.specs.Lengths.{state_by, told_bytes, own_body}
+use Rattle.journal_books.specs.Making.{Making, made, by_log, book_of, book_in_bytes}
+use Rattle.journal_books.specs.Standing.{IsBook, Makes, MakesIn, flight, HasRoom, Between, Hold, if_kept, length_in}
+use Rattle.journal_books.specs.Keeping.{KeepsDoubt, KeepsWith, IsOwnDoubt, body_by, landed_bodies, IsSpelledState, CanBeWritten, IsSpelled, at_stake}
+use Rattle.journal_books.specs.Laws.{AreOver, ImagesMakeBooks, BooksStandAlike, ACrashIsLostOrKept, LandingsStandBetween, EventsStandBetween}
 use Rattle.journal_books.proofs.Fitting.{made_fits}
-use Rattle.journal_books.proofs.Kept.{event_kept}
+use Rattle.journal_books.proofs.Taking.{longer_own, still_by}
+use Rattle.journal_books.proofs.Kept.{event_kept, landing_kept}
 
 -- bytes that hold these bodies make what they make
 pub read_as : (scripts : List Named) (shelf : ℕ) (bodies : List (List ℕ)) (bytes : List ℕ) → records bytes ≡ Intact bodies → book_in_bytes scripts shelf bytes ≡ book_of scripts shelf bodies
@@ -44,13 +48,6 @@ make_books scripts shelf before after k image held = found_in scripts shelf befo
 setup_of : AreRecordsExact → (scripts : List Named) (shelf : ℕ) (bodies : List (List ℕ)) (b : Book) → Makes scripts shelf bodies b → b.scripts ≡ scripts
 setup_of x scripts shelf bodies b (seen, makes) = (made_fits x scripts shelf bodies (made_of b seen) makes).scripts_are
 
-land_alike : (r s : Rules) (doubt : Doubt) (b : Book) → r.journal ≡ s.journal → land r doubt.change doubt.inside b ≡ land s doubt.change doubt.inside b
-land_alike r s doubt b e = ap (λ (j : Option Journal). record (land r doubt.change doubt.inside b) { length = longer_by j b doubt.change }) e
-
-recovered_alike : (r s : Rules) (o : Option Doubt) (b : Book) → r.journal ≡ s.journal → recovered r kept o b ≡ recovered s kept o b
-recovered_alike r s None b e = refl
-recovered_alike r s (Some doubt) b e = land_alike r s doubt b e
-
 recovered_setup : (r : Rules) (o : Option Doubt) (b : Book) → (recovered r kept o b).scripts ≡ b.scripts
 recovered_setup r None b = refl
 recovered_setup r (Some doubt) b = refl
@@ -67,41 +64,66 @@ after_crash rules scripts b nonce = (by_doubt b.down, refl)
     by_doubt None = refl
     by_doubt (Some doubt) = refl
 
+-- the book of a crash by which what was in doubt is kept, whatever its setup was
+crash_keeps : (scripts : List Named) (rules : Rules) (b : Book) (nonce : ℕ) → b.scripts ≡ scripts
+    → reopened (step rules b nonce (crash scripts) kept).1 ≡ reopened (recovered rules kept b.down b)
+crash_keeps scripts rules b nonce setup =
+    let y = recovered rules kept b.down b in
+    ap reopened (after_crash rules scripts b nonce).1 ∙ ap (λ (ss : List Named). reopened_with ss y) (sym (recovered_setup rules b.down b ∙ setup))
+
 pub lost_or_kept : AreRecordsExact → ACrashIsLostOrKept
-lost_or_kept x scripts shelf rules b nonce journal k image held =
+lost_or_kept x scripts shelf rules b nonce n measures k image held =
     let setup = setup_of x scripts shelf k.bodies b k.first in
-    let are = after_crash rules scripts b nonce in
     let without : reopened (step rules b nonce (crash scripts) lost).1 ≡ reopened b =
-    ap reopened are.0 ∙ ap (λ (ss : List Named). reopened_with ss b) (sym setup) in
-    let with_it : reopened (step rules b nonce (crash scripts) kept).1 ≡ reopened (if_kept scripts shelf b) =
-    ap reopened are.1 ∙ (ap (λ (y : Book). reopened_with scripts y) (recovered_alike rules (rules_over scripts shelf) b.down b journal)
-    ∙ ap (λ (ss : List Named). reopened_with ss (if_kept scripts shelf b)) (sym (recovered_setup (rules_over scripts shelf) b.down b ∙ setup))) in
+    ap reopened (after_crash rules scripts b nonce).0 ∙ ap (λ (ss : List Named). reopened_with ss b) (sym setup) in
+    let with_it : reopened (step rules b nonce (crash scripts) kept).1 ≡ reopened (if_kept n b) = crash_keeps scripts rules b nonce setup ∙ measures in
     ⊎_elim
     (λ is. inl (is_book_of (book_in_bytes scripts shelf image) b (step rules b nonce (crash scripts) lost).1 without is))
-    (λ is. inr (is_book_of (book_in_bytes scripts shelf image) (if_kept scripts shelf b) (step rules b nonce (crash scripts) kept).1 with_it is))
-    (make_books scripts shelf b (if_kept scripts shelf b) k image held)
+    (λ is. inr (is_book_of (book_in_bytes scripts shelf image) (if_kept n b) (step rules b nonce (crash scripts) kept).1 with_it is))
+    (make_books scripts shelf b (if_kept n b) k image held)
 
--- the bodies with what is at stake make the book where that is kept
-kept_lands : (rules : Rules) (scripts : List Named) (d : Book) → lands rules d (crash scripts) kept ≡ doubted d.down
-kept_lands rules scripts d = refl
+-- the bodies with what is at stake make the book where that is kept, which the rules measure so
+abbrev StakeMakes : List Named → (shelf : ℕ) → List (List ℕ) → Rules → (b d : Book) → (stake : Option Change) → Option Doubt → Type 0
+StakeMakes scripts shelf bodies rules b d stake o =
+    let more = option_map (own_body b) stake in
+    let after = recovered (rules_for (length_in more)) kept o d in
+    Makes scripts shelf (bodies ++ flight more) after × (reopened (recovered rules kept o d) ≡ reopened after)
 
-stake_makes : AreRecordsExact → (scripts : List Named) (shelf : ℕ) (bodies : List (List ℕ)) (rules : Rules) (d : Book) (o : Option Change) → rules.fuel ≤ most_fuel → rules.journal ≡ Some (journal_rules shelf scripts)
-    → Keeps scripts shelf (with_landed o bodies) d → ((c : Change) → o ≡ Some c → d.down ≡ None) → IsSpelled (at_stake o d)
-    → Makes scripts shelf (bodies ++ flight (option_map body_by (at_stake o d))) (if_kept scripts shelf d)
-stake_makes x scripts shelf bodies rules d (Some c) less journal holds up spelled =
-    let same : if_kept scripts shelf d ≡ d = ap (λ (x : Option Doubt). recovered (rules_over scripts shelf) kept x d) (up c refl) in
-    is_book_of (book_of scripts shelf (bodies ++ body_by c ∷ [])) d (if_kept scripts shelf d) (ap reopened same) (holds.seen, holds.makes)
-stake_makes x scripts shelf bodies rules d None less journal holds up spelled =
-    let setup = setup_of x scripts shelf bodies d (holds.seen, holds.makes) in
-    let then_it = event_kept x scripts shelf bodies rules d 0 (crash scripts) kept less journal (sym setup) tt holds spelled in
-    let same : reopened (if_kept scripts shelf d) ≡ reopened (step rules d 0 (crash scripts) kept).1 =
-    sym (ap reopened (after_crash rules scripts d 0).1 ∙ (ap (λ (y : Book). reopened_with scripts y) (recovered_alike rules (rules_over scripts shelf) d.down d journal)
-    ∙ ap (λ (ss : List Named). reopened_with ss (if_kept scripts shelf d)) (sym (recovered_setup (rules_over scripts shelf) d.down d ∙ setup)))) in
-    by_doubt (doubted d.down) (is_book_of (book_of scripts shelf (with_landed (doubted d.down) bodies)) (step rules d 0 (crash scripts) kept).1 (if_kept scripts shelf d) same (then_it.seen, then_it.makes))
-  where
-    by_doubt : (x : Option Change) → Makes scripts shelf (with_landed x bodies) (if_kept scripts shelf d) → Makes scripts shelf (bodies ++ flight (option_map body_by x)) (if_kept scripts shelf d)
-    by_doubt None h = subst (λ (bs : List (List ℕ)). Makes scripts shelf bs (if_kept scripts shelf d)) (sym (append-nil bodies)) h
-    by_doubt (Some c) h = h
+-- what was landed leaves nothing in doubt
+landed_makes : (scripts : List Named) (shelf : ℕ) (bodies : List (List ℕ)) (rules : Rules) (b d : Book) (c : Change) (o : Option Doubt) → o ≡ None
+    → Makes scripts shelf (bodies ++ own_body b c ∷ []) d → StakeMakes scripts shelf bodies rules b d (Some c) o
+landed_makes scripts shelf bodies rules b d c None up makes = (makes, refl)
+landed_makes scripts shelf bodies rules b d c (Some doubt) up makes = absurd (let no : ⊥ = cc in no)
+
+-- what is in doubt is spelled in the book behind an event that landed nothing, as in the book before it
+spelled_still : (b d : Book) (c : Change) → state_by d c ≡ state_by b c → CanBeWritten b c → CanBeWritten d c
+spelled_still b d c same can =
+    let P : Option Suspended → Type 0 = λ s. IsInGrammar (changes c (s >>= told_bytes)) × IsSpelledState s in
+    let both = subst P (sym same) (can.body, can.state) in
+    record { body = both.0; state = both.1 }
+
+doubt_makes : AreRecordsExact → (scripts : List Named) (shelf : ℕ) (bodies : List (List ℕ)) (rules : Rules) (b d : Book) (o : Option Doubt) → AreOver rules scripts shelf
+    → d.down ≡ o → KeepsDoubt scripts shelf bodies d → ((c : Change) → doubted o ≡ Some c → state_by d c ≡ state_by b c) → IsSpelled b (doubted o)
+    → StakeMakes scripts shelf bodies rules b d (doubted o) o
+doubt_makes x scripts shelf bodies rules b d None over down holds still spelled =
+    (subst (λ (bs : List (List ℕ)). Makes scripts shelf bs d) (sym (append-nil bodies)) (holds.keeps.seen, holds.keeps.makes), refl)
+doubt_makes x scripts shelf bodies rules b d (Some doubt) over down holds still spelled =
+    let c = doubt.change in
+    let setup = setup_of x scripts shelf bodies d (holds.keeps.seen, holds.keeps.makes) in
+    let own : IsOwnDoubt d (Some doubt) holds.keeps.recoverable.doubted = subst (λ (z : Option Doubt). IsOwnDoubt d z holds.keeps.recoverable.doubted) down holds.doubt in
+    let same : own_body d c ≡ own_body b c = ap (λ (s : Option Suspended). body_of (changes c (s >>= told_bytes))) (still c refl) in
+    let can : IsSpelled d (lands rules d (crash scripts) kept) = subst (IsSpelled d) (sym (ap doubted down)) (spelled_still b d c (still c refl) spelled) in
+    let then_it = event_kept x scripts shelf bodies rules d 0 (crash scripts) kept over (sym setup) tt holds can in
+    let after = land (rules_for (length (own_body b c))) c doubt.inside d in
+    let measures : reopened (land rules c doubt.inside d) ≡ reopened after =
+    ap (λ (n : ℕ). record (reopened (land rules c doubt.inside d)) { length = n })
+    (longer_own scripts shelf rules.journal d c over own.1 ∙ ap (λ (bs : List ℕ). d.length + (length bs + 5)) same) in
+    let crashed : reopened after ≡ reopened (step rules d 0 (crash scripts) kept).1 =
+    sym (crash_keeps scripts rules d 0 setup ∙ (ap (λ (z : Option Doubt). reopened (recovered rules kept z d)) down ∙ measures)) in
+    let bodies_are : landed_bodies d (lands rules d (crash scripts) kept) ≡ own_body b c ∷ [] = ap (λ (z : Option Doubt). landed_bodies d (doubted z)) down ∙ ap (λ (bs : List ℕ). bs ∷ []) same in
+    let made_so = is_book_of (book_of scripts shelf (bodies ++ landed_bodies d (lands rules d (crash scripts) kept))) (step rules d 0 (crash scripts) kept).1 after crashed
+    (then_it.keeps.keeps.seen, then_it.keeps.keeps.makes) in
+    (subst (λ (bs : List (List ℕ)). Makes scripts shelf (bodies ++ bs) after) bodies_are made_so, measures)
 
 -- books that are the same after a crash
 kept_alike : (r : Rules) (o : Option Doubt) (b c : Book) → reopened b ≡ reopened c → reopened (recovered r kept o b) ≡ reopened (recovered r kept o c)
@@ -133,9 +155,8 @@ between_alike scripts shelf a b c d first second k = (
 
 pub stand_alike : BooksStandAlike
 stand_alike scripts shelf = (
-  λ (b c : Book) (same : reopened b ≡ reopened c) (down : b.down ≡ c.down).
-      kept_alike (rules_over scripts shelf) b.down b c same
-      ∙ ap (λ (o : Option Doubt). reopened (recovered (rules_over scripts shelf) kept o c)) down,
+  λ (n : ℕ) (b c : Book) (same : reopened b ≡ reopened c) (down : b.down ≡ c.down).
+      kept_alike (rules_for n) b.down b c same ∙ ap (λ (o : Option Doubt). reopened (recovered (rules_for n) kept o c)) down,
   between_alike scripts shelf,
 )
 
@@ -152,21 +173,47 @@ up_by rules b d o (keeps scripts x down) c e = refl
 up_by rules b d o (loses scripts) c e = absurd (let no : ⊥ = cc in no)
 
 -- what is at stake is spelled, so what lands is
-landed_spelled : (o : Option Change) (d : Book) → IsSpelled (at_stake o d) → IsSpelled o
-landed_spelled None d h = tt
-landed_spelled (Some c) d h = h
+landed_spelled : (b : Book) (o : Option Change) (d : Book) → IsSpelled b (at_stake o d) → IsSpelled b o
+landed_spelled b None d h = tt
+landed_spelled b (Some c) d h = h
+
+stake_makes : AreRecordsExact → (scripts : List Named) (shelf : ℕ) (bodies : List (List ℕ)) (rules : Rules) (b d : Book) (o : Option Change) → AreOver rules scripts shelf
+    → ((c : Change) → o ≡ Some c → d.down ≡ None) → (o ≡ None → (d.down ≡ None → ⊥) → (c : Change) → state_by d c ≡ state_by b c)
+    → KeepsWith scripts shelf bodies (landed_bodies b o) d → IsSpelled b (at_stake o d) → StakeMakes scripts shelf bodies rules b d (at_stake o d) d.down
+stake_makes x scripts shelf bodies rules b d (Some c) over up still holds spelled =
+    landed_makes scripts shelf bodies rules b d c d.down (up c refl) (holds.keeps.keeps.seen, holds.keeps.keeps.makes)
+stake_makes x scripts shelf bodies rules b d None over up still holds spelled =
+    doubt_makes x scripts shelf bodies rules b d d.down over refl (subst (λ (bs : List (List ℕ)). KeepsDoubt scripts shelf bs d) (append-nil bodies) holds.keeps)
+    (λ c is. still refl (λ none. let nothing : doubted d.down ≡ None = ap doubted none in let no : ⊥ = cc in no) c) spelled
 
 pub stand_between : AreRecordsExact → EventsStandBetween
-stand_between x scripts shelf bodies rules b nonce event fate less journal setup lawful holds spelled room =
+stand_between x scripts shelf bodies rules b nonce event fate over setup lawful holds spelled room =
     let d = (step rules b nonce event fate).1 in
     let o = lands rules b event fate in
-    let then_it = event_kept x scripts shelf bodies rules b nonce event fate less journal setup lawful holds (landed_spelled o d spelled) in (
+    let went = goes rules b nonce event fate in
+    let then_it = event_kept x scripts shelf bodies rules b nonce event fate over setup lawful holds (landed_spelled b o d spelled) in
+    let made_so = stake_makes x scripts shelf bodies rules b d o over (up_by rules b d o went) (still_by rules b d o went) then_it spelled in (
       record {
         bodies = bodies;
-        more = option_map body_by (at_stake o d);
+        more = option_map (own_body b) (at_stake o d);
+        room = room;
+        first = (holds.keeps.seen, holds.keeps.makes);
+        second = made_so.0;
+      },
+      refl,
+      refl,
+      made_so.1,
+    )
+
+pub landing_between : AreRecordsExact → LandingsStandBetween
+landing_between x scripts shelf bodies b c state inside holds up fits taken out room =
+    let then_it = landing_kept x scripts shelf bodies b c state inside holds up fits taken out in (
+      record {
+        bodies = bodies;
+        more = Some (body_by c state);
         room = room;
         first = (holds.seen, holds.makes);
-        second = stake_makes x scripts shelf bodies rules d o less journal then_it (up_by rules b d o (goes rules b nonce event fate)) spelled;
+        second = (then_it.seen, then_it.makes);
       },
       refl,
       refl,

@@ -11,56 +11,59 @@ use Rattle.page_journal.proofs.Frames.{length-framed, length-at_rest}
 use Rattle.replay_spec.specs.Book.{Instance, Opening, Change, opens, extends, ends, finishes, sweeps, Doubt, Book, instance_at, is_live, reopened}
 use Rattle.replay_spec.specs.Rules.{Rules}
 use Rattle.replay_spec.specs.Change.{mend, root_by, page_by, done, shown_by, fresh, opened_by, instances_by, logged_by, clock_by, longer_by}
-use Rattle.replay_spec.specs.Recovery.{Made, nothing_made, taken_in, redone, redo}
+use Rattle.replay_spec.specs.Recovery.{Made, nothing_made, redone}
+use Rattle.machine_spec.specs.Machine.{inside_of}
 use Rattle.replay_spec.specs.Invariant.{Among, Apart}
-use Rattle.replay_spec.specs.Remade.{NamesItsCells, AreUsed, IsRemadeDoubt, IsOrderlyMade}
+use Rattle.replay_spec.specs.Remade.{AreUsed, IsOrderlyMade}
 use Rattle.replay_spec.proofs.Found.{KeepsNumber, keep_found}
 use Rattle.replay_spec.proofs.Differ.{put_from, mend_from}
 use Rattle.replay_spec.proofs.Recovered.{made_orderly}
 use Rattle.journal_records.specs.Fields.{numbers_end}
-use Rattle.journal_records.specs.Records.{ChangeFits, Record, begins, changes, body_of, record_length, texts_of, begin_of}
+use Rattle.journal_records.specs.Records.{ChangeFits, Record, begins, changes, body_of, texts_of, begin_of}
 use Rattle.journal_records.specs.Reading.{read_record}
 use Rattle.journal_records.specs.Laws.{AreRecordsExact}
 use Rattle.value_bytes.specs.Laws.{AreBytes}
-use Rattle.journal_books.specs.Making.{Making, nothing, made, damaged, other, rules_over, are_told, has_script, first_by, next_by, with_body, with_bodies}
-use Rattle.journal_books.specs.Keeping.{AreAllBytes, AreNamed, body_by}
+use Rattle.journal_books.specs.Retaking.{Told, unread, misread, told, script_for, told_by, landing, rules_for, retaken}
+use Rattle.journal_books.specs.Making.{Making, nothing, made, damaged, other, rules_over, are_told, has_script, told_next, first_by, next_by, with_body, with_bodies}
+use Rattle.journal_books.specs.Keeping.{AreAllBytes, IsWhole, AreWhole, IsTakenDoubt}
+use Rattle.journal_books.proofs.Retaken.{retaken_orderly}
 use Rattle.journal_books.proofs.Makings.{both_true, told_is}
 use Rattle.journal_books.specs.Spelling.{IsDoubtInRange}
 use Rattle.journal_books.specs.Laws.{OnlyItsBeginBegins, BodiesMakeFittingBooks}
 
--- scripts of instances name cells that they have
-abbrev Named_in : List Instance → Type 0
-Named_in is = (k : ℕ) (i : Instance) → instance_at k is ≡ Some i → NamesItsCells i.script
+-- scripts of instances are whole
+abbrev pub WholeIn : List Instance → Type 0
+WholeIn is = (k : ℕ) (i : Instance) → instance_at k is ≡ Some i → IsWhole i.script
 
-named_mended : (n : ℕ) (f : Instance → Instance) (is : List Instance) → KeepsNumber f → ((i : Instance) → (f i).script ≡ i.script) → Named_in is → Named_in (mend n f is)
-named_mended n f is same script h k j found = ⊎_elim
+whole_mended : (n : ℕ) (f : Instance → Instance) (is : List Instance) → KeepsNumber f → ((i : Instance) → (f i).script ≡ i.script) → WholeIn is → WholeIn (mend n f is)
+whole_mended n f is same script h k j found = ⊎_elim
     (λ old. h k j old)
-    (λ (i, (there, is_it)). subst NamesItsCells (sym (script i) ∙ ap (λ (x : Instance). x.script) is_it) (h k i there))
+    (λ (i, (there, is_it)). subst IsWhole (sym (script i) ∙ ap (λ (x : Instance). x.script) is_it) (h k i there))
     (mend_from k n f is j same found)
 
-named_opened : (s : Option Named) (o : Opening) (inside : List TxName) (is : List Instance) → ((a : Named) → s ≡ Some a → NamesItsCells a) → Named_in is → Named_in (opened_by s o inside is)
-named_opened None o inside is fits h k j found = h k j found
-named_opened (Some a) o inside is fits h k j found =
+whole_opened : (s : Option Named) (o : Opening) (inside : List TxName) (is : List Instance) → ((a : Named) → s ≡ Some a → IsWhole a) → WholeIn is → WholeIn (opened_by s o inside is)
+whole_opened None o inside is fits h k j found = h k j found
+whole_opened (Some a) o inside is fits h k j found =
     let i = shown_by o.effects o.left o.kind (root_by o inside) (fresh a o.number) in
-    ⊎_elim (λ same. subst (λ (x : Instance). NamesItsCells x.script) same (fits a refl)) (λ old. h k j old) (put_from (λ (x : Instance). x.number) k i j is found)
+    ⊎_elim (λ same. subst (λ (x : Instance). IsWhole x.script) same (fits a refl)) (λ old. h k j old) (put_from (λ (x : Instance). x.number) k i j is found)
 
-named_by : (scripts : List Named) (is : List Instance) (c : Change) (inside : List TxName) → Apart is → AreNamed scripts → Named_in is → Named_in (instances_by scripts c inside is)
-named_by scripts is (opens o) inside apart setup h k j found = named_opened (slice_get scripts o.script) o inside is (setup o.script) h k j found
-named_by scripts is (extends x) inside apart setup h k j found = named_mended x.instance (shown_by x.effects x.left x.kind (page_by x inside)) is (λ i. refl) (λ i. refl) h k j found
-named_by scripts is (ends e) inside apart setup h k j found = named_mended e.instance (done e.effects e.left) is (λ i. refl) (λ i. refl) h k j found
-named_by scripts is (finishes f) inside apart setup h k j found = h k j (keep_found (λ i. not (i.number == f.instance)) k is j apart found)
-named_by scripts is (sweeps tick) inside apart setup h k j found = h k j (keep_found (is_live tick) k is j apart found)
+pub whole_by : (scripts : List Named) (is : List Instance) (c : Change) (inside : List TxName) → Apart is → AreWhole scripts → WholeIn is → WholeIn (instances_by scripts c inside is)
+whole_by scripts is (opens o) inside apart setup h k j found = whole_opened (slice_get scripts o.script) o inside is (setup o.script) h k j found
+whole_by scripts is (extends x) inside apart setup h k j found = whole_mended x.instance (shown_by x.effects x.left x.kind (page_by x inside)) is (λ i. refl) (λ i. refl) h k j found
+whole_by scripts is (ends e) inside apart setup h k j found = whole_mended e.instance (done e.effects e.left) is (λ i. refl) (λ i. refl) h k j found
+whole_by scripts is (finishes f) inside apart setup h k j found = h k j (keep_found (λ i. not (i.number == f.instance)) k is j apart found)
+whole_by scripts is (sweeps tick) inside apart setup h k j found = h k j (keep_found (is_live tick) k is j apart found)
 
-named_redone : (rules : Rules) (c : Change) (o : Option (List TxName)) (b : Book) → Apart b.instances → AreNamed b.scripts → Named_in b.instances → Named_in (redone rules c o b).instances
-named_redone rules c None b apart setup h = h
-named_redone rules c (Some inside) b apart setup h = named_by b.scripts b.instances c inside apart setup h
+whole_redone : (rules : Rules) (c : Change) (o : Option (List TxName)) (b : Book) → Apart b.instances → AreWhole b.scripts → WholeIn b.instances → WholeIn (redone rules c o b).instances
+whole_redone rules c None b apart setup h = h
+whole_redone rules c (Some inside) b apart setup h = whole_by b.scripts b.instances c inside apart setup h
 
 -- what a book under way has, whose journal's next gate is at this place; its length is known where all bodies are bytes
 record Fits (all : Type 0) (scripts : List Named) (shelf place : ℕ) (m : Made) : Type 0 where
   orderly : IsOrderlyMade m
   scripts_are : m.book.scripts ≡ scripts
   shelf_is : m.book.shelf ≡ shelf
-  named : AreNamed scripts → Named_in m.book.instances
+  whole : AreWhole scripts → WholeIn m.book.instances
   range : all → (m.book.logged ≤ numbers_end) × (m.book.clock < numbers_end)
   long : all → place + 1 ≤ 2 ^ 30 → m.book.length ≡ place + 1
 
@@ -115,12 +118,12 @@ only_begin scripts shelf place s named = by_test (s == shelf && are_told named s
         → (if t then made (nothing_made (rules_over scripts shelf) scripts shelf) else other place) ≡ made (nothing_made (rules_over scripts shelf) scripts shelf))
         × ((begins s named ≡ begin_of shelf scripts → ⊥) → (if t then made (nothing_made (rules_over scripts shelf) scripts shelf) else other place) ≡ other place)
     by_test true e = (λ _. refl, λ other. absurd (other (is_begin e)))
-    by_test false e = (λ same. absurd (let told = is_told same in let no : ⊥ = cc in no), λ _. refl)
+    by_test false e = (λ same. absurd (let yes = is_told same in let no : ⊥ = cc in no), λ _. refl)
 
 first_fits : AreRecordsExact → (all : Type 0) (scripts : List Named) (shelf : ℕ) (body : List ℕ) (o : Option Record) → read_record body ≡ o → (all → AreBytes body)
     → FitsMaking all scripts shelf (8 + 5 + length body) (first_by scripts shelf 8 o)
 first_fits x all scripts shelf body None e are = tt
-first_fits x all scripts shelf body (Some (changes c)) e are = tt
+first_fits x all scripts shelf body (Some (changes c state)) e are = tt
 first_fits x all scripts shelf body (Some (begins s named)) e are = by_test (s == shelf && are_told named scripts) refl
   where
     whole : (s == shelf && are_told named scripts) ≡ true → Fits all scripts shelf (8 + 5 + length body) (nothing_made (rules_over scripts shelf) scripts shelf)
@@ -132,7 +135,7 @@ first_fits x all scripts shelf body (Some (begins s named)) e are = by_test (s =
           orderly = (made_orderly (rules_over scripts shelf)).0 scripts shelf;
           scripts_are = refl;
           shelf_is = refl;
-          named = λ _ k i found. absurd (let no : ⊥ = cc in no);
+          whole = λ _ k i found. absurd (let no : ⊥ = cc in no);
           range = λ _. (omega arith, omega arith);
           long = λ bytes fits.
               let is : body ≡ body_of (begin_of shelf scripts) = (x.exact body (begins s named) (are bytes) e).spelled ∙ (λ i. body_of (begins (same i) (names i))) in
@@ -150,49 +153,66 @@ redone_scripts : (rules : Rules) (c : Change) (o : Option (List TxName)) (b : Bo
 redone_scripts rules c None b = (refl, refl, refl)
 redone_scripts rules c (Some inside) b = (refl, refl, refl)
 
-logged_range : (c : Change) → ChangeFits c → logged_by c ≤ numbers_end
-logged_range (opens o) h = let n = h.ticket in omega (arith, n)
-logged_range (extends x) h = let n = h.ticket in omega (arith, n)
-logged_range (ends e) h = let n = h.ticket in omega (arith, n)
-logged_range (finishes f) h = let n = h.ticket in omega (arith, n)
-logged_range (sweeps tick) h = omega arith
+logged_range : (c : Change) (state : Option (List ℕ)) → ChangeFits c state → logged_by c ≤ numbers_end
+logged_range (opens o) None h = absurd h
+logged_range (opens o) (Some s) h = let n = h.ticket in omega (arith, n)
+logged_range (extends x) None h = absurd h
+logged_range (extends x) (Some s) h = let n = h.ticket in omega (arith, n)
+logged_range (ends e) None h = let n = h.ticket in omega (arith, n)
+logged_range (ends e) (Some s) h = absurd h
+logged_range (finishes f) None h = let n = h.ticket in omega (arith, n)
+logged_range (finishes f) (Some s) h = absurd h
+logged_range (sweeps tick) state h = omega arith
 
-clock_range : (c : Change) (clock : ℕ) → ChangeFits c → clock < numbers_end → clock_by c clock < numbers_end
-clock_range (opens o) clock h low = low
-clock_range (extends x) clock h low = low
-clock_range (ends e) clock h low = low
-clock_range (finishes f) clock h low = low
-clock_range (sweeps tick) clock h low = h
+clock_range : (c : Change) (state : Option (List ℕ)) (clock : ℕ) → ChangeFits c state → clock < numbers_end → clock_by c clock < numbers_end
+clock_range (opens o) state clock h low = low
+clock_range (extends x) state clock h low = low
+clock_range (ends e) state clock h low = low
+clock_range (finishes f) state clock h low = low
+clock_range (sweeps tick) None clock h low = h
+clock_range (sweeps tick) (Some s) clock h low = absurd h
 
-redone_range : (rules : Rules) (c : Change) (o : Option (List TxName)) (b : Book) → ChangeFits c → b.logged ≤ numbers_end → b.clock < numbers_end
+redone_range : (rules : Rules) (c : Change) (state : Option (List ℕ)) (o : Option (List TxName)) (b : Book) → ChangeFits c state → b.logged ≤ numbers_end → b.clock < numbers_end
     → ((redone rules c o b).logged ≤ numbers_end) × ((redone rules c o b).clock < numbers_end)
-redone_range rules c None b h logged low = (let n = logged_range c h in omega (arith, n, logged), low)
-redone_range rules c (Some inside) b h logged low = (let n = logged_range c h in omega (arith, n, logged), clock_range c b.clock h low)
+redone_range rules c state None b h logged low = (let n = logged_range c state h in omega (arith, n, logged), low)
+redone_range rules c state (Some inside) b h logged low = (let n = logged_range c state h in omega (arith, n, logged), clock_range c state b.clock h low)
+
+-- a record that is read, and lands with these names or is passed over
+taken_fits : AreRecordsExact → (all : Type 0) (scripts : List Named) (shelf place : ℕ) (body : List ℕ) (m : Made) (c : Change) (state : Option (List ℕ)) (inside : List TxName)
+    → read_record body ≡ Some (changes c state) → (all → AreBytes body) → Fits all scripts shelf place m
+    → Fits all scripts shelf (place + 5 + length body) (retaken (length body) c (landing m c inside) m)
+taken_fits x all scripts shelf place body m c state inside e are h =
+    let n = length body in
+    let o = landing m c inside in
+    let rules = redone_scripts (rules_for n) c o m.book in
+    record {
+      orderly = retaken_orderly n c inside m h.orderly;
+      scripts_are = rules.0 ∙ h.scripts_are;
+      shelf_is = rules.1 ∙ h.shelf_is;
+      whole = λ setup. whole_redone (rules_for n) c o m.book h.orderly.instances.apart (subst AreWhole (sym h.scripts_are) setup) (h.whole setup);
+      range = λ bytes. redone_range (rules_for n) c state o m.book (x.exact body (changes c state) (are bytes) e).fits (h.range bytes).0 (h.range bytes).1;
+      long = λ bytes fits.
+          let before = h.long bytes (omega (arith, fits)) in
+          let now : longer_by (rules_for n).journal m.book c ≡ m.book.length + (length body + 5) = refl in
+          omega (arith, rules.2, now, before);
+    }
+
+told_fits : AreRecordsExact → (all : Type 0) (scripts : List Named) (shelf place : ℕ) (body : List ℕ) (m : Made) (c : Change) (state : Option (List ℕ)) (t : Told)
+    → read_record body ≡ Some (changes c state) → (all → AreBytes body) → Fits all scripts shelf place m
+    → FitsMaking all scripts shelf (place + 5 + length body) (told_next place (length body) m c t)
+told_fits x all scripts shelf place body m c state unread e are h = taken_fits x all scripts shelf place body m c state [] e are h
+told_fits x all scripts shelf place body m c state misread e are h = tt
+told_fits x all scripts shelf place body m c state (told d) e are h = taken_fits x all scripts shelf place body m c state (inside_of d.frames) e are h
 
 next_fits : AreRecordsExact → (all : Type 0) (scripts : List Named) (shelf place : ℕ) (body : List ℕ) (m : Made) (o : Option Record) → read_record body ≡ o → (all → AreBytes body)
-    → Fits all scripts shelf place m → FitsMaking all scripts shelf (place + 5 + length body) (next_by scripts shelf place m o)
+    → Fits all scripts shelf place m → FitsMaking all scripts shelf (place + 5 + length body) (next_by scripts place (length body) m o)
 next_fits x all scripts shelf place body m None e are h = tt
 next_fits x all scripts shelf place body m (Some (begins s named)) e are h = tt
-next_fits x all scripts shelf place body m (Some (changes c)) e are h = by_test (has_script (length scripts) c)
+next_fits x all scripts shelf place body m (Some (changes c state)) e are h = by_test (has_script (length scripts) c)
   where
-    by_test : (t : Bool) → FitsMaking all scripts shelf (place + 5 + length body) (if t then made (redo (rules_over scripts shelf) c m) else damaged place)
+    by_test : (t : Bool) → FitsMaking all scripts shelf (place + 5 + length body) (if t then told_next place (length body) m c (told_by (script_for m.book c) state) else damaged place)
     by_test false = tt
-    by_test true =
-        let rules = redone_scripts (rules_over scripts shelf) c (taken_in m c) m.book in
-        record {
-          orderly = (made_orderly (rules_over scripts shelf)).1 c m h.orderly;
-          scripts_are = rules.0 ∙ h.scripts_are;
-          shelf_is = rules.1 ∙ h.shelf_is;
-          named = λ setup.
-              named_redone (rules_over scripts shelf) c (taken_in m c) m.book h.orderly.instances.apart (subst AreNamed (sym h.scripts_are) setup) (h.named setup);
-          range = λ bytes. redone_range (rules_over scripts shelf) c (taken_in m c) m.book (x.exact body (changes c) (are bytes) e).fits (h.range bytes).0 (h.range bytes).1;
-          long = λ bytes fits.
-              let is : length body ≡ length (body_by c) = ap length (x.exact body (changes c) (are bytes) e).spelled in
-              let size : record_length c ≡ length body = x.measured c (x.exact body (changes c) (are bytes) e).fits (omega (arith, is, fits)) ∙ sym is in
-              let before = h.long bytes (omega (arith, fits)) in
-              let now : longer_by (rules_over scripts shelf).journal m.book c ≡ m.book.length + (record_length c + 5) = refl in
-              omega (arith, rules.2, now, before, size);
-        }
+    by_test true = told_fits x all scripts shelf place body m c state (told_by (script_for m.book c) state) e are h
 
 one_fits : AreRecordsExact → (all : Type 0) (scripts : List Named) (shelf place : ℕ) (body : List ℕ) (m : Making) → (all → AreBytes body) → FitsMaking all scripts shelf place m
     → FitsMaking all scripts shelf (place + 5 + length body) (with_body scripts shelf place body m)
@@ -213,8 +233,8 @@ all_fit x all scripts shelf place (body ∷ bodies) m are h =
     (all_fit x all scripts shelf (place + 5 + length body) bodies (with_body scripts shelf place body m) (λ bytes. (are bytes).1)
     (one_fits x all scripts shelf place body m (λ bytes. (are bytes).0) h))
 
-no_doubt : (b : Book) (o : Option Doubt) → o ≡ None → IsRemadeDoubt b o
-no_doubt b o e = subst (IsRemadeDoubt b) (sym e) tt
+no_doubt : (b : Book) (o : Option Doubt) → o ≡ None → IsTakenDoubt b o unread
+no_doubt b o e = subst (λ (x : Option Doubt). IsTakenDoubt b x unread) (sym e) tt
 
 all_used : (b : Book) (seen : List ℕ) → ((n : ℕ) → Among n seen → n < b.logged) → AreUsed seen (reopened b)
 all_used b seen counted n there x = let low = counted n there in ⊎_elim (λ no. no) (λ y. ⊎_elim (λ no. no) (λ high. omega (arith, low, high)) y) x
@@ -229,7 +249,8 @@ made_fits x scripts shelf bodies m is =
       shelf_is = h.shelf_is;
       recoverable = λ setup. record {
         orderly = (made_orderly (rules_over scripts shelf)).2 m h.orderly;
-        named = record { setup = λ k s at. setup k s (ap (λ (ss : List Named). slice_get ss k) (sym h.scripts_are) ∙ at); instances = h.named setup };
+        whole = record { setup = λ k s at. setup k s (ap (λ (ss : List Named). slice_get ss k) (sym h.scripts_are) ∙ at); instances = h.whole setup };
+        doubted = unread;
         doubt = no_doubt m.book m.book.down (ap (λ (b : Book). b.down) h.orderly.again);
         used = subst (AreUsed m.seen) (sym h.orderly.again) (all_used m.book m.seen h.orderly.counted);
       };

@@ -1,102 +1,354 @@
 -- How a journal goes on beside its shelf.
-use Rattle.std.proofs.Common.{◌≡◌, ℕ, List, [], ◌∷◌, ◌++◌, map, Option, Some, None, true, length, refl, sym, ap, subst, ◌∙◌, append_assoc}
+use Rattle.std.proofs.Common.{◌≡◌, ◌⊎◌, ◌+◌, ℕ, List, [], ◌∷◌, ◌++◌, Option, Some, None, Bool, true, length, slice_get, refl, sym, ap, subst, ◌∙◌, inl, inr, ⊎_elim, append_assoc, arith}
+use Rattle.std.specs.Prelude.{Contains, nat_le, if◌then◌else◌}
 use Rattle.std.proofs.lemmas.List.{append-nil}
+use Rattle.script_value.specs.declared.outcome.TxName.{TxName}
 use Rattle.script_nodes.specs.Setup.{Named}
-use Rattle.replay_spec.specs.Book.{Change, Book, reopened, reopened_with}
+use Rattle.page_journal.specs.Records.{frames}
+use Rattle.replay_spec.specs.Book.{Instance, Change, sweeps, Doubt, Book, instance_at, spend, reopened, reopened_with}
+use Rattle.replay_spec.specs.Book as spec
 use Rattle.replay_spec.specs.Rules.{Journal, Rules, empty_book}
-use Rattle.replay_spec.specs.Step.{step}
-use Rattle.replay_spec.specs.Runs.{lands, with_change}
-use Rattle.replay_spec.specs.Recovery.{nothing_made, redo}
-use Rattle.replay_spec.specs.Laws.{Moment, then_book, book_after, changes_of}
-use Rattle.replay_spec.specs.Remade.{made_of, IsRemadeBy, AreUnder}
+use Rattle.replay_spec.specs.Change.{instances_by, land}
+use Rattle.replay_spec.specs.Step.{Event, take, publish, sweep, crash, Fate, Decision, publish_comes, sweep_comes, fate_of, settle, swept, take_by, step}
+use Rattle.replay_spec.specs.Runs.{lands}
+use Rattle.replay_spec.specs.Recovery.{Made, nothing_made, number_in, with_number}
+use Rattle.replay_spec.specs.Invariant.{Among, IsOf, IsOrderlyChange, IsOrderly}
+use Rattle.replay_spec.specs.Laws.{Moment, then_book, book_after}
+use Rattle.replay_spec.specs.Remade.{KeepsSetup, AreUsed, made_of, AreUnder}
+use Rattle.replay_spec.proofs.Stand.{Later, among_of}
 use Rattle.replay_spec.proofs.Going.{goes}
-use Rattle.replay_spec.proofs.Orderly.{stepped}
-use Rattle.replay_spec.proofs.Numbers.{uses}
-use Rattle.replay_spec.proofs.Events.{stay_named, suffice}
-use Rattle.replay_spec.proofs.Steps as sound
-use Rattle.journal_records.specs.Records.{IsInGrammar, begin_of, journal_rules}
+use Rattle.replay_spec.proofs.Orderly.{stepped, is_out, published, published_fewer}
+use Rattle.replay_spec.proofs.Orderly as orderly
+use Rattle.replay_spec.proofs.Lands.{LandsAs, lands_as}
+use Rattle.replay_spec.proofs.Numbers.{Uses, uses}
+use Rattle.machine_spec.specs.Machine.{Suspended, inside_of}
+use Rattle.journal_records.specs.Records.{Record, changes, IsInGrammar, begin_of}
+use Rattle.journal_records.specs.Reading.{read_record}
 use Rattle.journal_records.specs.Laws.{AreRecordsExact}
-use Rattle.journal_books.specs.Making.{made, rules_over, has_script, book_of}
-use Rattle.journal_books.specs.Keeping.{Keeps, AreNamed, body_by, first_body, with_landed, IsSpelled, AreSpelled}
-use Rattle.journal_books.specs.Laws.{EventsAreKept, RunsAreKept, FreshJournalsSuffice}
+use Rattle.journal_books.specs.Retaking.{Told, unread, misread, told, script_for, told_by, held, landing, IsLanded, rules_for, retaken}
+use Rattle.journal_books.specs.Lengths.{state_by, state_told, told_own, own_told, own_body, journal_rules}
+use Rattle.journal_books.specs.Making.{nothing, made, rules_over, has_script, told_next, book_of}
+use Rattle.journal_books.specs.Owning.{OfEach, IsOwnState, IsOwnRecord, AreOwn, IsLandedRecord, AreLanded}
+use Rattle.journal_books.specs.Keeping.{AreWhole, HasWholeScripts, IsTakenAs, IsTakenDoubt, IsOut, landed_in, Keeps, KeepsDoubt, KeepsWith, body_by, first_body, landed_bodies, bodies_of, IsSpelled}
+use Rattle.journal_books.specs.Laws.{AreOver, LandingsAreKept, EventsAreKept, RunsAreKept, FreshJournalsSuffice}
+use Rattle.journal_books.proofs.Brief.{moved_state}
+use Rattle.journal_books.proofs.Owned.{own_read}
+use Rattle.journal_books.proofs.Retaken.{held_fits, held_script}
 use Rattle.journal_books.proofs.Makings.{made_push, made_first}
-use Rattle.journal_books.proofs.Fitting.{made_fits}
-use Rattle.journal_books.proofs.Remade.{remake_by, setup_kept, gives_named, redo_alike, seen_by, used_then, taken_has_script}
+use Rattle.journal_books.proofs.Fitting.{WholeIn, whole_by, made_fits}
+use Rattle.journal_books.proofs.Taking.{IsNew, moved_script, there, seen_by, used_then, IsMadeOf, follow_by}
 
--- the body of what was landed makes the book behind it
-made_then : AreRecordsExact → (scripts : List Named) (shelf : ℕ) (bodies : List (List ℕ)) (rules : Rules) (b d : Book) (o : Option Change) (seen : List ℕ) → rules.journal ≡ Some (journal_rules shelf scripts)
-    → d.scripts ≡ b.scripts → book_of scripts shelf bodies ≡ made (made_of b seen) → IsRemadeBy rules (made_of b seen) o (reopened_with b.scripts d) → IsSpelled o
-    → book_of scripts shelf (with_landed o bodies) ≡ made (made_of d (seen_by o seen))
-made_then x scripts shelf bodies rules b d None seen journal setup makes one spelled =
-    let same : reopened d ≡ reopened b = ap (λ (ss : List Named). reopened_with ss d) setup ∙ one in
-    makes ∙ ap (λ (y : Book). made (record { book = y; seen = seen })) (sym same)
-made_then x scripts shelf bodies rules b d (Some c) seen journal setup makes one spelled =
+-- ---- the body of a change that would be taken makes the book behind it
+
+abbrev Makes : List Named → (shelf : ℕ) → List (List ℕ) → Book → (seen : List ℕ) → Type 0
+Makes scripts shelf bodies b seen = book_of scripts shelf bodies ≡ made (made_of b seen)
+
+script_here : AreRecordsExact → (scripts : List Named) (shelf : ℕ) (bodies : List (List ℕ)) (b : Book) (seen : List ℕ) (c : Change) (names : List TxName)
+    → Makes scripts shelf bodies b seen → held b c names ≡ Some names → has_script (length scripts) c ≡ true
+script_here x scripts shelf bodies b seen c names makes can =
     let fits = made_fits x scripts shelf bodies (made_of b seen) makes in
-    let script : has_script (length scripts) c ≡ true = ap (λ (ss : List Named). has_script (length ss) c) (sym fits.scripts_are) ∙ taken_has_script (made_of b seen) c one.0.0 one.0.1 in
-    let same : reopened d ≡ (redo (rules_over scripts shelf) c (made_of b seen)).book =
-    ap (λ (ss : List Named). reopened_with ss d) setup ∙ (one.1 ∙ redo_alike rules (rules_over scripts shelf) c (made_of b seen) journal) in
-    made_push x scripts shelf bodies (made_of b seen) c makes spelled script
-    ∙ ap (λ (y : Book). made (record { book = y; seen = seen_by (Some c) seen })) (sym same)
+    ap (λ (ss : List Named). has_script (length ss) c) (sym fits.scripts_are) ∙ held_script b c names names can
+
+told_here : (b : Book) (c : Change) (state : Option (List ℕ)) (x : Told) → told_by (script_for b c) state ≡ x → told_by (script_for (reopened b) c) state ≡ x
+told_here b c state x is = ap (λ (s : Option Named). told_by s state) (moved_script b b.logged [] None c) ∙ is
+
+lands_so : AreRecordsExact → (scripts : List Named) (shelf : ℕ) (bodies : List (List ℕ)) (b : Book) (seen : List ℕ) (c : Change) (state : Option (List ℕ)) (inside : List TxName) (x : Told)
+    → Makes scripts shelf bodies b seen → IsInGrammar (changes c state) → told_by (script_for b c) state ≡ x → IsTakenAs b c inside x → IsNew seen c
+    → Makes scripts shelf (bodies ++ body_by c state ∷ []) (land (rules_for (length (body_by c state))) c inside b) (with_number (number_in c) seen)
+    × IsLanded (made_of b seen) c x
+lands_so exact scripts shelf bodies b seen c state inside unread makes fits is taken new =
+    let m = made_of b seen in
+    let n = length (body_by c state) in
+    let lands = there b seen c [] taken.0 new in
+    let after = land (rules_for n) c inside b in
+    let one : book_of scripts shelf (bodies ++ body_by c state ∷ []) ≡ told_next (8 + length (frames bodies)) n m c unread =
+    made_push exact scripts shelf bodies m c state unread makes fits (script_here exact scripts shelf bodies b seen c [] makes taken.0) (told_here b c state unread is) in
+    let two : made (retaken n c (landing m c []) m) ≡ made (retaken n c (Some []) m) = ap (λ (o : Option (List TxName)). made (retaken n c o m)) lands in
+    let three : made (retaken n c (Some []) m) ≡ made (made_of after (with_number (number_in c) seen)) =
+    ap (λ (js : List Instance). made (record { book = record (reopened after) { instances = js }; seen = with_number (number_in c) seen })) taken.1 in
+    (one ∙ (two ∙ three), lands)
+lands_so exact scripts shelf bodies b seen c state inside misread makes fits is taken new = absurd taken
+lands_so exact scripts shelf bodies b seen c state inside (told d) makes fits is taken new =
+    let m = made_of b seen in
+    let n = length (body_by c state) in
+    let names = inside_of d.frames in
+    let can : held b c names ≡ Some names = subst (λ (ns : List TxName). held b c ns ≡ Some ns) (sym taken.1) taken.0 in
+    let lands = there b seen c names can new in
+    let after = land (rules_for n) c inside b in
+    let one : book_of scripts shelf (bodies ++ body_by c state ∷ []) ≡ told_next (8 + length (frames bodies)) n m c (told d) =
+    made_push exact scripts shelf bodies m c state (told d) makes fits (script_here exact scripts shelf bodies b seen c names makes can) (told_here b c state (told d) is) in
+    let two : made (retaken n c (landing m c names) m) ≡ made (retaken n c (Some names) m) = ap (λ (o : Option (List TxName)). made (retaken n c o m)) lands in
+    let three : made (retaken n c (Some names) m) ≡ made (made_of after (with_number (number_in c) seen)) =
+    ap (λ (ns : List TxName). made (retaken n c (Some ns) m)) taken.1 in
+    (one ∙ (two ∙ three), lands)
+
+-- ---- a fact of each body goes on to hold with one more
+
+no_cut : {A : Type 0} (front : List A) (z : A) (rest : List A) → [] ≡ front ++ z ∷ rest → ⊥
+no_cut [] z rest e = let no : ⊥ = cc in no
+no_cut (f ∷ front) z rest e = let no : ⊥ = cc in no
+
+tail_is : {A : Type 0} (x y : A) (xs ys : List A) → x ∷ xs ≡ y ∷ ys → (x ≡ y) × (xs ≡ ys)
+tail_is x y xs ys e = (cc e, cc e)
+
+abbrev Cut : {A : Type 0} → List A → A → List A → List A → A → Type 0
+Cut {A} xs y front rest z = ((front ≡ xs) × (z ≡ y)) ⊎ ((more : List A) × (xs ≡ front ++ z ∷ more))
+
+cut_last : {A : Type 0} (xs : List A) (y : A) (front rest : List A) (z : A) → xs ++ y ∷ [] ≡ front ++ z ∷ rest → Cut xs y front rest z
+cut_last [] y [] rest z e = inl (refl, sym (tail_is y z [] rest e).0)
+cut_last [] y (f ∷ front) rest z e = absurd (no_cut front z rest (tail_is y f [] (front ++ z ∷ rest) e).1)
+cut_last (x ∷ xs) y [] rest z e = inr (xs, ap (λ w. w ∷ xs) (tail_is x z (xs ++ y ∷ []) rest e).0)
+cut_last (x ∷ xs) y (f ∷ front) rest z e =
+    let both = tail_is x f (xs ++ y ∷ []) (front ++ z ∷ rest) e in
+    ⊎_elim
+    (λ (same, last). inl ((λ i. sym both.0 i ∷ same i), last))
+    (λ (more, cut). inr (more, λ i. both.0 i ∷ cut i))
+    (cut_last xs y front rest z both.1)
+
+same_made : (m n : Made) → made m ≡ made n → m ≡ n
+same_made m n e = cc e
+
+each_more : (P : Made → Option Record → Type 0) (scripts : List Named) (shelf : ℕ) (bodies : List (List ℕ)) (body : List ℕ) → OfEach P scripts shelf bodies
+    → ((m : Made) → book_of scripts shelf bodies ≡ made m → P m (read_record body)) → OfEach P scripts shelf (bodies ++ body ∷ [])
+each_more P scripts shelf bodies body old new front rest z m e is = ⊎_elim
+    (λ (same, last). subst (λ (w : List ℕ). P m (read_record w)) (sym last) (new m (ap (book_of scripts shelf) (sym same) ∙ is)))
+    (λ (more, cut). old front more z m cut is)
+    (cut_last bodies body front rest z e)
+
+first_each : (P : Made → Option Record → Type 0) (scripts : List Named) (shelf : ℕ) (body : List ℕ) → OfEach P scripts shelf (body ∷ [])
+first_each P scripts shelf body =
+    each_more P scripts shelf [] body (λ front rest z m e is. absurd (no_cut front z rest e)) (λ m is. absurd (let e : nothing ≡ made m = is in let no : ⊥ = cc in no))
+
+-- of what the bodies make it holds where it holds of this
+at_made : (P : Made → Option Record → Type 0) (scripts : List Named) (shelf : ℕ) (bodies : List (List ℕ)) (m : Made) (body : List ℕ) (r : Option Record) → book_of scripts shelf bodies ≡ made m
+    → r ≡ read_record body → P m r → (n : Made) → book_of scripts shelf bodies ≡ made n → P n (read_record body)
+at_made P scripts shelf bodies m body r makes back p n e = subst (λ (z : Made). P z (read_record body)) (same_made m n (sym makes ∙ e)) (subst (P m) back p)
+
+-- ---- an event
+
+is_own : (b : Book) (c : Change) (o : Option Suspended) → state_by b c ≡ o → IsOwnState b c (told_own o)
+is_own b c None e = tt
+is_own b c (Some d) e = e
+
+-- bodies with those that were landed: what they make, that their states are own ones, and that none is passed over
+record Adds (scripts : List Named) (shelf : ℕ) (bodies more : List (List ℕ)) (b : Book) (seen : List ℕ) : Type 0 where
+  makes : Makes scripts shelf (bodies ++ more) b seen
+  own : AreOwn scripts shelf bodies → AreOwn scripts shelf (bodies ++ more)
+  landed : AreLanded scripts shelf bodies → AreLanded scripts shelf (bodies ++ more)
+
+adds_none : (scripts : List Named) (shelf : ℕ) (bodies : List (List ℕ)) (b : Book) (seen : List ℕ) → Makes scripts shelf bodies b seen → Adds scripts shelf bodies [] b seen
+adds_none scripts shelf bodies b seen makes =
+    let same = sym (append-nil bodies) in
+    record {
+      makes = subst (λ (bs : List (List ℕ)). Makes scripts shelf bs b seen) same makes;
+      own = λ h. subst (AreOwn scripts shelf) same h;
+      landed = λ h. subst (AreLanded scripts shelf) same h;
+    }
+
+made_then : AreRecordsExact → (scripts : List Named) (shelf : ℕ) (bodies : List (List ℕ)) (b d : Book) (o : Option Change) (seen : List ℕ) → HasWholeScripts b → d.scripts ≡ b.scripts
+    → Makes scripts shelf bodies b seen → IsMadeOf b seen o d → IsSpelled b o → Adds scripts shelf bodies (landed_bodies b o) d (seen_by o seen)
+made_then x scripts shelf bodies b d None seen whole setup makes is spelled =
+    let same : reopened d ≡ reopened b = ap (λ (ss : List Named). reopened_with ss d) setup ∙ is in
+    adds_none scripts shelf bodies d seen (makes ∙ ap (λ (y : Book). made (record { book = y; seen = seen })) (sym same))
+made_then x scripts shelf bodies b d (Some c) seen whole setup makes (inside, (taken, (new, is))) spelled =
+    let state = state_told b c in
+    let m = made_of b seen in
+    let its = own_read b c whole spelled in
+    let l = lands_so x scripts shelf bodies b seen c state inside (own_told b c) makes spelled.body its taken new in
+    let same : reopened d ≡ reopened (land (rules_for (length (own_body b c))) c inside b) = ap (λ (ss : List Named). reopened_with ss d) setup ∙ is in
+    let back : Some (changes c state) ≡ read_record (own_body b c) = sym (x.back (changes c state) spelled.body) in
+    let here : own_told b c ≡ told_by (script_for (reopened b) c) state = sym (told_here b c state (own_told b c) its) in
+    let own : IsOwnRecord (reopened b) (Some (changes c state)) = subst (IsOwnState (reopened b) c) here (is_own (reopened b) c (state_by b c) (moved_state b b.logged [] None c)) in
+    let landed : IsLandedRecord m (Some (changes c state)) = subst (IsLanded m c) here l.1 in
+    record {
+      makes = l.0 ∙ ap (λ (y : Book). made (record { book = y; seen = with_number (number_in c) seen })) (sym same);
+      own = λ h. each_more (λ n r. IsOwnRecord n.book r) scripts shelf bodies (own_body b c) h (at_made (λ n r. IsOwnRecord n.book r) scripts shelf bodies m (own_body b c) (Some (changes c state)) makes back own);
+      landed = λ h. each_more IsLandedRecord scripts shelf bodies (own_body b c) h (at_made IsLandedRecord scripts shelf bodies m (own_body b c) (Some (changes c state)) makes back landed);
+    }
+
+-- scripts stay whole
+whole_landed : (b d : Book) (o : Option Change) → IsOrderly b → HasWholeScripts b → LandsAs b o d → WholeIn d.instances
+whole_landed b d None g h is = subst WholeIn (sym is) h.instances
+whole_landed b d (Some c) g h (inside, (fits, is)) = subst WholeIn (sym is) (whole_by b.scripts b.instances c inside g.instances.apart h.setup h.instances)
+
+whole_setup : (b d : Book) → HasWholeScripts b → d.scripts ≡ b.scripts → AreWhole d.scripts
+whole_setup b d h same k s at = h.setup k s (ap (λ (ss : List Named). slice_get ss k) (sym same) ∙ at)
+
+-- a setup that is kept
+settled_setup : (rules : Rules) (b : Book) (fate : Fate) (d : Decision) → (settle rules b fate d).1.scripts ≡ b.scripts
+settled_setup rules b fate d = grind arith
+
+took_setup : (b : Book) (target : _) (nonce : ℕ) (fate : Fate) → (take_by b target nonce fate).1.scripts ≡ b.scripts
+took_setup b target nonce fate = grind arith
+
+swept_setup : (rules : Rules) (b : Book) (tick : ℕ) (fate : Fate) (is_late : Bool) → (if is_late then (swept 0, b) else settle rules b fate (sweep_comes rules b tick)).1.scripts ≡ b.scripts
+swept_setup rules b tick fate is_late = grind (arith, settled_setup rules b fate (sweep_comes rules b tick))
+
+setup_kept : (rules : Rules) (b : Book) (nonce : ℕ) (x : Event) (fate : Fate) → KeepsSetup x b → (step rules b nonce x fate).1.scripts ≡ b.scripts
+unfolding step
+setup_kept rules b nonce (take target answer) fate h = took_setup b target nonce fate
+setup_kept rules b nonce (publish t) fate h = settled_setup rules (spend t.number b) (fate_of rules.journal fate) (publish_comes rules b t)
+setup_kept rules b nonce (sweep tick) fate h = swept_setup rules b tick (fate_of rules.journal fate) (nat_le tick b.clock)
+setup_kept rules b nonce (crash scripts) fate h = h
 
 pub event_kept : AreRecordsExact → EventsAreKept
-event_kept x scripts shelf bodies rules b nonce event fate less journal setup lawful keeps spelled =
-    let r = keeps.recoverable in
+event_kept x scripts shelf bodies rules b nonce event fate over setup lawful holds spelled =
+    let k = holds.keeps in
+    let r = k.recoverable in
     let d = (step rules b nonce event fate).1 in
     let o = lands rules b event fate in
     let m : Moment = record { rules = rules; nonce = nonce; event = event; fate = fate } in
     let went = goes rules b nonce event fate in
     let later = stepped m b r.orderly lawful in
-    let one = remake_by rules b d o keeps.seen went lawful less r.orderly r.named r.doubt r.used in
+    let follows = follow_by scripts shelf rules over b r.orderly r.whole k.seen d o went lawful r.doubted r.doubt holds.doubt r.used in
+    let same = setup_kept rules b nonce event fate setup in
+    let adds = made_then x scripts shelf bodies b d o k.seen r.whole same k.makes follows.made spelled in
     record {
-      seen = seen_by o keeps.seen;
-      makes = made_then x scripts shelf bodies rules b d o keeps.seen journal (setup_kept rules b nonce event fate setup) keeps.makes one.0 spelled;
-      recoverable = record {
-        orderly = later.orderly;
-        named = stay_named.1 b m r.orderly r.named (gives_named b event r.named setup);
-        doubt = one.1;
-        used = used_then b d o keeps.seen (uses rules b d o went lawful r.orderly) later.fewer r.used;
+      keeps = record {
+        keeps = record {
+          seen = seen_by o k.seen;
+          makes = adds.makes;
+          recoverable = record {
+            orderly = later.orderly;
+            whole = record { setup = whole_setup b d r.whole same; instances = whole_landed b d o r.orderly r.whole (lands_as rules b d o went r.orderly) };
+            doubted = follows.doubted;
+            doubt = follows.doubt;
+            used = used_then b d o k.seen (uses rules b d o went lawful r.orderly) later.fewer r.used;
+          };
+        };
+        doubt = follows.own;
       };
+      own = adds.own;
+      landed = adds.landed;
     }
 
--- what one event landed, and then the others
-spelled_first : (o : Option Change) (cs : List Change) → AreSpelled (with_change o cs) → IsSpelled o × AreSpelled cs
-spelled_first None cs h = (tt, h)
-spelled_first (Some c) cs h = h
+-- ---- a run
 
-bodies_then : (o : Option Change) (cs : List Change) (bodies : List (List ℕ)) → with_landed o bodies ++ map body_by cs ≡ bodies ++ map body_by (with_change o cs)
-bodies_then None cs bodies = refl
-bodies_then (Some c) cs bodies = append_assoc bodies (body_by c ∷ []) (map body_by cs)
+nothing_more : (scripts : List Named) (shelf : ℕ) (bodies : List (List ℕ)) (b : Book) → KeepsDoubt scripts shelf bodies b → KeepsWith scripts shelf bodies [] b
+nothing_more scripts shelf bodies b keeps =
+    let same = sym (append-nil bodies) in
+    record {
+      keeps = subst (λ (bs : List (List ℕ)). KeepsDoubt scripts shelf bs b) same keeps;
+      own = λ h. subst (AreOwn scripts shelf) same h;
+      landed = λ h. subst (AreLanded scripts shelf) same h;
+    }
 
 pub run_kept : AreRecordsExact → RunsAreKept
-run_kept x scripts shelf bodies [] b under lawful keeps spelled = subst (λ (bs : List (List ℕ)). Keeps scripts shelf bs b) (sym (append-nil bodies)) keeps
+run_kept x scripts shelf bodies [] b under lawful keeps spelled = nothing_more scripts shelf bodies b keeps
 run_kept x scripts shelf bodies (m ∷ ms) b under lawful keeps spelled =
     let d = then_book m b in
-    let o = lands m.rules b m.event m.fate in
-    let both = spelled_first o (changes_of ms d) spelled in
-    let one = event_kept x scripts shelf bodies m.rules b m.nonce m.event m.fate under.0 under.1 under.2 lawful.0 keeps both.0 in
-    let rest = run_kept x scripts shelf (with_landed o bodies) ms d under.3 lawful.1 one both.1 in
-    subst (λ (bs : List (List ℕ)). Keeps scripts shelf bs (book_after ms d)) (bodies_then o (changes_of ms d) bodies) rest
+    let first = landed_bodies b (lands m.rules b m.event m.fate) in
+    let one = event_kept x scripts shelf bodies m.rules b m.nonce m.event m.fate under.1 under.2 lawful.0 keeps spelled.0 in
+    let rest = run_kept x scripts shelf (bodies ++ first) ms d under.3 lawful.1 one.keeps spelled.1 in
+    let same = append_assoc bodies first (bodies_of ms d) in
+    record {
+      keeps = subst (λ (bs : List (List ℕ)). KeepsDoubt scripts shelf bs (book_after ms d)) same rest.keeps;
+      own = λ h. subst (AreOwn scripts shelf) same (rest.own (one.own h));
+      landed = λ h. subst (AreLanded scripts shelf) same (rest.landed (one.landed h));
+    }
 
 nothing_alike : (scripts : List Named) (shelf : ℕ) (rules : Rules) → rules.journal ≡ Some (journal_rules shelf scripts)
     → nothing_made (rules_over scripts shelf) scripts shelf ≡ made_of (empty_book rules scripts shelf) []
 nothing_alike scripts shelf rules journal =
     ap (λ (j : Option Journal). record { book = empty_book (record rules { journal = j }) scripts shelf; seen = [] }) (sym journal)
 
-pub fresh_kept : AreRecordsExact → (scripts : List Named) (shelf : ℕ) (rules : Rules) → rules.journal ≡ Some (journal_rules shelf scripts) → AreNamed scripts → IsInGrammar (begin_of shelf scripts)
+pub fresh_kept : AreRecordsExact → (scripts : List Named) (shelf : ℕ) (rules : Rules) → AreOver rules scripts shelf → AreWhole scripts → IsInGrammar (begin_of shelf scripts)
     → Keeps scripts shelf (first_body scripts shelf ∷ []) (empty_book rules scripts shelf)
-fresh_kept x scripts shelf rules journal named fits =
+fresh_kept x scripts shelf rules journal whole fits =
     let m = made_of (empty_book rules scripts shelf) [] in
     let makes : book_of scripts shelf (first_body scripts shelf ∷ []) ≡ made m = made_first x scripts shelf fits ∙ ap made (nothing_alike scripts shelf rules journal) in
-    let h = (made_fits x scripts shelf (first_body scripts shelf ∷ []) m makes).recoverable named in
+    let h = (made_fits x scripts shelf (first_body scripts shelf ∷ []) m makes).recoverable whole in
     record {
       seen = [];
       makes = makes;
-      recoverable = record { orderly = h.orderly; named = record { setup = h.named.setup; instances = h.named.instances }; doubt = h.doubt; used = h.used };
+      recoverable = record { orderly = h.orderly; whole = record { setup = h.whole.setup; instances = h.whole.instances }; doubted = unread; doubt = tt; used = h.used };
     }
 
 pub fresh_suffice : AreRecordsExact → FreshJournalsSuffice
-fresh_suffice x scripts shelf rules ms journal named fits under lawful spelled =
+fresh_suffice x scripts shelf rules ms journal whole fits under lawful spelled =
     let b = empty_book rules scripts shelf in
-    let from = fresh_kept x scripts shelf rules journal named fits in
-    let all = run_kept x scripts shelf (first_body scripts shelf ∷ []) ms b (subst (λ (j : Option Journal). AreUnder j ms b) journal under) lawful from spelled in
-    ((all.seen, all.makes), (suffice rules ms b [] (sound.books_stay.0 rules scripts shelf) (stay_named.0 rules scripts shelf named) tt (λ n there x. there) lawful under).1)
+    let first = first_body scripts shelf in
+    let from : KeepsDoubt scripts shelf (first ∷ []) b = record { keeps = fresh_kept x scripts shelf rules journal whole fits; doubt = tt } in
+    let all = run_kept x scripts shelf (first ∷ []) ms b (subst (λ (j : Option Journal). AreUnder j ms b) journal under) lawful from spelled in (
+      (all.keeps.keeps.seen, all.keeps.keeps.makes),
+      all.own (first_each (λ m r. IsOwnRecord m.book r) scripts shelf first),
+      all.landed (first_each IsLandedRecord scripts shelf first),
+    )
+
+-- ---- a change that would be taken, whatever its page's state is
+
+record LandsIn (b : Book) (c : Change) (inside : List TxName) (d : Book) : Type 0 where
+  later : Later b d
+  uses : Uses b (Some c) d
+  setup : d.scripts ≡ b.scripts
+  up : d.down ≡ None
+  instances : d.instances ≡ instances_by b.scripts c inside b.instances
+
+numbered_in : (n k : ℕ) (b : Book) (c : Change) (inside : List TxName) → IsOrderly b → b.down ≡ None → IsOrderlyChange b.clock b.instances c → IsOf k c → Contains b.out k
+    → LandsIn b c inside (land (rules_for n) c inside (spend k b))
+numbered_in n k b c inside g up fits is out =
+    let there = among_of b.out k out in
+    record {
+      later = published (rules_for n) b k c inside g there up fits is;
+      uses = λ m e. (is_out b k c there is m e, λ u. (published_fewer (rules_for n) b k c inside up is m u).1 e);
+      setup = refl;
+      up = up;
+      instances = refl;
+    }
+
+landing_in : (n : ℕ) (b : Book) (c : Change) (inside : List TxName) → IsOrderly b → b.down ≡ None → IsOrderlyChange b.clock b.instances c → IsOut b (number_in c)
+    → LandsIn b c inside (landed_in n c inside b)
+landing_in n b (spec.opens o) inside g up fits out = numbered_in n o.number b (spec.opens o) inside g up fits refl out
+landing_in n b (spec.extends x) inside g up fits out = numbered_in n x.number b (spec.extends x) inside g up fits refl out
+landing_in n b (spec.ends e) inside g up fits out = numbered_in n e.number b (spec.ends e) inside g up fits refl out
+landing_in n b (spec.finishes f) inside g up fits out = numbered_in n f.number b (spec.finishes f) inside g up fits refl out
+landing_in n b (sweeps tick) inside g up fits out = record {
+  later = orderly.swept (rules_for n) b tick g fits up;
+  uses = λ m e. absurd e;
+  setup = refl;
+  up = up;
+  instances = refl;
+}
+
+spent_alike : (n : ℕ) (b : Book) (c : Change) (inside : List TxName) → reopened (landed_in n c inside b) ≡ reopened (land (rules_for n) c inside b)
+spent_alike n b (spec.opens o) inside = refl
+spent_alike n b (spec.extends x) inside = refl
+spent_alike n b (spec.ends e) inside = refl
+spent_alike n b (spec.finishes f) inside = refl
+spent_alike n b (sweeps tick) inside = refl
+
+new_if_out : (b : Book) (c : Change) (seen : List ℕ) → AreUsed seen b → IsOut b (number_in c) → IsNew seen c
+new_if_out b (spec.opens o) seen used out m e there = used m there (inl (subst (λ (k : ℕ). Among k b.out) e (among_of b.out o.number out)))
+new_if_out b (spec.extends x) seen used out m e there = used m there (inl (subst (λ (k : ℕ). Among k b.out) e (among_of b.out x.number out)))
+new_if_out b (spec.ends x) seen used out m e there = used m there (inl (subst (λ (k : ℕ). Among k b.out) e (among_of b.out x.number out)))
+new_if_out b (spec.finishes f) seen used out m e there = used m there (inl (subst (λ (k : ℕ). Among k b.out) e (among_of b.out f.number out)))
+new_if_out b (sweeps tick) seen used out m e there = e
+
+taken_fits : (b : Book) (c : Change) (inside : List TxName) (x : Told) → IsTakenAs b c inside x → IsOrderlyChange b.clock b.instances c
+taken_fits b c inside unread h = held_fits b c [] [] h.0
+taken_fits b c inside misread h = absurd h
+taken_fits b c inside (told d) h = held_fits b c inside inside h.0
+
+pub landing_kept : AreRecordsExact → LandingsAreKept
+landing_kept x scripts shelf bodies b c state inside keeps up fits taken out =
+    let r = keeps.recoverable in
+    let n = length (body_by c state) in
+    let d = landed_in n c inside b in
+    let seen = with_number (number_in c) keeps.seen in
+    let its = told_by (script_for b c) state in
+    let l = lands_so x scripts shelf bodies b keeps.seen c state inside its keeps.makes fits refl taken (new_if_out b c keeps.seen r.used out) in
+    let into = landing_in n b c inside r.orderly up (taken_fits b c inside its taken) out in
+    record {
+      seen = seen;
+      makes = l.0 ∙ ap (λ (y : Book). made (record { book = y; seen = seen })) (sym (spent_alike n b c inside));
+      recoverable = record {
+        orderly = into.later.orderly;
+        whole = record {
+          setup = whole_setup b d r.whole into.setup;
+          instances = subst WholeIn (sym into.instances) (whole_by b.scripts b.instances c inside r.orderly.instances.apart r.whole.setup r.whole.instances);
+        };
+        doubted = unread;
+        doubt = subst (λ (o : Option Doubt). IsTakenDoubt d o unread) (sym into.up) tt;
+        used = used_then b d (Some c) keeps.seen into.uses into.later.fewer r.used;
+      };
+    }

@@ -1,9 +1,12 @@
+pub mod Typed
+pub mod Retaken
 pub mod Makings
 pub mod Fitting
-pub mod Remade
+pub mod Brief
+pub mod Owned
+pub mod Taking
 pub mod Kept
 pub mod Between
-pub mod Typed
 pub mod Spelled
 pub mod Ranges
 pub mod Readings

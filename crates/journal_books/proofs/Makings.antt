@@ -1,5 +1,5 @@
 -- What one record more makes, and what any bodies make.
-use Rattle.std.proofs.Common.{◌≡◌, ℕ, ◌+◌, ◌==◌, ◌&&◌, List, [], ◌∷◌, ◌++◌, length, Bool, true, false, if◌then◌else◌, refl, ◌∙◌, ap, arith, length-append}
+use Rattle.std.proofs.Common.{◌≡◌, ℕ, ◌+◌, ◌==◌, ◌&&◌, List, [], ◌∷◌, ◌++◌, length, Option, Bool, true, false, if◌then◌else◌, refl, ◌∙◌, ap, arith, length-append}
 use Rattle.std.specs.Str.{bytes_eq}
 use Rattle.std.proofs.lemmas.Bool.Decides.{nat_tests}
 use Rattle.std.proofs.lemmas.Slice.Eq.{bytes_eq-Decides}
@@ -7,16 +7,17 @@ use Rattle.script_nodes.specs.Setup.{Named}
 use Rattle.page_journal.specs.Records.{framed, frames}
 use Rattle.page_journal.proofs.Frames.{length-framed}
 use Rattle.replay_spec.specs.Book.{Change}
-use Rattle.replay_spec.specs.Recovery.{Made, nothing_made, redo}
+use Rattle.replay_spec.specs.Recovery.{Made, nothing_made}
 use Rattle.journal_records.specs.Records.{changes, IsInGrammar, begin_of, texts_of}
 use Rattle.journal_records.specs.Laws.{AreRecordsExact}
-use Rattle.journal_books.specs.Making.{Making, nothing, made, damaged, other, rules_over, are_told, has_script, first_by, next_by, with_body, with_bodies, book_of}
+use Rattle.journal_books.specs.Retaking.{Told, script_for, told_by}
+use Rattle.journal_books.specs.Making.{Making, nothing, made, damaged, other, rules_over, are_told, has_script, told_next, first_by, next_by, with_body, with_bodies, book_of}
 use Rattle.journal_books.specs.Keeping.{body_by, first_body}
 
 behind_first : (place : ℕ) (first : List ℕ) (bodies : List (List ℕ)) → place + 5 + length first + length (frames bodies) ≡ place + length (frames (first ∷ bodies))
 behind_first place first bodies = omega (arith, length-append (framed first) (frames bodies), length-framed first)
 
-with_push : (scripts : List Named) (shelf place : ℕ) (bodies : List (List ℕ)) (body : List ℕ) (m : Making)
+pub with_push : (scripts : List Named) (shelf place : ℕ) (bodies : List (List ℕ)) (body : List ℕ) (m : Making)
     → with_bodies scripts shelf place (bodies ++ body ∷ []) m ≡ with_body scripts shelf (place + length (frames bodies)) body (with_bodies scripts shelf place bodies m)
 with_push scripts shelf place [] body m =
     let same : place ≡ place + 0 = omega arith in
@@ -26,15 +27,18 @@ with_push scripts shelf place (first ∷ bodies) body m =
     with_push scripts shelf (place + 5 + length first) bodies body (with_body scripts shelf place first m)
     ∙ ap (λ (n : ℕ). with_body scripts shelf n body rest) (behind_first place first bodies)
 
--- the body of a change makes of what was made what the change makes of it
-pub made_push : AreRecordsExact → (scripts : List Named) (shelf : ℕ) (bodies : List (List ℕ)) (m : Made) (c : Change) → book_of scripts shelf bodies ≡ made m → IsInGrammar (changes c)
-    → has_script (length scripts) c ≡ true → book_of scripts shelf (bodies ++ body_by c ∷ []) ≡ made (redo (rules_over scripts shelf) c m)
-made_push x scripts shelf bodies m c makes fits script =
+-- the body of a change makes of what was made what the change makes of it, by what is told of its page's state
+pub made_push : AreRecordsExact → (scripts : List Named) (shelf : ℕ) (bodies : List (List ℕ)) (m : Made) (c : Change) (state : Option (List ℕ)) (x : Told)
+    → book_of scripts shelf bodies ≡ made m → IsInGrammar (changes c state) → has_script (length scripts) c ≡ true → told_by (script_for m.book c) state ≡ x
+    → book_of scripts shelf (bodies ++ body_by c state ∷ []) ≡ told_next (8 + length (frames bodies)) (length (body_by c state)) m c x
+made_push exact scripts shelf bodies m c state x makes fits script is =
     let place = 8 + length (frames bodies) in
-    with_push scripts shelf 8 bodies (body_by c) nothing
-    ∙ ap (with_body scripts shelf place (body_by c)) makes
-    ∙ ap (next_by scripts shelf place m) (x.back (changes c) fits)
-    ∙ ap (λ (t : Bool). if t then made (redo (rules_over scripts shelf) c m) else damaged place) script
+    let n = length (body_by c state) in
+    with_push scripts shelf 8 bodies (body_by c state) nothing
+    ∙ ap (with_body scripts shelf place (body_by c state)) makes
+    ∙ ap (next_by scripts place n m) (exact.back (changes c state) fits)
+    ∙ ap (λ (t : Bool). if t then told_next place n m c (told_by (script_for m.book c) state) else damaged place) script
+    ∙ ap (told_next place n m c) is
 
 pub both_true : (a b : Bool) → a ≡ true → b ≡ true → (a && b) ≡ true
 both_true true true x y = refl

@@ -14,7 +14,7 @@ use Rattle.replay_spec.specs.Invariant.{IsOf, IsDoubted, IsOrderly}
 use Rattle.journal_records.specs.Fields.{numbers_end}
 use Rattle.journal_books.specs.Spelling.{IsTickInRange, IsDoubtInRange, IsInRange}
 use Rattle.journal_books.specs.Laws.{RangesAreKept}
-use Rattle.journal_books.proofs.Spelled.{Comes, published_comes}
+use Rattle.journal_books.proofs.Brief.{Comes, published_comes}
 
 -- a decision's tick is in range
 abbrev TicksFit : Decision → Type 0

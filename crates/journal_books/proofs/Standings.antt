@@ -1,5 +1,5 @@
 -- How a disk goes on to stand for a book, by the calls of a journal.
-use Rattle.std.proofs.Common.{◌≡◌, inl, inr, ⊎_elim, ℕ, ◌≤◌, List, [], ◌++◌, Option, Some, None, sym, ◌∙◌, ap, subst, arith}
+use Rattle.std.proofs.Common.{◌≡◌, refl, inl, inr, ⊎_elim, ℕ, ◌≤◌, List, [], ◌++◌, Option, Some, None, sym, ◌∙◌, ap, subst, arith}
 use Rattle.std.proofs.lemmas.List.{append-nil}
 use Rattle.script_nodes.specs.Setup.{Named}
 use Rattle.web_disk.specs.View.{View, NoNewImage, Elapses, LeavesOnly}
@@ -13,7 +13,8 @@ use Rattle.replay_spec.specs.Book.{Doubt, Book, reopened}
 use Rattle.replay_spec.specs.Recovery.{Made}
 use Rattle.replay_spec.specs.Remade.{made_of}
 use Rattle.replay_spec.specs.Step.{kept, recovered}
-use Rattle.journal_books.specs.Making.{made, rules_over, begun, book_in_bytes}
+use Rattle.journal_books.specs.Retaking.{rules_for}
+use Rattle.journal_books.specs.Making.{made, begun, book_in_bytes}
 use Rattle.journal_books.specs.Standing.{Makes, MakesIn, IsOneOf, HasRoom, Between, Hold, Held, if_kept, Stands, Throughout, ThroughoutFrom, StaysThroughout}
 use Rattle.journal_books.proofs.Between.{make_books, stand_alike}
 
@@ -27,16 +28,17 @@ closed_holds bodies None image closed = closed
 closed_holds bodies (Some body) image closed = inl closed
 
 -- a call of the shelf that makes none of the disk, or one that leaves no new image
-pub stays : (scripts : List Named) (shelf : ℕ) (b : Book) (v : View) → OnlyNow v → Stands scripts shelf v b → Throughout scripts shelf b (if_kept scripts shelf b) v v
-stays scripts shelf b v only_now s = (s.0, started v (Held s.0) (λ image left. s.1 image (only_now image left)))
+pub stays : (scripts : List Named) (shelf : ℕ) (b : Book) (v : View) → OnlyNow v → (s : Stands scripts shelf v b) → Throughout scripts shelf b (if_kept s.0 b) v v
+stays scripts shelf b v only_now s = (s.1.0, started v (Held s.1.0) (λ image left. s.1.1 image (only_now image left)))
 
-pub stays_then : (scripts : List Named) (shelf : ℕ) (b : Book) (v0 v1 : View) → OnlyNow v0 → Stands scripts shelf v0 b → NoNewImage v0 v1 → Elapses v0 v1
-    → Throughout scripts shelf b (if_kept scripts shelf b) v0 v1
+pub stays_then : (scripts : List Named) (shelf : ℕ) (b : Book) (v0 v1 : View) → OnlyNow v0 → (s : Stands scripts shelf v0 b) → NoNewImage v0 v1 → Elapses v0 v1
+    → Throughout scripts shelf b (if_kept s.0 b) v0 v1
 stays_then scripts shelf b v0 v1 only_now s no_new time =
-    (s.0, goes_on v0 v0 v1 (Held s.0) (started v0 (Held s.0) (λ image left. s.1 image (only_now image left))) time (λ image left. s.1 image (no_new image left)))
+    let k = s.1.0 in
+    (k, goes_on v0 v0 v1 (Held k) (started v0 (Held k) (λ image left. s.1.1 image (only_now image left))) time (λ image left. s.1.1 image (no_new image left)))
 
-pub stands_then : (scripts : List Named) (shelf : ℕ) (b : Book) (v0 v1 : View) → Stands scripts shelf v0 b → NoNewImage v0 v1 → Stands scripts shelf v1 b
-stands_then scripts shelf b v0 v1 s no_new = (s.0, λ image left. s.1 image (no_new image left))
+pub stands_then : (scripts : List Named) (shelf : ℕ) (b : Book) (v0 v1 : View) → (s : Stands scripts shelf v0 b) → NoNewImage v0 v1 → (t : Stands scripts shelf v1 b) × (t.0 ≡ s.0)
+stands_then scripts shelf b v0 v1 s no_new = ((s.0, (s.1.0, λ image left. s.1.1 image (no_new image left))), refl)
 
 -- a run behind a call that leaves no new image, on a journal's file
 pub after_quiet : (bodies : List (List ℕ)) (scripts : List Named) (shelf : ℕ) (before after : Book) (v0 v1 v2 : View) → OnlyNow v0 → ((image : List ℕ) → v0.images image → IsClosed bodies image)
@@ -53,11 +55,11 @@ pub settled_stands : {D : Type 0} (view : D → View) (scripts : List Named) (sh
     → Stands scripts shelf (view_of view j) b
 settled_stands view scripts shelf j b s makes up =
     let bodies = bodies_in view j in
-    let same : if_kept scripts shelf b ≡ b = ap (λ (d : Option Doubt). recovered (rules_over scripts shelf) kept d b) up in
-    let alone : Makes scripts shelf (bodies ++ []) b = subst (λ (bs : List (List ℕ)). Makes scripts shelf bs b) (sym (append-nil bodies)) makes in (
-      record { bodies = bodies; more = None; room = omega (arith, s.end, s.fits); first = makes; second = subst (Makes scripts shelf (bodies ++ [])) (sym same) alone },
-      settled_images view j s,
-    )
+    let same : if_kept 0 b ≡ b = ap (λ (d : Option Doubt). recovered (rules_for 0) kept d b) up in
+    let alone : Makes scripts shelf (bodies ++ []) b = subst (λ (bs : List (List ℕ)). Makes scripts shelf bs b) (sym (append-nil bodies)) makes in
+    let k : Between scripts shelf b (if_kept 0 b) =
+    record { bodies = bodies; more = None; room = omega (arith, s.end, s.fits); first = makes; second = subst (Makes scripts shelf (bodies ++ [])) (sym same) alone } in
+    (0, (k, settled_images view j s))
 
 -- a recovery
 pub stays_by : (scripts : List Named) (shelf : ℕ) (v0 v1 : View) → MayHoldNowAndThroughout v0 v1 → ClosedNowAndThroughout v0 v1 → StaysThroughout scripts shelf v0 v1
@@ -90,8 +92,8 @@ appended bodies scripts shelf before after v0 v1 v2 body only_now closed k these
     (all.0, all.2)
 
 -- what a call left
-pub left_standing : (scripts : List Named) (shelf : ℕ) (before after b : Book) (v0 v1 : View) → ((t : ℕ) (image : List ℕ) → t ≤ v1.moment → v1.images image → v1.since t image)
-    → Throughout scripts shelf before after v0 v1 → reopened before ≡ reopened b → reopened after ≡ reopened (if_kept scripts shelf b) → Stands scripts shelf v1 b
-left_standing scripts shelf before after b v0 v1 counts (k, run) first second =
-    let l = (stand_alike scripts shelf).1 before after b (if_kept scripts shelf b) first second k in
-    (l.0, λ image left. subst (λ (bs : List (List ℕ)). Hold bs l.0.more image) (sym l.1) (subst (λ (o : Option (List ℕ)). Hold k.bodies o image) (sym l.2) (run.each image (counts v0.moment image run.later left))))
+pub left_standing : (scripts : List Named) (shelf n : ℕ) (before after b : Book) (v0 v1 : View) → ((t : ℕ) (image : List ℕ) → t ≤ v1.moment → v1.images image → v1.since t image)
+    → Throughout scripts shelf before after v0 v1 → reopened before ≡ reopened b → reopened after ≡ reopened (if_kept n b) → (t : Stands scripts shelf v1 b) × (t.0 ≡ n)
+left_standing scripts shelf n before after b v0 v1 counts (k, run) first second =
+    let l = (stand_alike scripts shelf).1 before after b (if_kept n b) first second k in
+    ((n, (l.0, λ image left. subst (λ (bs : List (List ℕ)). Hold bs l.0.more image) (sym l.1) (subst (λ (o : Option (List ℕ)). Hold k.bodies o image) (sym l.2) (run.each image (counts v0.moment image run.later left))))), refl)

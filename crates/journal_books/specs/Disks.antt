@@ -35,10 +35,10 @@ SettledJournalsStand {D} view =
 -- A call that leaves no new image leaves a disk standing for its book, at each moment.
 abbrev pub QuietCallsStand : {D : Type 0} → (D → View) → Type 0
 QuietCallsStand {D} view =
-    (scripts : List Named) (shelf : ℕ) (b : Book) (old new : D) → Stands scripts shelf (view old) b
+    (scripts : List Named) (shelf : ℕ) (b : Book) (old new : D) → (s : Stands scripts shelf (view old) b)
     → NoNewImage (view old) (view new) → Elapses (view old) (view new)
-    → Throughout scripts shelf b (if_kept scripts shelf b) (view old) (view new)
-    × Stands scripts shelf (view new) b
+    → Throughout scripts shelf b (if_kept s.0 b) (view old) (view new)
+    × ((t : Stands scripts shelf (view new) b) × (t.0 ≡ s.0))
 
 -- A settled journal that makes room for a record and then adds it stands between the book before and the one behind it, at
 -- each moment, whatever the answer was.
@@ -52,13 +52,13 @@ AppendsStandBetween {D} view =
     → Throughout scripts shelf before after (view_of view old) (view_of view new)
 
 -- A call that stood between the book before and the one behind it leaves the disk standing for the book that it left, also
--- where it failed.
+-- where it failed, with what is in doubt as long as it was there.
 abbrev pub CallsLeaveStanding : {D : Type 0} → (D → View) → Type 0
 CallsLeaveStanding {D} view =
-    (scripts : List Named) (shelf : ℕ) (before after b : Book) (old new : D)
+    (scripts : List Named) (shelf n : ℕ) (before after b : Book) (old new : D)
     → Throughout scripts shelf before after (view old) (view new)
-    → reopened before ≡ reopened b → reopened after ≡ reopened (if_kept scripts shelf b)
-    → Stands scripts shelf (view new) b
+    → reopened before ≡ reopened b → reopened after ≡ reopened (if_kept n b)
+    → (t : Stands scripts shelf (view new) b) × (t.0 ≡ n)
 
 -- What a shelf promises of its journal, and asks for: where nothing is in doubt, it can go on, and its records make the book;
 -- a crash leaves what makes the book, with what is in doubt or without it.

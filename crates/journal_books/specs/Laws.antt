@@ -1,22 +1,26 @@
 -- What holds of journals and of the books that they make.
-use Rattle.std.specs.Prelude.{◌≡◌, ◌⊎◌, ℕ, ◌≤◌, ◌^◌, List, ◌∷◌, ◌++◌, length, map, Some, option_map}
+use Rattle.std.specs.Prelude.{◌≡◌, ◌⊎◌, ℕ, ◌≤◌, ◌<◌, ◌^◌, List, ◌∷◌, [], ◌++◌, length, Option, Some, None, true, option_map, ⊤}
 use Rattle.script_value.specs.declared.outcome.TxName.{TxName}
 use Rattle.script_nodes.specs.Setup.{Named}
 use Rattle.page_journal.specs.Records.{at_rest}
+use Rattle.page_journal.specs.Holding.{Holdable}
 use Rattle.replay_spec.specs.Book.{Change, Book, reopened}
 use Rattle.replay_spec.specs.Rules.{Rules, empty_book}
 use Rattle.replay_spec.specs.Next.{Ticket}
-use Rattle.replay_spec.specs.Step.{Event, crash, Fate, lost, kept, Reply, records, publish_comes, step}
+use Rattle.replay_spec.specs.Step.{Event, crash, Fate, lost, kept, Reply, records, publish_comes, recovered, step}
 use Rattle.replay_spec.specs.Runs.{lands}
-use Rattle.replay_spec.specs.Recovery.{Made, nothing_made}
+use Rattle.replay_spec.specs.Recovery.{Made, nothing_made, number_in}
 use Rattle.replay_spec.specs.Invariant.{IsOrderly}
-use Rattle.replay_spec.specs.Remade.{NameTheirCells, KeepsSetup, AreUnder, AreTakenIn}
-use Rattle.replay_spec.specs.Laws.{IsLawful, Moment, AreLawful, book_after, changes_of}
-use Rattle.server_limits.specs.Limits.{most_fuel}
-use Rattle.journal_records.specs.Records.{begins, changes, IsInGrammar, begin_of, PartsFit, journal_rules}
+use Rattle.replay_spec.specs.Remade.{KeepsSetup, AreUnder}
+use Rattle.replay_spec.specs.Laws.{IsLawful, Moment, AreLawful, book_after}
+use Rattle.machine_spec.specs.Machine.{Suspended}
+use Rattle.frame_codec.specs.Spelling.{state_bytes, StateHasBytes}
+use Rattle.journal_records.specs.Records.{begins, changes, IsInGrammar, begin_of, PartsFit}
+use Rattle.journal_books.specs.Lengths.{state_by, own_body, is_shallow_state, journal_rules}
 use Rattle.journal_books.specs.Making.{made, other, rules_over, first_by, book_of}
-use Rattle.journal_books.specs.Standing.{Makes, MakesIn, HasRoom, Between, Held, if_kept}
-use Rattle.journal_books.specs.Keeping.{AreAllBytes, IsRecoverable, Keeps, AreNamed, body_by, first_body, with_landed, IsSpelled, AreSpelled, stake_of}
+use Rattle.journal_books.specs.Owning.{AreOwn, AreLanded}
+use Rattle.journal_books.specs.Standing.{Makes, MakesIn, HasRoom, Between, Held, if_kept, length_in}
+use Rattle.journal_books.specs.Keeping.{AreAllBytes, AreWhole, HasWholeScripts, IsTaken, IsOut, landed_in, IsRecoverable, Keeps, KeepsDoubt, KeepsWith, body_by, first_body, landed_bodies, bodies_of, CanBeWritten, IsSpelled, AreSpelled, stake_of}
 use Rattle.journal_books.specs.Spelling.{IsInRange, AreLimits, GivesTick, IsTicket}
 
 -- The record that a journal of this shelf and setup begins with makes an empty book, and any other Begin is of another.
@@ -38,8 +42,7 @@ ImagesMakeBooks =
 abbrev pub BooksStandAlike : Type 0
 BooksStandAlike =
     (scripts : List Named) (shelf : ℕ)
-    → ((b c : Book) → reopened b ≡ reopened c → b.down ≡ c.down
-    → reopened (if_kept scripts shelf b) ≡ reopened (if_kept scripts shelf c))
+    → ((n : ℕ) (b c : Book) → reopened b ≡ reopened c → b.down ≡ c.down → reopened (if_kept n b) ≡ reopened (if_kept n c))
     × ((a b c d : Book) → reopened a ≡ reopened c → reopened b ≡ reopened d → (k : Between scripts shelf a b)
     → (l : Between scripts shelf c d) × (l.bodies ≡ k.bodies) × (l.more ≡ k.more))
 
@@ -47,12 +50,16 @@ BooksStandAlike =
 abbrev pub AreOver : Rules → List Named → (shelf : ℕ) → Type 0
 AreOver rules scripts shelf = rules.journal ≡ Some (journal_rules shelf scripts)
 
+-- the rules measure what is in doubt as its record is
+abbrev pub MeasuresDoubt : Rules → (length : ℕ) → Book → Type 0
+MeasuresDoubt rules n b = reopened (recovered rules kept b.down b) ≡ reopened (if_kept n b)
+
 -- So what a disk that stands for a book may hold after a crash makes the book of the event crash, what is in doubt lost or
 -- kept.
 abbrev pub ACrashIsLostOrKept : Type 0
 ACrashIsLostOrKept =
-    (scripts : List Named) (shelf : ℕ) (rules : Rules) (b : Book) (nonce : ℕ) → AreOver rules scripts shelf
-    → (k : Between scripts shelf b (if_kept scripts shelf b)) (image : List ℕ) → Held k image
+    (scripts : List Named) (shelf : ℕ) (rules : Rules) (b : Book) (nonce n : ℕ) → MeasuresDoubt rules n b
+    → (k : Between scripts shelf b (if_kept n b)) (image : List ℕ) → Held k image
     → MakesIn scripts shelf image (step rules b nonce (crash scripts) lost).1
     ⊎ MakesIn scripts shelf image (step rules b nonce (crash scripts) kept).1
 
@@ -62,7 +69,7 @@ pub record IsFitting (scripts : List Named) (shelf : ℕ) (bodies : List (List �
   pub again : m.book ≡ reopened m.book
   pub scripts_are : m.book.scripts ≡ scripts
   pub shelf_is : m.book.shelf ≡ shelf
-  pub recoverable : AreNamed scripts → IsRecoverable m.book m.seen
+  pub recoverable : AreWhole scripts → IsRecoverable m.book m.seen
   pub range : AreAllBytes bodies → IsInRange m.book
   pub long : AreAllBytes bodies → length (at_rest bodies) ≤ 2 ^ 30 → m.book.length ≡ length (at_rest bodies)
 
@@ -71,57 +78,82 @@ BodiesMakeFittingBooks =
     (scripts : List Named) (shelf : ℕ) (bodies : List (List ℕ)) (m : Made) → book_of scripts shelf bodies ≡ made m
     → IsFitting scripts shelf bodies m
 
--- The body of the record that an event leaves makes of the journal's book the book behind the event, also where what was in
--- doubt is kept at a crash; where it leaves none, the same bodies make it. The book can go on.
+-- A change that would be taken, and whose number is out, can be landed, whatever its page's state is: the body of its record makes the
+-- book behind it.
+abbrev pub LandingsAreKept : Type 0
+LandingsAreKept =
+    (scripts : List Named) (shelf : ℕ) (bodies : List (List ℕ)) (b : Book) (c : Change) (state : Option (List ℕ)) (inside : List TxName)
+    → Keeps scripts shelf bodies b → b.down ≡ None → IsInGrammar (changes c state) → IsTaken b c state inside → IsOut b (number_in c)
+    → Keeps scripts shelf (bodies ++ body_by c state ∷ []) (landed_in (length (body_by c state)) c inside b)
+
+-- So with that body in flight a disk stands between the two; and where the change stays in doubt it stands for the book.
+abbrev pub LandingsStandBetween : Type 0
+LandingsStandBetween =
+    (scripts : List Named) (shelf : ℕ) (bodies : List (List ℕ)) (b : Book) (c : Change) (state : Option (List ℕ)) (inside : List TxName)
+    → Keeps scripts shelf bodies b → b.down ≡ None → IsInGrammar (changes c state) → IsTaken b c state inside → IsOut b (number_in c)
+    → Holdable bodies (body_by c state)
+    → (k : Between scripts shelf b (landed_in (length (body_by c state)) c inside b)) × (k.bodies ≡ bodies) × (k.more ≡ Some (body_by c state))
+
+-- The body of the record that an event leaves, with the state that its script leaves, makes of the journal's book the book behind
+-- the event, also where what was in doubt is kept at a crash; where it leaves none, the same bodies make it. The book can go on.
+-- Where the states of the journal are own ones, they go on to be; and the record is none that is passed over.
 abbrev pub EventsAreKept : Type 0
 EventsAreKept =
     (scripts : List Named) (shelf : ℕ) (bodies : List (List ℕ)) (rules : Rules) (b : Book) (nonce : ℕ) (event : Event)
     (fate : Fate)
-    → rules.fuel ≤ most_fuel → AreOver rules scripts shelf → KeepsSetup event b → IsLawful event b
-    → Keeps scripts shelf bodies b → IsSpelled (lands rules b event fate)
-    → Keeps scripts shelf (with_landed (lands rules b event fate) bodies) (step rules b nonce event fate).1
+    → AreOver rules scripts shelf → KeepsSetup event b → IsLawful event b
+    → KeepsDoubt scripts shelf bodies b → IsSpelled b (lands rules b event fate)
+    → KeepsWith scripts shelf bodies (landed_bodies b (lands rules b event fate)) (step rules b nonce event fate).1
 
 -- So with that body in flight a disk stands between the book before the event and the book behind it, where what is in doubt
--- then is kept.
+-- then is kept, which the rules measure as its body is long.
 abbrev pub EventsStandBetween : Type 0
 EventsStandBetween =
     (scripts : List Named) (shelf : ℕ) (bodies : List (List ℕ)) (rules : Rules) (b : Book) (nonce : ℕ) (event : Event)
     (fate : Fate)
-    → rules.fuel ≤ most_fuel → AreOver rules scripts shelf → KeepsSetup event b → IsLawful event b
-    → Keeps scripts shelf bodies b
+    → AreOver rules scripts shelf → KeepsSetup event b → IsLawful event b
+    → KeepsDoubt scripts shelf bodies b
     → let c = stake_of rules b nonce event fate in
-    IsSpelled c → HasRoom bodies (option_map body_by c)
-    → (k : Between scripts shelf b (if_kept scripts shelf (step rules b nonce event fate).1))
-    × (k.bodies ≡ bodies) × (k.more ≡ option_map body_by c)
+    let more = option_map (own_body b) c in
+    let d = (step rules b nonce event fate).1 in
+    IsSpelled b c → HasRoom bodies more
+    → (k : Between scripts shelf b (if_kept (length_in more) d))
+    × (k.bodies ≡ bodies) × (k.more ≡ more) × MeasuresDoubt rules (length_in more) d
 
 -- The bodies that a run leaves behind those of a journal make the run's last book, over crashes and under rules that change.
 abbrev pub RunsAreKept : Type 0
 RunsAreKept =
     (scripts : List Named) (shelf : ℕ) (bodies : List (List ℕ)) (ms : List Moment) (b : Book)
     → AreUnder (Some (journal_rules shelf scripts)) ms b → AreLawful ms b
-    → Keeps scripts shelf bodies b → AreSpelled (changes_of ms b)
-    → Keeps scripts shelf (bodies ++ map body_by (changes_of ms b)) (book_after ms b)
+    → KeepsDoubt scripts shelf bodies b → AreSpelled ms b
+    → KeepsWith scripts shelf bodies (bodies_of ms b) (book_after ms b)
 
--- From a fresh journal on the bodies of a run make its last book, and none of them is passed over.
+-- From a fresh journal on the bodies of a run make its last book, their states are own ones, and none of them is passed over.
 abbrev pub FreshJournalsSuffice : Type 0
 FreshJournalsSuffice =
-    (scripts : List Named) (shelf : ℕ) (rules : Rules) (ms : List Moment) → AreOver rules scripts shelf → AreNamed scripts
+    (scripts : List Named) (shelf : ℕ) (rules : Rules) (ms : List Moment) → AreOver rules scripts shelf → AreWhole scripts
     → IsInGrammar (begin_of shelf scripts)
     → let b = empty_book rules scripts shelf in
-    AreUnder rules.journal ms b → AreLawful ms b → AreSpelled (changes_of ms b)
-    → Makes scripts shelf (first_body scripts shelf ∷ map body_by (changes_of ms b)) (book_after ms b)
-    × AreTakenIn rules (changes_of ms b) (nothing_made rules scripts shelf)
+    let bodies = first_body scripts shelf ∷ bodies_of ms b in
+    AreUnder rules.journal ms b → AreLawful ms b → AreSpelled ms b
+    → Makes scripts shelf bodies (book_after ms b) × AreOwn scripts shelf bodies × AreLanded scripts shelf bodies
 
--- What a publish records can be written, on a book in range, where its parts are such as the program's types give: it is not
--- too long, so no value nests too deep and no part is too long for its count; and its numbers are such as records tell.
+-- what the program's types say of a state: where its values nest no deeper than one may that is written, and its bytes can be
+-- counted, it has a spelling
+abbrev pub StateFits : Option Suspended → Type 0
+StateFits None = ⊤
+StateFits (Some d) = is_shallow_state d ≡ true → length (state_bytes d) < 2 ^ 32 → StateHasBytes d
+
+-- What a publish records can be written, on a book in range, where its parts and its state are such as the program's types give: it
+-- is not too long, so no value nests too deep and no part is too long for its count; and its numbers are such as records tell.
 abbrev pub WhatIsRecordedIsSpelled : Type 0
 WhatIsRecordedIsSpelled =
     (scripts : List Named) (shelf : ℕ) (rules : Rules) (b : Book) (t : Ticket) (r : Reply) (c : Change)
     (inside : List TxName)
-    → rules.fuel ≤ most_fuel → AreOver rules scripts shelf → IsOrderly b → NameTheirCells b → IsInRange b
+    → AreOver rules scripts shelf → IsOrderly b → HasWholeScripts b → IsInRange b
     → AreLimits rules b.scripts → IsTicket b t
-    → publish_comes rules b t ≡ records r c inside → PartsFit c
-    → IsInGrammar (changes c)
+    → publish_comes rules b t ≡ records r c inside → PartsFit c → StateFits (state_by b c)
+    → CanBeWritten b c
 
 -- Each event keeps numbers and clock in range.
 abbrev pub RangesAreKept : Type 0

@@ -1,4 +1,7 @@
+pub mod Retaking
+pub mod Lengths
 pub mod Making
+pub mod Owning
 pub mod Standing
 pub mod Keeping
 pub mod Reading

@@ -6,9 +6,12 @@ use Rattle.page_journal.specs.Records as journal
 use Rattle.page_journal.specs.Records.{Log, records}
 use Rattle.replay_spec.specs.Book.{Change, opens}
 use Rattle.replay_spec.specs.Rules.{Rules}
-use Rattle.replay_spec.specs.Recovery.{Made, nothing_made, redo}
+use Rattle.replay_spec.specs.Recovery.{Made, nothing_made}
+use Rattle.machine_spec.specs.Machine.{inside_of}
 use Rattle.server_limits.specs.Limits.{most_fuel}
-use Rattle.journal_records.specs.Records.{Record, begins, changes, journal_rules}
+use Rattle.journal_records.specs.Records.{Record, begins, changes}
+use Rattle.journal_books.specs.Retaking.{Told, unread, misread, told, script_for, told_by, landing, retaken}
+use Rattle.journal_books.specs.Lengths.{journal_rules}
 use Rattle.journal_records.specs.Reading.{read_record}
 
 -- There is no record; or they make a book, as after a crash, of a shelf of these scripts; or what stands at this place is no
@@ -38,20 +41,26 @@ has_script count _ = true
 -- the first record, whose gate is at this place, and a later one
 abbrev pub first_by : List Named → (shelf place : ℕ) → Option Record → Making
 first_by scripts shelf place None = damaged place
-first_by scripts shelf place (Some (changes c)) = damaged place
+first_by scripts shelf place (Some (changes c state)) = damaged place
 first_by scripts shelf place (Some (begins s named)) =
     if s == shelf && are_told named scripts then made (nothing_made (rules_over scripts shelf) scripts shelf) else other place
 
-abbrev pub next_by : List Named → (shelf place : ℕ) → Made → Option Record → Making
-next_by scripts shelf place m None = damaged place
-next_by scripts shelf place m (Some (begins s named)) = damaged place
-next_by scripts shelf place m (Some (changes c)) =
-    if has_script (length scripts) c then made (redo (rules_over scripts shelf) c m) else damaged place
+-- a record of this length, whose page's state is told so
+abbrev pub told_next : (place length : ℕ) → Made → Change → Told → Making
+told_next place n m c unread = made (retaken n c (landing m c []) m)
+told_next place n m c misread = damaged place
+told_next place n m c (told d) = made (retaken n c (landing m c (inside_of d.frames)) m)
+
+abbrev pub next_by : List Named → (place length : ℕ) → Made → Option Record → Making
+next_by scripts place n m None = damaged place
+next_by scripts place n m (Some (begins s named)) = damaged place
+next_by scripts place n m (Some (changes c state)) =
+    if has_script (length scripts) c then told_next place n m c (told_by (script_for m.book c) state) else damaged place
 
 -- with one body more, behind the gate at this place
 abbrev pub with_body : List Named → (shelf place : ℕ) → List ℕ → Making → Making
 with_body scripts shelf place body nothing = first_by scripts shelf place (read_record body)
-with_body scripts shelf place body (made m) = next_by scripts shelf place m (read_record body)
+with_body scripts shelf place body (made m) = next_by scripts place (length body) m (read_record body)
 with_body scripts shelf place body (damaged p) = damaged p
 with_body scripts shelf place body (other p) = other p
 

@@ -7,7 +7,8 @@ use Rattle.page_journal.specs.Holding.{IsClosed, MayHold, Holdable}
 use Rattle.replay_spec.specs.Book.{Book, reopened}
 use Rattle.replay_spec.specs.Step.{kept, recovered}
 use Rattle.replay_spec.specs.Remade.{made_of}
-use Rattle.journal_books.specs.Making.{Making, made, rules_over, book_of, book_in_bytes}
+use Rattle.journal_books.specs.Retaking.{rules_for}
+use Rattle.journal_books.specs.Making.{Making, made, book_of, book_in_bytes}
 
 -- it is this book, as after a crash, whatever numbers the records told
 abbrev pub IsBook : Making → Book → Type 0
@@ -51,13 +52,17 @@ abbrev pub HoldIn : {scripts : List Named} {shelf : ℕ} {before after : Book} �
     → (List ℕ → Type 0) → Type 0
 HoldIn k images = (image : List ℕ) → images image → Held k image
 
--- the book where what is in doubt is kept
-abbrev pub if_kept : List Named → (shelf : ℕ) → Book → Book
-if_kept scripts shelf b = recovered (rules_over scripts shelf) kept b.down b
+-- the book where what is in doubt is kept, whose record's body is this long
+abbrev pub if_kept : (length : ℕ) → Book → Book
+if_kept n b = recovered (rules_for n) kept b.down b
+
+abbrev pub length_in : Option (List ℕ) → ℕ
+length_in None = 0
+length_in (Some body) = length body
 
 -- a crash now leaves what makes the book, with what is in doubt or without it
 abbrev pub Stands : List Named → (shelf : ℕ) → View → Book → Type 0
-Stands scripts shelf view b = (k : Between scripts shelf b (if_kept scripts shelf b)) × HoldIn k view.images
+Stands scripts shelf view b = (n : ℕ) × ((k : Between scripts shelf b (if_kept n b)) × HoldIn k view.images)
 
 -- a crash at any moment of a call leaves what makes the one book or the other
 abbrev pub Throughout : List Named → (shelf : ℕ) → (before after : Book) → View → View → Type 0

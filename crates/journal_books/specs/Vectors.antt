@@ -1,13 +1,15 @@
 -- Worked rows.
-use Rattle.std.specs.Prelude.{◌≡◌, ℕ, ◌+◌, ◌-◌, ◌^◌, List, [], ◌∷◌, ◌++◌, length, None, codes, refl}
+use Rattle.std.specs.Prelude.{◌≡◌, ℕ, ◌+◌, ◌-◌, ◌^◌, List, [], ◌∷◌, ◌++◌, length, Some, None, codes, refl}
 use Rattle.script_value.specs.Val.{text, symbol, list, vals_of, no_vals}
 use Rattle.script_nodes.specs.declared.script.SendKind.TheVariants.{Suspend}
 use Rattle.script_nodes.specs.Core.{lit, send}
 use Rattle.script_nodes.specs.Setup.{Named}
 use Rattle.page_journal.specs.Records.{header, frames, at_rest}
-use Rattle.replay_spec.specs.Book.{Page, Change, Book, opens, ends, sweeps}
+use Rattle.replay_spec.specs.Book.{Page, Change, Book, opens, extends, ends, sweeps}
 use Rattle.replay_spec.specs.Rules.{empty_book}
 use Rattle.replay_spec.specs.Recovery.{Made}
+use Rattle.machine_spec.specs.Machine.{Suspended}
+use Rattle.frame_codec.specs.Spelling.{state_bytes}
 use Rattle.value_bytes.specs.Reading.{read_within}
 use Rattle.journal_records.specs.Reading.{read_record}
 use Rattle.journal_books.specs.Making.{nothing, made, damaged, other, rules_over, book_of, book_in_bytes, begun}
@@ -44,14 +46,14 @@ begin_makes_an_empty_book = refl
 abbrev at_50 : Made
 at_50 = record { book = record empty_ten { clock = 50; length = 60 }; seen = [] }
 
-tick_50 : book_of (ten ∷ []) 0 (begin_ten ∷ body_by (sweeps 50) ∷ []) ≡ made at_50
+tick_50 : book_of (ten ∷ []) 0 (begin_ten ∷ body_by (sweeps 50) None ∷ []) ≡ made at_50
 unfolding read_record
 tick_50 = refl
 
-tick_50_is_so_long : length (at_rest (begin_ten ∷ body_by (sweeps 50) ∷ [])) ≡ 60
+tick_50_is_so_long : length (at_rest (begin_ten ∷ body_by (sweeps 50) None ∷ [])) ≡ 60
 tick_50_is_so_long = refl
 
-tick_50_in_bytes : book_in_bytes (ten ∷ []) 0 (at_rest (begin_ten ∷ body_by (sweeps 50) ∷ [])) ≡ made at_50
+tick_50_in_bytes : book_in_bytes (ten ∷ []) 0 (at_rest (begin_ten ∷ body_by (sweeps 50) None ∷ [])) ≡ made at_50
 unfolding read_record
 tick_50_in_bytes = refl
 
@@ -71,7 +73,7 @@ abbrev lost_end : ℕ → Change
 lost_end n = ends (record { number = n; instance = 7; page = 7; answer = list no_vals; effects = []; left = [] })
 
 the_greatest_number :
-    book_of (ten ∷ []) 0 (begin_ten ∷ body_by (lost_end (2 ^ 62 - 1)) ∷ [])
+    book_of (ten ∷ []) 0 (begin_ten ∷ body_by (lost_end (2 ^ 62 - 1)) None ∷ [])
     ≡ made (record {
       book = record empty_ten { drawn = 2 ^ 62; logged = 2 ^ 62; length = 46 + 5 + 38 };
       seen = (2 ^ 62 - 1) ∷ [];
@@ -79,13 +81,26 @@ the_greatest_number :
 unfolding read_record read_within
 the_greatest_number = refl
 
-one_more : book_of (ten ∷ []) 0 (begin_ten ∷ body_by (lost_end (2 ^ 62)) ∷ []) ≡ damaged 45
+one_more : book_of (ten ∷ []) 0 (begin_ten ∷ body_by (lost_end (2 ^ 62)) None ∷ []) ≡ damaged 45
 unfolding read_record
 one_more = refl
 
 -- a start that shows its page; the same number again is passed over
 abbrev opening : (number script : ℕ) → Change
 opening n k = opens (record { number = n; nonce = 5; script = k; effects = []; left = []; kind = Suspend; deadline = 3600 })
+
+-- the state of that page: no variable, no frame and no binding
+abbrev bare : Suspended
+bare = record { env = []; frames = []; shadows = [] }
+
+abbrev bare_bytes : List ℕ
+bare_bytes = 0 ∷ 0 ∷ 0 ∷ 0 ∷ 0 ∷ 0 ∷ 0 ∷ 0 ∷ 0 ∷ 0 ∷ 0 ∷ 0 ∷ []
+
+bare_is_spelled : state_bytes bare ≡ bare_bytes
+bare_is_spelled = refl
+
+abbrev start_body : (number script : ℕ) → (state : List ℕ) → List ℕ
+start_body n k state = body_by (opening n k) (Some state)
 
 abbrev begin_waiting : List ℕ
 begin_waiting = first_body (waiting ∷ []) 3
@@ -102,28 +117,63 @@ started size = record (empty_book (rules_over (waiting ∷ []) 3) (waiting ∷ [
 }
 
 a_start :
-    book_of (waiting ∷ []) 3 (begin_waiting ∷ body_by (opening 0 0) ∷ [])
-    ≡ made (record { book = started 116; seen = 0 ∷ [] })
+    book_of (waiting ∷ []) 3 (begin_waiting ∷ start_body 0 0 bare_bytes ∷ [])
+    ≡ made (record { book = started 132; seen = 0 ∷ [] })
 unfolding read_record read_within
 a_start = refl
 
 a_number_twice :
-    book_of (waiting ∷ []) 3 (begin_waiting ∷ body_by (opening 0 0) ∷ body_by (opening 0 0) ∷ [])
-    ≡ made (record { book = started 162; seen = 0 ∷ 0 ∷ [] })
+    book_of (waiting ∷ []) 3 (begin_waiting ∷ start_body 0 0 bare_bytes ∷ start_body 0 0 bare_bytes ∷ [])
+    ≡ made (record { book = started 194; seen = 0 ∷ 0 ∷ [] })
 unfolding read_record read_within
 a_number_twice = refl
 
+-- bytes that are no state of the script; also where the number was there before
+no_state : book_of (waiting ∷ []) 3 (begin_waiting ∷ start_body 0 0 [] ∷ []) ≡ damaged 69
+unfolding read_record read_within
+no_state = refl
+
+no_state_again : book_of (waiting ∷ []) 3 (begin_waiting ∷ start_body 0 0 bare_bytes ∷ start_body 0 0 (9 ∷ []) ∷ []) ≡ damaged 131
+unfolding read_record read_within
+no_state_again = refl
+
+-- an answer to a page of no instance: what it has for a state is not read
+abbrev lost_answer : (instance page : ℕ) → Change
+lost_answer i p = extends (record {
+  number = 1;
+  nonce = 6;
+  instance = i;
+  page = p;
+  answer = list no_vals;
+  effects = [];
+  left = [];
+  kind = Suspend;
+  deadline = 3600;
+})
+
+no_state_is_read :
+    book_of (waiting ∷ []) 3 (begin_waiting ∷ start_body 0 0 bare_bytes ∷ body_by (lost_answer 0 7) (Some (9 ∷ [])) ∷ [])
+    ≡ made (record { book = record (started 198) { drawn = 2; logged = 2 }; seen = 1 ∷ 0 ∷ [] })
+unfolding read_record read_within
+no_state_is_read = refl
+
+-- one to the page that stands there has to have a state of its script
+no_state_of_a_page :
+    book_of (waiting ∷ []) 3 (begin_waiting ∷ start_body 0 0 bare_bytes ∷ body_by (lost_answer 0 0) (Some (9 ∷ [])) ∷ []) ≡ damaged 131
+unfolding read_record read_within
+no_state_of_a_page = refl
+
 -- a start of a script that is not of the setup; a second Begin
-no_such_script : book_of (waiting ∷ []) 3 (begin_waiting ∷ body_by (opening 0 1) ∷ []) ≡ damaged 69
+no_such_script : book_of (waiting ∷ []) 3 (begin_waiting ∷ start_body 0 1 bare_bytes ∷ []) ≡ damaged 69
 unfolding read_record read_within
 no_such_script = refl
 
-begins_twice : book_of (ten ∷ []) 0 (begin_ten ∷ body_by (sweeps 50) ∷ begin_ten ∷ []) ≡ damaged 59
+begins_twice : book_of (ten ∷ []) 0 (begin_ten ∷ body_by (sweeps 50) None ∷ begin_ten ∷ []) ≡ damaged 59
 unfolding read_record
 begins_twice = refl
 
 -- no Begin; another shelf's; other scripts, by their texts, their names, their order and their number
-no_begin : book_of (ten ∷ []) 0 (body_by (sweeps 50) ∷ begin_ten ∷ []) ≡ damaged 8
+no_begin : book_of (ten ∷ []) 0 (body_by (sweeps 50) None ∷ begin_ten ∷ []) ≡ damaged 8
 unfolding read_record
 no_begin = refl
 

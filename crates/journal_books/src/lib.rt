@@ -5,7 +5,7 @@ ghost use Rattle.std.specs.Prelude.{IsTrue};
 ghost use Rattle.journal_books.specs.Depths.{RunsStayShallow};
 ghost use Rattle.journal_books.specs.Disks.{RecoveriesStay, RecoveriesFindOne, SettledJournalsStand, QuietCallsStand, AppendsStandBetween, CallsLeaveStanding};
 ghost use Rattle.journal_books.specs.Reading.{ReadersMakeTheBook};
-ghost use Rattle.journal_books.specs.Laws.{OnlyItsBeginBegins, ImagesMakeBooks, BooksStandAlike, ACrashIsLostOrKept, BodiesMakeFittingBooks, EventsAreKept, EventsStandBetween, RunsAreKept, FreshJournalsSuffice, WhatIsRecordedIsSpelled, RangesAreKept};
+ghost use Rattle.journal_books.specs.Laws.{OnlyItsBeginBegins, ImagesMakeBooks, BooksStandAlike, ACrashIsLostOrKept, BodiesMakeFittingBooks, LandingsAreKept, LandingsStandBetween, EventsAreKept, EventsStandBetween, RunsAreKept, FreshJournalsSuffice, WhatIsRecordedIsSpelled, RangesAreKept};
 
 use journal_records::records_are_exact;
 use page_journal::Take;
@@ -42,6 +42,20 @@ pub fn bodies_make_fitting_books()
     records_are_exact();
 }
 
+/// The body of a record that would be taken makes the book behind its change, whatever its page's state is.
+pub fn landings_are_kept()
+    ensures { LandingsAreKept }
+{
+    records_are_exact();
+}
+
+/// With that body in flight a disk stands between the book before the change and the book behind it.
+pub fn landings_stand_between()
+    ensures { LandingsStandBetween }
+{
+    records_are_exact();
+}
+
 /// The body of the record that an event leaves makes of the journal's book the book behind the event.
 pub fn events_are_kept()
     ensures { EventsAreKept }
@@ -64,7 +78,8 @@ pub fn runs_are_kept()
     records_are_exact();
 }
 
-/// From a fresh journal on the bodies of a run make its last book, and none of them is passed over.
+/// From a fresh journal on the bodies of a run make its last book, their states are those of the pages' chains, and none of them is
+/// passed over.
 pub fn fresh_journals_suffice()
     ensures { FreshJournalsSuffice }
 {

@@ -243,17 +243,17 @@ origin_codec = record {
 
 -- ---- the fields of each record
 
-abbrev page_parts : Codec (ℕ × (ℕ × (Origin × (List Effect × (List TxName × (SendKind × ℕ))))))
-page_parts = both number_codec (both long_codec (both origin_codec (both (listed effect_codec) (both (listed name_codec) (both send_codec deadline_codec)))))
+abbrev page_parts : Codec (ℕ × (ℕ × (Origin × (List Effect × (List TxName × (SendKind × (ℕ × List ℕ)))))))
+page_parts = both number_codec (both long_codec (both origin_codec (both (listed effect_codec) (both (listed name_codec) (both send_codec (both deadline_codec string_codec))))))
 
 page_seen : IsSeen page_parts page_from page_bytes PageFits
 page_seen = record {
-  from = λ p. (p.ticket, (p.nonce, (p.origin, (p.effects, (p.left, (p.kind, p.deadline))))));
+  from = λ p. (p.ticket, (p.nonce, (p.origin, (p.effects, (p.left, (p.kind, (p.deadline, p.state)))))));
   there = λ x. refl;
   here = λ p. refl;
   bytes = λ p. refl;
-  fit = λ p f. (f.ticket, (f.nonce, (f.origin, (f.effects, (f.left, (tt, f.deadline))))));
-  fitted = λ x f. record { ticket = f.0; nonce = f.1.0; origin = f.1.1.0; effects = f.1.1.1.0; left = f.1.1.1.1.0; deadline = f.1.1.1.1.1.1 };
+  fit = λ p f. (f.ticket, (f.nonce, (f.origin, (f.effects, (f.left, (tt, (f.deadline, f.state)))))));
+  fitted = λ x f. record { ticket = f.0; nonce = f.1.0; origin = f.1.1.0; effects = f.1.1.1.0; left = f.1.1.1.1.0; deadline = f.1.1.1.1.1.1.0; state = f.1.1.1.1.1.1.1 };
 }
 
 page_exact : IsExact page_bytes PageFits read_page
@@ -305,25 +305,30 @@ begins_parts = both short_codec (listed (both string_codec string_codec))
 
 -- ---- a record
 
-page_body : (ticket nonce : ℕ) (o : Origin) (effects : List Effect) (left : List TxName) (kind : SendKind) (deadline : ℕ)
-    → change_bytes (change_from ticket nonce o effects left kind deadline)
-    ≡ 2 ∷ page_bytes (record { ticket = ticket; nonce = nonce; origin = o; effects = effects; left = left; kind = kind; deadline = deadline })
-page_body ticket nonce (start script) effects left kind deadline = refl
-page_body ticket nonce (answered instance page answer) effects left kind deadline = refl
+page_body : (ticket nonce : ℕ) (o : Origin) (effects : List Effect) (left : List TxName) (kind : SendKind) (deadline : ℕ) (state : List ℕ)
+    → change_bytes (change_from ticket nonce o effects left kind deadline) state
+    ≡ 2 ∷ page_bytes (record { ticket = ticket; nonce = nonce; origin = o; effects = effects; left = left; kind = kind; deadline = deadline; state = state })
+page_body ticket nonce (start script) effects left kind deadline state = refl
+page_body ticket nonce (answered instance page answer) effects left kind deadline state = refl
 
-page_fits : (ticket nonce : ℕ) (o : Origin) (effects : List Effect) (left : List TxName) (kind : SendKind) (deadline : ℕ)
-    → PageFits (record { ticket = ticket; nonce = nonce; origin = o; effects = effects; left = left; kind = kind; deadline = deadline })
-    → ChangeFits (change_from ticket nonce o effects left kind deadline)
-page_fits ticket nonce (start script) effects left kind deadline fits = fits
-page_fits ticket nonce (answered instance page answer) effects left kind deadline fits = fits
+page_fits : (ticket nonce : ℕ) (o : Origin) (effects : List Effect) (left : List TxName) (kind : SendKind) (deadline : ℕ) (state : List ℕ)
+    → PageFits (record { ticket = ticket; nonce = nonce; origin = o; effects = effects; left = left; kind = kind; deadline = deadline; state = state })
+    → ChangeFits (change_from ticket nonce o effects left kind deadline) (Some state)
+page_fits ticket nonce (start script) effects left kind deadline state fits = fits
+page_fits ticket nonce (answered instance page answer) effects left kind deadline state fits = fits
 
 front_back : (r : Record) (rest : List ℕ) → IsInGrammar r → read_front (body_of r ++ rest) ≡ Some (r, rest)
 front_back (begins shelf scripts) rest fits = ap (seen_as begins_from) (begins_parts.law.back (shelf, scripts) rest fits)
-front_back (changes (opens o)) rest fits = ap (seen_as (λ p. changes (page_change p))) (page_exact.back _ rest fits)
-front_back (changes (extends e)) rest fits = ap (seen_as (λ p. changes (page_change p))) (page_exact.back _ rest fits)
-front_back (changes (ends e)) rest fits = ap (seen_as (λ e. changes (ends e))) (ending_exact.back e rest fits)
-front_back (changes (finishes f)) rest fits = ap (seen_as (λ f. changes (finishes f))) (finish_exact.back f rest fits)
-front_back (changes (sweeps tick)) rest fits = ap (seen_as (λ n. changes (sweeps n))) (number_codec.law.back tick rest fits)
+front_back (changes (opens o) None) rest fits = absurd fits
+front_back (changes (opens o) (Some s)) rest fits = ap (seen_as (λ p. changes (page_change p) (Some p.state))) (page_exact.back _ rest fits)
+front_back (changes (extends e) None) rest fits = absurd fits
+front_back (changes (extends e) (Some s)) rest fits = ap (seen_as (λ p. changes (page_change p) (Some p.state))) (page_exact.back _ rest fits)
+front_back (changes (ends e) None) rest fits = ap (seen_as (λ e. changes (ends e) None)) (ending_exact.back e rest fits)
+front_back (changes (ends e) (Some s)) rest fits = absurd fits
+front_back (changes (finishes f) None) rest fits = ap (seen_as (λ f. changes (finishes f) None)) (finish_exact.back f rest fits)
+front_back (changes (finishes f) (Some s)) rest fits = absurd fits
+front_back (changes (sweeps tick) None) rest fits = ap (seen_as (λ n. changes (sweeps n) None)) (number_codec.law.back tick rest fits)
+front_back (changes (sweeps tick) (Some s)) rest fits = absurd fits
 
 abbrev Body : List ℕ → Record → List ℕ → Type 0
 Body bytes r rest = Spells body_of IsInGrammar bytes r rest
@@ -334,35 +339,35 @@ begins_spells kind bytes r rest small k h =
     let x = begins_parts.law.exact bytes s.0 rest small s.1 in
     subst (λ q. Body (kind ∷ bytes) q rest) s.2 (record { whole = λ i. k i ∷ x.whole i; fit = x.fit })
 
-page_spells : (kind : ℕ) (bytes : List ℕ) (r : Record) (rest : List ℕ) → AreBytes bytes → kind ≡ 2 → seen_as (λ p. changes (page_change p)) (read_page bytes) ≡ Some (r, rest)
+page_spells : (kind : ℕ) (bytes : List ℕ) (r : Record) (rest : List ℕ) → AreBytes bytes → kind ≡ 2 → seen_as (λ p. changes (page_change p) (Some p.state)) (read_page bytes) ≡ Some (r, rest)
     → Body (kind ∷ bytes) r rest
 page_spells kind bytes r rest small k h =
-    let s = seen_some (λ p. changes (page_change p)) (read_page bytes) r rest h in
+    let s = seen_some (λ p. changes (page_change p) (Some p.state)) (read_page bytes) r rest h in
     let p = s.0 in
     let x = page_exact.exact bytes p rest small s.1 in
     subst (λ q. Body (kind ∷ bytes) q rest) s.2 (record {
-      whole = (λ i. k i ∷ x.whole i) ∙ ap (λ (b : List ℕ). b ++ rest) (sym (page_body p.ticket p.nonce p.origin p.effects p.left p.kind p.deadline));
-      fit = page_fits p.ticket p.nonce p.origin p.effects p.left p.kind p.deadline x.fit;
+      whole = (λ i. k i ∷ x.whole i) ∙ ap (λ (b : List ℕ). b ++ rest) (sym (page_body p.ticket p.nonce p.origin p.effects p.left p.kind p.deadline p.state));
+      fit = page_fits p.ticket p.nonce p.origin p.effects p.left p.kind p.deadline p.state x.fit;
     })
 
-ending_spells : (kind : ℕ) (bytes : List ℕ) (r : Record) (rest : List ℕ) → AreBytes bytes → kind ≡ 3 → seen_as (λ e. changes (ends e)) (read_ending bytes) ≡ Some (r, rest)
+ending_spells : (kind : ℕ) (bytes : List ℕ) (r : Record) (rest : List ℕ) → AreBytes bytes → kind ≡ 3 → seen_as (λ e. changes (ends e) None) (read_ending bytes) ≡ Some (r, rest)
     → Body (kind ∷ bytes) r rest
 ending_spells kind bytes r rest small k h =
-    let s = seen_some (λ e. changes (ends e)) (read_ending bytes) r rest h in
+    let s = seen_some (λ e. changes (ends e) None) (read_ending bytes) r rest h in
     let x = ending_exact.exact bytes s.0 rest small s.1 in
     subst (λ q. Body (kind ∷ bytes) q rest) s.2 (record { whole = λ i. k i ∷ x.whole i; fit = x.fit })
 
-finish_spells : (kind : ℕ) (bytes : List ℕ) (r : Record) (rest : List ℕ) → AreBytes bytes → kind ≡ 4 → seen_as (λ f. changes (finishes f)) (read_finish bytes) ≡ Some (r, rest)
+finish_spells : (kind : ℕ) (bytes : List ℕ) (r : Record) (rest : List ℕ) → AreBytes bytes → kind ≡ 4 → seen_as (λ f. changes (finishes f) None) (read_finish bytes) ≡ Some (r, rest)
     → Body (kind ∷ bytes) r rest
 finish_spells kind bytes r rest small k h =
-    let s = seen_some (λ f. changes (finishes f)) (read_finish bytes) r rest h in
+    let s = seen_some (λ f. changes (finishes f) None) (read_finish bytes) r rest h in
     let x = finish_exact.exact bytes s.0 rest small s.1 in
     subst (λ q. Body (kind ∷ bytes) q rest) s.2 (record { whole = λ i. k i ∷ x.whole i; fit = x.fit })
 
 sweep_spells : (kind : ℕ) (bytes : List ℕ) (r : Record) (rest : List ℕ) → AreBytes bytes → kind ≡ 5
-    → seen_as (λ n. changes (sweeps n)) (number_codec.read bytes) ≡ Some (r, rest) → Body (kind ∷ bytes) r rest
+    → seen_as (λ n. changes (sweeps n) None) (number_codec.read bytes) ≡ Some (r, rest) → Body (kind ∷ bytes) r rest
 sweep_spells kind bytes r rest small k h =
-    let s = seen_some (λ n. changes (sweeps n)) (number_codec.read bytes) r rest h in
+    let s = seen_some (λ n. changes (sweeps n) None) (number_codec.read bytes) r rest h in
     let x = number_codec.law.exact bytes s.0 rest small s.1 in
     subst (λ q. Body (kind ∷ bytes) q rest) s.2 (record { whole = λ i. k i ∷ x.whole i; fit = x.fit })
 

@@ -6,7 +6,7 @@ use Rattle.script_value.specs.declared.outcome.TxName.{TxName}
 use Rattle.instance_cells.specs.Views.{effect_of}
 use Rattle.instance_cells.specs.declared.effect.Effect.{Effect}
 use Rattle.replay_spec.specs.Book.{Ending, Finish}
-use Rattle.wire_bytes.specs.Spelling.{u64_bytes}
+use Rattle.wire_bytes.specs.Spelling.{u64_bytes, byte_string}
 use Rattle.value_bytes.specs.Spelling.{value_bytes, list_bytes}
 use Rattle.journal_records.specs.Fields.{name_bytes, effect_bytes, script_bytes, origin_bytes, send_byte}
 use Rattle.journal_records.specs.Records.{Page, effects_bytes, names_bytes, page_bytes, ending_bytes, finish_bytes}
@@ -14,12 +14,14 @@ use Rattle.journal_records.specs.Views.{script_of}
 use Rattle.journal_records.specs.declared.logged.LoggedScript.{LoggedScript}
 
 pub page_length : (p : Page)
-    → length (page_bytes p) ≡ 25 + length (origin_bytes p.origin) + length (effects_bytes p.effects) + length (names_bytes p.left)
+    → length (page_bytes p)
+    ≡ 25 + length (origin_bytes p.origin) + length (effects_bytes p.effects) + length (names_bytes p.left) + length (byte_string p.state)
 page_length p =
-    let tail = u64_bytes p.deadline in
+    let tail = u64_bytes p.deadline ++ byte_string p.state in
     let left = names_bytes p.left ++ send_byte p.kind ∷ tail in
     omega (
       arith,
+      length-append (u64_bytes p.deadline) (byte_string p.state),
       length-append (origin_bytes p.origin) (effects_bytes p.effects ++ left),
       length-append (effects_bytes p.effects) left,
       length-append (names_bytes p.left) (send_byte p.kind ∷ tail),

@@ -102,7 +102,7 @@ abbrev pub read_names : Reader (List TxName)
 read_names bytes = read_list read_name bytes
 
 abbrev pub PageParts : Type 0
-PageParts = ℕ × (ℕ × (Origin × (List Effect × (List TxName × (SendKind × ℕ)))))
+PageParts = ℕ × (ℕ × (Origin × (List Effect × (List TxName × (SendKind × (ℕ × List ℕ))))))
 
 abbrev pub page_from : PageParts → Page
 page_from x = record {
@@ -112,13 +112,14 @@ page_from x = record {
   effects = x.1.1.1.0;
   left = x.1.1.1.1.0;
   kind = x.1.1.1.1.1.0;
-  deadline = x.1.1.1.1.1.1;
+  deadline = x.1.1.1.1.1.1.0;
+  state = x.1.1.1.1.1.1.1;
 }
 
 abbrev pub read_page : Reader Page
 read_page bytes =
     seen_as page_from
-    ((read_number then (read_u64 then (read_origin then (read_effects then (read_names then (read_send then read_deadline)))))) bytes)
+    ((read_number then (read_u64 then (read_origin then (read_effects then (read_names then (read_send then (read_deadline then read_bytes))))))) bytes)
 
 abbrev pub EndingParts : Type 0
 EndingParts = ℕ × (ℕ × (ℕ × (Val × (List Effect × List TxName))))
@@ -185,10 +186,10 @@ page_change p = change_from p.ticket p.nonce p.origin p.effects p.left p.kind p.
 abbrev pub read_kind : ℕ → Reader Record
 read_kind kind rest =
     if kind == 1 then read_begins rest else
-    (if kind == 2 then seen_as (λ p. changes (page_change p)) (read_page rest) else
-    (if kind == 3 then seen_as (λ e. changes (ends e)) (read_ending rest) else
-    (if kind == 4 then seen_as (λ f. changes (finishes f)) (read_finish rest) else
-    (if kind == 5 then seen_as (λ n. changes (sweeps n)) (read_number rest) else None))))
+    (if kind == 2 then seen_as (λ p. changes (page_change p) (Some p.state)) (read_page rest) else
+    (if kind == 3 then seen_as (λ e. changes (ends e) None) (read_ending rest) else
+    (if kind == 4 then seen_as (λ f. changes (finishes f) None) (read_finish rest) else
+    (if kind == 5 then seen_as (λ n. changes (sweeps n) None) (read_number rest) else None))))
 
 -- the record at the front
 abbrev pub read_front : Reader Record

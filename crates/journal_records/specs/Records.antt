@@ -1,20 +1,20 @@
 -- Records of a journal: how each is written, and which can be.
-use Rattle.std.specs.Prelude.{ℕ, Bool, true, ◌&&◌, ◌<◌, ◌+◌, ◌^◌, List, [], ◌∷◌, ◌++◌, length, map, min, if◌then◌else◌, ⊤}
+use Rattle.std.specs.Prelude.{ℕ, Bool, true, false, ◌&&◌, ◌<◌, ◌+◌, ◌^◌, List, [], ◌∷◌, ◌++◌, length, map, min, Option, Some, None, if◌then◌else◌, ⊤}
 use Rattle.std.specs.List.{list_all, AllByRecursion}
 use Rattle.script_value.specs.declared.outcome.TxName.{TxName}
 use Rattle.instance_cells.specs.Cells.{Effect}
 use Rattle.script_nodes.specs.declared.script.SendKind.{SendKind}
 use Rattle.script_nodes.specs.Setup.{Named}
 use Rattle.replay_spec.specs.Book.{Opening, Extension, Ending, Finish, Change, opens, extends, ends, finishes, sweeps}
-use Rattle.replay_spec.specs.Rules.{Journal}
-use Rattle.wire_bytes.specs.Spelling.{u32_bytes, u64_bytes}
+use Rattle.wire_bytes.specs.Spelling.{u32_bytes, u64_bytes, byte_string}
 use Rattle.value_bytes.specs.Spelling.{value_bytes, list_bytes, FitsList}
 use Rattle.journal_records.specs.Fields.{numbers_end, deadlines_end, name_bytes, NameFits, effect_bytes, EffectFits, send_byte, script_bytes, ScriptFits, Origin, start, answered, origin_bytes, OriginFits, AnswerFits, is_shallow, is_shallow_effect, IsTyped, IsTypedEffect}
 
--- what a record says: a journal of this shelf begins, with these names and texts of its scripts; or the book changes
+-- what a record says: a journal of this shelf begins, with these names and texts of its scripts; or the book changes, by a new
+-- page with the bytes of its state, or without one
 pub data Record : Type 0 where
   begins : (shelf : ℕ) (scripts : List (List ℕ × List ℕ)) → Record
-  changes : Change → Record
+  changes : Change → (state : Option (List ℕ)) → Record
 
 -- what the record of a page that was shown says, a start's or an answer's
 pub record Page : Type 0 where
@@ -25,9 +25,10 @@ pub record Page : Type 0 where
   pub left : List TxName
   pub kind : SendKind
   pub deadline : ℕ
+  pub state : List ℕ
 
-abbrev pub opening_page : Opening → Page
-opening_page o = record {
+abbrev pub opening_page : Opening → (state : List ℕ) → Page
+opening_page o state = record {
   ticket = o.number;
   nonce = o.nonce;
   origin = start o.script;
@@ -35,10 +36,11 @@ opening_page o = record {
   left = o.left;
   kind = o.kind;
   deadline = o.deadline;
+  state = state;
 }
 
-abbrev pub extension_page : Extension → Page
-extension_page e = record {
+abbrev pub extension_page : Extension → (state : List ℕ) → Page
+extension_page e state = record {
   ticket = e.number;
   nonce = e.nonce;
   origin = answered e.instance e.page e.answer;
@@ -46,6 +48,7 @@ extension_page e = record {
   left = e.left;
   kind = e.kind;
   deadline = e.deadline;
+  state = state;
 }
 
 -- effects, one behind the other, behind their count; likewise the names of transactions that were left
@@ -55,11 +58,11 @@ effects_bytes es = list_bytes effect_bytes es
 abbrev pub names_bytes : List TxName → List ℕ
 names_bytes ts = list_bytes name_bytes ts
 
--- a page: its ticket, its nonce, where its segment began, what it did, what it left, how it was sent, and its deadline
+-- a page: its ticket, its nonce, where its segment began, what it did, what it left, how it was sent, its deadline, and its state
 abbrev pub page_bytes : Page → List ℕ
 page_bytes p =
     u64_bytes p.ticket ++ (u64_bytes p.nonce ++ (origin_bytes p.origin
-    ++ (effects_bytes p.effects ++ (names_bytes p.left ++ (send_byte p.kind ∷ [] ++ u64_bytes p.deadline)))))
+    ++ (effects_bytes p.effects ++ (names_bytes p.left ++ (send_byte p.kind ∷ [] ++ (u64_bytes p.deadline ++ byte_string p.state))))))
 
 pub record PageFits (p : Page) : Type 0 where
   pub ticket : p.ticket < numbers_end
@@ -68,6 +71,7 @@ pub record PageFits (p : Page) : Type 0 where
   pub effects : FitsList EffectFits p.effects
   pub left : FitsList NameFits p.left
   pub deadline : p.deadline < deadlines_end
+  pub state : length p.state < 2 ^ 32
 
 -- a last page that has no name: its ticket, the page that was answered, and with what; what its segment did, and what it left
 abbrev pub ending_bytes : Ending → List ℕ
@@ -90,30 +94,41 @@ pub record FinishFits (f : Finish) : Type 0 where
   pub answered : AnswerFits f.instance f.page f.answer
   pub effects : FitsList EffectFits f.effects
 
--- a change: a byte for its kind, and its fields
-abbrev pub change_bytes : Change → List ℕ
-change_bytes (opens o) = 2 ∷ page_bytes (opening_page o)
-change_bytes (extends e) = 2 ∷ page_bytes (extension_page e)
-change_bytes (ends e) = 3 ∷ ending_bytes e
-change_bytes (finishes f) = 4 ∷ finish_bytes f
-change_bytes (sweeps tick) = 5 ∷ u64_bytes tick
+-- the bytes of a state, if there is one
+abbrev pub bytes_in : Option (List ℕ) → List ℕ
+bytes_in None = []
+bytes_in (Some bytes) = bytes
 
-abbrev pub ChangeFits : Change → Type 0
-ChangeFits (opens o) = PageFits (opening_page o)
-ChangeFits (extends e) = PageFits (extension_page e)
-ChangeFits (ends e) = EndingFits e
-ChangeFits (finishes f) = FinishFits f
-ChangeFits (sweeps tick) = tick < numbers_end
+-- a change, where these are the bytes of its new page's state: a byte for its kind, and its fields
+abbrev pub change_bytes : Change → (state : List ℕ) → List ℕ
+change_bytes (opens o) state = 2 ∷ page_bytes (opening_page o state)
+change_bytes (extends e) state = 2 ∷ page_bytes (extension_page e state)
+change_bytes (ends e) state = 3 ∷ ending_bytes e
+change_bytes (finishes f) state = 4 ∷ finish_bytes f
+change_bytes (sweeps tick) state = 5 ∷ u64_bytes tick
+
+-- just the changes that show a page have a state
+abbrev pub ChangeFits : Change → Option (List ℕ) → Type 0
+ChangeFits (opens o) (Some state) = PageFits (opening_page o state)
+ChangeFits (opens o) None = ⊥
+ChangeFits (extends e) (Some state) = PageFits (extension_page e state)
+ChangeFits (extends e) None = ⊥
+ChangeFits (ends e) None = EndingFits e
+ChangeFits (ends e) (Some state) = ⊥
+ChangeFits (finishes f) None = FinishFits f
+ChangeFits (finishes f) (Some state) = ⊥
+ChangeFits (sweeps tick) None = tick < numbers_end
+ChangeFits (sweeps tick) (Some state) = ⊥
 
 -- the body of a record; a journal begins with the number of its shelf and its scripts
 abbrev pub body_of : Record → List ℕ
 body_of (begins shelf scripts) = 1 ∷ (u32_bytes shelf ++ list_bytes script_bytes scripts)
-body_of (changes c) = change_bytes c
+body_of (changes c state) = change_bytes c (bytes_in state)
 
 -- a record has a body
 abbrev pub IsInGrammar : Record → Type 0
 IsInGrammar (begins shelf scripts) = (shelf < 2 ^ 32) × FitsList ScriptFits scripts
-IsInGrammar (changes c) = ChangeFits c
+IsInGrammar (changes c state) = ChangeFits c state
 
 -- the length of a record's body, also where a part is too long for its count; one above 2^63 counts as 2^63
 abbrev pub body_length : Record → ℕ
@@ -127,9 +142,16 @@ are_shallow (ends e) = is_shallow e.answer && list_all is_shallow_effect e.effec
 are_shallow (finishes f) = is_shallow f.answer && list_all is_shallow_effect f.effects
 are_shallow (sweeps tick) = true
 
--- the length of a change's record; where a value nests deeper, the record has no body, and counts as 2^63
-abbrev pub record_length : Change → ℕ
-record_length c = if are_shallow c then body_length (changes c) else 2 ^ 63
+-- whether a page that is shown has the bytes of its state
+abbrev pub has_state : Change → Option (List ℕ) → Bool
+has_state (opens o) None = false
+has_state (extends x) None = false
+has_state _ state = true
+
+-- the length of a change's record; where a value nests deeper, or the new page's state has no spelling, the record has no body,
+-- and counts as 2^63
+abbrev pub record_length : Change → (state : Option (List ℕ)) → ℕ
+record_length c state = if are_shallow c && has_state c state then body_length (changes c state) else 2 ^ 63
 
 -- what the program's types say of the parts of a change that came of a run
 abbrev pub PartsFit : Change → Type 0
@@ -142,7 +164,12 @@ PartsFit (sweeps tick) = ⊤
 -- a fact of the change that a record tells of
 abbrev pub IfChanges : Record → (Change → Type 0) → Type 0
 IfChanges (begins shelf scripts) P = ⊤
-IfChanges (changes c) P = P c
+IfChanges (changes c state) P = P c
+
+-- and of the bytes of its state
+abbrev pub IfChangesWith : Record → (Change → Option (List ℕ) → Type 0) → Type 0
+IfChangesWith (begins shelf scripts) P = ⊤
+IfChangesWith (changes c state) P = P c state
 
 -- the names and the texts of scripts
 abbrev pub texts_of : List Named → List (List ℕ × List ℕ)
@@ -155,7 +182,3 @@ begin_of shelf scripts = begins shelf (texts_of scripts)
 -- how long a journal is that has no more: 8 bytes before it, a gate, four bytes of length, the body, and a gate
 abbrev pub begun_length : (shelf : ℕ) → List Named → ℕ
 begun_length shelf scripts = 14 + length (body_of (begin_of shelf scripts))
-
--- what a shelf asks of its journal
-abbrev pub journal_rules : (shelf : ℕ) → List Named → Journal
-journal_rules shelf scripts = record { begun = begun_length shelf scripts; length_of = λ book c. record_length c }

@@ -24,10 +24,10 @@ is_whole bytes = list_all (λ front. not (is_some (read_record front))) (fronts 
 abbrev sweep_body : List ℕ
 sweep_body = 5 ∷ 50 ∷ 0 ∷ 0 ∷ 0 ∷ 0 ∷ 0 ∷ 0 ∷ 0 ∷ []
 
-sweep : body_of (changes (sweeps 50)) ≡ sweep_body
+sweep : body_of (changes (sweeps 50) None) ≡ sweep_body
 sweep = refl
 
-sweep_is_read : read_record sweep_body ≡ Some (changes (sweeps 50))
+sweep_is_read : read_record sweep_body ≡ Some (changes (sweeps 50) None)
 unfolding read_record
 sweep_is_read = refl
 
@@ -44,7 +44,7 @@ late_sweep : read_record (5 ∷ 0 ∷ 0 ∷ 0 ∷ 0 ∷ 0 ∷ 0 ∷ 0 ∷ 64 ∷
 unfolding read_record
 late_sweep = refl
 
-last_sweep : read_record (5 ∷ 255 ∷ 255 ∷ 255 ∷ 255 ∷ 255 ∷ 255 ∷ 255 ∷ 63 ∷ []) ≡ Some (changes (sweeps (2 ^ 62 - 1)))
+last_sweep : read_record (5 ∷ 255 ∷ 255 ∷ 255 ∷ 255 ∷ 255 ∷ 255 ∷ 255 ∷ 63 ∷ []) ≡ Some (changes (sweeps (2 ^ 62 - 1)) None)
 unfolding read_record
 last_sweep = refl
 
@@ -71,7 +71,7 @@ short_begin : is_whole begin_body ≡ true
 unfolding read_record
 short_begin = refl
 
--- a start of the second script read cell 0, took one from cell 2, and showed a page
+-- a start of the second script read cell 0, took one from cell 2, and showed a page, whose state has two bytes
 abbrev start : Record
 start = changes (opens (record {
   number = 3;
@@ -81,13 +81,13 @@ start = changes (opens (record {
   left = [];
   kind = Suspend;
   deadline = 86400;
-}))
+})) (Some (8 ∷ 9 ∷ []))
 
 abbrev start_body : List ℕ
 start_body =
     (2 ∷ 3 ∷ 0 ∷ 0 ∷ 0 ∷ 0 ∷ 0 ∷ 0 ∷ 0 ∷ 7 ∷ 0 ∷ 0 ∷ 0 ∷ 0 ∷ 0 ∷ 0 ∷ 0 ∷ 0 ∷ 1 ∷ 5 ∷ 0 ∷ 0 ∷ 0 ∷ 0 ∷ [])
     ++ (2 ∷ 0 ∷ 0 ∷ 0 ∷ 0 ∷ 0 ∷ 2 ∷ 2 ∷ 2 ∷ 255 ∷ 255 ∷ 255 ∷ 255 ∷ 255 ∷ 255 ∷ 255 ∷ 255 ∷ [])
-    ++ (0 ∷ 0 ∷ 0 ∷ 0 ∷ 0 ∷ 128 ∷ 81 ∷ 1 ∷ 0 ∷ 0 ∷ 0 ∷ 0 ∷ 0 ∷ [])
+    ++ (0 ∷ 0 ∷ 0 ∷ 0 ∷ 0 ∷ 128 ∷ 81 ∷ 1 ∷ 0 ∷ 0 ∷ 0 ∷ 0 ∷ 0 ∷ 2 ∷ 0 ∷ 0 ∷ 0 ∷ 8 ∷ 9 ∷ [])
 
 a_start : body_of start ≡ start_body
 a_start = refl
@@ -116,7 +116,7 @@ answer = changes (extends (record {
   left = record { ticket = 3; entry = 2 } ∷ [];
   kind = Forward;
   deadline = 1;
-}))
+})) (Some [])
 
 abbrev answer_body : List ℕ
 answer_body =
@@ -124,7 +124,7 @@ answer_body =
     ++ (1 ∷ 3 ∷ 0 ∷ 0 ∷ 0 ∷ 0 ∷ 0 ∷ 0 ∷ 0 ∷ 4 ∷ 0 ∷ 0 ∷ 0 ∷ 0 ∷ 0 ∷ 0 ∷ 0 ∷ 0 ∷ 1 ∷ 0 ∷ 0 ∷ 0 ∷ 0 ∷ 0 ∷ 0 ∷ 0 ∷ [])
     ++ (1 ∷ 0 ∷ 0 ∷ 0 ∷ 1 ∷ 1 ∷ 1 ∷ [])
     ++ (1 ∷ 0 ∷ 0 ∷ 0 ∷ 3 ∷ 0 ∷ 0 ∷ 0 ∷ 0 ∷ 0 ∷ 0 ∷ 0 ∷ 2 ∷ 0 ∷ 0 ∷ 0 ∷ [])
-    ++ (1 ∷ 1 ∷ 0 ∷ 0 ∷ 0 ∷ 0 ∷ 0 ∷ 0 ∷ 0 ∷ [])
+    ++ (1 ∷ 1 ∷ 0 ∷ 0 ∷ 0 ∷ 0 ∷ 0 ∷ 0 ∷ 0 ∷ 0 ∷ 0 ∷ 0 ∷ 0 ∷ [])
 
 an_answer : body_of answer ≡ answer_body
 unfolding name_bytes
@@ -141,7 +141,7 @@ a_short_answer = refl
 -- a start has the empty list for an answer, and no other
 an_answered_start : read_record (
     (2 ∷ 3 ∷ 0 ∷ 0 ∷ 0 ∷ 0 ∷ 0 ∷ 0 ∷ 0 ∷ 7 ∷ 0 ∷ 0 ∷ 0 ∷ 0 ∷ 0 ∷ 0 ∷ 0 ∷ 0 ∷ 1 ∷ 1 ∷ 0 ∷ 0 ∷ 0 ∷ 0 ∷ 0 ∷ 0 ∷ 0 ∷ 0 ∷ [])
-    ++ (0 ∷ 128 ∷ 81 ∷ 1 ∷ 0 ∷ 0 ∷ 0 ∷ 0 ∷ 0 ∷ [])
+    ++ (0 ∷ 128 ∷ 81 ∷ 1 ∷ 0 ∷ 0 ∷ 0 ∷ 0 ∷ 0 ∷ 0 ∷ 0 ∷ 0 ∷ 0 ∷ [])
     ) ≡ None
 unfolding read_record read_within
 an_answered_start = refl
@@ -155,11 +155,11 @@ ending_body =
     (3 ∷ 5 ∷ 0 ∷ 0 ∷ 0 ∷ 0 ∷ 0 ∷ 0 ∷ 0 ∷ 3 ∷ 0 ∷ 0 ∷ 0 ∷ 0 ∷ 0 ∷ 0 ∷ 0 ∷ 4 ∷ 0 ∷ 0 ∷ 0 ∷ 0 ∷ 0 ∷ 0 ∷ 0 ∷ 2 ∷ [])
     ++ (0 ∷ 0 ∷ 0 ∷ 0 ∷ 1 ∷ 0 ∷ 0 ∷ 0 ∷ 3 ∷ 0 ∷ 0 ∷ 0 ∷ 0 ∷ 0 ∷ 0 ∷ 0 ∷ 2 ∷ 0 ∷ 0 ∷ 0 ∷ [])
 
-an_ending : body_of (changes ending) ≡ ending_body
+an_ending : body_of (changes ending None) ≡ ending_body
 unfolding name_bytes
 an_ending = refl
 
-an_ending_is_read : read_record ending_body ≡ Some (changes ending)
+an_ending_is_read : read_record ending_body ≡ Some (changes ending None)
 unfolding read_record read_within
 an_ending_is_read = refl
 
@@ -167,7 +167,7 @@ a_short_ending : is_whole ending_body ≡ true
 unfolding read_record read_within
 a_short_ending = refl
 
-its_length : record_length ending ≡ 46
+its_length : record_length ending None ≡ 46
 unfolding name_bytes
 its_length = refl
 
@@ -178,10 +178,10 @@ abbrev finish_body : List ℕ
 finish_body =
     4 ∷ 5 ∷ 0 ∷ 0 ∷ 0 ∷ 0 ∷ 0 ∷ 0 ∷ 0 ∷ 3 ∷ 0 ∷ 0 ∷ 0 ∷ 0 ∷ 0 ∷ 0 ∷ 0 ∷ 4 ∷ 0 ∷ 0 ∷ 0 ∷ 0 ∷ 0 ∷ 0 ∷ 0 ∷ 2 ∷ 0 ∷ 0 ∷ 0 ∷ 0 ∷ []
 
-a_finish : body_of (changes finish) ≡ finish_body
+a_finish : body_of (changes finish None) ≡ finish_body
 a_finish = refl
 
-a_finish_is_read : read_record finish_body ≡ Some (changes finish)
+a_finish_is_read : read_record finish_body ≡ Some (changes finish None)
 unfolding read_record read_within
 a_finish_is_read = refl
 
@@ -202,17 +202,24 @@ kind_6 : read_record (6 ∷ 0 ∷ 0 ∷ 0 ∷ 0 ∷ 0 ∷ 0 ∷ 0 ∷ 0 ∷ []) 
 unfolding read_record
 kind_6 = refl
 
--- a value that is one level too deep has no length of its own
+-- a page without the bytes of its state has no length of its own
+no_state : record_length (opens (record { number = 3; nonce = 7; script = 1; effects = []; left = []; kind = Suspend; deadline = 1 })) None ≡ 2 ^ 63
+no_state = refl
+
+a_state : record_length (opens (record { number = 3; nonce = 7; script = 1; effects = []; left = []; kind = Suspend; deadline = 1 })) (Some (8 ∷ 9 ∷ [])) ≡ 47
+a_state = refl
+
+-- a value that is one level too deep has none
 abbrev nested : ℕ → Val
 nested zero = truth true
 nested (suc n) = list (val (nested n) no_vals)
 
-deep_finish : record_length (finishes (record { number = 5; instance = 3; page = 4; answer = nested 201; effects = [] })) ≡ 2 ^ 63
+deep_finish : record_length (finishes (record { number = 5; instance = 3; page = 4; answer = nested 201; effects = [] })) None ≡ 2 ^ 63
 deep_finish = refl
 
-deep_effect : record_length (finishes (record { number = 5; instance = 3; page = 4; answer = truth true; effects = set 1 (nested 201) ∷ [] })) ≡ 2 ^ 63
+deep_effect : record_length (finishes (record { number = 5; instance = 3; page = 4; answer = truth true; effects = set 1 (nested 201) ∷ [] })) None ≡ 2 ^ 63
 deep_effect = refl
 
 -- and one that nests as deep as it may has 5 bytes a level
-deepest_finish : record_length (finishes (record { number = 5; instance = 3; page = 4; answer = nested 200; effects = [] })) ≡ 1030
+deepest_finish : record_length (finishes (record { number = 5; instance = 3; page = 4; answer = nested 200; effects = [] })) None ≡ 1030
 deepest_finish = refl

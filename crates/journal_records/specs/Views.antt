@@ -1,10 +1,10 @@
 -- What the program's records stand for.
-use Rattle.std.specs.Prelude.{ℕ, List, map}
+use Rattle.std.specs.Prelude.{ℕ, List, map, Option, Some, None, option_map}
 use Rattle.script_value.specs.Views.{meaning}
 use Rattle.instance_cells.specs.Views.{effect_of}
 use Rattle.replay_spec.specs.Book.{Ending, Finish, ends, finishes, sweeps}
 use Rattle.journal_records.specs.Fields as spec
-use Rattle.journal_records.specs.Records.{Record, begins, changes, Page}
+use Rattle.journal_records.specs.Records.{Record, begins, changes, Page, bytes_in}
 use Rattle.journal_records.specs.Reading.{page_change}
 use Rattle.journal_records.specs.declared.logged.LoggedScript.{LoggedScript}
 use Rattle.journal_records.specs.declared.logged.Origin.{Origin}
@@ -39,6 +39,7 @@ page_of p = record {
   left = p.left.items;
   kind = p.kind;
   deadline = p.deadline;
+  state = p.state;
 }
 
 abbrev pub ending_of : LoggedEnded → Ending
@@ -62,16 +63,19 @@ finish_of f = record {
 
 abbrev pub logged_of : Logged → Record
 logged_of (logged.Begin shelf scripts) = begins shelf (map script_of scripts.items)
-logged_of (logged.Page p) = changes (page_change (page_of p))
-logged_of (logged.Ended e) = changes (ends (ending_of e))
-logged_of (logged.Finish f) = changes (finishes (finish_of f))
-logged_of (logged.Sweep clock) = changes (sweeps clock)
+logged_of (logged.Page p) = changes (page_change (page_of p)) (Some p.state)
+logged_of (logged.Ended e) = changes (ends (ending_of e)) None
+logged_of (logged.Finish f) = changes (finishes (finish_of f)) None
+logged_of (logged.Sweep clock) = changes (sweeps clock) None
 
 -- the same of what is lent to be written
 
 abbrev pub lent_origin : RecordedOrigin → spec.Origin
 lent_origin (lent.Start script) = spec.start script
 lent_origin (lent.Answer instance page answer) = spec.answered instance page (meaning answer.now)
+
+abbrev pub lent_state : RecordedPage → Option (List ℕ)
+lent_state p = option_map (λ bytes. bytes.now) p.state
 
 abbrev pub lent_page : RecordedPage → Page
 lent_page p = record {
@@ -82,6 +86,7 @@ lent_page p = record {
   left = p.left.now;
   kind = p.kind;
   deadline = p.deadline;
+  state = bytes_in (lent_state p);
 }
 
 abbrev pub lent_ending : RecordedEnded → Ending
@@ -105,7 +110,7 @@ lent_finish f = record {
 
 abbrev pub recorded_of : Recorded → Record
 recorded_of (recorded.Begin shelf scripts) = begins shelf (map script_of scripts.now)
-recorded_of (recorded.Page p) = changes (page_change (lent_page p))
-recorded_of (recorded.Ended e) = changes (ends (lent_ending e))
-recorded_of (recorded.Finish f) = changes (finishes (lent_finish f))
-recorded_of (recorded.Sweep clock) = changes (sweeps clock)
+recorded_of (recorded.Page p) = changes (page_change (lent_page p)) (lent_state p)
+recorded_of (recorded.Ended e) = changes (ends (lent_ending e)) None
+recorded_of (recorded.Finish f) = changes (finishes (lent_finish f)) None
+recorded_of (recorded.Sweep clock) = changes (sweeps clock) None

@@ -97,6 +97,7 @@ fn page(alloc: Global, cursor: &mut Cursor<'_>) -> Result<LoggedPage, Unread>
     let left = names(alloc, cursor)?;
     let kind = send_kind(cursor)?;
     let deadline = deadline(cursor)?;
+    let state = string(cursor)?;
     Ok(LoggedPage {
         ticket,
         nonce,
@@ -105,6 +106,7 @@ fn page(alloc: Global, cursor: &mut Cursor<'_>) -> Result<LoggedPage, Unread>
         left,
         kind,
         deadline,
+        state: Bytes::new(state.to_vec(alloc)?),
     })
 }
 

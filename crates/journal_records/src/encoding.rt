@@ -4,8 +4,8 @@ ghost use Rattle.instance_cells.specs.Views.{effect_of};
 ghost use Rattle.script_nodes.specs.Views.{scripts_of};
 ghost use Rattle.value_bytes.specs.Spelling.{FitsList, list_bytes, value_bytes};
 ghost use Rattle.journal_records.specs.Fields.{effect_bytes, EffectFits, name_bytes, NameFits, script_bytes, ScriptFits, origin_bytes, OriginFits, send_byte, nothing};
-ghost use Rattle.journal_records.specs.Records.{body_of, begin_of, begins, texts_of, IsInGrammar, effects_bytes, names_bytes, page_bytes, PageFits, ending_bytes, EndingFits, finish_bytes, FinishFits};
-ghost use Rattle.journal_records.specs.Views.{script_of, lent_origin, lent_page, lent_ending, lent_finish, recorded_of};
+ghost use Rattle.journal_records.specs.Records.{body_of, begin_of, begins, texts_of, IsInGrammar, effects_bytes, names_bytes, page_bytes, PageFits, ending_bytes, EndingFits, finish_bytes, FinishFits, bytes_in};
+ghost use Rattle.journal_records.specs.Views.{script_of, lent_origin, lent_state, lent_page, lent_ending, lent_finish, recorded_of};
 
 use crate::logged::LoggedScript;
 use crate::recorded::{Recorded, RecordedEnded, RecordedFinish, RecordedOrigin, RecordedPage};
@@ -104,6 +104,16 @@ fn write_place(writer: &mut Writer, setup: &Setup, place: usize) -> Result<(), A
     }
 }
 
+// The bytes of a page's state, if it has any.
+fn state_in<'r>(page: &RecordedPage<'r>) -> &'r [u8]
+    ensures { result.now ≡ bytes_in (lent_state page.now) }
+{
+    match page.state {
+        Some(bytes) => bytes,
+        None => &[],
+    }
+}
+
 fn write_page(writer: &mut Writer, page: &RecordedPage<'_>) -> Result<(), AllocError>
     requires { PageFits (lent_page page.now) }
     ensures { OnOk result (writer.new ≡ writer.old ++ 2 ∷ page_bytes (lent_page page.now)) }
@@ -115,7 +125,8 @@ fn write_page(writer: &mut Writer, page: &RecordedPage<'_>) -> Result<(), AllocE
     write_effects(writer, page.effects)?;
     write_names(writer, page.left)?;
     writer.u8(send_number(page.kind))?;
-    writer.u64(page.deadline)
+    writer.u64(page.deadline)?;
+    writer.bytes(state_in(page))
 }
 
 fn write_ended(writer: &mut Writer, ended: &RecordedEnded<'_>) -> Result<(), AllocError>

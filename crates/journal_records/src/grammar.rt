@@ -30,7 +30,7 @@ pub fn is_in_grammar(record: &Recorded<'_>) -> bool
             let _shelf = *shelf;
             scripts_fit(scripts)
         }
-        Recorded::Page(page) => page_fits(page),
+        Recorded::Page(page) => page.state.is_some() && page_fits(page),
         Recorded::Ended(ended) => ended_fits(ended),
         Recorded::Finish(finish) => finish_fits(finish),
         Recorded::Sweep { clock } => *clock < NUMBERS_END,
@@ -99,6 +99,17 @@ fn page_fits(page: &RecordedPage<'_>) -> bool
         && effects_fit(page.effects)
         && names_fit(page.left)
         && page.deadline < DEADLINES_END
+        && state_fits(page)
+}
+
+// Whether the bytes of a page's state are few enough to be counted.
+fn state_fits(page: &RecordedPage<'_>) -> bool
+    ensures { IsTrue result ↔ (length (lent_page page.now).state < 2 ^ 32) }
+{
+    match page.state {
+        Some(bytes) => bytes.len() <= u32::MAX as usize,
+        None => true,
+    }
 }
 
 fn ended_fits(ended: &RecordedEnded<'_>) -> bool

@@ -43,6 +43,8 @@ pub struct LoggedPage {
     pub kind: SendKind,
     /// Until when the page can be answered, in seconds.
     pub deadline: u64,
+    /// The state of the page, as bytes, which are of no script yet.
+    pub state: Bytes,
 }
 
 /// A page was answered with a last page, which has no name.
@@ -123,6 +125,7 @@ impl Logged {
                 left: page.left.as_slice(),
                 kind: page.kind,
                 deadline: page.deadline,
+                state: Some(page.state.as_slice()),
             }),
             Logged::Ended(ended) => Recorded::Ended(RecordedEnded {
                 ticket: ended.ticket,

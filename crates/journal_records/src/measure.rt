@@ -3,9 +3,9 @@ ghost use Rattle.instance_cells.specs.Views.{effect_of};
 ghost use Rattle.value_bytes.specs.Spelling.{list_bytes};
 ghost use Rattle.wire_bytes.specs.Spelling.{byte_string};
 ghost use Rattle.journal_records.specs.Fields.{effect_bytes, script_bytes, origin_bytes};
-ghost use Rattle.journal_records.specs.Records.{effects_bytes, names_bytes, page_bytes, ending_bytes, finish_bytes, IfChanges, PartsFit};
+ghost use Rattle.journal_records.specs.Records.{effects_bytes, names_bytes, page_bytes, ending_bytes, finish_bytes, bytes_in, has_state, IfChanges, IfChangesWith, PartsFit};
 ghost use Rattle.journal_records.specs.Records as spec;
-ghost use Rattle.journal_records.specs.Views.{script_of, lent_origin, lent_page, lent_ending, lent_finish, recorded_of};
+ghost use Rattle.journal_records.specs.Views.{script_of, lent_origin, lent_state, lent_page, lent_ending, lent_finish, recorded_of};
 
 use crate::logged::LoggedScript;
 use crate::nesting::nests_shallow;
@@ -32,16 +32,38 @@ pub fn body_length(record: &Recorded<'_>) -> u64
     }
 }
 
-/// How long the body of a change's record is, in bytes; 2^63 where a value of it nests deeper than one may that is written,
-/// since it has no body then, and one above 2^63 as 2^63. It takes no memory.
+/// How long the body of a change's record is, in bytes; 2^63 where a value of it nests deeper than one may that is written, or
+/// where the state of its page has no spelling, since it has no body then, and one above 2^63 as 2^63. It takes no memory.
 pub fn record_length(record: &Recorded<'_>) -> u64
-    ensures length { IfChanges (recorded_of record.now) (λ c. result ≡ spec.record_length c) }
+    ensures length { IfChangesWith (recorded_of record.now) (λ c state. result ≡ spec.record_length c state) }
     ensures parts { result < 2 ^ 63 → IfChanges (recorded_of record.now) PartsFit }
 {
-    if nests_shallow(record) {
+    if nests_shallow(record) && has_its_state(record) {
         body_length(record)
     } else {
         MOST
+    }
+}
+
+// Whether a page has the bytes of its state.
+fn has_its_state(record: &Recorded<'_>) -> bool
+    ensures { IfChangesWith (recorded_of record.now) (λ c state. result ≡ has_state c state) }
+{
+    match record {
+        Recorded::Page(page) => page.state.is_some(),
+        Recorded::Begin { .. } => true,
+        Recorded::Ended(_) => true,
+        Recorded::Finish(_) => true,
+        Recorded::Sweep { .. } => true,
+    }
+}
+
+fn state_length(page: &RecordedPage<'_>) -> u64
+    ensures { result ≡ min (length (byte_string (bytes_in (lent_state page.now)))) (2 ^ 63) }
+{
+    match page.state {
+        Some(bytes) => string_length(bytes.len()),
+        None => 4,
     }
 }
 
@@ -51,7 +73,7 @@ fn page_length(page: &RecordedPage<'_>) -> u64
 {
     let origin = origin_length(&page.origin);
     let done = plus(effects_length(page.effects), names_length(page.left));
-    plus(26, plus(origin, done))
+    plus(26, plus(origin, plus(done, state_length(page))))
 }
 
 #[tactic(auto, using(crate::proofs::Sizes::ending_length))]

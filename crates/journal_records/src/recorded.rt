@@ -31,6 +31,8 @@ pub struct RecordedPage<'r> {
     pub kind: SendKind,
     /// Until when the page can be answered, in seconds.
     pub deadline: u64,
+    /// The state of the page, as bytes; none where it has no spelling.
+    pub state: Option<&'r [u8]>,
 }
 
 /// A page was answered with a last page, which has no name.

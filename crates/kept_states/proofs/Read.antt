@@ -7,36 +7,37 @@ use Rattle.replay_spec.specs.Tape.{Tape}
 use Rattle.machine_spec.specs.Machine.{Suspended}
 use Rattle.machine_spec.specs.Laws.{IsStateOf}
 use Rattle.frame_codec.specs.Spelling.{StateHasBytes}
+use Rattle.frame_codec.specs.Stored.{IsStored}
 use Rattle.frame_codec.specs.Deltas.{Delta, IsDelta, joined}
 use Rattle.frame_codec.specs.Parted.{Parted, state_parts, delta_parts}
 use Rattle.frame_codec.specs.Fronts.{front, delta_front, shared_need, read_front, read_delta_front}
 use Rattle.frame_codec.specs.declared.need.Need.{Need}
 use Rattle.frame_codec.proofs.Differences.{each_has_bytes}
 use Rattle.frame_codec.proofs.Firsts.{front_back, delta_front_back, fronts_join}
-use Rattle.frame_codec.proofs.Kept.{kept_shadows, each_kept}
-use Rattle.kept_states.specs.Kept.{IsOfScript, CanDiffer}
+use Rattle.frame_codec.proofs.Kept.{each_kept}
+use Rattle.kept_states.specs.Kept.{CanDiffer}
 
--- what is kept of a script at a page is one of its states
-pub of_script : (a : Arena) → IsScript a → (t : Tape) (d : Suspended) → IsStateOf a t d → IsOfScript a d
-of_script a script t d is = record { shadows = kept_shadows a script t d is; stored = λ has. each_kept a script t d is has }
+-- what is kept of a script at a page fits it
+pub of_script : (a : Arena) → IsScript a → (t : Tape) (d : Suspended) → IsStateOf a t d → StateHasBytes d → IsStored a d
+of_script a script t d is has = each_kept a script t d is has
 
 -- its web cells rise
-pub rises : (a : Arena) (d : Suspended) → IsOfScript a d → Rise d.shadows
+pub rises : (a : Arena) (d : Suspended) → IsStored a d → Rise d.shadows
 rises a d of = of.shadows.rise
 
 -- by itself
-pub alone_back : (a : Arena) (n : Need) (d : Suspended) (parts : Parted) → IsOfScript a d → StateHasBytes d → parts ≡ state_parts d
+pub alone_back : (a : Arena) (n : Need) (d : Suspended) (parts : Parted) → IsStored a d → parts ≡ state_parts d
     → read_front a n parts ≡ Some (front n d)
-alone_back a n d parts of has whole = ap (λ (x : Parted). read_front a n x) whole ∙ front_back a n d (of.stored has)
+alone_back a n d parts of whole = ap (λ (x : Parted). read_front a n x) whole ∙ front_back a n d of
 
 -- the difference is what the bytes say
-said : (a : Arena) (n : Need) (p d : Suspended) (parts : Parted) (x : Delta) → IsOfScript a d → CanDiffer p d → IsDelta p d x → parts ≡ delta_parts x
+said : (a : Arena) (n : Need) (p d : Suspended) (parts : Parted) (x : Delta) → IsStored a d → CanDiffer p d → IsDelta p d x → parts ≡ delta_parts x
     → read_delta_front a n parts ≡ Some (delta_front n x)
 said a n p d parts x of can is whole =
-    ap (λ (y : Parted). read_delta_front a n y) whole ∙ delta_front_back a n p d x (of.stored can.0) is (each_has_bytes p d x can.0 is)
+    ap (λ (y : Parted). read_delta_front a n y) whole ∙ delta_front_back a n p d x of is (each_has_bytes p d x can.0 is)
 
 -- behind its parent's
-pub behind_back : (a : Arena) (n : Need) (p d : Suspended) (parts : Parted) (x e : Delta) → Rise p.shadows → IsOfScript a d → CanDiffer p d → IsDelta p d x
+pub behind_back : (a : Arena) (n : Need) (p d : Suspended) (parts : Parted) (x e : Delta) → Rise p.shadows → IsStored a d → CanDiffer p d → IsDelta p d x
     → parts ≡ delta_parts x → Some e ≡ read_delta_front a n parts → joined (front (shared_need e) p) e ≡ front n d
 behind_back a n p d parts x e rise of can is whole read =
     let same : e ≡ delta_front n x = same_Some e (delta_front n x) (read ∙ said a n p d parts x of can is whole) in
@@ -44,6 +45,6 @@ behind_back a n p d parts x e rise of can is whole read =
     ∙ fronts_join n p d x (record { rises = rise; rise = of.shadows.rise; all = can.1 }) is
 
 -- and they say something
-pub behind_found : (a : Arena) (n : Need) (p d : Suspended) (parts : Parted) (x : Delta) → IsOfScript a d → CanDiffer p d → IsDelta p d x
+pub behind_found : (a : Arena) (n : Need) (p d : Suspended) (parts : Parted) (x : Delta) → IsStored a d → CanDiffer p d → IsDelta p d x
     → parts ≡ delta_parts x → None ≡ read_delta_front a n parts → ⊥
 behind_found a n p d parts x of can is whole none = none-some (delta_front n x) (none ∙ said a n p d parts x of can is whole)

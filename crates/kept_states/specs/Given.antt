@@ -5,17 +5,18 @@ use Rattle.script_nodes.specs.Arena.{Arena}
 use Rattle.machine_spec.specs.Machine.{Suspended}
 use Rattle.stored_states.specs.Views.{suspended_of}
 use Rattle.stored_states.specs.declared.frame.Suspended as stored
+use Rattle.frame_codec.specs.Stored.{IsStored}
 use Rattle.frame_codec.specs.Deltas.{joined}
 use Rattle.frame_codec.specs.DeltaViews.{delta_of}
 use Rattle.frame_codec.specs.Fronts.{front, shared_need}
 use Rattle.frame_codec.specs.declared.need.Need.{Need}
-use Rattle.kept_states.specs.Kept.{Form, IsAlone, IsBehind, IsOfScript}
+use Rattle.kept_states.specs.Kept.{Form, IsAlone, IsBehind}
 use Rattle.kept_states.specs.declared.form.Found.{Found}
 use Rattle.kept_states.specs.declared.form.Found.TheVariants as found
 
--- each state of the script of which this is kept by itself has the front that is found
+-- each state that fits the script and has a spelling, of which this is kept by itself, has the front that is found
 abbrev pub GivesAlone : Arena → Need → Form → Option stored.Suspended → Type 0
-GivesAlone a n f o = (d : Suspended) → IsOfScript a d → IsAlone d f → option_map suspended_of o ≡ Some (front n d)
+GivesAlone a n f o = (d : Suspended) → IsStored a d → IsAlone d f → option_map suspended_of o ≡ Some (front n d)
 
 -- it is the front, or makes it of the front of the parent's state that is shared
 abbrev pub Makes : Need → (parent d : Suspended) → Option Found → Type 0
@@ -23,6 +24,6 @@ Makes n p d None = ⊥
 Makes n p d (Some (found.Front e)) = suspended_of e ≡ front n d
 Makes n p d (Some (found.Difference x)) = joined (front (shared_need (delta_of x)) p) (delta_of x) ≡ front n d
 
--- each state of the script of which this is kept behind its parent's has the front that is found
+-- each state that fits the script and has a spelling, of which this is kept behind its parent's, has the front that is found
 abbrev pub GivesBehind : Arena → Need → Form → Option Found → Type 0
-GivesBehind a n f o = (p d : Suspended) → Rise p.shadows → IsOfScript a d → IsBehind p d f → Makes n p d o
+GivesBehind a n f o = (p d : Suspended) → Rise p.shadows → IsStored a d → IsBehind p d f → Makes n p d o

@@ -1,12 +1,10 @@
 -- What is kept of the state of a page.
 use Rattle.std.specs.Prelude.{◌≡◌, ℕ, zero, suc, List, Option, Some, None}
 use Rattle.web_cells.specs.Own.{BindsAllOf}
-use Rattle.script_nodes.specs.Arena.{Arena}
 use Rattle.machine_spec.specs.Machine.{Suspended}
 use Rattle.stored_states.specs.Views.{origin_of, suspended_of}
 use Rattle.stored_states.specs.declared.segment.Origin.{Origin}
 use Rattle.frame_codec.specs.Spelling.{StateHasBytes}
-use Rattle.frame_codec.specs.Stored.{ShadowsFit, IsStored}
 use Rattle.frame_codec.specs.Deltas.{Delta, IsDelta}
 use Rattle.frame_codec.specs.Parted.{Parted, whole_of, state_parts, delta_parts}
 use Rattle.frame_codec.specs.PartedViews.{parted_of}
@@ -61,11 +59,6 @@ form_of (Whole d) = whole (suspended_of d)
 
 abbrev pub kept_of : KeptState → Kept
 kept_of k = record { links = k.links; form = form_of k.form }
-
--- A state of a script: its web cells rise, and where it has a spelling it is read back.
-pub record IsOfScript (a : Arena) (d : Suspended) : Type 0 where
-  pub shadows : ShadowsFit a d.shadows
-  pub stored : StateHasBytes d → IsStored a d
 
 -- so it is kept behind an origin, which a start has none of
 abbrev pub IsKeptAfter : Origin → (links : ℕ) → Suspended → KeptState → Type 0

@@ -37,26 +37,26 @@ fn can_differ(parent: &Suspended, state: &Suspended) -> bool
 
 impl Form {
     /// What is kept of a state by itself.
-    pub fn alone(alloc: Global, state: Suspended) -> Result<Form, AllocError>
-        ensures { IfOk result (λ form. IsAlone (suspended_of state) (form_of form)) }
+    pub fn alone(alloc: Global, state: &Suspended) -> Result<Form, AllocError>
+        ensures { IfOk result (λ form. IsAlone (suspended_of state.now) (form_of form)) }
     {
-        if is_spelled(&state) {
-            Ok(Form::Spelled(spell_state(alloc, &state)?))
+        if is_spelled(state) {
+            Ok(Form::Spelled(spell_state(alloc, state)?))
         } else {
-            Ok(Form::Whole(state))
+            Ok(Form::Whole(state.try_clone(alloc)?))
         }
     }
 
     /// What is kept of a state behind its parent's.
-    pub fn behind(alloc: Global, parent: &Suspended, state: Suspended) -> Result<Form, AllocError>
-        ensures { IfOk result (λ form. IsBehind (suspended_of parent.now) (suspended_of state) (form_of form)) }
+    pub fn behind(alloc: Global, parent: &Suspended, state: &Suspended) -> Result<Form, AllocError>
+        ensures { IfOk result (λ form. IsBehind (suspended_of parent.now) (suspended_of state.now) (form_of form)) }
     {
         each_delta_has_bytes();
-        if can_differ(parent, &state) {
-            let delta = delta(alloc, parent, &state)?;
+        if can_differ(parent, state) {
+            let delta = delta(alloc, parent, state)?;
             Ok(Form::Spelled(spell_delta(alloc, &delta)?))
         } else {
-            Ok(Form::Whole(state))
+            Ok(Form::Whole(state.try_clone(alloc)?))
         }
     }
 

@@ -26,9 +26,9 @@ impl KeptState {
         alloc: Global,
         before: &Origin,
         links: u8,
-        state: Suspended,
+        state: &Suspended,
     ) -> Result<KeptState, AllocError>
-        ensures { IfOk result (IsKeptAfter before.now links (suspended_of state)) }
+        ensures { IfOk result (IsKeptAfter before.now links (suspended_of state.now)) }
     {
         let Origin::Page(parent) = before else {
             let form = Form::alone(alloc, state)?;

@@ -16,9 +16,8 @@ use Rattle.replay_spec.specs.Book.{Page}
 use Rattle.replay_spec.specs.Next.{Home, Visit, home_of, answered, tape_of, tape_for, page_tape, comes_to}
 use Rattle.replay_spec.specs.Next as next
 use Rattle.replay_spec.specs.Laws.{EffectsAreOnCells, longer}
-use Rattle.machine_spec.specs.Machine.{Suspended}
+use Rattle.machine_spec.specs.Machine.{Suspended, inside_of}
 use Rattle.machine_spec.specs.Laws.{IsStateOf}
-use Rattle.machine_spec.specs.Fits.{EachStateFits}
 use Rattle.stored_states.specs.Views.{suspended_of, origin_of, Keeps, segment_of}
 use Rattle.stored_states.specs.declared.segment.Origin.{Origin}
 use Rattle.stored_states.specs.declared.segment.Origin.TheVariants as origin
@@ -27,7 +26,7 @@ use Rattle.send_suspend.specs.Segments.{newest, FitsFrom, IsLastOver, Replays}
 use Rattle.instance_book.specs.declared.ticket.Ticket.{Ticket}
 use Rattle.instance_book.specs.Views.{ticket_of}
 use Rattle.instance_book.specs.Places.{arena_of}
-use Rattle.instance_book.specs.Fits.{GoesOnFrom, IsFor}
+use Rattle.instance_book.specs.Fits.{GoesOnFrom, IsFor, FitsScript}
 use Rattle.instance_book.specs.Laws.{KeepsStateOver}
 use Rattle.ticket_runs.specs.Runs.{IsRunOver, IsRunAs}
 
@@ -35,14 +34,10 @@ use Rattle.ticket_runs.specs.Runs.{IsRunOver, IsRunAs}
 pub arena_is : (a : Arena) → IsScript a → a ≡ arena_of (script_of a)
 arena_is a i = ap (λ (ns : List Node). record a { nodes = ns }) i.numbered
 
--- what a visit goes on from fits its script
-pub fits_from : EachStateFits → (a : Arena) → IsScript a → (v : Visit) → v.script.script ≡ script_of a → (o : Origin)
-    → GoesOnFrom v (origin_of o) → FitsFrom a o
-fits_from law a i v e origin.Start goes = tt
-fits_from law a i v e (origin.Page d) goes =
-    let same : arena_of v.script.script ≡ a = ap arena_of e ∙ sym (arena_is a i) in
-    law a (page_tape (home_of v) goes.ancestors goes.page) (suspended_of d)
-    (subst (λ (b : Arena). IsStateOf b (page_tape (home_of v) goes.ancestors goes.page) (suspended_of d)) same goes.state)
+-- what fits the script can be gone on from
+pub fits_from : (a : Arena) (o : Origin) → FitsScript a (origin_of o) → FitsFrom a o
+fits_from a origin.Start fits = tt
+fits_from a (origin.Page d) fits = fits
 
 -- an origin that is the same is gone on from the same
 pub replays_alike : (o p : Origin) (a : Arena) (x : Answer) (r : Segment) → origin_of o ≡ origin_of p → Replays o a x r → Replays p a x r
@@ -61,10 +56,11 @@ one_more h (q ∷ ps) p x = ap (λ (xs : List Answer). record { first = (answere
     mapped [] = refl
     mapped (r ∷ ps) = ap (λ (xs : List Answer). answered h r ∷ xs) (mapped ps)
 
--- a segment is that of a visit over these cells, and its state is kept over the visit's tape
+-- a segment is that of a visit over these cells, its state is kept over the visit's tape, and its page is inside what the state is
 pub record IsLike (v : Visit) (cells : List Val) (fuel : ℕ) (r : Segment) : Type 0 where
   pub comes : segment_of r ≡ comes_to v (present cells fuel)
   pub state : KeepsStateOver v r
+  pub inside : Keeps r.outcome (λ d. inside_of d.frames ≡ r.entered.items)
 
 over_tape : (v : Visit) (a : Arena) (cells : List Val) (fuel : ℕ) (r : Segment) (tape : Reads → Tape) → v.script.script ≡ script_of a
     → a ≡ arena_of v.script.script → ((reads : Reads) → tape reads ≡ tape_for v reads) → IsLastOver a r tape (present cells fuel)
@@ -75,6 +71,7 @@ over_tape v a cells fuel r tape e same is last =
       comes = last.0.0 ∙ (ap (λ (t : Tape). run (script_of a) t) (is (present cells fuel)) ∙ ap (λ (s : Script). run s (tape_for v (present cells fuel))) (sym e));
       state = subst (λ (t : Tape). Keeps r.outcome (λ d. IsStateOf (arena_of v.script.script) t d)) (is read)
           (subst (λ (b : Arena). Keeps r.outcome (λ d. IsStateOf b (tape read) d)) same last.1.1);
+      inside = subst (λ (s : eval.Segment). Keeps r.outcome (λ d. inside_of d.frames ≡ s.entered)) (sym last.0.0) last.0.1;
     }
 
 runs_from : (v : Visit) (a : Arena) (cells : List Val) (fuel : ℕ) (r : Segment) → v.script.script ≡ script_of a → a ≡ arena_of v.script.script
@@ -121,6 +118,7 @@ run_as scripts t a i named its found law whole fuel over r is v e fits =
     record {
       comes = like.comes;
       state = like.state;
+      inside = like.inside;
       on = subst (λ (s : eval.Segment). AreOn (length v.script.script.cells) s.effects) (sym like.comes) on;
     }
 

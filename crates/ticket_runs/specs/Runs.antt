@@ -7,7 +7,8 @@ use Rattle.instance_cells.specs.Cells.{AreOn}
 use Rattle.instance_cells.specs.Views.{effect_of}
 use Rattle.replay_spec.specs.Tape.{present}
 use Rattle.replay_spec.specs.Next.{Visit, comes_to}
-use Rattle.stored_states.specs.Views.{segment_of}
+use Rattle.machine_spec.specs.Machine.{inside_of}
+use Rattle.stored_states.specs.Views.{segment_of, Keeps}
 use Rattle.stored_states.specs.declared.segment.Segment.{Segment}
 use Rattle.send_suspend.specs.Segments.{newest, Replays}
 use Rattle.instance_book.specs.declared.ticket.Ticket.{Ticket}
@@ -22,11 +23,12 @@ IsRunOver scripts fuel t cells r =
     (named : Named) → slice_get scripts t.script ≡ Some named
     → Replays t.from (arena_of named.script) (newest (meaning t.answer) t.number t.url cells fuel) r
 
--- A segment is what a visit comes to over these cells; a page that it shows has its state kept over the visit's tape; and its
--- effects are on the cells that the script has.
+-- A segment is what a visit comes to over these cells; a page that it shows has its state kept over the visit's tape, and is inside
+-- the transactions of the state's frames; and its effects are on the cells that the script has.
 pub record IsRunAs (v : Visit) (cells : List Val) (fuel : ℕ) (r : Segment) : Type 0 where
   pub comes : segment_of r ≡ comes_to v (present cells fuel)
   pub state : KeepsStateOver v r
+  pub inside : Keeps r.outcome (λ d. inside_of d.frames ≡ r.entered.items)
   pub on : AreOn (length v.script.script.cells) (map effect_of r.effects.items)
 
 -- the same of each visit that the ticket is for

@@ -5,12 +5,11 @@ ghost use Rattle.std.specs.Prelude.{◌≡◌, ◌<◌, ◌^◌, IfOk};
 ghost use Rattle.script_value.specs.Views.{meaning};
 ghost use Rattle.script_nodes.specs.Views.{scripts_of};
 ghost use Rattle.send_suspend.specs.Segments.{newest, FitsFrom, Replays};
-ghost use Rattle.instance_book.specs.Fits.{IsForSome};
+ghost use Rattle.instance_book.specs.Fits.{IsRunnable};
 ghost use Rattle.ticket_runs.specs.Runs.{IsRunOver, IsRunOfItsVisit};
 
 use instance_book::Ticket;
 use instance_cells::Cells;
-use machine_spec::each_state_fits;
 use replay_spec::effects_are_on_cells;
 use script_nodes::{Script, Setup};
 use send_suspend::{Origin, Segment, Steps, run_segment};
@@ -53,7 +52,8 @@ fn uncounted<L: Ledger>(
 
 /// Runs the segment of a ticket over these cells, from the state that the ticket goes on from.
 ///
-/// It asks that the ticket is for a visit of a script of the setup.
+/// It asks that the ticket's script is one of the setup and that what it goes on from fits it. Where the ticket is for a visit, the
+/// segment is what the visit comes to.
 pub fn run_ticket(
     alloc: Global,
     setup: &Setup,
@@ -61,12 +61,11 @@ pub fn run_ticket(
     cells: &Cells,
     fuel: u64,
 ) -> Result<Segment, AllocError>
-    requires fits { IsForSome (scripts_of setup.now) ticket.now }
+    requires fits { IsRunnable (scripts_of setup.now) ticket.now }
     requires fuel { fuel < 2 ^ 63 }
     ensures run { IfOk result (IsRunOver (scripts_of setup.now) fuel ticket.now cells.now) }
     ensures visit { IfOk result (IsRunOfItsVisit (scripts_of setup.now) fuel ticket.now cells.now) }
 {
-    each_state_fits();
     effects_are_on_cells();
     let Some(named) = setup.get(ticket.script) else {
         return Err(AllocError);

@@ -1,24 +1,26 @@
-use Rattle.std.proofs.Common.{◌≡◌, ◌∙◌, ap, sym, subst, refl, Some, Option, slice_get}
+use Rattle.std.proofs.Common.{◌≡◌, ◌∙◌, ap, sym, subst, refl, Option}
 use Rattle.std.proofs.lemmas.Option.{same_Some}
 use Rattle.script_value.specs.Views.{meaning}
 use Rattle.script_nodes.specs.Arena.{Arena}
 use Rattle.script_nodes.specs.Setup.{Named}
 use Rattle.script_nodes.specs.Views.{scripts_of, named_of}
 use Rattle.machine_spec.specs.Machine.{Suspended}
+use Rattle.stored_states.specs.Views.{origin_of}
 use Rattle.send_suspend.specs.Segments.{newest, Replays}
 use Rattle.instance_book.specs.Places.{arena_of}
-use Rattle.instance_book.specs.Fits.{GoesOnFrom}
+use Rattle.instance_book.specs.Fits.{FitsScript}
 use Rattle.ticket_runs.proofs.Replayed.{arena_is, fits_from, replays_alike, run_as, if_ok}
 use Rattle.ticket_runs.proofs.run_ticket.Goals as goal
 
 pub uncounted-requires-clause-fits : goal.uncounted-requires-clause-fits
 uncounted-requires-clause-fits c =
-    let named = c.in-Some.named.now in
-    let s = c.requires.fits in
-    let found : slice_get (scripts_of c.args.setup.now) c.args.ticket.now.script ≡ Some (named_of named) = sym c.in-Some.ensures in
-    let its = ap (λ (n : Named). n.script) (same_Some s.visit.script (named_of named) (sym s.fits.script ∙ found)) in
-    fits_from c.each_state_fits.ensures named.script c.root-root.ensures.script s.visit its c.in_ok-from.from
-    (subst (λ (o : Option Suspended). GoesOnFrom s.visit o) (sym c.in_ok-from.ensures) s.fits.from)
+    let rust = c.in-Some.named.now in
+    let runs = c.requires.fits in
+    let mine : named_of rust ≡ runs.named = same_Some (named_of rust) runs.named (c.in-Some.ensures ∙ runs.script) in
+    let arena : rust.script ≡ arena_of runs.named.script = arena_is rust.script c.root-root.ensures.script ∙ ap (λ (n : Named). arena_of n.script) mine in
+    fits_from rust.script c.in_ok-from.from
+    (subst (λ (a : Arena). FitsScript a (origin_of c.in_ok-from.from)) (sym arena)
+    (subst (λ (o : Option Suspended). FitsScript (arena_of runs.named.script) o) (sym c.in_ok-from.ensures) runs.from))
 
 pub returns-clause-run : goal.returns-clause-run
 returns-clause-run c =

@@ -4,9 +4,9 @@ use Rattle.page_journal.specs.Records.{at_rest}
 use Rattle.page_journal.specs.Settled.{bodies_in, length_of}
 use Rattle.journal_books.specs.Making.{book_of}
 use Rattle.book_recovery.specs.declared.found.Found.{Found}
-use Rattle.book_recovery.specs.Found.{Finds, IsFoundInOrder}
+use Rattle.book_recovery.specs.Found.{Finds, IsFoundInOrder, HasStates}
 use Rattle.book_recovery.specs.Reading.{Gives}
-use Rattle.book_recovery.proofs.Took.{all_same, all_bytes, made_of_all, kept_under, finds, in_order}
+use Rattle.book_recovery.proofs.Took.{all_same, all_bytes, made_of_all, owned_of_all, kept_under, finds, in_order}
 use Rattle.book_recovery.proofs.read.read_book.Goals as goal
 
 pub returns-clause-found : goal.returns-clause-found
@@ -27,6 +27,19 @@ returns-clause-found g c told =
     subst (λ (f : Found). Finds scripts shelf (length_of {D = g.row.D.Denot} c.args.journal.now) f (book_of scripts shelf bodies)) (sym c.finish.ensures.found)
     (finds scripts shelf (length_of {D = g.row.D.Denot} c.args.journal.now) new.found new.seen (book_of scripts shelf bodies) kept here)
 
+pub returns-clause-states : goal.returns-clause-states
+returns-clause-states g c told own =
+    let setup = c.args.setup.now in
+    let scripts = scripts_of setup in
+    let shelf = c.args.shelf in
+    let bodies = bodies_in g.D.Disk.view c.args.journal.now in
+    let old = c.new-reader.result in
+    let new = c.for_each.new.taker in
+    let start = c.new-reader.ensures in
+    let took = c.in_ok-for_each.ensures.taken told in
+    subst (λ (f : Found). HasStates scripts f) (sym c.finish.ensures.found)
+    (owned_of_all setup shelf bodies old new start.setup start.shelf start.found start.seen took own)
+
 pub returns-clause-in_order : goal.returns-clause-in_order
 returns-clause-in_order g c =
     let setup = c.args.setup.now in
@@ -42,4 +55,4 @@ returns-clause-in_order g c =
     let kept = kept_under setup shelf new (same.0 ∙ start.setup) (same.1 ∙ start.shelf) c.finish.ensures.sound in
     let gives = made_of_all setup shelf bodies old new start.setup start.shelf start.found start.seen took in
     subst (λ (f : Found). IsFoundInOrder scripts shelf f) (sym c.finish.ensures.found)
-    (in_order c.bodies_make_fitting_books.ensures scripts shelf bodies c.each_names_its_cells.ensures (all_bytes 8 bodies old new took) (length (at_rest bodies)) new.found new.seen kept gives)
+    (in_order c.bodies_make_fitting_books.ensures scripts shelf bodies c.each_is_whole.ensures (all_bytes 8 bodies old new took) (length (at_rest bodies)) new.found new.seen kept gives)

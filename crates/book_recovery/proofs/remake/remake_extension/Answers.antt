@@ -1,94 +1,107 @@
-use Rattle.std.proofs.Common.{◌≡◌, ◌∙◌, ap, sym, subst, refl, ℕ, Option, Some, None, IfSome, IfNone}
-use Rattle.script_nodes.specs.Views.{scripts_of}
-use Rattle.replay_spec.specs.Book.{Change, page_at}
-use Rattle.replay_spec.specs.Change.{land}
-use Rattle.replay_spec.specs.Next as next
-use Rattle.replay_spec.specs.Next.{page_visit}
+use Rattle.std.proofs.Common.{◌≡◌, ◌∙◌, ap, sym, subst, List, map, Option, None, IfSome, IfNone, length}
+use Rattle.script_value.specs.Val.{Val}
+use Rattle.script_nodes.specs.Setup.{Named}
+use Rattle.script_nodes.specs.Views.{named_of, scripts_of}
+use Rattle.instance_cells.specs.Cells.{AreOn}
+use Rattle.instance_cells.specs.Views.{effect_of}
+use Rattle.frame_codec.specs.Reading.{read_state}
 use Rattle.replay_spec.specs.Recovery.{page_of_numbers}
 use Rattle.instance_book.specs.declared.ticket.Ticket.{Ticket}
+use Rattle.instance_book.specs.declared.retold.ToldPage.{ToldPage}
+use Rattle.replay_spec.specs.Next.{page_visit}
 use Rattle.instance_book.specs.Views.{ticket_of}
-use Rattle.instance_book.specs.Told.{AnswersAgain, HasAnswerState, no_rules, book_beside, effects_in}
-use Rattle.book_recovery.specs.Remaking.{extension_told}
-use Rattle.book_recovery.proofs.Replayed.{passed, landed, page_state, page_on, stands_at, on_cells, extension_none, extension_remade, extension_same}
+use Rattle.instance_book.specs.Fits.{IsFor}
+use Rattle.instance_book.specs.Makes.{HasItsStates}
+use Rattle.instance_book.specs.Told.{AnswersThere, AnswersAgain, effects_in, book_beside}
+use Rattle.journal_books.specs.Retaking.{arena_of}
+use Rattle.book_recovery.specs.Remaking.{IsPageOf}
+use Rattle.book_recovery.proofs.Retold.{are_held, held_on, stands_at, script_there, answer_fits, on_cells, extension_none, extension_misread, extension_seen, extension_not_held, extension_lands}
 use Rattle.book_recovery.proofs.remake.remake_extension.Goals as goal
 
-pub returns-in_default-clause-made : goal.returns-in_default-clause-made
-returns-in_default-clause-made c length =
+pub returns-in_default-clause-told : goal.returns-in_default-clause-told
+returns-in_default-clause-told c =
     let scripts = scripts_of c.args.setup.now in
-    let b = book_beside scripts length c.args.book.now in
-    let none : page_of_numbers b c.args.instance c.args.answered ≡ None =
-    subst (λ (o : Option Ticket). IfNone o (page_of_numbers b c.args.instance c.args.answered ≡ None)) c.in_default.is c.in_ok-ticket.ensures.none in
-    passed (extension_told c.args.instance c.args.answered c.args.answer c.args.number c.args.nonce c.args.claim) b (book_beside scripts length c.pass_over.new.self)
-    (extension_none b c.args.instance c.args.answered c.args.answer c.args.number c.args.nonce c.args.claim none) (c.pass_over.ensures.book scripts length None)
+    let none : page_of_numbers (book_beside scripts 0 c.args.book.now) c.args.instance c.args.answered ≡ None =
+    subst (λ (o : Option Ticket). IfNone o (page_of_numbers (book_beside scripts 0 c.args.book.now) c.args.instance c.args.answered ≡ None)) c.in_default.is c.in_ok-ticket.ensures.none in
+    extension_none scripts c.args.book.now c.args.instance c.args.answered c.args.answer c.args.claim c.args.seen c.pass_over.new.self none c.pass_over.ensures.book c.pass_over.ensures.states
 
-pub returns-in_default-clause-states : goal.returns-in_default-clause-states
-returns-in_default-clause-states c = c.pass_over.ensures.states (scripts_of c.args.setup.now) c.requires.ready.states
+pub returns-in_default-clause-placed : goal.returns-in_default-clause-placed
+returns-in_default-clause-placed c = c.pass_over.ensures.placed (scripts_of c.args.setup.now) c.requires.placed
 
-pub returns-in_default-met_by-clause-made : goal.returns-in_default-met_by-clause-made
-returns-in_default-met_by-clause-made c length =
-    let scripts = scripts_of c.args.setup.now in
-    let b = book_beside scripts length c.args.book.now in
-    let t = c.in-Some.ticket in
-    let a : AnswersAgain c.args.setup.now c.args.book.now c.args.instance c.args.answered c.args.answer c.args.number c.args.nonce t =
-    subst (λ (o : Option Ticket). IfSome o (AnswersAgain c.args.setup.now c.args.book.now c.args.instance c.args.answered c.args.answer c.args.number c.args.nonce)) c.in-Some.is c.in_ok-ticket.ensures.some in
-    let run = c.in_ok-segment.ensures.visit (page_visit b (ticket_of t) a.at) refl a.fits in
-    passed (extension_told c.args.instance c.args.answered c.args.answer c.args.number c.args.nonce c.args.claim) b (book_beside scripts length c.pass_over-in_default-met_by.new.self)
-    (extension_remade b c.args.instance c.args.answered c.args.answer c.args.number c.args.nonce c.args.claim a.at a.found t a.ticket a.cells c.in_ok-segment.segment run None c.in_default-met_by.ensures.met)
-    (c.pass_over-in_default-met_by.ensures.book scripts length None)
+pub returns-in_default-2-clause-told : goal.returns-in_default-2-clause-told
+returns-in_default-2-clause-told c =
+    let setup = c.args.setup.now in
+    let scripts = scripts_of setup in
+    let old = c.args.book.now in
+    let there : AnswersThere setup old c.args.instance c.args.answered c.args.answer c.args.claim.number c.args.claim.nonce c.in-Some.ticket =
+    subst (λ (o : Option Ticket). IfSome o (AnswersThere setup old c.args.instance c.args.answered c.args.answer c.args.claim.number c.args.claim.nonce)) c.in-Some.is c.in_ok-ticket.ensures.some in
+    let same = script_there scripts old c.args.instance c.args.answered there.at there.found c.script.result c.script.ensures c.in-Some-script.named c.in-Some-script.is in
+    let none : read_state (arena_of (named_of c.in-Some-script.named.now).script) c.args.claim.state ≡ None =
+    subst (λ (o : Option ToldPage). IfNone o (read_state (arena_of (named_of c.in-Some-script.named.now).script) c.args.claim.state ≡ None)) c.in_default-2.is c.in_ok-page.ensures.none in
+    extension_misread scripts old c.args.instance c.args.answered c.args.answer c.args.claim c.args.seen there.at there.found
+    (subst (λ (s : Named). read_state (arena_of s.script) c.args.claim.state ≡ None) same none)
 
-pub returns-in_default-met_by-clause-states : goal.returns-in_default-met_by-clause-states
-returns-in_default-met_by-clause-states c = c.pass_over-in_default-met_by.ensures.states (scripts_of c.args.setup.now) c.requires.ready.states
+pub returns-then-seen-clause-told : goal.returns-then-seen-clause-told
+returns-then-seen-clause-told c =
+    let setup = c.args.setup.now in
+    let scripts = scripts_of setup in
+    let old = c.args.book.now in
+    let there : AnswersThere setup old c.args.instance c.args.answered c.args.answer c.args.claim.number c.args.claim.nonce c.in-Some.ticket =
+    subst (λ (o : Option Ticket). IfSome o (AnswersThere setup old c.args.instance c.args.answered c.args.answer c.args.claim.number c.args.claim.nonce)) c.in-Some.is c.in_ok-ticket.ensures.some in
+    let same = script_there scripts old c.args.instance c.args.answered there.at there.found c.script.result c.script.ensures c.in-Some-script.named c.in-Some-script.is in
+    let given : IsPageOf (arena_of (named_of c.in-Some-script.named.now).script) c.args.claim c.in-Some-2.page =
+    subst (λ (o : Option ToldPage). IfSome o (IsPageOf (arena_of (named_of c.in-Some-script.named.now).script) c.args.claim)) c.in-Some-2.is c.in_ok-page.ensures.some in
+    let page : IsPageOf (arena_of there.at.instance.script.script) c.args.claim c.in-Some-2.page = subst (λ (s : Named). IsPageOf (arena_of s.script) c.args.claim c.in-Some-2.page) same given in
+    extension_seen scripts old c.args.instance c.args.answered c.args.answer c.args.claim c.args.seen there.at there.found c.in-Some-2.page page c.pass_over-then-seen.new.self c.if-seen.true
+    c.pass_over-then-seen.ensures.book c.pass_over-then-seen.ensures.states
+
+pub returns-then-seen-clause-placed : goal.returns-then-seen-clause-placed
+returns-then-seen-clause-placed c = c.pass_over-then-seen.ensures.placed (scripts_of c.args.setup.now) c.requires.placed
+
+pub returns-then-not-are_held-clause-told : goal.returns-then-not-are_held-clause-told
+returns-then-not-are_held-clause-told c =
+    let setup = c.args.setup.now in
+    let scripts = scripts_of setup in
+    let old = c.args.book.now in
+    let there : AnswersThere setup old c.args.instance c.args.answered c.args.answer c.args.claim.number c.args.claim.nonce c.in-Some.ticket =
+    subst (λ (o : Option Ticket). IfSome o (AnswersThere setup old c.args.instance c.args.answered c.args.answer c.args.claim.number c.args.claim.nonce)) c.in-Some.is c.in_ok-ticket.ensures.some in
+    let same = script_there scripts old c.args.instance c.args.answered there.at there.found c.script.result c.script.ensures c.in-Some-script.named c.in-Some-script.is in
+    let given : IsPageOf (arena_of (named_of c.in-Some-script.named.now).script) c.args.claim c.in-Some-2.page =
+    subst (λ (o : Option ToldPage). IfSome o (IsPageOf (arena_of (named_of c.in-Some-script.named.now).script) c.args.claim)) c.in-Some-2.is c.in_ok-page.ensures.some in
+    let page : IsPageOf (arena_of there.at.instance.script.script) c.args.claim c.in-Some-2.page = subst (λ (s : Named). IsPageOf (arena_of s.script) c.args.claim c.in-Some-2.page) same given in
+    extension_not_held scripts old c.args.instance c.args.answered c.args.answer c.args.claim c.args.seen there.at there.found c.in-Some-2.page page c.pass_over-then-not-are_held.new.self
+    c.in-Some.ticket.cells c.if-seen.false there.cells (sym c.if-not-are_held.true ∙ (c.are_held.ensures ∙ ap (λ (es : List _). are_held (map effect_of es) c.in-Some.ticket.cells) c.deref.ensures.value)) c.pass_over-then-not-are_held.ensures.book c.pass_over-then-not-are_held.ensures.states
+
+pub returns-then-not-are_held-clause-placed : goal.returns-then-not-are_held-clause-placed
+returns-then-not-are_held-clause-placed c = c.pass_over-then-not-are_held.ensures.placed (scripts_of c.args.setup.now) c.requires.placed
 
 pub land_extension-requires-clause-on : goal.land_extension-requires-clause-on
 land_extension-requires-clause-on c =
-    let scripts = scripts_of c.args.setup.now in
-    let b = book_beside scripts 0 c.args.book.now in
-    let t = c.in-Some.ticket in
-    let a : AnswersAgain c.args.setup.now c.args.book.now c.args.instance c.args.answered c.args.answer c.args.number c.args.nonce t =
-    subst (λ (o : Option Ticket). IfSome o (AnswersAgain c.args.setup.now c.args.book.now c.args.instance c.args.answered c.args.answer c.args.number c.args.nonce)) c.in-Some.is c.in_ok-ticket.ensures.some in
-    let v = page_visit b (ticket_of t) a.at in
-    let run = c.in_ok-segment.ensures.visit v refl a.fits in
-    let there = stands_at b c.args.instance c.args.answered a.at a.found in
-    let many = c.requires.ready.orderly.sized c.args.instance a.at.instance there.here in
-    on_cells scripts c.args.book.now c.args.instance a.at.instance (effects_in c.in-Some-met_by.page) there.here
-    (page_on v t.cells _ c.in_ok-segment.segment c.args.claim c.in-Some-met_by.page _ many run c.in-Some-met_by.ensures.page)
+    let setup = c.args.setup.now in
+    let scripts = scripts_of setup in
+    let old = c.args.book.now in
+    let there : AnswersThere setup old c.args.instance c.args.answered c.args.answer c.args.claim.number c.args.claim.nonce c.in-Some.ticket =
+    subst (λ (o : Option Ticket). IfSome o (AnswersThere setup old c.args.instance c.args.answered c.args.answer c.args.claim.number c.args.claim.nonce)) c.in-Some.is c.in_ok-ticket.ensures.some in
+    let on : AreOn (length c.in-Some.ticket.cells) (effects_in c.in-Some-2.page) = held_on (effects_in c.in-Some-2.page) c.in-Some.ticket.cells (sym c.if-not-are_held.false ∙ (c.are_held.ensures ∙ ap (λ (es : List _). are_held (map effect_of es) c.in-Some.ticket.cells) c.deref.ensures.value)) in
+    on_cells scripts old c.args.instance there.at.instance (effects_in c.in-Some-2.page) (stands_at (book_beside scripts 0 old) c.args.instance c.args.answered there.at there.found).here
+    (subst (λ (cells : List Val). AreOn (length cells) (effects_in c.in-Some-2.page)) there.cells on)
 
-pub returns-clause-made : goal.returns-clause-made
-returns-clause-made c length =
-    let scripts = scripts_of c.args.setup.now in
-    let b = book_beside scripts length c.args.book.now in
-    let t = c.in-Some.ticket in
-    let p = c.in-Some-met_by.page in
-    let a : AnswersAgain c.args.setup.now c.args.book.now c.args.instance c.args.answered c.args.answer c.args.number c.args.nonce t =
-    subst (λ (o : Option Ticket). IfSome o (AnswersAgain c.args.setup.now c.args.book.now c.args.instance c.args.answered c.args.answer c.args.number c.args.nonce)) c.in-Some.is c.in_ok-ticket.ensures.some in
-    let run = c.in_ok-segment.ensures.visit (page_visit b (ticket_of t) a.at) refl a.fits in
-    let there = stands_at b c.args.instance c.args.answered a.at a.found in
-    let told = extension_told c.args.instance c.args.answered c.args.answer c.args.number c.args.nonce c.args.claim in
-    let same = extension_same c.args.instance c.args.answered c.args.answer c.args.number c.args.nonce c.args.claim a.at t c.in_ok-segment.segment p a.ticket c.in-Some-met_by.ensures.page in
-    landed told p.inside.items b (book_beside scripts length c.land_extension.new.self)
-    (extension_remade b c.args.instance c.args.answered c.args.answer c.args.number c.args.nonce c.args.claim a.at a.found t a.ticket a.cells c.in_ok-segment.segment run (Some p.inside.items) c.in-Some-met_by.ensures.met)
-    (c.in_ok-land_extension.ensures.lands scripts length a.at.instance there.here ∙ ap (λ (x : Change). land no_rules x p.inside.items b) same)
+pub returns-clause-told : goal.returns-clause-told
+returns-clause-told c =
+    let setup = c.args.setup.now in
+    let scripts = scripts_of setup in
+    let old = c.args.book.now in
+    let there : AnswersThere setup old c.args.instance c.args.answered c.args.answer c.args.claim.number c.args.claim.nonce c.in-Some.ticket =
+    subst (λ (o : Option Ticket). IfSome o (AnswersThere setup old c.args.instance c.args.answered c.args.answer c.args.claim.number c.args.claim.nonce)) c.in-Some.is c.in_ok-ticket.ensures.some in
+    let same = script_there scripts old c.args.instance c.args.answered there.at there.found c.script.result c.script.ensures c.in-Some-script.named c.in-Some-script.is in
+    let given : IsPageOf (arena_of (named_of c.in-Some-script.named.now).script) c.args.claim c.in-Some-2.page =
+    subst (λ (o : Option ToldPage). IfSome o (IsPageOf (arena_of (named_of c.in-Some-script.named.now).script) c.args.claim)) c.in-Some-2.is c.in_ok-page.ensures.some in
+    let page : IsPageOf (arena_of there.at.instance.script.script) c.args.claim c.in-Some-2.page = subst (λ (s : Named). IsPageOf (arena_of s.script) c.args.claim c.in-Some-2.page) same given in
+    let fits : HasItsStates scripts old → IsFor scripts c.in-Some.ticket (page_visit (book_beside scripts 0 old) (ticket_of c.in-Some.ticket) there.at) =
+    λ states. answer_fits setup old c.args.instance c.args.answered c.args.answer c.args.claim.number c.args.claim.nonce c.in-Some.ticket there.at there.found
+    (subst (λ (o : Option Ticket). IfSome o (AnswersAgain setup old c.args.instance c.args.answered c.args.answer c.args.claim.number c.args.claim.nonce)) c.in-Some.is (c.in_ok-ticket.ensures.again states)) in
+    extension_lands scripts old c.args.instance c.args.answered c.args.answer c.args.claim c.args.seen there.at there.found c.in-Some-2.page page c.in-Some.ticket there.ticket there.cells
+    c.land_extension.new.self c.if-seen.false (sym c.if-not-are_held.false ∙ (c.are_held.ensures ∙ ap (λ (es : List _). are_held (map effect_of es) c.in-Some.ticket.cells) c.deref.ensures.value)) fits c.in_ok-land_extension.ensures.lands c.in_ok-land_extension.ensures.states
 
-pub returns-clause-states : goal.returns-clause-states
-returns-clause-states c =
-    let scripts = scripts_of c.args.setup.now in
-    let b = book_beside scripts 0 c.args.book.now in
-    let t = c.in-Some.ticket in
-    let p = c.in-Some-met_by.page in
-    let a : AnswersAgain c.args.setup.now c.args.book.now c.args.instance c.args.answered c.args.answer c.args.number c.args.nonce t =
-    subst (λ (o : Option Ticket). IfSome o (AnswersAgain c.args.setup.now c.args.book.now c.args.instance c.args.answered c.args.answer c.args.number c.args.nonce)) c.in-Some.is c.in_ok-ticket.ensures.some in
-    let v = page_visit b (ticket_of t) a.at in
-    let run = c.in_ok-segment.ensures.visit v refl a.fits in
-    let there = stands_at b c.args.instance c.args.answered a.at a.found in
-    let orderly = c.requires.ready.orderly in
-    let number : t.number ≡ c.args.number = ap (λ (x : next.Ticket). x.number) a.ticket in
-    let own : HasAnswerState scripts c.args.book.now t c.args.instance c.args.answered p = record {
-      at = a.at;
-      here = there.here;
-      shown = there.shown;
-      lineage = orderly.lineage c.args.instance a.at.instance there.here c.args.answered a.at.page there.shown;
-      unused = subst (λ (n : ℕ). page_at n a.at.instance.pages ≡ None) (sym number) (orderly.no_page c.args.number refl c.args.instance a.at.instance there.here);
-      state = page_state v t.cells _ c.in_ok-segment.segment c.args.claim p run c.in-Some-met_by.ensures.page;
-      fits = a.fits;
-    } in
-    c.in_ok-land_extension.ensures.states scripts own c.requires.ready.states
+pub returns-clause-placed : goal.returns-clause-placed
+returns-clause-placed c = c.in_ok-land_extension.ensures.placed (scripts_of c.args.setup.now) c.requires.placed

@@ -1,76 +1,73 @@
-use Rattle.std.proofs.Common.{◌≡◌, ◌∙◌, ap, subst, refl, List, Option, Some, None, IfSome, IfNone, slice_get, length as size}
-use Rattle.script_value.specs.Val.{Val}
-use Rattle.script_nodes.specs.Views.{scripts_of}
-use Rattle.replay_spec.specs.Book.{Change}
-use Rattle.replay_spec.specs.Change.{land}
-use Rattle.replay_spec.specs.Next.{start_visit}
+use Rattle.std.proofs.Common.{◌≡◌, ◌∙◌, ◌<◌, ℕ, ap, sym, subst, List, map, Option, None, IfSome, IfNone, slice_get, length}
+use Rattle.script_nodes.specs.Views.{named_of, scripts_of}
+use Rattle.instance_cells.specs.Views.{effect_of}
 use Rattle.instance_book.specs.declared.ticket.Ticket.{Ticket}
-use Rattle.instance_book.specs.Views.{ticket_of}
-use Rattle.instance_book.specs.Told.{StartsAgain, no_rules, book_beside}
-use Rattle.book_recovery.specs.Remaking.{opening_told}
-use Rattle.book_recovery.proofs.Replayed.{passed, landed, page_state, page_on, opening_none, opening_remade, opening_same}
+use Rattle.instance_book.specs.declared.retold.ToldPage.{ToldPage}
+use Rattle.instance_book.specs.Told.{StartsAgain, effects_in}
+use Rattle.journal_books.specs.Retaking.{arena_of}
+use Rattle.book_recovery.specs.Remaking.{IsPageOf}
+use Rattle.book_recovery.proofs.Retold.{are_held, held_on, there_is, named_there, start_of, opening_none, opening_seen, opening_not_held, opening_lands}
 use Rattle.book_recovery.proofs.remake.remake_opening.Goals as goal
 
-pub returns-in_default-clause-made : goal.returns-in_default-clause-made
-returns-in_default-clause-made c length =
+pub returns-in_default-clause-told : goal.returns-in_default-clause-told
+returns-in_default-clause-told c =
     let scripts = scripts_of c.args.setup.now in
-    let b = book_beside scripts length c.args.book.now in
     let none : slice_get scripts c.args.script ≡ None = subst (λ (o : Option Ticket). IfNone o (slice_get scripts c.args.script ≡ None)) c.in_default.is c.in_ok-ticket.ensures.none in
-    passed (opening_told c.args.script c.args.number c.args.nonce c.args.claim) b (book_beside scripts length c.pass_over.new.self)
-    (opening_none b c.args.script c.args.number c.args.nonce c.args.claim none) (c.pass_over.ensures.book scripts length None)
+    opening_none scripts c.args.book.now c.args.script c.args.claim c.args.seen c.pass_over.new.self none c.pass_over.ensures.book c.pass_over.ensures.states
 
-pub returns-in_default-clause-states : goal.returns-in_default-clause-states
-returns-in_default-clause-states c = c.pass_over.ensures.states (scripts_of c.args.setup.now) c.requires.states
+pub returns-in_default-clause-placed : goal.returns-in_default-clause-placed
+returns-in_default-clause-placed c = c.pass_over.ensures.placed (scripts_of c.args.setup.now) c.requires.placed
 
-pub returns-in_default-met_by-clause-made : goal.returns-in_default-met_by-clause-made
-returns-in_default-met_by-clause-made c length =
+pub returns-then-seen-clause-told : goal.returns-then-seen-clause-told
+returns-then-seen-clause-told c =
     let scripts = scripts_of c.args.setup.now in
-    let b = book_beside scripts length c.args.book.now in
-    let t = c.in-Some.ticket in
-    let a : StartsAgain c.args.setup.now c.args.book.now c.args.script c.args.number c.args.nonce t =
-    subst (λ (o : Option Ticket). IfSome o (StartsAgain c.args.setup.now c.args.book.now c.args.script c.args.number c.args.nonce)) c.in-Some.is c.in_ok-ticket.ensures.some in
-    let run = c.in_ok-segment.ensures.visit (start_visit b (ticket_of t) c.args.script a.named) refl a.fits.run in
-    passed (opening_told c.args.script c.args.number c.args.nonce c.args.claim) b (book_beside scripts length c.pass_over-in_default-met_by.new.self)
-    (opening_remade b c.args.script c.args.number c.args.nonce c.args.claim a.named a.found t a.ticket a.fits.cells c.in_ok-segment.segment run None c.in_default-met_by.ensures.met)
-    (c.pass_over-in_default-met_by.ensures.book scripts length None)
+    let s = named_of c.in-Some-get.named.now in
+    let found = named_there scripts c.args.script c.get.result c.in-Some-get.named c.get.ensures c.in-Some-get.is in
+    let page : IsPageOf (arena_of s.script) c.args.claim c.in-Some-2.page =
+    subst (λ (o : Option ToldPage). IfSome o (IsPageOf (arena_of s.script) c.args.claim)) c.in-Some-2.is c.in_ok-page.ensures.some in
+    opening_seen scripts c.args.book.now c.args.script c.args.claim c.args.seen s found c.in-Some-2.page page c.pass_over-then-seen.new.self c.if-seen.true c.pass_over-then-seen.ensures.book
+    c.pass_over-then-seen.ensures.states
 
-pub returns-in_default-met_by-clause-states : goal.returns-in_default-met_by-clause-states
-returns-in_default-met_by-clause-states c = c.pass_over-in_default-met_by.ensures.states (scripts_of c.args.setup.now) c.requires.states
+pub returns-then-seen-clause-placed : goal.returns-then-seen-clause-placed
+returns-then-seen-clause-placed c = c.pass_over-then-seen.ensures.placed (scripts_of c.args.setup.now) c.requires.placed
+
+pub returns-then-not-are_held-clause-told : goal.returns-then-not-are_held-clause-told
+returns-then-not-are_held-clause-told c =
+    let scripts = scripts_of c.args.setup.now in
+    let s = named_of c.in-Some-get.named.now in
+    let found = named_there scripts c.args.script c.get.result c.in-Some-get.named c.get.ensures c.in-Some-get.is in
+    let page : IsPageOf (arena_of s.script) c.args.claim c.in-Some-2.page =
+    subst (λ (o : Option ToldPage). IfSome o (IsPageOf (arena_of s.script) c.args.claim)) c.in-Some-2.is c.in_ok-page.ensures.some in
+    let again : StartsAgain c.args.setup.now c.args.book.now c.args.script c.args.claim.number c.args.claim.nonce c.in-Some.ticket =
+    subst (λ (o : Option Ticket). IfSome o (StartsAgain c.args.setup.now c.args.book.now c.args.script c.args.claim.number c.args.claim.nonce)) c.in-Some.is c.in_ok-ticket.ensures.some in
+    let start = start_of c.args.setup.now c.args.book.now c.args.script c.args.claim.number c.args.claim.nonce c.in-Some.ticket again s found in
+    opening_not_held scripts c.args.book.now c.args.script c.args.claim c.args.seen s found c.in-Some-2.page page c.pass_over-then-not-are_held.new.self c.in-Some.ticket.cells c.if-seen.false
+    start.cells (sym c.if-not-are_held.true ∙ (c.are_held.ensures ∙ ap (λ (es : List _). are_held (map effect_of es) c.in-Some.ticket.cells) c.deref.ensures.value)) c.pass_over-then-not-are_held.ensures.book c.pass_over-then-not-are_held.ensures.states
+
+pub returns-then-not-are_held-clause-placed : goal.returns-then-not-are_held-clause-placed
+returns-then-not-are_held-clause-placed c = c.pass_over-then-not-are_held.ensures.placed (scripts_of c.args.setup.now) c.requires.placed
 
 pub land_opening-requires-clause-on : goal.land_opening-requires-clause-on
-land_opening-requires-clause-on c =
-    let scripts = scripts_of c.args.setup.now in
-    let b = book_beside scripts 0 c.args.book.now in
-    let t = c.in-Some.ticket in
-    let a : StartsAgain c.args.setup.now c.args.book.now c.args.script c.args.number c.args.nonce t =
-    subst (λ (o : Option Ticket). IfSome o (StartsAgain c.args.setup.now c.args.book.now c.args.script c.args.number c.args.nonce)) c.in-Some.is c.in_ok-ticket.ensures.some in
-    let v = start_visit b (ticket_of t) c.args.script a.named in
-    let run = c.in_ok-segment.ensures.visit v refl a.fits.run in
-    page_on v t.cells _ c.in_ok-segment.segment c.args.claim c.in-Some-met_by.page _ (ap (λ (vs : List Val). size vs) a.fits.cells) run c.in-Some-met_by.ensures.page
+land_opening-requires-clause-on c = held_on (effects_in c.in-Some-2.page) c.in-Some.ticket.cells (sym c.if-not-are_held.false ∙ (c.are_held.ensures ∙ ap (λ (es : List _). are_held (map effect_of es) c.in-Some.ticket.cells) c.deref.ensures.value))
 
-pub returns-clause-made : goal.returns-clause-made
-returns-clause-made c length =
+pub returns-clause-told : goal.returns-clause-told
+returns-clause-told c =
     let scripts = scripts_of c.args.setup.now in
-    let b = book_beside scripts length c.args.book.now in
-    let t = c.in-Some.ticket in
-    let p = c.in-Some-met_by.page in
-    let a : StartsAgain c.args.setup.now c.args.book.now c.args.script c.args.number c.args.nonce t =
-    subst (λ (o : Option Ticket). IfSome o (StartsAgain c.args.setup.now c.args.book.now c.args.script c.args.number c.args.nonce)) c.in-Some.is c.in_ok-ticket.ensures.some in
-    let run = c.in_ok-segment.ensures.visit (start_visit b (ticket_of t) c.args.script a.named) refl a.fits.run in
-    let told = opening_told c.args.script c.args.number c.args.nonce c.args.claim in
-    let same = opening_same c.args.script c.args.number c.args.nonce c.args.claim a.named t c.in_ok-segment.segment p a.ticket a.fits.place c.in-Some-met_by.ensures.page in
-    landed told p.inside.items b (book_beside scripts length c.land_opening.new.self)
-    (opening_remade b c.args.script c.args.number c.args.nonce c.args.claim a.named a.found t a.ticket a.fits.cells c.in_ok-segment.segment run (Some p.inside.items) c.in-Some-met_by.ensures.met)
-    (c.in_ok-land_opening.ensures.lands scripts length a.named a.fits.run.script a.fits.cells ∙ ap (λ (x : Change). land no_rules x p.inside.items b) same)
+    let s = named_of c.in-Some-get.named.now in
+    let found = named_there scripts c.args.script c.get.result c.in-Some-get.named c.get.ensures c.in-Some-get.is in
+    let page : IsPageOf (arena_of s.script) c.args.claim c.in-Some-2.page =
+    subst (λ (o : Option ToldPage). IfSome o (IsPageOf (arena_of s.script) c.args.claim)) c.in-Some-2.is c.in_ok-page.ensures.some in
+    let again : StartsAgain c.args.setup.now c.args.book.now c.args.script c.args.claim.number c.args.claim.nonce c.in-Some.ticket =
+    subst (λ (o : Option Ticket). IfSome o (StartsAgain c.args.setup.now c.args.book.now c.args.script c.args.claim.number c.args.claim.nonce)) c.in-Some.is c.in_ok-ticket.ensures.some in
+    let start = start_of c.args.setup.now c.args.book.now c.args.script c.args.claim.number c.args.claim.nonce c.in-Some.ticket again s found in
+    opening_lands scripts c.args.book.now c.args.script c.args.claim c.args.seen s found c.in-Some-2.page page c.in-Some.ticket start.ticket start.place start.cells c.land_opening.new.self
+    c.if-seen.false (sym c.if-not-are_held.false ∙ (c.are_held.ensures ∙ ap (λ (es : List _). are_held (map effect_of es) c.in-Some.ticket.cells) c.deref.ensures.value)) c.in_ok-land_opening.ensures.lands c.in_ok-land_opening.ensures.states
 
-pub returns-clause-states : goal.returns-clause-states
-returns-clause-states c =
+pub returns-clause-placed : goal.returns-clause-placed
+returns-clause-placed c =
     let scripts = scripts_of c.args.setup.now in
-    let b = book_beside scripts 0 c.args.book.now in
-    let t = c.in-Some.ticket in
-    let a : StartsAgain c.args.setup.now c.args.book.now c.args.script c.args.number c.args.nonce t =
-    subst (λ (o : Option Ticket). IfSome o (StartsAgain c.args.setup.now c.args.book.now c.args.script c.args.number c.args.nonce)) c.in-Some.is c.in_ok-ticket.ensures.some in
-    let v = start_visit b (ticket_of t) c.args.script a.named in
-    let run = c.in_ok-segment.ensures.visit v refl a.fits.run in
-    c.in_ok-land_opening.ensures.states scripts
-    (a.named, (a.fits.run.script, page_state v t.cells _ c.in_ok-segment.segment c.args.claim c.in-Some-met_by.page run c.in-Some-met_by.ensures.page)) c.requires.states
+    let again : StartsAgain c.args.setup.now c.args.book.now c.args.script c.args.claim.number c.args.claim.nonce c.in-Some.ticket =
+    subst (λ (o : Option Ticket). IfSome o (StartsAgain c.args.setup.now c.args.book.now c.args.script c.args.claim.number c.args.claim.nonce)) c.in-Some.is c.in_ok-ticket.ensures.some in
+    let low : c.in-Some.ticket.script < length scripts =
+    subst (λ (k : ℕ). k < length scripts) (sym again.fits.place) (there_is scripts c.args.script again.named again.found) in
+    c.in_ok-land_opening.ensures.placed scripts low c.requires.placed

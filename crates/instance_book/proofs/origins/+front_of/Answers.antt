@@ -1,5 +1,5 @@
-use Rattle.std.proofs.Common.{◌≡◌, ◌∙◌, ap, sym, subst, suc, ◌-◌, Option, Some, None, option_map, refl, arith}
-use Rattle.std.proofs.lemmas.Option.{same_Some, none-some}
+use Rattle.std.proofs.Common.{◌≡◌, ◌∙◌, ap, sym, subst, suc, ◌-◌, Option, Some, option_map, refl, arith}
+use Rattle.std.proofs.lemmas.Option.{same_Some}
 use Rattle.script_nodes.specs.Views.{named_of}
 use Rattle.machine_spec.specs.Machine.{Suspended}
 use Rattle.stored_states.specs.declared.frame.Suspended as stored
@@ -20,10 +20,6 @@ use Rattle.instance_book.proofs.origins.+front_of.Goals as goal
 found : (o : Option stored.Suspended) (e : stored.Suspended) (d : Suspended) → o ≡ Some e → option_map suspended_of o ≡ Some d → d ≡ suspended_of e
 found o e d is back = sym (same_Some (suspended_of e) d (ap (λ (x : Option stored.Suspended). option_map suspended_of x) (sym is) ∙ back))
 
--- and something is found
-not_found : (o : Option stored.Suspended) (d : Suspended) → o ≡ None → option_map suspended_of o ≡ Some d → ⊥
-not_found o d is back = none-some d (ap (λ (x : Option stored.Suspended). option_map suspended_of x) (sym is) ∙ back)
-
 module _ (n : Need) (p d : Suspended) (o : Option Found) where
   -- behind a parent's state the front itself is found
   front_found : (e : stored.Suspended) → o ≡ Some (kept.Front e) → Makes n p d o → front n d ≡ suspended_of e
@@ -36,26 +32,8 @@ module _ (n : Need) (p d : Suspended) (o : Option Found) where
       let whole : joined (front (shared_need (delta_of x)) p) (delta_of x) ≡ front n d = subst (λ (y : Option Found). Makes n p d y) is makes in
       sym whole ∙ ap (λ (r : Suspended). joined r (delta_of x)) (ap (λ (m : Need). front m p) (sym need) ∙ read) ∙ sym join
 
-  -- and something is found
-  something_found : o ≡ None → Makes n p d o → ⊥
-  something_found is makes = subst (λ (x : Option Found). Makes n p d x) is makes
-
-pub unreachable-requires : goal.unreachable-requires
-unreachable-requires t c =
-    let law = c.each_page_has_one_state.ensures in
-    let s = named_of c.args.script.now in
-    let a = c.args.script.now.script in
-    let script = c.root-root.ensures.script in
-    let same = arena_again a script in
-    let ps = c.args.pages.now in
-    let p = c.args.page.now in
-    let none : p.item.state.links ≡ 0 = c.requires.links ∙ c.if-links-eq0.true in
-    let are = c.requires.states in
-    not_found c.in_ok-front.field-0 (front c.args.need are.own.state) c.in-None.is
-    (c.in_ok-front.ensures are.own.state (is_of_script law s a script same ps p are) (is_alone law s a script same ps p are none))
-
 pub returns-then-links-eq0 : goal.returns-then-links-eq0
-returns-then-links-eq0 t c =
+returns-then-links-eq0 t c links =
     let law = c.each_page_has_one_state.ensures in
     let s = named_of c.args.script.now in
     let a = c.args.script.now.script in
@@ -63,56 +41,15 @@ returns-then-links-eq0 t c =
     let same = arena_again a script in
     let ps = c.args.pages.now in
     let p = c.args.page.now in
-    let none : p.item.state.links ≡ 0 = c.requires.links ∙ c.if-links-eq0.true in
+    let none : p.item.state.links ≡ 0 = links ∙ c.if-links-eq0.true in
     λ are. found c.in_ok-front.field-0 c.in-Some.front (front c.args.need are.own.state) c.in-Some.is
     (c.in_ok-front.ensures are.own.state (is_of_script law s a script same ps p are) (is_alone law s a script same ps p are none))
 
 pub front_of-requires : goal.front_of-requires
-front_of-requires t c =
-    let law = c.each_page_has_one_state.ensures in
-    let s = named_of c.args.script.now in
-    let a = c.args.script.now.script in
-    let script = c.root-root.ensures.script in
-    let same = arena_again a script in
-    let ps = c.args.pages.now in
-    let p = c.args.page.now in
-    let n = c.args.links - 1 in
-    let more : p.item.state.links ≡ suc n = omega (arith, c.requires.links, c.if-links-eq0.false) in
-    let number = c.in-Some-parent.parent in
-    let is = c.in-Some-parent.is in
-    let x = c.in-Some-page.before.now in
-    let page = c.in-Some-page.ensures.page in
-    let shown = c.in-Some-page.ensures.shown in
-    let are = c.requires.states in (
-      omega (arith, c.decreases, c.if-links-eq0.false),
-      (links_before law s a script same ps p n more x number is page shown are, parent_has law s a script same ps p n more x number is page shown are),
-    )
-
-pub unreachable-requires-in-None-2 : goal.unreachable-requires-in-None-2
-unreachable-requires-in-None-2 t c =
-    let law = c.each_page_has_one_state.ensures in
-    let s = named_of c.args.script.now in
-    let a = c.args.script.now.script in
-    let script = c.root-root.ensures.script in
-    let same = arena_again a script in
-    let ps = c.args.pages.now in
-    let p = c.args.page.now in
-    let n = c.args.links - 1 in
-    let more : p.item.state.links ≡ suc n = omega (arith, c.requires.links, c.if-links-eq0.false) in
-    let number = c.in-Some-parent.parent in
-    let is = c.in-Some-parent.is in
-    let x = c.in-Some-page.before.now in
-    let page = c.in-Some-page.ensures.page in
-    let shown = c.in-Some-page.ensures.shown in
-    let are = c.requires.states in
-    let has = parent_has law s a script same ps p n more x number is page shown are in
-    let before = has.own.state in
-    let makes = c.in_ok-front-2.ensures before are.own.state (rises a before (is_of_script law s a script same ps x has))
-    (is_of_script law s a script same ps p are) (is_behind law s a script same ps p n more x number is page shown are before refl) in
-    something_found c.args.need before are.own.state c.in_ok-front-2.field-0 c.in-None-2.is makes
+front_of-requires t c = omega (arith, c.decreases, c.if-links-eq0.false)
 
 pub returns-in-Some-Front : goal.returns-in-Some-Front
-returns-in-Some-Front t c =
+returns-in-Some-Front t c links =
     let law = c.each_page_has_one_state.ensures in
     let s = named_of c.args.script.now in
     let a = c.args.script.now.script in
@@ -121,7 +58,7 @@ returns-in-Some-Front t c =
     let ps = c.args.pages.now in
     let p = c.args.page.now in
     let n = c.args.links - 1 in
-    let more : p.item.state.links ≡ suc n = omega (arith, c.requires.links, c.if-links-eq0.false) in
+    let more : p.item.state.links ≡ suc n = omega (arith, links, c.if-links-eq0.false) in
     let number = c.in-Some-parent.parent in
     let is = c.in-Some-parent.is in
     let x = c.in-Some-page.before.now in
@@ -136,7 +73,7 @@ returns-in-Some-Front t c =
     front_found c.args.need before are.own.state c.in_ok-front-2.field-0 c.in-Some-Front.front some makes
 
 pub returns-in_ok-join-in-Some-Difference : goal.returns-in_ok-join-in-Some-Difference
-returns-in_ok-join-in-Some-Difference t c =
+returns-in_ok-join-in-Some-Difference t c links =
     let law = c.each_page_has_one_state.ensures in
     let s = named_of c.args.script.now in
     let a = c.args.script.now.script in
@@ -145,7 +82,7 @@ returns-in_ok-join-in-Some-Difference t c =
     let ps = c.args.pages.now in
     let p = c.args.page.now in
     let n = c.args.links - 1 in
-    let more : p.item.state.links ≡ suc n = omega (arith, c.requires.links, c.if-links-eq0.false) in
+    let more : p.item.state.links ≡ suc n = omega (arith, links, c.if-links-eq0.false) in
     let number = c.in-Some-parent.parent in
     let is = c.in-Some-parent.is in
     let x = c.in-Some-page.before.now in
@@ -159,5 +96,6 @@ returns-in_ok-join-in-Some-Difference t c =
     let before = has.own.state in
     let makes = c.in_ok-front-2.ensures before are.own.state (rises a before (is_of_script law s a script same ps x has))
     (is_of_script law s a script same ps p are) (is_behind law s a script same ps p n more x number is page shown are before refl) in
+    let mine = links_before law s a script same ps p n more x number is page shown are in
     difference_found c.args.need before are.own.state c.in_ok-front-2.field-0 c.in-Some-Difference.own c.shared.result shared joined some c.shared.ensures
-    (c.in_ok-shared-in-Some-Difference.ensures has) c.in_ok-join-in-Some-Difference.ensures makes
+    (c.in_ok-shared-in-Some-Difference.ensures mine has) c.in_ok-join-in-Some-Difference.ensures makes

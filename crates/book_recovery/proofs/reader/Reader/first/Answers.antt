@@ -19,4 +19,7 @@ returns-then-begins-clause-gives c m is =
 pub returns-then-begins-clause-kept : goal.returns-then-begins-clause-kept
 returns-then-begins-clause-kept c none =
     let scripts = scripts_of c.args.self.now.setup.now in
-    first_kept scripts c.args.self.now.shelf c.empty.result c.empty.ensures.book (c.empty.ensures.states scripts) c.args.self.now.seen none
+    first_kept scripts c.args.self.now.shelf c.empty.result c.empty.ensures.book (c.empty.ensures.placed scripts) c.args.self.now.seen none
+
+pub returns-then-begins-clause-owns : goal.returns-then-begins-clause-owns
+returns-then-begins-clause-owns c = c.empty.ensures.states (scripts_of c.args.self.now.setup.now)

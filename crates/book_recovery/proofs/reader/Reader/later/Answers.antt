@@ -1,28 +1,43 @@
-use Rattle.std.proofs.Common.{◌≡◌, ◌∙◌, ◌<◌, ◌^◌, sym, Some, true, length, arith, rules}
+use Rattle.std.proofs.Common.{◌≡◌, ◌∙◌, sym, subst, Option, Some, IfSome, true, length, rules}
 use Rattle.script_nodes.specs.Views.{scripts_of}
+use Rattle.instance_book.specs.declared.book.Book.{Book}
+use Rattle.instance_book.specs.Makes.{HasPlaces, HasItsStates}
+use Rattle.instance_book.specs.Told.{book_beside}
 use Rattle.journal_records.specs.Views.{logged_of}
 use Rattle.journal_records.specs.Reading.{read_record}
-use Rattle.journal_records.specs.Laws.{IsBodyOf}
-use Rattle.book_recovery.specs.Reading.{is_later}
+use Rattle.journal_books.specs.Owning.{IsOwnRecord}
+use Rattle.book_recovery.specs.Reading.{is_later, IsRedoneBy}
 use Rattle.book_recovery.proofs.Made.{later_made, later_kept}
 use Rattle.book_recovery.proofs.reader.Reader.later.Goals as goal
 
-pub returns-in-Ok-clause-gives : goal.returns-in-Ok-clause-gives
-returns-in-Ok-clause-gives c m is =
+pub returns-in-Ok-Some-redo-clause-gives : goal.returns-in-Ok-Some-redo-clause-gives
+returns-in-Ok-Some-redo-clause-gives c m is =
     let w = c.in-Ok-Some in
+    let v = c.in-Ok-Some-redo in
     let scripts = scripts_of c.args.self.now.setup.now in
     let r = logged_of w.logged in
     let read : read_record c.args.body.now ≡ Some r = sym (search (rules, w.ensures.read, w.field-0-is, w.logged-is)) in
-    let spelled : IsBodyOf c.args.body.now r = search (rules, w.ensures.spelled, w.field-0-is, w.logged-is) in
     let later : is_later (length scripts) r ≡ true = sym c.is_later.ensures ∙ c.if-not-is_later.false in
-    let small : length c.args.body.now < 2 ^ 63 = let room = c.requires.room in omega (arith, room) in
-    later_made c.records_are_exact.ensures scripts c.args.self.now.shelf c.args.place c.args.body.now r read spelled later small c.args.self.now.seen c.redo.new.self.seen c.args.book c.in-Ok.book
-    c.in-Ok.ensures.made c.in-Ok.ensures.sees m is
+    later_made scripts c.args.self.now.shelf c.args.place c.args.body.now r read later c.args.self.now.seen c.redo.new.self.seen c.args.book v.book
+    (subst (λ (o : Option Book). IsRedoneBy scripts c.args.self.now.seen r c.args.book o) v.field-0-is v.ensures.made) v.ensures.sees m is
 
-pub returns-in-Ok-clause-kept : goal.returns-in-Ok-clause-kept
-returns-in-Ok-clause-kept c =
+pub returns-in-Ok-Some-redo-clause-kept : goal.returns-in-Ok-Some-redo-clause-kept
+returns-in-Ok-Some-redo-clause-kept c =
     let w = c.in-Ok-Some in
+    let v = c.in-Ok-Some-redo in
     let scripts = scripts_of c.args.self.now.setup.now in
     let r = logged_of w.logged in
     let later : is_later (length scripts) r ≡ true = sym c.is_later.ensures ∙ c.if-not-is_later.false in
-    later_kept scripts c.args.self.now.shelf r later c.args.self.now.seen c.redo.new.self.seen c.args.book c.in-Ok.book c.requires.kept c.in-Ok.ensures.made c.in-Ok.ensures.sees c.in-Ok.ensures.states
+    later_kept scripts c.args.self.now.shelf r later c.args.self.now.seen c.redo.new.self.seen c.args.book v.book c.requires.kept
+    (subst (λ (o : Option Book). IsRedoneBy scripts c.args.self.now.seen r c.args.book o) v.field-0-is v.ensures.made) v.ensures.sees
+    (subst (λ (o : Option Book). IfSome o (HasPlaces scripts)) v.field-0-is v.ensures.placed)
+
+pub returns-in-Ok-Some-redo-clause-owns : goal.returns-in-Ok-Some-redo-clause-owns
+returns-in-Ok-Some-redo-clause-owns c own states =
+    let w = c.in-Ok-Some in
+    let v = c.in-Ok-Some-redo in
+    let scripts = scripts_of c.args.self.now.setup.now in
+    let r = logged_of w.logged in
+    let read : read_record c.args.body.now ≡ Some r = sym (search (rules, w.ensures.read, w.field-0-is, w.logged-is)) in
+    let later : is_later (length scripts) r ≡ true = sym c.is_later.ensures ∙ c.if-not-is_later.false in
+    subst (λ (o : Option Book). IfSome o (HasItsStates scripts)) v.field-0-is (v.ensures.states later (subst (IsOwnRecord (book_beside scripts 0 c.args.book)) read own) states)

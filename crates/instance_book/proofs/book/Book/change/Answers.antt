@@ -1,4 +1,4 @@
-use Rattle.std.proofs.Common.{◌≡◌, ◌∙◌, ap, sym, List, [], length, map, arith, not, ◌==◌}
+use Rattle.std.proofs.Common.{◌≡◌, ◌∙◌, ◌<◌, ap, sym, subst, ℕ, List, [], length, map, arith, not, ◌==◌}
 use Rattle.replay_spec.specs.Book.{Instance}
 use Rattle.replay_spec.specs.Change.{put_instance, mend, without}
 use Rattle.instance_book.specs.Views.{instance_of, instances_of}
@@ -50,6 +50,21 @@ returns-in-Opens-clause-states c scripts kept all =
     let own : OpensKept scripts c.args.self.now.shelf o = rw (c.in-Some.is, c.in-Opens.is) at kept in
     c.put_instance.ensures.states scripts c.args.self.now.shelf
     (kept_first scripts c.args.self.now.shelf o c.begin.result own c.begin.ensures.number c.begin.ensures.script c.begin.ensures.pages c.begin.ensures.shown) all
+
+pub returns-in-Opens-clause-placed : goal.returns-in-Opens-clause-placed
+returns-in-Opens-clause-placed c scripts placed all =
+    let o = c.in-Opens.opening in
+    let own : o.instance.script < length scripts = rw (c.in-Some.is, c.in-Opens.is) at placed in
+    c.put_instance.ensures.placed scripts (subst (λ (k : ℕ). k < length scripts) (sym c.begin.ensures.script) own) all
+
+pub returns-in-Extends-clause-placed : goal.returns-in-Extends-clause-placed
+returns-in-Extends-clause-placed c scripts placed all = c.show.ensures.placed scripts all
+
+pub returns-in-Ends-clause-placed : goal.returns-in-Ends-clause-placed
+returns-in-Ends-clause-placed c scripts placed all = c.end.ensures.placed scripts all
+
+pub returns-in-Finishes-clause-placed : goal.returns-in-Finishes-clause-placed
+returns-in-Finishes-clause-placed c scripts placed all = c.free.ensures.placed scripts all
 
 pub returns-in-Extends-clause-states : goal.returns-in-Extends-clause-states
 returns-in-Extends-clause-states c scripts kept all =

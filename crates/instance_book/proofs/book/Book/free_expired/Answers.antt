@@ -22,3 +22,6 @@ overflow_sub-result c =
 
 pub returns-clause-states : goal.returns-clause-states
 returns-clause-states c scripts all = c.keep_live.ensures.states scripts c.args.self.now.shelf all
+
+pub returns-clause-placed : goal.returns-clause-placed
+returns-clause-placed c scripts all = c.keep_live.ensures.placed scripts all

@@ -40,6 +40,9 @@ returns-clause-lands c scripts length i found =
     extension_landed scripts t c.args.instance c.args.answered p b (book_beside scripts length c.change.new.self) (book_beside scripts length c.pass_over.new.self) show i found shows changed
     (c.pass_over.ensures.book scripts length None)
 
+pub returns-clause-placed : goal.returns-clause-placed
+returns-clause-placed c scripts all = c.pass_over.ensures.placed scripts (c.change.ensures.placed scripts tt (c.make_room_in.ensures.placed scripts all))
+
 pub returns-clause-states : goal.returns-clause-states
 returns-clause-states c scripts own all =
     let t = c.args.ticket.now in
@@ -49,15 +52,16 @@ returns-clause-states c scripts own all =
     let b = book_beside scripts 0 c.args.self.now in
     let goes : GoesOnBy t c.args.answered p.kind p.effects.items p.inside.items p.left.items p.deadline kept.item show =
     rw (c.deref.ensures.value, c.deref-2.ensures.value) at c.in_ok-show.ensures.instance in
-    let x : Extension = record { instance = c.args.instance; answered = c.args.answered; answer = c.in_ok-answer.answer; effects = p.effects; left = p.left; kind = p.kind; show = show } in
+    let x : Extension = record { instance = c.args.instance; answered = c.args.answered; answer = c.in_ok-answer.answer; effects = p.effects; left = p.left; kind = p.kind; state = p.state; show = show } in
     let deadline : show.page.item.deadline ≡ p.deadline = ap (λ (q : spec.Page). q.deadline) goes.page in
     let made : ExtendsAs t c.args.instance c.args.answered (effects_in p) p.inside.items (suspended_of p.state) x = record {
       instance = refl;
       page = goes.page ∙ ap (λ (d : ℕ). next_page t c.args.answered (effects_in p) p.inside.items d) (sym deadline);
       state = c.in_ok-show.ensures.state;
+      told = refl;
     } in
     let next : IsNextAt b.shelf b.instances c.args.instance show.page =
-    next_kept scripts b t own.at c.args.instance c.args.answered (effects_in p) p.inside.items (suspended_of p.state) x own.lineage own.unused own.here own.shown made own.state own.fits in
+    next_kept scripts b t own.at c.args.instance c.args.answered (effects_in p) p.inside.items (suspended_of p.state) x own.lineage own.unused own.here own.shown made own.state own.bytes own.fits in
     let moved : IsNextAt b.shelf (instances_of scripts c.make_room_in.new.self) c.args.instance show.page =
     subst (λ (is : List Instance). IsNextAt b.shelf is c.args.instance show.page) (sym (c.make_room_in.ensures.instances scripts)) next in
     c.pass_over.ensures.states scripts (c.change.ensures.states scripts moved (c.make_room_in.ensures.states scripts c.args.self.now.shelf all))

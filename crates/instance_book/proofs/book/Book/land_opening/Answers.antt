@@ -1,4 +1,4 @@
-use Rattle.std.proofs.Common.{◌≡◌, ◌∙◌, ap, sym, subst, None, ℕ, refl}
+use Rattle.std.proofs.Common.{◌≡◌, ◌∙◌, ◌<◌, length, ap, sym, subst, None, ℕ, refl}
 use Rattle.replay_spec.specs.Book as spec
 use Rattle.stored_states.specs.Views.{suspended_of}
 use Rattle.instance_book.specs.Changes.{changed_by, OpensKept}
@@ -18,6 +18,11 @@ returns-clause-lands c scripts length named found cells =
     opening_landed scripts c.args.ticket.now c.args.page b (book_beside scripts length c.change.new.self) (book_beside scripts length c.pass_over.new.self) o named refl found cells
     c.in_ok-opening.ensures.opens changed (c.pass_over.ensures.book scripts length None)
 
+pub returns-clause-placed : goal.returns-clause-placed
+returns-clause-placed c scripts place all =
+    let own = subst (λ (k : ℕ). k < length scripts) (sym c.in_ok-opening.ensures.opens.kept.script) place in
+    c.pass_over.ensures.placed scripts (c.change.ensures.placed scripts own (c.in_ok-opening.ensures.placed scripts all))
+
 pub returns-clause-states : goal.returns-clause-states
 returns-clause-states c scripts own all =
     let t = c.args.ticket.now in
@@ -25,6 +30,6 @@ returns-clause-states c scripts own all =
     let o = c.in_ok-opening.opening in
     let b = book_beside scripts 0 c.args.self.now in
     let kept : OpensKept scripts b.shelf o =
-    first_kept scripts b t t.script own.0 (effects_in p) p.inside.items (suspended_of p.state) o own.1.0 c.in_ok-opening.ensures.opens.kept own.1.1 in
+    first_kept scripts b t t.script own.0 (effects_in p) p.inside.items (suspended_of p.state) o own.1.0 c.in_ok-opening.ensures.opens.kept own.1.2 own.1.1 in
     let same : b.shelf ≡ c.opened.new.self.shelf = sym (ap (λ (x : spec.Book). x.shelf) (c.in_ok-opening.ensures.book scripts 0 None)) in
     c.pass_over.ensures.states scripts (c.change.ensures.states scripts (subst (λ (n : ℕ). OpensKept scripts n o) same kept) (c.in_ok-opening.ensures.states scripts all))

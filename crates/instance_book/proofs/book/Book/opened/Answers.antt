@@ -18,7 +18,7 @@ returns-clause-opens c =
     let reads = rw c.deref.ensures.value at c.in_ok-reads.ensures in
     let first : Numbered KeptPage = record {
       number = t.number;
-      item = record { nonce = t.nonce; parent = None; answer = c.in_ok-answer.answer; reads = c.in_ok-reads.reads; inside = p.inside; deadline = p.deadline; state = c.in_ok-state.state };
+      item = record { nonce = t.nonce; parent = None; answer = c.in_ok-answer.answer; reads = c.in_ok-reads.reads; inside = p.inside; deadline = p.deadline; state = c.in_ok-kept.kept };
     } in
     let page : page_of first ≡ first_page t effects p.inside.items p.deadline = rw (reads, c.in_ok-answer.ensures) refl in
     record {
@@ -32,6 +32,7 @@ returns-clause-opens c =
         pages = c.in_ok-instance.ensures.pages;
         shown = c.in_ok-instance.ensures.shown;
         page = page;
-        state = c.in_ok-state.ensures;
+        state = c.in_ok-kept.ensures;
+        told = refl;
       };
     }

@@ -4,7 +4,7 @@ use Rattle.page_names.specs.declared.names.Target.{Target}
 use Rattle.stored_states.specs.Views.{segment_of}
 use Rattle.replay_spec.specs.Admission.{admit}
 use Rattle.instance_book.specs.Views.{book_of}
-use Rattle.instance_book.specs.Prepares.{KeepsStateOf}
+use Rattle.instance_book.specs.Prepares.{KeepsStateOf, IsOfSegment}
 use Rattle.instance_book.proofs.Admitted.{start_prepared, page_prepared}
 use Rattle.instance_book.proofs.book.Book.prepare.Goals as goal
 
@@ -31,3 +31,13 @@ returns-in-Start-clause-state c =
 pub returns-in-Page-clause-state : goal.returns-in-Page-clause-state
 returns-in-Page-clause-state c =
     subst (λ (x : Target). IfOk c.prepare_page.result (λ p. KeepsStateOf c.args.ticket.now c.args.segment (target_of x) p.change)) (sym c.in-Page.is) c.prepare_page.ensures.state
+
+pub returns-in-Start-clause-itself : goal.returns-in-Start-clause-itself
+returns-in-Start-clause-itself c =
+    subst (λ (x : Target). IfOk c.prepare_start.result (IsOfSegment c.args.self.now c.args.ticket.now (segment_of c.args.segment) (target_of x))) (sym c.in-Start.is)
+    (c.prepare_start.ensures.itself (name_of c.in-Start.field-0))
+
+pub returns-in-Page-clause-itself : goal.returns-in-Page-clause-itself
+returns-in-Page-clause-itself c =
+    subst (λ (x : Target). IfOk c.prepare_page.result (IsOfSegment c.args.self.now c.args.ticket.now (segment_of c.args.segment) (target_of x))) (sym c.in-Page.is)
+    (c.prepare_page.ensures.itself (name_of c.in-Page.field-0))

@@ -10,6 +10,7 @@ use Rattle.instance_book.specs.Prepares.{next_page, IsExtension, IsEnding, IsFin
 use Rattle.replay_spec.proofs.Numbered.{number_of}
 use Rattle.instance_book.proofs.Seen.{instance_some, instance_none, length_seen}
 use Rattle.instance_book.proofs.Lands.{page_full, extended, ending_lands, finish_lands, ending_room, ending_shows_none, finish_shows_none, page_shown, room_made, under}
+use Rattle.instance_book.proofs.Itself.{ends_itself, extended_itself, finishes_itself}
 use Rattle.instance_book.proofs.book.Book.prepare_page.Goals as goal
 
 pub returns-in_default-clause-decided : goal.returns-in_default-clause-decided
@@ -98,3 +99,22 @@ returns-in-Ok-clause-state c = inl (ending_shows_none c.in-Ok.prepared.change _ 
 
 pub returns-in-Ok-finish-clause-state : goal.returns-in-Ok-finish-clause-state
 returns-in-Ok-finish-clause-state c = inl (finish_shows_none _ c.in-Ok-finish.prepared.change _ _ _ c.in-Ok-finish.ensures.decision)
+
+pub returns-in-Shown-clause-itself : goal.returns-in-Shown-clause-itself
+returns-in-Shown-clause-itself c name =
+    let n = c.args.page.now in
+    let x = c.in-Some.instance.now in
+    extended_itself c.args.self.now c.args.ticket.now (segment_of c.args.segment) name n (λ scripts. instance_of scripts x)
+    (λ scripts. instance_some scripts n.instance c.args.self.now.instances.things.items x (sym c.in-Some.ensures))
+    c.in-Shown.bytes c.in-Shown.kind c.deadline-deadline.result c.extension-made.result c.with_room.result c.extension-made.ensures.shows c.with_room.ensures.made
+
+pub returns-in-Ok-clause-itself : goal.returns-in-Ok-clause-itself
+returns-in-Ok-clause-itself c name =
+    let n = c.args.page.now in
+    let x = c.in-Some.instance.now in
+    ends_itself c.args.self.now c.args.ticket.now (segment_of c.args.segment) name n (λ scripts. instance_of scripts x)
+    (λ scripts. instance_some scripts n.instance c.args.self.now.instances.things.items x (sym c.in-Some.ensures)) c.in-Ended.bytes c.in-Ok.prepared c.in-Ok.ensures
+
+pub returns-in-Ok-finish-clause-itself : goal.returns-in-Ok-finish-clause-itself
+returns-in-Ok-finish-clause-itself c name =
+    finishes_itself c.args.self.now c.args.ticket.now (segment_of c.args.segment) name c.args.page.now c.in-Finished.bytes c.in-Ok-finish.prepared c.in-Ok-finish.ensures

@@ -4,6 +4,7 @@ use Rattle.stored_states.specs.Views.{outcome_of, segment_of, state_of, suspende
 use Rattle.instance_book.specs.Views.{book_of, instance_of}
 use Rattle.instance_book.proofs.Seen.{length_seen}
 use Rattle.instance_book.proofs.Lands.{opening_lands}
+use Rattle.instance_book.proofs.Itself.{opens_itself}
 use Rattle.instance_book.proofs.book.Book.prepare_start.Goals as goal
 
 pub returns-in-Ok-clause-decided : goal.returns-in-Ok-clause-decided
@@ -16,3 +17,7 @@ returns-in-Ok-clause-decided c scripts journal down fuel pages k named fits =
 
 pub returns-in-Ok-clause-state : goal.returns-in-Ok-clause-state
 returns-in-Ok-clause-state c = inr (suspended_of c.in-Shown.state, (ap state_of c.in-Shown.is, c.in-Ok.ensures.state))
+
+pub returns-in-Ok-clause-itself : goal.returns-in-Ok-clause-itself
+returns-in-Ok-clause-itself c name =
+    opens_itself c.args.self.now c.args.ticket.now (segment_of c.args.segment) name c.in-Shown.page c.in-Shown.kind _ c.in-Ok.prepared c.in-Ok.ensures.opens

@@ -24,5 +24,8 @@ returns-clause-redone c scripts length =
     (book_beside scripts length c.change.new.self) c.in_ok-after.after (instance_of scripts i)
     (there.so scripts length) (there.here scripts) left_by (c.change.ensures.book scripts length None) (c.pass_over-2.ensures.book scripts length None)
 
+pub returns-clause-placed : goal.returns-clause-placed
+returns-clause-placed c scripts all = c.pass_over-2.ensures.placed scripts (c.change.ensures.placed scripts tt all)
+
 pub returns-clause-states : goal.returns-clause-states
 returns-clause-states c scripts all = c.pass_over-2.ensures.states scripts (c.change.ensures.states scripts tt all)

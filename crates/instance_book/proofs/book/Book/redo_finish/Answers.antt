@@ -20,5 +20,8 @@ returns-clause-redone c scripts length =
     finish_redone c.args.number c.args.instance c.args.page c.args.answer (map effect_of c.args.effects.items) [] b (book_beside scripts length c.pass_over-2.new.self) (book_beside scripts length c.change.new.self)
     (there.so scripts length) (c.change.ensures.book scripts length None) (c.pass_over-2.ensures.book scripts length None)
 
+pub returns-clause-placed : goal.returns-clause-placed
+returns-clause-placed c scripts all = c.pass_over-2.ensures.placed scripts (c.change.ensures.placed scripts tt all)
+
 pub returns-clause-states : goal.returns-clause-states
 returns-clause-states c scripts all = c.pass_over-2.ensures.states scripts (c.change.ensures.states scripts tt all)

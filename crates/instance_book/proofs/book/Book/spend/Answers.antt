@@ -24,3 +24,6 @@ returns-clause-book c scripts journal down =
 
 pub returns-clause-states : goal.returns-clause-states
 returns-clause-states c scripts all = all
+
+pub returns-clause-placed : goal.returns-clause-placed
+returns-clause-placed c scripts all = all

@@ -16,3 +16,6 @@ invariant_of-result c =
 
 pub returns-clause-states : goal.returns-clause-states
 returns-clause-states c scripts all = c.in_ok-instances.ensures.states scripts c.args.self.now.shelf all
+
+pub returns-clause-placed : goal.returns-clause-placed
+returns-clause-placed c scripts all = c.in_ok-instances.ensures.placed scripts all

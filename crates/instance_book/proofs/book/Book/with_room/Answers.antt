@@ -12,3 +12,9 @@ returns-in-Ok-make_room_in-clause-states c scripts all = c.make_room_in.ensures.
 
 pub returns-in-Err-make_room_in-clause-states : goal.returns-in-Err-make_room_in-clause-states
 returns-in-Err-make_room_in-clause-states c scripts all = c.make_room_in.ensures.states scripts c.args.self.now.shelf all
+
+pub returns-in-Ok-make_room_in-clause-placed : goal.returns-in-Ok-make_room_in-clause-placed
+returns-in-Ok-make_room_in-clause-placed c scripts all = c.make_room_in.ensures.placed scripts all
+
+pub returns-in-Err-make_room_in-clause-placed : goal.returns-in-Err-make_room_in-clause-placed
+returns-in-Err-make_room_in-clause-placed c scripts all = c.make_room_in.ensures.placed scripts all

@@ -4,8 +4,8 @@ use Rattle.instance_book.specs.declared.numbered.Numbered.{Numbered}
 use Rattle.instance_book.specs.declared.instance.KeptInstance.{KeptInstance}
 use Rattle.instance_book.proofs.Lists.{taken}
 use Rattle.instance_book.proofs.Seen.{rises_with_instances, copied_more, all_alike}
-use Rattle.instance_book.proofs.States.{kept_of, kept_as, same_kept}
-use Rattle.instance_book.specs.Places.{IsKept}
+use Rattle.instance_book.proofs.States.{kept_of, kept_as, placed_as, same_kept}
+use Rattle.instance_book.specs.Places.{IsPlaced, IsKept}
 use Rattle.instance_book.proofs.copies.InOrder+KeptInstance.try_clone.Goals as goal
 
 pub invariant_of-result : goal.invariant_of-result
@@ -36,3 +36,10 @@ returns-clause-states c scripts shelf all =
     let end : length xs ≤ c.loop-instance.instance-index = subst (λ (is : List (Numbered KeptInstance)). length is ≤ c.loop-instance.instance-index) c.deref-instance-items.ensures.value c.loop-instance-test.false in
     let same : map kept_of c.loop-instance.things.items ≡ map kept_of xs = c.loop-instance.invariant.kept ∙ ap (map kept_of) (taken xs c.loop-instance.instance-index end) in
     all_alike (IsKept scripts shelf) kept_of (kept_as scripts shelf) c.loop-instance.things.items xs same all
+
+pub returns-clause-placed : goal.returns-clause-placed
+returns-clause-placed c scripts all =
+    let xs = c.args.self.now.things.items in
+    let end : length xs ≤ c.loop-instance.instance-index = subst (λ (is : List (Numbered KeptInstance)). length is ≤ c.loop-instance.instance-index) c.deref-instance-items.ensures.value c.loop-instance-test.false in
+    let same : map kept_of c.loop-instance.things.items ≡ map kept_of xs = c.loop-instance.invariant.kept ∙ ap (map kept_of) (taken xs c.loop-instance.instance-index end) in
+    all_alike (IsPlaced scripts) kept_of (placed_as scripts) c.loop-instance.things.items xs same all

@@ -4,9 +4,9 @@ use Rattle.instance_book.specs.declared.instance.KeptInstance.{KeptInstance}
 use Rattle.instance_book.specs.declared.in_order.InOrder.{InOrder}
 use Rattle.instance_book.specs.declared.page.KeptPage.{KeptPage}
 use Rattle.instance_book.specs.Views.{pages_of}
-use Rattle.instance_book.specs.Places.{shown_in, IsKept}
+use Rattle.instance_book.specs.Places.{shown_in, IsPlaced, IsKept}
 use Rattle.instance_book.specs.Changes.{ended_with}
-use Rattle.instance_book.proofs.States.{kept_alike}
+use Rattle.instance_book.proofs.States.{kept_alike, placed_alike}
 use Rattle.instance_book.proofs.Lists.{within}
 use Rattle.instance_book.proofs.Seen.{rises_set, mended, unmended, all_set}
 use Rattle.instance_book.proofs.instances.InOrder+KeptInstance.end.Goals as goal
@@ -32,3 +32,10 @@ returns-in-Some-clause-states c scripts shelf all =
     let y : Numbered KeptInstance = record { number = x.number; item = c.end.new.self } in
     all_set (IsKept scripts shelf) c.args.self.now.things.items c.in-Some.place x y c.index_mut.ensures.value (within c.args.self.now.things.items c.args.number c.in-Some.place c.in-Some.ensures.found)
     (kept_alike scripts shelf y x refl c.end.ensures.script (ap (λ (ps : InOrder KeptPage). pages_of ps) c.end.ensures.pages) (ap (λ (ps : InOrder KeptPage). shown_in ps) c.end.ensures.pages)) all
+
+pub returns-in-Some-clause-placed : goal.returns-in-Some-clause-placed
+returns-in-Some-clause-placed c scripts all =
+    let x = c.index_mut.result.now in
+    let y : Numbered KeptInstance = record { number = x.number; item = c.end.new.self } in
+    all_set (IsPlaced scripts) c.args.self.now.things.items c.in-Some.place x y c.index_mut.ensures.value (within c.args.self.now.things.items c.args.number c.in-Some.place c.in-Some.ensures.found)
+    (placed_alike scripts y x c.end.ensures.script) all

@@ -6,7 +6,7 @@ use Rattle.instance_book.specs.declared.numbered.Numbered.{Numbered}
 use Rattle.instance_book.specs.declared.instance.KeptInstance.{KeptInstance}
 use Rattle.instance_book.specs.Orders.{Rises, numbers_of}
 use Rattle.instance_book.specs.Views.{instance_of}
-use Rattle.instance_book.specs.Places.{IsKept}
+use Rattle.instance_book.specs.Places.{IsPlaced, IsKept}
 use Rattle.instance_book.proofs.Lists.{rises_kept}
 use Rattle.instance_book.proofs.Seen.{seen_kept, all_kept}
 use Rattle.instance_book.proofs.instances.InOrder+KeptInstance.keep_live.Goals as goal
@@ -25,3 +25,8 @@ pub returns-clause-states : goal.returns-clause-states
 returns-clause-states c scripts shelf all =
     let kept : c.retain.new.self.items ≡ filter (λ i. is_live c.args.tick (instance_of scripts i)) c.args.self.now.things.items = filter_same _ (λ i. is_live c.args.tick (instance_of scripts i)) _ (λ x b q h. (search rules, search rules)) _ _ c.retain.ensures.filtered in
     subst (λ (xs : List (Numbered KeptInstance)). AllByRecursion (IsKept scripts shelf) xs) (sym kept) (all_kept (IsKept scripts shelf) (λ i. is_live c.args.tick (instance_of scripts i)) c.args.self.now.things.items all)
+
+pub returns-clause-placed : goal.returns-clause-placed
+returns-clause-placed c scripts all =
+    let kept : c.retain.new.self.items ≡ filter (λ i. is_live c.args.tick (instance_of scripts i)) c.args.self.now.things.items = filter_same _ (λ i. is_live c.args.tick (instance_of scripts i)) _ (λ x b q h. (search rules, search rules)) _ _ c.retain.ensures.filtered in
+    subst (λ (xs : List (Numbered KeptInstance)). AllByRecursion (IsPlaced scripts) xs) (sym kept) (all_kept (IsPlaced scripts) (λ i. is_live c.args.tick (instance_of scripts i)) c.args.self.now.things.items all)

@@ -4,9 +4,9 @@ use Rattle.instance_book.specs.declared.page.KeptPage.{KeptPage}
 use Rattle.instance_book.specs.declared.instance.KeptInstance.{KeptInstance}
 use Rattle.instance_book.specs.Lists.{HasRoom}
 use Rattle.instance_book.specs.Views.{page_of, instance_of}
-use Rattle.instance_book.specs.Places.{shown_of, IsKept}
+use Rattle.instance_book.specs.Places.{shown_of, IsPlaced, IsKept}
 use Rattle.instance_book.proofs.Lists.{within}
-use Rattle.instance_book.proofs.States.{kept_alike}
+use Rattle.instance_book.proofs.States.{kept_alike, placed_alike}
 use Rattle.instance_book.proofs.Seen.{rises_set, mended, mend_nothing, first_set, all_set}
 use Rattle.instance_book.proofs.instances.InOrder+KeptInstance.make_room_in.Goals as goal
 
@@ -41,3 +41,10 @@ returns-in-Some-clause-states c scripts shelf all =
     let y : Numbered KeptInstance = record { number = x.number; item = record x.item { pages = c.make_room.new.self } } in
     all_set (IsKept scripts shelf) c.args.self.now.things.items c.in-Some.place x y c.index_mut.ensures.value (within c.args.self.now.things.items c.args.number c.in-Some.place c.in-Some.ensures.found)
     (kept_alike scripts shelf y x refl refl (ap (map page_of) c.make_room.ensures.things) (ap (map shown_of) c.make_room.ensures.things)) all
+
+pub returns-in-Some-clause-placed : goal.returns-in-Some-clause-placed
+returns-in-Some-clause-placed c scripts all =
+    let x = c.index_mut.result.now in
+    let y : Numbered KeptInstance = record { number = x.number; item = record x.item { pages = c.make_room.new.self } } in
+    all_set (IsPlaced scripts) c.args.self.now.things.items c.in-Some.place x y c.index_mut.ensures.value (within c.args.self.now.things.items c.args.number c.in-Some.place c.in-Some.ensures.found)
+    (placed_alike scripts y x refl) all

@@ -51,4 +51,5 @@ returns-clause-state c =
       instance = refl;
       page = goes.page ∙ ap (λ (d : ℕ). next_page t c.args.answered (map effect_of c.args.effects.items) c.args.inside.items d) (sym deadline);
       state = c.in_ok-show.ensures.state;
+      told = refl;
     }

@@ -1,9 +1,0 @@
-use Rattle.std.proofs.Common.{◌≡◌, ℕ, ◌<◌, Some, slice_get}
-use Rattle.script_nodes.specs.Setup.{Named}
-use Rattle.script_nodes.specs.Views.{scripts_of}
-use Rattle.replay_spec.specs.Remade.{NamesItsCells}
-use Rattle.book_recovery.proofs.setup_cells.each_names_its_cells.Given as goal
-
-abbrev pub invariant-loop-place : goal.invariant-loop-place
-invariant-loop-place l =
-    (k : ℕ) (s : Named) → k < l.place → slice_get (scripts_of l.setup) k ≡ Some s → NamesItsCells s

@@ -1,0 +1,26 @@
+use Rattle.std.proofs.Common.{◌≡◌, ◌∙◌, ap, sym, ℕ, List}
+use Rattle.std.proofs.lemmas.Option.{get_or_from_slice_get}
+use Rattle.script_value.specs.Views.{meaning}
+use Rattle.script_nodes.specs.Setup.{Named}
+use Rattle.script_nodes.specs.Views.{scripts_of, named_of}
+use Rattle.page_names.specs.Names.{start}
+use Rattle.replay_spec.specs.Next as next
+use Rattle.instance_book.specs.Views.{script_in, no_script}
+use Rattle.instance_book.specs.Admissions.{place_of}
+use Rattle.instance_book.proofs.book.Book.told_answer.Goals as goal
+
+pub returns-clause-again : goal.returns-clause-again
+returns-clause-again c own =
+    let scripts = scripts_of c.args.setup.now in
+    let place = c.in-Some.place in
+    let i = place.instance.now in
+    let named = named_of place.script.now in
+    let its : script_in scripts i.item.script ≡ named = get_or_from_slice_get scripts i.item.script named no_script c.in-Some.ensures.placed in
+    let target_for : List ℕ → next.Ticket = λ name. record { target = start name; answer = meaning c.args.answer; number = c.args.number; nonce = c.args.nonce } in
+    record {
+      at = place_of scripts place;
+      found = sym c.in-Some.ensures.place;
+      ticket = c.in_ok-ticket.ensures.ticket ∙ ap (λ (s : Named). target_for s.name) (sym its);
+      fits = c.in_ok-ticket.ensures.fits (c.in-Some.ensures.states own);
+      cells = c.in_ok-ticket.ensures.cells;
+    }
