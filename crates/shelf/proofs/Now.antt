@@ -1,39 +1,30 @@
 -- The segment of a ticket over the cells of now.
-use Rattle.std.proofs.Common.{◌≡◌, ◌∙◌, ap, sym, subst, ℕ, List, [], ◌∷◌, ◌++◌, length, map, Option, Some, None, IfSome, Result, Ok, Err, IfOk, option_map, slice_get, refl}
+use Rattle.std.proofs.Common.{◌≡◌, ◌∙◌, ap, sym, subst, ℕ, List, [], ◌∷◌, length, map, Option, Some, None, IfSome, Result, Ok, Err, IfOk, option_map, slice_get, refl}
 use Rattle.std.proofs.lemmas.Option.{same_Some}
 use Rattle.script_value.specs.Val.{Val}
-use Rattle.script_value.specs.Views.{meaning}
 use Rattle.script_nodes.specs.Core.{OnCells}
 use Rattle.script_nodes.specs.Arena.{Arena, IsScript, script_of}
-use Rattle.script_nodes.specs.Setup.{Named, Script}
-use Rattle.script_nodes.specs.declared.script.Node.{Node}
+use Rattle.script_nodes.specs.Setup.{Named}
 use Rattle.page_names.specs.Names.{start, page}
 use Rattle.page_names.specs.declared.names.PageName.{PageName}
-use Rattle.instance_cells.specs.Cells.{Holds, AreOn, reads_of}
-use Rattle.instance_cells.specs.Views.{effect_of}
-use Rattle.replay_spec.specs.Tape.{Reads, recorded, present, Answer, Tape}
+use Rattle.instance_cells.specs.Cells.{Holds, AreOn}
+use Rattle.replay_spec.specs.Tape.{Reads, recorded, present}
 use Rattle.replay_spec.specs.Eval as eval
 use Rattle.replay_spec.specs.Eval.{run}
 use Rattle.replay_spec.specs.Book.{Page, Instance, Book}
 use Rattle.replay_spec.specs.Admission.{Place, Admission, begins, resumes, refused, refusal_of, admit}
 use Rattle.replay_spec.specs.Next.{Home, Visit, home_of, answered, tape_of, tape_for, page_tape, comes_to, start_visit, page_visit}
 use Rattle.replay_spec.specs.Next as next
-use Rattle.replay_spec.specs.Laws.{ArePast, EffectsHoldRunSame, EffectsAreOnCells, longer}
+use Rattle.replay_spec.specs.Laws.{ArePast, EffectsHoldRunSame, EffectsAreOnCells}
+use Rattle.replay_spec.specs.Remade.{EffectsHold}
 use Rattle.replay_spec.proofs.Admitted.{page_stands, start_is_no_page, page_is_no_start}
-use Rattle.machine_spec.specs.Machine.{Suspended}
-use Rattle.machine_spec.specs.Laws.{IsStateOf}
-use Rattle.machine_spec.specs.Fits.{EachStateFits}
-use Rattle.stored_states.specs.Views.{suspended_of, origin_of, Keeps, segment_of}
-use Rattle.stored_states.specs.declared.segment.Origin.{Origin}
-use Rattle.stored_states.specs.declared.segment.Origin.TheVariants as origin
+use Rattle.stored_states.specs.Views.{segment_of}
 use Rattle.stored_states.specs.declared.segment.Segment.{Segment}
-use Rattle.send_suspend.specs.Segments.{newest, FitsFrom, IsLastOver, Replays}
 use Rattle.instance_book.specs.declared.ticket.Ticket.{Ticket}
 use Rattle.instance_book.specs.Views.{ticket_of}
 use Rattle.instance_book.specs.Swept.{cells_in}
-use Rattle.instance_book.specs.Places.{arena_of}
-use Rattle.instance_book.specs.Fits.{GoesOnFrom, IsFor, FitsAs}
-use Rattle.instance_book.specs.Laws.{KeepsStateOver, KeepsStateAs}
+use Rattle.instance_book.specs.Fits.{IsFor, FitsAs}
+use Rattle.instance_book.specs.Laws.{KeepsStateAs}
 use Rattle.ticket_runs.specs.Runs.{IsRunOver}
 use Rattle.ticket_runs.proofs.Replayed.{IsLike, run_like}
 use Rattle.shelf.specs.Views.{IsSegmentOf, HaveTheirCells}
@@ -48,6 +39,10 @@ same_run : EffectsHoldRunSame → (v : Visit) (fuel : ℕ) (before now : List Va
     → comes_to v (present now fuel) ≡ comes_to v (present before fuel)
 same_run law v fuel before now holds =
     law v.script.script (map (answered (home_of v)) v.pages) (next.newest v (recorded [])) (are_past (home_of v) v.pages) fuel before now holds
+
+-- a run's effects hold over the cells that it ran over
+run_holds : EffectsHold → (v : Visit) (fuel : ℕ) (over : List Val) → Holds (comes_to v (present over fuel)).effects over
+run_holds law v fuel over = law v.script.script (map (answered (home_of v)) v.pages) (next.newest v (recorded [])) (are_past (home_of v) v.pages) fuel over
 
 -- a run's effects are on the cells of its script
 on_cells : EffectsAreOnCells → (v : Visit) (reads : Reads) (n : ℕ) → OnCells (length v.script.script.web) (length v.script.script.cells) v.script.script.body
@@ -89,6 +84,15 @@ module _ (b : Book) (t : Ticket) (name : List ℕ) (a : Arena) (i : IsScript a) 
       (on_cells law v (present over fuel) (length t.cells) (whole_of v fits.run whole) (ap (λ (vs : List Val). length vs) fits.cells))
   start_on law (resumes at) whole e ok fits = absurd (start_is_no_page b name at e)
   start_on law (refused why) whole e ok fits = absurd (cc)
+
+  -- and hold over them
+  pub start_holds : EffectsHold → (adm : Admission) → admit b (start name) ≡ adm → refusal_of adm ≡ None → FitsAs b.scripts b t adm → over ≡ t.cells → Holds (segment_of r).effects t.cells
+  start_holds law (begins k x) e ok fits own =
+      let v = start_visit b (ticket_of t) k x in
+      subst (λ (s : eval.Segment). Holds s.effects t.cells) (sym (run_as v refl fits.run).comes)
+      (subst (λ (vs : List Val). Holds (comes_to v (present over fuel)).effects vs) own (run_holds law v fuel over))
+  start_holds law (resumes at) e ok fits own = absurd (start_is_no_page b name at e)
+  start_holds law (refused why) e ok fits own = absurd (cc)
 
   module _ (n : PageName) (cells : List Val) (here : cells_in n.instance b ≡ Some cells) where
     its_cells : (at : Place) → admit b (page name n) ≡ resumes at → cells ≡ at.instance.cells
@@ -144,3 +148,8 @@ pub script_there : (b : Book) (t : Ticket) (a : Admission) → refusal_of a ≡ 
 script_there b t (begins k x) admitted fits gone = cc (fits.run.script, gone)
 script_there b t (resumes at) admitted fits gone = cc (fits.script, gone)
 script_there b t (refused r) admitted fits gone = cc
+
+-- two facts of what was made
+pub both_ok : {X E : Type 0} {P Q R : X → Type 0} (r : Result X E) → IfOk r P → IfOk r Q → ((x : X) → P x → Q x → R x) → IfOk r R
+both_ok (Ok x) p q f = f x p q
+both_ok (Err e) p q f = tt

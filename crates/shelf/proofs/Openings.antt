@@ -8,21 +8,22 @@ use Rattle.page_journal.specs.Settled.{IsSettled, bodies_in, length_of}
 use Rattle.page_journal.specs.declared.journal.Journal.{Journal}
 use Rattle.page_journal.proofs.Mending.{leaves_then}
 use Rattle.replay_spec.specs.Book.{Doubt, Book, Change, reopened, reopened_with}
-use Rattle.replay_spec.specs.Rules.{Journal as RulesJournal, Rules, empty_book}
+use Rattle.replay_spec.specs.Rules.{Rules, empty_book}
 use Rattle.replay_spec.specs.Step as step
 use Rattle.replay_spec.specs.Step.{crash, lost, kept, live, recovered}
 use Rattle.replay_spec.specs.Recovery.{Made, nothing_made}
-use Rattle.replay_spec.specs.Remade.{made_of, NameTheirCells}
+use Rattle.replay_spec.specs.Remade.{made_of}
 use Rattle.replay_spec.specs.Invariant.{IsOrderly}
 use Rattle.replay_spec.proofs.Orderly.{books_stay}
-use Rattle.replay_spec.proofs.Events.{stay_named}
-use Rattle.journal_records.specs.Records.{Record, begins, changes, begin_of, begun_length, IsInGrammar, journal_rules}
+use Rattle.journal_records.specs.Records.{Record, begins, changes, begin_of, begun_length, IsInGrammar}
 use Rattle.journal_records.specs.Reading.{read_record}
 use Rattle.journal_records.specs.Laws.{AreRecordsExact}
-use Rattle.journal_books.specs.Making.{Making, nothing, made, damaged, other, rules_over, are_told, first_by, next_by, with_body, with_bodies, begun, book_of, book_in_bytes}
+use Rattle.journal_books.specs.Retaking.{Told, unread, misread, told, script_for, told_by}
+use Rattle.journal_books.specs.Lengths.{journal_rules}
+use Rattle.journal_books.specs.Making.{has_script, told_next, Making, nothing, made, damaged, other, rules_over, are_told, first_by, next_by, with_body, with_bodies, begun, book_of, book_in_bytes}
 use Rattle.journal_books.specs.Standing.{IsBook, Makes, MakesIn, Held, if_kept, StaysThroughout, IsOneOf}
 use Rattle.journal_books.specs.Spelling.{IsInRange}
-use Rattle.journal_books.specs.Keeping.{Keeps, AreNamed, first_body}
+use Rattle.journal_books.specs.Keeping.{Keeps, AreWhole, HasWholeScripts, first_body}
 use Rattle.journal_books.specs.Disks.{IsFit}
 use Rattle.journal_books.proofs.Fitting.{made_fits}
 use Rattle.journal_books.proofs.Kept.{fresh_kept}
@@ -30,7 +31,7 @@ use Rattle.journal_books.proofs.Between.{read_as, make_books}
 use Rattle.journal_books.proofs.Standings.{settled_stands}
 use Rattle.instance_book.specs.declared.book.Book.{Book as RustBook}
 use Rattle.instance_book.specs.Swept.{IsEmpty}
-use Rattle.instance_book.specs.Makes.{HasItsStates}
+use Rattle.instance_book.specs.Makes.{HasPlaces}
 use Rattle.book_recovery.specs.Found.{book_with, IsBookInOrder}
 use Rattle.shelf.specs.Opening.{IsCrashed, AReopenedShelfHasCrashed, AStandingDiskOpens}
 use Rattle.shelf.specs.declared.begin.BeginFault.TheVariants as fault
@@ -38,25 +39,30 @@ use Rattle.shelf.specs.declared.begin.BeginFault.TheVariants as fault
 -- what records make is nothing where there is none
 some_first : (scripts : List Named) (shelf place : ℕ) (o : Option Record) → first_by scripts shelf place o ≢ nothing
 some_first scripts shelf place None = λ e. cc e
-some_first scripts shelf place (Some (changes c)) = λ e. cc e
+some_first scripts shelf place (Some (changes c state)) = λ e. cc e
 some_first scripts shelf place (Some (begins s named)) = by_test (s == shelf && are_told named scripts)
   where
     by_test : (t : Bool) → (if t then made (nothing_made (rules_over scripts shelf) scripts shelf) else other place) ≢ nothing
     by_test true = λ e. cc e
     by_test false = λ e. cc e
 
-some_next : (scripts : List Named) (shelf place : ℕ) (m : Made) (o : Option Record) → next_by scripts shelf place m o ≢ nothing
-some_next scripts shelf place m None = λ e. cc e
-some_next scripts shelf place m (Some (begins s named)) = λ e. cc e
-some_next scripts shelf place m (Some (changes c)) = by_test _ _
+some_told : (place n : ℕ) (m : Made) (c : Change) (x : Told) → told_next place n m c x ≢ nothing
+some_told place n m c unread = λ e. cc e
+some_told place n m c misread = λ e. cc e
+some_told place n m c (told d) = λ e. cc e
+
+some_next : (scripts : List Named) (place n : ℕ) (m : Made) (o : Option Record) → next_by scripts place n m o ≢ nothing
+some_next scripts place n m None = λ e. cc e
+some_next scripts place n m (Some (begins s named)) = λ e. cc e
+some_next scripts place n m (Some (changes c state)) = by_test (has_script (length scripts) c) (told_next place n m c (told_by (script_for m.book c) state)) (some_told place n m c (told_by (script_for m.book c) state))
   where
-    by_test : (t : Bool) (n : Made) → (if t then made n else damaged place) ≢ nothing
-    by_test true n = λ e. cc e
-    by_test false n = λ e. cc e
+    by_test : (t : Bool) (x : Making) → x ≢ nothing → (if t then x else damaged place) ≢ nothing
+    by_test true x h = h
+    by_test false x h = λ e. cc e
 
 some_body : (scripts : List Named) (shelf place : ℕ) (body : List ℕ) (m : Making) → with_body scripts shelf place body m ≢ nothing
 some_body scripts shelf place body nothing = some_first scripts shelf place (read_record body)
-some_body scripts shelf place body (made m) = some_next scripts shelf place m (read_record body)
+some_body scripts shelf place body (made m) = some_next scripts place (length body) m (read_record body)
 some_body scripts shelf place body (damaged p) = λ e. cc e
 some_body scripts shelf place body (other p) = λ e. cc e
 
@@ -81,12 +87,15 @@ module _ (scripts : List Named) (shelf : ℕ) (b : RustBook) (empty : IsEmpty sh
   is_at : (n : ℕ) → book_with scripts n b ≡ empty_book (rules_at n) scripts shelf
   is_at n = empty scripts (rules_at n)
 
-  pub empty_in_order : AreNamed scripts → HasItsStates scripts b → IsBookInOrder scripts shelf b
-  empty_in_order named states = record {
-    states = states;
+  empty_whole : (n : ℕ) → AreWhole scripts → HasWholeScripts (empty_book (rules_at n) scripts shelf)
+  empty_whole n whole = record { setup = whole; instances = λ k i e. absurd (let no : ⊥ = cc e in no) }
+
+  pub empty_in_order : AreWhole scripts → HasPlaces scripts b → IsBookInOrder scripts shelf b
+  empty_in_order whole placed = record {
+    placed = placed;
     shelf_is = ap (λ (x : Book). x.shelf) (is_at 0);
     orderly = λ n. subst IsOrderly (sym (is_at n)) (books_stay.0 (rules_at n) scripts shelf);
-    named = λ n. subst NameTheirCells (sym (is_at n)) (stay_named.0 (rules_at n) scripts shelf named);
+    whole = λ n. subst HasWholeScripts (sym (is_at n)) (empty_whole n whole);
     range = λ n. subst IsInRange (sym (is_at n)) (record { drawn = omega arith; clock = omega arith; doubt = tt });
     again = λ n. is_at n ∙ sym (ap reopened (is_at n));
   }
@@ -103,25 +112,25 @@ module _ (scripts : List Named) (shelf : ℕ) (b : RustBook) (empty : IsEmpty sh
       ap (begun scripts shelf) none ∙ ap (λ (x : Book). made (record { book = x; seen = [] })) (sym (ap reopened begun_is)),
     )
 
-    pub begun_fit : {D : Type 0} (view : D → View) (j : Journal D) → AreRecordsExact → AreNamed scripts → IsInGrammar (begin_of shelf scripts) → IsSettled view j
+    pub begun_fit : {D : Type 0} (view : D → View) (j : Journal D) → AreRecordsExact → AreWhole scripts → IsInGrammar (begin_of shelf scripts) → IsSettled view j
         → bodies_in view j ≡ first_body scripts shelf ∷ [] → IsFit view scripts shelf j (book_with scripts n b)
-    begun_fit view j x named fits settled bodies =
-        let keeps = fresh_kept x scripts shelf (rules_over scripts shelf) refl named fits in
+    begun_fit view j x whole fits settled bodies =
+        let keeps = fresh_kept x scripts shelf (rules_over scripts shelf) refl whole fits in
         let here : Keeps scripts shelf (bodies_in view j) (book_with scripts n b) =
         subst (λ (bs : List (List ℕ)). Keeps scripts shelf bs (book_with scripts n b)) (sym bodies) (subst (Keeps scripts shelf (first_body scripts shelf ∷ [])) (sym begun_is) keeps) in
         record { settled = λ _. settled; holds = λ _. here; stands = settled_stands view scripts shelf j (book_with scripts n b) settled (here.seen, here.makes) refl }
 
 -- what was found of records
-pub found_fit : {D : Type 0} (view : D → View) (scripts : List Named) (shelf : ℕ) (j : Journal D) (b : Book) → AreRecordsExact → AreNamed scripts → IsSettled view j
+pub found_fit : {D : Type 0} (view : D → View) (scripts : List Named) (shelf : ℕ) (j : Journal D) (b : Book) → AreRecordsExact → AreWhole scripts → IsSettled view j
     → Makes scripts shelf (bodies_in view j) b → b ≡ reopened b → IsFit view scripts shelf j b
-found_fit view scripts shelf j b x named settled (seen, makes) again =
+found_fit view scripts shelf j b x whole settled (seen, makes) again =
     let fits = made_fits x scripts shelf (bodies_in view j) (made_of b seen) makes in
-    let r = fits.recoverable named in
+    let r = fits.recoverable whole in
     let down : b.down ≡ None = ap (λ (y : Book). y.down) again in
     let keeps : Keeps scripts shelf (bodies_in view j) (reopened b) = record {
       seen = seen;
       makes = makes;
-      recoverable = record { orderly = r.orderly; named = r.named; doubt = r.doubt; used = r.used };
+      recoverable = r;
     } in
     record {
       settled = λ _. settled;
@@ -168,10 +177,6 @@ stays_open scripts shelf v0 v1 v2 bodies reads is counts first quiet = λ before
     none_is_made b m none (seen, made_it) = cc (none, made_it)
 
 -- what is opened is what a crash leaves, by which what is in doubt is lost or kept
-land_alike : (r s : Rules) (o : Option Doubt) (b : Book) → r.journal ≡ s.journal → recovered r kept o b ≡ recovered s kept o b
-land_alike r s None b e = refl
-land_alike r s (Some doubt) b e = ap (λ (j : Option RulesJournal). recovered (record r { journal = j }) kept (Some doubt) b) e
-
 setup_kept : (r : Rules) (o : Option Doubt) (b : Book) → (recovered r kept o b).scripts ≡ b.scripts
 setup_kept r None b = refl
 setup_kept r (Some doubt) b = refl
@@ -180,18 +185,18 @@ lost_is : (r : Rules) (o : Option Doubt) (b : Book) → recovered r lost o b ≡
 lost_is r None b = refl
 lost_is r (Some doubt) b = refl
 
-crashed_as : (rules : Rules) (b c d : Book) (nonce : ℕ) (scripts : List Named) (fate : step.Fate) → recovered rules fate b.down b ≡ d → d.scripts ≡ scripts → c ≡ reopened d → IsCrashed rules b nonce scripts fate c
+crashed_as : (rules : Rules) (b c : Book) (nonce : ℕ) (scripts : List Named) (fate : step.Fate) → (recovered rules fate b.down b).scripts ≡ scripts → c ≡ reopened (recovered rules fate b.down b) → IsCrashed rules b nonce scripts fate c
 unfolding step.step
-crashed_as rules b c d nonce scripts fate is setup opened =
+crashed_as rules b c nonce scripts fate setup opened =
     let there : reopened_with scripts (recovered rules fate b.down b) ≡ c =
-    ap (reopened_with scripts) is ∙ (ap (λ (ss : List Named). reopened_with ss d) (sym setup) ∙ sym opened) in
+    ap (λ (ss : List Named). reopened_with ss (recovered rules fate b.down b)) (sym setup) ∙ sym opened in
     ap (λ (x : Book). (live (length x.instances), x)) there
 
 pub reopened_has_crashed : {D : Type 0} (view : D → View) → AReopenedShelfHasCrashed view
-reopened_has_crashed view scripts shelf rules b c nonce old new over setup stands among one = ⊎_elim
-    (λ h. inl (crashed_as rules b c b nonce scripts lost (lost_is rules b.down b) setup h))
-    (λ h. inr (crashed_as rules b c (if_kept scripts shelf b) nonce scripts kept (land_alike rules (rules_over scripts shelf) b.down b over) (setup_kept (rules_over scripts shelf) b.down b ∙ setup) h))
-    (one b (if_kept scripts shelf b) stands.0 (λ image left. stands.1 image (among image left)))
+reopened_has_crashed view scripts shelf rules b c nonce old new setup (n, (k, (held, measured))) among one = ⊎_elim
+    (λ h. inl (crashed_as rules b c nonce scripts lost (ap (λ (x : Book). x.scripts) (lost_is rules b.down b) ∙ setup) (h ∙ sym (ap reopened (lost_is rules b.down b)))))
+    (λ h. inr (crashed_as rules b c nonce scripts kept (setup_kept rules b.down b ∙ setup) (h ∙ sym measured)))
+    (one b (if_kept n b) k (λ image left. held image (among image left)))
 
 -- what was found makes a book, and so does what is begun
 pub found_begun : (scripts : List Named) (shelf : ℕ) (m : Making) (b : Book) → IsBook m b → IsBook (begun scripts shelf m) b
@@ -216,9 +221,9 @@ standing_opens view reads scripts shelf b old new fault.DiskFault stands among i
 standing_opens view reads scripts shelf b old new fault.Memory stands among is = tt
 standing_opens view reads scripts shelf b old new (fault.Damaged place) stands among is =
     let bytes = (view new).seen in
-    ⊎_elim (λ h. no_damage scripts shelf place bytes b h is) (λ h. no_damage scripts shelf place bytes (if_kept scripts shelf b) h is)
-    (make_books scripts shelf b (if_kept scripts shelf b) stands.0 bytes (stands.1 bytes (among bytes (reads new))))
+    ⊎_elim (λ h. no_damage scripts shelf place bytes b h is) (λ h. no_damage scripts shelf place bytes (if_kept stands.0 b) h is)
+    (make_books scripts shelf b (if_kept stands.0 b) stands.1.0 bytes (stands.1.1 bytes (among bytes (reads new))))
 standing_opens view reads scripts shelf b old new (fault.Other place) stands among is =
     let bytes = (view new).seen in
-    ⊎_elim (λ h. no_other scripts shelf place bytes b h is) (λ h. no_other scripts shelf place bytes (if_kept scripts shelf b) h is)
-    (make_books scripts shelf b (if_kept scripts shelf b) stands.0 bytes (stands.1 bytes (among bytes (reads new))))
+    ⊎_elim (λ h. no_other scripts shelf place bytes b h is) (λ h. no_other scripts shelf place bytes (if_kept stands.0 b) h is)
+    (make_books scripts shelf b (if_kept stands.0 b) stands.1.0 bytes (stands.1.1 bytes (among bytes (reads new))))

@@ -11,14 +11,13 @@ use Rattle.replay_spec.specs.Runs.{drawn_by, shelf_step}
 use Rattle.replay_spec.specs.Runs as runs
 use Rattle.replay_spec.specs.Step as step
 use Rattle.replay_spec.specs.Laws.{IsLawful, Moment}
-use Rattle.replay_spec.specs.Remade.{NameTheirCells, GivesNamed}
 use Rattle.replay_spec.specs.Invariant.{IsOrderly}
 use Rattle.replay_spec.proofs.Orderly.{stepped}
-use Rattle.replay_spec.proofs.Events.{stay_named}
+use Rattle.journal_books.specs.Keeping.{HasWholeScripts}
 use Rattle.journal_books.specs.Disks.{IsFit}
 use Rattle.journal_books.specs.Spelling.{IsInRange, GivesTick}
 use Rattle.journal_books.proofs.Ranges.{ranges_kept}
-use Rattle.instance_book.specs.Makes.{HasItsStates}
+use Rattle.instance_book.specs.Makes.{HasPlaces}
 use Rattle.instance_book.specs.Views.{reply_of}
 use Rattle.shelf.specs.declared.rules.Rules as limits_of
 use Rattle.shelf.specs.declared.shelf.Shelf.{Shelf}
@@ -66,24 +65,30 @@ module _ {D N : Type 0} where
     pub whole : new.down ≡ None → is_broken new.journal ≡ false
     pub fit : IsTrue tells → IsFit view ss shelf new.journal d
 
-  -- a shelf in order stays so behind an event
+  -- a shelf in order stays so where its book is orderly and in range
+  pub order_of : (view : D → View) (tells : Bool) (ss : List Named) (old new : Shelf D N) (after : Book) → IsInOrder view tells ss old → HasPlaces ss new.book → IsOrderly after → HasWholeScripts after
+      → IsInRange after → after.shelf ≡ old.book.shelf → book_in ss new ≡ after → new.rules ≡ old.rules → JournalStays view tells ss new old.rules.number after → IsInOrder view tells ss new
+  order_of view tells ss old new after order placed orderly scripts range shelf is limits stays = record {
+    placed = placed;
+    orderly = subst IsOrderly (sym is) orderly;
+    scripts_are = subst HasWholeScripts (sym is) scripts;
+    range = subst IsInRange (sym is) range;
+    number = ap (λ (b : Book). b.shelf) is ∙ (shelf ∙ (order.number ∙ ap (λ (l : limits_of.Rules). l.number) (sym limits)));
+    limits = subst AreInRange (sym limits) order.limits;
+    few = order.few;
+    sound = stays.sound;
+    whole = stays.whole;
+    fit = λ told. subst (λ (b : Book). IsFit view ss new.rules.number new.journal b) (sym is) (subst (λ (l : limits_of.Rules). IsFit view ss l.number new.journal after) (sym limits) (stays.fit told));
+  }
+
+  -- so it stays behind an event
   pub order_behind : (view : D → View) (tells : Bool) (ss : List Named) (old new : Shelf D N) (event : step.Event) (fate : step.Fate) (r : step.Reply) (after : Book) → IsInOrder view tells ss old
-      → IsLawful event (book_in ss old) → GivesNamed event → GivesTick event → (HasItsStates ss old.book → HasItsStates ss new.book) → book_in ss new ≡ after
+      → IsLawful event (book_in ss old) → GivesTick event → (HasPlaces ss old.book → HasPlaces ss new.book) → HasWholeScripts after → book_in ss new ≡ after
       → new.rules ≡ old.rules → step.step (rules_of ss old.rules) (book_in ss old) 0 event fate ≡ (r, after) → JournalStays view tells ss new old.rules.number after → IsInOrder view tells ss new
-  order_behind view tells ss old new event fate r after order lawful named tick places is limits e stays =
+  order_behind view tells ss old new event fate r after order lawful tick places scripts is limits e stays =
       let rules = rules_of ss old.rules in
       let m : Moment = record { rules = rules; nonce = 0; event = event; fate = fate } in
-      let there : (step.step rules (book_in ss old) 0 event fate).1 ≡ book_in ss new = ap (λ (x : step.Reply × Book). x.1) e ∙ sym is in
+      let there : (step.step rules (book_in ss old) 0 event fate).1 ≡ after = ap (λ (x : step.Reply × Book). x.1) e in
       let later = stepped m (book_in ss old) order.orderly lawful in
-      record {
-        states = places order.states;
-        orderly = subst IsOrderly there later.orderly;
-        named = subst NameTheirCells there (stay_named.1 (book_in ss old) m order.orderly order.named named);
-        range = subst IsInRange there (ranges_kept rules (book_in ss old) 0 event fate order.orderly order.range tick);
-        number = ap (λ (b : Book). b.shelf) (sym there) ∙ (later.shelf ∙ (order.number ∙ ap (λ (l : limits_of.Rules). l.number) (sym limits)));
-        limits = subst AreInRange (sym limits) order.limits;
-        few = order.few;
-        sound = stays.sound;
-        whole = stays.whole;
-        fit = λ told. subst (λ (b : Book). IsFit view ss new.rules.number new.journal b) (sym is) (subst (λ (l : limits_of.Rules). IsFit view ss l.number new.journal after) (sym limits) (stays.fit told));
-      }
+      order_of view tells ss old new after order (places order.placed) (subst IsOrderly there later.orderly) scripts
+      (subst IsInRange there (ranges_kept rules (book_in ss old) 0 event fate order.orderly order.range tick)) (ap (λ (b : Book). b.shelf) (sym there) ∙ later.shelf) is limits stays

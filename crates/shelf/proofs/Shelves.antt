@@ -1,5 +1,5 @@
 -- What the calls of a shelf leave of it.
-use Rattle.std.proofs.Common.{◌≡◌, ◌∙◌, ap, sym, subst, refl, ◌+◌, ◌≤◌, ◌^◌, ◌++◌, ◌∷◌, [], Bool, IsTrue, false, List, length, Option, Some, None, option_map}
+use Rattle.std.proofs.Common.{◌≡◌, ◌∙◌, ap, sym, subst, refl, ℕ, ◌+◌, ◌≤◌, ◌^◌, ◌++◌, ◌∷◌, [], Bool, IsTrue, false, List, length, Option, Some, None, option_map}
 use Rattle.script_nodes.specs.Setup.{Named}
 use Rattle.web_disk.specs.View.{View, LeavesOnly}
 use Rattle.page_journal.specs.Holding.{MayHold}
@@ -7,81 +7,162 @@ use Rattle.page_journal.specs.Settled as journal
 use Rattle.page_journal.specs.Settled.{IsSettled, view_of, bodies_in, length_of, is_broken}
 use Rattle.page_journal.specs.declared.journal.Journal.{Journal}
 use Rattle.replay_spec.specs.Book.{Change, Book, reopened}
+use Rattle.replay_spec.specs.Rules.{Rules}
 use Rattle.replay_spec.specs.Runs.{lands}
 use Rattle.replay_spec.specs.Step as step
 use Rattle.replay_spec.specs.Laws.{IsLawful}
 use Rattle.replay_spec.specs.Invariant.{IsOrderly}
-use Rattle.replay_spec.specs.Remade.{KeepsSetup, GivesNamed, NameTheirCells}
-use Rattle.journal_records.specs.Records.{IsInGrammar, changes}
+use Rattle.replay_spec.specs.Remade.{KeepsSetup}
 use Rattle.journal_books.specs.Standing.{if_kept, Throughout}
-use Rattle.journal_books.specs.Keeping.{body_by, stake_of}
+use Rattle.journal_books.specs.Keeping.{HasWholeScripts, CanBeWritten, stake_of}
+use Rattle.journal_books.specs.Lengths.{own_body}
 use Rattle.journal_books.specs.Disks.{IsFit}
 use Rattle.journal_books.specs.Spelling.{IsInRange, GivesTick}
-use Rattle.journal_books.specs.Laws.{EventsAreKept, EventsStandBetween}
-use Rattle.instance_book.specs.Makes.{HasItsStates}
+use Rattle.journal_books.specs.Laws.{MeasuresDoubt, EventsAreKept, EventsStandBetween}
+use Rattle.instance_book.specs.Makes.{HasPlaces, HasItsStates}
 use Rattle.instance_book.specs.Views.{book_of}
 use Rattle.shelf.specs.declared.rules.Rules as limits_of
 use Rattle.shelf.specs.declared.shelf.Shelf.{Shelf}
 use Rattle.shelf.specs.Ranges.{AreInRange}
 use Rattle.shelf.specs.declared.doubt.Doubt as doubt_type
-use Rattle.shelf.specs.Views.{rules_of, doubt_of, book_in, IsInOrder}
-use Rattle.shelf.specs.Events.{HasMoments}
-use Rattle.shelf.proofs.Standing.{OnlyNow, CountsNow, IsQuietCall, quiet_fit, quiet_moments, recorded_moments, added_fit, doubted_fit}
+use Rattle.shelf.specs.Views.{rules_of, doubt_of, book_in, IsInOrder, IsOwnShelf}
+use Rattle.shelf.specs.Owning.{StandsOwn}
+use Rattle.shelf.specs.Events.{HasMoments, HasOwnMoments}
+use Rattle.shelf.proofs.Standing.{OnlyNow, CountsNow, IsQuietCall, quiet_fit, quiet_moments, own_alike, measured_alike}
+use Rattle.shelf.proofs.Recorded as recorded
+use Rattle.shelf.proofs.Recorded.{recorded_moments, measured_moments, added_fit, doubted_fit, own_images, own_run}
+use Rattle.shelf.proofs.Owned.{quiet_run_own}
 use Rattle.shelf.proofs.Order.{order_behind}
 
-module _ {D N : Type 0} (view : D → View) (tells : Bool) (ss : List Named) (s t : Shelf D N) (order : IsInOrder view tells ss s) (limits : t.rules ≡ s.rules) (places : HasItsStates ss s.book → HasItsStates ss t.book)
-    (sound : journal.IsSound t.journal) (event : step.Event) (fate : step.Fate) (x : step.Reply) (d : Book) (is : book_in ss t ≡ d) (stepped : step.step (rules_of ss s.rules) (book_in ss s) 0 event fate ≡ (x, d))
-    (setup : KeepsSetup event (book_in ss s)) (lawful : IsLawful event (book_in ss s)) (named : GivesNamed event) (tick : GivesTick event) (events : EventsAreKept) where
-  there : (step.step (rules_of ss s.rules) (book_in ss s) 0 event fate).1 ≡ d
-  there = ap (λ (y : step.Reply × Book). y.1) stepped
-
+module _ {D N : Type 0} (view : D → View) (tells : Bool) (ss : List Named) (s t : Shelf D N) (limits : t.rules ≡ s.rules) (d : Book) (is : book_in ss t ≡ d) (same : reopened (book_in ss s) ≡ reopened d) (down : (book_in ss s).down ≡ d.down)
+    (call : IsQuietCall view tells s.journal t.journal) where
   -- an event that leaves no record, behind which the book differs in what is out alone
-  module _ (none : lands (rules_of ss s.rules) (book_in ss s) event fate ≡ None) (same : reopened (book_in ss s) ≡ reopened d) (down : (book_in ss s).down ≡ d.down) (whole : t.down ≡ None → is_broken t.journal ≡ false)
-      (call : IsQuietCall view tells s.journal t.journal) where
-    pub quiet_order : IsInOrder view tells ss t
-    quiet_order = order_behind view tells ss s t event fate x d order lawful named tick places is limits stepped (record {
+  module _ (order : IsInOrder view tells ss s) (places : HasPlaces ss s.book → HasPlaces ss t.book) (sound : journal.IsSound t.journal) (event : step.Event) (fate : step.Fate) (x : step.Reply)
+      (stepped : step.step (rules_of ss s.rules) (book_in ss s) 0 event fate ≡ (x, d)) (setup : KeepsSetup event (book_in ss s)) (lawful : IsLawful event (book_in ss s)) (tick : GivesTick event)
+      (events : EventsAreKept) (none : lands (rules_of ss s.rules) (book_in ss s) event fate ≡ None) where
+    there : (step.step (rules_of ss s.rules) (book_in ss s) 0 event fate).1 ≡ d
+    there = ap (λ (y : step.Reply × Book). y.1) stepped
+
+    pub quiet_order : HasWholeScripts d → (t.down ≡ None → is_broken t.journal ≡ false) → IsInOrder view tells ss t
+    quiet_order scripts whole = order_behind view tells ss s t event fate x d order lawful tick places scripts is limits stepped (record {
       sound = sound;
       whole = whole;
-      fit = λ told. quiet_fit view tells ss s.rules.number (rules_of ss s.rules) (book_in ss s) event fate s.journal order.limits.fuel.1 refl setup lawful events d there none same down t.journal call told (order.fit told);
+      fit = λ told. quiet_fit view tells ss s.rules.number (rules_of ss s.rules) (book_in ss s) event fate s.journal refl setup lawful events d there none same down t.journal call told (order.fit told);
     })
 
     pub quiet_run : IsTrue tells → OnlyNow (view s.journal.disk) → HasMoments view ss s t
-    quiet_run told only_now = subst (λ (y : Book). Throughout ss s.rules.number (book_in ss s) (if_kept ss s.rules.number y) (view s.journal.disk) (view t.journal.disk)) (sym is)
-        (quiet_moments view tells ss s.rules.number (rules_of ss s.rules) (book_in ss s) event fate s.journal order.limits.fuel.1 refl setup lawful events d there none same down t.journal call told only_now (order.fit told))
+    quiet_run told only_now =
+        let fit = order.fit told in (
+          fit.stands.0,
+          subst (λ (y : Book). Throughout ss s.rules.number (book_in ss s) (if_kept fit.stands.0 y) (view s.journal.disk) (view t.journal.disk)) (sym is)
+              (quiet_moments view tells ss s.rules.number (rules_of ss s.rules) (book_in ss s) event fate s.journal refl setup lawful events d there none same down t.journal call told only_now fit),
+        )
 
-  -- one that leaves a record
-  module _ (up : s.down ≡ None) (between : EventsStandBetween) (c : Change) (spelled : IsInGrammar (changes c)) (room : length_of s.journal + 5 + length (body_by c) ≤ 2 ^ 30) (mid : Journal D) (call : IsQuietCall view tells s.journal mid)
-      (run : IsTrue tells → LeavesOnly (view_of view mid) (view_of view t.journal) (MayHold (bodies_in view mid) (body_by c))) where
-    none_down : (book_in ss s).down ≡ None
-    none_down = ap (λ (o : Option doubt_type.Doubt). option_map doubt_of o) up
+  -- an own one goes on to be
+  pub quiet_own : (HasItsStates ss s.book → HasItsStates ss t.book) → IsOwnShelf view tells ss s → IsOwnShelf view tells ss t
+  quiet_own states own = record {
+    states = states own.states;
+    own = λ told.
+        let P : limits_of.Rules → Book → Type 0 = λ l b. StandsOwn (rules_of ss l) ss l.number (view t.journal.disk) b in
+        subst (λ (l : limits_of.Rules). P l (book_in ss t)) (sym limits)
+        (subst (P s.rules) (sym is) (own_alike (rules_of ss s.rules) ss s.rules.number (view s.journal.disk) (view t.journal.disk) (book_in ss s) d same down call.images (own.own told)));
+  }
 
-    pub recorded_run : IsTrue tells → OnlyNow (view s.journal.disk) → stake_of (rules_of ss s.rules) (book_in ss s) 0 event fate ≡ Some c → HasMoments view ss s t
-    recorded_run told only_now stake = subst (λ (y : Book). Throughout ss s.rules.number (book_in ss s) (if_kept ss s.rules.number y) (view s.journal.disk) (view t.journal.disk)) (sym is)
-        (recorded_moments view tells ss s.rules.number (rules_of ss s.rules) (book_in ss s) event fate s.journal order.limits.fuel.1 refl setup lawful events none_down between c spelled room mid t.journal call d there (order.fit told) (run told) only_now stake)
+  -- and so it was at each moment
+  pub quiet_own_moments : IsTrue tells → OnlyNow (view s.journal.disk) → IsOwnShelf view tells ss s → HasOwnMoments view ss s t
+  quiet_own_moments told only_now own =
+      let its = own.own told in
+      let n = s.rules.number in
+      let rules = rules_of ss s.rules in
+      let v = view s.journal.disk in
+      let w = view t.journal.disk in
+      record {
+        own = quiet_run_own ss n v w only_now call.images call.time its.images;
+        measured = subst (λ (y : Book). (m : ℕ) × Throughout ss n (book_in ss s) (if_kept m y) v w × MeasuresDoubt rules m y) (sym is)
+            (measured_alike rules ss n v w (book_in ss s) d same down only_now call.images call.time its.stands);
+      }
 
-    pub added_order : lands (rules_of ss s.rules) (book_in ss s) event fate ≡ Some c → d.down ≡ None → is_broken t.journal ≡ false
-        → (IsTrue tells → IsSettled view t.journal × (bodies_in view t.journal ≡ bodies_in view mid ++ body_by c ∷ [])) → IsInOrder view tells ss t
-    added_order landed still whole added = order_behind view tells ss s t event fate x d order lawful named tick places is limits stepped (record {
+-- an event that leaves a record, with the state of its own script
+module _ {D N : Type 0} (view : D → View) (tells : Bool) (ss : List Named) (s t : Shelf D N) (order : IsInOrder view tells ss s) (limits : t.rules ≡ s.rules) (event : step.Event) (fate : step.Fate) (x : step.Reply) (d : Book) (is : book_in ss t ≡ d)
+    (stepped : step.step (rules_of ss s.rules) (book_in ss s) 0 event fate ≡ (x, d)) (setup : KeepsSetup event (book_in ss s)) (lawful : IsLawful event (book_in ss s)) (events : EventsAreKept)
+    (up : s.down ≡ None) (c : Change) (spelled : CanBeWritten (book_in ss s) c) (room : length_of s.journal + 5 + length (own_body (book_in ss s) c) ≤ 2 ^ 30) (mid : Journal D) (call : IsQuietCall view tells s.journal mid)
+    (run : IsTrue tells → LeavesOnly (view_of view mid) (view_of view t.journal) (MayHold (bodies_in view mid) (own_body (book_in ss s) c))) (counts : CountsNow (view t.journal.disk)) where
+  abbrev b : Book
+  b = book_in ss s
+
+  abbrev rules : Rules
+  rules = rules_of ss s.rules
+
+  none_down : b.down ≡ None
+  none_down = ap (λ (o : Option doubt_type.Doubt). option_map doubt_of o) up
+
+  then_there : (step.step rules b 0 event fate).1 ≡ d
+  then_there = ap (λ (y : step.Reply × Book). y.1) stepped
+
+  own_there : IsTrue tells → StandsOwn rules ss s.rules.number (view t.journal.disk) d → StandsOwn (rules_of ss t.rules) ss t.rules.number (view t.journal.disk) (book_in ss t)
+  own_there told own =
+      let P : limits_of.Rules → Book → Type 0 = λ l y. StandsOwn (rules_of ss l) ss l.number (view t.journal.disk) y in
+      subst (λ (l : limits_of.Rules). P l (book_in ss t)) (sym limits) (subst (P s.rules) (sym is) own)
+
+  pub recorded_run : EventsStandBetween → IsTrue tells → OnlyNow (view s.journal.disk) → stake_of rules b 0 event fate ≡ Some c → HasMoments view ss s t
+  recorded_run between told only_now stake =
+      let n = length (own_body b c) in (
+        n,
+        subst (λ (y : Book). Throughout ss s.rules.number b (if_kept n y) (view s.journal.disk) (view t.journal.disk)) (sym is)
+            (recorded_moments view tells ss s.rules.number rules b event s.journal refl setup lawful events none_down c spelled room (order.fit told) mid t.journal call (run told) counts fate d then_there stake between only_now),
+      )
+
+  -- at each moment an own one was so
+  pub recorded_own_moments : EventsStandBetween → IsTrue tells → OnlyNow (view s.journal.disk) → stake_of rules b 0 event fate ≡ Some c → (f : step.Fate) → lands rules b event f ≡ Some c
+      → (view s.journal.disk).images (view s.journal.disk).seen → IsOwnShelf view tells ss s → HasOwnMoments view ss s t
+  recorded_own_moments between told only_now stake f landed reads own =
+      let n = s.rules.number in
+      let v = view s.journal.disk in
+      let w = view t.journal.disk in
+      record {
+        own = own_run view tells ss n rules b event s.journal refl setup lawful events none_down c spelled room (order.fit told) mid t.journal call (run told) counts f landed only_now reads (own.own told).images;
+        measured = subst (λ (y : Book). (m : ℕ) × Throughout ss n b (if_kept m y) v w × MeasuresDoubt rules m y) (sym is)
+            (measured_moments view tells ss n rules b event s.journal refl setup lawful events none_down c spelled room (order.fit told) mid t.journal call (run told) counts fate d then_there stake between only_now);
+      }
+
+  module _ (places : HasPlaces ss s.book → HasPlaces ss t.book) (scripts : HasWholeScripts d) (sound : journal.IsSound t.journal) (tick : GivesTick event) where
+    pub added_order : lands rules b event fate ≡ Some c → d.down ≡ None → is_broken t.journal ≡ false
+        → (IsTrue tells → IsSettled view t.journal × (bodies_in view t.journal ≡ bodies_in view mid ++ own_body b c ∷ [])) → IsInOrder view tells ss t
+    added_order landed still whole added = order_behind view tells ss s t event fate x d order lawful tick places scripts is limits stepped (record {
       sound = sound;
       whole = λ _. whole;
-      fit = λ told. added_fit view tells ss s.rules.number (rules_of ss s.rules) (book_in ss s) event fate s.journal order.limits.fuel.1 refl setup lawful events none_down between c spelled room mid t.journal call d there (order.fit told) (run told) landed still (added told).0 (added told).1;
+      fit = λ told. added_fit view tells ss s.rules.number rules b event s.journal refl setup lawful events none_down c spelled room (order.fit told) mid t.journal call fate d then_there landed still (added told).0 (added told).1;
     })
 
-    pub doubted_order : OnlyNow (view s.journal.disk) → CountsNow (view t.journal.disk) → stake_of (rules_of ss s.rules) (book_in ss s) 0 event fate ≡ Some c → (d.down ≡ None → ⊥) → (t.down ≡ None → ⊥)
-        → reopened (book_in ss s) ≡ reopened d → IsInOrder view tells ss t
-    doubted_order only_now counts stake in_doubt in_doubt_there same = order_behind view tells ss s t event fate x d order lawful named tick places is limits stepped (record {
+    pub doubted_order : EventsStandBetween → OnlyNow (view s.journal.disk) → stake_of rules b 0 event fate ≡ Some c → (d.down ≡ None → ⊥) → (t.down ≡ None → ⊥) → reopened b ≡ reopened d → IsInOrder view tells ss t
+    doubted_order between only_now stake in_doubt in_doubt_there same = order_behind view tells ss s t event fate x d order lawful tick places scripts is limits stepped (record {
       sound = sound;
       whole = λ none. absurd (in_doubt_there none);
-      fit = λ told. doubted_fit view tells ss s.rules.number (rules_of ss s.rules) (book_in ss s) event fate s.journal order.limits.fuel.1 refl setup lawful events none_down between c spelled room mid t.journal call d there (order.fit told) (run told) only_now counts stake in_doubt same;
+      fit = λ told. doubted_fit view tells ss s.rules.number rules b event s.journal refl setup lawful events none_down c spelled room (order.fit told) mid t.journal call (run told) counts fate d then_there stake between only_now in_doubt same;
     })
 
+  -- an own one goes on to be
+  module _ (states : HasItsStates ss s.book → HasItsStates ss t.book) (reads : IsTrue tells → (view s.journal.disk).images (view s.journal.disk).seen) (own : IsOwnShelf view tells ss s) where
+    pub added_own : lands rules b event fate ≡ Some c → d.down ≡ None → (IsTrue tells → IsSettled view t.journal × (bodies_in view t.journal ≡ bodies_in view mid ++ own_body b c ∷ [])) → IsOwnShelf view tells ss t
+    added_own landed still added = record {
+      states = states own.states;
+      own = λ told. own_there told (recorded.added_own view tells ss s.rules.number rules b event s.journal refl setup lawful events none_down c spelled room (order.fit told) mid t.journal call fate d then_there landed still (added told).0 (added told).1
+          (own_images view tells ss s.rules.number rules b event s.journal refl setup lawful events none_down c spelled room (order.fit told) mid t.journal call (run told) counts fate landed (reads told) (own.own told).images));
+    }
+
+    pub doubted_own : EventsStandBetween → OnlyNow (view s.journal.disk) → stake_of rules b 0 event fate ≡ Some c → reopened b ≡ reopened d → (f : step.Fate) → lands rules b event f ≡ Some c → IsOwnShelf view tells ss t
+    doubted_own between only_now stake same f landed = record {
+      states = states own.states;
+      own = λ told. own_there told (recorded.doubted_own view tells ss s.rules.number rules b event s.journal refl setup lawful events none_down c spelled room (order.fit told) mid t.journal call (run told) counts fate d then_there stake between only_now same f landed (reads told) (own.own told).images);
+    }
+
 -- a shelf whose book alone was made anew, the same
-pub same_order : {D N : Type 0} (view : D → View) (tells : Bool) (ss : List Named) (s t : Shelf D N) → IsInOrder view tells ss s → book_in ss t ≡ book_in ss s → HasItsStates ss t.book → t.journal ≡ s.journal → t.down ≡ s.down → t.rules ≡ s.rules
+pub same_order : {D N : Type 0} (view : D → View) (tells : Bool) (ss : List Named) (s t : Shelf D N) → IsInOrder view tells ss s → book_in ss t ≡ book_in ss s → HasPlaces ss t.book → t.journal ≡ s.journal → t.down ≡ s.down → t.rules ≡ s.rules
     → IsInOrder view tells ss t
-same_order view tells ss s t order is states journal_same down limits = record {
-  states = states;
+same_order view tells ss s t order is placed journal_same down limits = record {
+  placed = placed;
   orderly = subst IsOrderly (sym is) order.orderly;
-  named = subst NameTheirCells (sym is) order.named;
+  scripts_are = subst HasWholeScripts (sym is) order.scripts_are;
   range = subst IsInRange (sym is) order.range;
   number = ap (λ (b : Book). b.shelf) is ∙ (order.number ∙ ap (λ (l : limits_of.Rules). l.number) (sym limits));
   limits = subst AreInRange (sym limits) order.limits;

@@ -20,6 +20,7 @@ use Rattle.replay_spec.specs.Runs.{lands, recorded_under}
 use Rattle.replay_spec.specs.Remade.{through}
 use Rattle.replay_spec.proofs.Last.{last}
 use Rattle.journal_records.specs.Records.{record_length}
+use Rattle.journal_books.specs.Lengths.{state_told}
 use Rattle.instance_book.specs.Prepares.{rules_with}
 use Rattle.shelf.specs.declared.rules.Rules as limits_of
 use Rattle.shelf.specs.Views.{unmeasured, rules_of, fate_by}
@@ -129,12 +130,12 @@ module _ (ss : List Named) (r : limits_of.Rules) (b : Book) where
   told_same t x is = measured t ∙ ap (through over.journal b) is
 
   pub too_long : (t : next.Ticket) (x y : step.Reply) (c : Change) (inside : List TxName) → publish_comes (unmeasured r) b t ≡ records x c inside
-      → refusal_of_size b.length (record_length c) ≡ Some y → publish_comes over b t ≡ replies y
+      → refusal_of_size b.length (record_length c (state_told b c)) ≡ Some y → publish_comes over b t ≡ replies y
   too_long t x y c inside is long =
       measured t ∙ (ap (through over.journal b) is ∙ ap (λ (o : Option step.Reply). unless o (records x c inside)) long)
 
   pub short_enough : (t : next.Ticket) (x : step.Reply) (c : Change) (inside : List TxName) → publish_comes (unmeasured r) b t ≡ records x c inside
-      → refusal_of_size b.length (record_length c) ≡ None → publish_comes over b t ≡ records x c inside
+      → refusal_of_size b.length (record_length c (state_told b c)) ≡ None → publish_comes over b t ≡ records x c inside
   short_enough t x c inside is short =
       measured t ∙ (ap (through over.journal b) is ∙ ap (λ (o : Option step.Reply). unless o (records x c inside)) short)
 
@@ -194,14 +195,14 @@ module _ (ss : List Named) (r : limits_of.Rules) (b : Book) where
 
     module _ (up : b.down ≡ None) where
       -- the body of a tick's record has nine bytes
-      sweep_decided : sweep_comes over b tick ≡ unless (refusal_of_size b.length (record_length (sweeps tick))) (records (step.swept (freed tick b)) (sweeps tick) [])
+      sweep_decided : sweep_comes over b tick ≡ unless (refusal_of_size b.length (record_length (sweeps tick) None)) (records (step.swept (freed tick b)) (sweeps tick) [])
       sweep_decided = ap (λ (o : Option Doubt). unless (step.down_by o) (step.decide_sweep over tick b)) up
 
-      pub full_sweep : (x : step.Reply) → refusal_of_size b.length (record_length (sweeps tick)) ≡ Some x → Comes over b (step.sweep tick) (fate_by x) x b None
+      pub full_sweep : (x : step.Reply) → refusal_of_size b.length (record_length (sweeps tick) None) ≡ Some x → Comes over b (step.sweep tick) (fate_by x) x b None
       full_sweep x long =
           told_late x (sweep_decided ∙ ap (λ (o : Option step.Reply). unless o (records (step.swept (freed tick b)) (sweeps tick) [])) long)
 
-      module _ (short : refusal_of_size b.length (record_length (sweeps tick)) ≡ None) where
+      module _ (short : refusal_of_size b.length (record_length (sweeps tick) None) ≡ None) where
         recorded : sweep_comes over b tick ≡ records (step.swept (freed tick b)) (sweeps tick) []
         recorded = sweep_decided ∙ ap (λ (o : Option step.Reply). unless o (records (step.swept (freed tick b)) (sweeps tick) [])) short
 

@@ -1,10 +1,13 @@
 -- What a sweep comes to, by its record.
-use Rattle.std.proofs.Common.{◌≡◌, ◌∙◌, ap, sym, ℕ, ◌+◌, ◌-◌, max, false, nat_le, List, [], length, Some, None, Ok, Err, arith}
+use Rattle.std.proofs.Common.{◌≡◌, ◌∙◌, ap, sym, subst, ℕ, ◌+◌, ◌-◌, max, false, nat_le, List, [], length, Some, None, Ok, Err, arith}
 use Rattle.script_value.specs.declared.outcome.Reply.{Reply}
 use Rattle.script_value.specs.declared.outcome.Reply.TheVariants as reply
 use Rattle.script_nodes.specs.Setup.{Named}
 use Rattle.replay_spec.specs.Book.{sweeps, Book}
-use Rattle.replay_spec.specs.Change.{land}
+use Rattle.replay_spec.specs.Change.{instances_by, land}
+use Rattle.replay_spec.specs.Invariant.{IsOrderly}
+use Rattle.journal_books.specs.Keeping.{AreWhole, HasWholeScripts}
+use Rattle.journal_books.proofs.Fitting.{WholeIn, whole_by}
 use Rattle.replay_spec.specs.Step as step
 use Rattle.replay_spec.specs.Step.{freed}
 use Rattle.journal_records.specs.Records.{changes, record_length}
@@ -14,13 +17,13 @@ use Rattle.shelf.specs.declared.rules.Rules as limits_of
 use Rattle.shelf.specs.Views.{rules_of, fate_by}
 use Rattle.shelf.specs.Recording.{IsWritten}
 use Rattle.shelf.proofs.Steps.{Comes, wanting_sweep, full_sweep, landed_sweep}
-use Rattle.shelf.proofs.Publishing.{not_refused}
+use Rattle.shelf.proofs.Sizes.{not_refused}
 
 module _ (ss : List Named) (r : limits_of.Rules) (b : Book) (tick : ℕ) (late : nat_le tick b.clock ≡ false) (up : b.down ≡ None) where
   abbrev Answers : Reply → Type 0
   Answers x = Comes (rules_of ss r) b (step.sweep tick) (fate_by (reply_of x)) (reply_of x) b None
 
-  pub unwritten_sweep : (x : Reply) → IsWritten b.length (changes (sweeps tick)) (Err x) → Answers x
+  pub unwritten_sweep : (x : Reply) → IsWritten b.length (changes (sweeps tick) None) (Err x) → Answers x
   unwritten_sweep (reply.Page bytes url) h = full_sweep ss r b tick late up (reply_of (reply.Page bytes url)) h
   unwritten_sweep (reply.Finished bytes) h = full_sweep ss r b tick late up (reply_of (reply.Finished bytes)) h
   unwritten_sweep (reply.Ended bytes) h = full_sweep ss r b tick late up (reply_of (reply.Ended bytes)) h
@@ -37,7 +40,7 @@ module _ (ss : List Named) (r : limits_of.Rules) (b : Book) (tick : ℕ) (late :
   unwritten_sweep reply.Memory h = wanting_sweep ss r b tick late
 
   -- what lands, with the count that was freed
-  pub swept_comes : (body : List ℕ) (longer count : ℕ) (after : Book) → IsWritten b.length (changes (sweeps tick)) (Ok body) → longer ≡ b.length + (record_length (sweeps tick) + 5)
+  pub swept_comes : (body : List ℕ) (longer count : ℕ) (after : Book) → IsWritten b.length (changes (sweeps tick) None) (Ok body) → longer ≡ b.length + (record_length (sweeps tick) None + 5)
       → after ≡ swept tick (record b { length = longer }) → count ≡ length b.instances - length after.instances
       → Comes (rules_of ss r) b (step.sweep tick) step.plain (step.swept count) after (Some (sweeps tick))
   swept_comes body longer count after written e is many =
@@ -45,8 +48,15 @@ module _ (ss : List Named) (r : limits_of.Rules) (b : Book) (tick : ℕ) (late :
       let landed : after ≡ land (rules_of ss r) (sweeps tick) [] b =
       is ∙ (ap (λ (n : ℕ). record (swept tick b) { length = n }) e ∙ ap (λ (n : ℕ). record (land (rules_of ss r) (sweeps tick) [] b) { logged = n }) (sym logged)) in
       let told : freed tick b ≡ count = sym (many ∙ ap (λ (c : Book). length b.instances - length c.instances) is) in
-      let comes = landed_sweep ss r b tick late up (not_refused b.length (record_length (sweeps tick)) written.short) in
+      let comes = landed_sweep ss r b tick late up (not_refused b.length (record_length (sweeps tick) None) written.short) in
       record {
         step = λ nonce. comes.step nonce ∙ (ap (λ (n : ℕ). (step.swept n, land (rules_of ss r) (sweeps tick) [] b)) told ∙ ap (λ (c : Book). (step.swept count, c)) (sym landed));
         landed = comes.landed;
       }
+
+-- scripts stay whole behind a sweep
+pub swept_whole : (tick : ℕ) (b d : Book) → IsOrderly b → HasWholeScripts b → d.scripts ≡ b.scripts → d.instances ≡ instances_by b.scripts (sweeps tick) [] b.instances → HasWholeScripts d
+swept_whole tick b d orderly whole same is = record {
+  setup = subst AreWhole (sym same) whole.setup;
+  instances = subst WholeIn (sym is) (whole_by b.scripts b.instances (sweeps tick) [] orderly.instances.apart whole.setup whole.instances);
+}

@@ -14,16 +14,20 @@ use Rattle.stored_states.specs.declared.segment.Segment.{Segment}
 use Rattle.web_outside.specs.Causes.{Rose}
 use Rattle.web_disk.specs.View.{View}
 use Rattle.journal_books.specs.Standing.{if_kept, Throughout}
+use Rattle.journal_books.specs.Laws.{MeasuresDoubt}
+use Rattle.shelf.specs.Owning.{StaysOwnThroughout}
 use Rattle.replay_spec.specs.Book as spec
 use Rattle.replay_spec.specs.Admission.{or_else, refusal_of, admit}
 use Rattle.replay_spec.specs.Step as step
 use Rattle.replay_spec.specs.Step.{Decision, replies, records, take, publish, sweep, down_by, refused_by, no_take, publish_comes}
 use Rattle.instance_book.specs.declared.ticket.Ticket.{Ticket}
 use Rattle.instance_book.specs.declared.prepared.Prepared.{Prepared}
-use Rattle.instance_book.specs.Views.{ticket_of, ticket_for, reply_of}
+use Rattle.instance_book.specs.declared.prepared.Change.{Change}
+use Rattle.instance_book.specs.Changes.{HasStateBy, IsSpelledBy}
+use Rattle.instance_book.specs.Views.{instances_of, ticket_of, ticket_for, reply_of}
 use Rattle.instance_book.specs.Prepares.{IsCarriedOut}
 use Rattle.shelf.specs.declared.shelf.Shelf.{Shelf}
-use Rattle.shelf.specs.Views.{unmeasured, book_in, IsInOrder, taken_of, swept_of, IsEvent, HoldNow}
+use Rattle.shelf.specs.Views.{unmeasured, rules_of, book_in, IsInOrder, IsOwnShelf, taken_of, swept_of, IsEvent, HoldNow}
 
 -- a take is one event
 abbrev pub IsTake : {D N : Type 0} → (coming : N → ℕ → ℕ) → Setup → (old new : Shelf D N) → Target → Value → Result Ticket Reply → Type 0
@@ -53,6 +57,12 @@ abbrev pub CarriesOut : {D N : Type 0} → Setup → Shelf D N → Ticket → Pr
 CarriesOut setup s t p =
     IsCarriedOut (scripts_of setup) (unmeasured s.rules) (book_in (scripts_of setup) s) (decision_of setup s t) p
 
+-- the page that a change shows has the state of its chain, where this has a spelling
+abbrev pub ShowsItsState : {D N : Type 0} → Setup → Shelf D N → Option Change → Type 0
+ShowsItsState setup s c =
+    let scripts = scripts_of setup in
+    IsSpelledBy c → HasStateBy scripts s.book.shelf (instances_of scripts s.book.instances) c
+
 -- a decision that changes nothing, whatever is measured, is told
 abbrev pub TellsReply : Decision → step.Reply → Type 0
 TellsReply (replies x) r = r ≡ x
@@ -76,6 +86,11 @@ abbrev pub WantsIfNone : {D N : Type 0} → Setup → Shelf D N → Ticket → O
 WantsIfNone setup s t segment result =
     segment ≡ None → no_publish (book_in (scripts_of setup) s) (target_of t.target) ≡ None → result ≡ reply.Memory
 
+-- the number is out no more
+abbrev pub SpendsNumber : {D N : Type 0} → Setup → (old new : Shelf D N) → Ticket → Type 0
+SpendsNumber setup old new t =
+    (book_in (scripts_of setup) new).out ≡ (spec.spend t.number (book_in (scripts_of setup) old)).out
+
 -- want of memory changes nothing else than that the number is spent
 abbrev pub SpendsOnly : {D N : Type 0} → Setup → (old new : Shelf D N) → Ticket → Reply → Type 0
 SpendsOnly setup old new t result =
@@ -89,11 +104,26 @@ IsSweep coming old new tick result = (scripts : List Named) → IsEvent coming s
 -- what is in doubt then.
 abbrev pub HasMoments : {D N : Type 0} → (D → View) → List Named → (old new : Shelf D N) → Type 0
 HasMoments view scripts old new =
-    Throughout scripts old.rules.number (book_in scripts old) (if_kept scripts old.rules.number (book_in scripts new))
+    (n : ℕ) × Throughout scripts old.rules.number (book_in scripts old) (if_kept n (book_in scripts new))
     (view old.journal.disk) (view new.journal.disk)
 
 abbrev pub HasAllMoments : {D N : Type 0} → (D → View) → Bool → (old new : Shelf D N) → Type 0
 HasAllMoments view tells old new = (scripts : List Named) → IsInOrder view tells scripts old → HasMoments view scripts old new
+
+-- the same, where the limits measure what is in doubt then as its record is
+abbrev pub HasMeasuredMoments : {D N : Type 0} → (D → View) → List Named → (old new : Shelf D N) → Type 0
+HasMeasuredMoments view scripts old new =
+    (n : ℕ) × Throughout scripts old.rules.number (book_in scripts old) (if_kept n (book_in scripts new))
+    (view old.journal.disk) (view new.journal.disk) × MeasuresDoubt (rules_of scripts old.rules) n (book_in scripts new)
+
+-- of an own shelf it leaves this, and own records
+pub record HasOwnMoments {D N : Type 0} (view : D → View) (scripts : List Named) (old new : Shelf D N) : Type 0 where
+  pub own : StaysOwnThroughout scripts old.rules.number (view old.journal.disk) (view new.journal.disk)
+  pub measured : HasMeasuredMoments view scripts old new
+
+abbrev pub HasAllOwnMoments : {D N : Type 0} → (D → View) → Bool → (old new : Shelf D N) → Type 0
+HasAllOwnMoments view tells old new =
+    (scripts : List Named) → IsInOrder view tells scripts old → IsOwnShelf view tells scripts old → HasOwnMoments view scripts old new
 
 -- a fault that is told has the disk's count of now, which rose
 abbrev pub TellsCount : (before now : ℕ) → step.Reply → Type 0

@@ -1,5 +1,7 @@
 pub mod Ranges
+pub mod Owning
 pub mod Views
+pub mod Holding
 pub mod Events
 pub mod Going
 pub mod Faults

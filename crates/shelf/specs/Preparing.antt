@@ -1,5 +1,5 @@
 -- What a publish is prepared as, before its record is measured: as on a shelf that keeps no journal.
-use Rattle.std.specs.Prelude.{◌≡◌, ℕ, List, Option, Some, None, Result, Err, IfSome, ⊤}
+use Rattle.std.specs.Prelude.{◌≡◌, ℕ, List, Option, Some, None, Result, Ok, Err, IfSome, ⊤}
 use Rattle.script_value.specs.declared.outcome.Reply.{Reply}
 use Rattle.script_value.specs.declared.outcome.Reply.TheVariants as reply
 use Rattle.script_nodes.specs.Setup.{Named}
@@ -9,15 +9,21 @@ use Rattle.page_names.specs.declared.names.Target.{Target}
 use Rattle.stored_states.specs.declared.segment.Segment.{Segment}
 use Rattle.replay_spec.specs.Book as spec
 use Rattle.replay_spec.specs.Rules as spec_rules
-use Rattle.replay_spec.specs.Step.{Decision, publish_comes}
+use Rattle.replay_spec.specs.Admission.{refusal_of, admit}
+use Rattle.replay_spec.specs.Step.{Decision, plain, publish_comes}
 use Rattle.instance_book.specs.declared.book.Book.{Book}
 use Rattle.instance_book.specs.declared.ticket.Ticket.{Ticket}
 use Rattle.instance_book.specs.declared.prepared.Prepared.{Prepared}
 use Rattle.instance_book.specs.Admissions.{book_under, refusal_for}
-use Rattle.instance_book.specs.Views.{ticket_of, book_of}
-use Rattle.instance_book.specs.Prepares.{Prepares}
+use Rattle.instance_book.specs.Views.{ticket_of, reply_of, book_of}
+use Rattle.page_names.specs.Views.{target_of}
+use Rattle.stored_states.specs.Views.{segment_of}
+use Rattle.instance_book.specs.Prepares.{Prepares, IsOfSegment, KeepsItsState}
+use Rattle.instance_book.specs.Fits.{FitsAs}
+use Rattle.instance_book.specs.Laws.{KeepsStateAs}
 use Rattle.shelf.specs.declared.rules.Rules.{Rules}
-use Rattle.shelf.specs.Views.{unmeasured, HoldNow}
+use Rattle.shelf.specs.Views.{unmeasured, fate_by, HoldNow}
+use Rattle.shelf.specs.Holding.{AreHeldNow}
 
 -- what it comes to on the book beside a journal of this length, where nothing is in doubt
 abbrev pub decision_beside : Setup → (length : ℕ) → Rules → Book → Ticket → Decision
@@ -40,6 +46,29 @@ IsDecidedIfHeld setup rules b t segment result =
     (r : Segment) → segment ≡ Some r → HoldNow (book_under setup b) t r → (length : ℕ)
     → Prepares (scripts_of setup) (unmeasured rules) (book_of (scripts_of setup) length None b)
     (decision_beside setup length rules b t) result
+
+-- the segment keeps the state of its visit, where the ticket is for the one that its target is admitted as
+abbrev pub KeepsStateIfFits : spec.Book → Ticket → Segment → Type 0
+KeepsStateIfFits b t r =
+    let a = admit b (target_of t.target) in
+    FitsAs b.scripts b t a → KeepsStateAs b t a r
+
+-- What is prepared can be landed, whatever the ticket is for, where the state that it shows is whole: the target is admitted; it is a
+-- change of some segment of the ticket, or none, and carries itself out; the segment's effects hold; and the change has its state,
+-- which is that of its visit where the ticket fits.
+pub record CanBeLanded (scripts : List Named) (b : Book) (t : Ticket) (p : Prepared) : Type 0 where
+  pub admitted : refusal_of (admit (book_of scripts 0 None b) (target_of t.target)) ≡ None
+  pub segment : Segment
+  pub itself : IsOfSegment b t (segment_of segment) (target_of t.target) p
+  pub state : KeepsItsState t segment p.change
+  pub held : AreHeldNow b t segment
+  pub own : KeepsStateIfFits (book_of scripts 0 None b) t segment
+
+-- no fault of a disk is told, and no want of memory with what is prepared
+abbrev pub TellsOfRun : Result Prepared Reply → Type 0
+TellsOfRun (Ok p) = fate_by (reply_of p.reply) ≡ plain
+TellsOfRun (Err reply.Memory) = ⊤
+TellsOfRun (Err r) = fate_by (reply_of r) ≡ plain
 
 -- a target that is not admitted is told so; where there was no memory for the run of one that is, that is the answer
 abbrev pub IsRefused : Setup → Book → Target → Result Prepared Reply → Type 0

@@ -1,7 +1,5 @@
 -- What the program's shelf stands for in the definitions.
-use Rattle.std.specs.Prelude.{◌≡◌, ◌≤◌, ℕ, ◌+◌, Bool, false, IsTrue, List, [], map, length, Option, Some, None, option_map, IfSome, Contains, slice_get, Result, Ok, Err, ⊤}
-use Rattle.script_value.specs.Val.{Val}
-use Rattle.script_value.specs.Views.{meaning}
+use Rattle.std.specs.Prelude.{◌≡◌, ◌≤◌, ℕ, ◌+◌, Bool, false, IsTrue, List, [], map, length, Option, Some, None, option_map, IfSome, Contains, Result, Ok, Err, ⊤}
 use Rattle.script_value.specs.declared.outcome.TxName.{TxName}
 use Rattle.script_value.specs.declared.outcome.Reply.{Reply}
 use Rattle.script_value.specs.declared.outcome.Refusal.{Refusal}
@@ -16,7 +14,8 @@ use Rattle.instance_cells.specs.Views.{effect_of}
 use Rattle.web_disk.specs.View.{View}
 use Rattle.page_journal.specs.Settled as journal
 use Rattle.page_journal.specs.Settled.{is_broken, length_of}
-use Rattle.journal_records.specs.Records.{journal_rules}
+use Rattle.journal_books.specs.Lengths.{journal_rules}
+use Rattle.journal_books.specs.Keeping.{HasWholeScripts}
 use Rattle.journal_books.specs.Disks.{IsFit}
 use Rattle.journal_books.specs.Spelling.{IsInRange}
 use Rattle.stored_states.specs.Views.{segment_of}
@@ -32,14 +31,12 @@ use Rattle.replay_spec.specs.Step as step
 use Rattle.replay_spec.specs.Runs as runs
 use Rattle.replay_spec.specs.Runs.{drawn_by, shelf_step}
 use Rattle.replay_spec.specs.Invariant.{IsOrderly}
-use Rattle.replay_spec.specs.Remade.{NameTheirCells}
 use Rattle.instance_book.specs.declared.ticket.Ticket.{Ticket}
 use Rattle.instance_book.specs.Views.{book_of, ticket_of, reply_of}
 use Rattle.instance_book.specs.declared.prepared.Change.{Change}
 use Rattle.instance_book.specs.Changes.{change_of, inside_of}
-use Rattle.instance_book.specs.Makes.{HasItsStates}
+use Rattle.instance_book.specs.Makes.{HasPlaces, HasItsStates}
 use Rattle.instance_book.specs.Swept.{cells_in}
-use Rattle.instance_book.specs.Places.{arena_of}
 use Rattle.instance_book.specs.Fits.{FitsAs}
 use Rattle.instance_book.specs.Prepares.{rules_with}
 use Rattle.instance_book.specs.Laws.{KeepsStateAs}
@@ -50,6 +47,7 @@ use Rattle.shelf.specs.declared.doubt.Doubted.TheVariants.{Visits, Sweeps}
 use Rattle.shelf.specs.declared.rules.Rules.{Rules}
 use Rattle.shelf.specs.declared.shelf.Shelf.{Shelf}
 use Rattle.shelf.specs.Ranges.{AreInRange}
+use Rattle.shelf.specs.Owning.{StandsOwn}
 
 -- what the events of a shelf run under, before the record of a change is measured
 abbrev pub unmeasured : Rules → spec_rules.Rules
@@ -88,13 +86,13 @@ shelf_of scripts given s = record { rules = rules_of scripts s.rules; book = boo
 abbrev pub HasGiven : (source : ℕ → ℕ) → (given : ℕ) → (coming : ℕ → ℕ) → Type 0
 HasGiven source given coming = (k : ℕ) → coming k ≡ source (given + k)
 
--- What holds of a shelf between its calls, on a disk of this view: each instance is of a script of the setup and each page has
--- the state of its chain; the book is orderly, of cells and numbers that records tell, and of the shelf's number; the limits
--- are in their ranges; where nothing is in doubt, the journal can go on; and where the disk tells its bytes, it stands for the book.
+-- What holds of a shelf between its calls, on a disk of this view, whoever left the journal: each instance is of a script of the
+-- setup; the book is orderly, of whole scripts and of numbers that records tell, and of the shelf's number; the limits are in their
+-- ranges; where nothing is in doubt, the journal can go on; and where the disk tells its bytes, it stands for the book.
 pub record IsInOrder {D N : Type 0} (view : D → View) (tells : Bool) (scripts : List Named) (s : Shelf D N) : Type 0 where
-  pub states : HasItsStates scripts s.book
+  pub placed : HasPlaces scripts s.book
   pub orderly : IsOrderly (book_in scripts s)
-  pub named : NameTheirCells (book_in scripts s)
+  pub scripts_are : HasWholeScripts (book_in scripts s)
   pub range : IsInRange (book_in scripts s)
   pub number : s.book.shelf ≡ s.rules.number
   pub limits : AreInRange s.rules
@@ -102,6 +100,17 @@ pub record IsInOrder {D N : Type 0} (view : D → View) (tells : Bool) (scripts 
   pub sound : journal.IsSound s.journal
   pub whole : s.down ≡ None → is_broken s.journal ≡ false
   pub fit : IsTrue tells → IsFit view scripts s.rules.number s.journal (book_in scripts s)
+
+-- What this program's own shelves have besides: each page has the state of its chain; and where the disk tells its bytes, so has each
+-- record that a crash may leave there, and what is in doubt is measured as its record is.
+pub record IsOwnShelf {D N : Type 0} (view : D → View) (tells : Bool) (scripts : List Named) (s : Shelf D N) : Type 0 where
+  pub states : HasItsStates scripts s.book
+  pub own : IsTrue tells → StandsOwn (rules_of scripts s.rules) scripts s.rules.number (view s.journal.disk) (book_in scripts s)
+
+-- one that was in order and an own one goes on to be, under each setup
+abbrev pub StaysOwn : {D N : Type 0} → (D → View) → Bool → (old new : Shelf D N) → Type 0
+StaysOwn view tells old new =
+    (scripts : List Named) → IsInOrder view tells scripts old → IsOwnShelf view tells scripts old → IsOwnShelf view tells scripts new
 
 -- under some setup; one that was in order goes on to be, under each
 abbrev pub IsInSomeOrder : {D N : Type 0} → (D → View) → Bool → Shelf D N → Type 0
@@ -145,6 +154,11 @@ refusal_now setup s target = refusal_of (admission_now setup s target)
 -- where the ticket's target is admitted now, the ticket is for the visit of it
 abbrev pub FitsNow : {D N : Type 0} → Setup → Shelf D N → Ticket → Type 0
 FitsNow setup s t = FitsAs (scripts_of setup) (book_in (scripts_of setup) s) t (admission_now setup s t.target)
+
+-- the shelf is an own one, and the ticket fits it
+pub record IsOwnVisit {D N : Type 0} (view : D → View) (tells : Bool) (setup : Setup) (s : Shelf D N) (t : Ticket) : Type 0 where
+  pub own : IsOwnShelf view tells (scripts_of setup) s
+  pub fits : FitsNow setup s t
 
 -- its number is out
 abbrev pub IsOut : {D N : Type 0} → Setup → Shelf D N → Ticket → Type 0

@@ -1,24 +1,27 @@
 ghost use Rattle.std.specs.Prelude.{◌≡◌, ◌≢◌, ◌⊎◌, ◌≤◌, ◌+◌, ◌++◌, ◌∷◌, [], false, length, IsTrue, IfOk, OnOk, IsErrOf, is_ok};
-ghost use Rattle.script_nodes.specs.Views.{scripts_of};
+ghost use Rattle.script_nodes.specs.Views.{named_of, scripts_of};
 ghost use Rattle.web_outside.specs.Causes.{Rose};
 ghost use Rattle.page_journal.specs.Scanned.{IsQuiet};
 ghost use Rattle.page_journal.specs.Settled.{IsSettled, IsSound, HasFailed, view_of, bodies_in, length_of, is_broken};
 ghost use Rattle.journal_records.specs.Records.{IsInGrammar, begin_of};
 ghost use Rattle.journal_books.specs.Making.{nothing, begun, book_of};
 ghost use Rattle.journal_books.specs.Standing.{IsBook};
-ghost use Rattle.journal_books.specs.Keeping.{AreNamed, first_body};
+ghost use Rattle.journal_books.specs.Keeping.{IsWhole, AreWhole, first_body};
 ghost use Rattle.journal_books.specs.Disks.{IsFit};
 ghost use Rattle.book_recovery.specs.Found.{book_with, IsBookInOrder};
 ghost use Rattle.shelf.specs.Faults.{begin_fault, IsReadFault};
+ghost use Rattle.shelf.specs.Opening.{HasOwnRecords, OpensOwn};
+ghost use Rattle.shelf.specs.Owning.{StaysOwnThroughout};
 ghost use Rattle.shelf.specs.Ranges.{AreInRange};
 
+use crate::recording::added;
 use crate::rules::Rules;
 use crate::shelf::Shelf;
 use book_recovery::{Found, read_book};
 use instance_book::Book;
 use journal_records::{encode_begin, records_are_exact};
-use page_journal::{AppendFault, Journal, JournalFault, MAX_LEN};
-use script_nodes::Setup;
+use page_journal::{Journal, JournalFault, MAX_LEN};
+use script_nodes::{NamedScript, Setup};
 use std::alloc::Global;
 use web_disk::Disk;
 use web_outside::Nonces;
@@ -62,6 +65,8 @@ fn start<D: Disk>(
     ensures len { OnOk result (length_of journal.new ≡ length_of journal.old + 5 + length (first_body (scripts_of setup.now) number)) }
     ensures sound { IsSound journal.new }
     ensures whole { OnOk result (is_broken journal.new ≡ false) }
+    ensures own_moments { IsTrue D.tells → bodies_in D.view journal.old ≡ []
+        → StaysOwnThroughout (scripts_of setup.now) number (view_of D.view journal.old) (view_of D.view journal.new) }
     ensures refused { IsErrOf result BeginFault.DiskFault ⊎ (IsErrOf result BeginFault.Memory ⊎ IsTrue (is_ok result)) }
     ensures cause { IsErrOf result BeginFault.DiskFault → HasFailed (view_of D.view journal.old) (view_of D.view journal.new) }
     ensures later { (view_of D.view journal.old).faults ≤ (view_of D.view journal.new).faults }
@@ -69,16 +74,15 @@ fn start<D: Disk>(
     let Ok(body) = encode_begin(alloc, number, setup) else {
         return Err(BeginFault::Memory);
     };
-    if body.len() as u64 > MAX_LEN {
+    if journal.len() + 5 + body.len() as u64 > MAX_LEN {
         return Err(BeginFault::Memory);
     }
     if journal.room(body.len() as u32).is_err() {
         return Err(BeginFault::Memory);
     }
-    match journal.append(body.as_slice()) {
+    match added(journal, body.as_slice()) {
         Ok(()) => Ok(()),
-        Err(AppendFault::Full { .. }) => Err(BeginFault::Memory),
-        Err(AppendFault::DiskFault) => Err(BeginFault::DiskFault),
+        Err(_) => Err(BeginFault::DiskFault),
     }
 }
 
@@ -98,13 +102,17 @@ fn open<D: Disk>(
     ensures in_order { IfOk result (λ b. IsBookInOrder (scripts_of setup.now) number b) }
     ensures sound { IsSound journal.new }
     ensures whole { OnOk result (is_broken journal.new ≡ false) }
+    ensures own { IsTrue D.tells → HasOwnRecords D.view (scripts_of setup.now) number journal.old
+        → IfOk result (OpensOwn D.view (scripts_of setup.now) number journal.new) }
+    ensures own_moments { IsTrue D.tells → HasOwnRecords D.view (scripts_of setup.now) number journal.old
+        → StaysOwnThroughout (scripts_of setup.now) number (view_of D.view journal.old) (view_of D.view journal.new) }
     ensures refused { IsTrue D.tells → IsReadFault (book_of (scripts_of setup.now) number (bodies_in D.view journal.old)) result }
     ensures quiet { IsTrue D.tells → book_of (scripts_of setup.now) number (bodies_in D.view journal.old) ≢ nothing → IsQuiet (view_of D.view journal.old) (view_of D.view journal.new) }
     ensures cause { IsErrOf result BeginFault.DiskFault → HasFailed (view_of D.view journal.old) (view_of D.view journal.new) }
     ensures later { (view_of D.view journal.old).faults ≤ (view_of D.view journal.new).faults }
 {
     records_are_exact();
-    name_their_cells(setup);
+    scripts_are_whole(setup);
     let Ok(found) = read_book(alloc, journal, setup, number) else {
         return Err(BeginFault::DiskFault);
     };
@@ -120,26 +128,35 @@ fn open<D: Disk>(
     }
 }
 
-// Each script of a setup names cells that it has.
-fn name_their_cells(setup: &Setup)
-    ensures { AreNamed (scripts_of setup.now) }
+// Each script of a setup can be run: its nodes are those of what it means.
+fn scripts_are_whole(setup: &Setup)
+    ensures { AreWhole (scripts_of setup.now) }
 {
     for place in 0..setup.len() {
-        if let Some(named) = setup.get(place) {
-            let _root = named.script.root();
+        match setup.get(place) {
+            Some(named) => can_be_run(named),
+            None => (),
         }
     }
+}
+
+fn can_be_run(named: &NamedScript)
+    ensures { IsWhole (named_of named.now) }
+{
+    let _root = named.script.root();
 }
 
 impl<D: Disk, N: Nonces + Drop> Shelf<D, N> {
     ghost use Rattle.replay_spec.specs.Book.{reopened};
     ghost use Rattle.journal_books.specs.Standing.{StaysThroughout, IsOneOf};
-    ghost use Rattle.shelf.specs.Views.{book_in, IsInOrder};
+    ghost use Rattle.shelf.specs.Views.{book_in, IsInOrder, IsOwnShelf};
+    ghost use Rattle.shelf.specs.Owning.{IsOwnImage, HasOwnImages};
     ghost use Rattle.shelf.specs.Opening.{IsFault, MakesBook, fault_of, disk_of, nonces_of};
 
     /// Opens the shelf of these limits, which are in their ranges, on a disk: its book is what the records of the journal make,
     /// as after a crash. A disk without a record gets the first, which tells the shelf's number and its scripts. A disk that is
-    /// refused is handed back.
+    /// refused is handed back. Where the records that are read are own ones, as those of an empty disk are, the shelf is an own
+    /// one; and where a disk holds own records, a crash at any moment of the opening leaves some.
     ///
     /// It asks for scripts that such a record can tell.
     pub fn begin(
@@ -157,6 +174,10 @@ impl<D: Disk, N: Nonces + Drop> Shelf<D, N> {
         ensures one_of { IsTrue D.tells → IfOk result (λ s. IsOneOf (scripts_of setup.now) rules.number (D.view disk) (book_in (scripts_of setup.now) s)) }
         ensures any_moment { IsTrue D.tells → StaysThroughout (scripts_of setup.now) rules.number (D.view disk) (D.view (disk_of result)) }
         ensures in_order { IfOk result (λ s. IsInOrder D.view D.tells (scripts_of setup.now) s) }
+        ensures own { IsTrue D.tells → IsOwnImage (scripts_of setup.now) rules.number (D.view disk).seen
+            → IfOk result (IsOwnShelf D.view D.tells (scripts_of setup.now)) }
+        ensures own_moments { IsTrue D.tells → HasOwnImages (scripts_of setup.now) rules.number (D.view disk)
+            → StaysOwnThroughout (scripts_of setup.now) rules.number (D.view disk) (D.view (disk_of result)) }
         ensures rules { IfOk result (λ s. s.rules ≡ rules) }
         ensures nonces { nonces_of result ≡ nonces }
         ensures refused { IsTrue D.tells → IsFault (scripts_of setup.now) rules.number (D.view disk) (fault_of result) }

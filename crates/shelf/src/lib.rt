@@ -6,11 +6,14 @@ ghost use Rattle.shelf.specs.Going.{TicketsGoOnToFit};
 ghost use Rattle.shelf.specs.Opening.{AReopenedShelfHasCrashed, AStandingDiskOpens};
 
 mod begin;
+mod body;
 mod doubt;
+mod nesting;
 mod prepare;
 mod publish;
 mod recording;
 mod rules;
+mod same;
 mod second;
 mod shelf;
 mod sweep;

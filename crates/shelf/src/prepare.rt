@@ -1,13 +1,18 @@
-ghost use Rattle.std.specs.Prelude.{◌≡◌, ◌≤◌, None, IfOk, Contains};
+ghost use Rattle.std.specs.Prelude.{◌≡◌, ◌⊎◌, ◌≤◌, ◌↔◌, None, Err, IfOk, IsTrue, Contains};
+ghost use Rattle.page_names.specs.Views.{target_of};
 ghost use Rattle.script_nodes.specs.Views.{scripts_of};
 ghost use Rattle.server_limits.specs.Limits.{most_fuel, most_life};
 ghost use Rattle.replay_spec.specs.Invariant.{IsOrderly};
 ghost use Rattle.instance_book.specs.Admissions.{book_under, refusal_for, FitsIn};
-ghost use Rattle.instance_book.specs.Changes.{HasRoomFor, HasStateBy};
-ghost use Rattle.instance_book.specs.Makes.{HasItsStates, StaysSame, KeepsStates};
-ghost use Rattle.instance_book.specs.Views.{instances_of};
-ghost use Rattle.shelf.specs.Views.{IsRunIfAny};
-ghost use Rattle.shelf.specs.Preparing.{IsDecided, IsDecidedIfHeld, IsRefused, WantsMemory};
+ghost use Rattle.instance_book.specs.Changes.{HasRoomFor, HasStateBy, IsSpelledBy};
+ghost use Rattle.instance_book.specs.Fits.{IsRunnable};
+ghost use Rattle.instance_book.specs.Makes.{HasPlaces, StaysSame, KeepsPlaces, KeepsStates};
+ghost use Rattle.instance_book.specs.Prepares.{HasItsScript};
+ghost use Rattle.instance_book.specs.Views.{instances_of, reply_of};
+ghost use Rattle.replay_spec.specs.Step.{plain};
+ghost use Rattle.script_value.specs.declared.outcome.Reply.TheVariants as reply;
+ghost use Rattle.shelf.specs.Views.{IsRunIfAny, fate_by};
+ghost use Rattle.shelf.specs.Preparing.{IsDecided, IsDecidedIfHeld, IsRefused, WantsMemory, CanBeLanded, TellsOfRun};
 
 use crate::rules::Rules;
 use crate::second::segment_now;
@@ -17,7 +22,43 @@ use script_value::Reply;
 use send_suspend::Segment;
 use std::alloc::Global;
 
+// Whether a reply tells neither want of memory nor a fault of a disk.
+fn is_plain(reply: &Reply) -> bool
+    ensures { IsTrue result ↔ (fate_by (reply_of reply.now) ≡ plain) }
+{
+    match reply {
+        Reply::Memory => false,
+        Reply::DiskFault(_) => false,
+        _ => true,
+    }
+}
+
+// What was prepared, or answered, where this is what a run can come to. A run comes to nothing else.
+fn of_run(prepared: Result<Prepared, Reply>) -> Result<Prepared, Reply>
+    ensures tells { TellsOfRun result }
+    ensures same { TellsOfRun prepared → result ≡ prepared }
+    ensures given { (result ≡ prepared) ⊎ (result ≡ Err reply.Memory) }
+{
+    match prepared {
+        Ok(prepared) => {
+            if is_plain(&prepared.reply) {
+                return Ok(prepared);
+            }
+            drop(prepared);
+        }
+        Err(reply) => {
+            if is_plain(&reply) {
+                return Err(reply);
+            }
+            drop(reply);
+        }
+    }
+    Err(Reply::Memory)
+}
+
 /// What the publish of a ticket is prepared as, or answered, on a shelf that is not down, before its record is measured.
+///
+/// Whatever the ticket is for, what is prepared can be landed. Where it is for the visit of its target, that is what the visit comes to.
 pub fn prepared(
     alloc: Global,
     book: &mut Book,
@@ -28,18 +69,22 @@ pub fn prepared(
 ) -> Result<Prepared, Reply>
     requires fuel { rules.fuel ≤ most_fuel }
     requires life { rules.life ≤ most_life }
-    requires states { HasItsStates (scripts_of setup.now) book.old }
+    requires placed { HasPlaces (scripts_of setup.now) book.old }
     requires orderly { IsOrderly (book_under setup.now book.old) }
     requires out { Contains book.old.out.items ticket.now.number }
-    requires fits { FitsIn setup.now book.old ticket.now.target ticket.now }
+    requires runs { IsRunnable (scripts_of setup.now) ticket.now }
+    requires script { HasItsScript (scripts_of setup.now) ticket.now (target_of ticket.now.target) }
     requires segment { IsRunIfAny (scripts_of setup.now) rules.fuel ticket.now segment }
     ensures book { StaysSame book.old book.new }
+    ensures placed { KeepsPlaces book.old book.new }
     ensures states { KeepsStates book.old book.new }
     ensures room { IfOk result (λ p. HasRoomFor p.change book.new) }
-    ensures shown { IfOk result (λ p. HasStateBy (scripts_of setup.now) book.old.shelf (instances_of (scripts_of setup.now) book.old.instances) p.change) }
-    ensures decided { IsDecided setup.now rules book.old ticket.now result }
-    ensures held { IsDecidedIfHeld setup.now rules book.old ticket.now segment result }
+    ensures landed { IfOk result (CanBeLanded (scripts_of setup.now) book.old ticket.now) }
+    ensures shown { FitsIn setup.now book.old ticket.now.target ticket.now → IfOk result (λ p. IsSpelledBy p.change → HasStateBy (scripts_of setup.now) book.old.shelf (instances_of (scripts_of setup.now) book.old.instances) p.change) }
+    ensures decided { FitsIn setup.now book.old ticket.now.target ticket.now → IsDecided setup.now rules book.old ticket.now result }
+    ensures held { FitsIn setup.now book.old ticket.now.target ticket.now → IsDecidedIfHeld setup.now rules book.old ticket.now segment result }
     ensures refused { IsRefused setup.now book.old ticket.now.target result }
+    ensures tells { TellsOfRun result }
     ensures none { WantsMemory setup.now book.old ticket.now segment result }
 {
     a_shown_page_has_its_state();
@@ -50,14 +95,14 @@ pub fn prepared(
         return Err(Reply::Memory);
     };
     match segment_now(alloc, book, setup, ticket, first, rules.fuel) {
-        Ok(segment) => book.prepare(
+        Ok(segment) => of_run(book.prepare(
             alloc,
             ticket,
             segment,
             rules.instances,
             rules.pages,
             rules.life,
-        ),
+        )),
         Err(_) => Err(Reply::Memory),
     }
 }

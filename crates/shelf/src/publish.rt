@@ -1,14 +1,20 @@
 ghost use Rattle.std.specs.Prelude.{◌≡◌, ◌≤◌, None, IsTrue};
 ghost use Rattle.script_nodes.specs.Views.{scripts_of};
-ghost use Rattle.instance_book.specs.Changes.{HasRoomFor, HasStateBy};
-ghost use Rattle.instance_book.specs.Views.{instances_of, reply_of};
+ghost use Rattle.page_names.specs.Views.{target_of};
+ghost use Rattle.instance_book.specs.Changes.{HasRoomFor};
+ghost use Rattle.instance_book.specs.Fits.{IsRunnable};
+ghost use Rattle.instance_book.specs.Prepares.{HasItsScript};
+ghost use Rattle.instance_book.specs.Views.{reply_of};
 
+use crate::body::told_body;
 use crate::doubt::Doubt;
 use crate::prepare::prepared;
-use crate::recording::{added, recorded, written};
+use crate::recording::added;
 use crate::shelf::Shelf;
 use instance_book::{Prepared, Ticket};
-use journal_books::{events_are_kept, events_stand_between};
+use journal_books::{
+    events_are_kept, events_stand_between, landings_are_kept, landings_stand_between,
+};
 use script_nodes::Setup;
 use script_value::Reply;
 use send_suspend::Segment;
@@ -18,8 +24,10 @@ use web_outside::Nonces;
 
 impl<D: Disk, N: Nonces + Drop> Shelf<D, N> {
     ghost use Rattle.page_journal.specs.Settled.{view_of};
-    ghost use Rattle.shelf.specs.Views.{IsInOrder, FitsNow, IsOut, IsRunFor};
-    ghost use Rattle.shelf.specs.Events.{IsPublish, TellsRefusal, IsToldIfHeld, WantsIfNone, SpendsOnly, HasMoments, TellsCount, TellsReply, CarriesOut, decision_of};
+    ghost use Rattle.shelf.specs.Views.{IsInOrder, IsOwnShelf, IsOwnVisit, IsOut, IsRunFor, fate_by};
+    ghost use Rattle.replay_spec.specs.Step.{plain};
+    ghost use Rattle.shelf.specs.Events.{IsPublish, TellsRefusal, IsToldIfHeld, WantsIfNone, SpendsNumber, SpendsOnly, HasMoments, HasOwnMoments, TellsCount, TellsReply, CarriesOut, ShowsItsState, decision_of};
+    ghost use Rattle.shelf.specs.Preparing.{CanBeLanded};
 
     /// Publishes the segment of a ticket, which spends its number whatever the reply.
     ///
@@ -33,8 +41,9 @@ impl<D: Disk, N: Nonces + Drop> Shelf<D, N> {
     /// is due, any reply that changes nothing, but for the length of a record. Want of memory changes nothing else than that
     /// the number is spent.
     ///
-    /// It asks for a number that is out; for a ticket that is, where its target is admitted now, for the visit of it; and for the
-    /// segment of its run over its own cells.
+    /// It asks for a number that is out, for a ticket that can be run, and for the segment of its run over its own cells. On an own
+    /// shelf, where the ticket is for the visit of its target wherever that is admitted now, the publish is one event. Whatever the
+    /// ticket is for, the shelf stays in order: what recovery would not take in again is not recorded, and told as want of memory.
     pub fn publish(
         &mut self,
         alloc: Global,
@@ -44,14 +53,18 @@ impl<D: Disk, N: Nonces + Drop> Shelf<D, N> {
     ) -> Reply
         requires in_order { IsInOrder D.view D.tells (scripts_of setup.now) self.old }
         requires out { IsOut setup.now self.old ticket }
-        requires fits { FitsNow setup.now self.old ticket }
+        requires runs { IsRunnable (scripts_of setup.now) ticket }
+        requires script { HasItsScript (scripts_of setup.now) ticket (target_of ticket.target) }
         requires segment { IsRunFor setup.now self.old ticket segment }
-        ensures event { IsPublish N.nonce setup.now self.old self.new ticket result }
+        ensures event { IsOwnVisit D.view D.tells setup.now self.old ticket → IsPublish N.nonce setup.now self.old self.new ticket result }
         ensures in_order { IsInOrder D.view D.tells (scripts_of setup.now) self.new }
+        ensures own { IsOwnVisit D.view D.tells setup.now self.old ticket → IsOwnShelf D.view D.tells (scripts_of setup.now) self.new }
+        ensures spent { SpendsNumber setup.now self.old self.new ticket }
         ensures any_moment { IsTrue D.tells → HasMoments D.view (scripts_of setup.now) self.old self.new }
+        ensures own_moments { IsTrue D.tells → IsOwnVisit D.view D.tells setup.now self.old ticket → HasOwnMoments D.view (scripts_of setup.now) self.old self.new }
         ensures refused { TellsRefusal setup.now self.old ticket.target result }
         ensures none { WantsIfNone setup.now self.old ticket segment result }
-        ensures held { IsToldIfHeld setup.now self.old ticket segment result }
+        ensures held { IsOwnVisit D.view D.tells setup.now self.old ticket → IsToldIfHeld setup.now self.old ticket segment result }
         ensures memory { SpendsOnly setup.now self.old self.new ticket result }
         ensures cause { TellsCount (view_of D.view self.old.journal).faults (view_of D.view self.new.journal).faults (reply_of result) }
         ensures later { (view_of D.view self.old.journal).faults ≤ (view_of D.view self.new.journal).faults }
@@ -74,33 +87,42 @@ impl<D: Disk, N: Nonces + Drop> Shelf<D, N> {
     }
 
     // Makes a prepared change, once its record is on the disk, and gives its reply.
+    //
+    // Whatever the ticket is for, the shelf stays in order; for an own visit this is what the visit comes to.
     fn land(&mut self, alloc: Global, setup: &Setup, ticket: &Ticket, prepared: Prepared) -> Reply
         requires in_order { IsInOrder D.view D.tells (scripts_of setup.now) self.old }
         requires up { self.old.down ≡ None }
         requires out { IsOut setup.now self.old ticket.now }
+        requires script { HasItsScript (scripts_of setup.now) ticket.now (target_of ticket.now.target) }
         requires room { HasRoomFor prepared.change self.old.book }
-        requires shown { HasStateBy (scripts_of setup.now) self.old.book.shelf (instances_of (scripts_of setup.now) self.old.book.instances) prepared.change }
-        requires decided { CarriesOut setup.now self.old ticket.now prepared }
-        ensures event { IsPublish N.nonce setup.now self.old self.new ticket.now result }
+        requires plain { fate_by (reply_of prepared.reply) ≡ plain }
+        requires landed { CanBeLanded (scripts_of setup.now) self.old.book ticket.now prepared }
+        requires shown { IsOwnVisit D.view D.tells setup.now self.old ticket.now → ShowsItsState setup.now self.old prepared.change }
+        requires decided { IsOwnVisit D.view D.tells setup.now self.old ticket.now → CarriesOut setup.now self.old ticket.now prepared }
+        ensures event { IsOwnVisit D.view D.tells setup.now self.old ticket.now → IsPublish N.nonce setup.now self.old self.new ticket.now result }
         ensures in_order { IsInOrder D.view D.tells (scripts_of setup.now) self.new }
+        ensures own { IsOwnVisit D.view D.tells setup.now self.old ticket.now → IsOwnShelf D.view D.tells (scripts_of setup.now) self.new }
+        ensures spent { SpendsNumber setup.now self.old self.new ticket.now }
         ensures any_moment { IsTrue D.tells → HasMoments D.view (scripts_of setup.now) self.old self.new }
-        ensures told { TellsReply (decision_of setup.now self.old ticket.now) (reply_of result) }
+        ensures own_moments { IsTrue D.tells → IsOwnVisit D.view D.tells setup.now self.old ticket.now → HasOwnMoments D.view (scripts_of setup.now) self.old self.new }
+        ensures told { IsOwnVisit D.view D.tells setup.now self.old ticket.now → TellsReply (decision_of setup.now self.old ticket.now) (reply_of result) }
         ensures memory { SpendsOnly setup.now self.old self.new ticket.now result }
         ensures cause { TellsCount (view_of D.view self.old.journal).faults (view_of D.view self.new.journal).faults (reply_of result) }
         ensures later { (view_of D.view self.old.journal).faults ≤ (view_of D.view self.new.journal).faults }
         ensures nonces { self.new.nonces ≡ self.old.nonces }
         ensures rules { self.new.rules ≡ self.old.rules }
     {
-        let _setup = setup;
         // A nonce has 64 bits.
         let _nonce = ticket.nonce;
         events_are_kept();
         events_stand_between();
+        landings_are_kept();
+        landings_stand_between();
         self.book.spend(ticket.number);
         let Some(change) = &prepared.change else {
             return self.book.install(prepared);
         };
-        let body = match written(alloc, &mut self.journal, &recorded(change)) {
+        let body = match told_body(alloc, &mut self.journal, &self.book, setup, change) {
             Ok(body) => body,
             Err(reply) => {
                 drop(prepared);

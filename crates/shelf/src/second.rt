@@ -1,20 +1,47 @@
-ghost use Rattle.std.specs.Prelude.{◌≡◌, ◌<◌, ◌^◌, IfOk, Ok, None, map};
+ghost use Rattle.std.specs.Prelude.{◌≡◌, ◌<◌, ◌^◌, ◌↔◌, IsTrue, IfOk, Ok, None, map};
 ghost use Rattle.script_nodes.specs.Views.{scripts_of};
+ghost use Rattle.page_names.specs.Views.{target_of};
 ghost use Rattle.instance_cells.specs.Views.{effect_of};
-ghost use Rattle.instance_book.specs.Admissions.{book_under, refusal_for, FitsIn};
-ghost use Rattle.instance_book.specs.Prepares.{AreOnCells};
+ghost use Rattle.instance_book.specs.Admissions.{book_under};
+ghost use Rattle.instance_book.specs.Fits.{IsRunnable};
+ghost use Rattle.instance_book.specs.Prepares.{AreOnCells, HasItsScript};
 ghost use Rattle.shelf.specs.Views.{HaveTheirCells, IsRunOf, IsSegmentNow, KeepsStateNow, HoldNow};
+ghost use Rattle.shelf.specs.Holding.{AreHeld, AreHeldNow, IsForItsVisit};
 
 use instance_book::{Book, Ticket};
+use instance_cells::{Cells, Effect};
 use page_names::Target;
-use replay_spec::{effects_are_on_cells, effects_hold_run_same};
+use replay_spec::{effects_are_on_cells, effects_hold, effects_hold_run_same};
 use script_nodes::Setup;
 use send_suspend::Segment;
 use std::alloc::{AllocError, Global};
 use ticket_runs::run_ticket;
 
+// Whether effects are on these cells and hold over them.
+fn are_held(cells: &Cells, effects: &[Effect]) -> bool
+    ensures { IsTrue result ↔ AreHeld (map effect_of effects.now) cells.now }
+{
+    cells.are_on(effects) && cells.holds(effects)
+}
+
+// The segment, where its effects hold over these cells.
+fn held(cells: &Cells, segment: Segment) -> Result<Segment, AllocError>
+    ensures held { IfOk result (λ r. AreHeld (map effect_of r.effects.items) cells.now) }
+    ensures same { AreHeld (map effect_of segment.effects.items) cells.now → result ≡ Ok segment }
+    ensures first { IfOk result (λ r. r ≡ segment) }
+{
+    if are_held(cells, &segment.effects) {
+        Ok(segment)
+    } else {
+        Err(AllocError)
+    }
+}
+
 /// What the segment of a ticket comes to over the cells of now: the first run's result where its effects hold over them, and
 /// else that of a second run. A start's cells are its own, so it is never run again.
+///
+/// Whatever the ticket is for, the effects hold over the cells of its instance, so that recovery takes its record in: what does not
+/// hold is told as want of memory. Where the ticket is for the visit of its target, that cannot be.
 pub fn segment_now(
     alloc: Global,
     book: &Book,
@@ -23,15 +50,16 @@ pub fn segment_now(
     first: Segment,
     fuel: u64,
 ) -> Result<Segment, AllocError>
-    requires fits { FitsIn setup.now book.now ticket.now.target ticket.now }
-    requires admitted { refusal_for setup.now book.now ticket.now.target ≡ None }
+    requires runs { IsRunnable (scripts_of setup.now) ticket.now }
+    requires script { HasItsScript (scripts_of setup.now) ticket.now (target_of ticket.now.target) }
     requires segment { IsRunOf (scripts_of setup.now) fuel ticket.now first }
     requires cells { HaveTheirCells (book_under setup.now book.now) }
     requires fuel { fuel < 2 ^ 63 }
-    ensures segment { IfOk result (IsSegmentNow fuel (book_under setup.now book.now) ticket.now) }
-    ensures state { IfOk result (KeepsStateNow (book_under setup.now book.now) ticket.now) }
-    ensures first { HoldNow (book_under setup.now book.now) ticket.now first → result ≡ Ok first }
+    ensures segment { IsForItsVisit setup.now book.now ticket.now → IfOk result (IsSegmentNow fuel (book_under setup.now book.now) ticket.now) }
+    ensures state { IsForItsVisit setup.now book.now ticket.now → IfOk result (KeepsStateNow (book_under setup.now book.now) ticket.now) }
+    ensures first { IsForItsVisit setup.now book.now ticket.now → HoldNow (book_under setup.now book.now) ticket.now first → result ≡ Ok first }
     ensures on { IfOk result (λ r. AreOnCells book.now ticket.now (map effect_of r.effects.items)) }
+    ensures held { IfOk result (AreHeldNow book.now ticket.now) }
 {
     let Some(named) = setup.get(ticket.script) else {
         return Err(AllocError);
@@ -39,15 +67,17 @@ pub fn segment_now(
     // A script's root tells that the cells that its nodes name are there.
     let _root = named.script.root();
     effects_are_on_cells();
+    effects_hold();
+    effects_hold_run_same();
     let Target::Page(_, page) = &ticket.target else {
-        return Ok(first);
+        return held(&ticket.cells, first);
     };
     let Some(cells) = book.cells(page.instance) else {
         return Ok(first);
     };
-    if cells.holds(&first.effects) {
-        effects_hold_run_same();
+    if are_held(cells, &first.effects) {
         return Ok(first);
     }
-    run_ticket(alloc, setup, ticket, cells, fuel)
+    let second = run_ticket(alloc, setup, ticket, cells, fuel)?;
+    held(cells, second)
 }

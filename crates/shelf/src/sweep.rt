@@ -12,8 +12,8 @@ use web_outside::Nonces;
 
 impl<D: Disk, N: Nonces + Drop> Shelf<D, N> {
     ghost use Rattle.page_journal.specs.Settled.{view_of};
-    ghost use Rattle.shelf.specs.Views.{IsInSomeOrder, StaysInOrder, swept_of};
-    ghost use Rattle.shelf.specs.Events.{IsSweep, HasAllMoments, TellsCount};
+    ghost use Rattle.shelf.specs.Views.{IsInSomeOrder, StaysInOrder, StaysOwn, swept_of};
+    ghost use Rattle.shelf.specs.Events.{IsSweep, HasAllMoments, HasAllOwnMoments, TellsCount};
 
     /// Goes on to a tick and frees each instance whose pages are all expired then, once this is on the disk; a tick at or below
     /// the clock does nothing. It tells how many instances were freed.
@@ -24,7 +24,9 @@ impl<D: Disk, N: Nonces + Drop> Shelf<D, N> {
         requires in_order { IsInSomeOrder D.view D.tells self.old }
         ensures event { IsSweep N.nonce self.old self.new tick result }
         ensures in_order { StaysInOrder D.view D.tells self.old self.new }
+        ensures own { StaysOwn D.view D.tells self.old self.new }
         ensures any_moment { IsTrue D.tells → HasAllMoments D.view D.tells self.old self.new }
+        ensures own_moments { IsTrue D.tells → HasAllOwnMoments D.view D.tells self.old self.new }
         ensures cause { TellsCount (view_of D.view self.old.journal).faults (view_of D.view self.new.journal).faults (swept_of result) }
         ensures later { (view_of D.view self.old.journal).faults ≤ (view_of D.view self.new.journal).faults }
         ensures nonces { self.new.nonces ≡ self.old.nonces }

@@ -1,7 +1,10 @@
 ghost use Rattle.std.specs.Prelude.{◌≡◌, IfOk};
+ghost use Rattle.page_names.specs.Views.{target_of};
 ghost use Rattle.script_nodes.specs.Views.{scripts_of};
 ghost use Rattle.instance_book.specs.Admissions.{HasCellsBy};
-ghost use Rattle.instance_book.specs.Fits.{IsForSome};
+ghost use Rattle.instance_book.specs.Fits.{IsRunnable};
+ghost use Rattle.instance_book.specs.Makes.{HasItsStates};
+ghost use Rattle.instance_book.specs.Prepares.{HasItsScript};
 
 use crate::shelf::Shelf;
 use instance_book::Ticket;
@@ -17,13 +20,15 @@ use web_outside::Nonces;
 pub const NUMBERS: u64 = 4_611_686_018_427_387_904;
 
 impl<D: Disk, N: Nonces + Drop> Shelf<D, N> {
-    ghost use Rattle.shelf.specs.Views.{IsInOrder, admission_now, FitsNow, IsOut};
+    ghost use Rattle.shelf.specs.Views.{IsInOrder, IsOwnShelf, admission_now, FitsNow, IsOut};
     ghost use Rattle.shelf.specs.Events.{IsTake, IsTicketOf, TellsWhyNot};
 
     /// Takes the next number and nonce for a visit of the target. It does not touch the disk.
     ///
     /// A shelf that is down, one whose numbers are used up, and a target that is not admitted are told whatever memory there
     /// is. A take that is refused, or finds no memory, changes nothing and draws no nonce.
+    ///
+    /// The ticket can be run. Where each page of the shelf has the state of its chain, it is for the visit of the target.
     pub fn take(
         &mut self,
         alloc: Global,
@@ -34,10 +39,12 @@ impl<D: Disk, N: Nonces + Drop> Shelf<D, N> {
         requires { IsInOrder D.view D.tells (scripts_of setup.now) self.old }
         ensures event { IsTake N.nonce setup.now self.old self.new target.now answer result }
         ensures in_order { IsInOrder D.view D.tells (scripts_of setup.now) self.new }
+        ensures own { IsOwnShelf D.view D.tells (scripts_of setup.now) self.old → IsOwnShelf D.view D.tells (scripts_of setup.now) self.new }
         ensures refused { TellsWhyNot setup.now self.old target.now result }
         ensures ticket { IfOk result (IsTicketOf N.nonce setup.now self.old target.now answer) }
-        ensures fits { IfOk result (FitsNow setup.now self.new) }
-        ensures runs { IfOk result (IsForSome (scripts_of setup.now)) }
+        ensures fits { HasItsStates (scripts_of setup.now) self.old.book → IfOk result (FitsNow setup.now self.new) }
+        ensures runs { IfOk result (IsRunnable (scripts_of setup.now)) }
+        ensures script { IfOk result (λ t. HasItsScript (scripts_of setup.now) t (target_of t.target)) }
         ensures cells { IfOk result (HasCellsBy (admission_now setup.now self.old target.now)) }
         ensures out { IfOk result (IsOut setup.now self.new) }
         ensures journal { self.new.journal ≡ self.old.journal }

@@ -9,6 +9,9 @@ use Rattle.journal_books.specs.Keeping.{first_body}
 use Rattle.book_recovery.specs.declared.found.Found.{Found}
 use Rattle.book_recovery.specs.Found.{Finds, IsFoundInOrder, book_with}
 use Rattle.shelf.proofs.Openings.{none_read, nine, empty_in_order, begun_book, begun_fit, found_fit, found_begun}
+use Rattle.page_journal.proofs.Mending.{leaves_then}
+use Rattle.shelf.specs.Owning.{HoldsOwnRecords}
+use Rattle.shelf.proofs.OwnOpenings.{read_moments, begun_records}
 use Rattle.shelf.proofs.begin.open.Goals as goal
 
 pub returns-in-Made-clause-begun : goal.returns-in-Made-clause-begun
@@ -31,7 +34,7 @@ returns-in-Made-clause-fit g c = λ told.
     let order = subst (λ (f : Found). IsFoundInOrder ss c.args.number f) c.in-Made.is c.in-Ok.ensures.in_order in
     let makes : Makes ss c.args.number (bodies_in view new) (book_with ss (length_of new) c.in-Made.book) =
     subst (λ (bs : List (List ℕ)). Makes ss c.args.number bs (book_with ss (length_of new) c.in-Made.book)) bodies (subst (λ (n : ℕ). Makes ss c.args.number (bodies_in view j) (book_with ss n c.in-Made.book)) (sym c.read_book.ensures.len) finds.book) in
-    found_fit view ss c.args.number new (book_with ss (length_of new) c.in-Made.book) c.records_are_exact.ensures c.name_their_cells.ensures (c.read_book.ensures.settled told) makes (order.again (length_of new))
+    found_fit view ss c.args.number new (book_with ss (length_of new) c.in-Made.book) c.records_are_exact.ensures c.scripts_are_whole.ensures (c.read_book.ensures.settled told) makes (order.again (length_of new))
 
 pub returns-in-Ok-start-clause-begun : goal.returns-in-Ok-start-clause-begun
 returns-in-Ok-start-clause-begun g c = λ told.
@@ -57,9 +60,62 @@ returns-in-Ok-start-clause-fit g c = λ told.
     let both = c.in-Ok-start.ensures.bodies told in
     let bodies : bodies_in view c.start.new.journal ≡ first_body ss c.args.number ∷ [] =
     both.1 ∙ ap (λ (bs : List (List ℕ)). bs ++ first_body ss c.args.number ∷ []) (ap stored c.read_book.ensures.quiet.seen ∙ nothing_there) in
-    begun_fit ss c.args.number c.empty.result c.empty.ensures.book (length_of c.start.new.journal) long view c.start.new.journal c.records_are_exact.ensures c.name_their_cells.ensures c.requires.begins both.0 bodies
+    begun_fit ss c.args.number c.empty.result c.empty.ensures.book (length_of c.start.new.journal) long view c.start.new.journal c.records_are_exact.ensures c.scripts_are_whole.ensures c.requires.begins both.0 bodies
 
 pub returns-in-Ok-start-clause-in_order : goal.returns-in-Ok-start-clause-in_order
 returns-in-Ok-start-clause-in_order g c =
     let ss = scripts_of c.args.setup.now in
-    empty_in_order ss c.args.number c.empty.result c.empty.ensures.book c.name_their_cells.ensures (c.empty.ensures.states ss)
+    empty_in_order ss c.args.number c.empty.result c.empty.ensures.book c.scripts_are_whole.ensures (c.empty.ensures.placed ss)
+
+pub returns-in_default-clause-own_moments : goal.returns-in_default-clause-own_moments
+returns-in_default-clause-own_moments g c = λ told own.
+    read_moments g.D.Disk.view (scripts_of c.args.setup.now) c.args.number c.args.journal.now c.read_book.new.journal (c.requires.settled told) own c.read_book.ensures.quiet
+
+pub returns-in-Made-clause-own_moments : goal.returns-in-Made-clause-own_moments
+returns-in-Made-clause-own_moments g c = λ told own.
+    read_moments g.D.Disk.view (scripts_of c.args.setup.now) c.args.number c.args.journal.now c.read_book.new.journal (c.requires.settled told) own c.read_book.ensures.quiet
+
+pub returns-in-Damaged-clause-own_moments : goal.returns-in-Damaged-clause-own_moments
+returns-in-Damaged-clause-own_moments g c = λ told own.
+    read_moments g.D.Disk.view (scripts_of c.args.setup.now) c.args.number c.args.journal.now c.read_book.new.journal (c.requires.settled told) own c.read_book.ensures.quiet
+
+pub returns-in-Other-clause-own_moments : goal.returns-in-Other-clause-own_moments
+returns-in-Other-clause-own_moments g c = λ told own.
+    read_moments g.D.Disk.view (scripts_of c.args.setup.now) c.args.number c.args.journal.now c.read_book.new.journal (c.requires.settled told) own c.read_book.ensures.quiet
+
+pub returns-in-Memory-clause-own_moments : goal.returns-in-Memory-clause-own_moments
+returns-in-Memory-clause-own_moments g c = λ told own.
+    read_moments g.D.Disk.view (scripts_of c.args.setup.now) c.args.number c.args.journal.now c.read_book.new.journal (c.requires.settled told) own c.read_book.ensures.quiet
+
+pub returns-in-Ok-start-clause-own_moments : goal.returns-in-Ok-start-clause-own_moments
+returns-in-Ok-start-clause-own_moments g c = λ told own.
+    let ss = scripts_of c.args.setup.now in
+    let j = c.args.journal.now in
+    let view = g.D.Disk.view in
+    let m = book_of ss c.args.number (bodies_in view j) in
+    let none : m ≡ nothing = subst (λ (f : Found). Finds ss c.args.number (length_of j) f m) c.in-Nothing.is (c.in-Ok.ensures.found told) in
+    let read = read_moments view ss c.args.number j c.read_book.new.journal (c.requires.settled told) own c.read_book.ensures.quiet in
+    let begun = c.start.ensures.own_moments told (ap stored c.read_book.ensures.quiet.seen ∙ none_read ss c.args.number (bodies_in view j) none) in
+    leaves_then (view j.disk) (view c.read_book.new.journal.disk) (view c.start.new.journal.disk) (HoldsOwnRecords ss c.args.number) read begun
+
+pub returns-in-Err-clause-own_moments : goal.returns-in-Err-clause-own_moments
+returns-in-Err-clause-own_moments g c = λ told own.
+    let ss = scripts_of c.args.setup.now in
+    let j = c.args.journal.now in
+    let view = g.D.Disk.view in
+    let m = book_of ss c.args.number (bodies_in view j) in
+    let none : m ≡ nothing = subst (λ (f : Found). Finds ss c.args.number (length_of j) f m) c.in-Nothing.is (c.in-Ok.ensures.found told) in
+    let read = read_moments view ss c.args.number j c.read_book.new.journal (c.requires.settled told) own c.read_book.ensures.quiet in
+    let begun = c.start.ensures.own_moments told (ap stored c.read_book.ensures.quiet.seen ∙ none_read ss c.args.number (bodies_in view j) none) in
+    leaves_then (view j.disk) (view c.read_book.new.journal.disk) (view c.start.new.journal.disk) (HoldsOwnRecords ss c.args.number) read begun
+
+pub returns-in-Ok-start-clause-own : goal.returns-in-Ok-start-clause-own
+returns-in-Ok-start-clause-own g c = λ told own.
+    let ss = scripts_of c.args.setup.now in
+    let j = c.args.journal.now in
+    let view = g.D.Disk.view in
+    let m = book_of ss c.args.number (bodies_in view j) in
+    let none : m ≡ nothing = subst (λ (f : Found). Finds ss c.args.number (length_of j) f m) c.in-Nothing.is (c.in-Ok.ensures.found told) in
+    let bodies : bodies_in view c.start.new.journal ≡ first_body ss c.args.number ∷ [] =
+    (c.in-Ok-start.ensures.bodies told).1 ∙ ap (λ (bs : List (List ℕ)). bs ++ first_body ss c.args.number ∷ []) (ap stored c.read_book.ensures.quiet.seen ∙ none_read ss c.args.number (bodies_in view j) none) in
+    record { records = begun_records view ss c.args.number c.start.new.journal (first_body ss c.args.number) bodies; states = c.empty.ensures.states ss }

@@ -1,7 +1,12 @@
+use Rattle.std.proofs.Common.{refl}
 use Rattle.script_nodes.specs.Views.{scripts_of}
 use Rattle.page_journal.specs.Settled.{bodies_in, length_of}
 use Rattle.journal_books.proofs.Standings.{stays_by, one_of}
 use Rattle.book_recovery.specs.Found.{book_with}
+use Rattle.page_journal.proofs.Mending.{leaves_then}
+use Rattle.shelf.specs.Owning.{HoldsOwnRecords}
+use Rattle.shelf.proofs.Owned.{recovery_own}
+use Rattle.shelf.proofs.OwnOpenings.{records_found, records_left, opened_own}
 use Rattle.shelf.proofs.Openings.{book_there, one_of_there, same_books, stays_open}
 use Rattle.shelf.proofs.shelf.Shelf.begin.Goals as goal
 
@@ -41,9 +46,9 @@ returns-in-Ok-open-clause-in_order g c =
     let o = c.in-Ok-open.ensures.in_order in
     let n = length_of c.open.new.journal in
     record {
-      states = o.states;
+      placed = o.placed;
       orderly = o.orderly n;
-      named = o.named n;
+      scripts_are = o.whole n;
       range = o.range n;
       number = o.shelf_is;
       limits = c.requires.range;
@@ -61,3 +66,34 @@ returns-in-Err-open-clause-any_moment g c = λ told before after k held.
     let whole = stays_open ss c.args.rules.number (v c.args.disk) (v c.in-Ok.journal.disk) (v c.open.new.journal.disk) (bodies_in v c.in-Ok.journal) (g.met.D.Disk.reads_image c.args.disk told) (same_books ss c.args.rules.number (v c.args.disk).seen (bodies_in v c.in-Ok.journal) (c.in-Ok.ensures.intact told) (c.in-Ok.ensures.records told))
     (g.met.D.Disk.counts_now c.in-Ok.journal.disk) first (c.open.ensures.quiet told) in
     rw c.close.ensures (whole before after k held)
+
+pub returns-in-Ok-open-clause-own : goal.returns-in-Ok-open-clause-own
+returns-in-Ok-open-clause-own g c = λ told own.
+    let ss = scripts_of c.args.setup.now in
+    let v = g.D.Disk.view in
+    let found = records_found v ss c.args.rules.number (v c.args.disk) c.in-Ok.journal (c.in-Ok.ensures.records told) own in
+    opened_own v g.D.Disk.tells ss _ refl c.in-Ok-open.ensures.fit (c.in-Ok-open.ensures.own told found)
+
+pub returns-in-Err-clause-own_moments : goal.returns-in-Err-clause-own_moments
+returns-in-Err-clause-own_moments g c = λ told own.
+    let v = g.D.Disk.view in
+    recovery_own (scripts_of c.args.setup.now) c.args.rules.number (v c.args.disk) (v c.in-Err.disk) (c.in-Err.ensures.any_moment told) (c.in-Err.ensures.closed_stays told) own
+
+pub returns-in-Ok-open-clause-own_moments : goal.returns-in-Ok-open-clause-own_moments
+returns-in-Ok-open-clause-own_moments g c = λ told own.
+    let ss = scripts_of c.args.setup.now in
+    let n = c.args.rules.number in
+    let v = g.D.Disk.view in
+    let first = recovery_own ss n (v c.args.disk) (v c.in-Ok.journal.disk) (c.in-Ok.ensures.any_moment told) (c.in-Ok.ensures.closed_stays told) own in
+    let found = records_left v ss n (v c.args.disk) c.in-Ok.journal (c.in-Ok.ensures.records told) (g.met.D.Disk.reads_image c.args.disk told) own in
+    leaves_then (v c.args.disk) (v c.in-Ok.journal.disk) (v c.open.new.journal.disk) (HoldsOwnRecords ss n) first (c.open.ensures.own_moments told found)
+
+pub returns-in-Err-open-clause-own_moments : goal.returns-in-Err-open-clause-own_moments
+returns-in-Err-open-clause-own_moments g c = λ told own.
+    let ss = scripts_of c.args.setup.now in
+    let n = c.args.rules.number in
+    let v = g.D.Disk.view in
+    let first = recovery_own ss n (v c.args.disk) (v c.in-Ok.journal.disk) (c.in-Ok.ensures.any_moment told) (c.in-Ok.ensures.closed_stays told) own in
+    let found = records_left v ss n (v c.args.disk) c.in-Ok.journal (c.in-Ok.ensures.records told) (g.met.D.Disk.reads_image c.args.disk told) own in
+    let whole = leaves_then (v c.args.disk) (v c.in-Ok.journal.disk) (v c.open.new.journal.disk) (HoldsOwnRecords ss n) first (c.open.ensures.own_moments told found) in
+    rw c.close.ensures whole

@@ -10,15 +10,18 @@ use Rattle.replay_spec.specs.Admission.{refusal_of, admit}
 use Rattle.replay_spec.specs.Next as next
 use Rattle.replay_spec.specs.Step as step
 use Rattle.page_journal.specs.Settled.{length_of}
+use Rattle.journal_books.specs.Keeping.{HasWholeScripts}
 use Rattle.instance_book.specs.Fits.{FitsAs}
+use Rattle.instance_book.specs.Views.{book_of}
+use Rattle.instance_book.specs.Prepares.{HasItsScript}
 use Rattle.shelf.specs.declared.doubt.Doubt as doubt_type
 use Rattle.shelf.specs.Views.{rules_of, book_in, shelf_of, doubt_of}
 use Rattle.shelf.proofs.Beside.{admit_same, fits_at}
 use Rattle.shelf.proofs.Steps.{down_take, worn_take, refused_take, free_take, no_take, wanting_take, taken}
 use Rattle.shelf.proofs.Standing.{no_call}
 use Rattle.shelf.proofs.Order.{follows, quiet_event}
-use Rattle.shelf.proofs.Shelves.{quiet_order, same_order}
-use Rattle.shelf.proofs.Fitting.{fits_drawn}
+use Rattle.shelf.proofs.Shelves.{quiet_order, quiet_own, same_order}
+use Rattle.shelf.proofs.Fitting.{fits_drawn, start_has_script}
 use Rattle.shelf.proofs.shelf.Shelf.take.Goals as goal
 
 pub returns-in-Some-clause-event : goal.returns-in-Some-clause-event
@@ -92,18 +95,35 @@ returns-in-Ok-clause-in_order g c =
     let up = ap (λ (o : Option doubt_type.Doubt). option_map doubt_of o) c.in_default.is in
     let low : (b.drawn == 2 ^ 62) ≡ false = grind (arith, nat_tests, c.if-drawn-eq-NUMBERS.false, c.drawn.ensures) in
     let why : refusal_of (admit b d) ≡ None = ap refusal_of (admit_same ss s.book (length_of s.journal) 0 (option_map doubt_of s.down) None d) ∙ c.in_default-admit.ensures.admitted in
-    quiet_order g.D.Disk.view g.D.Disk.tells ss s _ c.requires refl (c.in-Ok.ensures.states ss) c.requires.sound (step.take d v) step.plain (step.taken b.drawn 0) (draw b) (c.in-Ok.ensures.drawn ss (length_of s.journal) (option_map doubt_of s.down))
-    (taken ss s.rules b d v 0 (free_take b d up low why)) tt tt tt tt c.events_are_kept.ensures refl refl refl c.requires.whole (no_call g.D.Disk.view g.D.Disk.tells s.journal)
+    let scripts : HasWholeScripts (draw b) = record { setup = c.requires.scripts_are.setup; instances = c.requires.scripts_are.instances } in
+    quiet_order g.D.Disk.view g.D.Disk.tells ss s _ refl (draw b) (c.in-Ok.ensures.drawn ss (length_of s.journal) (option_map doubt_of s.down)) refl refl (no_call g.D.Disk.view g.D.Disk.tells s.journal)
+    c.requires (c.ticket.ensures.placed ss) c.requires.sound (step.take d v) step.plain (step.taken b.drawn 0) (taken ss s.rules b d v 0 (free_take b d up low why)) tt tt tt c.events_are_kept.ensures refl scripts c.requires.whole
+
+pub returns-in-Ok-clause-own : goal.returns-in-Ok-clause-own
+returns-in-Ok-clause-own g c =
+    let ss = scripts_of c.args.setup.now in
+    let s = c.args.self.now in
+    let b = book_in ss s in
+    quiet_own g.D.Disk.view g.D.Disk.tells ss s _ refl (draw b) (c.in-Ok.ensures.drawn ss (length_of s.journal) (option_map doubt_of s.down)) refl refl (no_call g.D.Disk.view g.D.Disk.tells s.journal) (c.ticket.ensures.states ss)
 
 pub returns-in-Ok-clause-fits : goal.returns-in-Ok-clause-fits
-returns-in-Ok-clause-fits g c =
+returns-in-Ok-clause-fits g c = λ states.
     let ss = scripts_of c.args.setup.now in
     let s = c.args.self.now in
     let b = book_in ss s in
     let t = c.in-Ok.ticket in
     let same : target_of t.target ≡ target_of c.args.target.now = ap (λ (x : next.Ticket). x.target) c.in-Ok.ensures.ticket in
-    let here = fits_at ss s.book 0 (length_of s.journal) None (option_map doubt_of s.down) t (target_of c.args.target.now) c.in-Ok.ensures.fits in
+    let here = fits_at ss s.book 0 (length_of s.journal) None (option_map doubt_of s.down) t (target_of c.args.target.now) (c.in-Ok.ensures.fits states) in
     fits_drawn ss b _ t (target_of t.target) (c.in-Ok.ensures.drawn ss (length_of s.journal) (option_map doubt_of s.down)) (subst (λ (d : Destination). FitsAs ss b t (admit b d)) (sym same) here)
+
+pub returns-in-Ok-clause-script : goal.returns-in-Ok-clause-script
+returns-in-Ok-clause-script g c =
+    let ss = scripts_of c.args.setup.now in
+    let b = book_of ss 0 None c.args.self.now.book in
+    let t = c.in-Ok.ticket in
+    let d = target_of c.args.target.now in
+    let same : target_of t.target ≡ d = ap (λ (x : next.Ticket). x.target) c.in-Ok.ensures.ticket in
+    subst (HasItsScript ss t) (sym same) (start_has_script ss b t d (admit b d) refl c.in_default-admit.ensures.admitted c.in-Ok.ensures.starts)
 
 pub returns-in-Ok-clause-out : goal.returns-in-Ok-clause-out
 returns-in-Ok-clause-out g c =
@@ -126,4 +146,11 @@ pub returns-in-Err-ticket-clause-in_order : goal.returns-in-Err-ticket-clause-in
 returns-in-Err-ticket-clause-in_order g c =
     let ss = scripts_of c.args.setup.now in
     let s = c.args.self.now in
-    same_order g.D.Disk.view g.D.Disk.tells ss s _ c.requires (c.in-Err-ticket.ensures.err ss (length_of s.journal) (option_map doubt_of s.down)) (c.in-Err-ticket.ensures.states ss c.requires.states) refl refl refl
+    same_order g.D.Disk.view g.D.Disk.tells ss s _ c.requires (c.in-Err-ticket.ensures.err ss (length_of s.journal) (option_map doubt_of s.down)) (c.ticket.ensures.placed ss c.requires.placed) refl refl refl
+
+pub returns-in-Err-ticket-clause-own : goal.returns-in-Err-ticket-clause-own
+returns-in-Err-ticket-clause-own g c =
+    let ss = scripts_of c.args.setup.now in
+    let s = c.args.self.now in
+    let b = book_in ss s in
+    quiet_own g.D.Disk.view g.D.Disk.tells ss s _ refl b (c.in-Err-ticket.ensures.err ss (length_of s.journal) (option_map doubt_of s.down)) refl refl (no_call g.D.Disk.view g.D.Disk.tells s.journal) (c.ticket.ensures.states ss)

@@ -1,0 +1,187 @@
+-- A shelf in order stays so where a change lands that would be taken in again, whatever its page's state is.
+use Rattle.std.proofs.Common.{◌≡◌, ◌∙◌, ap, sym, subst, refl, ℕ, ◌+◌, ◌≤◌, ◌^◌, ◌++◌, ◌∷◌, [], Bool, IsTrue, false, List, length, Option, Some, None, option_map, Contains, arith}
+use Rattle.script_value.specs.declared.outcome.TxName.{TxName}
+use Rattle.script_nodes.specs.Setup.{Named}
+use Rattle.web_disk.specs.View.{View, LeavesOnly}
+use Rattle.page_journal.specs.Records.{stored}
+use Rattle.page_journal.specs.Holding.{MayHold}
+use Rattle.page_journal.specs.Settled as journal
+use Rattle.page_journal.specs.Settled.{IsSettled, view_of, bodies_in, length_of, is_broken}
+use Rattle.page_journal.specs.declared.journal.Journal.{Journal}
+use Rattle.page_journal.proofs.Holds.{settled_images}
+use Rattle.replay_spec.specs.Book.{Change, opens, extends, ends, finishes, sweeps, Doubt, Book, spend, reopened}
+use Rattle.replay_spec.specs.Change.{clock_by, land}
+use Rattle.replay_spec.specs.Step.{kept, recovered}
+use Rattle.replay_spec.specs.Recovery.{number_in}
+use Rattle.replay_spec.specs.Invariant.{IsOf, IsOrderlyChange}
+use Rattle.replay_spec.proofs.Stand.{among_of}
+use Rattle.replay_spec.proofs.Orderly.{published, failed}
+use Rattle.journal_records.specs.Records.{changes, IsInGrammar}
+use Rattle.journal_books.specs.Retaking.{rules_for, script_for, told_by}
+use Rattle.journal_books.specs.Keeping.{HasWholeScripts, IsTaken, IsOut, without_number, landed_in, Keeps, body_by}
+use Rattle.journal_books.specs.Standing.{Between, HasRoom, if_kept, Throughout}
+use Rattle.journal_books.specs.Disks.{IsFit}
+use Rattle.journal_books.specs.Spelling.{IsTickInRange, IsInRange}
+use Rattle.journal_books.specs.Laws.{LandingsAreKept, LandingsStandBetween}
+use Rattle.journal_books.proofs.Fitting.{whole_by}
+use Rattle.journal_books.proofs.Standings.{settled_stands, appended, left_standing}
+use Rattle.instance_book.specs.Makes.{HasPlaces}
+use Rattle.shelf.specs.declared.doubt.Doubt as doubt_type
+use Rattle.shelf.specs.declared.shelf.Shelf.{Shelf}
+use Rattle.shelf.specs.Views.{doubt_of, book_in, IsInOrder}
+use Rattle.shelf.specs.Events.{HasMoments}
+use Rattle.shelf.proofs.Standing.{OnlyNow, CountsNow, IsQuietCall, throughout_alike}
+use Rattle.shelf.proofs.Order.{order_of}
+use Rattle.shelf.proofs.Taken.{number_of, taken_fits}
+
+-- the change of a segment leaves the clock
+clock_stays : (k : ℕ) (c : Change) (clock : ℕ) → IsOf k c → clock_by c clock ≡ clock
+clock_stays k (opens o) clock e = refl
+clock_stays k (extends x) clock e = refl
+clock_stays k (ends x) clock e = refl
+clock_stays k (finishes f) clock e = refl
+clock_stays k (sweeps tick) clock e = absurd e
+
+no_tick : (k : ℕ) (c : Change) → IsOf k c → IsTickInRange c
+no_tick k (opens o) e = tt
+no_tick k (extends x) e = tt
+no_tick k (ends x) e = tt
+no_tick k (finishes f) e = tt
+no_tick k (sweeps tick) e = absurd e
+
+-- where a change is in doubt
+abbrev pub doubted_in : (count : ℕ) → Change → (inside : List TxName) → Book → Book
+doubted_in count c inside b = record b { down = Some (record { count = count; change = c; inside = inside }) }
+
+module _ {D N : Type 0} (view : D → View) (tells : Bool) (ss : List Named) (s : Shelf D N) (order : IsInOrder view tells ss s) (up : s.down ≡ None) (k : ℕ) (out : Contains (book_in ss s).out k)
+    (c : Change) (is_its : IsOf k c) (state : Option (List ℕ)) (inside : List TxName) (fits : IsInGrammar (changes c state)) (taken : IsTaken (book_in ss s) c state inside)
+    (room : length_of s.journal + 5 + length (body_by c state) ≤ 2 ^ 30) where
+  abbrev b : Book
+  b = book_in ss s
+
+  abbrev shelf : ℕ
+  shelf = s.rules.number
+
+  abbrev body : List ℕ
+  body = body_by c state
+
+  -- the book behind the change, and the one where it is in doubt
+  abbrev pub landed_book : Book
+  landed_book = land (rules_for (length body)) c inside (spend k b)
+
+  abbrev pub doubted_book : (count : ℕ) → Book
+  doubted_book count = doubted_in count c inside (spend k b)
+
+  none_down : b.down ≡ None
+  none_down = ap (λ (o : Option doubt_type.Doubt). option_map doubt_of o) up
+
+  number : number_in c ≡ Some k
+  number = number_of k c is_its
+
+  its_out : IsOut b (number_in c)
+  its_out = subst (IsOut b) (sym number) out
+
+  landed_is : landed_in (length body) c inside b ≡ landed_book
+  landed_is = ap (λ (o : Option ℕ). land (rules_for (length body)) c inside (without_number o b)) number
+
+  change_fits : IsOrderlyChange b.clock b.instances c
+  change_fits = taken_fits b c inside (told_by (script_for b c) state) taken
+
+  whole_landed : HasWholeScripts landed_book
+  whole_landed = record {
+    setup = order.scripts_are.setup;
+    instances = whole_by ss b.instances c inside order.orderly.instances.apart order.scripts_are.setup order.scripts_are.instances;
+  }
+
+  range_landed : IsInRange landed_book
+  range_landed =
+      let clock = clock_stays k c b.clock is_its in
+      record { drawn = order.range.drawn; clock = omega (arith, clock, order.range.clock); doubt = order.range.doubt }
+
+  range_doubted : (count : ℕ) → IsInRange (doubted_book count)
+  range_doubted count = record { drawn = order.range.drawn; clock = order.range.clock; doubt = no_tick k c is_its }
+
+  module _ (told : IsTrue tells) where
+    fit : IsFit view ss shelf s.journal b
+    fit = order.fit told
+
+    abbrev bodies : List (List ℕ)
+    bodies = bodies_in view s.journal
+
+    has_room : HasRoom bodies (Some body)
+    has_room = let settled = fit.settled none_down in omega (arith, settled.end, room)
+
+    keeps : LandingsAreKept → Keeps ss shelf (bodies ++ body ∷ []) landed_book
+    keeps law = subst (Keeps ss shelf (bodies ++ body ∷ [])) landed_is (law ss shelf bodies b c state inside (fit.holds none_down) none_down fits taken its_out)
+
+    between : LandingsStandBetween → (l : Between ss shelf b landed_book) × (l.bodies ≡ bodies) × (l.more ≡ Some body)
+    between law =
+        subst (λ (d : Book). (l : Between ss shelf b d) × (l.bodies ≡ bodies) × (l.more ≡ Some body)) landed_is
+        (law ss shelf bodies b c state inside (fit.holds none_down) none_down fits taken its_out has_room)
+
+    -- at each moment of a call that adds the body
+    module _ (mid new : Journal D) (call : IsQuietCall view tells s.journal mid) (run : LeavesOnly (view_of view mid) (view_of view new) (MayHold (bodies_in view mid) body)) where
+      throughout : LandingsStandBetween → OnlyNow (view_of view s.journal) → Throughout ss shelf b landed_book (view_of view s.journal) (view_of view new)
+      throughout law only_now =
+          let l = between law in
+          let here : LeavesOnly (view_of view mid) (view_of view new) (MayHold bodies body) =
+          subst (λ (bs : List (List ℕ)). LeavesOnly (view_of view mid) (view_of view new) (MayHold bs body)) (ap stored call.seen) run in
+          appended bodies ss shelf b landed_book (view_of view s.journal) (view_of view mid) (view_of view new) body only_now (settled_images view s.journal (fit.settled none_down)) l.0 l.1 l.2 call.images call.time here
+
+  module _ (t : Shelf D N) (limits : t.rules ≡ s.rules) (mid : Journal D) (call : IsQuietCall view tells s.journal mid)
+      (run : IsTrue tells → LeavesOnly (view_of view mid) (view_of view t.journal) (MayHold (bodies_in view mid) body)) (placed : HasPlaces ss t.book) (sound : journal.IsSound t.journal) where
+    -- its record was added
+    module _ (is : book_in ss t ≡ landed_book) where
+      pub landed_order : LandingsAreKept → is_broken t.journal ≡ false → (IsTrue tells → IsSettled view t.journal × (bodies_in view t.journal ≡ bodies_in view mid ++ body ∷ []))
+          → IsInOrder view tells ss t
+      landed_order law whole added =
+          order_of view tells ss s t landed_book order placed (published (rules_for (length body)) b k c inside order.orderly (among_of b.out k out) none_down change_fits is_its).orderly
+          whole_landed range_landed refl is limits (record {
+            sound = sound;
+            whole = λ _. whole;
+            fit = λ told.
+                let settled = (added told).0 in
+                let these : bodies told ++ body ∷ [] ≡ bodies_in view t.journal = ap (λ (bs : List (List ℕ)). bs ++ body ∷ []) (sym (ap stored call.seen)) ∙ sym (added told).1 in
+                let all = subst (λ (bs : List (List ℕ)). Keeps ss shelf bs landed_book) these (keeps told law) in
+                record { settled = λ _. settled; holds = λ _. all; stands = settled_stands view ss shelf t.journal landed_book settled (all.seen, all.makes) none_down };
+          })
+
+      pub landed_run : LandingsStandBetween → IsTrue tells → OnlyNow (view s.journal.disk) → HasMoments view ss s t
+      landed_run law told only_now =
+          let n = length body in
+          let up_there : landed_book.down ≡ None = none_down in
+          let same : if_kept n landed_book ≡ landed_book = ap (λ (o : Option Doubt). recovered (rules_for n) kept o landed_book) up_there in
+          let run_here = throughout told mid t.journal call (run told) law only_now in (
+            n,
+            subst (λ (y : Book). Throughout ss shelf b (if_kept n y) (view s.journal.disk) (view t.journal.disk)) (sym is)
+                (subst (λ (y : Book). Throughout ss shelf b y (view s.journal.disk) (view t.journal.disk)) (sym same) run_here),
+          )
+
+    -- it is in doubt
+    module _ (count : ℕ) (is : book_in ss t ≡ doubted_book count) (in_doubt : t.down ≡ None → ⊥) where
+      abbrev d : Book
+      d = doubted_book count
+
+      kept_same : reopened landed_book ≡ reopened (if_kept (length body) d)
+      kept_same = refl
+
+      pub doubted_order : LandingsStandBetween → OnlyNow (view s.journal.disk) → CountsNow (view t.journal.disk) → IsInOrder view tells ss t
+      doubted_order law only_now counts =
+          order_of view tells ss s t d order placed (failed b count k c inside order.orderly (among_of b.out k out) change_fits is_its).orderly
+          (record { setup = order.scripts_are.setup; instances = order.scripts_are.instances }) (range_doubted count) refl is limits (record {
+            sound = sound;
+            whole = λ none. absurd (in_doubt none);
+            fit = λ told. record {
+              settled = λ none. absurd (let no : ⊥ = cc none in no);
+              holds = λ none. absurd (let no : ⊥ = cc none in no);
+              stands = (left_standing ss shelf (length body) b landed_book d (view s.journal.disk) (view t.journal.disk) counts (throughout told mid t.journal call (run told) law only_now) refl kept_same).0;
+            };
+          })
+
+      pub doubted_run : LandingsStandBetween → IsTrue tells → OnlyNow (view s.journal.disk) → HasMoments view ss s t
+      doubted_run law told only_now =
+          let n = length body in (
+            n,
+            subst (λ (y : Book). Throughout ss shelf b (if_kept n y) (view s.journal.disk) (view t.journal.disk)) (sym is)
+                (throughout_alike ss shelf b landed_book (if_kept n d) (view s.journal.disk) (view t.journal.disk) kept_same (throughout told mid t.journal call (run told) law only_now)),
+          )

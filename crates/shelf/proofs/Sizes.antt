@@ -1,0 +1,54 @@
+-- How long a record is, and what is told of one that is too long.
+use Rattle.std.proofs.Common.{◌≡◌, subst, refl, ℕ, ◌+◌, ◌≤◌, ◌^◌, Bool, true, false, ◌&&◌, List, length, Option, Some, None, Err, if◌then◌else◌, arith}
+use Rattle.std.specs.Prelude.{nat_lt}
+use Rattle.std.proofs.lemmas.Bool.Decides.{nat_tests}
+use Rattle.std.proofs.lemmas.Option.{same_Some}
+use Rattle.script_value.specs.declared.outcome.Reply.{Reply}
+use Rattle.script_value.specs.declared.outcome.Reply.TheVariants as reply
+use Rattle.replay_spec.specs.Book.{Change}
+use Rattle.replay_spec.specs.Admission.{when, or_else}
+use Rattle.replay_spec.specs.Step as step
+use Rattle.journal_records.specs.Records.{changes, body_of, are_shallow, has_state, body_length, record_length}
+use Rattle.instance_book.specs.Views.{reply_of}
+use Rattle.shelf.specs.Events.{TellsCount}
+use Rattle.shelf.specs.Recording.{refusal_of_size, IsShort, IsWritten}
+
+-- a record that is short is not refused
+pub not_refused : (journal size : ℕ) → IsShort journal size → refusal_of_size journal size ≡ None
+not_refused journal size short =
+    let one : nat_lt 1048576 size ≡ false = grind (arith, nat_tests, short.body) in
+    let two : nat_lt (2 ^ 30) (journal + (size + 5)) ≡ false = grind (arith, nat_tests, short.whole) in
+    rw (one, two) refl
+
+-- and its length is that of the body
+pub size_is : (c : Change) (state : Option (List ℕ)) → record_length c state ≤ 1048576 → length (body_of (changes c state)) ≡ record_length c state
+size_is c state low = by_depth (are_shallow c && has_state c state) low
+  where
+    by_depth : (s : Bool) → (if s then body_length (changes c state) else 2 ^ 63) ≤ 1048576 → length (body_of (changes c state)) ≡ (if s then body_length (changes c state) else 2 ^ 63)
+    by_depth true low = omega (arith, low)
+    by_depth false low = absurd (omega (arith, low))
+
+-- the measure of a record tells no count of faults
+pub size_count : (journal : ℕ) (size : ℕ) (x : Reply) (old now : ℕ) → refusal_of_size journal size ≡ Some (reply_of x) → TellsCount old now (reply_of x)
+size_count journal size x old now is = by_tests (nat_lt 1048576 size) (nat_lt (2 ^ 30) (journal + (size + 5))) (reply_of x) is
+  where
+    by_tests : (a b : Bool) (y : step.Reply) → or_else (when a (step.oversize size)) (when b (step.journal_full (journal + (size + 5)))) ≡ Some y → TellsCount old now y
+    by_tests true b y e = subst (TellsCount old now) (same_Some (step.oversize size) y e) tt
+    by_tests false true y e = subst (TellsCount old now) (same_Some (step.journal_full (journal + (size + 5))) y e) tt
+    by_tests false false y e = absurd (let no : ⊥ = cc e in no)
+
+pub unwritten_count : (journal : ℕ) (c : Change) (state : Option (List ℕ)) (x : Reply) (old now : ℕ) → IsWritten journal (changes c state) (Err x) → TellsCount old now (reply_of x)
+unwritten_count journal c state (reply.Page bytes url) old now h = tt
+unwritten_count journal c state (reply.Finished bytes) old now h = tt
+unwritten_count journal c state (reply.Ended bytes) old now h = tt
+unwritten_count journal c state (reply.Refused why) old now h = tt
+unwritten_count journal c state (reply.Fault f) old now h = tt
+unwritten_count journal c state (reply.Fuel cost) old now h = tt
+unwritten_count journal c state (reply.ShelfFull count) old now h = tt
+unwritten_count journal c state (reply.InstanceFull count) old now h = tt
+unwritten_count journal c state (reply.Oversize n) old now h = tt
+unwritten_count journal c state (reply.JournalFull n) old now h = tt
+unwritten_count journal c state (reply.DiskFault count) old now h = size_count journal (record_length c state) (reply.DiskFault count) old now h
+unwritten_count journal c state (reply.Down count) old now h = tt
+unwritten_count journal c state reply.Worn old now h = tt
+unwritten_count journal c state reply.Memory old now h = tt

@@ -1,0 +1,124 @@
+-- A change of a ticket's segment has the state that its script leaves, where the ticket is for its visit.
+use Rattle.std.proofs.Common.{◌≡◌, ◌∙◌, ap, sym, subst, refl, ℕ, List, slice_get, Option, Some, None, inl, inr}
+use Rattle.script_nodes.specs.Setup.{Named}
+use Rattle.page_names.specs.Names.{Destination, start, page}
+use Rattle.page_names.specs.declared.names.PageName.{PageName}
+use Rattle.instance_cells.specs.Cells.{reads_of}
+use Rattle.replay_spec.specs.Tape.{recorded, Tape, shows, finishes, ends, Outcome, paged, faulted, out_of_fuel}
+use Rattle.replay_spec.specs.Eval as eval
+use Rattle.replay_spec.specs.Book as spec
+use Rattle.replay_spec.specs.Book.{Doubt, Book}
+use Rattle.replay_spec.specs.Admission.{◌>>=◌, Place, Admission, begins, resumes, refused, refusal_of, admit}
+use Rattle.replay_spec.specs.Next.{tape_for, start_visit, page_visit}
+use Rattle.replay_spec.specs.Recovery.{page_of_numbers}
+use Rattle.replay_spec.specs.Laws.{Waits}
+use Rattle.replay_spec.proofs.Admitted.{StandsAt, page_stands, start_is_no_page, page_is_no_start}
+use Rattle.machine_spec.specs.Machine.{Suspended}
+use Rattle.machine_spec.specs.Laws.{started, Stops, IsStateOf}
+use Rattle.machine_spec.proofs.Halting.{script_stop}
+use Rattle.machine_spec.proofs.Law.{page_is_inside}
+use Rattle.machine_spec.proofs.Replay.{stops_as_run, one_state}
+use Rattle.stored_states.specs.Views.{Keeps, segment_of, state_of}
+use Rattle.stored_states.specs.declared.segment.Outcome.{Outcome as StoredOutcome}
+use Rattle.stored_states.specs.declared.segment.Outcome.TheVariants.{Shown, Finished, Ended, Faulted, Fuel}
+use Rattle.stored_states.specs.declared.segment.Segment.{Segment}
+use Rattle.journal_books.specs.Retaking.{arena_of}
+use Rattle.journal_books.specs.Lengths.{kept_at, kept_by, state_over, state_by}
+use Rattle.journal_books.specs.Keeping.{IsWhole, HasWholeScripts}
+use Rattle.instance_book.specs.declared.book.Book as kept
+use Rattle.instance_book.specs.declared.prepared.Opening.{Opening}
+use Rattle.instance_book.specs.declared.prepared.Extension.{Extension}
+use Rattle.instance_book.specs.declared.prepared.Change.{Change}
+use Rattle.instance_book.specs.declared.prepared.Change.TheVariants.{Opens, Extends, Ends, Finishes}
+use Rattle.instance_book.specs.declared.ticket.Ticket.{Ticket}
+use Rattle.instance_book.specs.Views.{ticket_of, book_of}
+use Rattle.instance_book.specs.Changes.{change_of}
+use Rattle.instance_book.specs.Fits.{FitsAs}
+use Rattle.instance_book.specs.Laws.{KeepsStateAs}
+use Rattle.instance_book.specs.Prepares.{IsStartBy, IsAnswerBy, IsChangeBy, OpensFrom, ExtendsFrom, KeepsStateOf}
+use Rattle.shelf.specs.Recording.{state_in}
+
+-- ---- the state that is kept over a tape is the one that the script leaves
+
+waits_keep : (o : Outcome) (k : Suspended) → Waits o → kept_at o k ≡ Some k
+waits_keep (paged (shows kind) bytes) k waits = refl
+waits_keep (paged finishes bytes) k waits = absurd waits
+waits_keep (paged ends bytes) k waits = absurd waits
+waits_keep (faulted f) k waits = absurd waits
+waits_keep (out_of_fuel cost) k waits = absurd waits
+
+pub left_over : (s : Named) (t : Tape) (d : Suspended) → IsWhole s → IsStateOf (arena_of s.script) t d → state_over s.script t ≡ Some d
+unfolding state_over
+left_over s t d w is =
+    let a = arena_of s.script in
+    let stop = script_stop a w.script t in
+    let same = stops_as_run a w.script t stop.0 in
+    let waits : Waits stop.0.outcome = subst Waits (sym (ap (λ (m : eval.Segment). m.outcome) same)) (page_is_inside a w.script t d is).0 in
+    let its : IsStateOf a t stop.0.kept = record { stops = stop.0; waits = waits; is = refl } in
+    ap (λ (o : Option (Stops a (started a t))). o >>= kept_by) stop.1 ∙ (waits_keep stop.0.outcome stop.0.kept waits ∙ ap (λ (y : Suspended). Some y) (one_state a t stop.0.kept d its is))
+
+-- ---- by the kinds of admission and of change
+
+keeps_it : (o : StoredOutcome) (P : Suspended → Type 0) (d : Suspended) → Keeps o P → state_of o ≡ Some d → P d
+keeps_it (Shown bytes kind state) P d k e = subst P (cc e) k
+keeps_it (Finished bytes) P d k e = absurd (let no : ⊥ = cc in no)
+keeps_it (Ended bytes) P d k e = absurd (let no : ⊥ = cc in no)
+keeps_it (Faulted f) P d k e = absurd (let no : ⊥ = cc in no)
+keeps_it (Fuel cost) P d k e = absurd (let no : ⊥ = cc in no)
+
+pub place_found : (b : Book) (name : List ℕ) (n : PageName) (at : Place) → StandsAt b name n at → page_of_numbers b n.instance n.page ≡ Some at
+place_found b name n at h = let here = h.here in let shown = h.shown in rw (here, shown) refl
+
+module _ (b : Book) (whole : HasWholeScripts b) (t : Ticket) (r : Segment) where
+  abbrev IsLeft : Change → Type 0
+  IsLeft c = state_by b (change_of c) ≡ state_in c
+
+  opening_left : (k : ℕ) (s : Named) (o : Opening) → FitsAs b.scripts b t (begins k s) → KeepsStateAs b t (begins k s) r → OpensFrom t r (Some (Opens o)) → IsStartBy t (segment_of r) (change_of (Opens o))
+      → IsLeft (Opens o)
+  opening_left k s o fits over from is =
+      let there : slice_get b.scripts t.script ≡ Some s = fits.run.script in
+      let tape : Named → Tape = λ x. tape_for (start_visit b (ticket_of t) k x) (recorded (reads_of (segment_of r).effects)) in
+      let left = left_over s (tape s) from.0 (whole.setup t.script s there) (keeps_it r.outcome _ from.0 over from.1.0) in
+      ap (λ (x : spec.Opening). state_by b (spec.opens x)) is.1.1
+      ∙ (ap (λ (x : Option Named). x >>= (λ y. state_over y.script (tape y))) there ∙ (left ∙ ap (λ (x : Suspended). Some x) (sym from.1.1.told)))
+
+  extension_left : (name : List ℕ) (n : PageName) (at : Place) (x : Extension) → StandsAt b name n at → KeepsStateAs b t (resumes at) r → ExtendsFrom t r n.instance n.page (Some (Extends x))
+      → IsAnswerBy t (segment_of r) n.instance n.page (change_of (Extends x)) → IsLeft (Extends x)
+  extension_left name n at x stands over from is =
+      let tape : Place → Tape = λ y. tape_for (page_visit b (ticket_of t) y) (recorded (reads_of (segment_of r).effects)) in
+      let left = left_over at.instance.script (tape at) from.0 (whole.instances n.instance at.instance stands.here) (keeps_it r.outcome _ from.0 over from.1.0) in
+      ap (λ (y : spec.Extension). state_by b (spec.extends y)) is.1.1
+      ∙ (ap (λ (y : Option Place). y >>= (λ z. state_over z.instance.script.script (tape z))) (place_found b name n at stands) ∙ (left ∙ ap (λ (y : Suspended). Some y) (sym from.1.1.told)))
+
+  start_left : (name : List ℕ) (a : Admission) → admit b (start name) ≡ a → refusal_of a ≡ None → FitsAs b.scripts b t a → KeepsStateAs b t a r
+      → (c : Change) → KeepsStateOf t r (start name) (Some c) → IsChangeBy t (segment_of r) (start name) (change_of c) → IsLeft c
+  start_left name (resumes at) adm ok fits over c keeps is = absurd (start_is_no_page b name at adm)
+  start_left name (refused why) adm ok fits over c keeps is = absurd (cc)
+  start_left name (begins k s) adm ok fits over (Opens o) (inl none) is = absurd none
+  start_left name (begins k s) adm ok fits over (Opens o) (inr from) is = opening_left k s o fits over from is
+  start_left name (begins k s) adm ok fits over (Extends x) keeps is = absurd is
+  start_left name (begins k s) adm ok fits over (Ends e) keeps is = absurd is
+  start_left name (begins k s) adm ok fits over (Finishes f) keeps is = absurd is
+
+  page_left : (name : List ℕ) (n : PageName) (a : Admission) → admit b (page name n) ≡ a → refusal_of a ≡ None → FitsAs b.scripts b t a → KeepsStateAs b t a r
+      → (c : Change) → KeepsStateOf t r (page name n) (Some c) → IsChangeBy t (segment_of r) (page name n) (change_of c) → IsLeft c
+  page_left name n (begins k s) adm ok fits over c keeps is = absurd (page_is_no_start b name n k s adm)
+  page_left name n (refused why) adm ok fits over c keeps is = absurd (cc)
+  page_left name n (resumes at) adm ok fits over (Opens o) keeps is = absurd is
+  page_left name n (resumes at) adm ok fits over (Extends x) (inl none) is = absurd none
+  page_left name n (resumes at) adm ok fits over (Extends x) (inr from) is = extension_left name n at x (page_stands b name n at adm) over from is
+  page_left name n (resumes at) adm ok fits over (Ends e) keeps is = refl
+  page_left name n (resumes at) adm ok fits over (Finishes f) keeps is = refl
+
+  pub state_left : (d : Destination) → refusal_of (admit b d) ≡ None → FitsAs b.scripts b t (admit b d) → KeepsStateAs b t (admit b d) r
+      → (c : Change) → KeepsStateOf t r d (Some c) → IsChangeBy t (segment_of r) d (change_of c) → IsLeft c
+  state_left (start name) ok fits over c keeps is = start_left name (admit b (start name)) refl ok fits over c keeps is
+  state_left (page name n) ok fits over c keeps is = page_left name n (admit b (page name n)) refl ok fits over c keeps is
+
+-- whatever the journal and the doubt beside the book
+pub state_beside : (ss : List Named) (b : kept.Book) (l m : ℕ) (d e : Option Doubt) (c : spec.Change) → state_by (book_of ss l d b) c ≡ state_by (book_of ss m e b) c
+state_beside ss b l m d e (spec.opens o) = refl
+state_beside ss b l m d e (spec.extends x) = refl
+state_beside ss b l m d e (spec.ends x) = refl
+state_beside ss b l m d e (spec.finishes f) = refl
+state_beside ss b l m d e (spec.sweeps tick) = refl

@@ -1,0 +1,150 @@
+-- What can be landed would be taken in again by a recovery.
+use Rattle.std.proofs.Common.{◌≡◌, ◌∙◌, ap, sym, subst, refl, ℕ, List, [], length, Bool, slice_get, Option, Some, None, option_map}
+use Rattle.std.proofs.lemmas.Bool.{and_from}
+use Rattle.script_value.specs.Val.{Val}
+use Rattle.script_value.specs.declared.outcome.TxName.{TxName}
+use Rattle.script_nodes.specs.Setup.{Named}
+use Rattle.page_names.specs.Names.{Destination, start, page}
+use Rattle.page_names.specs.declared.names.PageName.{PageName}
+use Rattle.instance_cells.specs.Cells.{Effect}
+use Rattle.replay_spec.specs.Eval as eval
+use Rattle.replay_spec.specs.Book as spec
+use Rattle.replay_spec.specs.Book.{Instance, Doubt, Book}
+use Rattle.replay_spec.specs.Admission.{◌>>=◌, when, Place, Admission, begins, resumes, refused, refusal_of, admit}
+use Rattle.replay_spec.specs.Recovery.{are_on, hold_over, page_of_numbers, number_in}
+use Rattle.replay_spec.specs.Invariant.{IsOf, IsOrderlyChange}
+use Rattle.replay_spec.proofs.Tests.{holds_is, on_is}
+use Rattle.replay_spec.proofs.Admitted.{StandsAt, page_stands, page_is_no_start}
+use Rattle.machine_spec.specs.Machine.{Suspended}
+use Rattle.stored_states.specs.Views.{suspended_of}
+use Rattle.frame_codec.specs.Spelling.{StateHasBytes}
+use Rattle.frame_codec.proofs.States.{states_are_exact}
+use Rattle.journal_books.specs.Retaking.{arena_of, Told, unread, misread, told, told_as, told_by, script_for, if_held, held}
+use Rattle.journal_books.specs.Lengths.{told_bytes}
+use Rattle.journal_books.specs.Keeping.{IsTakenAs, IsTaken}
+use Rattle.journal_books.proofs.Retaken.{held_fits}
+use Rattle.instance_book.specs.declared.book.Book as kept
+use Rattle.instance_book.specs.declared.prepared.Opening.{Opening}
+use Rattle.instance_book.specs.declared.prepared.Extension.{Extension}
+use Rattle.instance_book.specs.declared.prepared.Change.{Change}
+use Rattle.instance_book.specs.declared.prepared.Change.TheVariants.{Opens, Extends, Ends, Finishes}
+use Rattle.instance_book.specs.declared.ticket.Ticket.{Ticket}
+use Rattle.instance_book.specs.Admissions.{script_at}
+use Rattle.instance_book.specs.Swept.{cells_at}
+use Rattle.instance_book.specs.Views.{book_of}
+use Rattle.instance_book.specs.Changes.{change_of, inside_of, IsSpelledIn}
+use Rattle.instance_book.specs.Prepares.{opening_by, extension_by, ending_by, finish_by, IsStartBy, IsAnswerBy, IsChangeBy, HasItsScript}
+use Rattle.instance_book.proofs.Seen.{cells_seen}
+use Rattle.shelf.specs.Holding.{AreHeld, AreHeldBy, IsWhole, IsWholeIn}
+use Rattle.shelf.specs.Recording.{told_in}
+use Rattle.shelf.proofs.Now.{of_some}
+use Rattle.shelf.proofs.Stated.{place_found}
+use Rattle.shelf.proofs.Told.{spelled_told}
+
+-- ---- the number of a ticket's change
+
+pub is_of : (t : Ticket) (s : eval.Segment) (d : Destination) (c : spec.Change) → IsChangeBy t s d c → IsOf t.number c
+is_of t s (start name) (spec.opens o) h = ap (λ (x : spec.Opening). x.number) h.1.1
+is_of t s (start name) (spec.extends x) h = absurd h
+is_of t s (start name) (spec.ends e) h = absurd h
+is_of t s (start name) (spec.finishes f) h = absurd h
+is_of t s (start name) (spec.sweeps tick) h = absurd h
+is_of t s (page name n) (spec.opens o) h = absurd h
+is_of t s (page name n) (spec.extends x) h = ap (λ (y : spec.Extension). y.number) h.1.1
+is_of t s (page name n) (spec.ends e) h = ap (λ (y : spec.Ending). y.number) h
+is_of t s (page name n) (spec.finishes f) h = ap (λ (y : spec.Finish). y.number) h
+is_of t s (page name n) (spec.sweeps tick) h = absurd h
+
+pub number_of : (k : ℕ) (c : spec.Change) → IsOf k c → number_in c ≡ Some k
+number_of k (spec.opens o) e = ap (λ (n : ℕ). Some n) e
+number_of k (spec.extends x) e = ap (λ (n : ℕ). Some n) e
+number_of k (spec.ends x) e = ap (λ (n : ℕ). Some n) e
+number_of k (spec.finishes f) e = ap (λ (n : ℕ). Some n) e
+number_of k (spec.sweeps tick) e = absurd e
+
+-- ---- the page that is answered stands
+
+pub page_there : (b : Book) (name : List ℕ) (n : PageName) (a : Admission) → admit b (page name n) ≡ a → refusal_of a ≡ None → (at : Place) × StandsAt b name n at
+page_there b name n (begins k s) e ok = absurd (page_is_no_start b name n k s e)
+page_there b name n (resumes at) e ok = (at, page_stands b name n at e)
+page_there b name n (refused why) e ok = absurd (let no : ⊥ = cc in no)
+
+held_passes : (es : List Effect) (cells : List Val) (inside : List TxName) → AreHeld es cells → if_held es cells inside ≡ Some inside
+held_passes es cells inside h =
+    ap (λ (t : Bool). when t inside) (and_from (are_on (length cells) es) (hold_over es cells) (on_is (length cells) es h.on) (holds_is es cells h.hold))
+
+-- the bytes of a whole state are read back
+read_back : (s : Named) (d : Suspended) (inside : List TxName) → IsWhole (arena_of s.script) d inside → StateHasBytes d → told_by (Some s) (told_bytes d) ≡ told d
+read_back s d inside whole bytes =
+    ap (told_by (Some s)) (spelled_told d bytes) ∙ ap told_as (states_are_exact.back (arena_of s.script) d (whole.stored bytes))
+
+module _ (ss : List Named) (l : ℕ) (dn : Option Doubt) (book : kept.Book) (t : Ticket) (s : eval.Segment) where
+  abbrev b : Book
+  b = book_of ss l dn book
+
+  start_taken : (name : List ℕ) (o : Opening) → HasItsScript ss t (start name) → IsStartBy t s (change_of (Opens o)) → AreHeld s.effects t.cells → IsWholeIn ss book (Opens o)
+      → StateHasBytes (suspended_of o.state) → IsTaken b (change_of (Opens o)) (told_in (Opens o)) (inside_of (Opens o))
+  start_taken name o (named, (found, cells)) is holds whole bytes =
+      let d = suspended_of o.state in
+      let inside = inside_of (Opens o) in
+      let place : o.instance.script ≡ t.script = ap (λ (x : spec.Opening). x.script) is.1.1 in
+      let here : IsWhole (arena_of named.script) d inside = of_some (slice_get ss o.instance.script) named _ (ap (slice_get ss) place ∙ found) whole in
+      let c : spec.Change = spec.opens (opening_by t s.effects s.left is.0 is.1.0) in
+      let read : told_by (script_for b c) (told_bytes d) ≡ told d = ap (λ (x : Option Named). told_by x (told_bytes d)) found ∙ read_back named d inside here bytes in
+      let can : held b c inside ≡ Some inside =
+      ap (λ (x : Option Named). x >>= (λ y. if_held s.effects y.script.cells inside)) found ∙ held_passes s.effects named.script.cells inside (subst (AreHeld s.effects) cells holds) in
+      subst (λ (x : spec.Opening). IsTaken b (spec.opens x) (told_bytes d) inside) (sym is.1.1) (subst (IsTakenAs b c inside) (sym read) (can, here.inside_is))
+
+  -- of an answer to the page of this place
+  module _ (name : List ℕ) (n : PageName) (at : Place) (stands : StandsAt b name n at) (holds : AreHeldBy book t (page name n) s.effects) where
+    cells_there : cells_at n.instance book ≡ Some at.instance.cells
+    cells_there = cells_seen ss l dn n.instance book ∙ ap (option_map (λ (i : Instance). i.cells)) stands.here
+
+    held_there : AreHeld s.effects at.instance.cells
+    held_there = of_some (cells_at n.instance book) at.instance.cells _ cells_there holds
+
+    found : page_of_numbers b n.instance n.page ≡ Some at
+    found = place_found b name n at stands
+
+    can_be : (inside : List TxName) → (page_of_numbers b n.instance n.page >>= (λ y. if_held s.effects y.instance.cells inside)) ≡ Some inside
+    can_be inside = ap (λ (x : Option Place). x >>= (λ y. if_held s.effects y.instance.cells inside)) found ∙ held_passes s.effects at.instance.cells inside held_there
+
+    answer_taken : (x : Extension) → IsAnswerBy t s n.instance n.page (change_of (Extends x)) → IsWholeIn ss book (Extends x)
+        → StateHasBytes (suspended_of x.state) → IsTaken b (change_of (Extends x)) (told_in (Extends x)) (inside_of (Extends x))
+    answer_taken x is whole bytes =
+        let d = suspended_of x.state in
+        let inside = inside_of (Extends x) in
+        let number : x.instance ≡ n.instance = ap (λ (y : spec.Extension). y.instance) is.1.1 in
+        let script : script_at ss x.instance book ≡ Some at.instance.script = ap (λ (k : ℕ). script_at ss k book) number ∙ ap (option_map (λ (i : Instance). i.script)) stands.here in
+        let here : IsWhole (arena_of at.instance.script.script) d inside = of_some (script_at ss x.instance book) at.instance.script _ script whole in
+        let c : spec.Change = spec.extends (extension_by t n.instance n.page s.effects s.left is.0 is.1.0) in
+        let read : told_by (script_for b c) (told_bytes d) ≡ told d =
+        ap (λ (y : Option Place). told_by (y >>= (λ z. Some z.instance.script)) (told_bytes d)) found ∙ read_back at.instance.script d inside here bytes in
+        subst (λ (y : spec.Extension). IsTaken b (spec.extends y) (told_bytes d) inside) (sym is.1.1) (subst (IsTakenAs b c inside) (sym read) (can_be inside, here.inside_is))
+
+    ending_taken : (e : spec.Ending) (inside : List TxName) → e ≡ ending_by t n.instance n.page s.effects s.left → IsTaken b (spec.ends e) None inside
+    ending_taken e inside is = subst (λ (y : spec.Ending). IsTaken b (spec.ends y) None inside) (sym is) (can_be [], refl)
+
+    finish_taken : (f : spec.Finish) (inside : List TxName) → f ≡ finish_by t n.instance n.page s.effects → IsTaken b (spec.finishes f) None inside
+    finish_taken f inside is = subst (λ (y : spec.Finish). IsTaken b (spec.finishes y) None inside) (sym is) (can_be [], refl)
+
+  pub is_taken : (d : Destination) (c : Change) → refusal_of (admit b d) ≡ None → HasItsScript ss t d → IsChangeBy t s d (change_of c) → AreHeldBy book t d s.effects → IsWholeIn ss book c → IsSpelledIn c
+      → IsTaken b (change_of c) (told_in c) (inside_of c)
+  is_taken (start name) (Opens o) ok has is holds whole spelled = start_taken name o has is holds whole spelled
+  is_taken (start name) (Extends x) ok has is holds whole spelled = absurd is
+  is_taken (start name) (Ends e) ok has is holds whole spelled = absurd is
+  is_taken (start name) (Finishes f) ok has is holds whole spelled = absurd is
+  is_taken (page name n) (Opens o) ok has is holds whole spelled = absurd is
+  is_taken (page name n) (Extends x) ok has is holds whole spelled =
+      let p = page_there b name n (admit b (page name n)) refl ok in answer_taken name n p.0 p.1 holds x is whole spelled
+  is_taken (page name n) (Ends e) ok has is holds whole spelled =
+      let p = page_there b name n (admit b (page name n)) refl ok in ending_taken name n p.0 p.1 holds _ e.inside.items is
+  is_taken (page name n) (Finishes f) ok has is holds whole spelled =
+      let p = page_there b name n (admit b (page name n)) refl ok in finish_taken name n p.0 p.1 holds _ f.inside.items is
+
+-- ---- what would be taken fits the book
+
+pub taken_fits : (b : Book) (c : spec.Change) (inside : List TxName) (x : Told) → IsTakenAs b c inside x → IsOrderlyChange b.clock b.instances c
+taken_fits b c inside unread h = held_fits b c [] [] h.0
+taken_fits b c inside misread h = absurd h
+taken_fits b c inside (told d) h = held_fits b c inside inside h.0

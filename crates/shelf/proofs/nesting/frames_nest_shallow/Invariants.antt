@@ -1,0 +1,8 @@
+use Rattle.std.proofs.Common.{◌≡◌, map, drop}
+use Rattle.std.specs.List.{list_all}
+use Rattle.stored_states.specs.Views.{frame_of}
+use Rattle.journal_books.specs.Lengths.{is_shallow_frame}
+use Rattle.shelf.proofs.nesting.frames_nest_shallow.Given as goal
+
+abbrev pub invariant-loop-frame : goal.invariant-loop-frame
+invariant-loop-frame l = list_all is_shallow_frame (map frame_of (drop l.frame-index l.frames)) ≡ list_all is_shallow_frame (map frame_of l.frames)

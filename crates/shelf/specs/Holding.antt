@@ -1,0 +1,58 @@
+-- What is tested of a change before it is recorded: so recovery takes the record in, whatever the ticket was for.
+use Rattle.std.specs.Prelude.{◌≡◌, List, length, map, None, IfSome, slice_get, ⊤}
+use Rattle.script_value.specs.Val.{Val}
+use Rattle.script_value.specs.declared.outcome.TxName.{TxName}
+use Rattle.script_nodes.specs.Arena.{Arena}
+use Rattle.script_nodes.specs.Setup.{Named}
+use Rattle.script_nodes.specs.declared.setup.Setup.{Setup}
+use Rattle.page_names.specs.Names.{Destination, start, page}
+use Rattle.page_names.specs.Views.{target_of}
+use Rattle.instance_cells.specs.Cells.{Effect, AreOn, Holds}
+use Rattle.instance_cells.specs.Views.{effect_of}
+use Rattle.machine_spec.specs.Machine.{Suspended, inside_of}
+use Rattle.stored_states.specs.Views.{suspended_of}
+use Rattle.stored_states.specs.declared.segment.Segment.{Segment}
+use Rattle.frame_codec.specs.Spelling.{StateHasBytes}
+use Rattle.frame_codec.specs.Stored.{IsStored}
+use Rattle.instance_book.specs.declared.book.Book.{Book}
+use Rattle.instance_book.specs.declared.prepared.Change.{Change}
+use Rattle.instance_book.specs.declared.prepared.Change.TheVariants.{Opens, Extends}
+use Rattle.instance_book.specs.declared.ticket.Ticket.{Ticket}
+use Rattle.instance_book.specs.Admissions.{refusal_for, FitsIn, script_at}
+use Rattle.instance_book.specs.Places.{arena_of}
+use Rattle.instance_book.specs.Swept.{cells_at}
+
+-- the target is admitted, and the ticket is for the visit of it
+pub record IsForItsVisit (setup : Setup) (b : Book) (t : Ticket) : Type 0 where
+  pub admitted : refusal_for setup b t.target ≡ None
+  pub fits : FitsIn setup b t.target t
+
+-- the effects are on these cells and hold over them
+pub record AreHeld (effects : List Effect) (cells : List Val) : Type 0 where
+  pub on : AreOn (length cells) effects
+  pub hold : Holds effects cells
+
+-- over those of a start's ticket, or of the instance whose page is answered
+abbrev pub AreHeldBy : Book → Ticket → Destination → List Effect → Type 0
+AreHeldBy b t (start name) effects = AreHeld effects t.cells
+AreHeldBy b t (page name n) effects = IfSome (cells_at n.instance b) (AreHeld effects)
+
+abbrev pub AreHeldNow : Book → Ticket → Segment → Type 0
+AreHeldNow b t r = AreHeldBy b t (target_of t.target) (map effect_of r.effects.items)
+
+-- the state fits the script, where it has a spelling
+abbrev pub FitsIfSpelled : Arena → Suspended → Type 0
+FitsIfSpelled a d = StateHasBytes d → IsStored a d
+
+-- A page with this state is inside the transactions of the state's frames, and the state fits the script where it has a spelling.
+pub record IsWhole (a : Arena) (d : Suspended) (inside : List TxName) : Type 0 where
+  pub inside_is : inside_of d.frames ≡ inside
+  pub stored : FitsIfSpelled a d
+
+-- so it is of the page that a change shows, by the script of its instance
+abbrev pub IsWholeIn : List Named → Book → Change → Type 0
+IsWholeIn scripts b (Opens o) =
+    IfSome (slice_get scripts o.instance.script) (λ s. IsWhole (arena_of s.script) (suspended_of o.state) o.page.item.inside.items)
+IsWholeIn scripts b (Extends x) =
+    IfSome (script_at scripts x.instance b) (λ s. IsWhole (arena_of s.script) (suspended_of x.state) x.show.page.item.inside.items)
+IsWholeIn scripts b _ = ⊤

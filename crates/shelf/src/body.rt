@@ -1,0 +1,51 @@
+ghost use Rattle.std.specs.Prelude.{◌≡◌, length, IsTrue, IfOk, OnOk};
+ghost use Rattle.web_disk.specs.View.{NoNewImage, Elapses};
+ghost use Rattle.page_journal.specs.Settled.{IsSettled, IsReady, IsSound, view_of, length_of, is_broken};
+ghost use Rattle.script_nodes.specs.Views.{scripts_of};
+ghost use Rattle.instance_book.specs.Makes.{HasPlaces};
+ghost use Rattle.instance_book.specs.Changes.{IsSpelledIn};
+ghost use Rattle.shelf.specs.Holding.{IsWholeIn};
+ghost use Rattle.shelf.specs.Recording.{CanBeTold, IsToldBody, IsOfByte};
+
+use crate::recording::{recorded, told_state, written};
+use instance_book::{Book, Change};
+use page_journal::Journal;
+use script_nodes::Setup;
+use script_value::{Bytes, Reply};
+use std::alloc::Global;
+use web_disk::Disk;
+
+/// The body of the record of a visit's change, for which the journal is made ready; or why it can't be added. No call of the disk is
+/// made that could fail.
+///
+/// What recovery would not read back as this change is told as want of memory.
+pub fn told_body<D: Disk>(
+    alloc: Global,
+    journal: &mut Journal<D>,
+    book: &Book,
+    setup: &Setup,
+    change: &Change,
+) -> Result<Bytes, Reply>
+    requires sound { IsSound journal.old }
+    requires settled { IsTrue D.tells → IsSettled D.view journal.old }
+    requires placed { HasPlaces (scripts_of setup.now) book.now }
+    requires byte { IsOfByte change.now }
+    requires spelled { CanBeTold (length_of journal.old) change.now }
+    ensures written { IsToldBody (length_of journal.old) change.now result }
+    ensures state { OnOk result (IsWholeIn (scripts_of setup.now) book.now change.now) }
+    ensures spelled { OnOk result (IsSpelledIn change.now) }
+    ensures ready { IfOk result (λ body. IsReady D.view journal.new (length body)) }
+    ensures sound { IsSound journal.new }
+    ensures settled { IsTrue D.tells → IsSettled D.view journal.new }
+    ensures len { length_of journal.new ≡ length_of journal.old }
+    ensures whole { is_broken journal.new ≡ is_broken journal.old }
+    ensures seen { (view_of D.view journal.new).seen ≡ (view_of D.view journal.old).seen }
+    ensures images { NoNewImage (view_of D.view journal.old) (view_of D.view journal.new) }
+    ensures time { Elapses (view_of D.view journal.old) (view_of D.view journal.new) }
+    ensures faults { (view_of D.view journal.new).faults ≡ (view_of D.view journal.old).faults }
+{
+    match told_state(alloc, book, setup, change) {
+        Ok(state) => written(alloc, journal, &recorded(change, state.as_ref())),
+        Err(_) => Err(Reply::Memory),
+    }
+}
