@@ -1,20 +1,20 @@
 -- Shelves that are opened one after another, and handed back.
-use Rattle.std.proofs.Common.{◌≡◌, ℕ, zero, suc, ◌≤◌, ◌<◌, ◌+◌, ◌-◌, Bool, IsTrue, List, [], ◌∷◌, ◌++◌, length, length-append, map, reverse, Some, slice_get, refl, ap, sym, ◌∙◌, subst, arith}
+use Rattle.std.proofs.Common.{◌≡◌, ℕ, zero, suc, ◌<◌, ◌+◌, ◌-◌, Bool, List, [], ◌∷◌, ◌++◌, length, length-append, map, reverse, Some, slice_get, refl, ap, sym, ◌∙◌, subst, arith}
 use Rattle.std.specs.List.{AllZip}
 use Rattle.std.proofs.lemmas.List.{append-nil, reverse-reverse}
 use Rattle.std.proofs.lemmas.Option.{slice_get_within}
 use Rattle.web_disk.specs.View.{View}
 use Rattle.web_disk.proofs.Moments.{started}
 use Rattle.journal_books.specs.Standing.{Held}
-use Rattle.replay_spec.specs.Book.{Book}
 use Rattle.script_nodes.specs.Setup.{Named}
 use Rattle.script_nodes.specs.declared.setup.Setup.{Setup}
 use Rattle.script_nodes.specs.Views.{scripts_of}
 use Rattle.web_outside.specs.Causes.{Rose}
 use Rattle.shelf.specs.Opening.{IsFaultOf}
+use Rattle.shelf.specs.Owning.{HoldsOwnRecords}
 use Rattle.shelf.specs.Views.{book_in}
 use Rattle.shelf.specs.declared.begin.BeginFault.{BeginFault}
-use Rattle.shelf.specs.declared.begin.BeginFault.TheVariants.{Memory, DiskFault}
+use Rattle.shelf.specs.declared.begin.BeginFault.TheVariants.{Memory}
 use Rattle.shelf.specs.declared.rules.Rules.{Rules}
 use Rattle.shelf.specs.declared.shelf.Shelf.{Shelf}
 use Rattle.shelf_lock.proofs.Prefixes.{snoc_each}
@@ -26,10 +26,8 @@ use Rattle.site.specs.declared.entry.KeptEntry.{KeptEntry}
 use Rattle.site.specs.declared.kept.KeptShelf.{KeptShelf}
 use Rattle.site.specs.declared.opening.Opening.{Opening}
 use Rattle.site.specs.declared.site.Site.{Site}
-use Rattle.site.specs.Entries.{entries_of}
-use Rattle.site.specs.Sound.{IsSound}
 use Rattle.site.specs.Passes.{Spots}
-use Rattle.site.specs.Beginnings.{rules_for, IsOpenedOn, IsBegun, IsFreshOn, AreFreshOn, IsReturned, IsUnopened, AreReturned, AreUnopened, IsUnder, IsWhole, IsFirstPass, given_out, most_passes}
+use Rattle.site.specs.Beginnings.{rules_for, IsOpenedOn, IsBegun, IsFreshOn, AreFreshOn, IsReturned, IsUnopened, AreUnopened, IsUnder, IsWhole, IsFirstPass, given_out, most_passes}
 
 module _ {A : Type 0} where
   pub at_here : (xs : List A) (x : A) (rest : List A) → slice_get (xs ++ x ∷ rest) (length xs) ≡ Some x
@@ -76,12 +74,26 @@ module _ {D : Type 0} (view : D → View) (tells : Bool) (scripts : List Named) 
   pub returned_same : OnlyNow → (k : ℕ) (d : D) → IsReturned view tells scripts k d d
   returned_same only_now k d = record {
     any_moment = λ told before after between hold. started (view d) (Held between) (λ image left. hold image (only_now d image left));
+    own_moments = λ told own. started (view d) (HoldsOwnRecords scripts k) (λ image left. (own.0, own.1 image (only_now d image left)));
     later = omega arith;
+  }
+
+  -- so disks that nothing was done to are handed back
+  pub unopened_none : OnlyNow → (disks : List D) → 0 < length disks → AreUnopened view tells scripts disks disks 0 Memory
+  unopened_none only_now disks some = record {
+    returned = record {
+      many = refl;
+      each = λ k d e d_is e_is. subst (IsReturned view tells scripts k d) (one_of (sym d_is ∙ e_is)) (returned_same only_now k d);
+    };
+    within = some;
+    earlier = λ told k d lt e. absurd (omega arith);
+    why = λ told d e. tt;
+    cause = λ no. absurd (let other : ⊥ = cc no in other);
   }
 
 module _ {D N : Type 0} (view : D → View) (tells : Bool) (coming : N → ℕ → ℕ) (setup : Setup) (rules : Rules) where
   returned_opened : (k : ℕ) (d : D) (n : N) (s : KeptShelf D N) → IsFreshOn view tells coming setup (rules_for rules k) d n s → IsReturned view tells (scripts_of setup) k d (disk_in s)
-  returned_opened k d n s fresh = record { any_moment = fresh.shelf.any_moment; later = fresh.shelf.later }
+  returned_opened k d n s fresh = record { any_moment = fresh.shelf.any_moment; own_moments = fresh.shelf.own_moments; later = fresh.shelf.later }
 
   -- one more was opened
   pub fresh_on : (disks : List D) (nonces : List N) (ks : List (KeptShelf D N)) (number : ℕ) (d : D) (n : N) (s : KeptShelf D N) → AreFreshOn view tells coming setup rules disks nonces ks → length ks ≡ number

@@ -1,5 +1,5 @@
 -- Tickets that callers hold.
-use Rattle.std.proofs.Common.{◌≡◌, ℕ, ◌+◌, Bool, List, [], ◌∷◌, ◌++◌, Contains, refl, sym, ◌∙◌, ap, subst}
+use Rattle.std.proofs.Common.{◌≡◌, ℕ, ◌+◌, Bool, List, [], ◌∷◌, ◌++◌, length, Contains, refl, sym, ◌∙◌, ap, subst}
 use Rattle.std.specs.Prelude.{Result, Ok, Err, IfOk}
 use mathlib.Core.List.{IsPrefix}
 use Rattle.script_value.specs.Val.{Val}
@@ -10,23 +10,23 @@ use Rattle.page_names.specs.Views.{target_of}
 use Rattle.web_disk.specs.View.{View}
 use Rattle.replay_spec.specs.Book.{Book}
 use Rattle.replay_spec.specs.Admission.{admit, refusal_of}
-use Rattle.replay_spec.specs.Step as step
-use Rattle.replay_spec.specs.Step.{Reply, taken, take, plain}
+use Rattle.replay_spec.specs.Step.{taken, take}
 use Rattle.replay_spec.specs.Invariant.{IsOrderly}
 use Rattle.instance_book.specs.declared.ticket.Ticket.{Ticket}
 use Rattle.instance_book.specs.Views.{ticket_of}
-use Rattle.instance_book.specs.Fits.{FitsAs, IsForSome}
+use Rattle.instance_book.specs.Fits.{FitsAs, IsRunnable}
+use Rattle.instance_book.specs.Makes.{HasItsStates}
+use Rattle.instance_book.specs.Prepares.{HasItsScript}
 use Rattle.shelf_history.specs.Histories.{Entry, own_of, owed_by, Owes, IsLegal, shelf_behind}
-use Rattle.shelf_history.specs.Laws.{take_of}
+use Rattle.shelf_history.specs.Laws.{take_of, tickets_taken}
 use Rattle.shelf_history.specs.Kept.{IsKept}
 use Rattle.shelf_history.proofs.Going.{go_on}
 use Rattle.shelf_history.proofs.Keeping.{kept_sound}
 use Rattle.shelf_history.proofs.Numbers.{are_runs}
-use Rattle.shelf_history.proofs.Passing.{turn, owed, prefix_of}
-use Rattle.shelf_history.proofs.Twice.{owed_out}
+use Rattle.shelf_history.proofs.Passing.{prefix_of}
 use Rattle.shelf.specs.declared.shelf.Shelf.{Shelf}
 use Rattle.script_value.specs.declared.outcome.Reply as answers
-use Rattle.shelf.specs.Views.{IsEvent, book_in, shelf_of, rules_of, taken_of}
+use Rattle.shelf.specs.Views.{IsEvent, book_in, rules_of, taken_of}
 use Rattle.script_value.specs.declared.value.Value.{Value}
 use Rattle.page_names.specs.declared.names.Target.{Target}
 use Rattle.script_nodes.specs.declared.setup.Setup.{Setup}
@@ -34,10 +34,11 @@ use Rattle.shelf.specs.Events.{IsTicketOf}
 use Rattle.shelf.specs.Going.{TicketsGoOnToFit}
 use Rattle.site.specs.declared.opening.Opening.{Opening}
 use Rattle.site.specs.Entries.{entry}
-use Rattle.site.specs.Openings.{scripts_in, start_of, source_of, count_of, book_then}
-use Rattle.site.specs.Sound.{IsSound, Holds}
+use Rattle.site.specs.Openings.{scripts_in, IsOwnOpening, start_of, source_of, count_of, book_then}
+use Rattle.site.specs.Sound.{IsSound, HasItsHistory, IsForItsVisit, Holds}
+use Rattle.site.proofs.Outs.{owes_taken}
 use Rattle.site.proofs.Replies.{take_admits}
-use Rattle.site.proofs.Sounds.{prefix_all}
+use Rattle.site.proofs.Sounds.{prefix_all, stepped}
 
 module _ {D N : Type 0} (view : D → View) (tells : Bool) (coming : N → ℕ → ℕ) (o : Opening D N) where
   -- what a take tells of its ticket
@@ -45,91 +46,89 @@ module _ {D N : Type 0} (view : D → View) (tells : Bool) (coming : N → ℕ �
     pub target_is : target_of ticket.target ≡ target
     pub answer_is : meaning ticket.answer ≡ answer
     pub does : IsEvent coming (scripts_in o) s t (take target answer) (taken ticket.number ticket.nonce)
-    pub fits : FitsAs (scripts_in o) (book_in (scripts_in o) t) ticket (admit (book_in (scripts_in o) t) (target_of ticket.target))
-    pub runs : IsForSome (scripts_in o) ticket
+    pub fits : HasItsStates (scripts_in o) s.book → FitsAs (scripts_in o) (book_in (scripts_in o) t) ticket (admit (book_in (scripts_in o) t) (target_of ticket.target))
+    pub runs : IsRunnable (scripts_in o) ticket
+    pub script : HasItsScript (scripts_in o) ticket (target_of ticket.target)
 
-  pub holds_taken : (s t : Shelf D N) (es : List Entry) (p : IsSound view tells coming o s es) (caller now given : ℕ) (target : Destination) (answer : Val) (ticket : Ticket) → IsGiven s t target answer ticket
-      → IsKept (source_of coming o) (count_of view o.shelf.value) now (start_of o) (shelf_of (scripts_in o) given t) (coming t.nonces) (es ++ entry caller (take target answer) (taken ticket.number ticket.nonce) ∷ [])
-      → Holds view tells coming o (es ++ entry caller (take target answer) (taken ticket.number ticket.nonce) ∷ []) caller ticket
-  holds_taken s t es p caller now given target answer ticket gave behind =
-      let source = source_of coming o in
-      let opened = count_of view o.shelf.value in
-      let start = start_of o in
-      let ss = scripts_in o in
-      let e : Entry = entry caller (take target answer) (taken ticket.number ticket.nonce) in
-      let e' : Entry = take_of caller (ticket_of ticket) in
-      let same : e' ≡ e = λ i. entry caller (take (gave.target_is i) (gave.answer_is i)) (taken ticket.number ticket.nonce) in
-      let legal : IsLegal source opened now start (es ++ e' ∷ []) = subst (λ (x : Entry). IsLegal source opened now start (es ++ x ∷ [])) (sym same) behind.legal in
-      let before = (go_on source opened now start es).2 (e' ∷ []) legal in
-      let goes = (turn source opened now start caller es es (record { front = prefix_all es; own = refl }) before).1 e' ((go_on source opened now start es).1 e' legal) refl in
-      let owes : Owes caller (ticket_of ticket) (es ++ e' ∷ []) = (owed source opened now start caller es (es ++ e' ∷ []) (ticket_of ticket)).0 goes in
-      let book : book_in ss t ≡ book_then coming o (es ++ e ∷ []) = ap (λ z. z.book) behind.shelf in
-      let stepped = gave.does.step source p.given p.kept.nonces in
-      let was = shelf_of ss p.given s in
-      let at : step.step (rules_of ss s.rules) (book_in ss s) (source p.given) (take target answer) plain ≡ (taken ticket.number ticket.nonce, book_in ss t) = ap (λ z. (z.0, z.1.book)) stepped in
-      let admitted = take_admits (rules_of ss s.rules) (book_in ss s) (book_in ss t) target answer (source p.given) ticket.number ticket.nonce at in
-      record {
-        owes = subst (λ (x : Entry). Owes caller (ticket_of ticket) (es ++ x ∷ [])) same owes;
-        runs = gave.runs;
-        front = es ++ e ∷ [];
-        begins = prefix_all (es ++ e ∷ []);
-        scripts = sym (ap (λ z. z.scripts) book);
-        admitted = ap (λ b. refusal_of (admit b (target_of ticket.target))) (sym book) ∙ (ap (λ d. refusal_of (admit (book_in ss t) d)) gave.target_is ∙ admitted);
-        fits = subst (λ b. FitsAs ss b ticket (admit b (target_of ticket.target))) book gave.fits;
-      }
+  module _ (s t : Shelf D N) (es : List Entry) (p : IsSound view tells coming o s es) (caller : ℕ) (target : Destination) (answer : Val) where
+    -- on a shelf that was opened as an own one the ticket is for its visit
+    visit_taken : (ticket : Ticket) → IsGiven s t target answer ticket → HasItsHistory view tells coming o s es
+        → HasItsHistory view tells coming o t (es ++ entry caller (take target answer) (taken ticket.number ticket.nonce) ∷ [])
+        → IsForItsVisit view tells coming o (es ++ entry caller (take target answer) (taken ticket.number ticket.nonce) ∷ []) ticket
+    visit_taken ticket gave h behind =
+        let ss = scripts_in o in
+        let e : Entry = entry caller (take target answer) (taken ticket.number ticket.nonce) in
+        let book : book_in ss t ≡ book_then coming o (es ++ e ∷ []) = ap (λ z. z.book) behind.kept.shelf in
+        let at = stepped view tells coming o s t es p (take target answer) (taken ticket.number ticket.nonce) gave.does in
+        let admitted = take_admits (rules_of ss s.rules) (book_in ss s) (book_in ss t) target answer (source_of coming o (length (tickets_taken es))) ticket.number ticket.nonce at in
+        record {
+          front = es ++ e ∷ [];
+          begins = prefix_all (es ++ e ∷ []);
+          scripts = sym (ap (λ z. z.scripts) book);
+          admitted = ap (λ b. refusal_of (admit b (target_of ticket.target))) (sym book) ∙ (ap (λ d. refusal_of (admit (book_in ss t) d)) gave.target_is ∙ admitted);
+          fits = subst (λ b. FitsAs ss b ticket (admit b (target_of ticket.target))) book (gave.fits h.own.states);
+        }
 
-  -- so of what a take was told
-  pub holds_told : (s t : Shelf D N) (es : List Entry) (p : IsSound view tells coming o s es) (caller now given : ℕ) (target : Destination) (answer : Val) (result : Result Ticket answers.Reply)
-      → IsEvent coming (scripts_in o) s t (take target answer) (taken_of result)
-      → IsKept (source_of coming o) (count_of view o.shelf.value) now (start_of o) (shelf_of (scripts_in o) given t) (coming t.nonces) (es ++ entry caller (take target answer) (taken_of result) ∷ [])
-      → IfOk result (λ x. (target_of x.target ≡ target) × (meaning x.answer ≡ answer))
-      → IfOk result (λ x. FitsAs (scripts_in o) (book_in (scripts_in o) t) x (admit (book_in (scripts_in o) t) (target_of x.target)))
-      → IfOk result (IsForSome (scripts_in o))
-      → IfOk result (λ x. Holds view tells coming o (es ++ entry caller (take target answer) (taken_of result) ∷ []) caller x)
-  holds_told s t es p caller now given target answer (Ok x) does behind is fits runs =
-      holds_taken s t es p caller now given target answer x (record { target_is = is.0; answer_is = is.1; does = does; fits = fits; runs = runs }) behind
-  holds_told s t es p caller now given target answer (Err r) does behind is fits runs = tt
+    holds_taken : (ticket : Ticket) → IsGiven s t target answer ticket
+        → (IsOwnOpening view tells o → HasItsHistory view tells coming o t (es ++ entry caller (take target answer) (taken ticket.number ticket.nonce) ∷ []))
+        → Holds view tells coming o (es ++ entry caller (take target answer) (taken ticket.number ticket.nonce) ∷ []) caller ticket
+    holds_taken ticket gave behind =
+        let e : Entry = entry caller (take target answer) (taken ticket.number ticket.nonce) in
+        let same : take_of caller (ticket_of ticket) ≡ e = λ i. entry caller (take (gave.target_is i) (gave.answer_is i)) (taken ticket.number ticket.nonce) in
+        record {
+          owes = subst (λ (x : Entry). Owes caller (ticket_of ticket) (es ++ x ∷ [])) same (owes_taken es caller (ticket_of ticket));
+          runs = gave.runs;
+          script = gave.script;
+          visit = λ own. visit_taken ticket gave (p.history own) (behind own);
+        }
+
+    -- so of what a take was told
+    pub holds_told : (result : Result Ticket answers.Reply) → IsEvent coming (scripts_in o) s t (take target answer) (taken_of result)
+        → (IsOwnOpening view tells o → HasItsHistory view tells coming o t (es ++ entry caller (take target answer) (taken_of result) ∷ []))
+        → IfOk result (λ x. (target_of x.target ≡ target) × (meaning x.answer ≡ answer))
+        → (HasItsStates (scripts_in o) s.book → IfOk result (λ x. FitsAs (scripts_in o) (book_in (scripts_in o) t) x (admit (book_in (scripts_in o) t) (target_of x.target))))
+        → IfOk result (IsRunnable (scripts_in o)) → IfOk result (λ x. HasItsScript (scripts_in o) x (target_of x.target))
+        → IfOk result (λ x. Holds view tells coming o (es ++ entry caller (take target answer) (taken_of result) ∷ []) caller x)
+    holds_told (Ok x) does behind is fits runs script =
+        holds_taken x (record { target_is = is.0; answer_is = is.1; does = does; fits = fits; runs = runs; script = script }) behind
+    holds_told (Err r) does behind is fits runs script = tt
 
   -- what is held goes on to be, whatever others do
   pub holds_on : (seen es : List Entry) (caller : ℕ) (t : Ticket) → IsPrefix seen es → own_of caller es ≡ own_of caller seen → Holds view tells coming o seen caller t → Holds view tells coming o es caller t
   holds_on seen es caller t front own h = record {
     owes = subst (λ (l : List Entry). Contains (owed_by l) (ticket_of t)) (sym own) h.owes;
     runs = h.runs;
-    front = h.front;
-    begins = prefix_of h.front seen es h.begins front;
-    scripts = h.scripts;
-    admitted = h.admitted;
-    fits = h.fits;
+    script = h.script;
+    visit = λ opened. let v = h.visit opened in record {
+      front = v.front;
+      begins = prefix_of v.front seen es v.begins front;
+      scripts = v.scripts;
+      admitted = v.admitted;
+      fits = v.fits;
+    };
   }
 
-  module _ (s : Shelf D N) (es : List Entry) (p : IsSound view tells coming o s es) where
-    book_is : book_in (scripts_in o) s ≡ book_then coming o es
-    book_is = ap (λ z. z.book) p.kept.shelf
-
-    -- the number is out
-    pub is_out : (caller : ℕ) (t : Ticket) → Holds view tells coming o es caller t → Contains (book_in (scripts_in o) s).out t.number
-    is_out caller t h =
-        subst (λ (b : Book). Contains b.out t.number) (sym book_is)
-        (owed_out (source_of coming o) (count_of view o.shelf.value) (count_of view s) (start_of o) es (own_of caller es) caller (ticket_of t) p.opened p.kept.legal refl h.owes).0
-
-    -- the ticket fits the book of now
-    pub fits_now : TicketsGoOnToFit → (caller : ℕ) (t : Ticket) → Holds view tells coming o es caller t
-        → FitsAs (scripts_in o) (book_in (scripts_in o) s) t (admit (book_in (scripts_in o) s) (target_of t.target))
-    fits_now law caller t h =
-        let source = source_of coming o in
-        let opened = count_of view o.shelf.value in
-        let now = count_of view s in
-        let start = start_of o in
-        let b = book_then coming o h.front in
-        let c = book_then coming o es in
-        let early : IsLegal source opened now start h.front = (go_on source opened now start h.front).2 h.begins.0 (subst (IsLegal source opened now start) (sym h.begins.1) p.kept.legal) in
-        let there : IsKept source opened now start (shelf_behind source start h.front) (λ k. source ((shelf_behind source start h.front).nonces + k)) h.front = record { legal = early; shelf = refl; nonces = λ k. refl } in
-        let orderly : IsOrderly b = (kept_sound source opened now start _ _ h.front p.opened there).0 in
-        let leads = (are_runs source opened now start es p.opened p.kept.legal).2 h.front h.begins.0 (sym h.begins.1) in
-        let setup : c.scripts ≡ scripts_in o = sym (ap (λ z. z.scripts) book_is) in
-        let fits = law b c orderly leads (setup ∙ sym h.scripts) t h.admitted (subst (λ (l : List Named). FitsAs l b t (admit b (target_of t.target))) (sym h.scripts) h.fits) in
-        subst (λ (x : Book). FitsAs (scripts_in o) x t (admit x (target_of t.target))) (sym book_is)
-        (subst (λ (l : List Named). FitsAs l c t (admit c (target_of t.target))) setup fits)
+  -- on a shelf that was opened as an own one the ticket fits the book of now
+  pub fits_now : (s : Shelf D N) (es : List Entry) → IsSound view tells coming o s es → TicketsGoOnToFit → (caller : ℕ) (t : Ticket) → Holds view tells coming o es caller t → IsOwnOpening view tells o
+      → FitsAs (scripts_in o) (book_in (scripts_in o) s) t (admit (book_in (scripts_in o) s) (target_of t.target))
+  fits_now s es p law caller t held own =
+      let h = held.visit own in
+      let kept = (p.history own).kept in
+      let source = source_of coming o in
+      let opened = count_of view o.shelf.value in
+      let now = count_of view s in
+      let start = start_of o in
+      let b = book_then coming o h.front in
+      let c = book_then coming o es in
+      let book_is : book_in (scripts_in o) s ≡ c = ap (λ z. z.book) kept.shelf in
+      let early : IsLegal source opened now start h.front = (go_on source opened now start h.front).2 h.begins.0 (subst (IsLegal source opened now start) (sym h.begins.1) kept.legal) in
+      let there : IsKept source opened now start (shelf_behind source start h.front) (λ k. source ((shelf_behind source start h.front).nonces + k)) h.front = record { legal = early; shelf = refl; nonces = λ k. refl } in
+      let orderly : IsOrderly b = (kept_sound source opened now start _ _ h.front p.opened there).0 in
+      let leads = (are_runs source opened now start es p.opened kept.legal).2 h.front h.begins.0 (sym h.begins.1) in
+      let setup : c.scripts ≡ scripts_in o = sym (ap (λ z. z.scripts) book_is) in
+      let fits = law b c orderly leads (setup ∙ sym h.scripts) t h.admitted (subst (λ (l : List Named). FitsAs l b t (admit b (target_of t.target))) (sym h.scripts) h.fits) in
+      subst (λ (x : Book). FitsAs (scripts_in o) x t (admit x (target_of t.target))) (sym book_is)
+      (subst (λ (l : List Named). FitsAs l c t (admit c (target_of t.target))) setup fits)
 
 -- what a ticket is of
 pub told_ticket : {D N : Type 0} (coming : N → ℕ → ℕ) (setup : Setup) (s : Shelf D N) (target : Target) (answer : Value) (result : Result Ticket answers.Reply) → IfOk result (IsTicketOf coming setup s target answer)

@@ -1,6 +1,8 @@
 pub mod Replies
+pub mod Outs
 pub mod Sounds
 pub mod Holding
+pub mod Calls
 pub mod Turns
 pub mod Seats
 pub mod Ticks

@@ -1,20 +1,26 @@
 -- What replies tell.
-use Rattle.std.proofs.Common.{◌≡◌, ◌⊎◌, inl, inr, ℕ, ◌≤◌, ◌<◌, ◌-◌, ◌^◌, refl, ap, sym, ◌∙◌, arith}
-use Rattle.std.specs.Prelude.{Option, Some, None, Bool, true, false, ◌==◌}
+use Rattle.std.proofs.Common.{◌≡◌, ◌⊎◌, inl, inr, ℕ, ◌≤◌, ◌<◌, ◌-◌, ◌^◌, refl, ap, sym, subst, ◌∙◌, arith}
+use Rattle.std.specs.Prelude.{Option, Some, None, Bool, true, false, ◌==◌, ⊤, Result, Ok, Err, IfErr}
 use mathlib.Core.Logic.{dite}
 use native.Mathlib.Decide.{ℕ_discrete}
 use Rattle.script_value.specs.declared.outcome.Refusal.{Refusal}
+use Rattle.script_value.specs.declared.outcome.Reply as answers
+use Rattle.script_value.specs.declared.outcome.Reply.TheVariants as answer
 use Rattle.page_names.specs.Names.{Destination, start, page}
 use Rattle.replay_spec.specs.Book.{Book, Doubt, draw}
 use Rattle.replay_spec.specs.Admission.{when, or_else, refusal_of, admit}
-use Rattle.replay_spec.specs.Step.{Reply, taken, shown, finished, ended, refusal, fault, out_of_fuel, shelf_full, instance_full, disk_failed, down, oversize, journal_full, worn, memory, swept, live, down_by, refused_by, take_unless, take, plain, disk_fault, step}
+use Rattle.replay_spec.specs.Step.{Reply, taken, shown, finished, ended, refusal, fault, out_of_fuel, shelf_full, instance_full, disk_failed, down, oversize, journal_full, worn, memory, swept, live, down_by, refused_by, take_unless, take_by, take, Fate, plain, no_memory, disk_fault, lost, kept, step}
 use Rattle.script_value.specs.Val.{Val}
 use Rattle.replay_spec.specs.Rules.{Rules}
 use Rattle.web_outside.specs.Causes.{Rose}
 use Rattle.shelf_history.specs.Histories as histories
 use Rattle.shelf_history.specs.Histories.{IsCounted}
+use Rattle.instance_book.specs.declared.ticket.Ticket.{Ticket}
+use Rattle.instance_book.specs.Views.{reply_of}
 use Rattle.shelf.specs.Views as views
+use Rattle.shelf.specs.Views.{taken_of}
 use Rattle.shelf.specs.Events.{TellsCount}
+use Rattle.site.specs.Sound.{IsNoTicket}
 
 -- a shelf reads the fate of a reply as its history does
 pub same_fate : (r : Reply) → views.fate_by r ≡ histories.fate_by r
@@ -107,3 +113,52 @@ take_tells rules b c d a nonce before now worn h = tt
 take_tells rules b c d a nonce before now memory h = tt
 take_tells rules b c d a nonce before now (swept n) h = tt
 take_tells rules b c d a nonce before now (live n) h = tt
+
+-- what a take is answered
+abbrev IsOfTake : Reply → Type 0
+IsOfTake (taken n k) = ⊤
+IsOfTake (refusal x) = ⊤
+IsOfTake (down c) = ⊤
+IsOfTake worn = ⊤
+IsOfTake memory = ⊤
+IsOfTake _ = ⊥
+
+of_take : (b : Book) (nonce : ℕ) (o : Option Doubt) (worn_out : Bool) (r : Option Refusal) → IsOfTake (take_unless (or_else (down_by o) (or_else (when worn_out worn) (refused_by r))) b nonce).0
+of_take b nonce (Some doubt) worn_out r = tt
+of_take b nonce None true r = tt
+of_take b nonce None false (Some r) = tt
+of_take b nonce None false None = tt
+
+by_fate : (b : Book) (d : Destination) (nonce : ℕ) (fate : Fate) → IsOfTake (take_by b d nonce fate).0
+by_fate b d nonce no_memory = tt
+by_fate b d nonce plain = of_take b nonce b.down (b.drawn == 2 ^ 62) (refusal_of (admit b d))
+by_fate b d nonce (disk_fault count) = of_take b nonce b.down (b.drawn == 2 ^ 62) (refusal_of (admit b d))
+by_fate b d nonce lost = of_take b nonce b.down (b.drawn == 2 ^ 62) (refusal_of (admit b d))
+by_fate b d nonce kept = of_take b nonce b.down (b.drawn == 2 ^ 62) (refusal_of (admit b d))
+
+take_is_answered : (rules : Rules) (b : Book) (d : Destination) (a : Val) (nonce : ℕ) (fate : Fate) → IsOfTake (step rules b nonce (take d a) fate).0
+unfolding step
+take_is_answered rules b d a nonce fate = by_fate b d nonce fate
+
+no_ticket : (r : answers.Reply) → IsOfTake (reply_of r) → IsNoTicket r
+no_ticket (answer.Page bytes url) h = h
+no_ticket (answer.Finished bytes) h = h
+no_ticket (answer.Ended bytes) h = h
+no_ticket (answer.Refused why) h = tt
+no_ticket (answer.Fault why) h = h
+no_ticket (answer.Fuel cost) h = h
+no_ticket (answer.ShelfFull count) h = h
+no_ticket (answer.InstanceFull count) h = h
+no_ticket (answer.Oversize size) h = h
+no_ticket (answer.JournalFull size) h = h
+no_ticket (answer.DiskFault count) h = h
+no_ticket (answer.Down count) h = tt
+no_ticket answer.Worn h = tt
+no_ticket answer.Memory h = tt
+
+-- what a take is told that gives no ticket
+pub take_refused : (rules : Rules) (b c : Book) (d : Destination) (a : Val) (nonce : ℕ) (result : Result Ticket answers.Reply)
+    → step rules b nonce (take d a) (views.fate_by (taken_of result)) ≡ (taken_of result, c) → IfErr result IsNoTicket
+take_refused rules b c d a nonce (Ok t) h = tt
+take_refused rules b c d a nonce (Err r) h =
+    no_ticket r (subst IsOfTake (ap (λ (p : Reply × Book). p.0) h) (take_is_answered rules b d a nonce (views.fate_by (reply_of r))))

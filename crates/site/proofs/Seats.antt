@@ -11,7 +11,7 @@ use Rattle.web_disk.specs.View.{View}
 use Rattle.stored_states.specs.declared.segment.Segment.{Segment}
 use Rattle.instance_book.specs.declared.ticket.Ticket.{Ticket}
 use Rattle.instance_book.specs.Views.{ticket_of}
-use Rattle.instance_book.specs.Fits.{IsForSome}
+use Rattle.instance_book.specs.Fits.{IsRunnable}
 use Rattle.shelf.specs.Views.{IsRunIfAny}
 use Rattle.lock_row.specs.Spots.{Spot, spot, IsOf, At, caller_at, home_of}
 use Rattle.lock_row.proofs.Places.{one_of, there, map_length}
@@ -99,9 +99,9 @@ module _ {D N : Type 0} (view : D → View) (tells : Bool) (coming : N → ℕ �
   takes_holds old new target answer t h = holds_on_shelf old new target answer t (shelf_for (length old) (caller_at old) target) refl h
 
   -- and can be run
-  pub runs_of : (site : Site D N) (pass : Spots D N) (t : Ticket) → IsOwn site pass → HoldsAt view tells coming pass t → IsForSome (scripts_of site.setup) t
+  pub runs_of : (site : Site D N) (pass : Spots D N) (t : Ticket) → IsOwn site pass → HoldsAt view tells coming pass t → IsRunnable (scripts_of site.setup) t
   runs_of site pass t own h =
-      subst (λ (z : Setup). IsForSome (scripts_of z) t) (sym (setup_at site pass h.shelf h.spot h.holds.opening own h.at h.holds.opening_is)) h.holds.holds.runs
+      subst (λ (z : Setup). IsRunnable (scripts_of z) t) (sym (setup_at site pass h.shelf h.spot h.holds.opening own h.at h.holds.opening_is)) h.holds.holds.runs
 
 -- a run under the site's setup and fuel is one under those of the shelf
 pub run_at : {D N : Type 0} (site : Site D N) (pass : Spots D N) (t : Ticket) (segment : Option Segment) → IsOwn site pass → IsRunIfAny (scripts_of site.setup) site.fuel t segment → IsRunAt pass t segment

@@ -1,29 +1,38 @@
 -- A shelf between turns: as it was opened, and one event more.
-use Rattle.std.proofs.Common.{◌≡◌, inl, inr, ℕ, ◌≤◌, ◌<◌, ◌^◌, ◌+◌, length, Bool, List, [], ◌∷◌, ◌++◌, IsTrue, refl, sym, ◌∙◌, ap, subst, arith, append_assoc, length-append}
+use Rattle.std.proofs.Common.{◌≡◌, ◌⊎◌, inl, inr, ℕ, ◌≤◌, ◌<◌, ◌^◌, ◌+◌, length, Bool, List, [], ◌∷◌, ◌++◌, IsTrue, refl, sym, ◌∙◌, ap, subst, arith, append_assoc, length-append}
 use Rattle.std.proofs.lemmas.List.{append-nil}
 use mathlib.Core.List.{IsPrefix}
+use Rattle.script_nodes.specs.Setup.{Named}
 use Rattle.web_disk.specs.View.{View, LeavesOnly}
 use Rattle.web_disk.proofs.Moments.{started}
 use Rattle.page_journal.proofs.Mending.{leaves_then}
-use Rattle.journal_books.specs.Laws.{ImagesMakeBooks}
+use Rattle.journal_books.specs.Laws.{ImagesMakeBooks, MeasuresDoubt}
+use Rattle.journal_books.specs.Making.{made}
 use Rattle.journal_books.specs.Standing.{MakesIn, if_kept, Held, Stands}
 use Rattle.replay_spec.specs.Book.{Book, reopened}
+use Rattle.replay_spec.specs.Rules.{Rules}
 use Rattle.script_value.specs.Val.{Val}
 use Rattle.page_names.specs.Names.{Destination}
 use Rattle.replay_spec.specs.Step as step
-use Rattle.replay_spec.specs.Step.{Event}
+use Rattle.replay_spec.specs.Step.{Event, kept, recovered}
+use Rattle.replay_spec.specs.Runs as runs
 use Rattle.replay_spec.specs.Runs.{drawn_by, shelf_step}
-use Rattle.shelf_history.specs.Histories.{Entry, MayCome, fate_by}
+use Rattle.replay_spec.specs.Laws.{IsLawful}
+use Rattle.shelf_history.specs.Histories.{Entry, MayCome, fate_by, tickets_left}
 use Rattle.shelf_history.specs.Laws.{tickets_taken}
 use Rattle.shelf_history.specs.Kept.{IsKept}
-use Rattle.shelf_history.proofs.Keeping.{kept_on, kept_sound}
+use Rattle.shelf_history.proofs.Keeping.{kept_on}
+use Rattle.shelf.specs.declared.rules.Rules as limits_of
 use Rattle.shelf.specs.declared.shelf.Shelf.{Shelf}
-use Rattle.shelf.specs.Views.{IsInOrder, IsEvent, book_in, shelf_of, rules_of}
-use Rattle.shelf.specs.Events.{TellsCount, HasMoments}
+use Rattle.shelf.specs.Owning.{HoldsOwnRecords, StandsOwn}
+use Rattle.shelf.specs.Views as views
+use Rattle.shelf.specs.Views.{IsInOrder, IsEvent, HasGiven, book_in, shelf_of, rules_of}
+use Rattle.shelf.specs.Events.{TellsCount, HasMoments, HasOwnMoments}
 use Rattle.site.specs.declared.opening.Opening.{Opening}
 use Rattle.site.specs.Entries.{entry}
-use Rattle.site.specs.Openings.{scripts_in, start_of, source_of, count_of, HasLegal, book_then}
-use Rattle.site.specs.Sound.{IsSound, IsLeft, StandsFor}
+use Rattle.site.specs.Openings.{scripts_in, IsOwnOpening, start_of, source_of, count_of, HasLegal, book_then}
+use Rattle.site.specs.Sound.{AreOut, IsSound, HasItsHistory, MakesSome, IsLeft, StandsFor}
+use Rattle.site.proofs.Outs.{none_out, out_then, stepped_out, stepped_fresh}
 use Rattle.site.proofs.Replies.{same_fate, counted, take_tells}
 
 pub prefix_on : {A : Type 0} (front es more : List A) → IsPrefix front es → IsPrefix front (es ++ more)
@@ -42,7 +51,34 @@ leaves_so v0 v1 P Q so run = record {
   ];
 }
 
+-- what two runs leave, together
+leaves_both : (v0 v1 : View) (P Q : List ℕ → Type 0) → LeavesOnly v0 v1 P → LeavesOnly v0 v1 Q → LeavesOnly v0 v1 (λ image. P image × Q image)
+leaves_both v0 v1 P Q a b = record {
+  later = a.later;
+  each = λ image left. (a.each image left, b.each image left);
+  before = λ t image le left. elim (a.before t image le left) [
+    | inl was ↦ inl was
+    | inr p ↦ elim (b.before t image le left) [ inl was ↦ inl was | inr q ↦ inr (p, q) ]
+  ];
+}
+
+-- what is kept of a doubt that the rules measure as its record is
+measured_makes : (ss : List Named) (n : ℕ) (rules : Rules) (m : ℕ) (b : Book) (image : List ℕ) → MeasuresDoubt rules m b → MakesIn ss n image (if_kept m b) → MakesIn ss n image (recovered rules kept b.down b)
+measured_makes ss n rules m b image measured h =
+    (h.0, h.1 ∙ ap (λ (y : Book). made (record { book = y; seen = h.0 })) (sym measured))
+
+-- an image makes the one book, or the other with what is in doubt there
+makes_either : (ss : List Named) (n : ℕ) (rules : Rules) (m : ℕ) (b c : Book) (image : List ℕ) → MeasuresDoubt rules m c → MakesIn ss n image b ⊎ MakesIn ss n image (if_kept m c)
+    → MakesIn ss n image b ⊎ MakesIn ss n image (recovered rules kept c.down c)
+makes_either ss n rules m b c image measured either = elim either [
+  | inl h ↦ inl h
+  | inr h ↦ inr (measured_makes ss n rules m c image measured h)
+]
+
 module _ {D N : Type 0} (view : D → View) (tells : Bool) (coming : N → ℕ → ℕ) where
+  some_book : (o : Opening D N) (b c : Book) (image : List ℕ) → MakesIn (scripts_in o) o.shelf.value.rules.number image b ⊎ MakesIn (scripts_in o) o.shelf.value.rules.number image c → MakesSome view tells coming o image
+  some_book o b c image either = elim either [ inl h ↦ (b, h) | inr h ↦ (c, h) ]
+
   -- a shelf that was just opened
   pub sound_first : ImagesMakeBooks → (o : Opening D N) → IsInOrder view tells (scripts_in o) o.shelf.value
       → book_in (scripts_in o) o.shelf.value ≡ reopened (book_in (scripts_in o) o.shelf.value)
@@ -50,105 +86,196 @@ module _ {D N : Type 0} (view : D → View) (tells : Bool) (coming : N → ℕ �
       → count_of view o.shelf.value < 2 ^ 64 → IsSound view tells coming o o.shelf.value []
   sound_first law o order opened only_now low =
       let s = o.shelf.value in
+      let ss = scripts_in o in
+      let n = s.rules.number in
+      let b = book_in ss s in
+      let v = view s.journal.disk in
       let source = source_of coming o in
       let none : List Entry = [] in
+      let idle : b.out ≡ [] = ap (λ (x : Book). x.out) opened in
       record {
-        given = 0;
         in_order = order;
-        opened = record { orderly = order.orderly; idle = ap (λ (b : Book). b.out) opened };
-        kept = (kept_on source (count_of view s) (count_of view s) (start_of o)).0 refl;
+        opened = record { orderly = order.orderly; idle = idle };
+        out = none_out b.out idle;
+        nonces = λ k. ap source (let z : k ≡ 0 + k = omega arith in z);
         rules = refl;
         later = omega arith;
         counted = low;
         ever = λ told.
             let stands = (order.fit told).stands in
-            started (view s.journal.disk) (IsLeft view tells coming o none)
-            (λ image left. (none, prefix_all none, law (scripts_in o) s.rules.number (book_in (scripts_in o) s) (if_kept (scripts_in o) s.rules.number (book_in (scripts_in o) s)) stands.0 image (stands.1 image (only_now image left))));
+            started v (MakesSome view tells coming o)
+            (λ image left. some_book o b (if_kept stands.0 b) image (law ss n b (if_kept stands.0 b) stands.1.0 image (stands.1.1 image (only_now image left))));
+        history = λ own. record {
+          own = own;
+          kept = (kept_on source (count_of view s) (count_of view s) (start_of o)).0 refl;
+          ever = λ told.
+              let its = own.own told in
+              let m = its.stands.0 in
+              started v (IsLeft view tells coming o none)
+              (λ image left. record {
+                own = (its.images.0, its.images.1 image (only_now image left));
+                front = none;
+                begins = prefix_all none;
+                makes = makes_either ss n (rules_of ss s.rules) m b b image its.stands.1.1.1 (law ss n b (if_kept m b) its.stands.1.0 image (its.stands.1.1.0 image (only_now image left)));
+              });
+        };
         untouched = λ e. refl;
       }
 
   module _ (o : Opening D N) (s t : Shelf D N) (es : List Entry) (p : IsSound view tells coming o s es) where
+    abbrev given : ℕ
+    given = length (tickets_taken es)
+
     -- what is told of a beginning is told of one of a longer history
     left_more : (more : List Entry) (image : List ℕ) → IsLeft view tells coming o es image → IsLeft view tells coming o (es ++ more) image
-    left_more more image left = (left.0, prefix_on left.0 es more left.1, left.2)
+    left_more more image left = record { own = left.own; front = left.front; begins = prefix_on left.front es more left.begins; makes = left.makes }
 
-    -- one event more: the shelf is then the one behind it
-    pub kept_push : (caller : ℕ) (event : Event) (r : step.Reply) → MayCome caller event es → IsEvent coming (scripts_in o) s t event r → count_of view s ≤ count_of view t
-        → TellsCount (count_of view s) (count_of view t) r
-        → IsKept (source_of coming o) (count_of view o.shelf.value) (count_of view t) (start_of o) (shelf_of (scripts_in o) (drawn_by r p.given) t) (coming t.nonces) (es ++ entry caller event r ∷ [])
-    kept_push caller event r may does later told =
-        let source = source_of coming o in
-        let opened = count_of view o.shelf.value in
-        let now = count_of view t in
-        let was = shelf_of (scripts_in o) p.given s in
-        let next = shelf_of (scripts_in o) (drawn_by r p.given) t in
-        let raised = (kept_on source opened (count_of view s) (start_of o)).2 was (coming s.nonces) es now later p.kept in
-        let stepped : shelf_step source was event (fate_by r) ≡ (r, next) = ap (λ f. shelf_step source was event f) (sym (same_fate r)) ∙ does.step source p.given p.kept.nonces in
-        (kept_on source opened now (start_of o)).1 was next (coming s.nonces) (coming t.nonces) es caller event r raised may
-        (record { step = stepped; nonces = does.nonces source p.given p.kept.nonces })
-        (counted opened (count_of view s) now r p.later p.counted told)
+    -- the step of an event of this shelf
+    pub stepped : (event : Event) (r : step.Reply) → IsEvent coming (scripts_in o) s t event r
+        → step.step (rules_of (scripts_in o) s.rules) (book_in (scripts_in o) s) (source_of coming o given) event (views.fate_by r) ≡ (r, book_in (scripts_in o) t)
+    stepped event r does = ap (λ (z : step.Reply × runs.Shelf). (z.0, z.1.book)) (does.step (source_of coming o) given p.nonces)
 
-    -- and what a crash may leave of it, where a call of the disk was made
-    pub ever_push : ImagesMakeBooks → (e : Entry) → HasMoments view (scripts_in o) s t → book_in (scripts_in o) t ≡ book_then coming o (es ++ e ∷ []) → IsTrue tells
-        → LeavesOnly (view o.shelf.value.journal.disk) (view t.journal.disk) (IsLeft view tells coming o (es ++ e ∷ []))
-    ever_push law e th last told =
+    -- what is out behind an event
+    pub out_push : (caller : ℕ) (event : Event) (r : step.Reply) → MayCome caller event es → IsLawful event (book_in (scripts_in o) s) → IsEvent coming (scripts_in o) s t event r
+        → AreOut (book_in (scripts_in o) t).out (es ++ entry caller event r ∷ [])
+    out_push caller event r may lawful does =
         let ss = scripts_in o in
-        let Q = IsLeft view tells coming o (es ++ e ∷ []) in
-        let n = s.rules.number in
-        let m = o.shelf.value.rules.number in
-        let number : n ≡ m = ap (λ z. z.number) p.rules in
-        let book : book_in ss s ≡ book_then coming o es = ap (λ z. z.book) p.kept.shelf in
-        leaves_then (view o.shelf.value.journal.disk) (view s.journal.disk) (view t.journal.disk) Q
-        (leaves_so _ _ (IsLeft view tells coming o es) Q (left_more (e ∷ [])) (p.ever told))
-        (leaves_so _ _ (Held th.0) Q
-        (λ image held. elim (law ss n (book_in ss s) (if_kept ss n (book_in ss t)) th.0 image held) [
-          | inl h ↦ (es, (e ∷ [], refl), inl (subst (λ k. MakesIn ss k image (book_then coming o es)) number (subst (λ b. MakesIn ss n image b) book h)))
-          | inr h ↦
-              (es ++ e ∷ [], prefix_all (es ++ e ∷ []), inr (subst (λ k. MakesIn ss k image (if_kept ss k (book_then coming o (es ++ e ∷ [])))) number (subst (λ b. MakesIn ss n image (if_kept ss n b)) last h)))
-        ]) th.1)
+        let b = book_in ss s in
+        let c = book_in ss t in
+        let rules = rules_of ss s.rules in
+        let nonce = source_of coming o given in
+        let left = tickets_left es [] in
+        out_then b.out c.out es (entry caller event r) p.out may
+        (stepped_fresh rules b c nonce event (views.fate_by r) r left p.in_order.orderly (stepped event r does) p.out.numbers caller)
+        (stepped_out rules b c nonce event (views.fate_by r) r left p.in_order.orderly (stepped event r does) p.out.numbers lawful)
+
+    -- the nonces to come, where so many were drawn
+    pub nonces_push : (caller : ℕ) (event : Event) (r : step.Reply) → drawn_by r given ≡ length (tickets_taken (es ++ entry caller event r ∷ []))
+        → HasGiven (source_of coming o) (drawn_by r given) (coming t.nonces) → HasGiven (source_of coming o) (length (tickets_taken (es ++ entry caller event r ∷ []))) (coming t.nonces)
+    nonces_push caller event r drawn has = subst (λ (k : ℕ). HasGiven (source_of coming o) k (coming t.nonces)) drawn has
+
+    -- a call that left the nonces drew none
+    pub nonces_stay : (r : step.Reply) → drawn_by r given ≡ given → t.nonces ≡ s.nonces → HasGiven (source_of coming o) (drawn_by r given) (coming t.nonces)
+    nonces_stay r none same = λ k. ap (λ (n : N). coming n k) same ∙ (p.nonces k ∙ ap (λ (m : ℕ). source_of coming o (m + k)) (sym none))
+
+    -- what a crash may leave, where a call of the disk was made
+    pub some_push : ImagesMakeBooks → HasMoments view (scripts_in o) s t → IsTrue tells → LeavesOnly (view o.shelf.value.journal.disk) (view t.journal.disk) (MakesSome view tells coming o)
+    some_push law th told =
+        let ss = scripts_in o in
+        let Q = MakesSome view tells coming o in
+        let b = book_in ss s in
+        let c = if_kept th.0 (book_in ss t) in
+        leaves_then (view o.shelf.value.journal.disk) (view s.journal.disk) (view t.journal.disk) Q (p.ever told)
+        (leaves_so _ _ (Held th.1.0) Q
+        (λ image held. some_book o b c image
+        (subst (λ (r : limits_of.Rules). MakesIn ss r.number image b ⊎ MakesIn ss r.number image c) p.rules (law ss s.rules.number b c th.1.0 image held))) th.1.1)
 
     -- and where none was made
-    pub ever_same : (e : Entry) → t.journal ≡ s.journal → IsTrue tells → LeavesOnly (view o.shelf.value.journal.disk) (view t.journal.disk) (IsLeft view tells coming o (es ++ e ∷ []))
-    ever_same e same told =
-        subst (λ j. LeavesOnly (view o.shelf.value.journal.disk) (view j.disk) (IsLeft view tells coming o (es ++ e ∷ []))) (sym same)
-        (leaves_so _ _ (IsLeft view tells coming o es) (IsLeft view tells coming o (es ++ e ∷ [])) (left_more (e ∷ [])) (p.ever told))
+    pub some_same : t.journal ≡ s.journal → IsTrue tells → LeavesOnly (view o.shelf.value.journal.disk) (view t.journal.disk) (MakesSome view tells coming o)
+    some_same same told = subst (λ j. LeavesOnly (view o.shelf.value.journal.disk) (view j.disk) (MakesSome view tells coming o)) (sym same) (p.ever told)
 
     -- a take tells of no fault
     pub take_told : (d : Destination) (a : Val) (r : step.Reply) → IsEvent coming (scripts_in o) s t (step.take d a) r → TellsCount (count_of view s) (count_of view t) r
     take_told d a r does =
-        take_tells (rules_of (scripts_in o) s.rules) (book_in (scripts_in o) s) (book_in (scripts_in o) t) d a (source_of coming o p.given) (count_of view s) (count_of view t) r
-        (ap (λ z. (z.0, z.1.book)) (does.step (source_of coming o) p.given p.kept.nonces))
+        take_tells (rules_of (scripts_in o) s.rules) (book_in (scripts_in o) s) (book_in (scripts_in o) t) d a (source_of coming o given) (count_of view s) (count_of view t) r (stepped (step.take d a) r does)
 
-    pub sound_push : (caller : ℕ) (event : Event) (r : step.Reply) → IsInOrder view tells (scripts_in o) t → t.rules ≡ s.rules → count_of view s ≤ count_of view t
-        → IsKept (source_of coming o) (count_of view o.shelf.value) (count_of view t) (start_of o) (shelf_of (scripts_in o) (drawn_by r p.given) t) (coming t.nonces) (es ++ entry caller event r ∷ [])
-        → (IsTrue tells → LeavesOnly (view o.shelf.value.journal.disk) (view t.journal.disk) (IsLeft view tells coming o (es ++ entry caller event r ∷ [])))
-        → IsSound view tells coming o t (es ++ entry caller event r ∷ [])
-    sound_push caller event r order rules later behind ever = record {
-      given = drawn_by r p.given;
+    -- of a shelf that was opened as an own one
+    module _ (h : HasItsHistory view tells coming o s es) where
+      -- one event more: the shelf is then the one behind it
+      pub kept_push : (caller : ℕ) (event : Event) (r : step.Reply) → MayCome caller event es → IsEvent coming (scripts_in o) s t event r → count_of view s ≤ count_of view t
+          → TellsCount (count_of view s) (count_of view t) r → drawn_by r given ≡ length (tickets_taken (es ++ entry caller event r ∷ []))
+          → IsKept (source_of coming o) (count_of view o.shelf.value) (count_of view t) (start_of o) (shelf_of (scripts_in o) (length (tickets_taken (es ++ entry caller event r ∷ []))) t) (coming t.nonces) (es ++ entry caller event r ∷ [])
+      kept_push caller event r may does later told drawn =
+          let source = source_of coming o in
+          let opened = count_of view o.shelf.value in
+          let now = count_of view t in
+          let ss = scripts_in o in
+          let was = shelf_of ss given s in
+          let next = shelf_of ss (drawn_by r given) t in
+          let raised = (kept_on source opened (count_of view s) (start_of o)).2 was (coming s.nonces) es now later h.kept in
+          let stepped : shelf_step source was event (fate_by r) ≡ (r, next) = ap (λ f. shelf_step source was event f) (sym (same_fate r)) ∙ does.step source given h.kept.nonces in
+          let all = (kept_on source opened now (start_of o)).1 was next (coming s.nonces) (coming t.nonces) es caller event r raised may
+          (record { step = stepped; nonces = does.nonces source given h.kept.nonces })
+          (counted opened (count_of view s) now r p.later p.counted told) in
+          subst (λ (k : ℕ). IsKept source opened now (start_of o) (shelf_of ss k t) (coming t.nonces) (es ++ entry caller event r ∷ [])) drawn all
+
+      -- and what a crash may leave of it, where a call of the disk was made
+      pub ever_push : ImagesMakeBooks → (e : Entry) → HasOwnMoments view (scripts_in o) s t → book_in (scripts_in o) t ≡ book_then coming o (es ++ e ∷ []) → IsTrue tells
+          → LeavesOnly (view o.shelf.value.journal.disk) (view t.journal.disk) (IsLeft view tells coming o (es ++ e ∷ []))
+      ever_push law e th last told =
+          let ss = scripts_in o in
+          let Q = IsLeft view tells coming o (es ++ e ∷ []) in
+          let n = s.rules.number in
+          let b = book_in ss s in
+          let c = book_in ss t in
+          let k = th.measured in
+          let P : limits_of.Rules → Book → Book → List ℕ → Type 0 =
+          λ r x y image. HoldsOwnRecords ss r.number image × (MakesIn ss r.number image x ⊎ MakesIn ss r.number image (recovered (rules_of ss r) kept y.down y)) in
+          let book : b ≡ book_then coming o es = ap (λ z. z.book) h.kept.shelf in
+          let here : (image : List ℕ) → HoldsOwnRecords ss n image × Held k.1.0 image → P o.shelf.value.rules (book_then coming o es) (book_then coming o (es ++ e ∷ [])) image =
+          λ image both.
+          subst (λ (y : Book). P o.shelf.value.rules (book_then coming o es) y image) last
+          (subst (λ (x : Book). P o.shelf.value.rules x c image) book
+          (subst (λ (r : limits_of.Rules). P r b c image) p.rules
+          (both.0, makes_either ss n (rules_of ss s.rules) k.0 b c image k.2 (law ss n b (if_kept k.0 c) k.1.0 image both.1)))) in
+          leaves_then (view o.shelf.value.journal.disk) (view s.journal.disk) (view t.journal.disk) Q
+          (leaves_so _ _ (IsLeft view tells coming o es) Q (left_more (e ∷ [])) (h.ever told))
+          (leaves_so _ _ (λ image. HoldsOwnRecords ss n image × Held k.1.0 image) Q
+          (λ image both.
+          let there = here image both in
+          elim there.1 [
+            | inl x ↦ record { own = there.0; front = es; begins = (e ∷ [], refl); makes = inl x }
+            | inr y ↦ record { own = there.0; front = es ++ e ∷ []; begins = prefix_all (es ++ e ∷ []); makes = inr y }
+          ])
+          (leaves_both (view s.journal.disk) (view t.journal.disk) (HoldsOwnRecords ss n) (Held k.1.0) th.own k.1.1))
+
+      -- and where none was made
+      pub ever_same : (e : Entry) → t.journal ≡ s.journal → IsTrue tells → LeavesOnly (view o.shelf.value.journal.disk) (view t.journal.disk) (IsLeft view tells coming o (es ++ e ∷ []))
+      ever_same e same told =
+          subst (λ j. LeavesOnly (view o.shelf.value.journal.disk) (view j.disk) (IsLeft view tells coming o (es ++ e ∷ []))) (sym same)
+          (leaves_so _ _ (IsLeft view tells coming o es) (IsLeft view tells coming o (es ++ e ∷ [])) (left_more (e ∷ [])) (h.ever told))
+
+    -- one entry more
+    pub sound_push : (e : Entry) → IsInOrder view tells (scripts_in o) t → AreOut (book_in (scripts_in o) t).out (es ++ e ∷ []) → HasGiven (source_of coming o) (length (tickets_taken (es ++ e ∷ []))) (coming t.nonces)
+        → t.rules ≡ s.rules → count_of view s ≤ count_of view t
+        → (IsTrue tells → LeavesOnly (view o.shelf.value.journal.disk) (view t.journal.disk) (MakesSome view tells coming o))
+        → (IsOwnOpening view tells o → HasItsHistory view tells coming o t (es ++ e ∷ []))
+        → IsSound view tells coming o t (es ++ e ∷ [])
+    sound_push e order out nonces rules later ever history = record {
       in_order = order;
       opened = p.opened;
-      kept = behind;
+      out = out;
+      nonces = nonces;
       rules = rules ∙ p.rules;
       later = (let a = p.later in omega arith);
       counted = p.counted;
       ever = ever;
-      untouched = λ none. absurd (let no = ap length none in omega (arith, no, length-append es (entry caller event r ∷ [])));
+      history = history;
+      untouched = λ none. absurd (let no = ap length none in omega (arith, no, length-append es (e ∷ [])));
     }
 
   -- what is handed back stands for the book of the history
   pub stands_for : (o : Opening D N) (s : Shelf D N) (es : List Entry) (disk : D) (nonces : N) → IsSound view tells coming o s es → disk ≡ s.journal.disk → nonces ≡ s.nonces → StandsFor view tells coming o disk nonces es
   stands_for o s es disk nonces p disk_is nonces_are =
-      let source = source_of coming o in
-      let opened = count_of view o.shelf.value in
       let ss = scripts_in o in
-      let sound = kept_sound source opened (count_of view s) (start_of o) (shelf_of ss p.given s) (coming s.nonces) es p.opened p.kept in
+      let v0 = view o.shelf.value.journal.disk in
       record {
         opened = p.opened;
-        legal = subst (λ d. HasLegal view coming o (view d).faults es) (sym disk_is) p.kept.legal;
-        coming_is = λ k. ap (λ n. coming n k) nonces_are ∙ (sound.3 k ∙ ap source (let z : 0 + length (tickets_taken es) + k ≡ length (tickets_taken es) + k = omega arith in z));
-        stands = λ told.
-            subst (λ d. Stands ss o.shelf.value.rules.number (view d) (book_then coming o es)) (sym disk_is)
-            (subst (λ b. Stands ss o.shelf.value.rules.number (view s.journal.disk) b) (ap (λ z. z.book) p.kept.shelf)
-            (subst (λ n. Stands ss n (view s.journal.disk) (book_in ss s)) (ap (λ z. z.number) p.rules) (p.in_order.fit told).stands));
-        ever = λ told. subst (λ d. LeavesOnly (view o.shelf.value.journal.disk) (view d) (IsLeft view tells coming o es)) (sym disk_is) (p.ever told);
+        coming_is = λ k. ap (λ n. coming n k) nonces_are ∙ p.nonces k;
+        stands = λ told. (
+          book_in ss s,
+          subst (λ d. Stands ss o.shelf.value.rules.number (view d) (book_in ss s)) (sym disk_is)
+              (subst (λ (r : limits_of.Rules). Stands ss r.number (view s.journal.disk) (book_in ss s)) p.rules (p.in_order.fit told).stands),
+        );
+        ever = λ told. subst (λ d. LeavesOnly v0 (view d) (MakesSome view tells coming o)) (sym disk_is) (p.ever told);
+        history = λ own.
+            let h = p.history own in
+            record {
+              legal = subst (λ d. HasLegal view coming o (view d).faults es) (sym disk_is) h.kept.legal;
+              stands = λ told.
+                  subst (λ d. StandsOwn (start_of o).rules ss o.shelf.value.rules.number (view d) (book_then coming o es)) (sym disk_is)
+                  (subst (λ b. StandsOwn (start_of o).rules ss o.shelf.value.rules.number (view s.journal.disk) b) (ap (λ z. z.book) h.kept.shelf)
+                  (subst (λ (r : limits_of.Rules). StandsOwn (rules_of ss r) ss r.number (view s.journal.disk) (book_in ss s)) p.rules (h.own.own told)));
+              ever = λ told. subst (λ d. LeavesOnly v0 (view d) (IsLeft view tells coming o es)) (sym disk_is) (h.ever told);
+            };
       }

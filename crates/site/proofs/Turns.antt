@@ -17,7 +17,7 @@ use Rattle.replay_spec.specs.Step as step
 use Rattle.replay_spec.specs.Step.{Event}
 use Rattle.instance_book.specs.declared.ticket.Ticket.{Ticket}
 use Rattle.instance_book.specs.Views.{ticket_of, reply_of}
-use Rattle.shelf.specs.Views.{taken_of, swept_of}
+use Rattle.shelf.specs.Views.{book_in, taken_of, swept_of}
 use Rattle.shelf_history.specs.Histories.{Entry, own_of, IsLegal}
 use Rattle.shelf_history.specs.Passes.{IsSeenBy, Goes}
 use Rattle.shelf_history.proofs.Going.{go_on}
@@ -29,9 +29,10 @@ use Rattle.site.specs.declared.entry.KeptEntry.{KeptEntry}
 use Rattle.site.specs.declared.kept.KeptShelf.{KeptShelf}
 use Rattle.site.specs.declared.opening.Opening.{Opening}
 use Rattle.site.specs.Entries.{entry, done_by, entry_of, entries_of, Comes, Sweeps}
-use Rattle.site.specs.Openings.{start_of, source_of, count_of, book_then}
+use Rattle.site.specs.Openings.{scripts_in, IsOwnOpening, start_of, source_of, count_of, book_then}
+use Rattle.site.proofs.Outs.{own_more}
 use Rattle.site.specs.Sound.{IsSound, Holds, Gives}
-use Rattle.site.specs.Passes.{Known, seen_by, GoesFrom, HoldsTicket, Took, Published, HasReached, Swept}
+use Rattle.site.specs.Passes.{Known, seen_by, Grows, GoesFrom, HoldsTicket, Took, Published, HasReached, Swept}
 
 -- an entry is its caller's
 caller_done : (caller : ℕ) (d : Did) → (done_by caller d).caller ≡ caller
@@ -71,6 +72,21 @@ pub adds_swept : (by who tick : ℕ) (result : Result ℕ answers.Reply) (clock 
 adds_swept by who tick result clock old new is (inl over) = inl over.1
 adds_swept by who tick result clock old new is (inr more) = adds_one by who (step.sweep tick) (swept_of result) old new is more.1
 
+-- what a pass has then seen: nothing more of its own, or one entry
+grows_none : (caller : ℕ) (seen es : List Entry) → IsSeenBy caller seen es → Grows caller seen [] es
+grows_none caller seen es known = record {
+  between = known.front.0;
+  is = sym known.front.1 ∙ sym (append-nil (seen ++ known.front.0));
+  own = known.own ∙ sym (append-nil (own_of caller seen));
+}
+
+grows_one : (caller : ℕ) (seen es : List Entry) (e : Entry) → IsSeenBy caller seen es → e.caller ≡ caller → Grows caller seen (e ∷ []) (es ++ e ∷ [])
+grows_one caller seen es e known is = record {
+  between = known.front.0;
+  is = ap (λ (l : List Entry). l ++ e ∷ []) (sym known.front.1);
+  own = own_more caller es e is ∙ ap (λ (l : List Entry). l ++ e ∷ []) known.own;
+}
+
 module _ {D N : Type 0} (view : D → View) (tells : Bool) (coming : N → ℕ → ℕ) where
   -- a turn found x, which begins with all that v had seen and has no other entry of its caller, and left y, which w has seen
   pub record Turn (v w : Known D N) (x y : KeptShelf D N) : Type 0 where
@@ -93,37 +109,44 @@ module _ {D N : Type 0} (view : D → View) (tells : Bool) (coming : N → ℕ �
     pub goes_none : y.history ≡ x.history → GoesFrom view tells coming v [] w
     goes_none same =
         let o = x.opened in
-        let source = source_of coming o in
-        let opened = count_of view o.shelf.value in
-        let now = count_of view y.shelf in
-        let legal : IsLegal source opened now (start_of o) (entries_of x.history) = subst (λ (l : List KeptEntry). IsLegal source opened now (start_of o) (entries_of l)) same t.sound.kept.legal in
-        let goes = (turn source opened now (start_of o) v.caller (entries_of v.seen) (entries_of x.history) known legal).0 in
+        let es = entries_of x.history in
+        let seen : es ≡ seen_by w = ap entries_of (sym same) ∙ seen_now in
         record {
           opening = o;
           opening_is = t.opening_is;
-          now = now;
           is = posed_so;
-          goes = subst (λ (l : List Entry). Goes source opened now (start_of o) v.caller (entries_of v.seen) [] l) (ap entries_of (sym same) ∙ seen_now) goes;
+          grows = subst (Grows v.caller (entries_of v.seen) []) seen (grows_none v.caller (entries_of v.seen) es known);
+          now = count_of view y.shelf;
+          goes = λ own.
+              let source = source_of coming o in
+              let opened = count_of view o.shelf.value in
+              let now = count_of view y.shelf in
+              let legal : IsLegal source opened now (start_of o) es = subst (λ (l : List KeptEntry). IsLegal source opened now (start_of o) (entries_of l)) same (t.sound.history own).kept.legal in
+              subst (λ (l : List Entry). Goes source opened now (start_of o) v.caller (entries_of v.seen) [] l) seen
+              (turn source opened now (start_of o) v.caller (entries_of v.seen) es known legal).0;
         }
 
     pub goes_one : (by : ℕ) (event : Event) (r : step.Reply) → v.caller ≡ by → Comes by event r x.history y.history → GoesFrom view tells coming v (entry v.caller event r ∷ []) w
     goes_one by event r is c =
         let o = x.opened in
-        let source = source_of coming o in
-        let opened = count_of view o.shelf.value in
-        let now = count_of view y.shelf in
         let es = entries_of x.history in
         let e : Entry = entry v.caller event r in
         let grown : entries_of y.history ≡ es ++ e ∷ [] = ap entries_of c.is ∙ (map_snoc entry_of x.history c.entry_made ∙ (λ i. es ++ (c.entry_is ∙ ap (λ (n : ℕ). entry n event r) (sym is)) i ∷ [])) in
-        let legal : IsLegal source opened now (start_of o) (es ++ e ∷ []) = subst (IsLegal source opened now (start_of o)) grown t.sound.kept.legal in
-        let before = (go_on source opened now (start_of o) es).2 (e ∷ []) legal in
-        let goes = (turn source opened now (start_of o) v.caller (entries_of v.seen) es known before).1 e ((go_on source opened now (start_of o) es).1 e legal) refl in
+        let seen : es ++ e ∷ [] ≡ seen_by w = sym grown ∙ seen_now in
         record {
           opening = o;
           opening_is = t.opening_is;
-          now = now;
           is = posed_so;
-          goes = subst (λ (l : List Entry). Goes source opened now (start_of o) v.caller (entries_of v.seen) (e ∷ []) l) (sym grown ∙ seen_now) goes;
+          grows = subst (Grows v.caller (entries_of v.seen) (e ∷ [])) seen (grows_one v.caller (entries_of v.seen) es e known refl);
+          now = count_of view y.shelf;
+          goes = λ own.
+              let source = source_of coming o in
+              let opened = count_of view o.shelf.value in
+              let now = count_of view y.shelf in
+              let legal : IsLegal source opened now (start_of o) (es ++ e ∷ []) = subst (IsLegal source opened now (start_of o)) grown (t.sound.history own).kept.legal in
+              let before = (go_on source opened now (start_of o) es).2 (e ∷ []) legal in
+              subst (λ (l : List Entry). Goes source opened now (start_of o) v.caller (entries_of v.seen) (e ∷ []) l) seen
+              ((turn source opened now (start_of o) v.caller (entries_of v.seen) es known before).1 e ((go_on source opened now (start_of o) es).1 e legal) refl);
         }
 
     pub holds_so : (by : ℕ) (u : Ticket) → v.caller ≡ by → Holds view tells coming x.opened (entries_of y.history) by u → HoldsTicket view tells coming w u
@@ -142,31 +165,39 @@ module _ {D N : Type 0} (view : D → View) (tells : Bool) (coming : N → ℕ �
       target_is = given.ticket.0;
       answer_is = given.ticket.1;
     }
-    took by target answer (Err r) is c given = inl (goes_one by (step.take target answer) (reply_of r) is c)
+    took by target answer (Err r) is c given = (given.refused, inl (goes_one by (step.take target answer) (reply_of r) is c))
 
     pub published : (by : ℕ) (u : Ticket) (r : answers.Reply) → v.caller ≡ by → Comes by (step.publish (ticket_of u)) (reply_of r) x.history y.history → Published view tells coming v u r w
     published by u r is c = inl (goes_one by (step.publish (ticket_of u)) (reply_of r) is c)
 
-    reaches : (tick : ℕ) → tick ≤ (book_then coming x.opened (entries_of y.history)).clock → HasReached view tells coming w tick
-    reaches tick le o is =
+    reaches : (tick : ℕ) → (IsOwnOpening view tells x.opened → tick ≤ (book_then coming x.opened (entries_of y.history)).clock) → HasReached view tells coming w tick
+    reaches tick le o is own =
         let same : x.opened ≡ o = cc (sym t.opening_is ∙ (sym (ap (λ (u : Known D N). u.opening) t.seen_is) ∙ is)) in
-        subst (λ (p : Opening D N). tick ≤ (book_then coming p (seen_by w)).clock) same (subst (λ (l : List Entry). tick ≤ (book_then coming x.opened l).clock) seen_now le)
+        subst (λ (p : Opening D N). tick ≤ (book_then coming p (seen_by w)).clock) same
+        (subst (λ (l : List Entry). tick ≤ (book_then coming x.opened l).clock) seen_now (le (subst (IsOwnOpening view tells) (sym same) own)))
 
-    pub swept : (by tick : ℕ) (result : Result ℕ answers.Reply) → v.caller ≡ by → Sweeps by tick result (book_then coming x.opened (entries_of x.history)).clock x.history y.history → Swept view tells coming v tick result w
-    swept by tick (Ok n) is (inl over) =
-        (inr (let z : n ≡ 0 = cc over.2 in z, goes_none over.1), reaches tick (subst (λ (l : List KeptEntry). tick ≤ (book_then coming x.opened (entries_of l)).clock) (sym over.1) over.0))
-    swept by tick (Ok n) is (inr more) =
+    -- behind a sweep, or where the clock of the shelf was at the tick before
+    pub swept : (by tick : ℕ) (result : Result ℕ answers.Reply) → v.caller ≡ by → IsSound view tells coming x.opened x.shelf (entries_of x.history)
+        → Sweeps by tick result (book_in (scripts_in x.opened) x.shelf).clock x.history y.history → Swept view tells coming v tick result w
+    swept by tick (Ok n) is sound (inl over) = (
+      inr (let z : n ≡ 0 = cc over.2 in z, goes_none over.1),
+      reaches tick (λ own.
+          let clock = ap (λ z. z.book.clock) (sound.history own).kept.shelf in
+          subst (λ (l : List KeptEntry). tick ≤ (book_then coming x.opened (entries_of l)).clock) (sym over.1) (subst (λ (k : ℕ). tick ≤ k) clock over.0)),
+    )
+    swept by tick (Ok n) is sound (inr more) =
         let o = x.opened in
         let es = entries_of x.history in
         let e : Entry = entry by (step.sweep tick) (step.swept n) in
-        let grown : entries_of y.history ≡ es ++ e ∷ [] = ap entries_of more.1.is ∙ (map_snoc entry_of x.history more.1.entry_made ∙ (λ i. es ++ more.1.entry_is i ∷ [])) in
-        let legal = subst (IsLegal (source_of coming o) (count_of view o.shelf.value) (count_of view y.shelf) (start_of o)) (grown ∙ sym (append-nil (es ++ e ∷ []))) t.sound.kept.legal in
-        let there = (never_back (source_of coming o) (count_of view o.shelf.value) (count_of view y.shelf) (start_of o) (es ++ e ∷ []) [] t.sound.opened legal).1 by tick n (Contains-push es e) in (
+        let grown : entries_of y.history ≡ es ++ e ∷ [] = ap entries_of more.1.is ∙ (map_snoc entry_of x.history more.1.entry_made ∙ (λ i. es ++ more.1.entry_is i ∷ [])) in (
           inl (goes_one by (step.sweep tick) (step.swept n) is more.1),
-          reaches tick (subst (λ (l : List Entry). tick ≤ (book_then coming o l).clock) (append-nil (es ++ e ∷ []) ∙ sym grown) there),
+          reaches tick (λ own.
+              let legal = subst (IsLegal (source_of coming o) (count_of view o.shelf.value) (count_of view y.shelf) (start_of o)) (grown ∙ sym (append-nil (es ++ e ∷ []))) (t.sound.history own).kept.legal in
+              let there = (never_back (source_of coming o) (count_of view o.shelf.value) (count_of view y.shelf) (start_of o) (es ++ e ∷ []) [] t.sound.opened legal).1 by tick n (Contains-push es e) in
+              subst (λ (l : List Entry). tick ≤ (book_then coming o l).clock) (append-nil (es ++ e ∷ []) ∙ sym grown) there),
         )
-    swept by tick (Err r) is (inl over) = absurd (let no : ⊥ = cc over.2 in no)
-    swept by tick (Err r) is (inr more) = inl (goes_one by (step.sweep tick) (reply_of r) is more.1)
+    swept by tick (Err r) is sound (inl over) = absurd (let no : ⊥ = cc over.2 in no)
+    swept by tick (Err r) is sound (inr more) = inl (goes_one by (step.sweep tick) (reply_of r) is more.1)
 
 pub match_ok : {A B : Type 0} (P : A → Type 0) (Q : B → Type 0) (r : Result A B) (a : A) → MatchResult r P Q → r ≡ Ok a → P a
 match_ok P Q (Ok b) a m e = subst P (let z : b ≡ a = cc e in z) m

@@ -1,5 +1,5 @@
 -- What a site begins with, and what it hands back where it does not begin.
-use Rattle.std.specs.Prelude.{◌≡◌, ◌≤◌, ◌<◌, ◌+◌, ◌-◌, ◌^◌, ℕ, Bool, IsTrue, List, [], ◌∷◌, length, Some, slice_get, vec_len, vec_capacity}
+use Rattle.std.specs.Prelude.{◌≡◌, ◌≤◌, ◌<◌, ◌-◌, ◌^◌, ℕ, Bool, IsTrue, List, [], ◌∷◌, length, Some, slice_get, vec_len, vec_capacity}
 use Rattle.web_outside.specs.Causes.{Rose}
 use Rattle.web_disk.specs.View.{View}
 use Rattle.script_nodes.specs.Setup.{Named}
@@ -13,7 +13,8 @@ use Rattle.shelf.specs.declared.begin.BeginFault.TheVariants.{DiskFault}
 use Rattle.shelf.specs.declared.rules.Rules.{Rules}
 use Rattle.shelf.specs.declared.shelf.Shelf.{Shelf}
 use Rattle.shelf.specs.Opening.{MakesBook, IsFaultOf}
-use Rattle.shelf.specs.Views.{IsInOrder, book_in}
+use Rattle.shelf.specs.Owning.{IsOwnImage, HasOwnImages, StaysOwnThroughout}
+use Rattle.shelf.specs.Views.{IsInOrder, IsOwnShelf, book_in}
 use Rattle.lock_row.specs.Spots.{Home, Homes}
 use Rattle.lock_row.specs.Rows.{IsNewPass}
 use Rattle.site.specs.declared.kept.KeptShelf.{KeptShelf}
@@ -35,7 +36,8 @@ CanBegin scripts shelves = (k : ℕ) → k < shelves → IsInGrammar (begin_of k
 
 module _ {D N : Type 0} (view : D → View) (tells : Bool) (scripts : List Named) where
   -- A shelf that was opened on this disk under these limits: its book is what the disk's bytes make, as after a crash, and empty
-  -- where they have no record. A crash at any moment of the opening left the disk between the books that it stood between.
+  -- where they have no record. A crash at any moment of the opening left the disk between the books that it stood between. Where the
+  -- records that are read are own ones, it is an own shelf.
   pub record IsOpenedOn (rules : Rules) (disk : D) (nonces : N) (s : Shelf D N) : Type 0 where
     pub rules_are : s.rules ≡ rules
     pub nonces_are : s.nonces ≡ nonces
@@ -43,7 +45,10 @@ module _ {D N : Type 0} (view : D → View) (tells : Bool) (scripts : List Named
     pub opened : book_in scripts s ≡ reopened (book_in scripts s)
     pub book : IsTrue tells → MakesBook scripts rules.number (view disk) (book_in scripts s)
     pub one_of : IsTrue tells → IsOneOf scripts rules.number (view disk) (book_in scripts s)
+    pub own : IsTrue tells → IsOwnImage scripts rules.number (view disk).seen → IsOwnShelf view tells scripts s
     pub any_moment : IsTrue tells → StaysThroughout scripts rules.number (view disk) (view s.journal.disk)
+    pub own_moments : IsTrue tells → HasOwnImages scripts rules.number (view disk)
+        → StaysOwnThroughout scripts rules.number (view disk) (view s.journal.disk)
     pub later : (view disk).faults ≤ (view s.journal.disk).faults
 
 module _ {D N : Type 0} (view : D → View) (tells : Bool) (coming : N → ℕ → ℕ) (setup : Setup) where
@@ -63,9 +68,10 @@ module _ {D N : Type 0} (view : D → View) (tells : Bool) (coming : N → ℕ �
 
 module _ {D : Type 0} (view : D → View) (tells : Bool) (scripts : List Named) where
   -- A disk that is handed back as the shelf's of this number: a crash at any moment left it between the books that it stood
-  -- between, and its count has not fallen.
+  -- between, and own where it was own; and its count has not fallen.
   pub record IsReturned (k : ℕ) (disk back : D) : Type 0 where
     pub any_moment : IsTrue tells → StaysThroughout scripts k (view disk) (view back)
+    pub own_moments : IsTrue tells → HasOwnImages scripts k (view disk) → StaysOwnThroughout scripts k (view disk) (view back)
     pub later : (view disk).faults ≤ (view back).faults
 
   -- the shelf of this number was not opened, and its disk is handed back

@@ -19,8 +19,8 @@ pub record HearsOf {D N : Type 0} (note a b : Spot (Opening D N) KeptEntry) : Ty
   pub heard : IsPrefix (seen_by note.known) (seen_by b.known)
   pub own : own_of a.known.caller (seen_by b.known) ≡ own_of a.known.caller (seen_by a.known)
 
--- What is handed back of a shelf of this opening: the disk and the source of nonces stand for its history, and callers from this
--- number on have no entries in it.
+-- What is handed back of a shelf of this opening: the disk and the source of nonces stand for its history, as far as it was opened as
+-- an own one, and callers from this number on have no entries in it.
 pub record IsBack {D N : Type 0} (view : D → View) (tells : Bool) (coming : N → ℕ → ℕ) (opening : List (Opening D N)) (given : ℕ) (disk : D) (nonces : N) (es : List Entry) : Type 0 where
   pub opened : Opening D N
   pub opening_is : opening ≡ opened ∷ []

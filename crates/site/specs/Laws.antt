@@ -7,14 +7,16 @@ use Rattle.replay_spec.specs.Laws.{Leaves, IsOn, IsRefusal, without_effect}
 use Rattle.shelf_history.specs.Histories.{Entry}
 use Rattle.shelf_history.specs.Laws.{moment_of}
 use Rattle.site.specs.declared.opening.Opening.{Opening}
-use Rattle.site.specs.Openings.{start_of, source_of, book_then}
+use Rattle.site.specs.Openings.{IsOwnOpening, start_of, source_of, book_then}
 use Rattle.site.specs.Sound.{StandsFor}
 
 -- Behind an entry that left a transaction none leaves it, of whichever caller; and each on a page that is inside it, or was in the
--- book behind any beginning of the history, is refused without effect. So it is of a shelf that was opened with a sound book.
+-- book behind any beginning of the history, is refused without effect. So it is of a shelf that was opened as an own one, with a
+-- sound book.
 abbrev pub ClosedIsClosedOverThreads : {D N : Type 0} → (D → View) → Bool → (N → ℕ → ℕ) → Type 0
 ClosedIsClosedOverThreads {D} {N} view tells coming =
-    (o : Opening D N) (disk : D) (nonces : N) (es : List Entry) → StandsFor view tells coming o disk nonces es → invariant.IsSound (start_of o).book
+    (o : Opening D N) (disk : D) (nonces : N) (es : List Entry) → StandsFor view tells coming o disk nonces es
+    → IsOwnOpening view tells o → invariant.IsSound (start_of o).book
     → (before between more : List Entry) (leaving next : Entry) (name : TxName)
     → let until = before ++ leaving ∷ between in
     es ≡ (until ++ next ∷ []) ++ more

@@ -1,18 +1,24 @@
 -- What a shelf was when it was opened.
-use Rattle.std.specs.Prelude.{ℕ, List}
+use Rattle.std.specs.Prelude.{ℕ, Bool, List}
 use Rattle.script_nodes.specs.Setup.{Named}
 use Rattle.script_nodes.specs.Views.{scripts_of}
 use Rattle.web_disk.specs.View.{View}
 use Rattle.replay_spec.specs.Book.{Book}
 use Rattle.replay_spec.specs.Runs as runs
+use Rattle.replay_spec.specs.Step.{kept, recovered}
 use Rattle.shelf_history.specs.Histories.{Entry, IsLegal, book_behind}
 use Rattle.shelf.specs.declared.shelf.Shelf.{Shelf}
-use Rattle.shelf.specs.Views.{shelf_of}
+use Rattle.shelf.specs.Views.{shelf_of, IsOwnShelf}
 use Rattle.site.specs.declared.opening.Opening.{Opening}
 
 -- its scripts
 abbrev pub scripts_in : {D N : Type 0} → Opening D N → List Named
 scripts_in o = scripts_of o.setup.value
+
+-- It was opened as an own shelf: each page that was found has the state of its chain, and where the disk tells its bytes, so has
+-- each record there. What is told of the meaning of a history rests on this, and no call asks for it.
+abbrev pub IsOwnOpening : {D N : Type 0} → (D → View) → Bool → Opening D N → Type 0
+IsOwnOpening view tells o = IsOwnShelf view tells (scripts_in o) o.shelf.value
 
 -- the shelf, whose source has given nothing yet
 abbrev pub start_of : {D N : Type 0} → Opening D N → runs.Shelf
@@ -33,3 +39,7 @@ HasLegal view coming o now es = IsLegal (source_of coming o) (count_of view o.sh
 -- the book behind it
 abbrev pub book_then : {D N : Type 0} → (N → ℕ → ℕ) → Opening D N → List Entry → Book
 book_then coming o es = book_behind (source_of coming o) (start_of o) es
+
+-- a book where what is in doubt is kept, as the limits of the shelf measure it
+abbrev pub with_doubt : {D N : Type 0} → Opening D N → Book → Book
+with_doubt o b = recovered (start_of o).rules kept b.down b

@@ -1,5 +1,5 @@
 -- What a pass has seen of a shelf, and what a call of it does there.
-use Rattle.std.specs.Prelude.{◌≡◌, ◌⊎◌, ◌≤◌, ℕ, Bool, List, [], ◌∷◌, Result, Ok, Err}
+use Rattle.std.specs.Prelude.{◌≡◌, ◌⊎◌, ◌≤◌, ℕ, Bool, List, [], ◌∷◌, ◌++◌, Result, Ok, Err}
 use Rattle.script_value.specs.Val.{Val}
 use Rattle.script_value.specs.declared.outcome.Reply.{Reply}
 use Rattle.script_value.specs.declared.outcome.Reply.TheVariants.{Worn}
@@ -13,14 +13,14 @@ use Rattle.lock_row.specs.Spots.{Spot}
 use Rattle.replay_spec.specs.Step as step
 use Rattle.instance_book.specs.declared.ticket.Ticket.{Ticket}
 use Rattle.instance_book.specs.Views.{ticket_of, reply_of}
-use Rattle.shelf_history.specs.Histories.{Entry}
+use Rattle.shelf_history.specs.Histories.{Entry, own_of}
 use Rattle.shelf_history.specs.Laws.{take_of}
 use Rattle.shelf_history.specs.Passes.{Goes, publish_of}
 use Rattle.site.specs.declared.entry.KeptEntry.{KeptEntry}
 use Rattle.site.specs.declared.opening.Opening.{Opening}
 use Rattle.site.specs.Entries.{entry, entries_of}
-use Rattle.site.specs.Openings.{start_of, source_of, count_of, book_then}
-use Rattle.site.specs.Sound.{Holds}
+use Rattle.site.specs.Openings.{IsOwnOpening, start_of, source_of, count_of, book_then}
+use Rattle.site.specs.Sound.{Holds, IsNoTicket}
 
 -- what a pass knows of a shelf
 abbrev pub Known : Type 0 → Type 0 → Type 0
@@ -42,16 +42,25 @@ pub record IsSeat {D N : Type 0} (setup : Setup) (fuel worker : ℕ) (v : Known 
   pub fuel_is : opening.shelf.value.rules.fuel ≡ fuel
   pub caller_is : v.caller ≡ worker
 
+-- More was seen: behind what was there stand entries of others, and at the end those added, which are all the new ones of this
+-- caller.
+pub record Grows (caller : ℕ) (seen added es : List Entry) : Type 0 where
+  pub between : List Entry
+  pub is : es ≡ (seen ++ between) ++ added
+  pub own : own_of caller es ≡ own_of caller seen ++ added
+
 module _ {D N : Type 0} (view : D → View) (tells : Bool) (coming : N → ℕ → ℕ) where
-  -- A call that ends with these entries: the pass has then seen a legal history of the shelf since its opening. It begins with
-  -- what the pass had seen and ends with the entries added, which are all new ones of its caller; what stands between are
-  -- entries of others.
+  -- A call that ends with these entries: the pass has then seen a history of the shelf since its opening, which is legal where it
+  -- was opened as an own shelf. It begins with what the pass had seen and ends with the entries added, which are all new ones of
+  -- its caller; what stands between are entries of others.
   pub record GoesFrom (v : Known D N) (added : List Entry) (w : Known D N) : Type 0 where
     pub opening : Opening D N
     pub opening_is : v.opening ≡ opening ∷ []
-    pub now : ℕ
     pub is : w ≡ posed Outside w.seen v
-    pub goes : Goes (source_of coming opening) (count_of view opening.shelf.value) now (start_of opening) v.caller (seen_by v) added (seen_by w)
+    pub grows : Grows v.caller (seen_by v) added (seen_by w)
+    pub now : ℕ
+    pub goes : IsOwnOpening view tells opening
+        → Goes (source_of coming opening) (count_of view opening.shelf.value) now (start_of opening) v.caller (seen_by v) added (seen_by w)
 
   -- the pass holds the ticket, by what it has seen
   pub record HoldsTicket (v : Known D N) (t : Ticket) : Type 0 where
@@ -72,15 +81,17 @@ module _ {D N : Type 0} (view : D → View) (tells : Bool) (coming : N → ℕ �
 
   abbrev pub Took : Known D N → Destination → Val → Result Ticket Reply → Known D N → Type 0
   Took v target answer (Ok t) w = Takes v target answer t w
-  Took v target answer (Err r) w = GoesFrom v (entry v.caller (step.take target answer) (reply_of r) ∷ []) w ⊎ IsWorn v r w
+  Took v target answer (Err r) w =
+      IsNoTicket r × (GoesFrom v (entry v.caller (step.take target answer) (reply_of r) ∷ []) w ⊎ IsWorn v r w)
 
   -- a publish is one entry of the caller, with its reply
   abbrev pub Published : Known D N → Ticket → Reply → Known D N → Type 0
   Published v t r w = GoesFrom v (publish_of v.caller (ticket_of t) (reply_of r) ∷ []) w ⊎ IsWorn v r w
 
-  -- the clock of the history that was seen is at the tick, at least
+  -- the clock of the history that was seen is at the tick, at least, on a shelf that was opened as an own one
   abbrev pub HasReached : Known D N → (tick : ℕ) → Type 0
-  HasReached w tick = (o : Opening D N) → w.opening ≡ o ∷ [] → tick ≤ (book_then coming o (seen_by w)).clock
+  HasReached w tick =
+      (o : Opening D N) → w.opening ≡ o ∷ [] → IsOwnOpening view tells o → tick ≤ (book_then coming o (seen_by w)).clock
 
   -- A sweep is one entry of the caller, with its answer; there is none where the clock was at the tick before. Behind an answer
   -- that is no refusal the clock is at the tick, at least.

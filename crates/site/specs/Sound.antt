@@ -1,67 +1,116 @@
 -- What holds of a shelf between turns.
-use Rattle.std.specs.Prelude.{◌≡◌, ◌⊎◌, ◌≤◌, ◌<◌, ◌^◌, ◌+◌, length, ℕ, Bool, IsTrue, List, [], None, Result, IfOk}
+use Rattle.std.specs.Prelude.{◌≡◌, ◌⊎◌, ◌≤◌, ◌<◌, ◌^◌, ◌+◌, length, ℕ, Bool, IsTrue, List, [], map, Contains, None, Result, IfOk, IfErr, ⊤}
 use Rattle.script_value.specs.Val.{Val}
 use Rattle.script_value.specs.declared.outcome.Reply.{Reply}
+use Rattle.script_value.specs.declared.outcome.Reply.TheVariants as reply
 use Rattle.page_names.specs.Names.{Destination}
 use mathlib.Core.List.{IsPrefix}
 use Rattle.page_names.specs.Views.{target_of}
 use Rattle.web_disk.specs.View.{View, LeavesOnly}
-use Rattle.journal_books.specs.Standing.{MakesIn, if_kept, Stands}
+use Rattle.journal_books.specs.Standing.{MakesIn, Stands}
+use Rattle.replay_spec.specs.Book.{Book}
+use Rattle.replay_spec.specs.Next as next
 use Rattle.replay_spec.specs.Admission.{refusal_of, admit}
 use Rattle.instance_book.specs.declared.ticket.Ticket.{Ticket}
 use Rattle.instance_book.specs.Views.{ticket_of}
-use Rattle.instance_book.specs.Fits.{FitsAs, IsForSome}
-use Rattle.shelf_history.specs.Histories.{Entry, Owes, IsOpened}
+use Rattle.instance_book.specs.Fits.{FitsAs, IsRunnable}
+use Rattle.instance_book.specs.Prepares.{HasItsScript}
+use Rattle.shelf_history.specs.Histories.{Entry, Owes, IsOpened, tickets_left}
 use Rattle.shelf_history.specs.Laws.{tickets_taken}
 use Rattle.shelf_history.specs.Kept.{IsKept}
 use Rattle.shelf.specs.declared.shelf.Shelf.{Shelf}
-use Rattle.shelf.specs.Views.{IsInOrder, shelf_of}
+use Rattle.shelf.specs.Owning.{HoldsOwnRecords, StandsOwn}
+use Rattle.shelf.specs.Views.{IsInOrder, IsOwnShelf, HasGiven, book_in, shelf_of}
 use Rattle.site.specs.declared.opening.Opening.{Opening}
-use Rattle.site.specs.Openings.{scripts_in, start_of, source_of, count_of, HasLegal, book_then}
+use Rattle.site.specs.Openings.{scripts_in, IsOwnOpening, start_of, source_of, count_of, HasLegal, book_then, with_doubt}
+
+-- The numbers that are out are those of the tickets that the entries leave. What a caller owes is among these, and no other caller
+-- owes a ticket of its number.
+pub record AreOut (out : List ℕ) (es : List Entry) : Type 0 where
+  pub numbers : out ≡ map (λ t. t.number) (tickets_left es [])
+  pub owned : (caller : ℕ) (t : next.Ticket) → Owes caller t es → Contains (tickets_left es []) t
+  pub apart : (one other : ℕ) (t u : next.Ticket) → Owes one t es → Owes other u es → t.number ≡ u.number → one ≡ other
+
+-- what a take is told that gives no ticket: the shelf is down, its numbers are used up, the target is not admitted, or memory ended
+abbrev pub IsNoTicket : Reply → Type 0
+IsNoTicket (reply.Down count) = ⊤
+IsNoTicket reply.Worn = ⊤
+IsNoTicket (reply.Refused why) = ⊤
+IsNoTicket reply.Memory = ⊤
+IsNoTicket _ = ⊥
 
 module _ {D N : Type 0} (view : D → View) (tells : Bool) (coming : N → ℕ → ℕ) where
-  -- an image of the disk makes the book behind a beginning of the history, with what is in doubt there or without it
-  abbrev pub IsLeft : Opening D N → List Entry → (image : List ℕ) → Type 0
-  IsLeft o es image =
-      (front : List Entry) × IsPrefix front es
-      × (MakesIn (scripts_in o) o.shelf.value.rules.number image (book_then coming o front)
-      ⊎ MakesIn (scripts_in o) o.shelf.value.rules.number image (if_kept (scripts_in o) o.shelf.value.rules.number (book_then coming o front)))
+  -- an image of the disk makes some book of the shelf
+  abbrev pub MakesSome : Opening D N → (image : List ℕ) → Type 0
+  MakesSome o image = (b : Book) × MakesIn (scripts_in o) o.shelf.value.rules.number image b
 
-  -- The shelf is in order, under the limits that it was opened under, and has this legal history since; its nonces go on. Where
-  -- the disk tells its bytes, a crash at any moment since the opening left what makes the book of a beginning of the history.
+  -- An image of the disk has own records, and makes the book behind a beginning of the history, with what is in doubt there or
+  -- without it.
+  pub record IsLeft (o : Opening D N) (es : List Entry) (image : List ℕ) : Type 0 where
+    pub own : HoldsOwnRecords (scripts_in o) o.shelf.value.rules.number image
+    pub front : List Entry
+    pub begins : IsPrefix front es
+    pub makes : MakesIn (scripts_in o) o.shelf.value.rules.number image (book_then coming o front)
+        ⊎ MakesIn (scripts_in o) o.shelf.value.rules.number image (with_doubt o (book_then coming o front))
+
+  -- What holds besides of a shelf that was opened as an own one: it is one still, and has this legal history since. Where the disk
+  -- tells its bytes, a crash at any moment since the opening left what makes the book of a beginning of the history.
+  pub record HasItsHistory (o : Opening D N) (s : Shelf D N) (es : List Entry) : Type 0 where
+    pub own : IsOwnShelf view tells (scripts_in o) s
+    pub kept : IsKept (source_of coming o) (count_of view o.shelf.value) (count_of view s) (start_of o)
+        (shelf_of (scripts_in o) (length (tickets_taken es)) s) (coming s.nonces) es
+    pub ever : IsTrue tells → LeavesOnly (view o.shelf.value.journal.disk) (view s.journal.disk) (IsLeft o es)
+
+  -- The shelf is in order, under the limits that it was opened under; the numbers that are out are those of the tickets that its
+  -- entries leave; and its nonces go on. Where the disk tells its bytes, a crash at any moment since the opening left what makes
+  -- a book. A shelf that was opened as an own one has its history.
   pub record IsSound (o : Opening D N) (s : Shelf D N) (es : List Entry) : Type 0 where
-    pub given : ℕ
     pub in_order : IsInOrder view tells (scripts_in o) s
     pub opened : IsOpened (start_of o).book
-    pub kept : IsKept (source_of coming o) (count_of view o.shelf.value) (count_of view s) (start_of o) (shelf_of (scripts_in o) given s) (coming s.nonces) es
+    pub out : AreOut (book_in (scripts_in o) s).out es
+    pub nonces : HasGiven (source_of coming o) (length (tickets_taken es)) (coming s.nonces)
     pub rules : s.rules ≡ o.shelf.value.rules
     pub later : count_of view o.shelf.value ≤ count_of view s
     pub counted : count_of view o.shelf.value < 2 ^ 64
-    pub ever : IsTrue tells → LeavesOnly (view o.shelf.value.journal.disk) (view s.journal.disk) (IsLeft o es)
+    pub ever : IsTrue tells → LeavesOnly (view o.shelf.value.journal.disk) (view s.journal.disk) (MakesSome o)
+    pub history : IsOwnOpening view tells o → HasItsHistory o s es
     -- without an entry nothing was done
     pub untouched : es ≡ [] → s ≡ o.shelf.value
 
-  -- The caller holds the ticket: by its own entries it owes it; and behind a beginning of the history its target was admitted, on
-  -- a book of this setup, and the ticket was for the visit of it.
-  pub record Holds (o : Opening D N) (es : List Entry) (caller : ℕ) (t : Ticket) : Type 0 where
-    pub owes : Owes caller (ticket_of t) es
-    pub runs : IsForSome (scripts_in o) t
+  -- behind a beginning of the history the ticket's target was admitted, on a book of this setup, and the ticket was for the visit of it
+  pub record IsForItsVisit (o : Opening D N) (es : List Entry) (t : Ticket) : Type 0 where
     pub front : List Entry
     pub begins : IsPrefix front es
     pub scripts : (book_then coming o front).scripts ≡ scripts_in o
     pub admitted : refusal_of (admit (book_then coming o front) (target_of t.target)) ≡ None
     pub fits : FitsAs (scripts_in o) (book_then coming o front) t (admit (book_then coming o front) (target_of t.target))
 
-  -- where a take gave a ticket, its caller holds it, and it is for this target and answer
+  -- The caller holds the ticket: by its own entries it owes it; and it can be run. On a shelf that was opened as an own one it is
+  -- for its visit.
+  pub record Holds (o : Opening D N) (es : List Entry) (caller : ℕ) (t : Ticket) : Type 0 where
+    pub owes : Owes caller (ticket_of t) es
+    pub runs : IsRunnable (scripts_in o) t
+    pub script : HasItsScript (scripts_in o) t (target_of t.target)
+    pub visit : IsOwnOpening view tells o → IsForItsVisit o es t
+
+  -- where a take gave a ticket, its caller holds it, and it is for this target and answer; else it was told why there is none
   pub record Gives (o : Opening D N) (es : List Entry) (caller : ℕ) (target : Destination) (answer : Val) (result : Result Ticket Reply) : Type 0 where
     pub held : IfOk result (λ t. Holds o es caller t)
     pub ticket : IfOk result (λ t. ((ticket_of t).target ≡ target) × ((ticket_of t).answer ≡ answer))
+    pub refused : IfErr result IsNoTicket
 
-  -- What is handed back with a history: it is legal, and the disk stands for its book; a crash at any moment since the opening
-  -- left what makes the book of a beginning of it.
+  -- What is told besides of a shelf that was opened as an own one: its history is legal, and the disk stands for its book and is an
+  -- own one; a crash at any moment since the opening left what makes the book of a beginning of it.
+  pub record StandsForBook (o : Opening D N) (disk : D) (es : List Entry) : Type 0 where
+    pub legal : HasLegal view coming o (view disk).faults es
+    pub stands : IsTrue tells → StandsOwn (start_of o).rules (scripts_in o) o.shelf.value.rules.number (view disk) (book_then coming o es)
+    pub ever : IsTrue tells → LeavesOnly (view o.shelf.value.journal.disk) (view disk) (IsLeft o es)
+
+  -- What is handed back with a history: the nonces go on, and the disk stands for a book; a crash at any moment since the opening
+  -- left what makes one. Of a shelf that was opened as an own one this is the book of the history, which is legal.
   pub record StandsFor (o : Opening D N) (disk : D) (nonces : N) (es : List Entry) : Type 0 where
     pub opened : IsOpened (start_of o).book
-    pub legal : HasLegal view coming o (view disk).faults es
     pub coming_is : (k : ℕ) → coming nonces k ≡ source_of coming o (length (tickets_taken es) + k)
-    pub stands : IsTrue tells → Stands (scripts_in o) o.shelf.value.rules.number (view disk) (book_then coming o es)
-    pub ever : IsTrue tells → LeavesOnly (view o.shelf.value.journal.disk) (view disk) (IsLeft o es)
+    pub stands : IsTrue tells → (b : Book) × Stands (scripts_in o) o.shelf.value.rules.number (view disk) b
+    pub ever : IsTrue tells → LeavesOnly (view o.shelf.value.journal.disk) (view disk) (MakesSome o)
+    pub history : IsOwnOpening view tells o → StandsForBook o disk es

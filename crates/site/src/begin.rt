@@ -35,6 +35,8 @@ impl<D: Disk, N: Nonces + Drop> Site<D, N> {
     /// place for their number, and puts them behind locks. Where a shelf is not opened, or memory ends, all disks and sources
     /// are handed back, in their order.
     ///
+    /// A shelf whose disk tells own records is opened as an own one.
+    ///
     /// It asks for one disk and one source a shelf, for limits in their ranges, and for scripts that a journal can begin with.
     /// It may wait, where memory ends and it takes shelves from their locks.
     pub fn begin<R: Wait>(
@@ -105,9 +107,10 @@ impl<D: Disk, N: Nonces + Drop> Site<D, N> {
         Ok(passes)
     }
 
-    /// Waits for each shelf, and gives back, in their order, the disks, the sources of nonces and the histories, of which
-    /// each is legal and has its disk stand for its book. It takes no memory. Each pass has seen a beginning of each history,
-    /// with all entries of its caller, and callers to whom the site gave no pass have none.
+    /// Waits for each shelf, and gives back, in their order, the disks, the sources of nonces and the histories. The history of
+    /// a shelf that was opened as an own one is legal, and the disk stands for its book; the disk of any other stands for some
+    /// book of its shelf. It takes no memory. Each pass has seen a beginning of each history, with all entries of its caller,
+    /// and callers to whom the site gave no pass have none.
     ///
     /// What is told is told of the passes that are handed in, so it is handed all.
     pub fn close<R: Wait>(

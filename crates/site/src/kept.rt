@@ -33,7 +33,7 @@ impl<D: Disk, N: Nonces + Drop> KeptShelf<D, N> {
     ghost use Rattle.instance_book.specs.Views.{ticket_of, reply_of};
     ghost use Rattle.shelf.specs.Views.{IsInOrder, IsRunIfAny, book_in, taken_of, swept_of};
     ghost use Rattle.site.specs.Entries.{entries_of, Comes, Sweeps};
-    ghost use Rattle.site.specs.Openings.{scripts_in, book_then};
+    ghost use Rattle.site.specs.Openings.{scripts_in};
     ghost use Rattle.site.specs.Sound.{IsSound, Holds, Gives};
 
     /// A shelf that was opened under this setup, with no entry yet.
@@ -127,7 +127,7 @@ impl<D: Disk, N: Nonces + Drop> KeptShelf<D, N> {
         requires sound { IsSound D.view D.tells N.nonce self.old.opened self.old.shelf (entries_of self.old.history) }
         ensures sound { IsSound D.view D.tells N.nonce self.new.opened self.new.shelf (entries_of self.new.history) }
         ensures opened { self.new.opened ≡ self.old.opened }
-        ensures swept { Sweeps by tick result (book_then N.nonce self.old.opened (entries_of self.old.history)).clock self.old.history self.new.history }
+        ensures swept { Sweeps by tick result (book_in (scripts_in self.old.opened) self.old.shelf).clock self.old.history self.new.history }
     {
         images_make_books();
         if tick <= self.shelf.book().clock() {

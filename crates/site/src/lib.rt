@@ -25,7 +25,7 @@ use web_disk::Disk;
 use web_outside::Nonces;
 
 /// In a history of a closed site no entry leaves a transaction that another left before, of whichever worker; each on a page that
-/// is inside it is refused without effect.
+/// is inside it is refused without effect. So it is of a shelf that was opened as an own one.
 pub fn closed_is_closed_over_threads<D: Disk, N: Nonces>()
     ensures { ClosedIsClosedOverThreads D.view D.tells N.nonce }
 {

@@ -42,7 +42,7 @@ impl<D: Disk, N: Nonces + Drop> Site<D, N> {
     ghost use Rattle.site.specs.Passes.{Took, Published, Swept, seen_by};
     ghost use Rattle.site.specs.Sites.{IsOwn, HoldsThere, HoldsAt, IsRunThere, IsRunAt, shelf_for, TakesAt, PublishesAt, VisitsAt, Ticks};
     ghost use Rattle.script_nodes.specs.Views.{scripts_of};
-    ghost use Rattle.instance_book.specs.Fits.{IsForSome};
+    ghost use Rattle.instance_book.specs.Fits.{IsRunnable};
     ghost use Rattle.shelf.specs.Views.{IsRunIfAny};
 
     /// How many shelves there are.
@@ -230,7 +230,7 @@ impl<D: Disk, N: Nonces + Drop> Site<D, N> {
     }
 
     fn segment_of(&self, alloc: Global, ticket: &Ticket) -> Option<Segment>
-        requires fits { IsForSome (scripts_of self.now.setup) ticket.now }
+        requires runs { IsRunnable (scripts_of self.now.setup) ticket.now }
         requires fuel { self.now.fuel < 2 ^ 63 }
         ensures { IsRunIfAny (scripts_of self.now.setup) self.now.fuel ticket.now result }
     {

@@ -28,11 +28,11 @@ use Rattle.site.specs.declared.entry.KeptEntry.{KeptEntry}
 use Rattle.site.specs.declared.opening.Opening.{Opening}
 use Rattle.site.specs.declared.site.Site.{Site}
 use Rattle.site.specs.Entries.{entry}
+use Rattle.site.specs.Sound.{IsNoTicket}
 use Rattle.site.specs.Passes.{Known, Spots, seen_by, GoesFrom, Took, Published, Swept}
 use Rattle.site.specs.Sites.{shelf_for, TakesOn, VisitsAt, Ticks}
 use Rattle.site.specs.Rules.{TicksAs, site_rules}
 use Rattle.site_serving.specs.Pages.{page_count, pages_in, own_pages}
-use Rattle.site_serving.proofs.Steps.{last_take}
 
 pub pages_append : (xs ys : List Entry) → pages_in (xs ++ ys) ≡ pages_in xs + pages_in ys
 pages_append [] ys = omega arith
@@ -57,6 +57,25 @@ counts_as_told (replies.DiskFault count) = refl
 counts_as_told (replies.Down count) = refl
 counts_as_told replies.Worn = refl
 counts_as_told replies.Memory = refl
+
+no_ticket_counts : (r : Reply) → IsNoTicket r → (visit_count r).pages ≡ 0
+no_ticket_counts (replies.Page bytes url) h = absurd h
+no_ticket_counts (replies.Finished bytes) h = absurd h
+no_ticket_counts (replies.Ended bytes) h = absurd h
+no_ticket_counts (replies.Refused refusals.Unknown) h = refl
+no_ticket_counts (replies.Refused refusals.Revoked) h = refl
+no_ticket_counts (replies.Refused (refusals.Closed name)) h = refl
+no_ticket_counts (replies.Refused (refusals.Expired deadline)) h = refl
+no_ticket_counts (replies.Fault fault) h = absurd h
+no_ticket_counts (replies.Fuel cost) h = absurd h
+no_ticket_counts (replies.ShelfFull count) h = absurd h
+no_ticket_counts (replies.InstanceFull count) h = absurd h
+no_ticket_counts (replies.Oversize size) h = absurd h
+no_ticket_counts (replies.JournalFull size) h = absurd h
+no_ticket_counts (replies.DiskFault count) h = absurd h
+no_ticket_counts (replies.Down count) h = refl
+no_ticket_counts replies.Worn h = refl
+no_ticket_counts replies.Memory h = refl
 
 module _ {D N : Type 0} where
   -- the caller's own pages at one shelf
@@ -114,20 +133,18 @@ module _ {D N : Type 0} (view : D → View) (tells : Bool) (coming : N → ℕ �
   goes_adds v w added g =
       let same : w.caller ≡ v.caller = ap (λ (u : Known D N). u.caller) g.is in
       record {
-        pages = ap (λ c. pages_in (own_of c (seen_by w))) same ∙ (ap pages_in g.goes.own ∙ pages_append (own_of v.caller (seen_by v)) added);
+        pages = ap (λ c. pages_in (own_of c (seen_by w))) same ∙ (ap pages_in g.grows.own ∙ pages_append (own_of v.caller (seen_by v)) added);
         caller = same;
       }
 
   took_adds : (v w : Known D N) (target : Destination) (answer : Val) (r : Result Ticket Reply) → Took view tells coming v target answer r w → AddsAt 0 v w
   took_adds v w target answer (Ok t) took = goes_adds v w (take_of v.caller (ticket_of t) ∷ []) took.goes
-  took_adds v w target answer (Err r) (inl g) = goes_adds v w (entry v.caller (step.take target answer) (reply_of r) ∷ []) g
-  took_adds v w target answer (Err r) (inr worn) = goes_adds v w [] worn.1
+  took_adds v w target answer (Err r) (told, inl g) = goes_adds v w (entry v.caller (step.take target answer) (reply_of r) ∷ []) g
+  took_adds v w target answer (Err r) (told, inr worn) = goes_adds v w [] worn.1
 
   -- a take that gave no ticket was answered with no page
   took_counts : (v w : Known D N) (target : Destination) (answer : Val) (r : Reply) → Took view tells coming v target answer (Err r) w → (visit_count r).pages ≡ 0
-  took_counts v w target answer r (inl g) =
-      counts_as_told r ∙ last_take _ _ _ _ (seen_by v ++ g.goes.between) (seen_by w) v.caller target answer (reply_of r) g.goes.is g.goes.legal
-  took_counts v w target answer r (inr worn) = ap (λ x. (visit_count x).pages) worn.0
+  took_counts v w target answer r took = no_ticket_counts r took.0
 
   published_adds : (v w : Known D N) (t : Ticket) (r : Reply) → Published view tells coming v t r w → AddsAt (visit_count r).pages v w
   published_adds v w t r (inl g) =

@@ -90,10 +90,10 @@ show : IsSend Show.the_field.row
 show = search (sendable, in_order, page, after) depth 40 fits 100000
 
 opening : IsSend Opening.the_field.row
-opening = search (sendable, crosses, effect, instance, page) depth 40 fits 100000
+opening = search (sendable, crosses, effect, instance, page, suspended) depth 40 fits 100000
 
 extension : IsSend Extension.the_field.row
-extension = search (sendable, crosses, knot.crosses, effect, show) depth 40 fits 100000
+extension = search (sendable, crosses, knot.crosses, effect, show, suspended) depth 40 fits 100000
 
 ending : IsSend Ending.the_field.row
 ending = search (sendable, crosses, knot.crosses, effect, after) depth 40 fits 100000
@@ -164,10 +164,10 @@ show_sync : IsSync Show.the_field.row
 show_sync = search (sendable, in_order_sync, page_sync, after_sync) depth 40 fits 100000
 
 opening_sync : IsSync Opening.the_field.row
-opening_sync = search (sendable, crosses, effect_sync, instance_sync, page_sync) depth 40 fits 100000
+opening_sync = search (sendable, crosses, effect_sync, instance_sync, page_sync, suspended_sync) depth 40 fits 100000
 
 extension_sync : IsSync Extension.the_field.row
-extension_sync = search (sendable, crosses, knot.crosses, effect_sync, show_sync) depth 40 fits 100000
+extension_sync = search (sendable, crosses, knot.crosses, effect_sync, show_sync, suspended_sync) depth 40 fits 100000
 
 ending_sync : IsSync Ending.the_field.row
 ending_sync = search (sendable, crosses, knot.crosses, effect_sync, after_sync) depth 40 fits 100000

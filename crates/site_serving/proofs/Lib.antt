@@ -1,5 +1,4 @@
 pub mod Crossings
-pub mod Steps
 pub mod Counting
 pub mod Sums
 pub mod Served

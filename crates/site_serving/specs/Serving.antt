@@ -90,8 +90,8 @@ abbrev pub openings_of : {O : Type 0} → List (Home O) → List O
 openings_of [] = []
 openings_of (h ∷ homes) = h.opening ++ openings_of homes
 
--- A shelf of this opening when all is over: its history is legal, its disk stands for the history's book, and no caller but the
--- workers has an entry.
+-- A shelf of this opening when all is over: its disk stands for a book, and no caller but the workers has an entry. Where it was opened
+-- as an own shelf, its history is legal, and the book is that of the history.
 pub record IsEnded {D N : Type 0} (disk : D → View) (told : Bool) (nonce : N → ℕ → ℕ) (workers : ℕ) (o : Opening D N) (d : D) (h : List KeptEntry)
     : Type 0 where
   pub nonces : N

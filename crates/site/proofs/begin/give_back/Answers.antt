@@ -1,4 +1,4 @@
-use Rattle.std.proofs.Common.{rules, ◌≡◌, ◌++◌, ◌∷◌, [], List, ap, sym, ◌∙◌, arith, append_assoc, map, reverse}
+use Rattle.std.proofs.Common.{rules, ◌++◌, ◌∷◌, [], ap, sym, ◌∙◌, arith, append_assoc, map, reverse}
 use Rattle.std.proofs.lemmas.List.{append-nil}
 use Rattle.lock_row.proofs.Lockings.{turned_cons}
 use Rattle.site.proofs.begin.give_back.Goals as goal

@@ -1,12 +1,19 @@
-use Rattle.std.proofs.Common.{rules, ◌≡◌, ◌++◌, ◌∷◌, ◌+◌, ◌<◌, ◌≤◌, [], ℕ, List, Some, slice_get, length, length-append, refl, ap, sym, ◌∙◌, subst, arith, append_assoc, map, reverse}
+use Rattle.std.proofs.Common.{rules, ◌≡◌, ◌++◌, ◌∷◌, ◌+◌, [], ℕ, Some, slice_get, length, length-append, refl, ap, sym, ◌∙◌, subst, arith, append_assoc, map, reverse}
 use Rattle.std.proofs.lemmas.List.{reverse-append, reverse-reverse, length-reverse}
 use Rattle.std.proofs.lemmas.Option.{slice_get_within}
 use Rattle.script_nodes.specs.Views.{scripts_of}
 use Rattle.lock_row.proofs.Lockings.{reverse_snoc}
 use Rattle.lock_row.proofs.Places.{map_snoc, map_length}
 use Rattle.site.specs.Beginnings.{IsFreshOn, AreFreshOn, IsUnopened, AreUnopened}
-use Rattle.site.proofs.Begins.{at_here, fresh_on, unopened_at, disk_in, nonces_in}
+use Rattle.site.proofs.Begins.{at_here, fresh_on, unopened_none, unopened_at, disk_in, nonces_in}
 use Rattle.site.proofs.begin.open_all.Goals as goal
+
+pub returns-in_default-clause-unopened : goal.returns-in_default-clause-unopened
+returns-in_default-clause-unopened g c =
+    let range = c.requires.range.shelves in
+    let disks = c.requires.disks in
+    let turned = length-reverse c.args.disks.now.items in
+    unopened_none {D = g.row.D.Denot} g.D.Disk.view g.D.Disk.tells (scripts_of c.args.setup.now) g.met.D.Disk.only_now (reverse c.args.disks.now.items) (omega arith)
 
 pub loop-number-init : goal.loop-number-init
 loop-number-init g c =

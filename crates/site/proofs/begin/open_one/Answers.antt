@@ -1,4 +1,4 @@
-use Rattle.std.proofs.Common.{◌≡◌, Err, sym, ◌∙◌, subst}
+use Rattle.std.proofs.Common.{Err, sym, ◌∙◌, subst}
 use Rattle.script_nodes.specs.Views.{scripts_of}
 use Rattle.site.specs.Beginnings.{IsOpenedOn}
 use Rattle.site.proofs.begin.open_one.Goals as goal
@@ -14,7 +14,9 @@ returns-in-Ok-clause-opened g c =
       opened = b.opened;
       book = b.book;
       one_of = b.one_of;
+      own = b.own;
       any_moment = b.any_moment;
+      own_moments = b.own_moments;
       later = b.later;
     } in
     record {
@@ -28,4 +30,4 @@ returns-in-Ok-clause-opened g c =
 pub returns-in-Err-clause-unopened : goal.returns-in-Err-clause-unopened
 returns-in-Err-clause-unopened g c =
     let b = c.in-Err.ensures in
-    record { returned = record { any_moment = b.any_moment; later = b.later }; why = b.refused; cause = λ e. b.cause (λ i. Err (e i)) }
+    record { returned = record { any_moment = b.any_moment; own_moments = b.own_moments; later = b.later }; why = b.refused; cause = λ e. b.cause (λ i. Err (e i)) }

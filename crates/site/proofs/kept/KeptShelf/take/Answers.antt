@@ -1,19 +1,22 @@
-use Rattle.std.proofs.Common.{arith, ◌≡◌, ◌≤◌, ◌∷◌, ◌++◌, [], List, refl, sym, subst, ap, ◌∙◌}
+use Rattle.std.proofs.Common.{◌≡◌, ◌∷◌, ◌++◌, [], List, refl, sym, subst, ap, ◌∙◌}
 use Rattle.std.specs.Prelude.{IfOk}
 use Rattle.script_value.specs.Views.{meaning}
 use Rattle.script_nodes.specs.Views.{scripts_of}
 use Rattle.page_names.specs.Views.{target_of}
 use Rattle.replay_spec.specs.Admission.{admit}
 use Rattle.replay_spec.specs.Step as step
-use Rattle.instance_book.specs.Fits.{FitsAs, IsForSome}
+use Rattle.instance_book.specs.Fits.{FitsAs, IsRunnable}
+use Rattle.instance_book.specs.Makes.{HasItsStates}
+use Rattle.instance_book.specs.Prepares.{HasItsScript}
 use Rattle.lock_row.proofs.Places.{map_snoc}
-use Rattle.shelf.specs.Views.{IsInOrder, IsEvent, book_in, taken_of}
+use Rattle.shelf.specs.Views.{IsEvent, book_in, rules_of, taken_of}
 use Rattle.shelf_history.specs.Histories.{Entry}
 use Rattle.site.specs.declared.entry.Did.TheVariants.{Take}
 use Rattle.site.specs.Entries.{entry, entry_of, entries_of}
-use Rattle.site.specs.Openings.{count_of}
 use Rattle.site.specs.Sound.{IsSound, Holds}
-use Rattle.site.proofs.Sounds.{kept_push, ever_same, take_told, sound_push}
+use Rattle.site.proofs.Replies.{take_refused}
+use Rattle.site.proofs.Sounds.{stepped}
+use Rattle.site.proofs.Calls.{take_history, take_sound}
 use Rattle.site.proofs.Holding.{holds_told, told_ticket}
 use Rattle.site.proofs.kept.KeptShelf.take.Goals as goal
 
@@ -30,21 +33,11 @@ returns-clause-sound g c =
     let tells = g.D.Disk.tells in
     let coming = g.N.Nonces.nonce in
     let o = c.args.self.now.opened in
-    let s = c.args.self.now.shelf in
     let t = c.take-told.new.self in
-    let es = entries_of c.args.self.now.history in
-    let p = c.requires.sound in
     let told = c.take-told.ensures in
-    let target = target_of c.args.target.now in
-    let answer = meaning c.args.answer in
-    let r = taken_of c.take-told.result in
-    let does : IsEvent {D = g.row.D.Denot} {N = g.row.N.Denot} coming (scripts_of o.setup.value) s t (step.take target answer) r = subst (λ (z : _). IsEvent {D = g.row.D.Denot} {N = g.row.N.Denot} coming (scripts_of z) s t (step.take target answer) r) c.requires.setup told.event in
-    let order : IsInOrder {D = g.row.D.Denot} {N = g.row.N.Denot} view tells (scripts_of o.setup.value) t = subst (λ (z : _). IsInOrder {D = g.row.D.Denot} {N = g.row.N.Denot} view tells (scripts_of z) t) c.requires.setup told.in_order in
-    let later : count_of {D = g.row.D.Denot} {N = g.row.N.Denot} view s ≤ count_of {D = g.row.D.Denot} {N = g.row.N.Denot} view t = (let same = ap (λ j. (view j.disk).faults) told.journal in omega arith) in
-    let behind = kept_push {D = g.row.D.Denot} {N = g.row.N.Denot} view tells coming o s t es p c.args.by (step.take target answer) r tt does later (take_told {D = g.row.D.Denot} {N = g.row.N.Denot} view tells coming o s t es p target answer r does) in
     subst (λ (l : List Entry). IsSound {D = g.row.D.Denot} {N = g.row.N.Denot} view tells coming o t l) (sym (grown g c))
-    (sound_push {D = g.row.D.Denot} {N = g.row.N.Denot} view tells coming o s t es p c.args.by (step.take target answer) r order told.rules later behind
-    (ever_same {D = g.row.D.Denot} {N = g.row.N.Denot} view tells coming o s t es p (entry c.args.by (step.take target answer) r) told.journal))
+    (take_sound {D = g.row.D.Denot} {N = g.row.N.Denot} view tells coming o c.args.self.now.shelf t (entries_of c.args.self.now.history) c.requires.sound c.args.setup.now c.requires.setup c.args.by
+    (target_of c.args.target.now) (meaning c.args.answer) (taken_of c.take-told.result) told.event told.journal told.own told.in_order told.rules)
 
 pub returns-clause-gives : goal.returns-clause-gives
 returns-clause-gives g c =
@@ -59,18 +52,22 @@ returns-clause-gives g c =
     let told = c.take-told.ensures in
     let target = target_of c.args.target.now in
     let answer = meaning c.args.answer in
-    let r = taken_of c.take-told.result in
+    let result = c.take-told.result in
+    let r = taken_of result in
     let does : IsEvent {D = g.row.D.Denot} {N = g.row.N.Denot} coming (scripts_of o.setup.value) s t (step.take target answer) r = subst (λ (z : _). IsEvent {D = g.row.D.Denot} {N = g.row.N.Denot} coming (scripts_of z) s t (step.take target answer) r) c.requires.setup told.event in
-    let later : count_of {D = g.row.D.Denot} {N = g.row.N.Denot} view s ≤ count_of {D = g.row.D.Denot} {N = g.row.N.Denot} view t = (let same = ap (λ j. (view j.disk).faults) told.journal in omega arith) in
-    let behind = kept_push {D = g.row.D.Denot} {N = g.row.N.Denot} view tells coming o s t es p c.args.by (step.take target answer) r tt does later (take_told {D = g.row.D.Denot} {N = g.row.N.Denot} view tells coming o s t es p target answer r does) in
-    let fits = subst (λ (z : _). IfOk c.take-told.result (λ x. FitsAs (scripts_of z) (book_in {D = g.row.D.Denot} {N = g.row.N.Denot} (scripts_of z) t) x (admit (book_in {D = g.row.D.Denot} {N = g.row.N.Denot} (scripts_of z) t) (target_of x.target)))) c.requires.setup told.fits in
-    let runs = subst (λ (z : _). IfOk c.take-told.result (IsForSome (scripts_of z))) c.requires.setup told.runs in
-    let is = told_ticket {D = g.row.D.Denot} {N = g.row.N.Denot} coming c.args.setup.now s c.args.target.now c.args.answer c.take-told.result told.ticket in
+    let fits = subst (λ (z : _). HasItsStates (scripts_of z) s.book → IfOk result (λ x. FitsAs (scripts_of z) (book_in {D = g.row.D.Denot} {N = g.row.N.Denot} (scripts_of z) t) x (admit (book_in {D = g.row.D.Denot} {N = g.row.N.Denot} (scripts_of z) t) (target_of x.target)))) c.requires.setup told.fits in
+    let runs = subst (λ (z : _). IfOk result (IsRunnable (scripts_of z))) c.requires.setup told.runs in
+    let script = subst (λ (z : _). IfOk result (λ x. HasItsScript (scripts_of z) x (target_of x.target))) c.requires.setup told.script in
+    let is = told_ticket {D = g.row.D.Denot} {N = g.row.N.Denot} coming c.args.setup.now s c.args.target.now c.args.answer result told.ticket in
+    let history = take_history {D = g.row.D.Denot} {N = g.row.N.Denot} view tells coming o s t es p c.args.setup.now c.requires.setup c.args.by target answer r told.event told.journal told.own in
     record {
       held =
-          subst (λ (l : List Entry). IfOk c.take-told.result (λ x. Holds {D = g.row.D.Denot} {N = g.row.N.Denot} view tells coming o l c.args.by x)) (sym (grown g c))
-          (holds_told {D = g.row.D.Denot} {N = g.row.N.Denot} view tells coming o s t es p c.args.by _ _ target answer c.take-told.result does behind is fits runs);
+          subst (λ (l : List Entry). IfOk result (λ x. Holds {D = g.row.D.Denot} {N = g.row.N.Denot} view tells coming o l c.args.by x)) (sym (grown g c))
+          (holds_told {D = g.row.D.Denot} {N = g.row.N.Denot} view tells coming o s t es p c.args.by target answer result does history is fits runs script);
       ticket = is;
+      refused =
+          take_refused (rules_of (scripts_of o.setup.value) s.rules) (book_in {D = g.row.D.Denot} {N = g.row.N.Denot} (scripts_of o.setup.value) s) (book_in {D = g.row.D.Denot} {N = g.row.N.Denot} (scripts_of o.setup.value) t) target answer _ result
+          (stepped {D = g.row.D.Denot} {N = g.row.N.Denot} view tells coming o s t es p (step.take target answer) r does);
     }
 
 pub returns-clause-entry : goal.returns-clause-entry

@@ -1,12 +1,20 @@
-use Rattle.std.proofs.Common.{rules, ◌≡◌, ◌++◌, ◌∷◌, ◌<◌, ◌≤◌, ◌^◌, [], length, refl, ap, sym, ◌∙◌, subst, arith, map, reverse}
+use Rattle.std.proofs.Common.{rules, ◌≡◌, ◌++◌, ◌<◌, length, refl, ap, sym, ◌∙◌, subst, arith, map, reverse}
 use Rattle.std.proofs.lemmas.List.{reverse-reverse}
 use Rattle.script_nodes.specs.Views.{scripts_of}
-use Rattle.shelf.specs.declared.begin.BeginFault.TheVariants.{Memory}
 use Rattle.site.specs.declared.site.Site.{Site}
 use Rattle.site.specs.Entries.{entries_of}
 use Rattle.site.specs.Beginnings.{AreUnopened}
-use Rattle.site.proofs.Begins.{disk_in, nonces_in, turned_fresh, sources_of, fresh_there, begun_of, under_of, as_many, unopened_after, same_shelves, same_parts}
+use Rattle.site.proofs.Begins.{disk_in, nonces_in, turned_fresh, sources_of, fresh_there, begun_of, under_of, as_many, unopened_none, unopened_after, same_shelves, same_parts}
 use Rattle.site.proofs.site.Site.begin.Goals as goal
+
+pub returns-in_default-clause-fault : goal.returns-in_default-clause-fault
+returns-in_default-clause-fault g c =
+    let range = c.requires.range.shelves in
+    let disks = c.requires.disks in
+    record {
+      disks_back = unopened_none {D = g.row.D.Denot} g.D.Disk.view g.D.Disk.tells (scripts_of c.args.setup) g.met.D.Disk.only_now c.args.disks.items (omega arith);
+      sources_back = refl;
+    }
 
 pub new-requires-clause-fresh : goal.new-requires-clause-fresh
 new-requires-clause-fresh g c k x e =

@@ -1,4 +1,4 @@
-use Rattle.std.proofs.Common.{rules, ◌≡◌, ◌++◌, ◌∷◌, [], length, refl, ap, sym, ◌∙◌, subst, arith, append_assoc, map, reverse, slice_get}
+use Rattle.std.proofs.Common.{rules, ◌≡◌, ◌++◌, ◌∷◌, [], length, refl, ap, sym, ◌∙◌, subst, arith, append_assoc, reverse, slice_get}
 use Rattle.lock_row.proofs.Ends.{zip_get, zip_length}
 use Rattle.lock_row.proofs.Lockings.{reverse_snoc}
 use Rattle.lock_row.proofs.Places.{map_snoc, map_length, map_get, get_map, one_of}

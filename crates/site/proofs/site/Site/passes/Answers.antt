@@ -1,10 +1,10 @@
-use Rattle.std.proofs.Common.{rules, ◌≡◌, ◌++◌, ◌∷◌, ◌+◌, ◌-◌, [], ℕ, Some, slice_get, length, refl, ap, sym, ◌∙◌, subst, arith}
+use Rattle.std.proofs.Common.{rules, ◌≡◌, ◌+◌, [], ℕ, Some, slice_get, ap, sym, ◌∙◌, subst, arith}
 use Rattle.shelf_lock.proofs.Prefixes.{snoc_each}
 use Rattle.lock_row.specs.Spots.{Homes, IsOf, one_dealt}
 use Rattle.site.specs.declared.opening.Opening.{Opening}
 use Rattle.site.specs.declared.site.Site.{Site}
 use Rattle.lock_row.specs.Rows.{IsNewPass}
-use Rattle.site.specs.Beginnings.{IsWhole, IsFirstPass, given_out, most_passes}
+use Rattle.site.specs.Beginnings.{IsWhole, IsFirstPass, given_out}
 use Rattle.site.proofs.Begins.{first_pass, whole_given, given_next}
 use Rattle.site.proofs.site.Site.passes.Goals as goal
 

@@ -1,6 +1,7 @@
 use Rattle.std.proofs.Common.{rules, arith, ◌≡◌, ◌<◌, ◌^◌, inr, refl, sym, ◌∙◌, subst, ap, length}
 use Rattle.site.specs.Entries.{entries_of, Sweeps}
-use Rattle.site.specs.Openings.{book_then}
+use Rattle.shelf.specs.Views.{book_in}
+use Rattle.site.specs.Openings.{scripts_in}
 use Rattle.site.specs.Sound.{IsSound}
 use Rattle.site.proofs.Turns.{Turn, swept, goes_none, adds_swept, match_ok, match_err, from_did}
 use Rattle.site.proofs.Seats.{setup_at, own_on}
@@ -29,12 +30,12 @@ turn-told-requires-clause-keeps g c = λ a at x told y reached did.
     let by_is : a.known.caller ≡ by = (c.requires.own.seats c.args.shelf a at).caller_is ∙ sym c.caller-by.ensures in
     let sound : IsSound {D = g.row.D.Denot} {N = g.row.N.Denot} view tells coming did.left.now.opened did.left.now.shelf (entries_of did.left.now.history) = search rules in
     let opened : did.left.now.opened ≡ did.shown.now.opened = search rules in
-    let sweeps-there : Sweeps by c.args.tick told (book_then {D = g.row.D.Denot} {N = g.row.N.Denot} coming did.shown.now.opened (entries_of did.shown.now.history)).clock did.shown.now.history did.left.now.history = search rules in
-    let sweeps : Sweeps by c.args.tick told (book_then {D = g.row.D.Denot} {N = g.row.N.Denot} coming x.opened (entries_of x.history)).clock x.history y.history = subst (λ (z : _). Sweeps by c.args.tick told (book_then {D = g.row.D.Denot} {N = g.row.N.Denot} coming z.opened (entries_of z.history)).clock z.history y.history) did.shows (subst (λ (z : _). Sweeps by c.args.tick told (book_then {D = g.row.D.Denot} {N = g.row.N.Denot} coming did.shown.now.opened (entries_of did.shown.now.history)).clock did.shown.now.history z.history) did.leaves sweeps-there) in (
+    let sweeps-there : Sweeps by c.args.tick told (book_in {D = g.row.D.Denot} {N = g.row.N.Denot} (scripts_in {D = g.row.D.Denot} {N = g.row.N.Denot} did.shown.now.opened) did.shown.now.shelf).clock did.shown.now.history did.left.now.history = search rules in
+    let sweeps : Sweeps by c.args.tick told (book_in {D = g.row.D.Denot} {N = g.row.N.Denot} (scripts_in {D = g.row.D.Denot} {N = g.row.N.Denot} x.opened) x.shelf).clock x.history y.history = subst (λ (z : _). Sweeps by c.args.tick told (book_in {D = g.row.D.Denot} {N = g.row.N.Denot} (scripts_in {D = g.row.D.Denot} {N = g.row.N.Denot} z.opened) z.shelf).clock z.history y.history) did.shows (subst (λ (z : _). Sweeps by c.args.tick told (book_in {D = g.row.D.Denot} {N = g.row.N.Denot} (scripts_in {D = g.row.D.Denot} {N = g.row.N.Denot} did.shown.now.opened) did.shown.now.shelf).clock did.shown.now.history z.history) did.leaves sweeps-there) in (
       subst (λ (z : _). IsSound {D = g.row.D.Denot} {N = g.row.N.Denot} view tells coming z.opened z.shelf (entries_of z.history)) did.leaves sound,
       sym (ap (λ z. z.opened) did.leaves) ∙ (opened ∙ ap (λ z. z.opened) did.shows),
       refl,
-      adds_swept by a.known.caller c.args.tick told (book_then {D = g.row.D.Denot} {N = g.row.N.Denot} coming x.opened (entries_of x.history)).clock x.history y.history by_is sweeps,
+      adds_swept by a.known.caller c.args.tick told (book_in {D = g.row.D.Denot} {N = g.row.N.Denot} (scripts_in {D = g.row.D.Denot} {N = g.row.N.Denot} x.opened) x.shelf).clock x.history y.history by_is sweeps,
     )
 
 pub returns-in-Ok-clause-own : goal.returns-in-Ok-clause-own
@@ -54,10 +55,10 @@ returns-in-Ok-clause-swept g c =
     let coming = g.N.Nonces.nonce in
     let by = c.caller-by.result in
     let sweeps =
-    from_did _ _ _ (match_ok _ _ _ _ c.turn-told.ensures.turned c.in-Ok.is).4.3 (λ (x : _) (told : _) (y : _). Sweeps by c.args.tick told (book_then {D = g.row.D.Denot} {N = g.row.N.Denot} coming x.opened (entries_of x.history)).clock x.history y.history) (λ x told y did.
+    from_did _ _ _ (match_ok _ _ _ _ c.turn-told.ensures.turned c.in-Ok.is).4.3 (λ (x : _) (told : _) (y : _). Sweeps by c.args.tick told (book_in {D = g.row.D.Denot} {N = g.row.N.Denot} (scripts_in {D = g.row.D.Denot} {N = g.row.N.Denot} x.opened) x.shelf).clock x.history y.history) (λ x told y did.
     let met = did.met in
-    let there : Sweeps by c.args.tick told (book_then {D = g.row.D.Denot} {N = g.row.N.Denot} coming did.shown.now.opened (entries_of did.shown.now.history)).clock did.shown.now.history did.left.now.history = search rules in
-    subst (λ (z : _). Sweeps by c.args.tick told (book_then {D = g.row.D.Denot} {N = g.row.N.Denot} coming z.opened (entries_of z.history)).clock z.history y.history) did.shows (subst (λ (z : _). Sweeps by c.args.tick told (book_then {D = g.row.D.Denot} {N = g.row.N.Denot} coming did.shown.now.opened (entries_of did.shown.now.history)).clock did.shown.now.history z.history) did.leaves there)) in
+    let there : Sweeps by c.args.tick told (book_in {D = g.row.D.Denot} {N = g.row.N.Denot} (scripts_in {D = g.row.D.Denot} {N = g.row.N.Denot} did.shown.now.opened) did.shown.now.shelf).clock did.shown.now.history did.left.now.history = search rules in
+    subst (λ (z : _). Sweeps by c.args.tick told (book_in {D = g.row.D.Denot} {N = g.row.N.Denot} (scripts_in {D = g.row.D.Denot} {N = g.row.N.Denot} z.opened) z.shelf).clock z.history y.history) did.shows (subst (λ (z : _). Sweeps by c.args.tick told (book_in {D = g.row.D.Denot} {N = g.row.N.Denot} (scripts_in {D = g.row.D.Denot} {N = g.row.N.Denot} did.shown.now.opened) did.shown.now.shelf).clock did.shown.now.history z.history) did.leaves there)) in
     let told = c.in-Ok.told in
     let at = match_ok _ _ _ _ c.turn-told.ensures.turned c.in-Ok.is in
     let t = at.4 in
@@ -71,7 +72,7 @@ returns-in-Ok-clause-swept g c =
       sound = subst (λ o. IsSound {D = g.row.D.Denot} {N = g.row.N.Denot} view tells coming o y.shelf (entries_of y.history)) t.4.1 t.4.0;
       seen_is = t.5;
     } in
-    (at.0, at.1, at.2, at.3, swept {D = g.row.D.Denot} {N = g.row.N.Denot} view tells coming at.0.known at.1 x y turn by c.args.tick told by_is sweeps)
+    (at.0, at.1, at.2, at.3, swept {D = g.row.D.Denot} {N = g.row.N.Denot} view tells coming at.0.known at.1 x y turn by c.args.tick told by_is t.2.0 sweeps)
 
 pub returns-in-Err-clause-swept : goal.returns-in-Err-clause-swept
 returns-in-Err-clause-swept g c =

@@ -86,4 +86,4 @@ returns-in-Err-clause-took g c =
     let t = at.4 in
     let x = t.0 in
     let turn : Turn {D = g.row.D.Denot} {N = g.row.N.Denot} view tells coming at.0.known at.1 x x = record { opening_is = t.2.0; begins = t.3.0; own_is = t.3.1; sound = t.1; seen_is = t.5 } in
-    (at.0, at.1, at.2, at.3, inr (refl, goes_none {D = g.row.D.Denot} {N = g.row.N.Denot} view tells coming at.0.known at.1 x x turn refl))
+    (at.0, at.1, at.2, at.3, (tt, inr (refl, goes_none {D = g.row.D.Denot} {N = g.row.N.Denot} view tells coming at.0.known at.1 x x turn refl)))
