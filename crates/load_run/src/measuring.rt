@@ -89,12 +89,13 @@ fn go_on<T: Stage>(
     requires home { T.at_home stage.old devices.old }
     requires some { 0 < shelves_of T.rules (T.state stage.old) }
     requires clock { course.old.generator.clock + 59 < 2 ^ 62 }
-    ensures went { IsTrue T.tells → GoesOn T.rules (halt_in result) course.old course.new
+    ensures went { IsTrue T.tells → T.own stage.old → GoesOn T.rules (halt_in result) course.old course.new
         (spot T.rules (T.state stage.old) (T.faults stage.old devices.old))
         (spot T.rules (T.state stage.new) (T.faults stage.new devices.new)) }
     ensures shelves { OnOk result (KeepsShelves T.rules (T.state stage.old) (T.state stage.new)) }
     ensures slowly { course.new.generator.clock ≤ course.old.generator.clock + 59 }
     ensures sound { T.sound stage.new }
+    ensures own { IsTrue T.tells → T.own stage.old → T.own stage.new }
     ensures home { T.at_home stage.new devices.new }
     ensures later { T.faults stage.old devices.old ≤ T.faults stage.new devices.new }
     ensures disk { (shelf : ℕ) → IsErrOf result (Halt.Reopen shelf Reopen.Disk) →
@@ -137,7 +138,8 @@ fn note(alloc: Global, told: &[Report], course: &mut Course) -> Result<(), Alloc
 /// go.
 ///
 /// For some fates of their events the answer is that of the transcript of these steps over the stage's
-/// rules, and the stage is left in its last state; where disks tell nothing, this is not said. A shelf
+/// rules, and the stage is left in its last state; this is said of a stage whose disks tell, and that
+/// holds what its own events left. A shelf
 /// that crashed and was not opened again ends the run there. Of want of memory it is not said at which
 /// step it ended.
 pub fn load<T: Stage>(
@@ -153,10 +155,11 @@ pub fn load<T: Stage>(
     requires sound { T.sound stage.old }
     requires home { T.at_home stage.old devices.old }
     requires some { 0 < shelves_of T.rules (T.state stage.old) }
-    ensures measured { IsTrue T.tells → Measures T.rules steps (source_of number) result
+    ensures measured { IsTrue T.tells → T.own stage.old → Measures T.rules steps (source_of number) result
         (spot T.rules (T.state stage.old) (T.faults stage.old devices.old))
         (spot T.rules (T.state stage.new) (T.faults stage.new devices.new)) }
     ensures sound { T.sound stage.new }
+    ensures own { IsTrue T.tells → T.own stage.old → T.own stage.new }
     ensures home { T.at_home stage.new devices.new }
     ensures later { T.faults stage.old devices.old ≤ T.faults stage.new devices.new }
     ensures disk { (shelf : ℕ) → IsErrOf result (Halt.Reopen shelf Reopen.Disk) →

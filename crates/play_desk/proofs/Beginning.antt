@@ -13,6 +13,7 @@ use Rattle.replay_spec.specs.Runs as runs
 use Rattle.instance_book.specs.declared.ticket.Ticket.{Ticket}
 use Rattle.shelf.specs.declared.rules.Rules.{Rules}
 use Rattle.shelf.specs.declared.shelf.Shelf.{Shelf}
+use Rattle.shelf.specs.Views.{IsOwnShelf}
 use Rattle.play_desk.specs.Desk.{Desk, first_desk, first_shelves}
 use Rattle.play_desk.specs.Opening.{AreHome, CountStays, GivesOne, IsClosedBy, IsRefusedBy, OpensNext, numbered, rules_at}
 use Rattle.play_desk.specs.Staff.{AreFit, HaveOwnNumbers, IsHome, IsServed, desk_with, faults_in, numbers_in, shelf_at, total}
@@ -27,6 +28,7 @@ pub record AreOpened {D : Type 0} (view : D → View) (rack_tells tells : Bool) 
   pub size : length xs ≡ count
   pub numbers : (k n : ℕ) → slice_get (numbers_in xs) k ≡ Some n → n ≡ k
   pub served : (k : ℕ) (x : Shelf D Counting) → slice_get xs k ≡ Some x → IsServed view tells scripts x
+  pub own : IsTrue rack_tells → IsTrue tells → (k : ℕ) (x : Shelf D Counting) → slice_get xs k ≡ Some x → IsOwnShelf view tells scripts x
   pub home : IsHome xs now.out
   pub rest : (n : ℕ) → count ≤ n → AreAmong (now.holds n) (first.holds n)
   pub empty : IsTrue rack_tells → IsTrue tells → (k : ℕ) → k < count → first.holds k []
@@ -41,6 +43,7 @@ opened_none view rack_tells tells scripts rules first home few = record {
   size = refl;
   numbers = λ k n e. absurd (let no : None ≡ Some n = e in cc);
   served = λ k x e. absurd (let no : None ≡ Some x = e in cc);
+  own = λ rack_told told k x e. absurd (let no : None ≡ Some x = e in cc);
   home = record {
     ours = λ k n e. absurd (let no : None ≡ Some n = e in cc);
     only = λ n out. absurd (let no : true ≡ false = sym out ∙ home n in cc);
@@ -192,6 +195,8 @@ module _ {D : Type 0} (view : D → View) (rack_tells tells : Bool) (scripts : L
         size = length-append xs (x ∷ []) ∙ omega (arith, o.size);
         numbers = all_numbers;
         served = λ k z e. ⊎_elim (λ was. o.served k z was) (λ is. subst (λ (s : Shelf D Counting). IsServed view tells scripts s) is h.served) (in_push xs x k z e);
+        own = λ rack_told told k z e.
+            ⊎_elim (λ was. o.own rack_told told k z was) (λ is. subst (λ (s : Shelf D Counting). IsOwnShelf view tells scripts s) is (h.own rack_told told)) (in_push xs x k z e);
         home = taken_home;
         rest = untouched;
         empty = were_empty;
@@ -212,7 +217,7 @@ fit_opened view rack_tells tells scripts rules first count xs now ts o few none 
       numbers = own_opened view rack_tells tells scripts rules first count xs now o;
       few = omega (arith, o.size, few);
       count = ap length none;
-      are_open = λ w t h. absurd (nobody w t h);
+      unspent = λ w t h. absurd (nobody w t h);
       apart = λ v w t u hv hw at same. absurd (nobody v t hv);
     }
 

@@ -9,11 +9,14 @@ use Rattle.web_outside.specs.declared.nonces.Counting.{Counting}
 use Rattle.web_disk.specs.View.{View, RackView, AreAmong}
 use Rattle.script_nodes.specs.Setup.{Named}
 use Rattle.replay_spec.specs.Runs as runs
-use Rattle.journal_books.specs.Standing.{Between, HoldIn, Stands, if_kept}
+use Rattle.replay_spec.specs.Book.{Book}
+use Rattle.replay_spec.specs.Rules.{Rules}
 use Rattle.instance_book.specs.declared.ticket.Ticket.{Ticket}
 use Rattle.shelf.specs.declared.shelf.Shelf.{Shelf}
-use Rattle.play_desk.specs.Opening.{CountStays, GivesOne, HoldImages, HoldTheBooks}
-use Rattle.play_desk.specs.Staff.{AreFit, HaveOwnNumbers, IsHome, desk_with, faults_in, numbers_in, shelf_at, total}
+use Rattle.shelf.specs.Owning.{StandsOwn}
+use Rattle.shelf.specs.Views.{book_in, rules_of}
+use Rattle.play_desk.specs.Opening.{CountStays, GivesOne, HoldImages, HoldTheBooks, HoldsTheBook}
+use Rattle.play_desk.specs.Staff.{AreFit, AreOwn, HaveOwnNumbers, IsHome, desk_with, faults_in, numbers_in, shelf_at, total}
 use Rattle.play_desk.proofs.Places.{same_Some}
 use Rattle.play_desk.proofs.Fitting.{number_at}
 use Rattle.play_desk.proofs.Outage.{home_out, stays_out}
@@ -87,19 +90,23 @@ from_mapped f [] k y e = absurd (let no : None ≡ Some y = e in cc)
 from_mapped f (x ∷ xs) zero y e = (x, refl, same_Some (f x) y e)
 from_mapped f (x ∷ xs) (suc k) y e = from_mapped f xs k y e
 
-stands_at : (scripts : List Named) (view : View) (number : ℕ) (s : runs.Shelf) (holds : ℕ → List ℕ → Type 0) → s.book.shelf ≡ number
-    → Stands scripts number view s.book → AreAmong (holds number) view.images
-    → (b : Between scripts s.book.shelf s.book (if_kept scripts s.book.shelf s.book)) × HoldIn b (holds s.book.shelf)
-stands_at scripts view number s holds is stands among =
-    subst (λ n. (b : Between scripts n s.book (if_kept scripts n s.book)) × HoldIn b (holds n)) (sym is)
-    (stands.0, λ image h. stands.1 image (among image h))
+-- what may be held of the disk of an own shelf stands for its book
+pub holds_book : (rules : Rules) (scripts : List Named) (v : View) (number : ℕ) (b : Book) (holds : List ℕ → Type 0)
+    → StandsOwn rules scripts number v b → AreAmong holds v.images → HoldsTheBook rules scripts number holds b
+holds_book rules scripts v number b holds own among = record {
+  own = (own.images.0, λ image h. own.images.1 image (among image h));
+  stands = (own.stands.0, (own.stands.1.0, (λ image h. own.stands.1.1.0 image (among image h), own.stands.1.1.1)));
+}
 
--- the disks of shelves that are fit stand for their books
+-- the disks of own shelves stand for their books
 pub books_stand : {D : Type 0} (view : D → View) (tells : Bool) (scripts : List Named) (xs : List (Shelf D Counting)) (ts : List (Option Ticket))
-    (holds : ℕ → List ℕ → Type 0) → IsTrue tells → AreFit view tells scripts xs ts → HoldImages view xs holds
+    (holds : ℕ → List ℕ → Type 0) → IsTrue tells → AreFit view tells scripts xs ts → AreOwn view tells scripts xs ts → HoldImages view xs holds
     → HoldTheBooks (desk_with scripts xs ts) holds
-books_stand view tells scripts xs ts holds told fit images k s e =
+books_stand view tells scripts xs ts holds told fit own images k s e =
     let x = from_mapped (shelf_at scripts) xs k s e in
-    let order = (fit.served k x.0 x.1).in_order in
-    subst (λ (z : runs.Shelf). (b : Between scripts z.book.shelf z.book (if_kept scripts z.book.shelf z.book)) × HoldIn b (holds z.book.shelf)) x.2
-    (stands_at scripts (view x.0.journal.disk) x.0.rules.number (shelf_at scripts x.0) holds order.number (order.fit told).stands (images k x.0 x.1))
+    let number = (fit.served k x.0 x.1).in_order.number in
+    let b = book_in scripts x.0 in
+    let stands = holds_book (rules_of scripts x.0.rules) scripts (view x.0.journal.disk) x.0.rules.number b (holds x.0.rules.number)
+    ((own.own k x.0 x.1).own told) (images k x.0 x.1) in
+    subst (λ (z : runs.Shelf). HoldsTheBook z.rules scripts z.book.shelf (holds z.book.shelf) z.book) x.2
+    (subst (λ n. HoldsTheBook (rules_of scripts x.0.rules) scripts n (holds n) b) (sym number) stands)

@@ -4,29 +4,26 @@ use Rattle.std.proofs.lemmas.Bool.{cases_eq}
 use Rattle.std.proofs.lemmas.List.{length-set, map-set}
 use Rattle.std.proofs.lemmas.List.Elements.{Contains-append_left, Contains-push}
 use Rattle.std.proofs.lemmas.Option.{slice_get-map, slice_get_within}
-use Rattle.script_value.specs.Val.{Val}
 use Rattle.script_value.specs.declared.outcome.Reply.{Reply}
 use Rattle.web_disk.specs.View.{View}
 use Rattle.web_outside.specs.declared.nonces.Counting.{Counting}
-use Rattle.page_names.specs.Names.{Destination}
 use Rattle.page_names.specs.Views.{target_of}
 use Rattle.script_nodes.specs.Setup.{Named}
-use Rattle.replay_spec.specs.Book.{Book, draw}
-use Rattle.replay_spec.specs.Admission.{admit, refusal_of}
-use Rattle.replay_spec.specs.Step.{take, publish, sweep, taken}
+use Rattle.replay_spec.specs.Book.{Book, draw, spend}
+use Rattle.replay_spec.specs.Step.{sweep}
 use Rattle.replay_spec.proofs.Stand.{among_of}
-use Rattle.instance_book.specs.Fits.{FitsAs}
-use Rattle.instance_book.specs.Views.{ticket_of, reply_of}
+use Rattle.instance_book.specs.Fits.{IsRunnable}
+use Rattle.instance_book.specs.Prepares.{HasItsScript}
 use Rattle.instance_book.specs.declared.ticket.Ticket.{Ticket}
 use Rattle.shelf.specs.declared.shelf.Shelf.{Shelf}
 use Rattle.shelf.specs.Views.{book_in, swept_of, IsInOrder}
 use Rattle.shelf.specs.declared.rules.Rules.{Rules}
 use Rattle.shelf.specs.Ranges.{AreInRange}
 use Rattle.journal_records.specs.Records.{IsInGrammar, begin_of}
-use Rattle.play_desk.specs.Staff.{IsOpen, IsServed, IsOpenAt, AreFit, KeepsOthers, numbers_in, place_of}
+use Rattle.play_desk.specs.Staff.{IsUnspent, IsServed, HoldsAt, OfEachTicket, AreFit, KeepsOthers, numbers_in, place_of}
 use Rattle.play_desk.proofs.Places.{at_set, get_other, get_set, same_set, same_Some}
-use Rattle.play_desk.proofs.Kept.{published, swept}
-use Rattle.play_desk.proofs.Open.{leads_here, stays_open, still_out}
+use Rattle.play_desk.proofs.Kept.{swept}
+use Rattle.play_desk.proofs.Open.{still_out}
 use Rattle.play_desk.proofs.Happening.{Happens, moment_of, then_is}
 
 -- the number of the shelf in a place
@@ -50,20 +47,45 @@ served_on view tells scripts x y h in_order same = record {
   begins = subst (λ (r : Rules). IsInGrammar (begin_of r.number scripts)) (sym same) h.begins;
 }
 
--- the ticket that a worker holds of the shelf in a place is open there
-pub open_there : {D : Type 0} (view : D → View) (tells : Bool) (scripts : List Named) (xs : List (Shelf D Counting)) (ts : List (Option Ticket))
-    (k w : ℕ) (x : Shelf D Counting) (t : Ticket) → AreFit view tells scripts xs ts → slice_get xs k ≡ Some x
-    → slice_get ts w ≡ Some (Some t) → place_of (length xs) w t ≡ k → IsOpen (book_in scripts x) t
-open_there {D = D} view tells scripts xs ts k w x t fit here held place =
-    let o = fit.are_open w t held in
-    let same : o.shelf ≡ x = same_Some o.shelf x (sym o.there ∙ ap (slice_get xs) place ∙ here) in
-    subst (λ (z : Shelf D Counting). IsOpen (book_in scripts z) t) same o.is_open
+-- what is held where a worker hands in its ticket was held, by another worker
+pub left_held : (ts : List (Option Ticket)) (worker w : ℕ) (u : Ticket) → slice_get (slice_set ts worker None) w ≡ Some (Some u)
+    → (w ≢ worker) × (slice_get ts w ≡ Some (Some u))
+left_held ts worker w u there =
+    elim (at_set ts worker w None (Some u) there) [ inl p ↦ absurd (let no : None ≡ Some u = p.1 in cc) | inr p ↦ p ]
 
--- all stay fit with another shelf in a place, whose tickets are open on it
+-- what holds of each ticket holds of the one that a worker holds of the shelf in a place
+pub of_held : {D : Type 0} (Q : Book → Ticket → Type 0) (scripts : List Named) (xs : List (Shelf D Counting)) (ts : List (Option Ticket))
+    (k w : ℕ) (x : Shelf D Counting) (t : Ticket) → OfEachTicket Q scripts xs ts → slice_get xs k ≡ Some x
+    → slice_get ts w ≡ Some (Some t) → place_of (length xs) w t ≡ k → Q (book_in scripts x) t
+of_held {D = D} Q scripts xs ts k w x t each here held place =
+    let o = each w t held in
+    let same : o.shelf ≡ x = same_Some o.shelf x (sym o.there ∙ ap (slice_get xs) place ∙ here) in
+    subst (λ (z : Shelf D Counting). Q (book_in scripts z) t) same o.held
+
+-- it goes on to hold with another shelf in a place, where it holds of the tickets of that shelf
+pub each_with : {D : Type 0} (Q : Book → Ticket → Type 0) (scripts : List Named) (xs : List (Shelf D Counting)) (ts us : List (Option Ticket))
+    (k : ℕ) (x y : Shelf D Counting) → OfEachTicket Q scripts xs ts → slice_get xs k ≡ Some x
+    → ((w : ℕ) (t : Ticket) → slice_get us w ≡ Some (Some t) → place_of (length xs) w t ≡ k → Q (book_in scripts y) t)
+    → ((w : ℕ) (t : Ticket) → slice_get us w ≡ Some (Some t) → place_of (length xs) w t ≢ k → slice_get ts w ≡ Some (Some t))
+    → OfEachTicket Q scripts (slice_set xs k y) us
+each_with {D = D} Q scripts xs ts us k x y each here mine others w t h =
+    subst (λ n. HoldsAt Q scripts (slice_set xs k y) (place_of n w t) t) (sym (length-set xs k y)) (holds (cases_eq k (place_of (length xs) w t)))
+  where
+    holds : (k ≡ place_of (length xs) w t) ⊎ (k ≢ place_of (length xs) w t) → HoldsAt Q scripts (slice_set xs k y) (place_of (length xs) w t) t
+    holds (inl e) = record {
+      shelf = y;
+      there = ap (slice_get (slice_set xs k y)) (sym e) ∙ get_set xs k y (slice_get_within xs k x here);
+      held = mine w t h (sym e);
+    }
+    holds (inr other) =
+        let o = each w t (others w t h (λ e. other (sym e))) in
+        record { shelf = o.shelf; there = get_other xs k (place_of (length xs) w t) y other ∙ o.there; held = o.held }
+
+-- all stay fit with another shelf in a place, whose tickets are unspent on it
 pub fit_with : {D : Type 0} (view : D → View) (tells : Bool) (scripts : List Named) (xs : List (Shelf D Counting)) (ts us : List (Option Ticket))
     (k : ℕ) (x y : Shelf D Counting) → AreFit view tells scripts xs ts → slice_get xs k ≡ Some x → IsServed view tells scripts y
     → y.rules ≡ x.rules → length us ≡ 16
-    → ((w : ℕ) (t : Ticket) → slice_get us w ≡ Some (Some t) → place_of (length xs) w t ≡ k → IsOpen (book_in scripts y) t)
+    → ((w : ℕ) (t : Ticket) → slice_get us w ≡ Some (Some t) → place_of (length xs) w t ≡ k → IsUnspent scripts (book_in scripts y) t)
     → ((w : ℕ) (t : Ticket) → slice_get us w ≡ Some (Some t) → place_of (length xs) w t ≢ k → slice_get ts w ≡ Some (Some t))
     → ((v w : ℕ) (t u : Ticket) → slice_get us v ≡ Some (Some t) → slice_get us w ≡ Some (Some u)
     → place_of (length xs) v t ≡ place_of (length xs) w u → t.number ≡ u.number → v ≡ w)
@@ -80,21 +102,14 @@ fit_with {D = D} view tells scripts xs ts us k x y fit here served_y rules count
           fit.numbers i j n (subst (λ (ns : List ℕ). slice_get ns i ≡ Some n) same a) (subst (λ (ns : List ℕ). slice_get ns j ≡ Some n) same b);
       few = omega (arith, len, fit.few);
       count = count;
-      are_open = λ w t h. subst (λ n. IsOpenAt scripts (slice_set xs k y) (place_of n w t) t) (sym len) (opens w t h (cases_eq k (place_of (length xs) w t)));
+      unspent = each_with (IsUnspent scripts) scripts xs ts us k x y fit.unspent here mine others;
       apart = λ v w t u hv hw place number.
           apart v w t u hv hw (subst (λ n. place_of n v t ≡ place_of n w u) len place) number;
     }
-  where
-    opens : (w : ℕ) (t : Ticket) → slice_get us w ≡ Some (Some t) → (k ≡ place_of (length xs) w t) ⊎ (k ≢ place_of (length xs) w t)
-        → IsOpenAt scripts (slice_set xs k y) (place_of (length xs) w t) t
-    opens w t h (inl e) = record {
-      shelf = y;
-      there = ap (slice_get (slice_set xs k y)) (sym e) ∙ get_set xs k y (slice_get_within xs k x here);
-      is_open = mine w t h (sym e);
-    }
-    opens w t h (inr other) =
-        let o = fit.are_open w t (others w t h (λ e. other (sym e))) in
-        record { shelf = o.shelf; there = get_other xs k (place_of (length xs) w t) y other ∙ o.there; is_open = o.is_open }
+
+-- a ticket is unspent on each book on which its number is out
+still_unspent : (scripts : List Named) (b c : Book) (t : Ticket) → Contains c.out t.number → IsUnspent scripts b t → IsUnspent scripts c t
+still_unspent scripts b c t out o = record { out = out; runs = o.runs; script = o.script }
 
 pub fit_sweep : {D : Type 0} (view : D → View) (tells : Bool) (scripts : List Named) (xs : List (Shelf D Counting)) (ts : List (Option Ticket))
     (k : ℕ) (x y : Shelf D Counting) (tick : ℕ) (r : Result ℕ Reply) → AreFit view tells scripts xs ts → slice_get xs k ≡ Some x
@@ -108,58 +123,49 @@ fit_sweep view tells scripts xs ts k x y tick r fit here h in_order rules =
     let out : c.out ≡ b.out = ap (λ (d : Book). d.out) (sym is) ∙ (swept m.rules b m.nonce tick m.fate).out in
     fit_with view tells scripts xs ts ts k x y fit here (served_on view tells scripts x y (fit.served k x here) in_order rules) rules fit.count
     (λ w t held place.
-    let o = open_there view tells scripts xs ts k w x t fit here held place in
-    stays_open b c m t tt is refl (subst (λ (ns : List ℕ). Contains ns t.number) (sym out) o.out) o)
+    let o = of_held (IsUnspent scripts) scripts xs ts k w x t fit.unspent here held place in
+    still_unspent scripts b c t (subst (λ (ns : List ℕ). Contains ns t.number) (sym out) o.out) o)
     (λ w t held other. held) fit.apart
 
+-- the number of a ticket that is published is spent, whatever the publish comes to
 pub fit_publish : {D : Type 0} (view : D → View) (tells : Bool) (scripts : List Named) (xs : List (Shelf D Counting)) (ts : List (Option Ticket))
-    (k worker : ℕ) (x y : Shelf D Counting) (t : Ticket) (e : Reply) → AreFit view tells scripts xs ts → slice_get xs k ≡ Some x
-    → slice_get ts worker ≡ Some (Some t) → place_of (length xs) worker t ≡ k → Happens scripts x y (publish (ticket_of t)) (reply_of e)
+    (k worker : ℕ) (x y : Shelf D Counting) (t : Ticket) → AreFit view tells scripts xs ts → slice_get xs k ≡ Some x
+    → slice_get ts worker ≡ Some (Some t) → place_of (length xs) worker t ≡ k
+    → (book_in scripts y).out ≡ (spend t.number (book_in scripts x)).out
     → IsInOrder view tells scripts y → y.rules ≡ x.rules → AreFit view tells scripts (slice_set xs k y) (slice_set ts worker None)
-fit_publish view tells scripts xs ts k worker x y t e fit here held place h in_order rules =
+fit_publish view tells scripts xs ts k worker x y t fit here held place out in_order rules =
     let b = book_in scripts x in
     let c = book_in scripts y in
-    let m = moment_of scripts x (publish (ticket_of t)) (reply_of e) in
-    let is = then_is scripts x y (publish (ticket_of t)) (reply_of e) h in
-    let out = ap (λ (d : Book). d.out) (sym is) ∙ (published m.rules b m.nonce (ticket_of t) m.fate).out in
-    let spent = (open_there view tells scripts xs ts k worker x t fit here held place).out in
     fit_with view tells scripts xs ts (slice_set ts worker None) k x y fit here
     (served_on view tells scripts x y (fit.served k x here) in_order rules) rules (length-set ts worker None ∙ fit.count)
     (λ w u there at.
-    let was = old w u there in
-    let o = open_there view tells scripts xs ts k w x u fit here was.1 at in
+    let was = left_held ts worker w u there in
+    let o = of_held (IsUnspent scripts) scripts xs ts k w x u fit.unspent here was.1 at in
     let other : u.number ≢ t.number = λ same. was.0 (fit.apart w worker u t was.1 held (at ∙ sym place) same) in
-    stays_open b c m u spent is refl (subst (λ (ns : List ℕ). Contains ns u.number) (sym out) (still_out u.number t.number b.out other o.out)) o)
-    (λ w u there other. (old w u there).1)
-    (λ v w z u hv hw at same. fit.apart v w z u (old v z hv).1 (old w u hw).1 at same)
-  where
-    old : (w : ℕ) (u : Ticket) → slice_get (slice_set ts worker None) w ≡ Some (Some u) → (w ≢ worker) × (slice_get ts w ≡ Some (Some u))
-    old w u there = elim (at_set ts worker w None (Some u) there) [ inl p ↦ absurd (let no : None ≡ Some u = p.1 in cc) | inr p ↦ p ]
+    still_unspent scripts b c u (subst (λ (ns : List ℕ). Contains ns u.number) (sym out) (still_out u.number t.number b.out other o.out)) o)
+    (λ w u there other. (left_held ts worker w u there).1)
+    (λ v w z u hv hw at same. fit.apart v w z u (left_held ts worker v z hv).1 (left_held ts worker w u hw).1 at same)
 
 -- a take that is answered with a number
 pub fit_take : {D : Type 0} (view : D → View) (tells : Bool) (scripts : List Named) (xs : List (Shelf D Counting)) (ts : List (Option Ticket))
-    (k worker : ℕ) (x y : Shelf D Counting) (t : Ticket) (target : Destination) (answer : Val) → AreFit view tells scripts xs ts → slice_get xs k ≡ Some x
-    → Happens scripts x y (take target answer) (taken t.number t.nonce) → book_in scripts y ≡ draw (book_in scripts x)
-    → t.number ≡ x.book.drawn → FitsAs scripts (book_in scripts y) t (admit (book_in scripts y) (target_of t.target))
-    → refusal_of (admit (book_in scripts y) (target_of t.target)) ≡ None → place_of (length xs) worker t ≡ k
+    (k worker : ℕ) (x y : Shelf D Counting) (t : Ticket) → AreFit view tells scripts xs ts → slice_get xs k ≡ Some x
+    → book_in scripts y ≡ draw (book_in scripts x) → t.number ≡ x.book.drawn
+    → IsRunnable scripts t → HasItsScript scripts t (target_of t.target) → place_of (length xs) worker t ≡ k
     → IsInOrder view tells scripts y → y.rules ≡ x.rules → AreFit view tells scripts (slice_set xs k y) (slice_set ts worker (Some t))
-fit_take view tells scripts xs ts k worker x y t target answer fit here h drawn number fits admitted place in_order rules =
+fit_take view tells scripts xs ts k worker x y t fit here drawn number runs script place in_order rules =
     let b = book_in scripts x in
     let c = book_in scripts y in
-    let m = moment_of scripts x (take target answer) (taken t.number t.nonce) in
-    let is = then_is scripts x y (take target answer) (taken t.number t.nonce) h in
     let out : c.out ≡ b.out ++ b.drawn ∷ [] = ap (λ (d : Book). d.out) drawn in
     let mine : Contains c.out t.number =
     subst (λ (ns : List ℕ). Contains ns t.number) (sym out) (subst (λ (n : ℕ). Contains (b.out ++ b.drawn ∷ []) n) (sym number) (Contains-push b.out b.drawn)) in
-    let new_open : IsOpen c t =
-    record { out = mine; then = c; orderly = in_order.orderly; leads = leads_here c; setup = refl; fits = fits; admitted = admitted } in
+    let new_unspent : IsUnspent scripts c t = record { out = mine; runs = runs; script = script } in
     fit_with view tells scripts xs ts (slice_set ts worker (Some t)) k x y fit here
     (served_on view tells scripts x y (fit.served k x here) in_order rules) rules (length-set ts worker (Some t) ∙ fit.count)
     (λ w u there at. elim (case w u there) [
-      | inl p ↦ subst (λ (z : Ticket). IsOpen c z) (same_Some t u p.1) new_open
+      | inl p ↦ subst (λ (z : Ticket). IsUnspent scripts c z) (same_Some t u p.1) new_unspent
       | inr p ↦
-          (let o = open_there view tells scripts xs ts k w x u fit here p.1 at in
-          stays_open b c m u tt is refl (subst (λ (ns : List ℕ). Contains ns u.number) (sym out) (Contains-append_left b.out (b.drawn ∷ []) u.number o.out)) o)
+          (let o = of_held (IsUnspent scripts) scripts xs ts k w x u fit.unspent here p.1 at in
+          still_unspent scripts b c u (subst (λ (ns : List ℕ). Contains ns u.number) (sym out) (Contains-append_left b.out (b.drawn ∷ []) u.number o.out)) o)
     ])
     (λ w u there other. elim (case w u there) [
       | inl p ↦ absurd (other (at_worker w u p))
@@ -189,7 +195,7 @@ fit_take view tells scripts xs ts k worker x y t target answer fit here h drawn 
 
     fresh : (w : ℕ) (u : Ticket) → slice_get ts w ≡ Some (Some u) → place_of (length xs) w u ≡ k → u.number ≡ x.book.drawn → ⊥
     fresh w u held at e =
-        let o = open_there view tells scripts xs ts k w x u fit here held at in
+        let o = of_held (IsUnspent scripts) scripts xs ts k w x u fit.unspent here held at in
         let low = (fit.served k x here).in_order.orderly.below u.number (among_of (book_in scripts x).out u.number o.out) in
         omega (arith, low, e)
 
@@ -199,7 +205,8 @@ pub fit_same : {D : Type 0} (view : D → View) (tells : Bool) (scripts : List N
     → book_in scripts y ≡ book_in scripts x → IsInOrder view tells scripts y → y.rules ≡ x.rules → AreFit view tells scripts (slice_set xs k y) ts
 fit_same view tells scripts xs ts k x y fit here book in_order rules =
     fit_with view tells scripts xs ts ts k x y fit here (served_on view tells scripts x y (fit.served k x here) in_order rules) rules fit.count
-    (λ w t held place. subst (λ (d : Book). IsOpen d t) (sym book) (open_there view tells scripts xs ts k w x t fit here held place))
+    (λ w t held place.
+    subst (λ (d : Book). IsUnspent scripts d t) (sym book) (of_held (IsUnspent scripts) scripts xs ts k w x t fit.unspent here held place))
     (λ w t held other. held) fit.apart
 
 -- a shelf was opened again, and nobody holds a ticket of it

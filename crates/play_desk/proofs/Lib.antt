@@ -12,6 +12,7 @@ pub mod Counting
 pub mod Losing
 pub mod Reopening
 pub mod Removing
+pub mod Owning
 pub mod Outage
 pub mod Closing
 pub mod Beginning

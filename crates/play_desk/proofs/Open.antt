@@ -29,11 +29,10 @@ leads_here b = record { moments = []; lawful = tt; there = refl }
 pub fits_now : TicketsGoOnToFit → (b : Book) (t : Ticket) → IsOpen b t → FitsAs b.scripts b t (admit b (target_of t.target))
 fits_now law b t o = law o.then b o.orderly o.leads o.setup t o.admitted o.fits
 
--- an open ticket stays so while its number is out
-pub stays_open : (b c : Book) (m : Moment) (t : Ticket) → IsLawful m.event b → then_book m b ≡ c → c.scripts ≡ b.scripts → Contains c.out t.number
-    → IsOpen b t → IsOpen c t
-stays_open b c m t lawful is setup out o = record {
-  out = out;
+-- an open ticket stays so
+pub stays_open : (b c : Book) (m : Moment) (t : Ticket) → IsLawful m.event b → then_book m b ≡ c → c.scripts ≡ b.scripts → IsOpen b t
+    → IsOpen c t
+stays_open b c m t lawful is setup o = record {
   then = o.then;
   orderly = o.orderly;
   leads = subst (Leads o.then) is (leads_on o.then b m o.leads lawful);

@@ -45,7 +45,7 @@ fit_out view tells scripts xs ts us k fit low none =
           skip_apart k i j (fit.numbers (skip k i) (skip k j) n (sym (numbers_out xs k i) ∙ a) (sym (numbers_out xs k j) ∙ b));
       few = (let one = length_out xs k low in omega (arith, one, fit.few));
       count = ap length none;
-      are_open = λ w t h. absurd (nobody w t h);
+      unspent = λ w t h. absurd (nobody w t h);
       apart = λ v w t u hv hw at same. absurd (nobody v t hv);
     }
 

@@ -1,5 +1,5 @@
 -- What a shelf is that is opened again on what a crash left.
-use Rattle.std.proofs.Common.{◌≡◌, ◌⊎◌, ⊎_elim, refl, ℕ, List, Result, Ok, Err, IfOk, arith}
+use Rattle.std.proofs.Common.{◌≡◌, ◌⊎◌, ⊎_elim, refl, subst, ℕ, List, [], Result, Ok, Err, IfOk, arith}
 use Rattle.std.specs.Prelude.{IsErrOf}
 use Rattle.web_outside.specs.Causes.{Rose}
 use Rattle.web_outside.specs.declared.nonces.Counting.{Counting}
@@ -11,6 +11,8 @@ use Rattle.journal_books.specs.Standing.{IsBook, Stands, if_kept}
 use Rattle.journal_books.specs.Laws.{ImagesMakeBooks}
 use Rattle.shelf.specs.Views.{book_in, rules_of}
 use Rattle.shelf.specs.Opening.{AReopenedShelfHasCrashed}
+use Rattle.shelf.specs.Owning.{StandsMeasured, IsOwnImage}
+use Rattle.page_journal.specs.Records.{Intact, records}
 use Rattle.shelf.specs.declared.shelf.Shelf.{Shelf}
 use Rattle.play_steps.specs.declared.stage.Reopen.{Reopen}
 use Rattle.play_steps.specs.declared.stage.Reopen.TheVariants as reopen
@@ -18,11 +20,11 @@ use Rattle.play_desk.specs.Opening.{CountRose, CountStays, Finds, HasCrashed, ca
 use Rattle.play_desk.specs.declared.opening.OpenCause.TheVariants as cause
 
 pub reopened_ok : {D : Type 0} (view : D → View) → AReopenedShelfHasCrashed view → (scripts : List Named) (old : Shelf D Counting)
-    → Stands scripts old.rules.number (view old.journal.disk) (book_in scripts old)
+    → StandsMeasured (rules_of scripts old.rules) scripts old.rules.number (view old.journal.disk) (book_in scripts old)
     → (images : List ℕ → Type 0) → AreAmong images (view old.journal.disk).images → (opened : Result (Shelf D Counting) Reopen)
     → Finds view scripts old.rules.number images opened → IfOk opened (HasCrashed scripts old)
 reopened_ok view law scripts old stands images among (Ok s) found = λ nonce.
-    law scripts old.rules.number (rules_of scripts old.rules) (book_in scripts old) (book_in scripts s) nonce old.journal.disk found.0 refl refl stands
+    law scripts old.rules.number (rules_of scripts old.rules) (book_in scripts old) (book_in scripts s) nonce old.journal.disk found.0 refl stands
     (λ image here. among image (found.1 image here)) found.2
 reopened_ok view law scripts old stands images among (Err why) found = tt
 
@@ -40,8 +42,8 @@ pub undamaged : {D : Type 0} (view : D → View) → ImagesMakeBooks → (script
     → (opened : Result (Shelf D Counting) Reopen) → Finds view scripts number images opened → (place : ℕ) → IsErrOf opened (reopen.Damaged place) → ⊥
 undamaged view law scripts number disk b stands images among (Ok s) found place is = let no : ⊥ = cc in no
 undamaged view law scripts number disk b stands images among (Err (reopen.Damaged at)) found place is =
-    no_damage (book_in_bytes scripts number found.0) at b (if_kept scripts number b)
-    (law scripts number b (if_kept scripts number b) stands.0 found.0 (stands.1 found.0 (among found.0 found.1))) found.2
+    no_damage (book_in_bytes scripts number found.0) at b (if_kept stands.0 b)
+    (law scripts number b (if_kept stands.0 b) stands.1.0 found.0 (stands.1.1 found.0 (among found.0 found.1))) found.2
 undamaged view law scripts number disk b stands images among (Err (reopen.Other at)) found place is = let no : ⊥ = cc in no
 undamaged view law scripts number disk b stands images among (Err reopen.Disk) found place is = let no : ⊥ = cc in no
 undamaged view law scripts number disk b stands images among (Err reopen.Memory) found place is = let no : ⊥ = cc in no
@@ -51,11 +53,16 @@ pub none_other : {D : Type 0} (view : D → View) → ImagesMakeBooks → (scrip
     → (opened : Result (Shelf D Counting) Reopen) → Finds view scripts number images opened → (place : ℕ) → IsErrOf opened (reopen.Other place) → ⊥
 none_other view law scripts number disk b stands images among (Ok s) found place is = let no : ⊥ = cc in no
 none_other view law scripts number disk b stands images among (Err (reopen.Other at)) found place is =
-    no_other (book_in_bytes scripts number found.0) at b (if_kept scripts number b)
-    (law scripts number b (if_kept scripts number b) stands.0 found.0 (stands.1 found.0 (among found.0 found.1))) found.2
+    no_other (book_in_bytes scripts number found.0) at b (if_kept stands.0 b)
+    (law scripts number b (if_kept stands.0 b) stands.1.0 found.0 (stands.1.1 found.0 (among found.0 found.1))) found.2
 none_other view law scripts number disk b stands images among (Err (reopen.Damaged at)) found place is = let no : ⊥ = cc in no
 none_other view law scripts number disk b stands images among (Err reopen.Disk) found place is = let no : ⊥ = cc in no
 none_other view law scripts number disk b stands images among (Err reopen.Memory) found place is = let no : ⊥ = cc in no
+
+-- no bytes are own ones
+pub empty_is_own : (scripts : List Named) (shelf : ℕ) (image : List ℕ) → image ≡ [] → IsOwnImage scripts shelf image
+empty_is_own scripts shelf image none bodies intact =
+    absurd (let no : records [] ≡ Intact bodies = subst (λ (bytes : List ℕ). records bytes ≡ Intact bodies) none intact in let never : ⊥ = cc in never)
 
 -- ---- causes
 

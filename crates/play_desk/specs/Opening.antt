@@ -5,6 +5,7 @@ use Rattle.web_outside.specs.declared.nonces.Counting.{Counting}
 use Rattle.web_disk.specs.View.{View, RackView, AreAmong}
 use Rattle.script_nodes.specs.Setup.{Named}
 use Rattle.script_nodes.specs.declared.setup.Setup.{Setup}
+use Rattle.replay_spec.specs.Book.{Book}
 use Rattle.replay_spec.specs.Rules as runs
 use Rattle.replay_spec.specs.Rules.{empty_book}
 use Rattle.replay_spec.specs.Runs as runs_spec
@@ -12,8 +13,10 @@ use Rattle.replay_spec.specs.Runs.{empty_shelf}
 use Rattle.replay_spec.specs.Step.{lost, kept}
 use Rattle.journal_books.specs.Making.{damaged, other, book_in_bytes}
 use Rattle.journal_books.specs.Standing.{Between, HoldIn, IsOneOf, if_kept}
-use Rattle.shelf.specs.Views.{book_in, rules_of}
+use Rattle.journal_books.specs.Laws.{MeasuresDoubt}
+use Rattle.shelf.specs.Views.{book_in, rules_of, IsOwnShelf}
 use Rattle.shelf.specs.Opening.{IsCrashed}
+use Rattle.shelf.specs.Owning.{OwnRecords, HoldOwn}
 use Rattle.shelf.specs.declared.begin.BeginFault.{BeginFault}
 use Rattle.shelf.specs.declared.begin.BeginFault.TheVariants as begin
 use Rattle.shelf.specs.declared.rules.Rules.{Rules}
@@ -147,6 +150,7 @@ pub record OpensNext {D : Type 0} (view : D → View) (rack_tells tells : Bool) 
   pub served : IsServed view tells scripts shelf
   pub rules : shelf.rules ≡ limits
   pub empty : IsTrue rack_tells → IsTrue tells → OpensEmpty scripts limits (old.holds limits.number) (Ok shelf)
+  pub own : IsTrue rack_tells → IsTrue tells → IsOwnShelf view tells scripts shelf
   pub taken : TakesOne limits.number old new
   pub later : CountStays old.faults 0 new.faults (view shelf.journal.disk).faults
   pub rack_later : old.faults ≤ new.faults
@@ -181,8 +185,14 @@ abbrev pub HoldImages : {D : Type 0} → (D → View) → List (Shelf D Counting
 HoldImages {D = D} view shelves holds =
     (k : ℕ) (s : Shelf D Counting) → slice_get shelves k ≡ Some s → AreAmong (holds s.rules.number) (view s.journal.disk).images
 
--- the disks that are given back stand for the books of a desk, each with what is in doubt or without it
+-- What the disk of this shelf may hold has own records, and makes the book, with what is in doubt or without it, whose record is as
+-- long as the rules measure it.
+pub record HoldsTheBook (rules : runs.Rules) (scripts : List Named) (shelf : ℕ) (holds : List ℕ → Type 0) (b : Book) : Type 0 where
+  pub own : (o : OwnRecords scripts shelf) × ((image : List ℕ) → holds image → HoldOwn o image)
+  pub stands : (n : ℕ) × ((k : Between scripts shelf b (if_kept n b)) × (HoldIn k holds × MeasuresDoubt rules n b))
+
+-- the disks that are given back stand for the books of a desk
 abbrev pub HoldTheBooks : (desk : Desk) → (holds : ℕ → List ℕ → Type 0) → Type 0
 HoldTheBooks d holds =
     (k : ℕ) (s : runs_spec.Shelf) → slice_get d.shelves k ≡ Some s
-    → (b : Between d.scripts s.book.shelf s.book (if_kept d.scripts s.book.shelf s.book)) × HoldIn b (holds s.book.shelf)
+    → HoldsTheBook s.rules d.scripts s.book.shelf (holds s.book.shelf) s.book

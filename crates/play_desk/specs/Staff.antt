@@ -15,11 +15,12 @@ use Rattle.replay_spec.specs.Admission.{admit, refusal_of}
 use Rattle.replay_spec.specs.Invariant.{IsOrderly}
 use Rattle.replay_spec.specs.Laws.{Leads}
 use Rattle.replay_spec.specs.Runs as runs
-use Rattle.instance_book.specs.Fits.{FitsAs}
+use Rattle.instance_book.specs.Fits.{FitsAs, IsRunnable}
+use Rattle.instance_book.specs.Prepares.{HasItsScript}
 use Rattle.instance_book.specs.Views.{ticket_of}
 use Rattle.instance_book.specs.declared.ticket.Ticket.{Ticket}
 use Rattle.shelf.specs.Ranges.{AreInRange}
-use Rattle.shelf.specs.Views.{book_in, shelf_of, IsInOrder}
+use Rattle.shelf.specs.Views.{book_in, shelf_of, IsInOrder, IsOwnShelf}
 use Rattle.shelf.specs.declared.shelf.Shelf.{Shelf}
 use Rattle.script_value.specs.declared.outcome.Reply.{Reply}
 use Rattle.play_steps.specs.Rules.{Takes, Publishes, Sweeps}
@@ -42,10 +43,15 @@ desk_with scripts shelves tickets = record {
 abbrev pub desk_of : {D : Type 0} → Setup → Staff D → Desk
 desk_of setup s = desk_with (scripts_of setup) s.shelves.items s.tickets
 
--- the number is out; and the ticket is for the visit that its target was admitted as when it was taken, on the book that the
--- shelf had then, which had the same setup
-pub record IsOpen (b : Book) (t : Ticket) : Type 0 where
+-- what a publish asks of the ticket: its number is out, and it can be run
+pub record IsUnspent (scripts : List Named) (b : Book) (t : Ticket) : Type 0 where
   pub out : Contains b.out t.number
+  pub runs : IsRunnable scripts t
+  pub script : HasItsScript scripts t (target_of t.target)
+
+-- the ticket is for the visit that its target was admitted as when it was taken, on the book that the shelf had then, which had the
+-- same setup
+pub record IsOpen (b : Book) (t : Ticket) : Type 0 where
   pub then : Book
   pub orderly : IsOrderly then
   pub leads : Leads then b
@@ -68,11 +74,17 @@ abbrev pub KeepsOthers : (count place : ℕ) → (old new : List (Option Ticket)
 KeepsOthers count place old new =
     (w : ℕ) (t : Ticket) → slice_get new w ≡ Some (Some t) → (slice_get old w ≡ Some (Some t)) × (place_of count w t ≢ place)
 
--- on the shelf at a place the ticket is open
-pub record IsOpenAt {D : Type 0} (scripts : List Named) (shelves : List (Shelf D Counting)) (place : ℕ) (t : Ticket) : Type 0 where
+-- this holds of the ticket on the book of the shelf at a place
+pub record HoldsAt {D : Type 0} (Q : Book → Ticket → Type 0) (scripts : List Named) (shelves : List (Shelf D Counting)) (place : ℕ)
+    (t : Ticket) : Type 0 where
   pub shelf : Shelf D Counting
   pub there : slice_get shelves place ≡ Some shelf
-  pub is_open : IsOpen (book_in scripts shelf) t
+  pub held : Q (book_in scripts shelf) t
+
+-- and of each ticket that a worker holds, on its shelf
+abbrev pub OfEachTicket : {D : Type 0} → (Book → Ticket → Type 0) → List Named → List (Shelf D Counting) → List (Option Ticket) → Type 0
+OfEachTicket Q scripts shelves tickets =
+    (w : ℕ) (t : Ticket) → slice_get tickets w ≡ Some (Some t) → HoldsAt Q scripts shelves (place_of (length shelves) w t) t
 
 -- the numbers of shelves, and how often their disks have failed in all
 abbrev pub numbers_in : {D : Type 0} → List (Shelf D Counting) → List ℕ
@@ -86,7 +98,7 @@ abbrev pub HaveOwnNumbers : {D : Type 0} → List (Shelf D Counting) → Type 0
 HaveOwnNumbers shelves =
     (j k n : ℕ) → slice_get (numbers_in shelves) j ≡ Some n → slice_get (numbers_in shelves) k ≡ Some n → j ≡ k
 
--- Each shelf is served, under a number of its own. What workers hold are tickets that are open on their shelves, on each of
+-- Each shelf is served, under a number of its own. What workers hold are tickets that their shelves can publish, on each of
 -- different numbers.
 pub record AreFit {D : Type 0} (view : D → View) (tells : Bool) (scripts : List Named) (shelves : List (Shelf D Counting))
     (tickets : List (Option Ticket)) : Type 0 where
@@ -94,13 +106,26 @@ pub record AreFit {D : Type 0} (view : D → View) (tells : Bool) (scripts : Lis
   pub numbers : HaveOwnNumbers shelves
   pub few : length shelves ≤ most_shelves
   pub count : length tickets ≡ 16
-  pub are_open : (w : ℕ) (t : Ticket) → slice_get tickets w ≡ Some (Some t)
-      → IsOpenAt scripts shelves (place_of (length shelves) w t) t
+  pub unspent : OfEachTicket (IsUnspent scripts) scripts shelves tickets
   pub apart : (v w : ℕ) (t u : Ticket) → slice_get tickets v ≡ Some (Some t) → slice_get tickets w ≡ Some (Some u)
       → place_of (length shelves) v t ≡ place_of (length shelves) w u → t.number ≡ u.number → v ≡ w
 
 abbrev pub IsFit : {D : Type 0} → (D → View) → Bool → List Named → Staff D → Type 0
 IsFit view tells scripts s = AreFit view tells scripts s.shelves.items s.tickets
+
+-- Each shelf is this program's own, and what workers hold are tickets that are open on their shelves. So it is of shelves that were
+-- opened on empty disks, which tell their bytes, whatever happens then.
+pub record AreOwn {D : Type 0} (view : D → View) (tells : Bool) (scripts : List Named) (shelves : List (Shelf D Counting))
+    (tickets : List (Option Ticket)) : Type 0 where
+  pub own : (k : ℕ) (x : Shelf D Counting) → slice_get shelves k ≡ Some x → IsOwnShelf view tells scripts x
+  pub are_open : OfEachTicket IsOpen scripts shelves tickets
+
+abbrev pub IsOwn : {D : Type 0} → (D → View) → Bool → List Named → Staff D → Type 0
+IsOwn view tells scripts s = AreOwn view tells scripts s.shelves.items s.tickets
+
+-- what was own goes on to be
+abbrev pub KeepsOwn : {D : Type 0} → (D → View) → Bool → Setup → (old new : Staff D) → Type 0
+KeepsOwn view tells setup old new = IsOwn view tells (scripts_of setup) old → IsOwn view tells (scripts_of setup) new
 
 -- how often a rack and disks that are out of it have failed, up to the type's end
 abbrev pub total : (rack disks : ℕ) → ℕ
@@ -125,10 +150,11 @@ abbrev pub TakesTicket : {D : Type 0} → (D → View) → Setup → (old : Staf
 TakesTicket view setup old worker target result new =
     Takes desk_rules (RisesBy view old new) (desk_of setup old) worker target result (desk_of setup new)
 
--- a publish of what a worker holds, and a sweep of a shelf
-abbrev pub PublishesTicket : {D : Type 0} → (D → View) → Setup → (old : Staff D) → (worker : ℕ) → Reply → (new : Staff D) → Type 0
-PublishesTicket view setup old worker reply new =
-    Publishes desk_rules (RisesBy view old new) (desk_of setup old) worker reply (desk_of setup new)
+-- so is a publish of what a worker holds, of own shelves; and a sweep of a shelf
+abbrev pub PublishesTicket : {D : Type 0} → (D → View) → Bool → Setup → (old : Staff D) → (worker : ℕ) → Reply → (new : Staff D) → Type 0
+PublishesTicket view tells setup old worker reply new =
+    IsOwn view tells (scripts_of setup) old
+    → Publishes desk_rules (RisesBy view old new) (desk_of setup old) worker reply (desk_of setup new)
 
 abbrev pub SweepsShelf : {D : Type 0} → (D → View) → Setup → (old : Staff D) → (shelf tick : ℕ) → Result ℕ Reply → (new : Staff D) → Type 0
 SweepsShelf view setup old shelf tick result new =

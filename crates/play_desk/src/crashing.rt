@@ -2,7 +2,7 @@ ghost use Rattle.std.specs.Prelude.{◌≡◌, ◌≤◌, ◌<◌, ℕ, IsTrue, 
 ghost use Rattle.web_outside.specs.Causes.{Rose};
 ghost use Rattle.script_nodes.specs.Views.{scripts_of};
 ghost use Rattle.play_desk.specs.Opening.{CrashesShelf};
-ghost use Rattle.play_desk.specs.Staff.{IsFit, IsHome, faults_in, total};
+ghost use Rattle.play_desk.specs.Staff.{IsFit, IsHome, IsOwn, KeepsOwn, faults_in, total};
 
 use crate::opening::{put_back, reopened};
 use crate::staff::{Staff, lose_tickets, no_tickets};
@@ -26,9 +26,12 @@ pub fn crash<D: Disk, R: Rack<D>>(
     requires fit { IsFit D.view D.tells (scripts_of setup.now) staff.old }
     requires home { IsHome staff.old.shelves.items (R.view rack.old).out }
     ensures step { IsTrue R.tells → IsTrue D.tells →
+        IsOwn D.view D.tells (scripts_of setup.now) staff.old →
         IfOk result (λ live. CrashesShelf setup.now staff.old place live staff.new) }
     ensures count { OnOk result (length staff.new.shelves.items ≡ length staff.old.shelves.items) }
     ensures fit { IsFit D.view D.tells (scripts_of setup.now) staff.new }
+    ensures own { IsTrue R.tells → IsTrue D.tells →
+        KeepsOwn D.view D.tells setup.now staff.old staff.new }
     ensures home { IsHome staff.new.shelves.items (R.view rack.new).out }
     ensures damaged { IsTrue R.tells → IsTrue D.tells → (at : ℕ) → IsErrOf result (Reopen.Damaged at) → ⊥ }
     ensures other { IsTrue R.tells → IsTrue D.tells → (at : ℕ) → IsErrOf result (Reopen.Other at) → ⊥ }

@@ -22,7 +22,7 @@ pub struct Desk<'s, D: Disk, R> {
 impl<'s, D: Disk, R: Rack<D>> Stage for Desk<'s, D, R> {
     ghost use Rattle.script_nodes.specs.Views.{scripts_of};
     ghost use Rattle.play_desk.specs.Desk.{desk_rules};
-    ghost use Rattle.play_desk.specs.Staff.{IsFit, IsHome, desk_of, faults_in, total};
+    ghost use Rattle.play_desk.specs.Staff.{IsFit, IsHome, IsOwn, desk_of, faults_in, total};
 
     type Devices = R;
 
@@ -33,6 +33,8 @@ impl<'s, D: Disk, R: Rack<D>> Stage for Desk<'s, D, R> {
     ghost state = { λ d. desk_of d.setup.now d.staff };
 
     ghost sound = { λ d. IsFit D.view D.tells (scripts_of d.setup.now) d.staff };
+
+    ghost own = { λ d. IsOwn D.view D.tells (scripts_of d.setup.now) d.staff };
 
     ghost at_home = { λ d rack. IsHome d.staff.shelves.items (R.view rack).out };
 

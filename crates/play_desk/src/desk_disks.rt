@@ -4,7 +4,7 @@ ghost use Rattle.script_nodes.specs.Views.{scripts_of};
 ghost use Rattle.journal_records.specs.Records.{IsInGrammar, begin_of};
 ghost use Rattle.shelf.specs.Ranges.{AreInRange};
 ghost use Rattle.play_desk.specs.Desk.{first_desk};
-ghost use Rattle.play_desk.specs.Staff.{HaveOwnNumbers, IsFit, IsHome, desk_of, faults_in, total};
+ghost use Rattle.play_desk.specs.Staff.{HaveOwnNumbers, IsFit, IsHome, IsOwn, desk_of, faults_in, total};
 ghost use Rattle.play_desk.specs.Opening.{AreHome, CountStays, GivesOne, HoldImages, HoldTheBooks, IsClosedBy, IsRefusedBy, OpensNext, numbered, rules_at};
 
 use crate::desk::Desk;
@@ -103,6 +103,8 @@ pub fn open_desk<'s, D: Disk, R: Rack<D>>(
     ensures empty { IsTrue R.tells → IsTrue D.tells →
         IfOk result (λ d. (k : ℕ) → k < rules.shelves → (R.view rack.old).holds k []) }
     ensures sound { IfOk result (λ d. IsFit D.view D.tells (scripts_of d.setup.now) d.staff) }
+    ensures own { IsTrue R.tells → IsTrue D.tells →
+        IfOk result (λ d. IsOwn D.view D.tells (scripts_of d.setup.now) d.staff) }
     ensures home { IfOk result (λ d. IsHome d.staff.shelves.items (R.view rack.new).out) }
     ensures closed { IsTrue R.tells → IsTrue D.tells →
         IfErr result (λ e. IsClosedBy (R.view rack.old).holds rules.shelves e.shelf e.why) }
@@ -143,6 +145,7 @@ impl<'s, D: Disk, R: Rack<D>> Desk<'s, D, R> {
         requires home { IsHome self.staff.shelves.items (R.view rack.old).out }
         ensures home { AreHome (R.view rack.new).out }
         ensures books { IsTrue R.tells → IsTrue D.tells →
+            IsOwn D.view D.tells (scripts_of self.entry.setup.now) self.entry.staff →
             HoldTheBooks (desk_of self.entry.setup.now self.entry.staff) (R.view rack.new).holds }
         ensures later { total (R.view rack.old).faults (faults_in D.view self.entry.staff.shelves.items)
             ≤ (R.view rack.new).faults }

@@ -6,6 +6,8 @@ ghost use Rattle.shelf.specs.Ranges.{AreInRange};
 ghost use Rattle.web_outside.specs.Causes.{Rose};
 ghost use Rattle.play_desk.specs.Opening.{BeginsEmpty, CountRose, CountStays, Finds, GivesOne, HasCrashed, IsOutside, OpensEmpty, OpensOne, TakesEmpty, TakesOrLeaves, cause_of, disk_faults, faults_left, reopen_of};
 ghost use Rattle.play_desk.specs.Staff.{IsServed};
+ghost use Rattle.shelf.specs.Owning.{IsOwnImage};
+ghost use Rattle.shelf.specs.Views.{IsOwnShelf};
 
 use journal_books::images_make_books;
 use play_steps::Reopen;
@@ -104,6 +106,9 @@ fn begun<D: Disk, R: Rack<D>>(
         Finds D.view (scripts_of setup.now) rules.number (D.view disk).images result }
     ensures empty { IsTrue D.tells → (D.view disk).seen ≡ [] →
         BeginsEmpty (scripts_of setup.now) rules result }
+    ensures own { IsTrue D.tells →
+        IsOwnImage (scripts_of setup.now) rules.number (D.view disk).seen →
+        IfOk result (IsOwnShelf D.view D.tells (scripts_of setup.now)) }
     ensures kept { OnOk result (rack.new ≡ rack.old) }
     ensures given { OnErr result (GivesOne rules.number (R.view rack.old) (R.view rack.new)) }
     ensures disk { IsErrOf result Reopen.Disk →
@@ -151,7 +156,12 @@ pub fn reopened<D: Disk, R: Rack<D>>(
     ensures served { IfOk result (IsServed D.view D.tells (scripts_of setup.now)) }
     ensures rules { IfOk result (λ s. s.rules ≡ shelf.rules) }
     ensures nonces { IfOk result (λ s. s.nonces ≡ shelf.nonces) }
-    ensures crashed { IsTrue R.tells → IsTrue D.tells → IfOk result (HasCrashed (scripts_of setup.now) shelf) }
+    ensures crashed { IsTrue R.tells → IsTrue D.tells →
+        IsOwnShelf D.view D.tells (scripts_of setup.now) shelf →
+        IfOk result (HasCrashed (scripts_of setup.now) shelf) }
+    ensures own { IsTrue R.tells → IsTrue D.tells →
+        IsOwnShelf D.view D.tells (scripts_of setup.now) shelf →
+        IfOk result (IsOwnShelf D.view D.tells (scripts_of setup.now)) }
     ensures damaged { IsTrue R.tells → IsTrue D.tells → (place : ℕ) → IsErrOf result (Reopen.Damaged place) → ⊥ }
     ensures other { IsTrue R.tells → IsTrue D.tells → (place : ℕ) → IsErrOf result (Reopen.Other place) → ⊥ }
     ensures rack { OpensOne shelf.rules.number result (R.view rack.old) (R.view rack.new) }
@@ -216,6 +226,8 @@ pub fn opened<D: Disk, R: Rack<D>>(
     ensures rules { IfOk result (λ s. s.rules ≡ rules) }
     ensures empty { IsTrue R.tells → IsTrue D.tells →
         OpensEmpty (scripts_of setup.now) rules ((R.view rack.old).holds rules.number) result }
+    ensures own { IsTrue R.tells → IsTrue D.tells →
+        IfOk result (IsOwnShelf D.view D.tells (scripts_of setup.now)) }
     ensures rack { OpensOne rules.number result (R.view rack.old) (R.view rack.new) }
     ensures disk { IsErrOf result OpenCause.Disk → Rose (R.view rack.old).faults (R.view rack.new).faults }
     ensures later { CountStays (R.view rack.old).faults 0 (R.view rack.new).faults (faults_left D.view result) }

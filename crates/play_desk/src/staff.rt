@@ -2,14 +2,14 @@ ghost use Rattle.std.specs.Prelude.{◌≡◌, ◌≢◌, ◌<◌, ◌^◌, true
 ghost use Rattle.script_nodes.specs.Views.{scripts_of};
 ghost use Rattle.page_names.specs.Names.{destination_of};
 ghost use Rattle.page_names.specs.Views.{target_of};
-ghost use Rattle.instance_book.specs.Fits.{IsForSome};
+ghost use Rattle.instance_book.specs.Fits.{IsRunnable};
 ghost use Rattle.instance_book.specs.Views.{ticket_of};
 ghost use Rattle.play_desk.specs.Staff.{KeepsOthers};
 ghost use Rattle.shelf.specs.Views.{IsRunIfAny};
 ghost use Rattle.play_desk.specs.Desk as spec;
 ghost use Rattle.play_desk.specs.Desk.{without_shelf};
 ghost use Rattle.play_desk.specs.Target.{shelf_for};
-ghost use Rattle.play_desk.specs.Staff.{IsFit, PublishesTicket, StaysThere, SweepsShelf, TakesTicket, desk_of, place_of};
+ghost use Rattle.play_desk.specs.Staff.{IsFit, KeepsOwn, PublishesTicket, StaysThere, SweepsShelf, TakesTicket, desk_of, place_of};
 
 use crate::answer::answer_to;
 use http_forms::path_and_query;
@@ -45,7 +45,7 @@ pub fn shelf_for(count: usize, worker: u32, target: &Target) -> usize
 
 /// The segment that a ticket is for, over the ticket's own cells; none where its run finds no memory.
 pub fn segment_of(alloc: Global, setup: &Setup, ticket: &Ticket, fuel: u64) -> Option<Segment>
-    requires fits { IsForSome (scripts_of setup.now) ticket.now }
+    requires fits { IsRunnable (scripts_of setup.now) ticket.now }
     requires fuel { fuel < 2 ^ 63 }
     ensures { IsRunIfAny (scripts_of setup.now) fuel ticket.now result }
 {
@@ -121,6 +121,7 @@ pub fn take<D: Disk>(
     ensures step { TakesTicket D.view setup.now staff.old worker target.now result staff.new }
     ensures held { IfOk result (λ _. is_some (spec.ticket_of (desk_of setup.now staff.new) worker) ≡ true) }
     ensures fit { IsFit D.view D.tells (scripts_of setup.now) staff.new }
+    ensures own { KeepsOwn D.view D.tells setup.now staff.old staff.new }
     ensures there { StaysThere D.view staff.old staff.new }
 {
     refused_is_unchanged();
@@ -150,12 +151,13 @@ pub fn take<D: Disk>(
     }
 }
 
-/// Runs the visit that the worker's ticket is for, and spends the ticket.
+/// Runs the visit that the worker's ticket is for, and spends the ticket. What it comes to is said of own shelves.
 pub fn publish<D: Disk>(alloc: Global, setup: &Setup, staff: &mut Staff<D>, worker: u32) -> Reply
     requires worker { worker < 16 }
     requires fit { IsFit D.view D.tells (scripts_of setup.now) staff.old }
-    ensures step { PublishesTicket D.view setup.now staff.old worker result staff.new }
+    ensures step { PublishesTicket D.view D.tells setup.now staff.old worker result staff.new }
     ensures fit { IsFit D.view D.tells (scripts_of setup.now) staff.new }
+    ensures own { KeepsOwn D.view D.tells setup.now staff.old staff.new }
     ensures there { StaysThere D.view staff.old staff.new }
 {
     // What holds of a ticket at its take holds until it is published.
@@ -182,6 +184,7 @@ pub fn sweep<D: Disk>(
     requires fit { IsFit D.view D.tells (scripts_of setup.now) staff.old }
     ensures step { SweepsShelf D.view setup.now staff.old place tick result staff.new }
     ensures fit { IsFit D.view D.tells (scripts_of setup.now) staff.new }
+    ensures own { KeepsOwn D.view D.tells setup.now staff.old staff.new }
     ensures there { StaysThere D.view staff.old staff.new }
 {
     let _ = setup;

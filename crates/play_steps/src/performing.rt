@@ -77,10 +77,11 @@ fn and_report(
 fn sweep_all<T: Stage>(alloc: Global, stage: &mut T, time: u64) -> Result<Vec<Report>, AllocError>
     requires sound { T.sound stage.old }
     requires time { time < 2 ^ 62 }
-    ensures swept { (devices : T.Devices) → SweepsAll T.rules (tick time) result
+    ensures swept { T.own stage.old → (devices : T.Devices) → SweepsAll T.rules (tick time) result
         (spot T.rules (T.state stage.old) (T.faults stage.old devices))
         (spot T.rules (T.state stage.new) (T.faults stage.new devices)) }
     ensures sound { T.sound stage.new }
+    ensures own { T.own stage.old → T.own stage.new }
     ensures home { StaysHome (T.at_home stage.old) (T.at_home stage.new) }
     ensures later { StaysUp (T.faults stage.old) (T.faults stage.new) }
     ensures shelves { KeepsShelves T.rules (T.state stage.old) (T.state stage.new) }
@@ -118,12 +119,13 @@ pub fn perform<T: Stage>(
     requires range { IsWithin (meaning step.now) }
     requires fitting { fits T.rules (meaning step.now) (T.state stage.old) ≡ true }
     requires home { T.at_home stage.old devices.old }
-    ensures came { is_told T.tells (Some (meaning step.now) ∷ []) ≡ true →
+    ensures came { is_told T.tells (Some (meaning step.now) ∷ []) ≡ true → T.own stage.old →
         Performs T.rules (meaning step.now) result
         (spot T.rules (T.state stage.old) (T.faults stage.old devices.old))
         (spot T.rules (T.state stage.new) (T.faults stage.new devices.new)) }
     ensures shelves { OnOk result (KeepsShelves T.rules (T.state stage.old) (T.state stage.new)) }
     ensures sound { T.sound stage.new }
+    ensures own { is_told T.tells (Some (meaning step.now) ∷ []) ≡ true → T.own stage.old → T.own stage.new }
     ensures home { T.at_home stage.new devices.new }
     ensures later { T.faults stage.old devices.old ≤ T.faults stage.new devices.new }
     ensures disk { (shelf : ℕ) → IsErrOf result (Halt.Reopen shelf Reopen.Disk) →

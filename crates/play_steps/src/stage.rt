@@ -34,6 +34,9 @@ pub trait Stage {
     /// What holds of it between its calls.
     ghost sound: { Self → Type 0 };
 
+    /// That all it holds was left by events of its own: of what others left, it is not said what its events do.
+    ghost own: { Self → Type 0 };
+
     /// What it and its devices owe each other.
     ghost at_home: { Self → Self.Devices → Type 0 };
 
@@ -56,11 +59,12 @@ pub trait Stage {
         requires sound { sound self.old }
         requires worker { worker < 16 }
         requires free { rules.holds (state self.old) worker ≡ false }
-        ensures step { Takes rules (RoseOver (faults self.old) (faults self.new))
+        ensures step { own self.old → Takes rules (RoseOver (faults self.old) (faults self.new))
             (state self.old) worker target.now result (state self.new) }
         ensures held { IfOk result (λ _. rules.holds (state self.new) worker ≡ true) }
         ensures shelves { rules.shelves (state self.new) ≡ rules.shelves (state self.old) }
         ensures sound { sound self.new }
+        ensures own { own self.old → own self.new }
         ensures home { StaysHome (at_home self.old) (at_home self.new) }
         ensures later { StaysUp (faults self.old) (faults self.new) };
 
@@ -69,10 +73,11 @@ pub trait Stage {
         requires sound { sound self.old }
         requires worker { worker < 16 }
         requires held { rules.holds (state self.old) worker ≡ true }
-        ensures step { Publishes rules (RoseOver (faults self.old) (faults self.new))
+        ensures step { own self.old → Publishes rules (RoseOver (faults self.old) (faults self.new))
             (state self.old) worker result (state self.new) }
         ensures shelves { rules.shelves (state self.new) ≡ rules.shelves (state self.old) }
         ensures sound { sound self.new }
+        ensures own { own self.old → own self.new }
         ensures home { StaysHome (at_home self.old) (at_home self.new) }
         ensures later { StaysUp (faults self.old) (faults self.new) };
 
@@ -82,10 +87,11 @@ pub trait Stage {
         requires sound { sound self.old }
         requires shelf { shelf < rules.shelves (state self.old) }
         requires tick { tick < 2 ^ 62 }
-        ensures step { Sweeps rules (RoseOver (faults self.old) (faults self.new))
+        ensures step { own self.old → Sweeps rules (RoseOver (faults self.old) (faults self.new))
             (state self.old) shelf tick result (state self.new) }
         ensures shelves { rules.shelves (state self.new) ≡ rules.shelves (state self.old) }
         ensures sound { sound self.new }
+        ensures own { own self.old → own self.new }
         ensures home { StaysHome (at_home self.old) (at_home self.new) }
         ensures later { StaysUp (faults self.old) (faults self.new) };
 
@@ -96,11 +102,12 @@ pub trait Stage {
         requires sound { sound self.old }
         requires shelf { shelf < rules.shelves (state self.old) }
         requires home { at_home self.old devices.old }
-        ensures step { IsTrue tells → IfOk result (λ live. Crashes rules
+        ensures step { IsTrue tells → own self.old → IfOk result (λ live. Crashes rules
             (Rose (faults self.old devices.old) (faults self.new devices.new))
             (state self.old) shelf live (state self.new)) }
         ensures shelves { OnOk result (rules.shelves (state self.new) ≡ rules.shelves (state self.old)) }
         ensures sound { sound self.new }
+        ensures own { IsTrue tells → own self.old → own self.new }
         ensures home { at_home self.new devices.new }
         ensures later { faults self.old devices.old ≤ faults self.new devices.new }
         ensures disk { IsErrOf result Reopen.Disk →

@@ -1,7 +1,7 @@
 -- What a run of steps on a desk leaves, by what its opening, its steps and its closing tell.
 use Rattle.std.proofs.Common.{◌≡◌, ◌<◌, ◌⊎◌, ◌∙◌, inl, inr, ℕ, List, [], length, Option, Some, ap, subst}
 use Rattle.command_words.specs.declared.Options.{Options}
-use Rattle.journal_records.specs.Records.{journal_rules}
+use Rattle.journal_books.specs.Lengths.{journal_rules}
 use Rattle.script_nodes.specs.Setup.{Named}
 use Rattle.shelf.specs.declared.rules.Rules.{Rules}
 use Rattle.play_steps.specs.Step.{Step}

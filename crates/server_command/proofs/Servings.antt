@@ -36,17 +36,17 @@ use Rattle.server_command.proofs.Shelves.{opened_fits, stands_from}
 -- the shelves were opened on what their disks held
 opens_of : {D P L N : Type 0} (o : Outside D P L N) (s : Service) (scripts : List Named) (sources : List N) (middle : RackView) (openings : List (Opening D N))
     → length sources ≡ s.options.shelves
-    → (p : OpensOn (IsTrue o.rack.tells) o.views.nonce (λ k. rules_for s.options k scripts) scripts sources o.rack.before middle openings)
+    → (p : OpensOn o.views.disk o.views.told (IsTrue o.rack.tells) o.views.nonce (λ k. rules_for s.options k scripts) scripts sources o.rack.before middle openings)
     → Opens o.rack s scripts p.images
 opens_of o s scripts sources middle openings count p = λ t. (
   record { held = p.taken.held t; all = λ none. p.taken.many ∙ count },
-  opened_fits (IsTrue o.rack.tells) o.views.nonce (λ k. rules_for s.options k scripts) scripts 0 p.images sources openings p.opened t,
+  opened_fits o.views.disk o.views.told (IsTrue o.rack.tells) o.views.nonce (λ k. rules_for s.options k scripts) scripts 0 p.images sources openings p.opened t,
 )
 
 -- links were served, or not
 pub serves_of : {D P L N : Type 0} (o : Outside D P L N) (s : Service) (scripts : List Named) (sources : List N) (middle : RackView) (openings : List (Opening D N))
     (disks : List D) (result : Result Tally ServingFault) → length sources ≡ s.options.shelves → IfSome (o.seeds.gives s.options.shelves) (λ given. given ≡ sources)
-    → (p : OpensOn (IsTrue o.rack.tells) o.views.nonce (λ k. rules_for s.options k scripts) scripts sources o.rack.before middle openings)
+    → (p : OpensOn o.views.disk o.views.told (IsTrue o.rack.tells) o.views.nonce (λ k. rules_for s.options k scripts) scripts sources o.rack.before middle openings)
     → (IsTrue o.rack.tells → IsTrue o.views.told)
     → (IsTrue o.rack.tells → (k : ℕ) (d : D) → slice_get disks k ≡ Some d → AreAmong (o.rack.after.holds k) (o.views.disk d).images)
     → ComesTo o.views openings o.before o.after o.past (watch_of s) disks result → ServesBy (serves_over o) s scripts p.images (told_as result)

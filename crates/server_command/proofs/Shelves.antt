@@ -15,7 +15,9 @@ use Rattle.lock_row.proofs.Places.{get_there}
 use Rattle.shelf.specs.declared.begin.BeginFault.{BeginFault}
 use Rattle.shelf.specs.declared.begin.BeginFault.TheVariants as fault
 use Rattle.shelf.specs.Opening.{IsFaultOf, MakesBook}
-use Rattle.shelf.specs.Views.{book_in, rules_of}
+use Rattle.shelf.specs.Owning.{StandsOwn}
+use Rattle.shelf.specs.Views.{book_in, rules_of, IsOwnShelf}
+use Rattle.play_desk.proofs.Closing.{holds_book}
 use Rattle.shelf.specs.declared.rules.Rules.{Rules}
 use Rattle.site.specs.declared.entry.KeptEntry.{KeptEntry}
 use Rattle.site.specs.declared.opening.Opening.{Opening}
@@ -24,12 +26,12 @@ use Rattle.site.specs.Beginnings.{IsBegunAt, IsNotBegun}
 use Rattle.site.specs.Beginnings as site
 use Rattle.site.specs.Entries.{entries_of}
 use Rattle.site.specs.Openings.{book_then}
-use Rattle.site_serving.specs.Serving.{AreEnded, openings_of}
+use Rattle.site_serving.specs.Serving.{AreEnded, IsEnded, openings_of}
 use Rattle.command_words.specs.declared.Options.{Options}
 use Rattle.server_command.specs.Opening.{AreAsked, IsRefused, seen_on, unopened_by}
 use Rattle.server_command.specs.Output.{rules_for}
-use Rattle.server_command.specs.Racks.{StandsAt, Unfit, found_unfit, first_unfit, unfit_left, unfit_making, damaged, other}
-use Rattle.server_command.specs.Serving.{AllStand, AreOpened, IsOpened}
+use Rattle.server_command.specs.Racks.{Unfit, found_unfit, first_unfit, unfit_left, unfit_making, damaged, other}
+use Rattle.server_command.specs.Serving.{AreOpened, IsOpened, StandsBehind}
 use Rattle.server_command.proofs.Racks.{made_fits}
 
 same_some : {A : Type 0} (x y : A) → Some x ≡ Some y → x ≡ y
@@ -43,7 +45,7 @@ asked_rules o r k scripts a = λ at. record (rules_for o k scripts) { fuel = a.f
 
 module _ {D N : Type 0} (view : D → View) (tells : Bool) (told : Type 0) (nonce : N → ℕ → ℕ) (o : Options) (setup : Setup) (rules : Rules) where
   opened_one : (k : ℕ) (d : D) (n : N) (h : Home (Opening D N)) → (told → IsTrue tells) → AreAsked o rules → (b : IsBegunAt view tells setup rules k d n h)
-      → IsOpened told nonce (rules_for o k (scripts_of setup)) (scripts_of setup) k (view d).seen n b.opening
+      → IsOpened view tells told nonce (rules_for o k (scripts_of setup)) (scripts_of setup) k (view d).seen n b.opening
   opened_one k d n h knows asked b = record {
     setup = ap scripts_of b.setup_is;
     limits = ap (rules_of (scripts_of setup)) b.shelf.rules_are ∙ asked_rules o rules k (scripts_of setup) asked;
@@ -51,6 +53,8 @@ module _ {D N : Type 0} (view : D → View) (tells : Bool) (told : Type 0) (nonc
     book = λ t. b.shelf.book (knows t);
     opened = b.shelf.opened;
     stream = λ j. ap (λ (x : N). nonce x j) b.shelf.nonces_are ∙ ap (nonce n) (let same : j ≡ 0 + j = omega arith in same);
+    own = λ t image.
+        subst (λ (z : Setup). IsOwnShelf view tells (scripts_of z) b.opening.shelf.value) (sym b.setup_is) (b.shelf.own (knows t) image);
   }
 
   -- the shelves of a site that was begun, from this number on
@@ -58,7 +62,7 @@ module _ {D N : Type 0} (view : D → View) (tells : Bool) (told : Type 0) (nonc
       → (told → IsTrue tells) → AreAsked o rules
       → ((i j : ℕ) (d : D) (n : N) (h : Home (Opening D N)) → j ≡ k + i → slice_get disks i ≡ Some d → slice_get nonces i ≡ Some n → slice_get homes i ≡ Some h
       → IsBegunAt view tells setup rules j d n h)
-      → AreOpened told nonce (λ j. rules_for o j (scripts_of setup)) (scripts_of setup) k (seen_on view disks) nonces (openings_of homes)
+      → AreOpened view tells told nonce (λ j. rules_for o j (scripts_of setup)) (scripts_of setup) k (seen_on view disks) nonces (openings_of homes)
   opened_from k [] [] [] ns hs knows asked each = tt
   opened_from k [] (n ∷ nonces) homes ns hs knows asked each = absurd (omega (arith, ns))
   opened_from k [] [] (h ∷ homes) ns hs knows asked each = absurd (omega (arith, hs))
@@ -68,17 +72,17 @@ module _ {D N : Type 0} (view : D → View) (tells : Bool) (told : Type 0) (nonc
       let b = each 0 k d n h (omega arith) refl refl refl in
       let rest = opened_from (k + 1) disks nonces homes (omega (arith, ns)) (omega (arith, hs)) knows asked
       (λ i j x y z is a b c. each (suc i) j x y z (omega (arith, is)) a b c) in
-      subst (λ os. AreOpened told nonce (λ j. rules_for o j (scripts_of setup)) (scripts_of setup) k (seen_on view (d ∷ disks)) (n ∷ nonces) (os ++ openings_of homes))
+      subst (λ os. AreOpened view tells told nonce (λ j. rules_for o j (scripts_of setup)) (scripts_of setup) k (seen_on view (d ∷ disks)) (n ∷ nonces) (os ++ openings_of homes))
       (sym b.opening_is) (opened_one k d n h knows asked b, rest)
 
 -- each disk of a shelf that was opened is fit
-pub opened_fits : {D N : Type 0} (told : Type 0) (nonce : N → ℕ → ℕ) (rules : ℕ → spec.Rules) (scripts : List Named) (k : ℕ) (images : List (List ℕ)) (sources : List N)
-    (openings : List (Opening D N)) → AreOpened told nonce rules scripts k images sources openings → told → first_unfit (unfit_left scripts) k images ≡ None
-opened_fits told nonce rules scripts k [] sources openings opened t = refl
-opened_fits told nonce rules scripts k (i ∷ images) (z ∷ sources) (x ∷ openings) opened t =
-    rw (made_fits scripts k _ (book_in scripts x.shelf.value) (opened.0.book t)) (opened_fits told nonce rules scripts (k + 1) images sources openings opened.1 t)
-opened_fits told nonce rules scripts k (i ∷ images) [] openings opened t = absurd opened
-opened_fits told nonce rules scripts k (i ∷ images) (z ∷ sources) [] opened t = absurd opened
+pub opened_fits : {D N : Type 0} (view : D → View) (tells : Bool) (told : Type 0) (nonce : N → ℕ → ℕ) (rules : ℕ → spec.Rules) (scripts : List Named) (k : ℕ) (images : List (List ℕ)) (sources : List N)
+    (openings : List (Opening D N)) → AreOpened view tells told nonce rules scripts k images sources openings → told → first_unfit (unfit_left scripts) k images ≡ None
+opened_fits view tells told nonce rules scripts k [] sources openings opened t = refl
+opened_fits view tells told nonce rules scripts k (i ∷ images) (z ∷ sources) (x ∷ openings) opened t =
+    rw (made_fits scripts k _ (book_in scripts x.shelf.value) (opened.0.book t)) (opened_fits view tells told nonce rules scripts (k + 1) images sources openings opened.1 t)
+opened_fits view tells told nonce rules scripts k (i ∷ images) [] openings opened t = absurd opened
+opened_fits view tells told nonce rules scripts k (i ∷ images) (z ∷ sources) [] opened t = absurd opened
 
 -- ---- the first that is not opened
 
@@ -131,17 +135,35 @@ refused_at {D = D} view tells setup told disks nonces f before after knows not r
 -- ---- given back
 
 module _ {D N : Type 0} (view : D → View) (tells : Bool) (told : Type 0) (nonce : N → ℕ → ℕ) (rules : ℕ → spec.Rules) (scripts : List Named) where
+  -- a disk that stands for the book of a history, and what may be held of it
+  stands_one : (k workers : ℕ) (holds : List ℕ → Type 0) (image : List ℕ) (source : N) (o : Opening D N) (d : D) (h : List KeptEntry) → IsTrue tells
+      → IsOpened view tells told nonce (rules k) scripts k image source o → IsEnded view tells nonce workers o d h → AreAmong holds (view d).images
+      → StandsBehind view tells nonce scripts k holds o h
+  stands_one k workers holds image source o d h t opened ended among = record {
+    some =
+        let stands = ended.stands.stands t in
+        let there = subst (λ s. Stands s o.shelf.value.rules.number (view d) stands.0) opened.setup stands.1 in
+        let here = subst (λ m. Stands scripts m (view d) stands.0) opened.number there in
+        (stands.0, (here.0, (here.1.0, λ y y_is. here.1.1 y (among y y_is))));
+    own = λ own.
+        let b = book_then nonce o (entries_of h) in
+        let stands = (ended.stands.history own).stands t in
+        let there = subst (λ s. StandsOwn (rules_of s o.shelf.value.rules) s o.shelf.value.rules.number (view d) b) opened.setup stands in
+        let here = subst (λ m. StandsOwn (rules_of scripts o.shelf.value.rules) scripts m (view d) b) opened.number there in
+        holds_book (rules_of scripts o.shelf.value.rules) scripts (view d) k b holds here among;
+  }
+
   -- disks that stand for the books of histories, and what may be held of them
   pub stands_from : (k workers : ℕ) (holds : ℕ → List ℕ → Type 0) (images : List (List ℕ)) (sources : List N) (openings : List (Opening D N)) (disks : List D)
-      (histories : List (List KeptEntry)) → IsTrue tells → AreOpened told nonce rules scripts k images sources openings
+      (histories : List (List KeptEntry)) → IsTrue tells → AreOpened view tells told nonce rules scripts k images sources openings
       → AreEnded view tells nonce workers openings disks histories
       → ((i j : ℕ) (d : D) → j ≡ k + i → slice_get disks i ≡ Some d → AreAmong (holds j) (view d).images)
       → (i j : ℕ) (o : Opening D N) (h : List KeptEntry) → j ≡ k + i → slice_get openings i ≡ Some o → slice_get histories i ≡ Some h
-      → StandsAt scripts j (holds j) (book_then nonce o (entries_of h))
+      → StandsBehind view tells nonce scripts j (holds j) o h
   stands_from k workers holds images sources [] disks histories t opened ended held i j o h is o_is h_is = absurd (let no : ⊥ = cc o_is in no)
   stands_from k workers holds [] sources (x ∷ openings) disks histories t opened ended held i j o h is o_is h_is = absurd (no_shelf sources opened)
     where
-      no_shelf : (ns : List N) → AreOpened told nonce rules scripts k [] ns (x ∷ openings) → ⊥
+      no_shelf : (ns : List N) → AreOpened view tells told nonce rules scripts k [] ns (x ∷ openings) → ⊥
       no_shelf [] a = a
       no_shelf (n ∷ ns) a = a
   stands_from k workers holds (image ∷ images) [] (x ∷ openings) disks histories t opened ended held i j o h is o_is h_is = absurd opened
@@ -149,13 +171,11 @@ module _ {D N : Type 0} (view : D → View) (tells : Bool) (told : Type 0) (nonc
   stands_from k workers holds (image ∷ images) (n ∷ sources) (x ∷ openings) (d ∷ disks) [] t opened ended held i j o h is o_is h_is = absurd ended
   stands_from k workers holds (image ∷ images) (n ∷ sources) (x ∷ openings) (d ∷ disks) (e ∷ histories) t opened ended held zero j o h is o_is h_is =
       let at : j ≡ k = omega (arith, is) in
-      let stands = ended.0.stands.stands t in
-      let there = subst (λ s. Stands s x.shelf.value.rules.number (view d) (book_then nonce x (entries_of e))) opened.0.setup stands in
-      let here = subst (λ m. Stands scripts m (view d) (book_then nonce x (entries_of e))) (opened.0.number ∙ sym at) there in
       let among = held 0 j d (omega (arith, at)) refl in
-      let whole : StandsAt scripts j (holds j) (book_then nonce x (entries_of e)) = (here.0, λ y y_is. here.1 y (among y y_is)) in
-      subst (λ z. StandsAt scripts j (holds j) (book_then nonce z (entries_of h))) (same_some x o o_is)
-      (subst (λ z. StandsAt scripts j (holds j) (book_then nonce x (entries_of z))) (same_some e h h_is) whole)
+      let whole = subst (λ m. StandsBehind view tells nonce scripts m (holds m) x e) (sym at)
+      (stands_one k workers (holds k) image n x d e t opened.0 ended.0 (subst (λ m. AreAmong (holds m) (view d).images) at among)) in
+      subst (λ z. StandsBehind view tells nonce scripts j (holds j) z h) (same_some x o o_is)
+      (subst (λ z. StandsBehind view tells nonce scripts j (holds j) x z) (same_some e h h_is) whole)
   stands_from k workers holds (image ∷ images) (n ∷ sources) (x ∷ openings) (d ∷ disks) (e ∷ histories) t opened ended held (suc i) j o h is o_is h_is =
       stands_from (k + 1) workers holds images sources openings disks histories t opened.1 ended.1 (λ a b y at y_is. held (suc a) b y (omega (arith, at)) y_is) i j o h
       (omega (arith, is)) o_is h_is

@@ -83,11 +83,11 @@ pub record AreGiven {D : Type 0} (view : D → View) (told : Type 0) (before aft
   pub faults : (k : ℕ) (d : D) → slice_get disks k ≡ Some d → 1 ≤ (view d).faults → Rose before.faults after.faults
 
 -- the shelves were opened so on the disks of a rack; or why they were not
-pub record OpensOn {D N : Type 0} (told : Type 0) (nonce : N → ℕ → ℕ) (rules : ℕ → Rules) (scripts : List Named) (sources : List N)
-    (before after : RackView) (openings : List (Opening D N)) : Type 0 where
+pub record OpensOn {D N : Type 0} (view : D → View) (tells : Bool) (told : Type 0) (nonce : N → ℕ → ℕ) (rules : ℕ → Rules)
+    (scripts : List Named) (sources : List N) (before after : RackView) (openings : List (Opening D N)) : Type 0 where
   pub images : List (List ℕ)
   pub taken : HasTaken told before after (length sources) images
-  pub opened : AreOpened told nonce rules scripts 0 images sources openings
+  pub opened : AreOpened view tells told nonce rules scripts 0 images sources openings
 
 pub record RefusesOn (told : Type 0) (scripts : List Named) (count : ℕ) (before after : RackView) (why : Unopened) : Type 0 where
   pub images : List (List ℕ)

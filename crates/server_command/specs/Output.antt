@@ -22,7 +22,7 @@ use Rattle.load_steps.specs.Generator.{source_of}
 use Rattle.load_run.specs.Drawing.{most_steps, run_drawn}
 use Rattle.load_run.specs.Counting.{line_for}
 use Rattle.load_setup.specs.Scripts.{load_scripts}
-use Rattle.journal_records.specs.Records.{journal_rules}
+use Rattle.journal_books.specs.Lengths.{journal_rules}
 use Rattle.play_desk.specs.Desk.{Desk, first_desk, desk_rules}
 use Rattle.server_command.specs.Racks.{Unfit, first_unfit, unfit_new, unfit_left, unfit_line, disk_line}
 

@@ -6,7 +6,7 @@ use Rattle.script_nodes.specs.Setup.{Named}
 use Rattle.replay_spec.specs.Book.{Book}
 use Rattle.journal_books.specs.Making as making
 use Rattle.journal_books.specs.Making.{Making, book_in_bytes}
-use Rattle.journal_books.specs.Standing.{Between, Held, if_kept}
+use Rattle.journal_books.specs.Standing.{Between, HoldIn, if_kept}
 
 -- a rack and its disks: whether they tell their bytes, and what contracts see of the rack before and behind
 pub record Racks : Type 1 where
@@ -61,10 +61,9 @@ pub record AreTaken (unfit : ℕ → List ℕ → Option Unfit) (holds : ℕ →
   pub held : AreHeld holds 0 images
   pub all : first_unfit unfit 0 images ≡ None → length images ≡ count
 
--- what a disk may hold makes the book, with what is in doubt or without it
-abbrev pub StandsAt : List Named → (shelf : ℕ) → (images : List ℕ → Type 0) → Book → Type 0
-StandsAt scripts shelf images b =
-    (t : Between scripts shelf b (if_kept scripts shelf b)) × ((image : List ℕ) → images image → Held t image)
+-- what a disk may hold makes some book, with what is in doubt or without it
+abbrev pub StandsForSome : List Named → (shelf : ℕ) → (images : List ℕ → Type 0) → Type 0
+StandsForSome scripts shelf images = (b : Book) × ((n : ℕ) × ((t : Between scripts shelf b (if_kept n b)) × HoldIn t images))
 
 -- ---- the lines
 

@@ -1,8 +1,10 @@
 -- What serving a setup over HTTP comes to.
-use Rattle.std.specs.Prelude.{⊤, ◌≡◌, ◌==◌, ◌⊎◌, ◌++◌, ◌∷◌, [], ℕ, ◌+◌, List, length, Option, Some, None, IfSome, IsTrue, Result, Ok, Err, codes, slice_get, if◌then◌else◌}
+use Rattle.std.specs.Prelude.{⊤, ◌≡◌, ◌==◌, ◌⊎◌, ◌++◌, ◌∷◌, [], ℕ, ◌+◌, Bool, List, length, Option, Some, None, IfSome, IsTrue, Result, Ok, Err, codes, slice_get, if◌then◌else◌}
 use Rattle.std.specs.Fmt.{decimal}
 use Rattle.web_outside.specs.Causes.{Rose}
 use Rattle.web_outside.specs.View.{DoorView, SeedsView}
+use Rattle.web_disk.specs.View.{View}
+use Rattle.play_desk.specs.Opening.{HoldsTheBook}
 use Rattle.script_nodes.specs.Setup.{Named}
 use Rattle.command_words.specs.declared.Service.{Service}
 use Rattle.setup_reader.specs.declared.setup.Ending.TheVariants.{Input}
@@ -17,11 +19,12 @@ use Rattle.request_workers.specs.declared.tally.Tally.{Tally}
 use Rattle.request_workers.specs.declared.tally.WorkEnd.{WorkEnd}
 use Rattle.request_workers.specs.declared.tally.WorkEnd.TheVariants as ends
 use Rattle.worker_threads.specs.Totals.{total}
+use Rattle.shelf.specs.Owning.{IsOwnImage}
 use Rattle.shelf.specs.Views.{book_in, rules_of, HasGiven}
 use Rattle.site.specs.declared.entry.KeptEntry.{KeptEntry}
 use Rattle.site.specs.declared.opening.Opening.{Opening}
 use Rattle.site.specs.Entries.{entries_of}
-use Rattle.site.specs.Openings.{scripts_in, book_then}
+use Rattle.site.specs.Openings.{scripts_in, IsOwnOpening, book_then}
 use Rattle.site_serving.specs.declared.serving.Watch.{Watch}
 use Rattle.site_serving.specs.declared.serving.ServingFault.{ServingFault}
 use Rattle.site_serving.specs.declared.serving.ServingFault.TheVariants as faults
@@ -34,7 +37,7 @@ use Rattle.server_command.specs.declared.opening.Unopened.TheVariants as unopene
 use Rattle.server_command.specs.declared.serving.ServeFault.{ServeFault}
 use Rattle.server_command.specs.declared.serving.ServeFault.TheVariants as fault
 use Rattle.server_command.specs.Output.{Chances, Output, Sinks, PrintsTo, Answers, BreaksOff, rules_for, served}
-use Rattle.server_command.specs.Racks.{Racks, AreTaken, StandsAt, Unfit, damaged, other, disk_line, first_unfit, unfit_left, unfit_line}
+use Rattle.server_command.specs.Racks.{Racks, AreTaken, StandsForSome, Unfit, damaged, other, disk_line, first_unfit, unfit_left, unfit_line}
 
 -- ---- what is told
 
@@ -74,32 +77,41 @@ abbrev pub watch_of : Service → Watch
 watch_of s = record { port = s.port; workers = s.workers; connections = s.connections }
 
 -- The shelf of this number was opened under this setup and these rules, with nonces of this source: its book is what the bytes of
--- its disk make, and empty where they have no record.
-pub record IsOpened {D N : Type 0} (told : Type 0) (nonce : N → ℕ → ℕ) (rules : Rules) (scripts : List Named) (k : ℕ) (image : List ℕ)
-    (source : N) (o : Opening D N) : Type 0 where
+-- its disk make, and empty where they have no record. Where the records are own ones, it was opened as an own shelf.
+pub record IsOpened {D N : Type 0} (view : D → View) (tells : Bool) (told : Type 0) (nonce : N → ℕ → ℕ) (rules : Rules)
+    (scripts : List Named) (k : ℕ) (image : List ℕ) (source : N) (o : Opening D N) : Type 0 where
   pub setup : scripts_in o ≡ scripts
   pub limits : rules_of scripts o.shelf.value.rules ≡ rules
   pub number : o.shelf.value.rules.number ≡ k
   pub book : told → IsBook (begun scripts k (book_in_bytes scripts k image)) (book_in scripts o.shelf.value)
   pub opened : book_in scripts o.shelf.value ≡ reopened (book_in scripts o.shelf.value)
   pub stream : HasGiven (nonce source) 0 (nonce o.shelf.value.nonces)
+  pub own : told → IsOwnImage scripts k image → IsOwnOpening view tells o
 
--- so were all shelves from this number on
-abbrev pub AreOpened : {D N : Type 0} → (told : Type 0) → (nonce : N → ℕ → ℕ) → (ℕ → Rules) → List Named → ℕ → List (List ℕ) → List N
-    → List (Opening D N) → Type 0
-AreOpened told nonce rules scripts k [] [] [] = ⊤
-AreOpened told nonce rules scripts k (image ∷ images) (source ∷ sources) (o ∷ openings) =
-    IsOpened told nonce (rules k) scripts k image source o × AreOpened told nonce rules scripts (k + 1) images sources openings
-AreOpened told nonce rules scripts k images sources openings = ⊥
+module _ {D N : Type 0} (view : D → View) (tells : Bool) where
+  -- so were all shelves from this number on
+  abbrev pub AreOpened : (told : Type 0) → (nonce : N → ℕ → ℕ) → (ℕ → Rules) → List Named → ℕ → List (List ℕ) → List N → List (Opening D N) → Type 0
+  AreOpened told nonce rules scripts k [] [] [] = ⊤
+  AreOpened told nonce rules scripts k (image ∷ images) (source ∷ sources) (o ∷ openings) =
+      IsOpened view tells told nonce (rules k) scripts k image source o × AreOpened told nonce rules scripts (k + 1) images sources openings
+  AreOpened told nonce rules scripts k images sources openings = ⊥
 
--- what the disks of shelves may hold makes the books of their histories
-abbrev pub AllStand : {D N : Type 0} → (nonce : N → ℕ → ℕ) → List Named → (ℕ → List ℕ → Type 0) → List (Opening D N) → List (List KeptEntry) → Type 0
-AllStand {D} {N} nonce scripts holds openings histories =
-    (k : ℕ) (o : Opening D N) (h : List KeptEntry) → slice_get openings k ≡ Some o → slice_get histories k ≡ Some h
-    → StandsAt scripts k (holds k) (book_then nonce o (entries_of h))
+  -- What the disk of a shelf may hold makes some book. Of a shelf that was opened as an own one it is the book of its history.
+  pub record StandsBehind (nonce : N → ℕ → ℕ) (scripts : List Named) (shelf : ℕ) (images : List ℕ → Type 0) (o : Opening D N) (h : List KeptEntry)
+      : Type 0 where
+    pub some : StandsForSome scripts shelf images
+    pub own : IsOwnOpening view tells o
+        → HoldsTheBook (rules_of scripts o.shelf.value.rules) scripts shelf images (book_then nonce o (entries_of h))
+
+  -- so do the disks of all shelves
+  abbrev pub AllStand : (nonce : N → ℕ → ℕ) → List Named → (ℕ → List ℕ → Type 0) → List (Opening D N) → List (List KeptEntry) → Type 0
+  AllStand nonce scripts holds openings histories =
+      (k : ℕ) (o : Opening D N) (h : List KeptEntry) → slice_get openings k ≡ Some o → slice_get histories k ≡ Some h
+      → StandsBehind nonce scripts k (holds k) o h
 
 -- Links were served from shelves that were opened on disks which held this, with nonces of the sources that the seeds gave, and this
--- was kept of it: a legal history of each shelf, which ends with the book that its disk stands for, and what each worker counted.
+-- was kept of it: a history of each shelf, and what each worker counted. Where the shelf was opened as an own one, the history is
+-- legal, and ends with the book that its disk stands for.
 pub record Served {D P L N : Type 0} (o : Outside D P L N) (s : Service) (scripts : List Named) (images : List (List ℕ)) (end : WorkEnd)
     (kept : Kept) : Type 0 where
   pub sources : List N
@@ -107,9 +119,10 @@ pub record Served {D P L N : Type 0} (o : Outside D P L N) (s : Service) (script
   pub disks : List D
   pub shelves : length sources ≡ s.options.shelves
   pub drawn : IfSome (o.seeds.gives s.options.shelves) (λ given. given ≡ sources)
-  pub opened : AreOpened (IsTrue o.rack.tells) o.views.nonce (λ k. rules_for s.options k scripts) scripts 0 images sources openings
+  pub opened : AreOpened o.views.disk o.views.told (IsTrue o.rack.tells) o.views.nonce (λ k. rules_for s.options k scripts) scripts 0
+      images sources openings
   pub leaves : Leaves o.views openings o.before o.after o.past (watch_of s) disks end kept
-  pub stands : IsTrue o.rack.tells → AllStand o.views.nonce scripts o.rack.after.holds openings kept.histories
+  pub stands : IsTrue o.rack.tells → AllStand o.views.disk o.views.told o.views.nonce scripts o.rack.after.holds openings kept.histories
 
 -- it ended so, and this was counted
 pub record ServedSo {D P L N : Type 0} (o : Outside D P L N) (s : Service) (scripts : List Named) (images : List (List ℕ)) (end : WorkEnd)

@@ -136,7 +136,7 @@ pub fn open_site<W: Wait, D: Disk, R: Rack<D>, N: Nonces + Drop>(
     requires few { length (scripts_of setup) ≤ 256 }
     requires begins { CanBegin options.now.shelves (scripts_of setup) }
     requires sources { length sources.items ≡ options.now.shelves }
-    ensures opened { IfOk result (λ site. OpensOn (IsTrue (R.tells && D.tells)) N.nonce
+    ensures opened { IfOk result (λ site. OpensOn D.view D.tells (IsTrue (R.tells && D.tells)) N.nonce
         (λ k. rules_for options.now k (scripts_of setup)) (scripts_of setup) sources.items (R.view rack.old) (R.view rack.new)
         (openings_of site.row.homes)) }
     ensures count { IfOk result (λ site. length site.row.homes ≡ options.now.shelves) }

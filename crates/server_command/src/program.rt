@@ -495,7 +495,9 @@ where
 ///
 /// Each visit that is accepted shows what its script, run again from its start, shows next when fed the answers of
 /// its page's own ancestors and their reads of shared cells, and then its own; each other reply is the script's own
-/// fault or exactly the refusal that admission, cost or limits name, or want of memory.
+/// fault or exactly the refusal that admission, cost or limits name, or want of memory. Of a shelf that is served this is
+/// said where it was opened as an own one: each page that its journal has has the state of its chain, as on a disk that
+/// this program left.
 pub fn command<
     W: Threads + Wait + Sync,
     I: Source,

@@ -33,7 +33,7 @@ perform-requires-clause-fitting g c =
     subst (λ (x : Step). fits r x s ≡ true) (sym is) (drawn_fits r s source c.requires.some few c.requires.clock)
 
 pub returns-in-Err-clause-went : goal.returns-in-Err-clause-went
-returns-in-Err-clause-went g c known =
+returns-in-Err-clause-went g c known own =
     let r = g.T.Stage.rules in
     let s = g.T.Stage.state c.args.stage.now in
     let source = c.args.course.now.generator in
@@ -41,10 +41,10 @@ returns-in-Err-clause-went g c known =
     let is = step_is r s source c.next.new.self c.in-Ok.step (meaning c.as_step.result) draws c.as_step.ensures in
     halts_on r c.args.course.now (record { generator = c.next.new.self; tally = c.args.course.now.tally; hash = c.args.course.now.hash }) (spot r s (g.T.Stage.faults c.args.stage.now c.args.devices.now))
     (spot r (g.T.Stage.state c.perform.new.stage) (g.T.Stage.faults c.perform.new.stage c.perform.new.devices)) (meaning c.as_step.result) c.in-Err.halt is
-    (c.in-Err.ensures.came (told_by g.T.Stage.tells (Some (meaning c.as_step.result) ∷ []) known))
+    (c.in-Err.ensures.came (told_by g.T.Stage.tells (Some (meaning c.as_step.result) ∷ []) known) own)
 
 pub returns-in-Ok-note-clause-went : goal.returns-in-Ok-note-clause-went
-returns-in-Ok-note-clause-went g c known =
+returns-in-Ok-note-clause-went g c known own =
     let r = g.T.Stage.rules in
     let s = g.T.Stage.state c.args.stage.now in
     let source = c.args.course.now.generator in
@@ -57,10 +57,19 @@ returns-in-Ok-note-clause-went g c known =
       told,
       record {
         fitting = drawn_fits r s source c.requires.some few c.requires.clock;
-        came = subst (λ (x : Step). Came r old x told new) is (c.in-Ok-perform.ensures.came (told_by g.T.Stage.tells (Some (meaning c.as_step.result) ∷ []) known));
+        came = subst (λ (x : Step). Came r old x told new) is (c.in-Ok-perform.ensures.came (told_by g.T.Stage.tells (Some (meaning c.as_step.result) ∷ []) known) own);
       },
       course_is r c.args.course.now c.note.new.course s c.next.new.self c.in-Ok.step told draws
           (c.in-Ok-note.ensures.learned ∙ ap (λ (xs : List Report). learned_from xs c.next.new.self) c.deref-2.ensures.value)
           (c.in-Ok-note.ensures.tally ∙ c.count.ensures ∙ ap (λ (xs : List Report). counted c.args.course.now.tally xs) c.deref.ensures.value)
           (c.in-Ok-note.ensures.hashed ∙ ap (λ (xs : List Report). goes_on c.args.course.now.hash (print xs)) c.deref-2.ensures.value),
     )
+
+pub returns-in-Ok-note-clause-own : goal.returns-in-Ok-note-clause-own
+returns-in-Ok-note-clause-own g c known own = c.in-Ok-perform.ensures.own (told_by g.T.Stage.tells (Some (meaning c.as_step.result) ∷ []) known) own
+
+pub returns-in-Err-clause-own : goal.returns-in-Err-clause-own
+returns-in-Err-clause-own g c known own = c.in-Err.ensures.own (told_by g.T.Stage.tells (Some (meaning c.as_step.result) ∷ []) known) own
+
+pub returns-clause-own : goal.returns-clause-own
+returns-clause-own g c known own = c.in-Ok-perform.ensures.own (told_by g.T.Stage.tells (Some (meaning c.as_step.result) ∷ []) known) own

@@ -10,9 +10,10 @@ use Rattle.play_steps.specs.Rules.{Comes}
 use Rattle.play_steps.specs.declared.stage.Reopen.{Reopen}
 use Rattle.play_steps.specs.declared.stage.Reopen.TheVariants.{Disk}
 use Rattle.play_desk.specs.Desk.{desk_crash, is_fault, without_shelf}
-use Rattle.play_desk.specs.Staff.{AreFit, IsHome, KeepsOthers, desk_with, faults_in, total}
+use Rattle.play_desk.specs.Staff.{AreFit, AreOwn, IsHome, KeepsOthers, desk_with, faults_in, total}
 use Rattle.play_desk.proofs.Places.{at_index}
 use Rattle.play_desk.proofs.Fitting.{fit_crash, number_at}
+use Rattle.play_desk.proofs.Owning.{own_crash, own_out}
 use Rattle.play_desk.proofs.Removing.{put_in, taken_out}
 use Rattle.play_desk.proofs.Outage.{crash_comes, fit_out, home_out, home_set, rises_out, stays_out, stays_set}
 use Rattle.play_desk.proofs.crashing.crash.Goals as goal
@@ -35,6 +36,14 @@ returns-in-Err-clause-fit g c =
     let left = c.remove-shelf.ensures.by_index.2 ∙ taken_out xs k c.requires.place in
     subst (λ (ys : List (Shelf g.row.D.Denot Counting)). AreFit g.D.Disk.view g.D.Disk.tells (scripts_of c.args.setup.now) ys c.no_tickets.result) (sym left)
     (fit_out g.D.Disk.view g.D.Disk.tells (scripts_of c.args.setup.now) xs c.args.staff.now.tickets c.no_tickets.result k c.requires.fit c.requires.place c.no_tickets.ensures)
+
+pub returns-in-Err-clause-own : goal.returns-in-Err-clause-own
+returns-in-Err-clause-own g c rack_tells disk_tells own =
+    let xs = c.args.staff.now.shelves.items in
+    let k = c.args.place in
+    let left = c.remove-shelf.ensures.by_index.2 ∙ taken_out xs k c.requires.place in
+    subst (λ (ys : List (Shelf g.row.D.Denot Counting)). AreOwn g.D.Disk.view g.D.Disk.tells (scripts_of c.args.setup.now) ys c.no_tickets.result) (sym left)
+    (own_out g.D.Disk.view g.D.Disk.tells (scripts_of c.args.setup.now) xs c.args.staff.now.tickets c.no_tickets.result k own c.no_tickets.ensures)
 
 pub returns-in-Err-clause-home : goal.returns-in-Err-clause-home
 returns-in-Err-clause-home g c =
@@ -82,6 +91,22 @@ returns-in-Ok-insert-clause-fit g c =
     (fit_crash g.D.Disk.view g.D.Disk.tells scripts xs s.tickets c.lose_tickets.new.tickets k x y c.requires.fit here c.in-Ok.ensures.served
     c.in-Ok.ensures.rules c.lose_tickets.ensures.workers kept)
 
+pub returns-in-Ok-insert-clause-own : goal.returns-in-Ok-insert-clause-own
+returns-in-Ok-insert-clause-own g c rack_tells disk_tells own =
+    let s = c.args.staff.now in
+    let xs = s.shelves.items in
+    let k = c.args.place in
+    let x = c.remove-shelf.result in
+    let y = c.in-Ok.shelf in
+    let scripts = scripts_of c.args.setup.now in
+    let here = at_index xs k x x c.requires.place c.remove-shelf.ensures.value in
+    let left = c.remove-shelf.ensures.by_index.2 ∙ taken_out xs k c.requires.place in
+    let now = c.in-Ok-insert.ensures.items ∙ ap (λ (ys : List (Shelf g.row.D.Denot Counting)). insert ys k y) left ∙ put_in xs k y c.requires.place in
+    let kept = subst (λ n. KeepsOthers n k s.tickets c.lose_tickets.new.tickets) (c.len-count.ensures ∙ s.shelves.ok.0) c.lose_tickets.ensures.kept in
+    subst (λ (ys : List (Shelf g.row.D.Denot Counting)). AreOwn g.D.Disk.view g.D.Disk.tells scripts ys c.lose_tickets.new.tickets) (sym now)
+    (own_crash g.D.Disk.view g.D.Disk.tells scripts xs s.tickets c.lose_tickets.new.tickets k x y own here
+    (c.in-Ok.ensures.own rack_tells disk_tells (own.own k x here)) kept)
+
 pub returns-in-Ok-insert-clause-home : goal.returns-in-Ok-insert-clause-home
 returns-in-Ok-insert-clause-home g c =
     let xs = c.args.staff.now.shelves.items in
@@ -107,7 +132,7 @@ returns-in-Ok-insert-clause-later g c =
     (stays_set g.D.Disk.view xs k x y _ _ here c.in-Ok.ensures.later)
 
 pub returns-in-Ok-insert-clause-step : goal.returns-in-Ok-insert-clause-step
-returns-in-Ok-insert-clause-step g c rack_tells disk_tells =
+returns-in-Ok-insert-clause-step g c rack_tells disk_tells own =
     let s = c.args.staff.now in
     let xs = s.shelves.items in
     let k = c.args.place in
@@ -121,7 +146,7 @@ returns-in-Ok-insert-clause-step g c rack_tells disk_tells =
     (c.len-count.ensures ∙ s.shelves.ok.0) c.lose_tickets.ensures.held in
     subst (λ (ys : List (Shelf g.row.D.Denot Counting)). Comes is_fault ⊥ (desk_crash (desk_with scripts xs s.tickets) k) (desk_with scripts xs s.tickets) c.live-live.result
     (desk_with scripts ys c.lose_tickets.new.tickets)) (sym now)
-    (crash_comes scripts xs s.tickets c.lose_tickets.new.tickets k c.live-live.result x y here (c.in-Ok.ensures.crashed rack_tells disk_tells)
+    (crash_comes scripts xs s.tickets c.lose_tickets.new.tickets k c.live-live.result x y here (c.in-Ok.ensures.crashed rack_tells disk_tells (own.own k x here))
     c.in-Ok.ensures.rules c.in-Ok.ensures.nonces (length-map y.book.instances.things.items (instance_of scripts) ∙ sym c.live-live.ensures) held)
 
 pub returns-in-Ok-insert-clause-count : goal.returns-in-Ok-insert-clause-count

@@ -8,6 +8,7 @@ use Rattle.play_desk.specs.Desk.{first_desk}
 use Rattle.play_desk.specs.Opening.{GivesOne, IsRefusedBy, OpensNext, rules_at}
 use Rattle.play_desk.specs.Staff.{HaveOwnNumbers, IsHome, desk_with, faults_in, total}
 use Rattle.play_desk.proofs.Beginning.{closed_by, desk_opened, fit_opened, later_closed, next_home, opened_more, own_opened, still_home}
+use Rattle.play_desk.proofs.Owning.{own_alone}
 use Rattle.play_desk.proofs.desk_disks.open_desk.Goals as goal
 
 pub open_next-requires-clause-begins : goal.open_next-requires-clause-begins
@@ -64,6 +65,11 @@ returns-clause-desk g c rack_tells disk_tells =
 pub returns-clause-sound : goal.returns-clause-sound
 returns-clause-sound g c =
     fit_opened _ _ _ _ _ _ _ _ _ c.no_tickets.result c.loop-number.invariant (omega (arith, c.requires.range.shelves)) c.no_tickets.ensures
+
+pub returns-clause-own : goal.returns-clause-own
+returns-clause-own g c rack_tells disk_tells =
+    own_alone g.D.Disk.view g.D.Disk.tells (scripts_of c.args.setup.now) c.loop-number.shelves.items c.no_tickets.result
+    (c.loop-number.invariant.own rack_tells disk_tells) c.no_tickets.ensures
 
 pub returns-clause-count : goal.returns-clause-count
 returns-clause-count g c =

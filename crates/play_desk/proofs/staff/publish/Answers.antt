@@ -1,21 +1,20 @@
-use Rattle.std.proofs.Common.{◌≡◌, ◌<◌, ◌∙◌, ℕ, ap, sym, subst, List, Option, None, Some, length, slice_set, arith}
+use Rattle.std.proofs.Common.{◌≡◌, ◌<◌, ◌∙◌, ℕ, Bool, ap, sym, subst, slice_get, List, Option, None, Some, length, slice_set, arith}
 use Rattle.script_nodes.specs.Views.{scripts_of}
 use Rattle.script_nodes.specs.Setup.{Named}
-use Rattle.page_names.specs.Views.{target_of}
+use Rattle.script_nodes.specs.declared.setup.Setup.{Setup}
+use Rattle.web_disk.specs.View.{View}
 use Rattle.web_outside.specs.declared.nonces.Counting.{Counting}
-use Rattle.replay_spec.specs.Admission.{admit}
-use Rattle.instance_book.specs.Fits.{IsForSome}
-use Rattle.instance_book.proofs.States.{some_visit}
 use Rattle.instance_book.specs.Views.{ticket_of, reply_of}
 use Rattle.instance_book.specs.declared.ticket.Ticket.{Ticket}
-use Rattle.shelf.specs.Views.{book_in, fate_by}
+use Rattle.shelf.specs.Going.{TicketsGoOnToFit}
+use Rattle.shelf.specs.Views.{fate_by, IsOwnVisit}
 use Rattle.shelf.specs.declared.shelf.Shelf.{Shelf}
 use Rattle.std.proofs.lemmas.Option.{slice_get_within}
 use Rattle.play_steps.specs.Rules.{Comes}
 use Rattle.play_desk.specs.Desk.{desk_publish, is_fault}
-use Rattle.play_desk.specs.Staff.{AreFit, IsOpenAt, RoseBeside, desk_with, faults_in, place_of}
-use Rattle.play_desk.proofs.Open.{fits_now}
-use Rattle.play_desk.proofs.Fitting.{fit_publish, numbers_set, open_there}
+use Rattle.play_desk.specs.Staff.{AreFit, AreOwn, HoldsAt, IsUnspent, RoseBeside, desk_with, faults_in, place_of}
+use Rattle.play_desk.proofs.Fitting.{fit_publish, numbers_set, of_held}
+use Rattle.play_desk.proofs.Owning.{fits_there, own_publish}
 use Rattle.play_desk.proofs.Happening.{happens}
 use Rattle.play_desk.proofs.Counting.{faults_later, faults_rise, told_rise}
 use Rattle.play_desk.proofs.Places.{at_index, same_set}
@@ -23,7 +22,7 @@ use Rattle.play_desk.proofs.Stepping.{count_is, held_there, is_answered, is_even
 use Rattle.play_desk.proofs.staff.publish.Goals as goal
 
 pub returns-in_default-clause-step : goal.returns-in_default-clause-step
-returns-in_default-clause-step g c =
+returns-in_default-clause-step g c own =
     let s = c.args.staff.now in
     let scripts = scripts_of c.args.setup.now in
     let same : c.handed_in.new.tickets ≡ s.tickets = c.in_default.ensures.without ∙ same_set s.tickets c.args.worker None c.in_default.ensures.ticket in
@@ -36,9 +35,15 @@ returns-in_default-clause-fit g c =
     let same : c.handed_in.new.tickets ≡ s.tickets = c.in_default.ensures.without ∙ same_set s.tickets c.args.worker None c.in_default.ensures.ticket in
     subst (λ (ts : List (Option Ticket)). AreFit g.D.Disk.view g.D.Disk.tells (scripts_of c.args.setup.now) s.shelves.items ts) (sym same) c.requires.fit
 
+pub returns-in_default-clause-own : goal.returns-in_default-clause-own
+returns-in_default-clause-own g c own =
+    let s = c.args.staff.now in
+    let same : c.handed_in.new.tickets ≡ s.tickets = c.in_default.ensures.without ∙ same_set s.tickets c.args.worker None c.in_default.ensures.ticket in
+    subst (λ (ts : List (Option Ticket)). AreOwn g.D.Disk.view g.D.Disk.tells (scripts_of c.args.setup.now) s.shelves.items ts) (sym same) own
+
 -- the place of a ticket's shelf is one
 place_is : {D : Type 0} (scripts : List Named) (xs : List (Shelf D Counting)) (count place worker : ℕ) (t : Ticket) → count ≡ length xs
-    → place ≡ place_of count worker t → IsOpenAt scripts xs (place_of (length xs) worker t) t
+    → place ≡ place_of count worker t → HoldsAt (IsUnspent scripts) scripts xs (place_of (length xs) worker t) t
     → (place_of (length xs) worker t ≡ place) × (place < length xs)
 place_is scripts xs count place worker t len is o =
     let same : place_of (length xs) worker t ≡ place = ap (λ n. place_of n worker t) (sym len) ∙ sym is in
@@ -47,57 +52,58 @@ place_is scripts xs count place worker t len is o =
 
 pub shelf_for-place-requires : goal.shelf_for-place-requires
 shelf_for-place-requires g c =
-    let o = c.requires.fit.are_open c.args.worker c.in-Some.ticket c.in-Some.ensures.ticket in
+    let o = c.requires.fit.unspent c.args.worker c.in-Some.ticket c.in-Some.ensures.ticket in
     let low = slice_get_within c.args.staff.now.shelves.items _ o.shelf o.there in
     omega (arith, low, c.len.ensures, c.args.staff.now.shelves.ok)
 
 pub index_mut-shelf-requires : goal.index_mut-shelf-requires
 index_mut-shelf-requires g c =
     let s = c.args.staff.now in
-    let o = c.requires.fit.are_open c.args.worker c.in-Some.ticket c.in-Some.ensures.ticket in
+    let o = c.requires.fit.unspent c.args.worker c.in-Some.ticket c.in-Some.ensures.ticket in
     let at = place_is _ s.shelves.items c.len.result _ c.args.worker c.in-Some.ticket (c.len.ensures ∙ s.shelves.ok.0) c.shelf_for-place.ensures o in
     omega (arith, at.1, s.shelves.ok)
 
 pub segment_of-segment-requires-clause-fits : goal.segment_of-segment-requires-clause-fits
-segment_of-segment-requires-clause-fits g c =
-    let t = c.in-Some.ticket in
-    let is = (c.requires.fit.are_open c.args.worker t c.in-Some.ensures.ticket).is_open in
-    subst (λ (ss : List Named). IsForSome ss t) (sym is.setup) (some_visit is.then.scripts is.then t (admit is.then (target_of t.target)) is.admitted is.fits)
+segment_of-segment-requires-clause-fits g c = (c.requires.fit.unspent c.args.worker c.in-Some.ticket c.in-Some.ensures.ticket).held.runs
 
 pub publish-requires-clause-in_order : goal.publish-requires-clause-in_order
 publish-requires-clause-in_order g c =
     let s = c.args.staff.now in
     let x = c.index_mut-shelf.result.now in
     let k = c.shelf_for-place.result in
-    let o = c.requires.fit.are_open c.args.worker c.in-Some.ticket c.in-Some.ensures.ticket in
+    let o = c.requires.fit.unspent c.args.worker c.in-Some.ticket c.in-Some.ensures.ticket in
     let at = place_is _ s.shelves.items c.len.result k c.args.worker c.in-Some.ticket (c.len.ensures ∙ s.shelves.ok.0) c.shelf_for-place.ensures o in
     (c.requires.fit.served k x (at_index s.shelves.items k x x at.1 c.index_mut-shelf.ensures.value)).in_order
 
 pub publish-requires-clause-out : goal.publish-requires-clause-out
 publish-requires-clause-out g c =
     let s = c.args.staff.now in
+    let scripts = scripts_of c.args.setup.now in
     let x = c.index_mut-shelf.result.now in
     let k = c.shelf_for-place.result in
     let t = c.in-Some.ticket in
-    let o = c.requires.fit.are_open c.args.worker t c.in-Some.ensures.ticket in
+    let o = c.requires.fit.unspent c.args.worker t c.in-Some.ensures.ticket in
     let at = place_is _ s.shelves.items c.len.result k c.args.worker t (c.len.ensures ∙ s.shelves.ok.0) c.shelf_for-place.ensures o in
     let here = at_index s.shelves.items k x x at.1 c.index_mut-shelf.ensures.value in
-    (open_there g.D.Disk.view g.D.Disk.tells (scripts_of c.args.setup.now) s.shelves.items s.tickets k c.args.worker x t c.requires.fit here c.in-Some.ensures.ticket at.0).out
+    (of_held (IsUnspent scripts) scripts s.shelves.items s.tickets k c.args.worker x t c.requires.fit.unspent here c.in-Some.ensures.ticket at.0).out
 
-pub publish-requires-clause-fits : goal.publish-requires-clause-fits
-publish-requires-clause-fits g c =
-    let s = c.args.staff.now in
-    let x = c.index_mut-shelf.result.now in
-    let k = c.shelf_for-place.result in
-    let t = c.in-Some.ticket in
-    let o = c.requires.fit.are_open c.args.worker t c.in-Some.ensures.ticket in
-    let at = place_is _ s.shelves.items c.len.result k c.args.worker t (c.len.ensures ∙ s.shelves.ok.0) c.shelf_for-place.ensures o in
-    let here = at_index s.shelves.items k x x at.1 c.index_mut-shelf.ensures.value in
-    fits_now c.tickets_go_on_to_fit.ensures (book_in (scripts_of c.args.setup.now) x) t
-    (open_there g.D.Disk.view g.D.Disk.tells (scripts_of c.args.setup.now) s.shelves.items s.tickets k c.args.worker x t c.requires.fit here c.in-Some.ensures.ticket at.0)
+pub publish-requires-clause-runs : goal.publish-requires-clause-runs
+publish-requires-clause-runs g c = (c.requires.fit.unspent c.args.worker c.in-Some.ticket c.in-Some.ensures.ticket).held.runs
+
+pub publish-requires-clause-script : goal.publish-requires-clause-script
+publish-requires-clause-script g c = (c.requires.fit.unspent c.args.worker c.in-Some.ticket c.in-Some.ensures.ticket).held.script
+
+-- a ticket of an own shelf that is published is for the visit of its target
+visits : {D : Type 0} (view : D → View) (tells : Bool) (setup : Setup) (xs : List (Shelf D Counting)) (ts : List (Option Ticket)) (k worker : ℕ)
+    (x : Shelf D Counting) (t : Ticket) → TicketsGoOnToFit → AreOwn view tells (scripts_of setup) xs ts → slice_get xs k ≡ Some x
+    → slice_get ts worker ≡ Some (Some t) → place_of (length xs) worker t ≡ k → IsOwnVisit view tells setup x t
+visits view tells setup xs ts k worker x t law own here held place = record {
+  own = own.own k x here;
+  fits = fits_there view tells (scripts_of setup) xs ts k worker x t law own here held place;
+}
 
 pub returns-clause-step : goal.returns-clause-step
-returns-clause-step g c =
+returns-clause-step g c own =
     let s = c.args.staff.now in
     let scripts = scripts_of c.args.setup.now in
     let xs = s.shelves.items in
@@ -106,10 +112,11 @@ returns-clause-step g c =
     let k = c.shelf_for-place.result in
     let t = c.in-Some.ticket in
     let e = c.publish.result in
-    let o = c.requires.fit.are_open c.args.worker t c.in-Some.ensures.ticket in
+    let o = c.requires.fit.unspent c.args.worker t c.in-Some.ensures.ticket in
     let at = place_is _ xs c.len.result k c.args.worker t (c.len.ensures ∙ s.shelves.ok.0) c.shelf_for-place.ensures o in
     let here = at_index xs k x x at.1 c.index_mut-shelf.ensures.value in
-    let h = happens scripts x y _ (reply_of e) c.publish.ensures.event in
+    let visit = visits g.D.Disk.view g.D.Disk.tells c.args.setup.now xs s.tickets k c.args.worker x t c.tickets_go_on_to_fit.ensures own here c.in-Some.ensures.ticket at.0 in
+    let h = happens scripts x y _ (reply_of e) (c.publish.ensures.event visit) in
     let step = is_event _ (desk_with scripts (slice_set xs k y) (slice_set s.tickets c.args.worker None)) _ _ e _ (fate_by (reply_of e))
     (publishes _ c.args.worker (ticket_of t) k _ (held_there s.tickets c.args.worker (Some t) c.in-Some.ensures.ticket)
     (ap (λ n. place_of n c.args.worker t) (count_is scripts xs s.tickets) ∙ at.0) (shelf_there scripts xs s.tickets k x here))
@@ -128,14 +135,31 @@ returns-clause-fit g c =
     let y = c.publish.new.self in
     let k = c.shelf_for-place.result in
     let t = c.in-Some.ticket in
-    let e = c.publish.result in
-    let o = c.requires.fit.are_open c.args.worker t c.in-Some.ensures.ticket in
+    let o = c.requires.fit.unspent c.args.worker t c.in-Some.ensures.ticket in
     let at = place_is _ xs c.len.result k c.args.worker t (c.len.ensures ∙ s.shelves.ok.0) c.shelf_for-place.ensures o in
     let here = at_index xs k x x at.1 c.index_mut-shelf.ensures.value in
-    let h = happens scripts x y _ (reply_of e) c.publish.ensures.event in
     subst (λ (ts : List (Option Ticket)). AreFit g.D.Disk.view g.D.Disk.tells scripts (slice_set xs k y) ts) (sym c.in-Some.ensures.without)
-    (fit_publish g.D.Disk.view g.D.Disk.tells scripts xs s.tickets k c.args.worker x y t e c.requires.fit here c.in-Some.ensures.ticket at.0 h
-    c.publish.ensures.in_order c.publish.ensures.rules)
+    (fit_publish g.D.Disk.view g.D.Disk.tells scripts xs s.tickets k c.args.worker x y t c.requires.fit here c.in-Some.ensures.ticket at.0
+    c.publish.ensures.spent c.publish.ensures.in_order c.publish.ensures.rules)
+
+pub returns-clause-own : goal.returns-clause-own
+returns-clause-own g c own =
+    let s = c.args.staff.now in
+    let scripts = scripts_of c.args.setup.now in
+    let xs = s.shelves.items in
+    let x = c.index_mut-shelf.result.now in
+    let y = c.publish.new.self in
+    let k = c.shelf_for-place.result in
+    let t = c.in-Some.ticket in
+    let e = c.publish.result in
+    let o = c.requires.fit.unspent c.args.worker t c.in-Some.ensures.ticket in
+    let at = place_is _ xs c.len.result k c.args.worker t (c.len.ensures ∙ s.shelves.ok.0) c.shelf_for-place.ensures o in
+    let here = at_index xs k x x at.1 c.index_mut-shelf.ensures.value in
+    let unspent = of_held (IsUnspent scripts) scripts xs s.tickets k c.args.worker x t c.requires.fit.unspent here c.in-Some.ensures.ticket at.0 in
+    let visit = visits g.D.Disk.view g.D.Disk.tells c.args.setup.now xs s.tickets k c.args.worker x t c.tickets_go_on_to_fit.ensures own here c.in-Some.ensures.ticket at.0 in
+    let h = happens scripts x y _ (reply_of e) (c.publish.ensures.event visit) in
+    subst (λ (ts : List (Option Ticket)). AreOwn g.D.Disk.view g.D.Disk.tells scripts (slice_set xs k y) ts) (sym c.in-Some.ensures.without)
+    (own_publish g.D.Disk.view g.D.Disk.tells scripts xs s.tickets k c.args.worker x y t e own here unspent h (c.publish.ensures.own visit))
 
 pub returns-clause-there : goal.returns-clause-there
 returns-clause-there g c =
@@ -145,7 +169,7 @@ returns-clause-there g c =
     let y = c.publish.new.self in
     let k = c.shelf_for-place.result in
     let t = c.in-Some.ticket in
-    let o = c.requires.fit.are_open c.args.worker t c.in-Some.ensures.ticket in
+    let o = c.requires.fit.unspent c.args.worker t c.in-Some.ensures.ticket in
     let at = place_is _ xs c.len.result k c.args.worker t (c.len.ensures ∙ s.shelves.ok.0) c.shelf_for-place.ensures o in
     let here = at_index xs k x x at.1 c.index_mut-shelf.ensures.value in
     record {

@@ -3,6 +3,7 @@ use Rattle.shelf.specs.Views.{fate_by, swept_of}
 use Rattle.play_desk.proofs.Places.{at_index}
 use Rattle.play_desk.proofs.Stepping.{is_event, shelf_there, sweep_step, sweeps}
 use Rattle.play_desk.proofs.Fitting.{fit_sweep, numbers_set}
+use Rattle.play_desk.proofs.Owning.{own_sweep}
 use Rattle.play_desk.proofs.Happening.{happens}
 use Rattle.play_desk.proofs.Counting.{faults_later, faults_rise, told_rise}
 use Rattle.play_desk.proofs.staff.sweep.Goals as goal
@@ -38,6 +39,19 @@ returns-clause-fit g c =
     let h = happens scripts x y _ (swept_of r) (c.sweep.ensures.event scripts) in
     fit_sweep g.D.Disk.view g.D.Disk.tells scripts xs c.args.staff.now.tickets k x y c.args.tick r c.requires.fit here h
     (c.sweep.ensures.in_order scripts (c.requires.fit.served k x here).in_order) c.sweep.ensures.rules
+
+pub returns-clause-own : goal.returns-clause-own
+returns-clause-own g c own =
+    let scripts = scripts_of c.args.setup.now in
+    let xs = c.args.staff.now.shelves.items in
+    let k = c.args.place in
+    let x = c.index_mut.result.now in
+    let y = c.sweep.new.self in
+    let r = c.sweep.result in
+    let here = at_index xs k x x c.requires.place c.index_mut.ensures.value in
+    let h = happens scripts x y _ (swept_of r) (c.sweep.ensures.event scripts) in
+    own_sweep g.D.Disk.view g.D.Disk.tells scripts xs c.args.staff.now.tickets k x y c.args.tick r own here h
+    (c.sweep.ensures.own scripts (c.requires.fit.served k x here).in_order (own.own k x here))
 
 pub returns-clause-there : goal.returns-clause-there
 returns-clause-there g c =

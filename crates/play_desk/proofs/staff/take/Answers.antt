@@ -23,6 +23,7 @@ use Rattle.play_desk.specs.Desk.{desk_take, is_fault}
 use Rattle.play_desk.specs.Staff.{RoseBeside, desk_with, faults_in, shelf_at}
 use Rattle.play_desk.proofs.Counting.{faults_later}
 use Rattle.play_desk.proofs.Fitting.{fit_same, fit_take, numbers_set}
+use Rattle.play_desk.proofs.Owning.{own_same, own_take}
 use Rattle.play_desk.proofs.Happening.{Happens, happens, take_no_fault, took}
 use Rattle.play_desk.proofs.Places.{at_index, same_set, some_at}
 use Rattle.play_desk.proofs.Stepping.{count_is, holds_it, is_event, left_alone, refused_step, shelf_there, take_step, takes, was_admitted}
@@ -139,6 +140,23 @@ returns-in-Err-clause-fit g c =
     let same = left_alone (book_in scripts x) (book_in scripts y) _ e (took c.refused_is_unchanged.ensures scripts x y d a (reply_of e) h) in
     fit_same g.D.Disk.view g.D.Disk.tells scripts xs s.tickets k x y c.requires.fit here same c.in-Err.ensures.in_order c.in-Err.ensures.rules
 
+pub returns-in-Err-clause-own : goal.returns-in-Err-clause-own
+returns-in-Err-clause-own g c own =
+    let s = c.args.staff.now in
+    let scripts = scripts_of c.args.setup.now in
+    let xs = s.shelves.items in
+    let k = c.shelf_for-place.result in
+    let x = c.index_mut-shelf.result.now in
+    let y = c.take.new.self in
+    let d = target_of c.in-Some.target in
+    let a = meaning c.in-Ok.answer in
+    let e = c.in-Err.reply in
+    let low : k < length xs = omega (arith, c.if-place-count.false, c.len-count.ensures, s.shelves.ok.0) in
+    let here = at_index xs k x x low c.index_mut-shelf.ensures.value in
+    let h = happens scripts x y (take d a) (reply_of e) c.in-Err.ensures.event in
+    let same = left_alone (book_in scripts x) (book_in scripts y) _ e (took c.refused_is_unchanged.ensures scripts x y d a (reply_of e) h) in
+    own_same g.D.Disk.view g.D.Disk.tells scripts xs s.tickets k x y own here same (c.in-Err.ensures.own (own.own k x here))
+
 pub returns-in-Err-clause-there : goal.returns-in-Err-clause-there
 returns-in-Err-clause-there g c =
     let s = c.args.staff.now in
@@ -200,7 +218,27 @@ returns-in-Ok-take-clause-fit g c =
     let t = c.in-Ok-take.ticket in
     let d = target_of c.in-Some.target in
     let a = meaning c.in-Ok.answer in
-    let b = book_in scripts x in
+    let low : k < length xs = omega (arith, c.if-place-count.false, c.len-count.ensures, s.shelves.ok.0) in
+    let here = at_index xs k x x low c.index_mut-shelf.ensures.value in
+    let place = place_is (length xs) c.len-count.result k c.args.worker d (c.len-count.ensures ∙ s.shelves.ok.0) c.shelf_for-place.ensures in
+    let h = happens scripts x y (take d a) (taken t.number t.nonce) c.in-Ok-take.ensures.event in
+    let it = took c.refused_is_unchanged.ensures scripts x y d a (taken t.number t.nonce) h in
+    let target : target_of t.target ≡ d = ap (λ (z : next.Ticket). z.target) c.in-Ok-take.ensures.ticket in
+    fit_take g.D.Disk.view g.D.Disk.tells scripts xs s.tickets k c.args.worker x y t c.requires.fit here it.2 it.0
+    c.in-Ok-take.ensures.runs c.in-Ok-take.ensures.script
+    (ap (λ (z : Destination). shelf_for (length xs) c.args.worker z) target ∙ place) c.in-Ok-take.ensures.in_order c.in-Ok-take.ensures.rules
+
+pub returns-in-Ok-take-clause-own : goal.returns-in-Ok-take-clause-own
+returns-in-Ok-take-clause-own g c own =
+    let s = c.args.staff.now in
+    let scripts = scripts_of c.args.setup.now in
+    let xs = s.shelves.items in
+    let k = c.shelf_for-place.result in
+    let x = c.index_mut-shelf.result.now in
+    let y = c.take.new.self in
+    let t = c.in-Ok-take.ticket in
+    let d = target_of c.in-Some.target in
+    let a = meaning c.in-Ok.answer in
     let after = book_in scripts y in
     let low : k < length xs = omega (arith, c.if-place-count.false, c.len-count.ensures, s.shelves.ok.0) in
     let here = at_index xs k x x low c.index_mut-shelf.ensures.value in
@@ -208,10 +246,11 @@ returns-in-Ok-take-clause-fit g c =
     let h = happens scripts x y (take d a) (taken t.number t.nonce) c.in-Ok-take.ensures.event in
     let it = took c.refused_is_unchanged.ensures scripts x y d a (taken t.number t.nonce) h in
     let target : target_of t.target ≡ d = ap (λ (z : next.Ticket). z.target) c.in-Ok-take.ensures.ticket in
-    let admitted = was_admitted b after d t.number t.nonce c.in-Ok-take.ensures.refused it.2 in
-    fit_take g.D.Disk.view g.D.Disk.tells scripts xs s.tickets k c.args.worker x y t d a c.requires.fit here h it.2 it.0 c.in-Ok-take.ensures.fits
-    (subst (λ (z : Destination). refusal_of (admit after z) ≡ None) (sym target) admitted)
-    (ap (λ (z : Destination). shelf_for (length xs) c.args.worker z) target ∙ place) c.in-Ok-take.ensures.in_order c.in-Ok-take.ensures.rules
+    let admitted = was_admitted (book_in scripts x) after d t.number t.nonce c.in-Ok-take.ensures.refused it.2 in
+    let mine = own.own k x here in
+    own_take g.D.Disk.view g.D.Disk.tells scripts xs s.tickets k c.args.worker x y t d a own here h c.in-Ok-take.ensures.in_order.orderly
+    (c.in-Ok-take.ensures.fits mine.states) (subst (λ (z : Destination). refusal_of (admit after z) ≡ None) (sym target) admitted)
+    (ap (λ (z : Destination). shelf_for (length xs) c.args.worker z) target ∙ place) (c.in-Ok-take.ensures.own mine)
 
 pub returns-in-Ok-take-clause-there : goal.returns-in-Ok-take-clause-there
 returns-in-Ok-take-clause-there g c =

@@ -9,7 +9,7 @@ use Rattle.play_steps.proofs.Performed.{comes_called, took, published, got_numbe
 use Rattle.play_steps.proofs.performing.perform.Goals as goal
 
 pub returns-in-Take-clause-came : goal.returns-in-Take-clause-came
-returns-in-Take-clause-came g c known =
+returns-in-Take-clause-came g c known own =
     let step : take c.in-Take.worker c.in-Take.target.now ≡ meaning c.args.step.now = search rules in
     let r = g.T.Stage.rules in
     let devices = c.args.devices.now in
@@ -18,10 +18,10 @@ returns-in-Take-clause-came g c known =
     let told = subst (λ (x : Report). MatchResult c.one.result (λ reports. reports.items ≡ x ∷ []) (λ (why : Halt). why ≡ halt.Memory)) c.of_take.ensures c.one.ensures in
     subst (λ (s : Step). Performs r s c.one.result (spot r (g.T.Stage.state c.args.stage.now) (g.T.Stage.faults c.args.stage.now devices))
     (spot r (g.T.Stage.state new) (g.T.Stage.faults new devices))) step
-    (tells r _ _ _ _ c.one.result told (took r _ _ _ _ _ (comes_called r _ _ _ _ _ call.step (call.later devices) (λ rose. rose devices))))
+    (tells r _ _ _ _ c.one.result told (took r _ _ _ _ _ (comes_called r _ _ _ _ _ (call.step own) (call.later devices) (λ rose. rose devices))))
 
 pub returns-in-Publish-clause-came : goal.returns-in-Publish-clause-came
-returns-in-Publish-clause-came g c known =
+returns-in-Publish-clause-came g c known own =
     let r = g.T.Stage.rules in
     let devices = c.args.devices.now in
     let new = c.publish-reply.new.self in
@@ -30,10 +30,10 @@ returns-in-Publish-clause-came g c known =
     subst (λ (s : Step). Performs r s c.one-in-Publish.result (spot r (g.T.Stage.state c.args.stage.now) (g.T.Stage.faults c.args.stage.now devices))
     (spot r (g.T.Stage.state new) (g.T.Stage.faults new devices))) step
     (tells r _ _ _ _ c.one-in-Publish.result c.one-in-Publish.ensures
-    (published r _ _ _ _ (comes_called r _ _ _ _ _ call.step (call.later devices) (λ rose. rose devices))))
+    (published r _ _ _ _ (comes_called r _ _ _ _ _ (call.step own) (call.later devices) (λ rose. rose devices))))
 
 pub returns-in-Ok-clause-came : goal.returns-in-Ok-clause-came
-returns-in-Ok-clause-came g c known =
+returns-in-Ok-clause-came g c known own =
     let r = g.T.Stage.rules in
     let devices = c.args.devices.now in
     let new = c.publish-shown.new.self in
@@ -44,11 +44,11 @@ returns-in-Ok-clause-came g c known =
     (spot r (g.T.Stage.state new) (g.T.Stage.faults new devices))) step
     (tells r _ _ _ _ c.one-in-Ok.result c.one-in-Ok.ensures
     (got_number r _ (spot r (g.T.Stage.state c.take.new.self) (g.T.Stage.faults c.take.new.self devices)) _ _ _ _ _
-    (comes_called r _ _ _ _ _ first.step (first.later devices) (λ rose. rose devices))
-    (comes_called r _ _ _ _ _ second.step (second.later devices) (λ rose. rose devices))))
+    (comes_called r _ _ _ _ _ (first.step own) (first.later devices) (λ rose. rose devices))
+    (comes_called r _ _ _ _ _ (second.step (first.own own)) (second.later devices) (λ rose. rose devices))))
 
 pub returns-in-Err-clause-came : goal.returns-in-Err-clause-came
-returns-in-Err-clause-came g c known =
+returns-in-Err-clause-came g c known own =
     let r = g.T.Stage.rules in
     let devices = c.args.devices.now in
     let new = c.take.new.self in
@@ -57,14 +57,19 @@ returns-in-Err-clause-came g c known =
     subst (λ (s : Step). Performs r s c.one-in-Err.result (spot r (g.T.Stage.state c.args.stage.now) (g.T.Stage.faults c.args.stage.now devices))
     (spot r (g.T.Stage.state new) (g.T.Stage.faults new devices))) step
     (tells r _ _ _ _ c.one-in-Err.result c.one-in-Err.ensures
-    (got_refusal r _ _ _ _ _ (comes_called r _ _ _ _ _ call.step (call.later devices) (λ rose. rose devices))))
+    (got_refusal r _ _ _ _ _ (comes_called r _ _ _ _ _ (call.step own) (call.later devices) (λ rose. rose devices))))
 
 pub returns-in-Crash-clause-came : goal.returns-in-Crash-clause-came
-returns-in-Crash-clause-came g c known =
+returns-in-Crash-clause-came g c known own =
     let r = g.T.Stage.rules in
     let step : crash c.in-Crash.shelf ≡ meaning c.args.step.now = search rules in
     let call = c.crash-opened.ensures in
     let new = c.crash-opened.new in
     subst (λ (s : Step). Performs r s c.crash_report.result (spot r (g.T.Stage.state c.args.stage.now) (g.T.Stage.faults c.args.stage.now c.args.devices.now))
     (spot r (g.T.Stage.state new.self) (g.T.Stage.faults new.self new.devices))) step
-    (crash_performs r _ _ _ _ _ c.crash_report.ensures (call.step (told_crash g.T.Stage.tells _ _ step known)) call.later)
+    (crash_performs r _ _ _ _ _ c.crash_report.ensures (call.step (told_crash g.T.Stage.tells _ _ step known) own) call.later)
+
+pub returns-in-Crash-clause-own : goal.returns-in-Crash-clause-own
+returns-in-Crash-clause-own g c known own =
+    let step : crash c.in-Crash.shelf ≡ meaning c.args.step.now = search rules in
+    c.crash-opened.ensures.own (told_crash g.T.Stage.tells _ _ step known) own

@@ -7,9 +7,10 @@ abbrev pub invariant-loop-shelf : goal.invariant-loop-shelf
 invariant-loop-shelf g l =
     let stage = g.T.Stage in
     record {
-      told : SweptOver stage.rules (stage.state l.initial.stage) (stage.faults l.initial.stage) l.time l.count l.shelf l.told (stage.state l.stage) (stage.faults l.stage);
+      told : stage.own l.initial.stage → SweptOver stage.rules (stage.state l.initial.stage) (stage.faults l.initial.stage) l.time l.count l.shelf l.told (stage.state l.stage) (stage.faults l.stage);
       shelves : stage.rules.shelves (stage.state l.stage) ≡ l.count;
       sound : stage.sound l.stage;
+      own : stage.own l.initial.stage → stage.own l.stage;
       home : StaysHome (stage.at_home l.initial.stage) (stage.at_home l.stage);
       later : StaysUp (stage.faults l.initial.stage) (stage.faults l.stage);
     }

@@ -8,13 +8,14 @@ abbrev pub invariant-loop-rest : goal.invariant-loop-rest
 invariant-loop-rest g l =
     let stage = g.T.Stage in
     record {
-      reached : is_told stage.tells (steps_of l.text) ≡ true
+      reached : is_told stage.tells (steps_of l.text) ≡ true → stage.own l.initial.stage
           → Reached stage.rules (steps_of l.text)
           (scene stage.rules (g.O.Sink.view l.initial.sink).written (stage.state l.initial.stage) (stage.faults l.initial.stage l.initial.devices))
           (scene stage.rules (g.O.Sink.view l.sink).written (stage.state l.stage) (stage.faults l.stage l.devices)) l.number (steps_of l.rest);
       numbered : l.number + length l.rest ≤ length l.text + 1;
       later : (g.O.Sink.view l.initial.sink).faults ≤ (g.O.Sink.view l.sink).faults;
       sound : stage.sound l.stage;
+      own : is_told stage.tells (steps_of l.text) ≡ true → stage.own l.initial.stage → stage.own l.stage;
       home : stage.at_home l.stage l.devices;
       devices_later : stage.faults l.initial.stage l.initial.devices ≤ stage.faults l.stage l.devices;
     }

@@ -57,7 +57,7 @@ returns-in-Ok-end-clause-leaves g c =
     (subst (λ (ss : List Named). Begins rack l.options ss (desk_of first.setup.now first.staff)) c.in-Ok.ensures.scripts
     (begins rack l.options (scripts_of c.in-Ok.setup) c.rules_of-rules.result (desk_of first.setup.now first.staff) c.rules_of-rules.ensures.asked
     (c.in-Ok-open_desk.ensures.desk b.0 b.1) (c.in-Ok-open_desk.ensures.empty b.0 b.1)))
-    (c.in-Ok-end.ensures.measured t) (c.close.ensures.books b.0 b.1))
+    (c.in-Ok-end.ensures.measured t (c.in-Ok-open_desk.ensures.own b.0 b.1)) (c.close.ensures.books b.0 b.1 (c.in-Ok-end.ensures.own t (c.in-Ok-open_desk.ensures.own b.0 b.1))))
     c.tell_measure.ensures.outputs
 
 pub returns-in-Err-Memory-clause-leaves : goal.returns-in-Err-Memory-clause-leaves
@@ -83,7 +83,7 @@ returns-clause-leaves g c =
     (subst (λ (ss : List Named). Begins rack l.options ss (desk_of first.setup.now first.staff)) c.in-Ok.ensures.scripts
     (begins rack l.options (scripts_of c.in-Ok.setup) c.rules_of-rules.result (desk_of first.setup.now first.staff) c.rules_of-rules.ensures.asked
     (c.in-Ok-open_desk.ensures.desk b.0 b.1) (c.in-Ok-open_desk.ensures.empty b.0 b.1)))
-    (c.load-end.ensures.measured t))
+    (c.load-end.ensures.measured t (c.in-Ok-open_desk.ensures.own b.0 b.1)))
     (λ e. let rose = c.load-end.ensures.disk shelf (error_is c.load-end.result shelf why again.Disk is e) in
     omega (arith, rose, c.in-Ok-open_desk.ensures.later_open, c.close.ensures.later))
     (λ t place e. c.load-end.ensures.damaged t shelf place (error_is c.load-end.result shelf why (again.Damaged place) is e))
