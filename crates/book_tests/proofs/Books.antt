@@ -1,10 +1,11 @@
 -- What tickets and effects of these tests stand for.
-use Rattle.std.proofs.Common.{◌≡◌, ◌∙◌, ℕ, List, [], map, length, Option, Some, None, Contains, IfSome, ap, sym, subst}
+use Rattle.std.proofs.Common.{◌≡◌, ℕ, List, [], map, length, Option, Some, None, Contains, IfSome, ap, sym, subst}
 use Rattle.std.proofs.lemmas.List.Elements.{Contains-push}
 use Rattle.replay_spec.specs.Book as spec
 use Rattle.replay_spec.specs.Next as next
 use Rattle.instance_book.specs.Makes.{Makes}
-use Rattle.instance_book.specs.Fits.{GoesOnFrom, IsForSome, IsCopy}
+use Rattle.instance_book.specs.Fits.{FitsScript, IsRunnable, IsCopy}
+use Rattle.instance_book.specs.Places.{arena_of}
 use Rattle.machine_spec.specs.Machine.{Suspended}
 use Rattle.script_nodes.specs.Setup.{Named}
 use Rattle.instance_book.specs.Views.{ticket_of, ticket_for}
@@ -42,15 +43,10 @@ pub ticket_out : (old new : Book) (t : Ticket) (target : Target) (answer : Value
 ticket_out old new t target answer nonce made is =
     subst (λ (n : ℕ). Contains new.out.items n) (sym (ap (λ (x : next.Ticket). x.number) is)) (drawn_out old new made)
 
--- a copy of a ticket is for the same visit
-pub copy_runs : (scripts : List Named) (t copy : Ticket) → IsCopy copy t → IsForSome scripts t → IsForSome scripts copy
+-- a copy of a ticket can be run as well
+pub copy_runs : (scripts : List Named) (t copy : Ticket) → IsCopy copy t → IsRunnable scripts t → IsRunnable scripts copy
 copy_runs scripts t copy same is = record {
-  visit = is.visit;
-  ticket = is.ticket ∙ sym same.ticket;
-  fits = record {
-    script = rw same.script is.fits.script;
-    url = same.url ∙ is.fits.url;
-    from = subst (λ (o : Option Suspended). GoesOnFrom is.visit o) (sym same.from) is.fits.from;
-    links = same.links ∙ is.fits.links;
-  };
+  named = is.named;
+  script = rw same.script is.script;
+  from = subst (λ (o : Option Suspended). FitsScript (arena_of is.named.script) o) (sym same.from) is.from;
 }

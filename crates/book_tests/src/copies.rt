@@ -1,9 +1,9 @@
 ghost use Rattle.std.specs.Prelude.{◌≡◌, ◌<◌, ◌^◌, [], None, IfOk, Contains};
 ghost use Rattle.script_nodes.specs.Views.{scripts_of};
 ghost use Rattle.instance_book.specs.Admissions.{refusal_for};
-ghost use Rattle.instance_book.specs.Fits.{IsForSome};
+ghost use Rattle.instance_book.specs.Fits.{IsRunnable};
 ghost use Rattle.instance_book.specs.Changes.{HasRoomFor};
-ghost use Rattle.instance_book.specs.Makes.{HasItsStates};
+ghost use Rattle.instance_book.specs.Makes.{HasPlaces};
 
 use instance_book::{Book, Prepared, Ticket};
 use page_names::Target;
@@ -21,7 +21,7 @@ const READS: &str =
 
 // A book of the shelf 7 with nothing in it, for the scripts of a setup.
 fn empty_book(alloc: Global, setup: &Setup) -> Book
-    ensures { HasItsStates (scripts_of setup.now) result }
+    ensures { HasPlaces (scripts_of setup.now) result }
 {
     let _ = setup;
     Book::empty(alloc, 7)
@@ -32,9 +32,9 @@ fn empty_book(alloc: Global, setup: &Setup) -> Book
 fn take(alloc: Global, book: &mut Book, setup: &Setup, target: &Target) -> Result<Ticket, Fail>
     requires admitted { refusal_for setup.now book.old target.now ≡ None }
     requires numbers { book.old.drawn < 2 ^ 62 }
-    requires states { HasItsStates (scripts_of setup.now) book.old }
+    requires placed { HasPlaces (scripts_of setup.now) book.old }
     ensures out { IfOk result (λ t. Contains book.new.out.items t.number) }
-    ensures runs { IfOk result (IsForSome (scripts_of setup.now)) }
+    ensures runs { IfOk result (IsRunnable (scripts_of setup.now)) }
 {
     let answer = datum(alloc, "3")?;
     let ticket = book.ticket(alloc, setup, target, answer, 10)?;
@@ -43,9 +43,9 @@ fn take(alloc: Global, book: &mut Book, setup: &Setup, target: &Target) -> Resul
 
 // A ticket for a start.
 fn started(alloc: Global, book: &mut Book, setup: &Setup) -> Result<Ticket, Fail>
-    requires { HasItsStates (scripts_of setup.now) book.old }
+    requires { HasPlaces (scripts_of setup.now) book.old }
     ensures out { IfOk result (λ t. Contains book.new.out.items t.number) }
-    ensures runs { IfOk result (IsForSome (scripts_of setup.now)) }
+    ensures runs { IfOk result (IsRunnable (scripts_of setup.now)) }
 {
     if book.drawn() >= 1_000 {
         return Err(Fail::from("too many tickets"));
@@ -59,7 +59,7 @@ fn started(alloc: Global, book: &mut Book, setup: &Setup) -> Result<Ticket, Fail
 
 // What the run of a ticket shows.
 fn shown(alloc: Global, setup: &Setup, ticket: &Ticket) -> Result<String, Fail>
-    requires { IsForSome (scripts_of setup.now) ticket.now }
+    requires { IsRunnable (scripts_of setup.now) ticket.now }
 {
     let run = run_ticket(alloc, setup, ticket, &ticket.cells, 1_000)?;
     match &run.outcome {
@@ -70,7 +70,7 @@ fn shown(alloc: Global, setup: &Setup, ticket: &Ticket) -> Result<String, Fail>
 
 // Whether a ticket is that of a start, and runs as it.
 fn is_start(alloc: Global, setup: &Setup, ticket: &Ticket) -> Result<bool, Fail>
-    requires { IsForSome (scripts_of setup.now) ticket.now }
+    requires { IsRunnable (scripts_of setup.now) ticket.now }
 {
     let page = shown(alloc, setup, ticket)?;
     Ok(
@@ -81,10 +81,10 @@ fn is_start(alloc: Global, setup: &Setup, ticket: &Ticket) -> Result<bool, Fail>
     )
 }
 
-// A copy of a ticket, which is for the same visit.
+// A copy of a ticket, which can be run as well.
 fn copy_of(alloc: Global, setup: &Setup, ticket: &Ticket) -> Result<Ticket, Fail>
-    requires { IsForSome (scripts_of setup.now) ticket.now }
-    ensures { IfOk result (IsForSome (scripts_of setup.now)) }
+    requires { IsRunnable (scripts_of setup.now) ticket.now }
+    ensures { IfOk result (IsRunnable (scripts_of setup.now)) }
 {
     let _ = setup;
     let copy = ticket.try_clone(alloc)?;
@@ -148,7 +148,7 @@ fn copied(alloc: Global, book: &Book, prepared: &Prepared) -> Result<Prepared, F
 
 // What is prepared, or a copy of it, is installed.
 fn installed(alloc: Global, book: &mut Book, setup: &Setup, is_copy: bool) -> Result<Reply, Fail>
-    requires { HasItsStates (scripts_of setup.now) book.old }
+    requires { HasPlaces (scripts_of setup.now) book.old }
 {
     let ticket = started(alloc, book, setup)?;
     let prepared = prepared(alloc, book, &ticket)?;

@@ -7,15 +7,16 @@ use script_value::{Bytes, TxName, Value};
 use std::alloc::{AllocError, Global};
 use std::test::Fail;
 
-// A page that a start of the second script showed: ticket 3, nonce 7; cell 0 was read and gave #t, and -1 was added to cell 2; nothing was left; until 86400.
+// A page that a start of the second script showed: ticket 3, nonce 7; cell 0 was read and gave #t, and -1 was added to cell 2; nothing was left; until 86400; its state has the bytes 8 and 9.
 const START: &[u8] = &[
     2, 3, 0, 0, 0, 0, 0, 0, 0, 7, 0, 0, 0, 0, 0, 0, 0, // page, ticket, nonce
     0, 1, 5, 0, 0, 0, 0, // start, script, the empty list
     2, 0, 0, 0, 0, 0, 2, 2, 2, 255, 255, 255, 255, 255, 255, 255, 255, // effects
     0, 0, 0, 0, 0, 128, 81, 1, 0, 0, 0, 0, 0, // left, suspend, deadline
+    2, 0, 0, 0, 8, 9, // state
 ];
 
-// A page that an answer showed: ticket 5, nonce 258; page 4 of instance 3 was answered with ((n . "5")), as a list; cell 1 was set to #f; one transaction was left; by a forward, until 1.
+// A page that an answer showed: ticket 5, nonce 258; page 4 of instance 3 was answered with ((n . "5")), as a list; cell 1 was set to #f; one transaction was left; by a forward, until 1; its state has no bytes.
 const ANSWER: &[u8] = &[
     2, 5, 0, 0, 0, 0, 0, 0, 0, 2, 1, 0, 0, 0, 0, 0, 0, // page, ticket, nonce
     1, 3, 0, 0, 0, 0, 0, 0, 0, 4, 0, 0, 0, 0, 0, 0, 0, // answer, instance, page
@@ -23,6 +24,7 @@ const ANSWER: &[u8] = &[
     1, 0, 0, 0, 1, 1, 1, // effects
     1, 0, 0, 0, 3, 0, 0, 0, 0, 0, 0, 0, 2, 0, 0, 0, // left
     1, 1, 0, 0, 0, 0, 0, 0, 0, // forward, deadline
+    0, 0, 0, 0, // state
 ];
 
 // A last page that has no name, for which page 4 of instance 3 was answered with #t.
@@ -73,6 +75,7 @@ fn a_start_is_read_field_by_field(rt: HostRuntime) -> Result<(), Fail> {
     assert_eq!(rt; page.left.len(), 0);
     assert_eq!(rt; page.kind, SendKind::Suspend);
     assert_eq!(rt; page.deadline, 86_400);
+    assert_eq!(rt; page.state.as_slice(), [8, 9].as_slice());
     Ok(())
 }
 
@@ -105,6 +108,7 @@ fn an_answer_is_read_field_by_field(rt: HostRuntime) -> Result<(), Fail> {
     assert_eq!(rt; page.left.as_slice(), [name].as_slice());
     assert_eq!(rt; page.kind, SendKind::Forward);
     assert_eq!(rt; page.deadline, 1);
+    assert_eq!(rt; page.state.len(), 0);
     Ok(())
 }
 

@@ -18,6 +18,10 @@ const PAGES: &str =
 const COUNT: &str =
     "(define c (make-instance-cell 5)) (begin (instance-cell-add! c 1) (send/suspend (lambda (u) \"a\")) (send/suspend (lambda (u) \"b\")) (instance-cell-add! c 2) \"c\")";
 
+// Asks for two numbers, and shows their sum.
+const SUM: &str =
+    "(let ((a (string->number (extract-binding/single 'n (send/suspend (lambda (u) (list 'a (list (list 'href u)) \"1\")))))) (b (string->number (extract-binding/single 'n (send/suspend (lambda (u) (list 'a (list (list 'href u)) \"2\"))))))) (list 'p (number->string (+ a b))))";
+
 fn add_script(alloc: Global, setup: &mut Setup, name: &str, text: &str) -> Result<(), Fail> {
     let script = expand(alloc, read_all(alloc, text.as_bytes())?.as_slice())?;
     setup.push(NamedScript {
@@ -43,6 +47,13 @@ pub fn smaller_setup(alloc: Global) -> Result<Setup, Fail> {
     Ok(setup)
 }
 
+/// A setup of one script, which asks for two numbers.
+pub fn asking_setup(alloc: Global) -> Result<Setup, Fail> {
+    let mut setup = Setup::new(Vec::new(alloc));
+    add_script(alloc, &mut setup, "sum", SUM)?;
+    Ok(setup)
+}
+
 /// The body of the record that a journal of this shelf begins with.
 pub fn begin(alloc: Global, shelf: u32, setup: &Setup) -> Result<Bytes, Fail> {
     if !can_begin(shelf, setup) {
@@ -54,7 +65,7 @@ pub fn begin(alloc: Global, shelf: u32, setup: &Setup) -> Result<Bytes, Fail> {
 // A header and a record with this body.
 fn begun(alloc: Global, first: &[u8]) -> Result<Vec<u8>, Fail> {
     let mut bytes = Vec::new(alloc);
-    bytes.extend_from_slice(&[75, 83, 87, 69, 66, 0, 0, 1])?;
+    bytes.extend_from_slice(&[75, 83, 87, 69, 66, 0, 0, 2])?;
     add(&mut bytes, first)?;
     Ok(bytes)
 }

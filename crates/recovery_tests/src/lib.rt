@@ -4,6 +4,8 @@
 #[cfg(test)]
 mod files;
 #[cfg(test)]
+mod misread;
+#[cfg(test)]
 mod passed_over;
 #[cfg(test)]
 mod ranges;

@@ -7,8 +7,9 @@ use script_value::Value;
 use std::alloc::Global;
 use std::test::Fail;
 
-// Segment 1 starts the script that counts in its cell, which begins with 5, and adds 1 there.
-const START: &str = "2 q1 q9 0 1 5 d0 d1 2 0 q1 d0 0 q100";
+// Segment 1 starts the script that counts in its cell, which begins with 5, and adds 1 there. Its state is that of the first page: the
+// second part of the first node waits.
+const START: &str = "2 q1 q9 0 1 5 d0 d1 2 0 q1 d0 0 q100 d21 d0 d1 2 d0 d1 d0";
 
 // What records make: how many instances there are, the next number, the clock, and the cell of instance 1.
 type Made = (u32, u64, u64, Option<i64>);
@@ -16,56 +17,144 @@ type Made = (u32, u64, u64, Option<i64>);
 // The records, and what they make.
 const MAKE: &[(&[&str], Made)] = &[
     (&[START], (1, 2, 0, Some(6))),
-    // A start whose script adds something else, does nothing, sends its page otherwise, or leaves no transaction.
-    (&["2 q1 q9 0 1 5 d0 d1 2 0 q2 d0 0 q100"], (0, 2, 0, None)),
-    (&["2 q1 q9 0 1 5 d0 d0 d0 0 q100"], (0, 2, 0, None)),
-    (&["2 q1 q9 0 1 5 d0 d1 2 0 q1 d0 1 q100"], (0, 2, 0, None)),
+    // No script is run: a start that tells of something else is taken as it tells, where that holds over the cells. Here it adds
+    // something else, does nothing, sends its page otherwise, or leaves a transaction.
     (
-        &["2 q1 q9 0 1 5 d0 d1 2 0 q1 d1 q0 d0 0 q100"],
+        &["2 q1 q9 0 1 5 d0 d1 2 0 q2 d0 0 q100 d21 d0 d1 2 d0 d1 d0"],
+        (1, 2, 0, Some(7)),
+    ),
+    (
+        &["2 q1 q9 0 1 5 d0 d0 d0 0 q100 d21 d0 d1 2 d0 d1 d0"],
+        (1, 2, 0, Some(5)),
+    ),
+    (
+        &["2 q1 q9 0 1 5 d0 d1 2 0 q1 d0 1 q100 d21 d0 d1 2 d0 d1 d0"],
+        (1, 2, 0, Some(6)),
+    ),
+    (
+        &["2 q1 q9 0 1 5 d0 d1 2 0 q1 d1 q0 d0 0 q100 d21 d0 d1 2 d0 d1 d0"],
+        (1, 2, 0, Some(6)),
+    ),
+    // Two that read the cell, the first of them what is there, and one on a cell that is not there.
+    (
+        &["2 q1 q9 0 1 5 d0 d1 0 0 0 q5 d0 0 q100 d21 d0 d1 2 d0 d1 d0"],
+        (1, 2, 0, Some(5)),
+    ),
+    (
+        &["2 q1 q9 0 1 5 d0 d1 0 0 0 q6 d0 0 q100 d21 d0 d1 2 d0 d1 d0"],
         (0, 2, 0, None),
     ),
-    // One with an effect on a cell that is not there.
-    (&["2 q1 q9 0 1 5 d0 d1 2 1 q1 d0 0 q100"], (0, 2, 0, None)),
-    // An answer to page 1 whose page lives longer; one to another instance, to another page, and one that is sent otherwise.
     (
-        &[START, "2 q2 q9 1 q1 q1 5 d0 d0 d0 0 q200", "5 q100"],
+        &["2 q1 q9 0 1 5 d0 d1 2 1 q1 d0 0 q100 d21 d0 d1 2 d0 d1 d0"],
+        (0, 2, 0, None),
+    ),
+    // An answer to page 1 whose page lives longer, and is the second; one that is sent otherwise, one that reads what is not there,
+    // and one on a cell that is not there.
+    (
+        &[
+            START,
+            "2 q2 q9 1 q1 q1 5 d0 d0 d0 0 q200 d21 d0 d1 2 d0 d2 d0",
+            "5 q100",
+        ],
         (1, 3, 100, Some(6)),
-    ),
-    (
-        &[START, "2 q2 q9 1 q2 q1 5 d0 d0 d0 0 q200", "5 q100"],
-        (0, 3, 100, None),
-    ),
-    (
-        &[START, "2 q2 q9 1 q1 q2 5 d0 d0 d0 0 q200", "5 q100"],
-        (0, 3, 100, None),
-    ),
-    (
-        &[START, "2 q2 q9 1 q1 q1 5 d0 d0 d0 1 q200", "5 q100"],
-        (0, 3, 100, None),
-    ),
-    // One of a number that was told; one behind which the script ends, and one behind which it faults.
-    (
-        &[START, "2 q1 q9 1 q1 q1 5 d0 d0 d0 0 q200", "5 q100"],
-        (0, 2, 100, None),
     ),
     (
         &[
             START,
-            "2 q2 q9 1 q1 q1 5 d0 d0 d0 0 q100",
-            "2 q3 q9 1 q1 q2 5 d0 d1 2 0 q2 d0 0 q200",
+            "2 q2 q9 1 q1 q1 5 d0 d0 d0 1 q200 d21 d0 d1 2 d0 d2 d0",
             "5 q100",
         ],
-        (0, 4, 100, None),
+        (1, 3, 100, Some(6)),
     ),
     (
         &[
-            "2 q1 q9 0 0 5 d0 d0 d0 0 q100",
-            "2 q2 q9 1 q1 q1 5 d0 d0 d0 0 q100",
-            "2 q3 q9 1 q1 q2 5 d0 d0 d0 0 q100",
-            "2 q4 q9 1 q1 q3 5 d0 d0 d0 0 q200",
+            START,
+            "2 q2 q9 1 q1 q1 5 d0 d1 0 0 0 q5 d0 0 q200 d21 d0 d1 2 d0 d2 d0",
             "5 q100",
         ],
-        (0, 5, 100, None),
+        (0, 3, 100, None),
+    ),
+    (
+        &[
+            START,
+            "2 q2 q9 1 q1 q1 5 d0 d1 2 1 q2 d0 0 q200 d21 d0 d1 2 d0 d2 d0",
+            "5 q100",
+        ],
+        (0, 3, 100, None),
+    ),
+    // One of a number that was told.
+    (
+        &[
+            START,
+            "2 q1 q9 1 q1 q1 5 d0 d0 d0 0 q200 d21 d0 d1 2 d0 d2 d0",
+            "5 q100",
+        ],
+        (0, 2, 100, None),
+    ),
+    // One to a page that another one, sent so, has revoked: no admission is asked.
+    (
+        &[
+            START,
+            "2 q2 q9 1 q1 q1 5 d0 d0 d0 1 q100 d21 d0 d1 2 d0 d2 d0",
+            "2 q3 q9 1 q1 q1 5 d0 d0 d0 0 q200 d21 d0 d1 2 d0 d2 d0",
+            "5 q100",
+        ],
+        (1, 4, 100, Some(6)),
+    ),
+    // One behind which the script would end, and one behind a page whose script would send no other.
+    (
+        &[
+            START,
+            "2 q2 q9 1 q1 q1 5 d0 d0 d0 0 q100 d21 d0 d1 2 d0 d2 d0",
+            "2 q3 q9 1 q1 q2 5 d0 d1 2 0 q2 d0 0 q200 d21 d0 d1 2 d0 d1 d0",
+            "5 q100",
+        ],
+        (1, 4, 100, Some(8)),
+    ),
+    (
+        &[
+            "2 q1 q9 0 0 5 d0 d0 d0 0 q100 d21 d0 d1 2 d0 d0 d0",
+            "2 q2 q9 1 q1 q1 5 d0 d0 d0 0 q100 d21 d0 d1 2 d0 d1 d0",
+            "2 q3 q9 1 q1 q2 5 d0 d0 d0 0 q100 d21 d0 d1 2 d0 d2 d0",
+            "2 q4 q9 1 q1 q3 5 d0 d0 d0 0 q200 d21 d0 d1 2 d0 d0 d0",
+            "5 q100",
+        ],
+        (1, 5, 100, None),
+    ),
+    // Where no page stands that is answered, the state is not read, so that it may be anything: of an instance that never was, of
+    // no page of it, of a page of another one, of an instance that expired, of one that is finished, and of none
+    // where the number was told besides.
+    (
+        &[START, "2 q2 q9 1 q2 q1 5 d0 d0 d0 0 q200 d1 9", "5 q100"],
+        (0, 3, 100, None),
+    ),
+    (
+        &[START, "2 q2 q9 1 q1 q2 5 d0 d0 d0 0 q200 d1 9", "5 q100"],
+        (0, 3, 100, None),
+    ),
+    (
+        &[
+            START,
+            "2 q2 q9 0 1 5 d0 d0 d0 0 q100 d21 d0 d1 2 d0 d1 d0",
+            "2 q3 q9 1 q2 q1 5 d0 d0 d0 0 q200 d0",
+        ],
+        (2, 4, 0, Some(6)),
+    ),
+    (
+        &[START, "5 q100", "2 q2 q9 1 q1 q1 5 d0 d0 d0 0 q200 d1 9"],
+        (0, 3, 100, None),
+    ),
+    (
+        &[
+            START,
+            "4 q2 q1 q1 5 d0 d0",
+            "2 q3 q9 1 q1 q1 5 d0 d0 d0 0 q200 d1 9",
+        ],
+        (0, 4, 0, None),
+    ),
+    (
+        &[START, "2 q1 q9 1 q7 q7 5 d0 d0 d0 0 q200 d1 9"],
+        (1, 2, 0, Some(6)),
     ),
     // A last page that adds 2; of another instance, of another page, of a number that was told, on a cell that is not there,
     // and with a read that does not hold.
@@ -92,7 +181,13 @@ const MAKE: &[(&[&str], Made)] = &[
     (&[START, "4 q2 q1 q1 5 d0 d1 0 0 0 q6"], (0, 3, 0, None)),
     // A number is told once, also by a record that is passed over.
     (&["3 q1 q7 q7 5 d0 d0 d0", START], (0, 2, 0, None)),
-    (&["2 q1 q9 0 1 5 d0 d0 d0 0 q100", START], (0, 2, 0, None)),
+    (
+        &[
+            "2 q1 q9 0 1 5 d0 d1 2 1 q1 d0 0 q100 d21 d0 d1 2 d0 d1 d0",
+            START,
+        ],
+        (0, 2, 0, None),
+    ),
     // Time does not go back, and does not stand still.
     (&["5 q50", START, "5 q50"], (1, 2, 50, Some(6))),
     (&["5 q50", START, "5 q49"], (1, 2, 50, Some(6))),
@@ -121,7 +216,7 @@ fn made(alloc: Global, setup: &Setup, records: &[&str]) -> Result<Made, Fail> {
 }
 
 #[test]
-fn what_no_run_records_is_passed_over(rt: HostRuntime) -> Result<(), Fail> {
+fn what_does_not_hold_is_passed_over(rt: HostRuntime) -> Result<(), Fail> {
     let alloc = rt.alloc();
     let setup = setup(alloc)?;
     for (place, (records, wanted)) in MAKE.iter().enumerate() {

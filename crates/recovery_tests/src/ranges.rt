@@ -10,16 +10,16 @@ const LAST: u64 = 4_611_686_018_427_387_903;
 
 // Records whose segment has this number.
 const SEGMENTS: &[&str] = &[
-    "2 # q9 0 0 5 d0 d0 d0 0 q100",
-    "2 # q9 1 q9 q8 5 d0 d0 d0 0 q100",
+    "2 # q9 0 0 5 d0 d0 d0 0 q100 d21 d0 d1 2 d0 d0 d0",
+    "2 # q9 1 q9 q8 5 d0 d0 d0 0 q100 d0",
     "3 # q9 q8 5 d0 d0 d0",
     "4 # q9 q8 5 d0 d0",
 ];
 
 // Records with this number elsewhere: of an instance, of a page, and of a time. That of a transaction may be any.
 const OTHERS: &[&str] = &[
-    "2 q1 q9 1 # q8 5 d0 d0 d0 0 q100",
-    "2 q1 q9 1 q9 # 5 d0 d0 d0 0 q100",
+    "2 q1 q9 1 # q8 5 d0 d0 d0 0 q100 d0",
+    "2 q1 q9 1 q9 # 5 d0 d0 d0 0 q100 d0",
     "3 q1 # q8 5 d0 d0 d0",
     "3 q1 q9 # 5 d0 d0 d0",
     "4 q1 # q8 5 d0 d0",

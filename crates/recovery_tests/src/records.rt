@@ -3,25 +3,29 @@ use crate::words::bytes_of;
 use book_recovery::Found;
 use std::test::Fail;
 
-// Segment 1 starts the script; 2 answers its page, and 3 the page of 2; 4 answers a page that is not there; time goes on.
+// Segment 1 starts the script; 2 answers its page, and 3 the page of 2; 4 answers a page that is not there; time goes on. The state
+// of each page is the part of the first node that waits.
 const START: &[u8] = &[
     2, 1, 0, 0, 0, 0, 0, 0, 0, 9, 0, 0, 0, 0, 0, 0, 0, 0, 0, 5, 0, 0, 0, 0, 0, 0, 0, 0, 0, 0, 0, 0,
-    0, 100, 0, 0, 0, 0, 0, 0, 0,
+    0, 100, 0, 0, 0, 0, 0, 0, 0, 21, 0, 0, 0, // state
+    0, 0, 0, 0, 1, 0, 0, 0, 2, 0, 0, 0, 0, 0, 0, 0, 0, 0, 0, 0, 0,
 ];
 
 const SECOND: &[u8] = &[
     2, 2, 0, 0, 0, 0, 0, 0, 0, 9, 0, 0, 0, 0, 0, 0, 0, 1, 1, 0, 0, 0, 0, 0, 0, 0, 1, 0, 0, 0, 0, 0,
-    0, 0, 5, 0, 0, 0, 0, 0, 0, 0, 0, 0, 0, 0, 0, 0, 200, 0, 0, 0, 0, 0, 0, 0,
+    0, 0, 5, 0, 0, 0, 0, 0, 0, 0, 0, 0, 0, 0, 0, 0, 200, 0, 0, 0, 0, 0, 0, 0, 21, 0, 0, 0, // state
+    0, 0, 0, 0, 1, 0, 0, 0, 2, 0, 0, 0, 0, 1, 0, 0, 0, 0, 0, 0, 0,
 ];
 
 const THIRD: &[u8] = &[
     2, 3, 0, 0, 0, 0, 0, 0, 0, 9, 0, 0, 0, 0, 0, 0, 0, 1, 1, 0, 0, 0, 0, 0, 0, 0, 2, 0, 0, 0, 0, 0,
-    0, 0, 5, 0, 0, 0, 0, 0, 0, 0, 0, 0, 0, 0, 0, 0, 200, 0, 0, 0, 0, 0, 0, 0,
+    0, 0, 5, 0, 0, 0, 0, 0, 0, 0, 0, 0, 0, 0, 0, 0, 200, 0, 0, 0, 0, 0, 0, 0, 21, 0, 0, 0, // state
+    0, 0, 0, 0, 1, 0, 0, 0, 2, 0, 0, 0, 0, 2, 0, 0, 0, 0, 0, 0, 0,
 ];
 
 const ASTRAY: &[u8] = &[
     2, 4, 0, 0, 0, 0, 0, 0, 0, 9, 0, 0, 0, 0, 0, 0, 0, 1, 1, 0, 0, 0, 0, 0, 0, 0, 8, 0, 0, 0, 0, 0,
-    0, 0, 5, 0, 0, 0, 0, 0, 0, 0, 0, 0, 0, 0, 0, 0, 200, 0, 0, 0, 0, 0, 0, 0,
+    0, 0, 5, 0, 0, 0, 0, 0, 0, 0, 0, 0, 0, 0, 0, 0, 200, 0, 0, 0, 0, 0, 0, 0, 1, 0, 0, 0, 9, // state
 ];
 
 const LATE: &[u8] = &[5, 150, 0, 0, 0, 0, 0, 0, 0];
@@ -82,7 +86,7 @@ fn a_journal_of_other_scripts_is_told(rt: HostRuntime) -> Result<(), Fail> {
 }
 
 // A start of a script that the setup has not, a second beginning, and no record.
-const ASTRAY_WORDS: &[&str] = &["2 q1 q9 0 2 5 d0 d0 d0 0 q100", "1 d7 d0", "6"];
+const ASTRAY_WORDS: &[&str] = &["2 q1 q9 0 2 5 d0 d0 d0 0 q100 d0", "1 d7 d0", "6"];
 
 #[test]
 fn what_is_no_later_record_is_damaged(rt: HostRuntime) -> Result<(), Fail> {

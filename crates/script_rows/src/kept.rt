@@ -61,7 +61,7 @@ pub fn kept_told(alloc: Global, script: &Script, chain: &Chain) -> Result<String
         let Outcome::Shown { state, .. } = &twins.machine.outcome else {
             return Ok(told);
         };
-        let kept = KeptState::of(alloc, &before, links, state.try_clone(alloc)?)?;
+        let kept = KeptState::of(alloc, &before, links, state)?;
         let Some(back) = found(alloc, script, &before, &kept)? else {
             return String::from_str(alloc, "not found");
         };

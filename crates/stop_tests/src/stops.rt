@@ -322,15 +322,22 @@ fn expect_pages(
     Ok(())
 }
 
-// How many visits a disk of these bytes tells of: the pages that these showed go on, and no others.
-fn visits_of(alloc: Global, setup: &Setup, bytes: &[u8]) -> Result<u64, Fail> {
-    let mut shelf = opened_again(alloc, setup, bytes)?;
+// How many visits a shelf tells of: the pages that these showed go on, and no others.
+fn visits_in(alloc: Global, shelf: &mut MemoryShelf, setup: &Setup) -> Result<u64, Fail>
+    requires { IsInOrder memory_view true (scripts_of setup.now) shelf.old }
+{
     let visits = shelf.book().drawn();
     if (shelf.live() == 1) != (visits > 0) {
         return Err(Fail::from("another count of instances"));
     }
-    expect_pages(alloc, &mut shelf, setup, visits)?;
+    expect_pages(alloc, shelf, setup, visits)?;
     Ok(visits)
+}
+
+// The same of a disk of these bytes.
+fn visits_of(alloc: Global, setup: &Setup, bytes: &[u8]) -> Result<u64, Fail> {
+    let mut shelf = opened_again(alloc, setup, bytes)?;
+    visits_in(alloc, &mut shelf, setup)
 }
 
 // How many visits more than were told a crash behind such a run leaves. They are still there behind crashes of two openings
