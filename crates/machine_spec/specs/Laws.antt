@@ -3,6 +3,7 @@ use Rattle.std.specs.Prelude.{◌≡◌, ◌≤◌, ◌<◌, ◌+◌, ◌*◌, �
 use Rattle.script_value.specs.Val.{Val}
 use Rattle.script_value.specs.declared.outcome.TxName.{TxName}
 use Rattle.instance_cells.specs.Cells.{reads_of}
+use Rattle.web_cells.specs.Own.{BindsAllOf}
 use Rattle.script_nodes.specs.Arena.{Arena, IsScript, script_of}
 use Rattle.replay_spec.specs.Tape.{Reads, recorded, present, Now, Answer, Tape, State, begins, begin, Outcome}
 use Rattle.replay_spec.specs.Eval.{Segment, segment_at, run}
@@ -89,3 +90,8 @@ TheFirstStopIsTheStop =
     (a : Arena) (m mid : Machine) (s : Stops a m) (k : ℕ) (o : Outcome) (entered : List TxName) (d : Suspended) (state : State)
     → steps a k m ≡ goes mid → step a mid ≡ stopped o entered d state
     → (k + 1 ≤ s.count) × (stopped o entered d state ≡ stopped s.outcome s.entered s.kept s.state)
+
+-- No web cell is unbound: where a page is answered, the state of each page behind it binds the cells that the page's binds.
+pub record NoCellIsUnbound : Type 0 where
+  pub resumed : (a : Arena) (d : Suspended) (x : Answer) (s : Stops a (resumed a d x)) → BindsAllOf d.shadows s.kept.shadows
+  pub replayed : (a : Arena) (t : Tape) (d e : Suspended) (x : Answer) → IsStateOf a t d → IsStateOf a (longer x t) e → BindsAllOf d.shadows e.shadows
