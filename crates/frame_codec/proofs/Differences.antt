@@ -15,9 +15,9 @@ use Rattle.wire_bytes.specs.Spelling.{u32_bytes}
 use Rattle.wire_bytes.specs.Reading.{read_u32}
 use Rattle.value_bytes.specs.Spelling.{values_bytes, list_bytes, HaveBytes, FitsList, HasBytes}
 use Rattle.value_bytes.specs.Reading.{read_list, read_values}
-use Rattle.value_bytes.specs.Laws.{IsExact}
+use Rattle.value_bytes.specs.Laws.{AreBytes, IsExact}
 use Rattle.value_bytes.proofs.Numbers.{u32_exact}
-use Rattle.value_bytes.proofs.Lists.{list_exact}
+use Rattle.value_bytes.proofs.Lists.{list_exact, no_prefix}
 use Rattle.machine_spec.specs.Machine.{Frame, node_at, Suspended}
 use Rattle.machine_spec.specs.Fits.{node_of, Fits}
 use Rattle.stored_states.specs.declared.frame.Frame.{Frame as Stored}
@@ -31,7 +31,7 @@ use Rattle.frame_codec.proofs.Frames.{both_bytes, BothFit, both_exact, values_ex
 use Rattle.frame_codec.proofs.Walks.{lets_fit, walk_fits, fits_walk}
 use Rattle.frame_codec.proofs.Cells.{cells_fit, fit_cells}
 use Rattle.frame_codec.proofs.Lengths.{kept_order}
-use Rattle.frame_codec.proofs.States.{all_reversed, all_both, state_again}
+use Rattle.frame_codec.proofs.States.{all_reversed, all_both, all_first, state_again}
 use Rattle.frame_codec.proofs.Fronts as shared
 
 -- ---- laws
@@ -69,6 +69,9 @@ bound_still p made c e = by_binding (binding c p) (sym (last_binds c made p) ∙
 
 -- ---- what is written is read
 
+some_same : (d e : Delta) → Some d ≡ Some e → d ≡ e
+some_same d e h = ap (λ (o : Option Delta). unwrap_or o d) h
+
 abbrev parts_of : Delta → DeltaParts
 parts_of d = (d.env_shared, (d.env, (d.frames_shared, (d.frames, d.shadows))))
 
@@ -100,7 +103,7 @@ parts_exact a =
     both_exact u32_bytes IsShort read_u32 behind_bytes (BehindFit a)
     (read_both read_values (read_both read_u32 (read_both (read_list (read_frame a)) (read_list read_shadow)))) u32_exact behind
 
-all_behind : {A : Type 0} (P : A → Type 0) (xs ys : List A) → AllByRecursion P (xs ++ ys) → AllByRecursion P ys
+pub all_behind : {A : Type 0} (P : A → Type 0) (xs ys : List A) → AllByRecursion P (xs ++ ys) → AllByRecursion P ys
 all_behind P [] ys h = h
 all_behind P (x ∷ xs) ys h = all_behind P xs ys h.1
 
@@ -119,6 +122,47 @@ delta_back a p s d stored is has =
     let frames = frames_are_read a p s d stored is has in
     ap (λ (b : List ℕ). read_delta a b) (sym (append-nil (delta_bytes d)))
     ∙ ap (λ o. as_delta o) ((parts_exact a).back (parts_of d) [] (has.env_shared, (has.env, (has.frames_shared, (frames, has.shadows)))))
+
+-- the parts of a difference that was read
+as_parts : (o : Option (DeltaParts × List ℕ)) (d : Delta) → as_delta o ≡ Some d → o ≡ Some (parts_of d, [])
+as_parts None d e = absurd (none-some d e)
+as_parts (Some (x, [])) d e =
+    let same = some_same (record { env_shared = x.0; env = x.1.0; frames_shared = x.1.1.0; frames = x.1.1.1.0; shadows = x.1.1.1.1 }) d e in
+    ap (λ (y : Delta). Some (parts_of y, [])) same
+as_parts (Some (x, b ∷ rest)) d e = absurd (none-some d e)
+
+-- what is read is spelled so
+pub record IsDeltaRead (a : Arena) (bytes : List ℕ) (d : Delta) : Type 0 where
+  pub whole : bytes ≡ delta_bytes d
+  pub has : DeltaHasBytes d
+
+pub delta_spelled : (a : Arena) (bytes : List ℕ) (d : Delta) → AreBytes bytes → read_delta a bytes ≡ Some d → IsDeltaRead a bytes d
+delta_spelled a bytes d small e =
+    let s = (parts_exact a).exact bytes (parts_of d) [] small (as_parts (read_delta_parts a bytes) d e) in
+    let frames = all_first FrameHasBytes (λ f. LetFits f (node_at a (node_of f))) d.frames s.fit.1.1.1.0.1 in
+    record {
+      whole = s.whole ∙ append-nil (delta_bytes d);
+      has = record {
+        env_shared = s.fit.0;
+        env = s.fit.1.0;
+        frames_shared = s.fit.1.1.0;
+        frames = (s.fit.1.1.1.0.0, frames);
+        shadows = s.fit.1.1.1.1;
+      };
+    }
+
+-- what is behind one parent's state is no front of what else is
+delta_of_parts : DeltaParts → Delta
+delta_of_parts x = record { env_shared = x.0; env = x.1.0; frames_shared = x.1.1.0; frames = x.1.1.1.0; shadows = x.1.1.1.1 }
+
+pub delta_prefix : (a : Arena) (p s t : Suspended) (d e : Delta) (rest : List ℕ) → IsStored a s → IsStored a t → IsDelta p s d → IsDelta p t e
+    → DeltaHasBytes d → DeltaHasBytes e → delta_bytes d ++ rest ≡ delta_bytes e → (d ≡ e) × (rest ≡ [])
+unfolding delta_of_parts
+delta_prefix a p s t d e rest ss st is ie hd he same =
+    let first : BothFit IsShort (BehindFit a) (parts_of d) = (hd.env_shared, (hd.env, (hd.frames_shared, (frames_are_read a p s d ss is hd, hd.shadows)))) in
+    let second : BothFit IsShort (BehindFit a) (parts_of e) = (he.env_shared, (he.env, (he.frames_shared, (frames_are_read a p t e st ie he, he.shadows)))) in
+    let both = no_prefix (both_bytes u32_bytes behind_bytes) (BothFit IsShort (BehindFit a)) (read_delta_parts a) (parts_exact a) (parts_of d) (parts_of e) rest first second same in
+    (ap delta_of_parts both.0, both.1)
 
 -- ---- what differs has a spelling
 
@@ -183,9 +227,6 @@ frames_joined xs ys zs k e =
     ∙ ap (λ (fs : List Frame). fs ++ map frame_of ys) (sym (take-map frame_of k xs) ∙ ap (λ (fs : List Frame). take k fs) (sym (kept_order xs))))
 
 -- ---- what is read
-
-some_same : (d e : Delta) → Some d ≡ Some e → d ≡ e
-some_same d e h = ap (λ (o : Option Delta). unwrap_or o d) h
 
 -- what these bytes say, and the state that has them as its difference
 record Known (p s : Suspended) (said d : Delta) : Type 0 where

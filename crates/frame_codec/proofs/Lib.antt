@@ -13,3 +13,8 @@ pub mod Fronts
 pub mod Differences
 pub mod Parts
 pub mod Firsts
+pub mod Same
+pub mod Computed
+pub mod Reread
+pub mod Leaving
+pub mod Formed

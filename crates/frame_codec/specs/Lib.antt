@@ -6,6 +6,9 @@ pub mod Laws
 pub mod Views
 pub mod Deltas
 pub mod DeltaViews
+pub mod Difference
+pub mod Forms
+pub mod FormViews
 pub mod Parted
 pub mod PartedViews
 pub mod Fronts

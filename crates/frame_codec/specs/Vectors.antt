@@ -1,5 +1,5 @@
 -- Worked rows.
-use Rattle.std.specs.Prelude.{◌≡◌, ℕ, List, [], ◌∷◌, ◌++◌, Some, None, true, false, codes, refl}
+use Rattle.std.specs.Prelude.{◌≡◌, ℕ, List, [], ◌∷◌, ◌++◌, length, Some, None, true, false, codes, refl}
 use lib.Utf8.{encode}
 use Rattle.std.specs.Str.{is_utf8, chars}
 use Rattle.script_value.specs.Val.{symbol, truth}
@@ -14,6 +14,8 @@ use Rattle.frame_codec.specs.Spelling.{state_bytes, frame_bytes}
 use Rattle.frame_codec.specs.Walk.{frames_fit, shadows_fit}
 use Rattle.frame_codec.specs.Reading.{read_frame, read_state}
 use Rattle.frame_codec.specs.Deltas.{Delta, IsDelta, joined, delta_bytes}
+use Rattle.frame_codec.specs.Difference.{difference}
+use Rattle.frame_codec.specs.Forms.{form_bytes, read_form}
 
 -- a script that binds what stands in the query that a page is answered with, under the name n
 abbrev pub asks : Arena
@@ -110,6 +112,41 @@ it_is_that = record {
 with_it : joined (in_a_transaction 0) its_difference ≡ in_a_transaction 1
 with_it = refl
 
+it_is_computed : difference (in_a_transaction 0) (in_a_transaction 1) ≡ its_difference
+it_is_computed = refl
+
 its_bytes : delta_bytes its_difference
     ≡ 0 ∷ 0 ∷ 0 ∷ 0 ∷ 0 ∷ 0 ∷ 0 ∷ 0 ∷ 2 ∷ 0 ∷ 0 ∷ 0 ∷ 1 ∷ 0 ∷ 0 ∷ 0 ∷ 2 ∷ 10 ∷ 0 ∷ 0 ∷ 0 ∷ 1 ∷ 0 ∷ 0 ∷ 0 ∷ 0 ∷ 0 ∷ 0 ∷ 0 ∷ []
 its_bytes = refl
+
+-- with the byte of its form it takes 30 bytes, and by itself the state takes 48
+thirty_bytes : length (form_bytes (Some (in_a_transaction 0)) (in_a_transaction 1)) ≡ 30
+thirty_bytes = refl
+
+forty_eight_bytes : length (form_bytes None (in_a_transaction 1)) ≡ 48
+forty_eight_bytes = refl
+
+-- what differs from the state itself: its three frames are shared
+abbrev nothing_differs : List ℕ
+nothing_differs = 1 ∷ 0 ∷ 0 ∷ 0 ∷ 0 ∷ 0 ∷ 0 ∷ 0 ∷ 0 ∷ 3 ∷ 0 ∷ 0 ∷ 0 ∷ 0 ∷ 0 ∷ 0 ∷ 0 ∷ 0 ∷ 0 ∷ 0 ∷ 0 ∷ []
+
+it_is_the_same : form_bytes (Some first_page) first_page ≡ nothing_differs
+it_is_the_same = refl
+
+the_same_is_read : read_form asks (Some first_page) nothing_differs ≡ Some first_page
+unfolding read_within
+the_same_is_read = refl
+
+-- the form that is not due
+not_by_itself : read_form asks None nothing_differs ≡ None
+not_by_itself = refl
+
+not_behind_another : read_form asks (Some first_page) (0 ∷ first_page_bytes) ≡ None
+not_behind_another = refl
+
+-- two frames are said to be shared, and the third, which is, stands there
+told_too_short : read_form asks (Some first_page)
+    (1 ∷ 0 ∷ 0 ∷ 0 ∷ 0 ∷ 0 ∷ 0 ∷ 0 ∷ 0 ∷ 2 ∷ 0 ∷ 0 ∷ 0 ∷ 1 ∷ 0 ∷ 0 ∷ 0
+    ∷ 6 ∷ 2 ∷ 0 ∷ 0 ∷ 0 ∷ 1 ∷ 0 ∷ 0 ∷ 0 ∷ 4 ∷ 1 ∷ 0 ∷ 0 ∷ 0 ∷ 110 ∷ 0 ∷ 0 ∷ 0 ∷ 0 ∷ []) ≡ None
+unfolding read_within is_utf8 chars encode
+told_too_short = refl

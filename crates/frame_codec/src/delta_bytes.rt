@@ -4,6 +4,7 @@ ghost use Rattle.stored_states.specs.Views.{suspended_of};
 ghost use Rattle.value_bytes.specs.Views.{Reads};
 ghost use Rattle.frame_codec.specs.Stored.{IsStored};
 ghost use Rattle.frame_codec.specs.Deltas.{delta_bytes, joined, DeltaHasBytes, SpellsDelta, HasNoDelta};
+ghost use Rattle.frame_codec.specs.FormViews.{ReadsDifference};
 ghost use Rattle.frame_codec.specs.Parted.{delta_parts};
 ghost use Rattle.frame_codec.specs.PartedViews.{parted_of};
 ghost use Rattle.frame_codec.specs.Deltas as spec;
@@ -131,10 +132,8 @@ fn join_to(alloc: Global, parent: &Suspended, delta: Delta) -> Result<Suspended,
     join(alloc, parent.try_clone(alloc)?, delta)
 }
 
-/// The difference that these bytes spell, of a state that fits the script, has a spelling and binds what its parent binds; none where no such state differs so from its parent.
-///
-/// A front that is told shorter than it is, or anything else that the parent has already, is no difference. What it takes of memory is what the bytes that are there and the parent's state ask for: no count in them is trusted.
-pub fn decode_delta(
+// The difference that these bytes spell.
+fn find_delta(
     alloc: Global,
     script: &Script,
     parent: &Suspended,
@@ -156,5 +155,25 @@ pub fn decode_delta(
         Ok(Some(delta))
     } else {
         Ok(None)
+    }
+}
+
+/// The difference that these bytes spell, of a state that fits the script, has a spelling and binds what its parent binds; none where no such state differs so from its parent.
+///
+/// A front that is told shorter than it is, or anything else that the parent has already, is no difference. What it takes of memory is what the bytes that are there and the parent's state ask for: no count in them is trusted.
+pub fn decode_delta(
+    alloc: Global,
+    script: &Script,
+    parent: &Suspended,
+    bytes: &[u8],
+) -> Result<Option<Delta>, AllocError>
+    requires { Rise parent.now.shades }
+    ensures spelled { IfOk result (λ found. IfSome found (λ d. SpellsDelta script.now (suspended_of parent.now) bytes.now (delta_of d))) }
+    ensures none { IfOk result (λ found. IsNone found → HasNoDelta script.now (suspended_of parent.now) bytes.now) }
+    ensures read { IfOk result (ReadsDifference script.now parent.now bytes.now) }
+{
+    match find_delta(alloc, script, parent, bytes)? {
+        Some(delta) => Ok(Some(delta)),
+        None => Ok(None),
     }
 }

@@ -2,6 +2,7 @@ ghost use Rattle.std.specs.Prelude.{◌≡◌, IfOk, take};
 ghost use Rattle.web_cells.specs.Shadows.{all_bound};
 ghost use Rattle.stored_states.specs.Views.{suspended_of};
 ghost use Rattle.frame_codec.specs.Deltas.{IsDelta, GoesOnFrom, joined};
+ghost use Rattle.frame_codec.specs.Difference.{difference as computed};
 ghost use Rattle.frame_codec.specs.DeltaViews.{delta_of};
 ghost use Rattle.frame_codec.specs.Fronts as spec;
 
@@ -40,6 +41,7 @@ fn difference(alloc: Global, parent: &Suspended, state: &Suspended) -> Result<De
 /// With it the parent's state is the state again, where the web cells of both rise and this binds each that its parent binds.
 pub fn delta(alloc: Global, parent: &Suspended, state: &Suspended) -> Result<Delta, AllocError>
     ensures delta { IfOk result (λ d. IsDelta (suspended_of parent.now) (suspended_of state.now) (delta_of d)) }
+    ensures computed { IfOk result (λ d. delta_of d ≡ computed (suspended_of parent.now) (suspended_of state.now)) }
     ensures back { IfOk result (λ d. GoesOnFrom (suspended_of parent.now) (suspended_of state.now) → joined (suspended_of parent.now) (delta_of d) ≡ suspended_of state.now) }
 {
     Ok(difference(alloc, parent, state)?)

@@ -3,11 +3,14 @@
 
 ghost use Rattle.frame_codec.specs.Laws.{AreStatesExact, EachKeptIsStored};
 ghost use Rattle.frame_codec.specs.Deltas.{DeltasAreOne, EachDeltaHasBytes};
+ghost use Rattle.frame_codec.specs.Difference.{DifferencesAreComputed, DifferencesAreExact};
+ghost use Rattle.frame_codec.specs.Forms.{FormsAreExact};
 ghost use Rattle.frame_codec.specs.Fronts.{AreFrontsRead, FrontsJoin};
 
 mod delta_bytes;
 mod difference;
 mod fit;
+mod forms;
 mod front_bytes;
 mod joined;
 mod need;
@@ -21,6 +24,7 @@ mod write;
 
 pub use delta_bytes::{decode_delta, encode_delta, is_delta_spelled, is_stored, spell_delta};
 pub use difference::Delta;
+pub use forms::{ALONE, BEHIND, decode_form, encode_form, with_form};
 pub use front_bytes::{read_delta_front, read_front};
 pub use joined::{copied_front, delta, join};
 pub use need::Need;
@@ -43,6 +47,22 @@ pub fn what_is_kept_is_stored()
 /// A state has one difference from its parent.
 pub fn deltas_are_one()
     ensures { DeltasAreOne }
+{}
+
+/// It is the one that is computed, with which the parent's state is the state again.
+pub fn differences_are_computed()
+    ensures { DifferencesAreComputed }
+{}
+
+/// What is written of a difference is read back, and what is read is spelled so, of a state that fits; where nothing is read no state
+/// has these bytes; no spelling is the front of another one.
+pub fn differences_are_exact()
+    ensures { DifferencesAreExact }
+{}
+
+/// Both forms of states are exact: what is written is read back, and what is read is spelled so.
+pub fn forms_are_exact()
+    ensures { FormsAreExact }
 {}
 
 /// What differs between a state that has a spelling and its parent's has one too.

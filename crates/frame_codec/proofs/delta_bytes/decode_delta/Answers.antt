@@ -1,30 +1,19 @@
-use Rattle.std.proofs.Common.{sym, ap, ◌∙◌, option_map, refl}
-use Rattle.std.proofs.lemmas.Bool.{false≢true}
+use Rattle.std.proofs.Common.{sym, ap, subst, IfSome}
+use Rattle.std.specs.Option.{is_some}
 use Rattle.stored_states.specs.Views.{suspended_of}
+use Rattle.frame_codec.specs.Deltas.{SpellsDelta}
 use Rattle.frame_codec.specs.DeltaViews.{delta_of}
-use Rattle.frame_codec.proofs.Differences.{nothing_said, not_stored, another_spelling, spelled_so}
+use Rattle.frame_codec.proofs.Reread.{spelled_is_read, unspelled_is_none}
 use Rattle.frame_codec.proofs.delta_bytes.decode_delta.Goals as goal
 
-pub returns-in_default-clause-none : goal.returns-in_default-clause-none
-returns-in_default-clause-none c =
-    let read = sym c.in_ok-said.ensures ∙ ap (λ o. option_map delta_of o) c.in_default.is in
-    λ e. nothing_said c.args.script.now (suspended_of c.args.parent.now) c.args.bytes.now read
+pub returns-in-Some-clause-read : goal.returns-in-Some-clause-read
+returns-in-Some-clause-read c =
+    let a = c.args.script.now in let p = suspended_of c.args.parent.now in let bytes = c.args.bytes.now in
+    let spells : SpellsDelta a p bytes (delta_of c.in-Some.delta) =
+    subst (λ o. IfSome o (λ d. SpellsDelta a p bytes (delta_of d))) c.in-Some.is c.in_ok-delta.ensures.spelled in
+    λ stored. sym (spelled_is_read a p bytes (delta_of c.in-Some.delta) spells)
 
-pub returns-then-not-is_stored-clause-none : goal.returns-then-not-is_stored-clause-none
-returns-then-not-is_stored-clause-none c =
-    let read = sym c.in_ok-said.ensures ∙ ap (λ o. option_map delta_of o) c.in-Some.is in
-    λ e. not_stored c.args.script.now (suspended_of c.args.parent.now) (suspended_of c.in_ok-state.state) c.args.bytes.now (delta_of c.in-Some.said)
-    c.requires read c.in_ok-state.ensures (λ s. false≢true (c.if-not-is_stored.ensures.1 s))
-
-pub returns-then-branch-clause-spelled : goal.returns-then-branch-clause-spelled
-returns-then-branch-clause-spelled c =
-    spelled_so c.args.script.now (suspended_of c.args.parent.now) (suspended_of c.in_ok-state.state) c.args.bytes.now (delta_of c.in-Some.said)
-    (delta_of c.in_ok-delta.delta) c.requires c.in_ok-state.ensures (c.if-not-is_stored.ensures.0 refl) c.in_ok-delta.ensures.delta c.in_ok-delta.ensures.back
-    (c.in_ok-has_these_bytes.ensures.0 c.if-branch.true)
-
-pub returns-clause-none : goal.returns-clause-none
-returns-clause-none c =
-    let read = sym c.in_ok-said.ensures ∙ ap (λ o. option_map delta_of o) c.in-Some.is in
-    λ e. another_spelling c.args.script.now (suspended_of c.args.parent.now) (suspended_of c.in_ok-state.state) c.args.bytes.now (delta_of c.in-Some.said)
-    (delta_of c.in_ok-delta.delta) c.requires read c.in_ok-state.ensures c.in_ok-delta.ensures.delta
-    (λ h. false≢true (sym c.if-branch.false ∙ c.in_ok-has_these_bytes.ensures.1 h))
+pub returns-in-None-clause-read : goal.returns-in-None-clause-read
+returns-in-None-clause-read c =
+    λ stored. sym (unspelled_is_none c.args.script.now (suspended_of c.args.parent.now) c.args.bytes.now stored (λ i. (c.type_inv.bytes i).fits)
+    (c.in_ok-delta.ensures.none (ap (λ o. is_some o) c.in-None.is)))

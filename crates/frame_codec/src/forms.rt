@@ -1,0 +1,99 @@
+ghost use Rattle.std.specs.Prelude.{◌≡◌, ◌∷◌, IfOk};
+ghost use Rattle.stored_states.specs.Views.{suspended_of};
+ghost use Rattle.frame_codec.specs.Spelling.{StateHasBytes};
+ghost use Rattle.frame_codec.specs.Stored.{IsStored};
+ghost use Rattle.frame_codec.specs.Forms.{IsStoredBefore};
+ghost use Rattle.frame_codec.specs.FormViews.{before_of, IsFormOf, ReadsForm, ReadsBehind};
+
+use crate::delta_bytes::{decode_delta, spell_delta};
+use crate::joined::{delta, join};
+use crate::state::decode;
+use crate::write::spell_state;
+use script_nodes::Script;
+use script_value::Bytes;
+use std::alloc::{AllocError, Global};
+use stored_states::Suspended;
+
+/// The byte before a state that is written by itself.
+pub const ALONE: u8 = 0;
+
+/// The byte before what differs from the state that a state is written behind.
+pub const BEHIND: u8 = 1;
+
+/// A spelling behind the byte of its form.
+pub fn with_form(alloc: Global, form: u8, spelling: &[u8]) -> Result<Bytes, AllocError>
+    ensures { IfOk result (λ bytes. bytes ≡ form ∷ spelling.now) }
+{
+    let mut bytes = Vec::new(alloc);
+    bytes.push(form)?;
+    bytes.extend_from_slice(spelling)?;
+    Ok(Bytes::new(bytes))
+}
+
+/// The bytes of a state that has a spelling: by itself, or behind the state of the page before as what differs from it.
+pub fn encode_form(
+    alloc: Global,
+    before: Option<&Suspended>,
+    state: &Suspended,
+) -> Result<Bytes, AllocError>
+    requires { StateHasBytes (suspended_of state.now) }
+    ensures { IfOk result (λ bytes. IsFormOf before.entry state.now bytes) }
+{
+    match before {
+        None => with_form(alloc, ALONE, spell_state(alloc, state)?.as_slice()),
+        Some(parent) => {
+            let delta = delta(alloc, parent, state)?;
+            with_form(alloc, BEHIND, spell_delta(alloc, &delta)?.as_slice())
+        }
+    }
+}
+
+// The state that these bytes spell behind another one.
+fn decode_behind(
+    alloc: Global,
+    script: &Script,
+    parent: &Suspended,
+    bytes: &[u8],
+) -> Result<Option<Suspended>, AllocError>
+    requires { IsStored script.now (suspended_of parent.now) }
+    ensures { IfOk result (ReadsBehind script.now parent.now bytes.now) }
+{
+    match decode_delta(alloc, script, parent, bytes)? {
+        Some(delta) => Ok(Some(join(alloc, parent.try_clone(alloc)?, delta)?)),
+        None => Ok(None),
+    }
+}
+
+/// The state that these bytes spell in the form that is due, and that fits the script; none where no such state has them: by itself,
+/// or behind the state of the page before.
+///
+/// No count in the bytes is trusted.
+pub fn decode_form(
+    alloc: Global,
+    script: &Script,
+    before: Option<&Suspended>,
+    bytes: &[u8],
+) -> Result<Option<Suspended>, AllocError>
+    requires { IsStoredBefore script.now (before_of before) }
+    ensures { IfOk result (ReadsForm script.now before.entry bytes.now) }
+{
+    let [form, spelling @ ..] = bytes else {
+        return Ok(None);
+    };
+    match before {
+        None => {
+            if *form == ALONE {
+                Ok(decode(alloc, script, spelling)?)
+            } else {
+                Ok(None)
+            }
+        }
+        Some(parent) => {
+            if *form == BEHIND {
+                Ok(decode_behind(alloc, script, parent, spelling)?)
+            } else {
+                Ok(None)
+            }
+        }
+    }
+}
