@@ -10,13 +10,12 @@ use Rattle.replay_spec.specs.Tape as tape
 use Rattle.replay_spec.specs.Eval.{Segment}
 use Rattle.replay_spec.specs.Book.{Change, opens, extends, ends, finishes, sweeps, Doubt, Book, reopened}
 use Rattle.replay_spec.specs.Rules.{Journal, Rules}
-use Rattle.replay_spec.specs.Admission.{◌>>=◌, when, or_else, Admission, begins, resumes, refused, admit}
+use Rattle.replay_spec.specs.Admission.{when, or_else, Admission, begins, resumes, refused, admit}
 use Rattle.replay_spec.specs.Next.{Ticket, Origin, starts, answers, Visit, comes_to, start_visit, page_visit, url_for}
 use Rattle.replay_spec.specs.Step.{Reply, Decision, replies, records, unless, down_by, change_by, reply_by, full, too_long, full_journal, with_room, stopped, decide, publish_comes}
 use Rattle.replay_spec.proofs.Going.{Records}
-use Rattle.machine_spec.specs.Machine.{Suspended}
 use Rattle.journal_records.specs.Records.{changes, are_shallow, has_state, body_length, record_length}
-use Rattle.journal_books.specs.Lengths.{state_by, told_bytes, state_told, journal_rules}
+use Rattle.journal_books.specs.Lengths.{state_by, state_told, journal_rules}
 use Rattle.journal_books.specs.Keeping.{body_by}
 use Rattle.journal_books.proofs.Typed.{both_true}
 
@@ -85,8 +84,15 @@ moved_state b drawn out down (ends e) = refl
 moved_state b drawn out down (finishes f) = refl
 moved_state b drawn out down (sweeps tick) = refl
 
+pub moved_told : (b : Book) (drawn : ℕ) (out : List ℕ) (down : Option Doubt) (c : Change) → state_told (record b { drawn = drawn; out = out; down = down }) c ≡ state_told b c
+moved_told b drawn out down (opens o) = refl
+moved_told b drawn out down (extends x) = refl
+moved_told b drawn out down (ends e) = refl
+moved_told b drawn out down (finishes f) = refl
+moved_told b drawn out down (sweeps tick) = refl
+
 reopened_told : (b : Book) (c : Change) → state_told (reopened b) c ≡ state_told b c
-reopened_told b c = ap (λ (s : Option Suspended). s >>= told_bytes) (moved_state b b.logged [] None c)
+reopened_told b c = moved_told b b.logged [] None c
 
 -- ---- no value of a change nests too deep, its page has a state, and its body is short
 
@@ -95,7 +101,7 @@ pub record IsShort (c : Change) (state : Option (List ℕ)) : Type 0 where
   pub has : has_state c state ≡ true
   pub low : length (body_by c state) ≤ 1048576
 
-length_short : (c : Change) (state : Option (List ℕ)) → record_length c state ≤ 1048576 → IsShort c state
+pub length_short : (c : Change) (state : Option (List ℕ)) → record_length c state ≤ 1048576 → IsShort c state
 length_short c state low = by_test (are_shallow c && has_state c state) refl low
   where
     by_test : (t : Bool) → (are_shallow c && has_state c state) ≡ t → (if t then body_length (changes c state) else 2 ^ 63) ≤ 1048576 → IsShort c state

@@ -11,7 +11,7 @@ use Rattle.page_journal.proofs.Frames.{length-framed, length-at_rest}
 use Rattle.replay_spec.specs.Book.{Instance, Opening, Change, opens, extends, ends, finishes, sweeps, Doubt, Book, instance_at, is_live, reopened}
 use Rattle.replay_spec.specs.Rules.{Rules}
 use Rattle.replay_spec.specs.Change.{mend, root_by, page_by, done, shown_by, fresh, opened_by, instances_by, logged_by, clock_by, longer_by}
-use Rattle.replay_spec.specs.Recovery.{Made, nothing_made, redone}
+use Rattle.replay_spec.specs.Recovery.{redone}
 use Rattle.machine_spec.specs.Machine.{inside_of}
 use Rattle.replay_spec.specs.Invariant.{Among, Apart}
 use Rattle.replay_spec.specs.Remade.{AreUsed, IsOrderlyMade}
@@ -23,7 +23,8 @@ use Rattle.journal_records.specs.Records.{ChangeFits, Record, begins, changes, b
 use Rattle.journal_records.specs.Reading.{read_record}
 use Rattle.journal_records.specs.Laws.{AreRecordsExact}
 use Rattle.value_bytes.specs.Laws.{AreBytes}
-use Rattle.journal_books.specs.Retaking.{Told, unread, misread, told, script_for, told_by, landing, rules_for, retaken}
+use Rattle.journal_books.specs.Before.{Made, plain, nothing_made}
+use Rattle.journal_books.specs.Retaking.{Told, unread, misread, told, told_in, landing, rules_for, retaken}
 use Rattle.journal_books.specs.Making.{Making, nothing, made, damaged, other, rules_over, are_told, has_script, told_next, first_by, next_by, with_body, with_bodies}
 use Rattle.journal_books.specs.Keeping.{AreAllBytes, IsWhole, AreWhole, IsTakenDoubt}
 use Rattle.journal_books.proofs.Retaken.{retaken_orderly}
@@ -60,7 +61,7 @@ whole_redone rules c (Some inside) b apart setup h = whole_by b.scripts b.instan
 
 -- what a book under way has, whose journal's next gate is at this place; its length is known where all bodies are bytes
 record Fits (all : Type 0) (scripts : List Named) (shelf place : ℕ) (m : Made) : Type 0 where
-  orderly : IsOrderlyMade m
+  orderly : IsOrderlyMade (plain m)
   scripts_are : m.book.scripts ≡ scripts
   shelf_is : m.book.shelf ≡ shelf
   whole : AreWhole scripts → WholeIn m.book.instances
@@ -178,15 +179,15 @@ redone_range rules c state None b h logged low = (let n = logged_range c state h
 redone_range rules c state (Some inside) b h logged low = (let n = logged_range c state h in omega (arith, n, logged), clock_range c state b.clock h low)
 
 -- a record that is read, and lands with these names or is passed over
-taken_fits : AreRecordsExact → (all : Type 0) (scripts : List Named) (shelf place : ℕ) (body : List ℕ) (m : Made) (c : Change) (state : Option (List ℕ)) (inside : List TxName)
+taken_fits : AreRecordsExact → (all : Type 0) (scripts : List Named) (shelf place : ℕ) (body : List ℕ) (m : Made) (c : Change) (state : Option (List ℕ)) (inside : List TxName) (t : Told)
     → read_record body ≡ Some (changes c state) → (all → AreBytes body) → Fits all scripts shelf place m
-    → Fits all scripts shelf (place + 5 + length body) (retaken (length body) c (landing m c inside) m)
-taken_fits x all scripts shelf place body m c state inside e are h =
+    → Fits all scripts shelf (place + 5 + length body) (retaken (length body) c (landing m c inside) t m)
+taken_fits x all scripts shelf place body m c state inside t e are h =
     let n = length body in
     let o = landing m c inside in
     let rules = redone_scripts (rules_for n) c o m.book in
     record {
-      orderly = retaken_orderly n c inside m h.orderly;
+      orderly = retaken_orderly n c inside t m h.orderly;
       scripts_are = rules.0 ∙ h.scripts_are;
       shelf_is = rules.1 ∙ h.shelf_is;
       whole = λ setup. whole_redone (rules_for n) c o m.book h.orderly.instances.apart (subst AreWhole (sym h.scripts_are) setup) (h.whole setup);
@@ -200,9 +201,9 @@ taken_fits x all scripts shelf place body m c state inside e are h =
 told_fits : AreRecordsExact → (all : Type 0) (scripts : List Named) (shelf place : ℕ) (body : List ℕ) (m : Made) (c : Change) (state : Option (List ℕ)) (t : Told)
     → read_record body ≡ Some (changes c state) → (all → AreBytes body) → Fits all scripts shelf place m
     → FitsMaking all scripts shelf (place + 5 + length body) (told_next place (length body) m c t)
-told_fits x all scripts shelf place body m c state unread e are h = taken_fits x all scripts shelf place body m c state [] e are h
+told_fits x all scripts shelf place body m c state unread e are h = taken_fits x all scripts shelf place body m c state [] unread e are h
 told_fits x all scripts shelf place body m c state misread e are h = tt
-told_fits x all scripts shelf place body m c state (told d) e are h = taken_fits x all scripts shelf place body m c state (inside_of d.frames) e are h
+told_fits x all scripts shelf place body m c state (told d) e are h = taken_fits x all scripts shelf place body m c state (inside_of d.frames) (told d) e are h
 
 next_fits : AreRecordsExact → (all : Type 0) (scripts : List Named) (shelf place : ℕ) (body : List ℕ) (m : Made) (o : Option Record) → read_record body ≡ o → (all → AreBytes body)
     → Fits all scripts shelf place m → FitsMaking all scripts shelf (place + 5 + length body) (next_by scripts place (length body) m o)
@@ -210,9 +211,9 @@ next_fits x all scripts shelf place body m None e are h = tt
 next_fits x all scripts shelf place body m (Some (begins s named)) e are h = tt
 next_fits x all scripts shelf place body m (Some (changes c state)) e are h = by_test (has_script (length scripts) c)
   where
-    by_test : (t : Bool) → FitsMaking all scripts shelf (place + 5 + length body) (if t then told_next place (length body) m c (told_by (script_for m.book c) state) else damaged place)
+    by_test : (t : Bool) → FitsMaking all scripts shelf (place + 5 + length body) (if t then told_next place (length body) m c (told_in m.earlier m.book c state) else damaged place)
     by_test false = tt
-    by_test true = told_fits x all scripts shelf place body m c state (told_by (script_for m.book c) state) e are h
+    by_test true = told_fits x all scripts shelf place body m c state (told_in m.earlier m.book c state) e are h
 
 one_fits : AreRecordsExact → (all : Type 0) (scripts : List Named) (shelf place : ℕ) (body : List ℕ) (m : Making) → (all → AreBytes body) → FitsMaking all scripts shelf place m
     → FitsMaking all scripts shelf (place + 5 + length body) (with_body scripts shelf place body m)
@@ -248,11 +249,11 @@ made_fits x scripts shelf bodies m is =
       scripts_are = h.scripts_are;
       shelf_is = h.shelf_is;
       recoverable = λ setup. record {
-        orderly = (made_orderly (rules_over scripts shelf)).2 m h.orderly;
+        orderly = (made_orderly (rules_over scripts shelf)).2 (plain m) h.orderly;
         whole = record { setup = λ k s at. setup k s (ap (λ (ss : List Named). slice_get ss k) (sym h.scripts_are) ∙ at); instances = h.whole setup };
         doubted = unread;
         doubt = no_doubt m.book m.book.down (ap (λ (b : Book). b.down) h.orderly.again);
-        used = subst (AreUsed m.seen) (sym h.orderly.again) (all_used m.book m.seen h.orderly.counted);
+        used = subst (AreUsed m.earlier.seen) (sym h.orderly.again) (all_used m.book m.earlier.seen h.orderly.counted);
       };
       range = λ bytes. record {
         drawn = let again : m.book.drawn ≡ m.book.logged = ap (λ (b : Book). b.drawn) h.orderly.again in let low = (h.range bytes).0 in omega (arith, again, low);

@@ -11,10 +11,10 @@ use Rattle.replay_spec.specs.Rules.{Journal, Rules, empty_book}
 use Rattle.replay_spec.specs.Change.{instances_by, land}
 use Rattle.replay_spec.specs.Step.{Event, take, publish, sweep, crash, Fate, Decision, publish_comes, sweep_comes, fate_of, settle, swept, take_by, step}
 use Rattle.replay_spec.specs.Runs.{lands}
-use Rattle.replay_spec.specs.Recovery.{Made, nothing_made, number_in, with_number}
+use Rattle.replay_spec.specs.Recovery.{number_in}
 use Rattle.replay_spec.specs.Invariant.{Among, IsOf, IsOrderlyChange, IsOrderly}
-use Rattle.replay_spec.specs.Laws.{Moment, then_book, book_after}
-use Rattle.replay_spec.specs.Remade.{KeepsSetup, AreUsed, made_of, AreUnder}
+use Rattle.replay_spec.specs.Laws.{IsLawful, Moment, then_book, book_after}
+use Rattle.replay_spec.specs.Remade.{KeepsSetup, AreUsed, AreUnder}
 use Rattle.replay_spec.proofs.Stand.{Later, among_of}
 use Rattle.replay_spec.proofs.Going.{goes}
 use Rattle.replay_spec.proofs.Orderly.{stepped, is_out, published, published_fewer}
@@ -25,61 +25,64 @@ use Rattle.machine_spec.specs.Machine.{Suspended, inside_of}
 use Rattle.journal_records.specs.Records.{Record, changes, IsInGrammar, begin_of}
 use Rattle.journal_records.specs.Reading.{read_record}
 use Rattle.journal_records.specs.Laws.{AreRecordsExact}
-use Rattle.journal_books.specs.Retaking.{Told, unread, misread, told, script_for, told_by, held, landing, IsLanded, rules_for, retaken}
+use Rattle.journal_books.specs.Before.{Earlier, nothing_told, Made, made_of, nothing_made}
+use Rattle.journal_books.specs.Retaking.{Told, unread, misread, told, told_in, held, landing, IsLanded, rules_for, then_told, retaken}
 use Rattle.journal_books.specs.Lengths.{state_by, state_told, told_own, own_told, own_body, journal_rules}
 use Rattle.journal_books.specs.Making.{nothing, made, rules_over, has_script, told_next, book_of}
-use Rattle.journal_books.specs.Owning.{OfEach, IsOwnState, IsOwnRecord, AreOwn, IsLandedRecord, AreLanded}
+use Rattle.journal_books.specs.Owning.{OfEach, IsOwnState, IsOwnRecord, AreOwn, IsLandedRecord, AreLanded, IsOwnBefore}
 use Rattle.journal_books.specs.Keeping.{AreWhole, HasWholeScripts, IsTakenAs, IsTakenDoubt, IsOut, landed_in, Keeps, KeepsDoubt, KeepsWith, body_by, first_body, landed_bodies, bodies_of, IsSpelled}
 use Rattle.journal_books.specs.Laws.{AreOver, LandingsAreKept, EventsAreKept, RunsAreKept, FreshJournalsSuffice}
 use Rattle.journal_books.proofs.Brief.{moved_state}
-use Rattle.journal_books.proofs.Owned.{own_read}
+use Rattle.journal_books.proofs.Owned.{own_is_read}
+use Rattle.journal_books.proofs.Telling.{own_are_told, own_before_is}
 use Rattle.journal_books.proofs.Retaken.{held_fits, held_script}
 use Rattle.journal_books.proofs.Makings.{made_push, made_first}
 use Rattle.journal_books.proofs.Fitting.{WholeIn, whole_by, made_fits}
-use Rattle.journal_books.proofs.Taking.{IsNew, moved_script, there, seen_by, used_then, IsMadeOf, follow_by}
+use Rattle.journal_books.proofs.Taking.{IsNew, moved_in, there, told_after, told_seen, used_then, IsMadeOf, follow_by}
 
 -- ---- the body of a change that would be taken makes the book behind it
 
-abbrev Makes : List Named → (shelf : ℕ) → List (List ℕ) → Book → (seen : List ℕ) → Type 0
-Makes scripts shelf bodies b seen = book_of scripts shelf bodies ≡ made (made_of b seen)
+abbrev Makes : List Named → (shelf : ℕ) → List (List ℕ) → Book → Earlier → Type 0
+Makes scripts shelf bodies b earlier = book_of scripts shelf bodies ≡ made (made_of b earlier)
 
-script_here : AreRecordsExact → (scripts : List Named) (shelf : ℕ) (bodies : List (List ℕ)) (b : Book) (seen : List ℕ) (c : Change) (names : List TxName)
-    → Makes scripts shelf bodies b seen → held b c names ≡ Some names → has_script (length scripts) c ≡ true
-script_here x scripts shelf bodies b seen c names makes can =
-    let fits = made_fits x scripts shelf bodies (made_of b seen) makes in
+script_here : AreRecordsExact → (scripts : List Named) (shelf : ℕ) (bodies : List (List ℕ)) (b : Book) (earlier : Earlier) (c : Change) (names : List TxName)
+    → Makes scripts shelf bodies b earlier → held b c names ≡ Some names → has_script (length scripts) c ≡ true
+script_here x scripts shelf bodies b earlier c names makes can =
+    let fits = made_fits x scripts shelf bodies (made_of b earlier) makes in
     ap (λ (ss : List Named). has_script (length ss) c) (sym fits.scripts_are) ∙ held_script b c names names can
 
-told_here : (b : Book) (c : Change) (state : Option (List ℕ)) (x : Told) → told_by (script_for b c) state ≡ x → told_by (script_for (reopened b) c) state ≡ x
-told_here b c state x is = ap (λ (s : Option Named). told_by s state) (moved_script b b.logged [] None c) ∙ is
+told_here : (earlier : Earlier) (b : Book) (c : Change) (state : Option (List ℕ)) (x : Told) → told_in earlier b c state ≡ x → told_in earlier (reopened b) c state ≡ x
+told_here earlier b c state x is = moved_in earlier b b.logged [] None c state ∙ is
 
-lands_so : AreRecordsExact → (scripts : List Named) (shelf : ℕ) (bodies : List (List ℕ)) (b : Book) (seen : List ℕ) (c : Change) (state : Option (List ℕ)) (inside : List TxName) (x : Told)
-    → Makes scripts shelf bodies b seen → IsInGrammar (changes c state) → told_by (script_for b c) state ≡ x → IsTakenAs b c inside x → IsNew seen c
-    → Makes scripts shelf (bodies ++ body_by c state ∷ []) (land (rules_for (length (body_by c state))) c inside b) (with_number (number_in c) seen)
-    × IsLanded (made_of b seen) c x
-lands_so exact scripts shelf bodies b seen c state inside unread makes fits is taken new =
-    let m = made_of b seen in
+lands_so : AreRecordsExact → (scripts : List Named) (shelf : ℕ) (bodies : List (List ℕ)) (b : Book) (earlier : Earlier) (c : Change) (state : Option (List ℕ)) (inside : List TxName) (x : Told)
+    → Makes scripts shelf bodies b earlier → IsInGrammar (changes c state) → told_in earlier b c state ≡ x → IsTakenAs b c inside x → IsNew earlier.seen c
+    → Makes scripts shelf (bodies ++ body_by c state ∷ []) (land (rules_for (length (body_by c state))) c inside b) (then_told c (Some inside) x earlier)
+    × IsLanded (made_of b earlier) c x
+lands_so exact scripts shelf bodies b earlier c state inside unread makes fits is taken new =
+    let m = made_of b earlier in
     let n = length (body_by c state) in
-    let lands = there b seen c [] taken.0 new in
+    let lands = there b earlier c [] taken.0 new in
     let after = land (rules_for n) c inside b in
+    let then_it = then_told c (Some inside) unread earlier in
     let one : book_of scripts shelf (bodies ++ body_by c state ∷ []) ≡ told_next (8 + length (frames bodies)) n m c unread =
-    made_push exact scripts shelf bodies m c state unread makes fits (script_here exact scripts shelf bodies b seen c [] makes taken.0) (told_here b c state unread is) in
-    let two : made (retaken n c (landing m c []) m) ≡ made (retaken n c (Some []) m) = ap (λ (o : Option (List TxName)). made (retaken n c o m)) lands in
-    let three : made (retaken n c (Some []) m) ≡ made (made_of after (with_number (number_in c) seen)) =
-    ap (λ (js : List Instance). made (record { book = record (reopened after) { instances = js }; seen = with_number (number_in c) seen })) taken.1 in
+    made_push exact scripts shelf bodies m c state unread makes fits (script_here exact scripts shelf bodies b earlier c [] makes taken.0) (told_here earlier b c state unread is) in
+    let two : made (retaken n c (landing m c []) unread m) ≡ made (retaken n c (Some []) unread m) = ap (λ (o : Option (List TxName)). made (retaken n c o unread m)) lands in
+    let three : made (retaken n c (Some []) unread m) ≡ made (made_of after then_it) =
+    ap (λ (js : List Instance). made (record { book = record (reopened after) { instances = js }; earlier = then_it })) taken.1 in
     (one ∙ (two ∙ three), lands)
-lands_so exact scripts shelf bodies b seen c state inside misread makes fits is taken new = absurd taken
-lands_so exact scripts shelf bodies b seen c state inside (told d) makes fits is taken new =
-    let m = made_of b seen in
+lands_so exact scripts shelf bodies b earlier c state inside misread makes fits is taken new = absurd taken
+lands_so exact scripts shelf bodies b earlier c state inside (told d) makes fits is taken new =
+    let m = made_of b earlier in
     let n = length (body_by c state) in
     let names = inside_of d.frames in
     let can : held b c names ≡ Some names = subst (λ (ns : List TxName). held b c ns ≡ Some ns) (sym taken.1) taken.0 in
-    let lands = there b seen c names can new in
+    let lands = there b earlier c names can new in
     let after = land (rules_for n) c inside b in
     let one : book_of scripts shelf (bodies ++ body_by c state ∷ []) ≡ told_next (8 + length (frames bodies)) n m c (told d) =
-    made_push exact scripts shelf bodies m c state (told d) makes fits (script_here exact scripts shelf bodies b seen c names makes can) (told_here b c state (told d) is) in
-    let two : made (retaken n c (landing m c names) m) ≡ made (retaken n c (Some names) m) = ap (λ (o : Option (List TxName)). made (retaken n c o m)) lands in
-    let three : made (retaken n c (Some names) m) ≡ made (made_of after (with_number (number_in c) seen)) =
-    ap (λ (ns : List TxName). made (retaken n c (Some ns) m)) taken.1 in
+    made_push exact scripts shelf bodies m c state (told d) makes fits (script_here exact scripts shelf bodies b earlier c names makes can) (told_here earlier b c state (told d) is) in
+    let two : made (retaken n c (landing m c names) (told d) m) ≡ made (retaken n c (Some names) (told d) m) = ap (λ (o : Option (List TxName)). made (retaken n c o (told d) m)) lands in
+    let three : made (retaken n c (Some names) (told d) m) ≡ made (made_of after (then_told c (Some inside) (told d) earlier)) =
+    ap (λ (ns : List TxName). made (retaken n c (Some ns) (told d) m)) taken.1 in
     (one ∙ (two ∙ three), lands)
 
 -- ---- a fact of each body goes on to hold with one more
@@ -131,38 +134,40 @@ is_own b c None e = tt
 is_own b c (Some d) e = e
 
 -- bodies with those that were landed: what they make, that their states are own ones, and that none is passed over
-record Adds (scripts : List Named) (shelf : ℕ) (bodies more : List (List ℕ)) (b : Book) (seen : List ℕ) : Type 0 where
-  makes : Makes scripts shelf (bodies ++ more) b seen
+record Adds (scripts : List Named) (shelf : ℕ) (bodies more : List (List ℕ)) (b : Book) (earlier : Earlier) : Type 0 where
+  makes : Makes scripts shelf (bodies ++ more) b earlier
   own : AreOwn scripts shelf bodies → AreOwn scripts shelf (bodies ++ more)
   landed : AreLanded scripts shelf bodies → AreLanded scripts shelf (bodies ++ more)
 
-adds_none : (scripts : List Named) (shelf : ℕ) (bodies : List (List ℕ)) (b : Book) (seen : List ℕ) → Makes scripts shelf bodies b seen → Adds scripts shelf bodies [] b seen
-adds_none scripts shelf bodies b seen makes =
+adds_none : (scripts : List Named) (shelf : ℕ) (bodies : List (List ℕ)) (b : Book) (earlier : Earlier) → Makes scripts shelf bodies b earlier → Adds scripts shelf bodies [] b earlier
+adds_none scripts shelf bodies b earlier makes =
     let same = sym (append-nil bodies) in
     record {
-      makes = subst (λ (bs : List (List ℕ)). Makes scripts shelf bs b seen) same makes;
+      makes = subst (λ (bs : List (List ℕ)). Makes scripts shelf bs b earlier) same makes;
       own = λ h. subst (AreOwn scripts shelf) same h;
       landed = λ h. subst (AreLanded scripts shelf) same h;
     }
 
-made_then : AreRecordsExact → (scripts : List Named) (shelf : ℕ) (bodies : List (List ℕ)) (b d : Book) (o : Option Change) (seen : List ℕ) → HasWholeScripts b → d.scripts ≡ b.scripts
-    → Makes scripts shelf bodies b seen → IsMadeOf b seen o d → IsSpelled b o → Adds scripts shelf bodies (landed_bodies b o) d (seen_by o seen)
-made_then x scripts shelf bodies b d None seen whole setup makes is spelled =
+made_then : AreRecordsExact → (scripts : List Named) (shelf : ℕ) (bodies : List (List ℕ)) (b d : Book) (o : Option Change) (earlier : Earlier) → HasWholeScripts b → d.scripts ≡ b.scripts
+    → Makes scripts shelf bodies b earlier → IsMadeOf b earlier.seen o d → IsOwnBefore earlier b o → IsSpelled b o
+    → Adds scripts shelf bodies (landed_bodies b o) d (told_after b o earlier)
+made_then x scripts shelf bodies b d None earlier whole setup makes is before spelled =
     let same : reopened d ≡ reopened b = ap (λ (ss : List Named). reopened_with ss d) setup ∙ is in
-    adds_none scripts shelf bodies d seen (makes ∙ ap (λ (y : Book). made (record { book = y; seen = seen })) (sym same))
-made_then x scripts shelf bodies b d (Some c) seen whole setup makes (inside, (taken, (new, is))) spelled =
+    adds_none scripts shelf bodies d earlier (makes ∙ ap (λ (y : Book). made (record { book = y; earlier = earlier })) (sym same))
+made_then x scripts shelf bodies b d (Some c) earlier whole setup makes (inside, (taken, (new, is))) before spelled =
     let state = state_told b c in
-    let m = made_of b seen in
-    let its = own_read b c whole spelled in
-    let l = lands_so x scripts shelf bodies b seen c state inside (own_told b c) makes spelled.body its taken new in
+    let m = made_of b earlier in
+    let then_it = told_after b (Some c) earlier in
+    let its = own_is_read earlier b c before whole spelled in
+    let l = lands_so x scripts shelf bodies b earlier c state inside (own_told b c) makes spelled.body its taken new in
     let same : reopened d ≡ reopened (land (rules_for (length (own_body b c))) c inside b) = ap (λ (ss : List Named). reopened_with ss d) setup ∙ is in
     let back : Some (changes c state) ≡ read_record (own_body b c) = sym (x.back (changes c state) spelled.body) in
-    let here : own_told b c ≡ told_by (script_for (reopened b) c) state = sym (told_here b c state (own_told b c) its) in
-    let own : IsOwnRecord (reopened b) (Some (changes c state)) = subst (IsOwnState (reopened b) c) here (is_own (reopened b) c (state_by b c) (moved_state b b.logged [] None c)) in
+    let here : own_told b c ≡ told_in earlier (reopened b) c state = sym (told_here earlier b c state (own_told b c) its) in
+    let own : IsOwnRecord m (Some (changes c state)) = subst (IsOwnState (reopened b) c) here (is_own (reopened b) c (state_by b c) (moved_state b b.logged [] None c)) in
     let landed : IsLandedRecord m (Some (changes c state)) = subst (IsLanded m c) here l.1 in
     record {
-      makes = l.0 ∙ ap (λ (y : Book). made (record { book = y; seen = with_number (number_in c) seen })) (sym same);
-      own = λ h. each_more (λ n r. IsOwnRecord n.book r) scripts shelf bodies (own_body b c) h (at_made (λ n r. IsOwnRecord n.book r) scripts shelf bodies m (own_body b c) (Some (changes c state)) makes back own);
+      makes = l.0 ∙ ap (λ (y : Book). made (record { book = y; earlier = then_it })) (sym same);
+      own = λ h. each_more IsOwnRecord scripts shelf bodies (own_body b c) h (at_made IsOwnRecord scripts shelf bodies m (own_body b c) (Some (changes c state)) makes back own);
       landed = λ h. each_more IsLandedRecord scripts shelf bodies (own_body b c) h (at_made IsLandedRecord scripts shelf bodies m (own_body b c) (Some (changes c state)) makes back landed);
     }
 
@@ -192,7 +197,7 @@ setup_kept rules b nonce (sweep tick) fate h = swept_setup rules b tick (fate_of
 setup_kept rules b nonce (crash scripts) fate h = h
 
 pub event_kept : AreRecordsExact → EventsAreKept
-event_kept x scripts shelf bodies rules b nonce event fate over setup lawful holds spelled =
+event_kept x scripts shelf bodies rules b nonce event fate over setup lawful holds before spelled =
     let k = holds.keeps in
     let r = k.recoverable in
     let d = (step rules b nonce event fate).1 in
@@ -200,20 +205,22 @@ event_kept x scripts shelf bodies rules b nonce event fate over setup lawful hol
     let m : Moment = record { rules = rules; nonce = nonce; event = event; fate = fate } in
     let went = goes rules b nonce event fate in
     let later = stepped m b r.orderly lawful in
-    let follows = follow_by scripts shelf rules over b r.orderly r.whole k.seen d o went lawful r.doubted r.doubt holds.doubt r.used in
+    let follows = follow_by scripts shelf rules over b r.orderly r.whole k.earlier.seen d o went lawful r.doubted r.doubt holds.doubt r.used in
     let same = setup_kept rules b nonce event fate setup in
-    let adds = made_then x scripts shelf bodies b d o k.seen r.whole same k.makes follows.made spelled in
+    let adds = made_then x scripts shelf bodies b d o k.earlier r.whole same k.makes follows.made before spelled in
     record {
       keeps = record {
         keeps = record {
-          seen = seen_by o k.seen;
+          earlier = told_after b o k.earlier;
           makes = adds.makes;
           recoverable = record {
             orderly = later.orderly;
             whole = record { setup = whole_setup b d r.whole same; instances = whole_landed b d o r.orderly r.whole (lands_as rules b d o went r.orderly) };
             doubted = follows.doubted;
             doubt = follows.doubt;
-            used = used_then b d o k.seen (uses rules b d o went lawful r.orderly) later.fewer r.used;
+            used =
+                subst (λ (ns : List ℕ). AreUsed ns d) (sym (told_seen b o k.earlier))
+                (used_then b d o k.earlier.seen (uses rules b d o went lawful r.orderly) later.fewer r.used);
           };
         };
         doubt = follows.own;
@@ -221,6 +228,14 @@ event_kept x scripts shelf bodies rules b nonce event fate over setup lawful hol
       own = adds.own;
       landed = adds.landed;
     }
+
+-- where it leaves no record, the records tell what they told
+pub event_told : (x : AreRecordsExact) (scripts : List Named) (shelf : ℕ) (bodies : List (List ℕ)) (rules : Rules) (b : Book) (nonce : ℕ) (event : Event) (fate : Fate)
+    (over : AreOver rules scripts shelf) (setup : KeepsSetup event b) (lawful : IsLawful event b) (k : KeepsDoubt scripts shelf bodies b)
+    (before : IsOwnBefore k.keeps.earlier b (lands rules b event fate)) (spelled : IsSpelled b (lands rules b event fate))
+    → lands rules b event fate ≡ None → (event_kept x scripts shelf bodies rules b nonce event fate over setup lawful k before spelled).keeps.keeps.earlier ≡ k.keeps.earlier
+unfolding event_kept
+event_told x scripts shelf bodies rules b nonce event fate over setup lawful k before spelled none = ap (λ (o : Option Change). told_after b o k.keeps.earlier) none
 
 -- ---- a run
 
@@ -234,12 +249,15 @@ nothing_more scripts shelf bodies b keeps =
     }
 
 pub run_kept : AreRecordsExact → RunsAreKept
-run_kept x scripts shelf bodies [] b under lawful keeps spelled = nothing_more scripts shelf bodies b keeps
-run_kept x scripts shelf bodies (m ∷ ms) b under lawful keeps spelled =
+run_kept x scripts shelf bodies [] b under lawful keeps own spelled = nothing_more scripts shelf bodies b keeps
+run_kept x scripts shelf bodies (m ∷ ms) b under lawful keeps own spelled =
     let d = then_book m b in
-    let first = landed_bodies b (lands m.rules b m.event m.fate) in
-    let one = event_kept x scripts shelf bodies m.rules b m.nonce m.event m.fate under.1 under.2 lawful.0 keeps spelled.0 in
-    let rest = run_kept x scripts shelf (bodies ++ first) ms d under.3 lawful.1 one.keeps spelled.1 in
+    let o = lands m.rules b m.event m.fate in
+    let first = landed_bodies b o in
+    let told = own_are_told scripts shelf bodies (made_of b keeps.keeps.earlier) keeps.keeps.makes own in
+    let before = own_before_is keeps.keeps.earlier b o told in
+    let one = event_kept x scripts shelf bodies m.rules b m.nonce m.event m.fate under.1 under.2 lawful.0 keeps before spelled.0 in
+    let rest = run_kept x scripts shelf (bodies ++ first) ms d under.3 lawful.1 one.keeps (one.own own) spelled.1 in
     let same = append_assoc bodies first (bodies_of ms d) in
     record {
       keeps = subst (λ (bs : List (List ℕ)). KeepsDoubt scripts shelf bs (book_after ms d)) same rest.keeps;
@@ -248,18 +266,18 @@ run_kept x scripts shelf bodies (m ∷ ms) b under lawful keeps spelled =
     }
 
 nothing_alike : (scripts : List Named) (shelf : ℕ) (rules : Rules) → rules.journal ≡ Some (journal_rules shelf scripts)
-    → nothing_made (rules_over scripts shelf) scripts shelf ≡ made_of (empty_book rules scripts shelf) []
+    → nothing_made (rules_over scripts shelf) scripts shelf ≡ made_of (empty_book rules scripts shelf) nothing_told
 nothing_alike scripts shelf rules journal =
-    ap (λ (j : Option Journal). record { book = empty_book (record rules { journal = j }) scripts shelf; seen = [] }) (sym journal)
+    ap (λ (j : Option Journal). record { book = empty_book (record rules { journal = j }) scripts shelf; earlier = nothing_told }) (sym journal)
 
 pub fresh_kept : AreRecordsExact → (scripts : List Named) (shelf : ℕ) (rules : Rules) → AreOver rules scripts shelf → AreWhole scripts → IsInGrammar (begin_of shelf scripts)
     → Keeps scripts shelf (first_body scripts shelf ∷ []) (empty_book rules scripts shelf)
 fresh_kept x scripts shelf rules journal whole fits =
-    let m = made_of (empty_book rules scripts shelf) [] in
+    let m = made_of (empty_book rules scripts shelf) nothing_told in
     let makes : book_of scripts shelf (first_body scripts shelf ∷ []) ≡ made m = made_first x scripts shelf fits ∙ ap made (nothing_alike scripts shelf rules journal) in
     let h = (made_fits x scripts shelf (first_body scripts shelf ∷ []) m makes).recoverable whole in
     record {
-      seen = [];
+      earlier = nothing_told;
       makes = makes;
       recoverable = record { orderly = h.orderly; whole = record { setup = h.whole.setup; instances = h.whole.instances }; doubted = unread; doubt = tt; used = h.used };
     }
@@ -269,9 +287,10 @@ fresh_suffice x scripts shelf rules ms journal whole fits under lawful spelled =
     let b = empty_book rules scripts shelf in
     let first = first_body scripts shelf in
     let from : KeepsDoubt scripts shelf (first ∷ []) b = record { keeps = fresh_kept x scripts shelf rules journal whole fits; doubt = tt } in
-    let all = run_kept x scripts shelf (first ∷ []) ms b (subst (λ (j : Option Journal). AreUnder j ms b) journal under) lawful from spelled in (
-      (all.keeps.keeps.seen, all.keeps.keeps.makes),
-      all.own (first_each (λ m r. IsOwnRecord m.book r) scripts shelf first),
+    let own = first_each IsOwnRecord scripts shelf first in
+    let all = run_kept x scripts shelf (first ∷ []) ms b (subst (λ (j : Option Journal). AreUnder j ms b) journal under) lawful from own spelled in (
+      (all.keeps.keeps.earlier, all.keeps.keeps.makes),
+      all.own own,
       all.landed (first_each IsLandedRecord scripts shelf first),
     )
 
@@ -334,13 +353,13 @@ landing_kept x scripts shelf bodies b c state inside keeps up fits taken out =
     let r = keeps.recoverable in
     let n = length (body_by c state) in
     let d = landed_in n c inside b in
-    let seen = with_number (number_in c) keeps.seen in
-    let its = told_by (script_for b c) state in
-    let l = lands_so x scripts shelf bodies b keeps.seen c state inside its keeps.makes fits refl taken (new_if_out b c keeps.seen r.used out) in
+    let its = told_in keeps.earlier b c state in
+    let then_it = then_told c (Some inside) its keeps.earlier in
+    let l = lands_so x scripts shelf bodies b keeps.earlier c state inside its keeps.makes fits refl taken (new_if_out b c keeps.earlier.seen r.used out) in
     let into = landing_in n b c inside r.orderly up (taken_fits b c inside its taken) out in
     record {
-      seen = seen;
-      makes = l.0 ∙ ap (λ (y : Book). made (record { book = y; seen = seen })) (sym (spent_alike n b c inside));
+      earlier = then_it;
+      makes = l.0 ∙ ap (λ (y : Book). made (record { book = y; earlier = then_it })) (sym (spent_alike n b c inside));
       recoverable = record {
         orderly = into.later.orderly;
         whole = record {
@@ -349,6 +368,6 @@ landing_kept x scripts shelf bodies b c state inside keeps up fits taken out =
         };
         doubted = unread;
         doubt = subst (λ (o : Option Doubt). IsTakenDoubt d o unread) (sym into.up) tt;
-        used = used_then b d (Some c) keeps.seen into.uses into.later.fewer r.used;
+        used = used_then b d (Some c) keeps.earlier.seen into.uses into.later.fewer r.used;
       };
     }

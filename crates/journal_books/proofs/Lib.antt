@@ -4,9 +4,11 @@ pub mod Makings
 pub mod Fitting
 pub mod Brief
 pub mod Owned
+pub mod Telling
 pub mod Taking
 pub mod Kept
 pub mod Between
+pub mod Grammar
 pub mod Spelled
 pub mod Ranges
 pub mod Readings

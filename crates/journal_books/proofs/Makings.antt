@@ -7,10 +7,10 @@ use Rattle.script_nodes.specs.Setup.{Named}
 use Rattle.page_journal.specs.Records.{framed, frames}
 use Rattle.page_journal.proofs.Frames.{length-framed}
 use Rattle.replay_spec.specs.Book.{Change}
-use Rattle.replay_spec.specs.Recovery.{Made, nothing_made}
 use Rattle.journal_records.specs.Records.{changes, IsInGrammar, begin_of, texts_of}
 use Rattle.journal_records.specs.Laws.{AreRecordsExact}
-use Rattle.journal_books.specs.Retaking.{Told, script_for, told_by}
+use Rattle.journal_books.specs.Before.{Made, nothing_made}
+use Rattle.journal_books.specs.Retaking.{Told, told_in}
 use Rattle.journal_books.specs.Making.{Making, nothing, made, damaged, other, rules_over, are_told, has_script, told_next, first_by, next_by, with_body, with_bodies, book_of}
 use Rattle.journal_books.specs.Keeping.{body_by, first_body}
 
@@ -29,7 +29,7 @@ with_push scripts shelf place (first ∷ bodies) body m =
 
 -- the body of a change makes of what was made what the change makes of it, by what is told of its page's state
 pub made_push : AreRecordsExact → (scripts : List Named) (shelf : ℕ) (bodies : List (List ℕ)) (m : Made) (c : Change) (state : Option (List ℕ)) (x : Told)
-    → book_of scripts shelf bodies ≡ made m → IsInGrammar (changes c state) → has_script (length scripts) c ≡ true → told_by (script_for m.book c) state ≡ x
+    → book_of scripts shelf bodies ≡ made m → IsInGrammar (changes c state) → has_script (length scripts) c ≡ true → told_in m.earlier m.book c state ≡ x
     → book_of scripts shelf (bodies ++ body_by c state ∷ []) ≡ told_next (8 + length (frames bodies)) (length (body_by c state)) m c x
 made_push exact scripts shelf bodies m c state x makes fits script is =
     let place = 8 + length (frames bodies) in
@@ -37,7 +37,7 @@ made_push exact scripts shelf bodies m c state x makes fits script is =
     with_push scripts shelf 8 bodies (body_by c state) nothing
     ∙ ap (with_body scripts shelf place (body_by c state)) makes
     ∙ ap (next_by scripts place n m) (exact.back (changes c state) fits)
-    ∙ ap (λ (t : Bool). if t then told_next place n m c (told_by (script_for m.book c) state) else damaged place) script
+    ∙ ap (λ (t : Bool). if t then told_next place n m c (told_in m.earlier m.book c state) else damaged place) script
     ∙ ap (told_next place n m c) is
 
 pub both_true : (a b : Bool) → a ≡ true → b ≡ true → (a && b) ≡ true

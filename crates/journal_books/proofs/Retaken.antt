@@ -1,5 +1,5 @@
 -- What records that carry states make is orderly.
-use Rattle.std.proofs.Common.{◌≡◌, ◌<◌, max, ℕ, List, [], ◌∷◌, length, Option, Some, None, Bool, true, false, refl, sym, subst, inl, inr, ⊎_elim, arith, slice_get}
+use Rattle.std.proofs.Common.{◌≡◌, ◌<◌, max, ℕ, List, [], ◌∷◌, length, Option, Some, None, Bool, true, false, refl, sym, subst, ◌∙◌, inl, inr, arith, slice_get}
 use Rattle.std.specs.Prelude.{if◌then◌else◌, nat_lt}
 use Rattle.std.proofs.lemmas.Bool.Decides.{nat_tests}
 use Rattle.std.proofs.lemmas.Option.{slice_get_within}
@@ -8,14 +8,16 @@ use Rattle.replay_spec.specs.Book.{Change, opens, extends, ends, finishes, sweep
 use Rattle.replay_spec.specs.Rules.{Rules}
 use Rattle.replay_spec.specs.Change.{logged_by}
 use Rattle.replay_spec.specs.Admission.{is_one, Place}
-use Rattle.replay_spec.specs.Recovery.{page_of_numbers, Made, number_in, is_repeated, with_number, redone}
+use Rattle.replay_spec.specs.Recovery.{page_of_numbers, number_in, is_repeated, with_number, taken_in, redone}
 use Rattle.replay_spec.specs.Invariant.{Among, HasPage, IsOf, AreOrderly, IsOrderlyChange}
 use Rattle.replay_spec.specs.Remade.{IsOrderlyMade}
 use Rattle.replay_spec.proofs.Admitted.{came_from, when_is}
 use Rattle.replay_spec.proofs.Stand.{orderly_less}
 use Rattle.replay_spec.proofs.Landed.{land_well}
+use Rattle.replay_spec.proofs.Recovered.{made_orderly}
 use Rattle.journal_books.specs.Making.{has_script}
-use Rattle.journal_books.specs.Retaking.{held, landing, rules_for, retaken}
+use Rattle.journal_books.specs.Before.{Made, plain}
+use Rattle.journal_books.specs.Retaking.{Told, held, landing, rules_for, retaken}
 
 -- what is not among those seen
 abbrev Unseen : List ℕ → ℕ → Type 0
@@ -49,19 +51,19 @@ held_script b (sweeps tick) inside names e = refl
 
 -- a record that lands has a number that was not seen
 pub landing_is : (m : Made) (c : Change) (inside names : List TxName) → landing m c inside ≡ Some names
-    → (held m.book c inside ≡ Some names) × (is_repeated (number_in c) m.seen ≡ false)
-landing_is m c inside names e = by_test (is_repeated (number_in c) m.seen) refl e
+    → (held m.book c inside ≡ Some names) × (is_repeated (number_in c) m.earlier.seen ≡ false)
+landing_is m c inside names e = by_test (is_repeated (number_in c) m.earlier.seen) refl e
   where
-    by_test : (b : Bool) → is_repeated (number_in c) m.seen ≡ b → (if b then None else held m.book c inside) ≡ Some names
-        → (held m.book c inside ≡ Some names) × (is_repeated (number_in c) m.seen ≡ false)
+    by_test : (b : Bool) → is_repeated (number_in c) m.earlier.seen ≡ b → (if b then None else held m.book c inside) ≡ Some names
+        → (held m.book c inside ≡ Some names) × (is_repeated (number_in c) m.earlier.seen ≡ false)
     by_test true is f = absurd (let no : ⊥ = cc in no)
     by_test false is f = (f, is)
 
-among_is : (n : ℕ) (ns : List ℕ) → Among n ns → is_one n ns ≡ true
+pub among_is : (n : ℕ) (ns : List ℕ) → Among n ns → is_one n ns ≡ true
 among_is n [] h = absurd h
 among_is n (m ∷ ns) h = grind (arith, nat_tests, h, among_is n ns)
 
-new_number : (c : Change) (seen : List ℕ) → is_repeated (number_in c) seen ≡ false → (n : ℕ) → IsOf n c → Unseen seen n
+pub new_number : (c : Change) (seen : List ℕ) → is_repeated (number_in c) seen ≡ false → (n : ℕ) → IsOf n c → Unseen seen n
 new_number (opens o) seen e n is there = absurd (let one = among_is n seen there in let no : ⊥ = cc in no)
 new_number (extends x) seen e n is there = absurd (let one = among_is n seen there in let no : ⊥ = cc in no)
 new_number (ends x) seen e n is there = absurd (let one = among_is n seen there in let no : ⊥ = cc in no)
@@ -69,36 +71,32 @@ new_number (finishes f) seen e n is there = absurd (let one = among_is n seen th
 new_number (sweeps tick) seen e n is there = is
 
 -- with the number of a record
-more_seen : (c : Change) (seen : List ℕ) (n : ℕ) → Unseen (with_number (number_in c) seen) n → Unseen seen n × (IsOf n c → ⊥)
+pub more_seen : (c : Change) (seen : List ℕ) (n : ℕ) → Unseen (with_number (number_in c) seen) n → Unseen seen n × (IsOf n c → ⊥)
 more_seen (opens o) seen n h = (λ there. h (inr there), λ e. h (inl e))
 more_seen (extends x) seen n h = (λ there. h (inr there), λ e. h (inl e))
 more_seen (ends x) seen n h = (λ there. h (inr there), λ e. h (inl e))
 more_seen (finishes f) seen n h = (λ there. h (inr there), λ e. h (inl e))
 more_seen (sweeps tick) seen n h = (h, λ e. e)
 
-counts : (c : Change) (seen : List ℕ) (logged : ℕ) → ((n : ℕ) → Among n seen → n < logged) → (n : ℕ) → Among n (with_number (number_in c) seen) → n < max logged (logged_by c)
-counts (opens o) seen logged h n there = ⊎_elim (λ e. omega (arith, e)) (λ old. omega (arith, h n old)) there
-counts (extends x) seen logged h n there = ⊎_elim (λ e. omega (arith, e)) (λ old. omega (arith, h n old)) there
-counts (ends x) seen logged h n there = ⊎_elim (λ e. omega (arith, e)) (λ old. omega (arith, h n old)) there
-counts (finishes f) seen logged h n there = ⊎_elim (λ e. omega (arith, e)) (λ old. omega (arith, h n old)) there
-counts (sweeps tick) seen logged h n there = omega (arith, h n there)
-
-landed_orderly : (n : ℕ) (c : Change) (m : Made) (inside : List TxName) (o : Option (List TxName)) → IsOrderlyMade m → landing m c inside ≡ o
-    → AreOrderly (Unseen (with_number (number_in c) m.seen)) (redone (rules_for n) c o m.book).instances
+landed_orderly : (n : ℕ) (c : Change) (m : Made) (inside : List TxName) (o : Option (List TxName)) → IsOrderlyMade (plain m) → landing m c inside ≡ o
+    → AreOrderly (Unseen (with_number (number_in c) m.earlier.seen)) (redone (rules_for n) c o m.book).instances
 landed_orderly n c m inside None h e =
-    orderly_less (Unseen m.seen) (Unseen (with_number (number_in c) m.seen)) m.book.instances (λ k x. (more_seen c m.seen k x).0) h.instances
+    orderly_less (Unseen m.earlier.seen) (Unseen (with_number (number_in c) m.earlier.seen)) m.book.instances (λ k x. (more_seen c m.earlier.seen k x).0) h.instances
 landed_orderly n c m inside (Some names) h e =
     let t = landing_is m c inside names e in
-    (land_well m.book.scripts m.book.clock (Unseen m.seen) (Unseen (with_number (number_in c) m.seen)) m.book.instances c names h.instances (held_fits m.book c inside names t.0)
-    (new_number c m.seen t.1) (more_seen c m.seen)).0
+    (land_well m.book.scripts m.book.clock (Unseen m.earlier.seen) (Unseen (with_number (number_in c) m.earlier.seen)) m.book.instances c names h.instances (held_fits m.book c inside names t.0)
+    (new_number c m.earlier.seen t.1) (more_seen c m.earlier.seen)).0
 
 landed_logged : (rules : Rules) (c : Change) (o : Option (List TxName)) (b : Book) → (redone rules c o b).logged ≡ max b.logged (logged_by c)
 landed_logged rules c None b = refl
 landed_logged rules c (Some names) b = refl
 
-pub retaken_orderly : (n : ℕ) (c : Change) (inside : List TxName) (m : Made) → IsOrderlyMade m → IsOrderlyMade (retaken n c (landing m c inside) m)
-retaken_orderly n c inside m h = record {
+pub retaken_orderly : (n : ℕ) (c : Change) (inside : List TxName) (x : Told) (m : Made) → IsOrderlyMade (plain m) → IsOrderlyMade (plain (retaken n c (landing m c inside) x m))
+retaken_orderly n c inside x m h = record {
   instances = landed_orderly n c m inside (landing m c inside) h refl;
-  counted = λ k there. subst (λ (l : ℕ). k < l) (sym (landed_logged (rules_for n) c (landing m c inside) m.book)) (counts c m.seen m.book.logged h.counted k there);
+  counted = λ k there.
+      let p = plain m in
+      let same = landed_logged (rules_for n) c (taken_in p c) m.book ∙ sym (landed_logged (rules_for n) c (landing m c inside) m.book) in
+      subst (λ (l : ℕ). k < l) same (((made_orderly (rules_for n)).1 c p h).counted k there);
   again = refl;
 }

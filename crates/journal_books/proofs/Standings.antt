@@ -10,9 +10,8 @@ use Rattle.page_journal.specs.declared.journal.Journal.{Journal}
 use Rattle.page_journal.proofs.Holds.{settled_images}
 use Rattle.page_journal.proofs.Mending.{leaves_then}
 use Rattle.replay_spec.specs.Book.{Doubt, Book, reopened}
-use Rattle.replay_spec.specs.Recovery.{Made}
-use Rattle.replay_spec.specs.Remade.{made_of}
 use Rattle.replay_spec.specs.Step.{kept, recovered}
+use Rattle.journal_books.specs.Before.{Made, made_of}
 use Rattle.journal_books.specs.Retaking.{rules_for}
 use Rattle.journal_books.specs.Making.{made, begun, book_in_bytes}
 use Rattle.journal_books.specs.Standing.{Makes, MakesIn, IsOneOf, HasRoom, Between, Hold, Held, if_kept, Stands, Throughout, ThroughoutFrom, StaysThroughout}
@@ -74,7 +73,7 @@ same_made : (m n : Made) → made m ≡ made n → m ≡ n
 same_made m n e = cc e
 
 found_one : (scripts : List Named) (shelf : ℕ) (bytes : List ℕ) (m : Made) (b : Book) → begun scripts shelf (book_in_bytes scripts shelf bytes) ≡ made m → MakesIn scripts shelf bytes b → m.book ≡ reopened b
-found_one scripts shelf bytes m b makes (seen, is) = ap (λ (x : Made). x.book) (same_made m (made_of b seen) (sym makes ∙ ap (begun scripts shelf) is))
+found_one scripts shelf bytes m b makes (earlier, is) = ap (λ (x : Made). x.book) (same_made m (made_of b earlier) (sym makes ∙ ap (begun scripts shelf) is))
 
 pub one_of : (scripts : List Named) (shelf : ℕ) (v : View) (m : Made) → v.images v.seen → begun scripts shelf (book_in_bytes scripts shelf v.seen) ≡ made m → IsOneOf scripts shelf v m.book
 one_of scripts shelf v m reads makes = λ before after k held. ⊎_elim

@@ -18,7 +18,7 @@ use Rattle.replay_spec.specs.Next.{Ticket, starts, url_for, tape_for, comes_to, 
 use Rattle.replay_spec.specs.Step.{Reply, Decision, replies, records, unless, too_long, full_journal, with_room, opening, extension, ending, finish, reply_by, full, stopped, decide}
 use Rattle.replay_spec.specs.Recovery.{are_on, hold_over, page_of_numbers, number_in, is_repeated, with_number}
 use Rattle.replay_spec.specs.Invariant.{Among, IsOf, Unused, IsOrderly}
-use Rattle.replay_spec.specs.Remade.{AreUsed, made_of}
+use Rattle.replay_spec.specs.Remade.{AreUsed}
 use Rattle.replay_spec.proofs.Second.{pages_past}
 use Rattle.replay_spec.proofs.OnCells.{on_cells}
 use Rattle.replay_spec.proofs.Held.{hold}
@@ -28,11 +28,11 @@ use Rattle.replay_spec.proofs.Going.{Records, Goes, stays, draws, spends, publis
 use Rattle.replay_spec.proofs.Orderly.{stands_there, recorded_orderly, is_same, is_doubted}
 use Rattle.replay_spec.proofs.Numbers.{Uses}
 use Rattle.journal_records.specs.Records.{body_of, changes, record_length}
-use Rattle.journal_books.specs.Retaking.{Told, unread, misread, told, script_for, if_held, held, landing, rules_for}
-use Rattle.journal_books.specs.Lengths.{state_over, state_by, told_bytes, state_told, told_own, own_told, own_body, journal_rules}
+use Rattle.journal_books.specs.Before.{Earlier, made_of, before_told}
+use Rattle.journal_books.specs.Retaking.{Told, unread, misread, told, told_in, if_held, held, landing, states_with, rules_for}
+use Rattle.journal_books.specs.Lengths.{state_over, own_before, state_told, told_own, own_told, own_body, journal_rules}
 use Rattle.journal_books.specs.Keeping.{IsWhole, HasWholeScripts, IsTakenAs, IsTakenDoubt, IsMeasured, IsOwnDoubt}
-use Rattle.machine_spec.specs.Machine.{Suspended}
-use Rattle.journal_books.proofs.Brief.{moved_state, short_measured, recorded_short}
+use Rattle.journal_books.proofs.Brief.{moved_state, moved_told, short_measured, recorded_short}
 use Rattle.journal_books.proofs.Owned.{visit_state, names_cells}
 
 passes : {A : Type 0} (b : Bool) (x : A) → b ≡ true → when b x ≡ Some x
@@ -148,12 +148,21 @@ moved_held b drawn out down (spec.ends e) inside = refl
 moved_held b drawn out down (spec.finishes f) inside = refl
 moved_held b drawn out down (sweeps tick) inside = refl
 
-pub moved_script : (b : Book) (drawn : ℕ) (out : List ℕ) (down : Option Doubt) (c : Change) → script_for (record b { drawn = drawn; out = out; down = down }) c ≡ script_for b c
-moved_script b drawn out down (spec.opens o) = refl
-moved_script b drawn out down (spec.extends x) = refl
-moved_script b drawn out down (spec.ends e) = refl
-moved_script b drawn out down (spec.finishes f) = refl
-moved_script b drawn out down (sweeps tick) = refl
+pub moved_in : (earlier : Earlier) (b : Book) (drawn : ℕ) (out : List ℕ) (down : Option Doubt) (c : Change) (state : Option (List ℕ))
+    → told_in earlier (record b { drawn = drawn; out = out; down = down }) c state ≡ told_in earlier b c state
+moved_in earlier b drawn out down (spec.opens o) state = refl
+moved_in earlier b drawn out down (spec.extends x) state = refl
+moved_in earlier b drawn out down (spec.ends e) state = refl
+moved_in earlier b drawn out down (spec.finishes f) state = refl
+moved_in earlier b drawn out down (sweeps tick) state = refl
+
+pub moved_before : (earlier : Earlier) (b : Book) (drawn : ℕ) (out : List ℕ) (down : Option Doubt) (c : Change) → before_told earlier b c ≡ own_before b c
+    → let d = record b { drawn = drawn; out = out; down = down } in before_told earlier d c ≡ own_before d c
+moved_before earlier b drawn out down (spec.opens o) h = h
+moved_before earlier b drawn out down (spec.extends x) h = h
+moved_before earlier b drawn out down (spec.ends e) h = h
+moved_before earlier b drawn out down (spec.finishes f) h = h
+moved_before earlier b drawn out down (sweeps tick) h = h
 
 moved_taken : (b : Book) (drawn : ℕ) (out : List ℕ) (down : Option Doubt) (c : Change) (inside : List TxName) (x : Told) → IsTakenAs b c inside x
     → IsTakenAs (record b { drawn = drawn; out = out; down = down }) c inside x
@@ -167,8 +176,8 @@ moved_doubt b drawn out down (Some doubt) x h = moved_taken b drawn out down dou
 
 moved_measured : (b : Book) (drawn : ℕ) (out : List ℕ) (down : Option Doubt) (c : Change) → IsMeasured b c → IsMeasured (record b { drawn = drawn; out = out; down = down }) c
 moved_measured b drawn out down c h =
-    let P : Option Suspended → Type 0 = λ s. record_length c (s >>= told_bytes) ≡ length (body_of (changes c (s >>= told_bytes))) in
-    subst P (sym (moved_state b drawn out down c)) h
+    let P : Option (List ℕ) → Type 0 = λ s. record_length c s ≡ length (body_of (changes c s)) in
+    subst P (sym (moved_told b drawn out down c)) h
 
 moved_own : (b : Book) (drawn : ℕ) (out : List ℕ) (down o : Option Doubt) (x : Told) → IsOwnDoubt b o x → IsOwnDoubt (record b { drawn = drawn; out = out; down = down }) o x
 moved_own b drawn out down None x h = tt
@@ -192,14 +201,24 @@ not_repeated (spec.ends e) seen h = not_one e.number seen (h e.number refl)
 not_repeated (spec.finishes f) seen h = not_one f.number seen (h f.number refl)
 not_repeated (sweeps tick) seen h = refl
 
-pub there : (b : Book) (seen : List ℕ) (c : Change) (names : List TxName) → held b c names ≡ Some names → IsNew seen c → landing (made_of b seen) c names ≡ Some names
-there b seen c names can new =
-    ap (λ (is_old : Bool). if is_old then None else held (reopened b) c names) (not_repeated c seen new) ∙ (moved_held b b.logged [] None c names ∙ can)
+pub there : (b : Book) (earlier : Earlier) (c : Change) (names : List TxName) → held b c names ≡ Some names → IsNew earlier.seen c → landing (made_of b earlier) c names ≡ Some names
+there b earlier c names can new =
+    ap (λ (is_old : Bool). if is_old then None else held (reopened b) c names) (not_repeated c earlier.seen new) ∙ (moved_held b b.logged [] None c names ∙ can)
 
 -- with the number of what an event landed
 abbrev pub seen_by : Option Change → List ℕ → List ℕ
 seen_by None seen = seen
 seen_by (Some c) seen = with_number (number_in c) seen
+
+-- and what is told then, with the state that its script left
+abbrev pub told_after : Book → Option Change → Earlier → Earlier
+told_after b None earlier = earlier
+told_after b (Some c) earlier =
+    record { seen = with_number (number_in c) earlier.seen; states = states_with (Some []) (number_in c) (own_told b c) earlier.states }
+
+pub told_seen : (b : Book) (o : Option Change) (earlier : Earlier) → (told_after b o earlier).seen ≡ seen_by o earlier.seen
+told_seen b None earlier = refl
+told_seen b (Some c) earlier = refl
 
 number_used : (b d : Book) (c : Change) (seen : List ℕ) → Uses b (Some c) d → AreUsed seen d → AreUsed (with_number (number_in c) seen) d
 number_used b d (spec.opens o) seen u h n there x = ⊎_elim (λ e. (u n e).1 x) (λ old. h n old x) there
@@ -219,7 +238,7 @@ pub longer_own : (scripts : List Named) (shelf : ℕ) (o : Option Journal) (b : 
     → longer_by o b c ≡ b.length + (length (own_body b c) + 5)
 longer_own scripts shelf o b c is h =
     let again : record_length c (state_told (reopened b) c) ≡ length (own_body b c) =
-    ap (λ (s : Option Suspended). record_length c (s >>= told_bytes)) (moved_state b b.logged [] None c) ∙ h in
+    ap (λ (s : Option (List ℕ)). record_length c s) (moved_told b b.logged [] None c) ∙ h in
     ap (λ (j : Option Journal). longer_by j b c) is ∙ ap (λ (n : ℕ). b.length + (n + 5)) again
 
 spent_length : (o : Option Journal) (b : Book) (n : ℕ) (c : Change) → longer_by o (spend n b) c ≡ longer_by o b c
@@ -340,16 +359,18 @@ module _ {lawful : Type 0} (scripts : List Named) (shelf : ℕ) (rules : Rules) 
       }
   follow_by d o (loses setup) l x doubt own used = record { made = refl; doubted = unread; doubt = tt; own = tt }
 
--- an event that lands nothing leaves nothing in doubt, or leaves the states of changes
-pub still_by : {lawful : Type 0} (rules : Rules) (b d : Book) (o : Option Change) → Goes lawful rules b o d → o ≡ None → (d.down ≡ None → ⊥) → (c : Change) → state_by d c ≡ state_by b c
-still_by rules b d o stays e up c = refl
-still_by rules b d o draws e up c = moved_state b (b.drawn + 1) (b.out ++ b.drawn ∷ []) b.down c
-still_by rules b d o (spends n out) e up c = moved_state b b.drawn (filter (λ m. not (m == n)) b.out) b.down c
-still_by rules b d o (publishes t x inside h) e up c = absurd (let no : ⊥ = cc in no)
-still_by rules b d o (fails count t x inside h) e up c =
-    moved_state b b.drawn (filter (λ m. not (m == t.number)) b.out) (Some (record { count = count; change = x; inside = inside })) c
-still_by rules b d o (goes_to tick later up') e up c = absurd (let no : ⊥ = cc in no)
-still_by rules b d o (fails_at count tick later up') e up c =
-    moved_state b b.drawn b.out (Some (record { count = count; change = sweeps tick; inside = [] })) c
-still_by rules b d o (keeps setup y down) e up c = absurd (let no : ⊥ = cc in no)
-still_by rules b d o (loses setup) e up c = absurd (up refl)
+-- a book of the same shelf, setup, clock and instances
+abbrev pub IsMoved : (b d : Book) → Type 0
+IsMoved b d = d ≡ record b { drawn = d.drawn; out = d.out; down = d.down }
+
+-- an event that lands nothing leaves nothing in doubt, or leaves such a book
+pub still_by : {lawful : Type 0} (rules : Rules) (b d : Book) (o : Option Change) → Goes lawful rules b o d → o ≡ None → (d.down ≡ None → ⊥) → IsMoved b d
+still_by rules b d o stays e up = refl
+still_by rules b d o draws e up = refl
+still_by rules b d o (spends n out) e up = refl
+still_by rules b d o (publishes t x inside h) e up = absurd (let no : ⊥ = cc in no)
+still_by rules b d o (fails count t x inside h) e up = refl
+still_by rules b d o (goes_to tick later up') e up = absurd (let no : ⊥ = cc in no)
+still_by rules b d o (fails_at count tick later up') e up = refl
+still_by rules b d o (keeps setup y down) e up = absurd (let no : ⊥ = cc in no)
+still_by rules b d o (loses setup) e up = absurd (up refl)

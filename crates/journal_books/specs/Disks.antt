@@ -6,7 +6,7 @@ use Rattle.page_journal.specs.Holding.{MayHold, MayHoldNowAndThroughout, ClosedN
 use Rattle.page_journal.specs.Settled.{IsSettled, view_of, bodies_in}
 use Rattle.page_journal.specs.declared.journal.Journal.{Journal}
 use Rattle.replay_spec.specs.Book.{Book, reopened}
-use Rattle.replay_spec.specs.Recovery.{Made}
+use Rattle.journal_books.specs.Before.{Made}
 use Rattle.journal_books.specs.Making.{made, begun, book_in_bytes}
 use Rattle.journal_books.specs.Keeping.{Keeps}
 use Rattle.journal_books.specs.Standing.{Makes, Between, if_kept, Stands, Throughout, StaysThroughout, IsOneOf}

@@ -12,11 +12,12 @@ use Rattle.replay_spec.specs.Runs.{doubted, lands}
 use Rattle.replay_spec.specs.Recovery.{number_in}
 use Rattle.replay_spec.specs.Invariant.{IsOrderly}
 use Rattle.replay_spec.specs.Laws.{Moment, then_book}
-use Rattle.replay_spec.specs.Remade.{AreUsed, made_of}
+use Rattle.replay_spec.specs.Remade.{AreUsed}
 use Rattle.machine_spec.specs.Machine.{Suspended, inside_of}
 use Rattle.frame_codec.specs.Spelling.{StateHasBytes}
 use Rattle.journal_records.specs.Records.{changes, body_of, IsInGrammar, record_length, begin_of}
-use Rattle.journal_books.specs.Retaking.{arena_of, Told, unread, misread, told, script_for, told_by, held, rules_for}
+use Rattle.journal_books.specs.Before.{Earlier, made_of}
+use Rattle.journal_books.specs.Retaking.{arena_of, Told, unread, misread, told, told_in, held, rules_for}
 use Rattle.journal_books.specs.Lengths.{state_by, state_told, own_told, own_body}
 use Rattle.journal_books.specs.Making.{made, book_of}
 use Rattle.journal_books.specs.Owning.{AreOwn, AreLanded}
@@ -46,9 +47,9 @@ IsTakenAs b c inside unread = (held b c [] ≡ Some []) × (instances_by b.scrip
 IsTakenAs b c inside misread = ⊥
 IsTakenAs b c inside (told d) = (held b c inside ≡ Some inside) × (inside_of d.frames ≡ inside)
 
--- where its state has these bytes
-abbrev pub IsTaken : Book → Change → (state : Option (List ℕ)) → (inside : List TxName) → Type 0
-IsTaken b c state inside = IsTakenAs b c inside (told_by (script_for b c) state)
+-- where its state has these bytes, behind what records told earlier
+abbrev pub IsTaken : Earlier → Book → Change → (state : Option (List ℕ)) → (inside : List TxName) → Type 0
+IsTaken earlier b c state inside = IsTakenAs b c inside (told_in earlier b c state)
 
 -- what is in doubt would be taken, where this is told of its state
 abbrev pub IsTakenDoubt : Book → Option Doubt → Told → Type 0
@@ -79,9 +80,9 @@ pub record IsRecoverable (b : Book) (seen : List ℕ) : Type 0 where
 
 -- the bodies of a journal make a shelf's book, which can go on
 pub record Keeps (scripts : List Named) (shelf : ℕ) (bodies : List (List ℕ)) (b : Book) : Type 0 where
-  pub seen : List ℕ
-  pub makes : book_of scripts shelf bodies ≡ made (made_of b seen)
-  pub recoverable : IsRecoverable b seen
+  pub earlier : Earlier
+  pub makes : book_of scripts shelf bodies ≡ made (made_of b earlier)
+  pub recoverable : IsRecoverable b earlier.seen
 
 -- the body that a change leaves, whose new page's state has these bytes; that of a journal's first record
 abbrev pub body_by : Change → (state : Option (List ℕ)) → List ℕ

@@ -9,16 +9,18 @@ use Rattle.replay_spec.specs.Rules.{Rules, empty_book}
 use Rattle.replay_spec.specs.Next.{Ticket}
 use Rattle.replay_spec.specs.Step.{Event, crash, Fate, lost, kept, Reply, records, publish_comes, recovered, step}
 use Rattle.replay_spec.specs.Runs.{lands}
-use Rattle.replay_spec.specs.Recovery.{Made, nothing_made, number_in}
+use Rattle.replay_spec.specs.Recovery.{number_in}
 use Rattle.replay_spec.specs.Invariant.{IsOrderly}
 use Rattle.replay_spec.specs.Remade.{KeepsSetup, AreUnder}
 use Rattle.replay_spec.specs.Laws.{IsLawful, Moment, AreLawful, book_after}
 use Rattle.machine_spec.specs.Machine.{Suspended}
-use Rattle.frame_codec.specs.Spelling.{state_bytes, StateHasBytes}
+use Rattle.frame_codec.specs.Spelling.{StateHasBytes}
+use Rattle.frame_codec.specs.Forms.{form_bytes}
 use Rattle.journal_records.specs.Records.{begins, changes, IsInGrammar, begin_of, PartsFit}
-use Rattle.journal_books.specs.Lengths.{state_by, own_body, is_shallow_state, journal_rules}
+use Rattle.journal_books.specs.Before.{Made, nothing_made}
+use Rattle.journal_books.specs.Lengths.{state_by, own_before, own_body, is_shallow_state, journal_rules}
 use Rattle.journal_books.specs.Making.{made, other, rules_over, first_by, book_of}
-use Rattle.journal_books.specs.Owning.{AreOwn, AreLanded}
+use Rattle.journal_books.specs.Owning.{AreOwn, AreLanded, HasOwnStates, IsOwnBefore}
 use Rattle.journal_books.specs.Standing.{Makes, MakesIn, HasRoom, Between, Held, if_kept, length_in}
 use Rattle.journal_books.specs.Keeping.{AreAllBytes, AreWhole, HasWholeScripts, IsTaken, IsOut, landed_in, IsRecoverable, Keeps, KeepsDoubt, KeepsWith, body_by, first_body, landed_bodies, bodies_of, CanBeWritten, IsSpelled, AreSpelled, stake_of}
 use Rattle.journal_books.specs.Spelling.{IsInRange, AreLimits, GivesTick, IsTicket}
@@ -69,7 +71,7 @@ pub record IsFitting (scripts : List Named) (shelf : ℕ) (bodies : List (List �
   pub again : m.book ≡ reopened m.book
   pub scripts_are : m.book.scripts ≡ scripts
   pub shelf_is : m.book.shelf ≡ shelf
-  pub recoverable : AreWhole scripts → IsRecoverable m.book m.seen
+  pub recoverable : AreWhole scripts → IsRecoverable m.book m.earlier.seen
   pub range : AreAllBytes bodies → IsInRange m.book
   pub long : AreAllBytes bodies → length (at_rest bodies) ≤ 2 ^ 30 → m.book.length ≡ length (at_rest bodies)
 
@@ -83,26 +85,31 @@ BodiesMakeFittingBooks =
 abbrev pub LandingsAreKept : Type 0
 LandingsAreKept =
     (scripts : List Named) (shelf : ℕ) (bodies : List (List ℕ)) (b : Book) (c : Change) (state : Option (List ℕ)) (inside : List TxName)
-    → Keeps scripts shelf bodies b → b.down ≡ None → IsInGrammar (changes c state) → IsTaken b c state inside → IsOut b (number_in c)
+    → (k : Keeps scripts shelf bodies b) → b.down ≡ None → IsInGrammar (changes c state)
+    → IsTaken k.earlier b c state inside → IsOut b (number_in c)
     → Keeps scripts shelf (bodies ++ body_by c state ∷ []) (landed_in (length (body_by c state)) c inside b)
 
 -- So with that body in flight a disk stands between the two; and where the change stays in doubt it stands for the book.
 abbrev pub LandingsStandBetween : Type 0
 LandingsStandBetween =
     (scripts : List Named) (shelf : ℕ) (bodies : List (List ℕ)) (b : Book) (c : Change) (state : Option (List ℕ)) (inside : List TxName)
-    → Keeps scripts shelf bodies b → b.down ≡ None → IsInGrammar (changes c state) → IsTaken b c state inside → IsOut b (number_in c)
+    → (k : Keeps scripts shelf bodies b) → b.down ≡ None → IsInGrammar (changes c state)
+    → IsTaken k.earlier b c state inside → IsOut b (number_in c)
     → Holdable bodies (body_by c state)
-    → (k : Between scripts shelf b (landed_in (length (body_by c state)) c inside b)) × (k.bodies ≡ bodies) × (k.more ≡ Some (body_by c state))
+    → (l : Between scripts shelf b (landed_in (length (body_by c state)) c inside b))
+    × (l.bodies ≡ bodies) × (l.more ≡ Some (body_by c state))
 
 -- The body of the record that an event leaves, with the state that its script leaves, makes of the journal's book the book behind
 -- the event, also where what was in doubt is kept at a crash; where it leaves none, the same bodies make it. The book can go on.
--- Where the states of the journal are own ones, they go on to be; and the record is none that is passed over.
+-- Where the states of the journal are own ones, they go on to be; and the record is none that is passed over. What a change's page is
+-- written behind has to be an own state; a change that answers no page is written behind none.
 abbrev pub EventsAreKept : Type 0
 EventsAreKept =
     (scripts : List Named) (shelf : ℕ) (bodies : List (List ℕ)) (rules : Rules) (b : Book) (nonce : ℕ) (event : Event)
     (fate : Fate)
     → AreOver rules scripts shelf → KeepsSetup event b → IsLawful event b
-    → KeepsDoubt scripts shelf bodies b → IsSpelled b (lands rules b event fate)
+    → (k : KeepsDoubt scripts shelf bodies b) → IsOwnBefore k.keeps.earlier b (lands rules b event fate)
+    → IsSpelled b (lands rules b event fate)
     → KeepsWith scripts shelf bodies (landed_bodies b (lands rules b event fate)) (step rules b nonce event fate).1
 
 -- So with that body in flight a disk stands between the book before the event and the book behind it, where what is in doubt
@@ -112,20 +119,27 @@ EventsStandBetween =
     (scripts : List Named) (shelf : ℕ) (bodies : List (List ℕ)) (rules : Rules) (b : Book) (nonce : ℕ) (event : Event)
     (fate : Fate)
     → AreOver rules scripts shelf → KeepsSetup event b → IsLawful event b
-    → KeepsDoubt scripts shelf bodies b
+    → (k : KeepsDoubt scripts shelf bodies b)
     → let c = stake_of rules b nonce event fate in
     let more = option_map (own_body b) c in
     let d = (step rules b nonce event fate).1 in
-    IsSpelled b c → HasRoom bodies more
-    → (k : Between scripts shelf b (if_kept (length_in more) d))
-    × (k.bodies ≡ bodies) × (k.more ≡ more) × MeasuresDoubt rules (length_in more) d
+    IsOwnBefore k.keeps.earlier b c → IsSpelled b c → HasRoom bodies more
+    → (l : Between scripts shelf b (if_kept (length_in more) d))
+    × (l.bodies ≡ bodies) × (l.more ≡ more) × MeasuresDoubt rules (length_in more) d
 
--- The bodies that a run leaves behind those of a journal make the run's last book, over crashes and under rules that change.
+-- What a journal told of each page is the state that its script left there, where its states are own ones.
+abbrev pub OwnStatesAreTold : Type 0
+OwnStatesAreTold =
+    (scripts : List Named) (shelf : ℕ) (bodies : List (List ℕ)) (m : Made) → book_of scripts shelf bodies ≡ made m
+    → AreOwn scripts shelf bodies → HasOwnStates m.earlier m.book
+
+-- The bodies that a run leaves behind those of a journal with own states make the run's last book, over crashes and under rules that
+-- change.
 abbrev pub RunsAreKept : Type 0
 RunsAreKept =
     (scripts : List Named) (shelf : ℕ) (bodies : List (List ℕ)) (ms : List Moment) (b : Book)
     → AreUnder (Some (journal_rules shelf scripts)) ms b → AreLawful ms b
-    → KeepsDoubt scripts shelf bodies b → AreSpelled ms b
+    → KeepsDoubt scripts shelf bodies b → AreOwn scripts shelf bodies → AreSpelled ms b
     → KeepsWith scripts shelf bodies (bodies_of ms b) (book_after ms b)
 
 -- From a fresh journal on the bodies of a run make its last book, their states are own ones, and none of them is passed over.
@@ -138,11 +152,11 @@ FreshJournalsSuffice =
     AreUnder rules.journal ms b → AreLawful ms b → AreSpelled ms b
     → Makes scripts shelf bodies (book_after ms b) × AreOwn scripts shelf bodies × AreLanded scripts shelf bodies
 
--- what the program's types say of a state: where its values nest no deeper than one may that is written, and its bytes can be
--- counted, it has a spelling
-abbrev pub StateFits : Option Suspended → Type 0
-StateFits None = ⊤
-StateFits (Some d) = is_shallow_state d ≡ true → length (state_bytes d) < 2 ^ 32 → StateHasBytes d
+-- what the program's types say of a state: where its values nest no deeper than one may that is written, and its bytes behind the one
+-- before can be counted, it has a spelling
+abbrev pub StateFits : (before : Option Suspended) → Option Suspended → Type 0
+StateFits before None = ⊤
+StateFits before (Some d) = is_shallow_state d ≡ true → length (form_bytes before d) < 2 ^ 32 → StateHasBytes d
 
 -- What a publish records can be written, on a book in range, where its parts and its state are such as the program's types give: it
 -- is not too long, so no value nests too deep and no part is too long for its count; and its numbers are such as records tell.
@@ -152,7 +166,7 @@ WhatIsRecordedIsSpelled =
     (inside : List TxName)
     → AreOver rules scripts shelf → IsOrderly b → HasWholeScripts b → IsInRange b
     → AreLimits rules b.scripts → IsTicket b t
-    → publish_comes rules b t ≡ records r c inside → PartsFit c → StateFits (state_by b c)
+    → publish_comes rules b t ≡ records r c inside → PartsFit c → StateFits (own_before b c) (state_by b c)
     → CanBeWritten b c
 
 -- Each event keeps numbers and clock in range.

@@ -1,22 +1,23 @@
 -- How long the record of a change is: that of a page has its state, which is the one that its script leaves.
-use Rattle.std.specs.Prelude.{ℕ, ◌&&◌, Bool, true, List, Option, Some, None, slice_get, if◌then◌else◌}
+use Rattle.std.specs.Prelude.{ℕ, ◌&&◌, Bool, true, List, [], ◌∷◌, map, Option, Some, None, slice_get, if◌then◌else◌}
 use Rattle.std.specs.List.{list_all}
 use Rattle.script_value.specs.Val.{Val}
 use Rattle.instance_cells.specs.Cells.{reads_of}
 use Rattle.script_nodes.specs.Arena.{Arena}
 use Rattle.script_nodes.specs.Setup.{Script, Named}
 use Rattle.replay_spec.specs.Tape.{recorded, Tape, shows, Outcome, paged}
-use Rattle.replay_spec.specs.Book.{Change, opens, extends, Book}
+use Rattle.replay_spec.specs.Book.{Page, Change, opens, extends, Book, chain}
 use Rattle.replay_spec.specs.Rules.{Journal}
-use Rattle.replay_spec.specs.Admission.{◌>>=◌}
-use Rattle.replay_spec.specs.Next.{tape_for}
+use Rattle.replay_spec.specs.Admission.{◌>>=◌, Place}
+use Rattle.replay_spec.specs.Next.{Home, home, past, answered, tape_for}
 use Rattle.replay_spec.specs.Recovery.{page_of_numbers, opening_visit, extension_visit}
 use Rattle.machine_spec.specs.Machine.{Frame, in_binding, in_operand, in_turn, Suspended}
 use Rattle.machine_spec.specs.Laws.{started, Stops}
 use Rattle.machine_spec.proofs.Halting.{stop_over}
-use Rattle.frame_codec.specs.Spelling.{state_bytes}
+use Rattle.frame_codec.specs.Forms.{form_bytes}
 use Rattle.journal_records.specs.Fields.{is_shallow}
 use Rattle.journal_records.specs.Records.{changes, body_of, record_length, begun_length}
+use Rattle.journal_books.specs.Before.{before_by}
 use Rattle.journal_books.specs.Retaking.{arena_of, Told, unread, told}
 
 -- what is kept where a page waits for an answer
@@ -41,6 +42,21 @@ state_by b (extends x) = do
   state_over at.instance.script.script (tape_for (extension_visit b x at) (recorded (reads_of x.effects)))
 state_by b _ = None
 
+-- the tape over which the last of these pages was shown, which follow one another from a root
+abbrev pub chain_tape : Home → List Page → Option Tape
+chain_tape h [] = None
+chain_tape h (p ∷ ps) = Some (record { first = past h p; later = map (answered h) ps })
+
+-- the state that its script left at a page
+abbrev pub own_state : (shelf : ℕ) → Place → Option Suspended
+own_state shelf at = do
+  t ← chain_tape (home at.instance.script shelf at.instance.number) (chain at.instance.pages at.page)
+  state_over at.instance.script.script t
+
+-- the state that a change's page is written behind, where each page has the one that its script left
+abbrev pub own_before : Book → Change → Option Suspended
+own_before b c = before_by (own_state b.shelf) b c
+
 -- whether the values of a state nest no deeper than one may that is written
 abbrev pub is_shallow_frame : Frame → Bool
 is_shallow_frame (in_binding n done) = list_all is_shallow done
@@ -52,12 +68,12 @@ abbrev pub is_shallow_state : Suspended → Bool
 is_shallow_state d =
     list_all is_shallow d.env && (list_all is_shallow_frame d.frames && list_all (λ (s : ℕ × Val). is_shallow s.1) d.shadows)
 
--- its bytes; where a value nests deeper, a record can't tell it
-abbrev pub told_bytes : Suspended → Option (List ℕ)
-told_bytes d = if is_shallow_state d then Some (state_bytes d) else None
+-- its bytes behind another one; where a value nests deeper, a record can't tell it
+abbrev pub told_bytes : (before : Option Suspended) → Suspended → Option (List ℕ)
+told_bytes before d = if is_shallow_state d then Some (form_bytes before d) else None
 
 abbrev pub state_told : Book → Change → Option (List ℕ)
-state_told b c = state_by b c >>= told_bytes
+state_told b c = state_by b c >>= told_bytes (own_before b c)
 
 -- what is told of a page whose state is this
 abbrev pub told_own : Option Suspended → Told

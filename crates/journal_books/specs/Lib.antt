@@ -1,3 +1,4 @@
+pub mod Before
 pub mod Retaking
 pub mod Lengths
 pub mod Making

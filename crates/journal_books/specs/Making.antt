@@ -6,11 +6,11 @@ use Rattle.page_journal.specs.Records as journal
 use Rattle.page_journal.specs.Records.{Log, records}
 use Rattle.replay_spec.specs.Book.{Change, opens}
 use Rattle.replay_spec.specs.Rules.{Rules}
-use Rattle.replay_spec.specs.Recovery.{Made, nothing_made}
 use Rattle.machine_spec.specs.Machine.{inside_of}
 use Rattle.server_limits.specs.Limits.{most_fuel}
 use Rattle.journal_records.specs.Records.{Record, begins, changes}
-use Rattle.journal_books.specs.Retaking.{Told, unread, misread, told, script_for, told_by, landing, retaken}
+use Rattle.journal_books.specs.Before.{Made, nothing_made}
+use Rattle.journal_books.specs.Retaking.{Told, unread, misread, told, told_in, landing, retaken}
 use Rattle.journal_books.specs.Lengths.{journal_rules}
 use Rattle.journal_records.specs.Reading.{read_record}
 
@@ -47,15 +47,15 @@ first_by scripts shelf place (Some (begins s named)) =
 
 -- a record of this length, whose page's state is told so
 abbrev pub told_next : (place length : ℕ) → Made → Change → Told → Making
-told_next place n m c unread = made (retaken n c (landing m c []) m)
+told_next place n m c unread = made (retaken n c (landing m c []) unread m)
 told_next place n m c misread = damaged place
-told_next place n m c (told d) = made (retaken n c (landing m c (inside_of d.frames)) m)
+told_next place n m c (told d) = made (retaken n c (landing m c (inside_of d.frames)) (told d) m)
 
 abbrev pub next_by : List Named → (place length : ℕ) → Made → Option Record → Making
 next_by scripts place n m None = damaged place
 next_by scripts place n m (Some (begins s named)) = damaged place
 next_by scripts place n m (Some (changes c state)) =
-    if has_script (length scripts) c then told_next place n m c (told_by (script_for m.book c) state) else damaged place
+    if has_script (length scripts) c then told_next place n m c (told_in m.earlier m.book c state) else damaged place
 
 -- with one body more, behind the gate at this place
 abbrev pub with_body : List Named → (shelf place : ℕ) → List ℕ → Making → Making

@@ -1,5 +1,5 @@
 -- What a record of a page tells of its state, and what a record lands with.
-use Rattle.std.specs.Prelude.{◌≡◌, ℕ, ◌&&◌, List, [], length, Option, Some, None, nat_lt, slice_get, if◌then◌else◌}
+use Rattle.std.specs.Prelude.{◌≡◌, ℕ, ◌&&◌, List, [], ◌∷◌, length, Option, Some, None, nat_lt, slice_get, if◌then◌else◌}
 use Rattle.script_value.specs.Val.{Val}
 use Rattle.script_value.specs.declared.outcome.TxName.{TxName}
 use Rattle.instance_cells.specs.Cells.{Effect}
@@ -9,10 +9,11 @@ use Rattle.script_nodes.specs.Setup.{Script, Named}
 use Rattle.replay_spec.specs.Book.{Change, opens, extends, ends, finishes, sweeps, Book, reopened}
 use Rattle.replay_spec.specs.Rules.{Rules}
 use Rattle.replay_spec.specs.Admission.{◌>>=◌, when}
-use Rattle.replay_spec.specs.Recovery.{are_on, hold_over, page_of_numbers, Made, number_in, is_repeated, with_number, redone}
+use Rattle.replay_spec.specs.Recovery.{are_on, hold_over, page_of_numbers, number_in, is_repeated, with_number, redone}
 use Rattle.machine_spec.specs.Machine.{Suspended, inside_of}
-use Rattle.frame_codec.specs.Reading.{read_state}
+use Rattle.frame_codec.specs.Forms.{read_form}
 use Rattle.server_limits.specs.Limits.{most_fuel}
+use Rattle.journal_books.specs.Before.{States, Earlier, Made, before_told}
 
 -- a script as its nodes in pre-order
 abbrev pub arena_of : Script → Arena
@@ -36,9 +37,15 @@ abbrev pub told_as : Option Suspended → Told
 told_as None = misread
 told_as (Some d) = told d
 
-abbrev pub told_by : Option Named → Option (List ℕ) → Told
-told_by (Some s) (Some bytes) = told_as (read_state (arena_of s.script) bytes)
-told_by _ _ = unread
+-- of the state of a page of this script, which is written behind that one, by these bytes
+abbrev pub told_by : (before : Option Suspended) → Option Named → Option (List ℕ) → Told
+told_by before None state = unread
+told_by before (Some s) None = misread
+told_by before (Some s) (Some bytes) = told_as (read_form (arena_of s.script) before bytes)
+
+-- of the state of a record's page, where records told this earlier
+abbrev pub told_in : Earlier → Book → Change → Option (List ℕ) → Told
+told_in earlier b c state = told_by (before_told earlier b c) (script_for b c) state
 
 -- the effects are on cells and hold over them
 abbrev pub if_held : List Effect → (cells : List Val) → List TxName → Option (List TxName)
@@ -63,7 +70,7 @@ held b (sweeps tick) inside = when (nat_lt b.clock tick) []
 
 -- what a record lands with: none where it is passed over, since it repeats a number or can't be of this book
 abbrev pub landing : Made → Change → (inside : List TxName) → Option (List TxName)
-landing m c inside = if is_repeated (number_in c) m.seen then None else held m.book c inside
+landing m c inside = if is_repeated (number_in c) m.earlier.seen then None else held m.book c inside
 
 -- a record lands, where this is told of its page's state
 abbrev pub IsLanded : Made → Change → Told → Type 0
@@ -75,7 +82,23 @@ IsLanded m c (told d) = landing m c (inside_of d.frames) ≡ Some (inside_of d.f
 abbrev pub rules_for : (length : ℕ) → Rules
 rules_for n = record { fuel = most_fuel; life = 0; instances = 0; pages = 0; journal = Some (record { begun = 0; length_of = λ b c. n }) }
 
--- one record more, of this length, which lands with these names or is passed over
-abbrev pub retaken : (length : ℕ) → Change → Option (List TxName) → Made → Made
-retaken n c names m =
-    record { book = reopened (redone (rules_for n) c names m.book); seen = with_number (number_in c) m.seen }
+-- the state of a page that was shown is told from then on
+abbrev pub with_state : Option ℕ → Told → States → States
+with_state (Some n) (told d) ss = (n, d) ∷ ss
+with_state _ _ ss = ss
+
+-- what is told with one record more, which lands with these names or is passed over, where this is told of its page's state
+abbrev pub states_with : Option (List TxName) → Option ℕ → Told → States → States
+states_with None number x ss = ss
+states_with (Some names) number x ss = with_state number x ss
+
+abbrev pub then_told : Change → Option (List TxName) → Told → Earlier → Earlier
+then_told c names x earlier = record {
+  seen = with_number (number_in c) earlier.seen;
+  states = states_with names (number_in c) x earlier.states;
+}
+
+-- what one record more makes, of this length
+abbrev pub retaken : (length : ℕ) → Change → Option (List TxName) → Told → Made → Made
+retaken n c names x m =
+    record { book = reopened (redone (rules_for n) c names m.book); earlier = then_told c names x m.earlier }

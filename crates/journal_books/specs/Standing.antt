@@ -6,13 +6,13 @@ use Rattle.page_journal.specs.Records.{at_rest}
 use Rattle.page_journal.specs.Holding.{IsClosed, MayHold, Holdable}
 use Rattle.replay_spec.specs.Book.{Book, reopened}
 use Rattle.replay_spec.specs.Step.{kept, recovered}
-use Rattle.replay_spec.specs.Remade.{made_of}
+use Rattle.journal_books.specs.Before.{Earlier, made_of}
 use Rattle.journal_books.specs.Retaking.{rules_for}
 use Rattle.journal_books.specs.Making.{Making, made, book_of, book_in_bytes}
 
--- it is this book, as after a crash, whatever numbers the records told
+-- it is this book, as after a crash, whatever numbers and states the records told
 abbrev pub IsBook : Making → Book → Type 0
-IsBook making b = (seen : List ℕ) × (making ≡ made (made_of b seen))
+IsBook making b = (earlier : Earlier) × (making ≡ made (made_of b earlier))
 
 -- these bodies make the book; so do the bytes of a disk
 abbrev pub Makes : List Named → (shelf : ℕ) → List (List ℕ) → Book → Type 0

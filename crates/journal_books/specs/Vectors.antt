@@ -7,11 +7,12 @@ use Rattle.script_nodes.specs.Setup.{Named}
 use Rattle.page_journal.specs.Records.{header, frames, at_rest}
 use Rattle.replay_spec.specs.Book.{Page, Change, Book, opens, extends, ends, sweeps}
 use Rattle.replay_spec.specs.Rules.{empty_book}
-use Rattle.replay_spec.specs.Recovery.{Made}
 use Rattle.machine_spec.specs.Machine.{Suspended}
 use Rattle.frame_codec.specs.Spelling.{state_bytes}
+use Rattle.frame_codec.specs.Forms.{form_bytes}
 use Rattle.value_bytes.specs.Reading.{read_within}
 use Rattle.journal_records.specs.Reading.{read_record}
+use Rattle.journal_books.specs.Before.{Made, nothing_told}
 use Rattle.journal_books.specs.Making.{nothing, made, damaged, other, rules_over, book_of, book_in_bytes, begun}
 use Rattle.journal_books.specs.Keeping.{body_by, first_body}
 
@@ -39,12 +40,12 @@ empty_ten = empty_book (rules_over (ten ∷ []) 0) (ten ∷ []) 0
 
 -- Begin alone, and a tick to 50: the journals are 46 and 60 bytes long
 begin_makes_an_empty_book :
-    book_of (ten ∷ []) 0 (begin_ten ∷ []) ≡ made (record { book = record empty_ten { length = 46 }; seen = [] })
+    book_of (ten ∷ []) 0 (begin_ten ∷ []) ≡ made (record { book = record empty_ten { length = 46 }; earlier = nothing_told })
 unfolding read_record
 begin_makes_an_empty_book = refl
 
 abbrev at_50 : Made
-at_50 = record { book = record empty_ten { clock = 50; length = 60 }; seen = [] }
+at_50 = record { book = record empty_ten { clock = 50; length = 60 }; earlier = nothing_told }
 
 tick_50 : book_of (ten ∷ []) 0 (begin_ten ∷ body_by (sweeps 50) None ∷ []) ≡ made at_50
 unfolding read_record
@@ -76,7 +77,7 @@ the_greatest_number :
     book_of (ten ∷ []) 0 (begin_ten ∷ body_by (lost_end (2 ^ 62 - 1)) None ∷ [])
     ≡ made (record {
       book = record empty_ten { drawn = 2 ^ 62; logged = 2 ^ 62; length = 46 + 5 + 38 };
-      seen = (2 ^ 62 - 1) ∷ [];
+      earlier = record { seen = (2 ^ 62 - 1) ∷ []; states = [] };
     })
 unfolding read_record read_within
 the_greatest_number = refl
@@ -99,6 +100,16 @@ bare_bytes = 0 ∷ 0 ∷ 0 ∷ 0 ∷ 0 ∷ 0 ∷ 0 ∷ 0 ∷ 0 ∷ 0 ∷ 0 ∷ 0
 bare_is_spelled : state_bytes bare ≡ bare_bytes
 bare_is_spelled = refl
 
+-- by itself, and behind the same
+abbrev flat : List ℕ
+flat = 0 ∷ bare_bytes
+
+abbrev as_before : List ℕ
+as_before = 1 ∷ 0 ∷ 0 ∷ 0 ∷ 0 ∷ 0 ∷ 0 ∷ 0 ∷ 0 ∷ 0 ∷ 0 ∷ 0 ∷ 0 ∷ 0 ∷ 0 ∷ 0 ∷ 0 ∷ 0 ∷ 0 ∷ 0 ∷ 0 ∷ []
+
+as_before_is_spelled : form_bytes (Some bare) bare ≡ as_before
+as_before_is_spelled = refl
+
 abbrev start_body : (number script : ℕ) → (state : List ℕ) → List ℕ
 start_body n k state = body_by (opening n k) (Some state)
 
@@ -117,14 +128,14 @@ started size = record (empty_book (rules_over (waiting ∷ []) 3) (waiting ∷ [
 }
 
 a_start :
-    book_of (waiting ∷ []) 3 (begin_waiting ∷ start_body 0 0 bare_bytes ∷ [])
-    ≡ made (record { book = started 132; seen = 0 ∷ [] })
+    book_of (waiting ∷ []) 3 (begin_waiting ∷ start_body 0 0 flat ∷ [])
+    ≡ made (record { book = started 133; earlier = record { seen = 0 ∷ []; states = (0, bare) ∷ [] } })
 unfolding read_record read_within
 a_start = refl
 
 a_number_twice :
-    book_of (waiting ∷ []) 3 (begin_waiting ∷ start_body 0 0 bare_bytes ∷ start_body 0 0 bare_bytes ∷ [])
-    ≡ made (record { book = started 194; seen = 0 ∷ 0 ∷ [] })
+    book_of (waiting ∷ []) 3 (begin_waiting ∷ start_body 0 0 flat ∷ start_body 0 0 flat ∷ [])
+    ≡ made (record { book = started 196; earlier = record { seen = 0 ∷ 0 ∷ []; states = (0, bare) ∷ [] } })
 unfolding read_record read_within
 a_number_twice = refl
 
@@ -133,7 +144,7 @@ no_state : book_of (waiting ∷ []) 3 (begin_waiting ∷ start_body 0 0 [] ∷ [
 unfolding read_record read_within
 no_state = refl
 
-no_state_again : book_of (waiting ∷ []) 3 (begin_waiting ∷ start_body 0 0 bare_bytes ∷ start_body 0 0 (9 ∷ []) ∷ []) ≡ damaged 131
+no_state_again : book_of (waiting ∷ []) 3 (begin_waiting ∷ start_body 0 0 flat ∷ start_body 0 0 (9 ∷ []) ∷ []) ≡ damaged 132
 unfolding read_record read_within
 no_state_again = refl
 
@@ -152,19 +163,49 @@ lost_answer i p = extends (record {
 })
 
 no_state_is_read :
-    book_of (waiting ∷ []) 3 (begin_waiting ∷ start_body 0 0 bare_bytes ∷ body_by (lost_answer 0 7) (Some (9 ∷ [])) ∷ [])
-    ≡ made (record { book = record (started 198) { drawn = 2; logged = 2 }; seen = 1 ∷ 0 ∷ [] })
+    book_of (waiting ∷ []) 3 (begin_waiting ∷ start_body 0 0 flat ∷ body_by (lost_answer 0 7) (Some (9 ∷ [])) ∷ [])
+    ≡ made (record {
+      book = record (started 199) { drawn = 2; logged = 2 };
+      earlier = record { seen = 1 ∷ 0 ∷ []; states = (0, bare) ∷ [] };
+    })
 unfolding read_record read_within
 no_state_is_read = refl
 
 -- one to the page that stands there has to have a state of its script
 no_state_of_a_page :
-    book_of (waiting ∷ []) 3 (begin_waiting ∷ start_body 0 0 bare_bytes ∷ body_by (lost_answer 0 0) (Some (9 ∷ [])) ∷ []) ≡ damaged 131
+    book_of (waiting ∷ []) 3 (begin_waiting ∷ start_body 0 0 flat ∷ body_by (lost_answer 0 0) (Some (9 ∷ [])) ∷ []) ≡ damaged 132
 unfolding read_record read_within
 no_state_of_a_page = refl
 
+-- it is written behind that page's, and not by itself
+abbrev second : Page
+second = record { number = 1; nonce = 6; parent = Some 0; answer = list no_vals; reads = []; inside = []; deadline = 3600 }
+
+abbrev answered_once : Book
+answered_once = record (started 219) {
+  drawn = 2;
+  logged = 2;
+  instances = record { number = 0; script = waiting; cells = []; closed = []; revoked = []; pages = root ∷ second ∷ [] } ∷ [];
+}
+
+behind_the_page :
+    book_of (waiting ∷ []) 3 (begin_waiting ∷ start_body 0 0 flat ∷ body_by (lost_answer 0 0) (Some as_before) ∷ [])
+    ≡ made (record { book = answered_once; earlier = record { seen = 1 ∷ 0 ∷ []; states = (1, bare) ∷ (0, bare) ∷ [] } })
+unfolding read_record read_within
+behind_the_page = refl
+
+not_by_itself :
+    book_of (waiting ∷ []) 3 (begin_waiting ∷ start_body 0 0 flat ∷ body_by (lost_answer 0 0) (Some flat) ∷ []) ≡ damaged 132
+unfolding read_record read_within
+not_by_itself = refl
+
+-- a start's is written by itself
+not_behind : book_of (waiting ∷ []) 3 (begin_waiting ∷ start_body 0 0 as_before ∷ []) ≡ damaged 69
+unfolding read_record read_within
+not_behind = refl
+
 -- a start of a script that is not of the setup; a second Begin
-no_such_script : book_of (waiting ∷ []) 3 (begin_waiting ∷ start_body 0 1 bare_bytes ∷ []) ≡ damaged 69
+no_such_script : book_of (waiting ∷ []) 3 (begin_waiting ∷ start_body 0 1 flat ∷ []) ≡ damaged 69
 unfolding read_record read_within
 no_such_script = refl
 

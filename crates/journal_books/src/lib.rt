@@ -5,7 +5,7 @@ ghost use Rattle.std.specs.Prelude.{IsTrue};
 ghost use Rattle.journal_books.specs.Depths.{RunsStayShallow};
 ghost use Rattle.journal_books.specs.Disks.{RecoveriesStay, RecoveriesFindOne, SettledJournalsStand, QuietCallsStand, AppendsStandBetween, CallsLeaveStanding};
 ghost use Rattle.journal_books.specs.Reading.{ReadersMakeTheBook};
-ghost use Rattle.journal_books.specs.Laws.{OnlyItsBeginBegins, ImagesMakeBooks, BooksStandAlike, ACrashIsLostOrKept, BodiesMakeFittingBooks, LandingsAreKept, LandingsStandBetween, EventsAreKept, EventsStandBetween, RunsAreKept, FreshJournalsSuffice, WhatIsRecordedIsSpelled, RangesAreKept};
+ghost use Rattle.journal_books.specs.Laws.{OnlyItsBeginBegins, ImagesMakeBooks, BooksStandAlike, ACrashIsLostOrKept, BodiesMakeFittingBooks, LandingsAreKept, LandingsStandBetween, EventsAreKept, EventsStandBetween, OwnStatesAreTold, RunsAreKept, FreshJournalsSuffice, WhatIsRecordedIsSpelled, RangesAreKept};
 
 use journal_records::records_are_exact;
 use page_journal::Take;
@@ -70,8 +70,13 @@ pub fn events_stand_between()
     records_are_exact();
 }
 
-/// The bodies that a run leaves behind those of a journal make the run's last book, over crashes and under rules that
-/// change.
+/// What a journal told of each page is the state that its script left there, where its states are own ones.
+pub fn own_states_are_told()
+    ensures { OwnStatesAreTold }
+{}
+
+/// The bodies that a run leaves behind those of a journal with own states make the run's last book, over crashes and
+/// under rules that change.
 pub fn runs_are_kept()
     ensures { RunsAreKept }
 {

@@ -1,2 +1,3 @@
 pub mod Bound
 pub mod Read
+pub mod Written

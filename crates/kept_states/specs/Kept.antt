@@ -1,13 +1,15 @@
 -- What is kept of the state of a page.
-use Rattle.std.specs.Prelude.{◌≡◌, ℕ, zero, suc, List, Option, Some, None}
+use Rattle.std.specs.Prelude.{◌≡◌, ℕ, zero, suc, List, ◌∷◌, Option, Some, None}
 use Rattle.web_cells.specs.Own.{BindsAllOf}
 use Rattle.machine_spec.specs.Machine.{Suspended}
 use Rattle.stored_states.specs.Views.{origin_of, suspended_of}
 use Rattle.stored_states.specs.declared.segment.Origin.{Origin}
 use Rattle.frame_codec.specs.Spelling.{StateHasBytes}
 use Rattle.frame_codec.specs.Deltas.{Delta, IsDelta}
+use Rattle.frame_codec.specs.Forms.{form_bytes}
 use Rattle.frame_codec.specs.Parted.{Parted, whole_of, state_parts, delta_parts}
 use Rattle.frame_codec.specs.PartedViews.{parted_of}
+use Rattle.kept_states.specs.Links.{behind_at}
 use Rattle.kept_states.specs.declared.form.Form as declared
 use Rattle.kept_states.specs.declared.form.Form.TheVariants.{Spelled, Whole}
 use Rattle.kept_states.specs.declared.state.KeptState.{KeptState}
@@ -63,3 +65,14 @@ kept_of k = record { links = k.links; form = form_of k.form }
 -- so it is kept behind an origin, which a start has none of
 abbrev pub IsKeptAfter : Origin → (links : ℕ) → Suspended → KeptState → Type 0
 IsKeptAfter before links d k = IsKeptFrom (origin_of before) links d (kept_of k)
+
+-- the byte before what is written by itself, and before what is written behind another state
+abbrev pub form_byte : (before : Option Suspended) → ℕ
+form_byte None = 0
+form_byte (Some p) = 1
+
+-- What is kept of a state so many links from one by itself is written so, behind the byte of its form.
+abbrev pub KeptAreWritten : Type 0
+KeptAreWritten =
+    (before : Option Suspended) (links : ℕ) (d : Suspended) (f : Form) (bytes : List ℕ) → IsKeptBy before links d f → bytes_of f ≡ Some bytes
+    → form_byte (behind_at links before) ∷ bytes ≡ form_bytes (behind_at links before) d

@@ -1,5 +1,6 @@
 -- How many links a page is from one whose state is kept by itself.
-use Rattle.std.specs.Prelude.{ℕ, zero, suc, ◌+◌, nat_lt, if◌then◌else◌}
+use Rattle.std.specs.Prelude.{ℕ, zero, suc, ◌+◌, Option, None, nat_lt, if◌then◌else◌}
+use Rattle.machine_spec.specs.Machine.{Suspended}
 
 -- one more than the page before, or none where that has 32
 abbrev pub next_links : ℕ → ℕ
@@ -9,3 +10,8 @@ next_links links = if nat_lt links 32 then links + 1 else 0
 abbrev pub links_at : ℕ → ℕ
 links_at zero = 0
 links_at (suc n) = next_links (links_at n)
+
+-- the state that one of so many links is written behind: none, or that of the page before
+abbrev pub behind_at : (links : ℕ) → (before : Option Suspended) → Option Suspended
+behind_at zero before = None
+behind_at (suc n) before = before

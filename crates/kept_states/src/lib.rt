@@ -1,6 +1,8 @@
 //! The states of pages as a book keeps them: as bytes, most of them as what differs from the state of the page before.
 #![tactic(auto)]
 
+ghost use Rattle.kept_states.specs.Kept.{KeptAreWritten};
+
 mod form;
 mod links;
 mod shades;
@@ -9,3 +11,8 @@ mod state;
 pub use form::Found;
 pub use links::{MOST_LINKS, next_links};
 pub use state::KeptState;
+
+/// What is kept of the state of a page is written so in a record, behind the byte of its form.
+pub fn kept_are_written()
+    ensures { KeptAreWritten }
+{}
