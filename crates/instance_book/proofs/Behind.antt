@@ -18,17 +18,17 @@ use Rattle.instance_book.specs.declared.numbered.Numbered.{Numbered}
 use Rattle.instance_book.specs.declared.in_order.InOrder.{InOrder}
 use Rattle.instance_book.specs.declared.page.KeptPage.{KeptPage}
 use Rattle.instance_book.specs.Views.{page_of, pages_of}
-use Rattle.instance_book.specs.Places.{arena_of, kept_at, shown_of, shown_in, IsStateAt, IsKeptBehind, AreStatesOf}
+use Rattle.instance_book.specs.Places.{Source, own, given, arena_of, kept_at, shown_of, shown_in, IsStateAt, HasState, IsKeptBehind, AreStatesOf}
 use Rattle.instance_book.proofs.States.{links_of, state_found}
 
 -- at no links the state is kept by itself
-alone_behind : (s : Named) (h : Home) (older : List Page) (d : Suspended) (k : Kept) → k.links ≡ 0 → IsKeptBehind s h older d k → IsAlone d k.form
+alone_behind : (s : Named) (h : Source Home) (older : List Page) (d : Suspended) (k : Kept) → k.links ≡ 0 → IsKeptBehind s h older d k → IsAlone d k.form
 alone_behind s h [] d k none kept = kept.form
 alone_behind s h (q ∷ older) d k none kept =
     subst (λ (n : ℕ). IsKeptBy (Some kept.0) n d k.form) (sym kept.1.1.links_are ∙ none) kept.1.1.form
 
 -- at more links it is kept behind that of the page before
-record Behind (s : Named) (h : Home) (older : List Page) (d : Suspended) (k : Kept) (n : ℕ) : Type 0 where
+record Behind (s : Named) (h : Source Home) (older : List Page) (d : Suspended) (k : Kept) (n : ℕ) : Type 0 where
   parent : Page
   rest : List Page
   are : older ≡ parent ∷ rest
@@ -44,7 +44,7 @@ one_less m n e = by_test (nat_lt m 32) e
     by_test true f = omega (arith, f)
     by_test false f = absurd (omega (arith, f))
 
-link_behind : (s : Named) (h : Home) (older : List Page) (d : Suspended) (k : Kept) (n : ℕ) → k.links ≡ suc n → IsKeptBehind s h older d k → Behind s h older d k n
+link_behind : (s : Named) (h : Source Home) (older : List Page) (d : Suspended) (k : Kept) (n : ℕ) → k.links ≡ suc n → IsKeptBehind s h older d k → Behind s h older d k n
 link_behind s h [] d k n more kept = absurd (let none = kept.links_are in omega (arith, more, none))
 link_behind s h (q ∷ older) d k n more kept =
     let links : next_links (links_at (length older)) ≡ suc n = sym kept.1.1.links_are ∙ more in
@@ -64,10 +64,20 @@ arena_again a script = sym (ap (λ (ns : List Node). record a { nodes = ns }) sc
 
 module _ (law : EachPageHasOneState) (s : Named) (a : Arena) (script : IsScript a) (same : arena_of s.script ≡ a) (ps : InOrder KeptPage) where
   -- a state fits the script
+  stored_by : (h : Source Home) (qs : List Page) (p : Page) (k : Kept) (has : HasState s h qs p k) → IsStored a has.state
+  stored_by (own h) qs p k has =
+      let tape = page_tape h (reverse has.lineage.ancestors) p in
+      of_script a script tape has.state (subst (λ (b : Arena). IsStateOf b tape has.state) same has.its) has.bytes
+  stored_by (given states) qs p k has = subst (λ (b : Arena). IsStored b has.state) same has.its.1
+
   pub is_of_script : (x : Numbered KeptPage) (has : AreStatesOf s ps x) → IsStored a has.own.state
-  is_of_script x has =
-      let tape = page_tape has.home (reverse has.own.lineage.ancestors) (page_of x) in
-      of_script a script tape has.own.state (subst (λ (b : Arena). IsStateOf b tape has.own.state) same has.own.its) has.own.bytes
+  is_of_script x has = stored_by has.home (pages_of ps) (page_of x) (kept_at x) has.own
+
+  -- a page has one state
+  one_at : (h : Source Home) (older : List Page) (p : Page) (d e : Suspended) → IsStateAt s h older p d → IsStateAt s h older p e → d ≡ e
+  one_at (own h) older p d e first second =
+      (law (arena_of s.script) (subst (λ (b : Arena). IsScript b) (sym same) script) (page_tape h (reverse older) p)).1 d e first second
+  one_at (given states) older p d e first second = same_Some d e (sym first.0 ∙ second.0)
 
   pub is_alone : (x : Numbered KeptPage) (has : AreStatesOf s ps x) → x.item.state.links ≡ 0 → IsAlone has.own.state (kept_at x).form
   is_alone x has none = alone_behind s has.home has.own.lineage.ancestors has.own.state (kept_at x) none has.own.kept
@@ -117,11 +127,10 @@ module _ (law : EachPageHasOneState) (s : Named) (a : Arena) (script : IsScript 
       unfolding parent_has
       same_state has =
           let older = (parent_has has).own.lineage.ancestors in
-          let tape = page_tape has.home (reverse older) (page_of x) in
-          let its : IsStateOf (arena_of s.script) tape (behind_of has).before =
+          let its : IsStateAt s has.home older (page_of x) (behind_of has).before =
           subst (λ (qs : List Page). IsStateAt s has.home qs (page_of x) (behind_of has).before) (same_rest has)
           (subst (λ (q : Page). IsStateAt s has.home (behind_of has).rest q (behind_of has).before) (same_page has) (behind_of has).its) in
-          (law (arena_of s.script) (subst (λ (b : Arena). IsScript b) (sym same) script) tape).1 (behind_of has).before (parent_has has).own.state its (parent_has has).own.its
+          one_at has.home older (page_of x) (behind_of has).before (parent_has has).own.state its (parent_has has).own.its
 
       pub is_behind : (has : AreStatesOf s ps p) (d : Suspended) → (parent_has has).own.state ≡ d → IsBehind d has.own.state (kept_at p).form
       is_behind has d e = subst (λ (c : Suspended). IsBehind c has.own.state (kept_at p).form) (same_state has ∙ e) (behind_of has).behind

@@ -2,8 +2,10 @@ pub mod Orders
 pub mod Lists
 pub mod Seen
 pub mod States
+pub mod Given
 pub mod Behind
 pub mod Lands
+pub mod Timely
 pub mod Itself
 pub mod Admitted
 pub mod Recorded

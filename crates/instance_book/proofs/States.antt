@@ -1,5 +1,6 @@
 -- The states of pages.
 use Rattle.std.proofs.Common.{◌≡◌, ◌∙◌, ap, sym, subst, ℕ, zero, suc, ◌<◌, ◌≤◌, List, [], ◌∷◌, length, reverse, slice_get, Option, Some, None, ◌++◌, refl, arith, length-append, Contains, inl, inr}
+use Rattle.std.specs.Bool.{⊤}
 use Rattle.std.proofs.lemmas.List.{reverse-append, length-reverse}
 use Rattle.std.proofs.lemmas.Option.{same_Some, get_or_from_slice_get}
 use Rattle.script_nodes.specs.Setup.{Named}
@@ -36,28 +37,30 @@ use Rattle.instance_book.specs.declared.prepared.Change.{Change}
 use Rattle.instance_book.specs.declared.prepared.Change.TheVariants.{Opens, Extends, Ends, Finishes}
 use Rattle.instance_book.specs.declared.ticket.Ticket.{Ticket}
 use Rattle.instance_book.specs.Views.{page_of, pages_of, script_in, no_script, ticket_of}
-use Rattle.instance_book.specs.Places.{arena_of, kept_at, shown_of, shown_in, IsStateAt, IsKeptBehind, HasState, HaveStates, IsKeptAs, IsKept, IsPlaced, IsNextIn, IsNextAt, OneMoreHasItsState}
+use Rattle.instance_book.specs.Places.{Source, own, given, source_in, arena_of, kept_at, shown_of, shown_in, IsStateAt, IsKeptBehind, HasState, HaveStates, IsKeptAs, IsKept, IsPlaced, IsNextIn, IsNextAt, OneMoreHasItsState}
 use Rattle.frame_codec.specs.Spelling.{StateHasBytes}
 use Rattle.instance_book.specs.Changes.{OpensKept, HasStateBy, IsSpelledBy}
-use Rattle.instance_book.specs.Fits.{IsStateBehind, GoesOnFrom, IsFor, FitsAs, IsForSome}
+use Rattle.instance_book.specs.Fits.{IsStateBehind, GoesOnFrom, GoesOnBySource, FitsAs, IsForSome}
+use Rattle.instance_book.specs.Makes.{shelf_from}
+use Rattle.instance_book.specs.Told.{IsStateOver}
 use Rattle.instance_book.specs.Prepares.{OpensAs, ExtendsAs, KeepsStateOf}
 use Rattle.instance_book.specs.Laws.{KeepsStateAs, AShownPageHasItsState}
 use Rattle.instance_book.proofs.Seen.{all_put, all_at}
 
 -- what a page has among others it has among more
-states_grown : (s : Named) (h : Home) (ps qs : List Page) → Grown ps qs → length ps ≤ length qs → (xs : List (Page × Kept)) → HaveStates s h ps xs → HaveStates s h qs xs
+states_grown : (s : Named) (h : Source Home) (ps qs : List Page) → Grown ps qs → length ps ≤ length qs → (xs : List (Page × Kept)) → HaveStates s h ps xs → HaveStates s h qs xs
 states_grown s h ps qs grown longer [] all = tt
 states_grown s h ps qs grown longer (x ∷ xs) all =
     (record { lineage = lineage_grown ps qs grown longer x.0 all.0.lineage; state = all.0.state; its = all.0.its; bytes = all.0.bytes; kept = all.0.kept }, states_grown s h ps qs grown longer xs all.1)
 
 pub one_more_state : OneMoreHasItsState
-one_more_state s h ps xs p d unused own all =
+one_more_state s h ps xs p d unused first all =
     let more : length ps ≤ length (put_page p ps) = omega (arith, put_length (λ (q : Page). q.number) p ps unused) in
-    all_put (λ (x : Page × Kept). HasState s h (put_page p ps) x.0 x.1) (λ (x : Page × Kept). x.0.number) (p, d) xs own
+    all_put (λ (x : Page × Kept). HasState s h (put_page p ps) x.0 x.1) (λ (x : Page × Kept). x.0.number) (p, d) xs first
     (states_grown s h ps (put_page p ps) (put_grown p ps unused) more xs all)
 
 -- an instance is kept as what is seen of it
-pub kept_alike : (scripts : List Named) (shelf : ℕ) (x y : Numbered KeptInstance) → x.number ≡ y.number → x.item.script ≡ y.item.script
+pub kept_alike : (scripts : List Named) (shelf : Source ℕ) (x y : Numbered KeptInstance) → x.number ≡ y.number → x.item.script ≡ y.item.script
     → pages_of x.item.pages ≡ pages_of y.item.pages → shown_in x.item.pages ≡ shown_in y.item.pages → IsKept scripts shelf y → IsKept scripts shelf x
 kept_alike scripts shelf x y number place pages shown kept = rw (number, place, pages, shown) kept
 
@@ -69,7 +72,7 @@ pub same_kept : (x y : Numbered KeptInstance) → x.number ≡ y.number → x.it
     → kept_of x ≡ kept_of y
 same_kept x y number place pages shown = rw (number, place, pages, shown) refl
 
-pub kept_as : (scripts : List Named) (shelf : ℕ) (x y : Numbered KeptInstance) → kept_of x ≡ kept_of y → IsKept scripts shelf y → IsKept scripts shelf x
+pub kept_as : (scripts : List Named) (shelf : Source ℕ) (x y : Numbered KeptInstance) → kept_of x ≡ kept_of y → IsKept scripts shelf y → IsKept scripts shelf x
 kept_as scripts shelf x y e kept =
     subst (λ (k : (ℕ × ℕ) × (List Page × List (Page × Kept))). IsKeptAs scripts shelf k.0.0 k.0.1 k.1.0 k.1.1) (sym e) kept
 
@@ -81,20 +84,20 @@ pub placed_as : (scripts : List Named) (x y : Numbered KeptInstance) → kept_of
 placed_as scripts x y e placed = placed_alike scripts x y (ap (λ (k : (ℕ × ℕ) × (List Page × List (Page × Kept))). k.0.1) e) placed
 
 -- with its next page it is kept too
-pub kept_next : (scripts : List Named) (shelf : ℕ) (x y : Numbered KeptInstance) (p : Numbered KeptPage) → y.number ≡ x.number → y.item.script ≡ x.item.script
+pub kept_next : (scripts : List Named) (shelf : Source ℕ) (x y : Numbered KeptInstance) (p : Numbered KeptPage) → y.number ≡ x.number → y.item.script ≡ x.item.script
     → pages_of y.item.pages ≡ put_page (page_of p) (pages_of x.item.pages) → shown_in y.item.pages ≡ put_in_order (λ z. z.0.number) (shown_of p) (shown_in x.item.pages)
     → page_at p.number (pages_of x.item.pages) ≡ None
-    → (let s = script_in scripts x.item.script in HasState s (home s shelf x.number) (put_page (page_of p) (pages_of x.item.pages)) (page_of p) (kept_at p))
+    → (let s = script_in scripts x.item.script in HasState s (source_in s shelf x.number) (put_page (page_of p) (pages_of x.item.pages)) (page_of p) (kept_at p))
     → IsKept scripts shelf x → IsKept scripts shelf y
-kept_next scripts shelf x y p number place pages shown unused own kept =
+kept_next scripts shelf x y p number place pages shown unused next kept =
     let s = script_in scripts x.item.script in
     rw (number, place, pages, shown) (record {
       placed = kept.placed;
-      states = one_more_state s (home s shelf x.number) (pages_of x.item.pages) (shown_in x.item.pages) (page_of p) (kept_at p) unused own kept.states;
+      states = one_more_state s (source_in s shelf x.number) (pages_of x.item.pages) (shown_in x.item.pages) (page_of p) (kept_at p) unused next kept.states;
     })
 
 -- an instance that begins with its page
-pub kept_first : (scripts : List Named) (shelf : ℕ) (o : Opening) (y : Numbered KeptInstance) → OpensKept scripts shelf o → y.number ≡ o.page.number → y.item.script ≡ o.instance.script
+pub kept_first : (scripts : List Named) (shelf : Source ℕ) (o : Opening) (y : Numbered KeptInstance) → OpensKept scripts shelf o → y.number ≡ o.page.number → y.item.script ≡ o.instance.script
     → pages_of y.item.pages ≡ put_page (page_of o.page) (pages_of o.instance.pages) → shown_in y.item.pages ≡ put_in_order (λ z. z.0.number) (shown_of o.page) (shown_in o.instance.pages)
     → IsKept scripts shelf y
 kept_first scripts shelf o y kept number place pages shown =
@@ -112,11 +115,17 @@ below_length [] k x h = absurd (cc)
 below_length (y ∷ ys) zero x h = omega arith
 below_length (y ∷ ys) (suc k) x h = omega (arith, below_length ys k x h)
 
+-- the state over a page's tape, or the one that is given to its number
+state_there : (source : Source ⊤) (s : Named) (shelf n k : ℕ) (older : List Page) (p : Page) (t : Tape) (d : Suspended) → page_tape (home s shelf n) (reverse older) p ≡ t → p.number ≡ k
+    → IsStateOver source s t k d → IsStateAt s (source_in s (shelf_from source shelf) n) older p d
+state_there (own all) s shelf n k older p t d tape number is = subst (λ (x : Tape). IsStateOf (arena_of s.script) x d) (sym tape) is
+state_there (given states) s shelf n k older p t d tape number is = (ap states number ∙ is.0, is.1)
+
 -- the first page of a start
-pub first_kept : (scripts : List Named) (b : Book) (t : Ticket) (k : ℕ) (s : Named) (effects : List Effect) (inside : List TxName) (d : Suspended) (o : Opening)
+pub first_kept : (source : Source ⊤) (scripts : List Named) (b : Book) (t : Ticket) (k : ℕ) (s : Named) (effects : List Effect) (inside : List TxName) (d : Suspended) (o : Opening)
     → slice_get scripts t.script ≡ Some s → OpensAs t effects inside d o
-    → IsStateOf (arena_of s.script) (tape_for (start_visit b (ticket_of t) k s) (recorded (reads_of effects))) d → StateHasBytes d → OpensKept scripts b.shelf o
-first_kept scripts b t k s effects inside d o found made state has =
+    → IsStateOver source s (tape_for (start_visit b (ticket_of t) k s) (recorded (reads_of effects))) t.number d → StateHasBytes d → OpensKept scripts (shelf_from source b.shelf) o
+first_kept source scripts b t k s effects inside d o found made state has =
     let its : script_in scripts o.instance.script ≡ s = ap (script_in scripts) made.script ∙ get_or_from_slice_get scripts t.script s no_script found in
     let p = page_of o.page in
     let parent : p.parent ≡ None = ap (λ (q : Page). q.parent) made.page in
@@ -130,7 +139,7 @@ first_kept scripts b t k s effects inside d o found made state has =
       state = rw its (record {
         lineage = record { ancestors = []; are = parent; few = omega arith };
         state = d;
-        its = subst (λ (x : Tape). IsStateOf (arena_of s.script) x d) (sym tape) state;
+        its = state_there source s b.shelf o.page.number t.number [] p (tape_for (start_visit b (ticket_of t) k s) (recorded (reads_of effects))) d tape number state;
         bytes = has;
         kept = made.state;
       });
@@ -153,7 +162,7 @@ module _ (b : Book) (t : next.Ticket) (at : Place) (h : Lineage at.instance.page
   page_chain = chain_is at.instance.pages at.page h.ancestors h.are h.few ∙ reverse-append (at.page ∷ []) h.ancestors
 
   state_before : (o : Option Suspended) → GoesOnFrom (page_visit b t at) o
-      → (d : Suspended) × ((o ≡ Some d) × IsStateAt at.instance.script (home at.instance.script b.shelf at.instance.number) h.ancestors at.page d)
+      → (d : Suspended) × ((o ≡ Some d) × IsStateAt at.instance.script (own (home at.instance.script b.shelf at.instance.number)) h.ancestors at.page d)
   state_before None from =
       absurd (let n = ap length (sym from ∙ page_chain) in omega (arith, n, length-append (reverse h.ancestors) (at.page ∷ [])))
   state_before (Some d) from =
@@ -169,27 +178,41 @@ module _ (b : Book) (t : next.Ticket) (at : Place) (h : Lineage at.instance.page
       )
 
 -- the links of a page, and of one that answers it
-links_behind : (s : Named) (h : Home) (older : List Page) (d : Suspended) (k : Kept) → IsKeptBehind s h older d k → k.links ≡ links_at (length older)
+links_behind : (s : Named) (h : Source Home) (older : List Page) (d : Suspended) (k : Kept) → IsKeptBehind s h older d k → k.links ≡ links_at (length older)
 links_behind s h [] d k kept = kept.links_are
 links_behind s h (q ∷ older) d k kept = kept.1.1.links_are
 
-pub links_of : (s : Named) (h : Home) (ps : List Page) (p : Page) (k : Kept) (has : HasState s h ps p k) → k.links ≡ links_at (length has.lineage.ancestors)
+pub links_of : (s : Named) (h : Source Home) (ps : List Page) (p : Page) (k : Kept) (has : HasState s h ps p k) → k.links ≡ links_at (length has.lineage.ancestors)
 links_of s h ps p k has = links_behind s h has.lineage.ancestors has.state k has.kept
 
 chain_length : (ps : List Page) (p : Page) (h : Lineage ps p) → length (chain ps p) ≡ length (p ∷ h.ancestors)
 chain_length ps p h = ap length (chain_is ps p h.ancestors h.are h.few) ∙ length-reverse (p ∷ h.ancestors)
 
-pub links_next : (s : Named) (h : Home) (ps : List Page) (p : Page) (k : Kept) → HasState s h ps p k → next_links k.links ≡ links_at (length (chain ps p))
+pub links_next : (s : Named) (h : Source Home) (ps : List Page) (p : Page) (k : Kept) → HasState s h ps p k → next_links k.links ≡ links_at (length (chain ps p))
 links_next s h ps p k has = ap next_links (links_of s h ps p k has) ∙ ap links_at (sym (chain_length ps p has.lineage))
 
+-- what an answer to a page goes on from by its ticket, and the links of its page
+record GoesOnLinked (source : Source ⊤) (b : Book) (t : Ticket) (at : Place) (h : Lineage at.instance.pages at.page) : Type 0 where
+  before : Suspended
+  from : origin_of t.from ≡ Some before
+  its : IsStateAt at.instance.script (source_in at.instance.script (shelf_from source b.shelf) at.instance.number) h.ancestors at.page before
+  links : t.links ≡ links_at (length (chain at.instance.pages at.page))
+
+goes_on_linked : (source : Source ⊤) (scripts : List Named) (b : Book) (t : Ticket) (at : Place) (h : Lineage at.instance.pages at.page) → GoesOnBySource source scripts b at t
+    → GoesOnLinked source b t at h
+goes_on_linked (own all) scripts b t at h fits =
+    let before = state_before b (ticket_of t) at h (origin_of t.from) fits.from in
+    record { before = before.0; from = before.1.0; its = before.1.1; links = fits.links }
+goes_on_linked (given states) scripts b t at h fits = record { before = fits.before; from = fits.from; its = fits.state; links = fits.links }
+
 -- the next page of an answer: it is new, and the page that it answers has its ancestors there
-pub next_kept : (scripts : List Named) (b : Book) (t : Ticket) (at : Place) (k m : ℕ) (effects : List Effect) (inside : List TxName) (d : Suspended) (x : Extension)
+pub next_kept : (source : Source ⊤) (scripts : List Named) (b : Book) (t : Ticket) (at : Place) (k m : ℕ) (effects : List Effect) (inside : List TxName) (d : Suspended) (x : Extension)
     → Lineage at.instance.pages at.page → page_at t.number at.instance.pages ≡ None → instance_at k b.instances ≡ Some at.instance → page_at m at.instance.pages ≡ Some at.page → ExtendsAs t k m effects inside d x
-    → IsStateOf (arena_of at.instance.script.script) (tape_for (page_visit b (ticket_of t) at) (recorded (reads_of effects))) d
-    → StateHasBytes d → IsFor scripts t (page_visit b (ticket_of t) at) → IsNextAt b.shelf b.instances x.instance x.show.page
-next_kept scripts b t at k m effects inside d x h free here shown made state has fits i found =
+    → IsStateOver source at.instance.script (tape_for (page_visit b (ticket_of t) at) (recorded (reads_of effects))) t.number d
+    → StateHasBytes d → GoesOnBySource source scripts b at t → IsNextAt (shelf_from source b.shelf) b.instances x.instance x.show.page
+next_kept source scripts b t at k m effects inside d x h free here shown made state has fits i found =
     let same : at.instance ≡ i = same_Some at.instance i (sym here ∙ (ap (λ (n : ℕ). instance_at n b.instances) (sym made.instance) ∙ found)) in
-    subst (λ (j : Instance). IsNextIn b.shelf j (page_of x.show.page) (kept_at x.show.page)) same next
+    subst (λ (j : Instance). IsNextIn (shelf_from source b.shelf) j (page_of x.show.page) (kept_at x.show.page)) same next
   where
     p : Page
     p = page_of x.show.page
@@ -200,7 +223,7 @@ next_kept scripts b t at k m effects inside d x h free here shown made state has
     s : Named
     s = at.instance.script
 
-    next : IsNextIn b.shelf at.instance p (kept_at x.show.page)
+    next : IsNextIn (shelf_from source b.shelf) at.instance p (kept_at x.show.page)
     next =
         let number : p.number ≡ t.number = ap (λ (q : Page). q.number) made.page in
         let parent : p.parent ≡ Some m = ap (λ (q : Page). q.parent) made.page in
@@ -212,21 +235,21 @@ next_kept scripts b t at k m effects inside d x h free here shown made state has
         let all : reverse (at.page ∷ h.ancestors) ≡ chain ps at.page = sym (chain_is ps at.page h.ancestors h.are h.few) in
         let tape : page_tape home_at (reverse (at.page ∷ h.ancestors)) p ≡ tape_for (page_visit b (ticket_of t) at) (recorded (reads_of effects)) =
         ap (λ (qs : List Page). page_tape home_at qs p) all ∙ ap (λ (q : Page). page_tape home_at (chain ps at.page) q) made.page in
-        let before = state_before b (ticket_of t) at h (origin_of t.from) fits.from in
-        let links : t.links ≡ links_at (length (at.page ∷ h.ancestors)) = fits.links ∙ ap links_at (chain_length ps at.page h) in
+        let goes = goes_on_linked source scripts b t at h fits in
+        let links : t.links ≡ links_at (length (at.page ∷ h.ancestors)) = goes.links ∙ ap links_at (chain_length ps at.page h) in
         record {
           unused = unused;
           state = record {
             lineage = record { ancestors = at.page ∷ h.ancestors; are = mine; few = omega (arith, h.few, put_length (λ (q : Page). q.number) p ps unused) };
             state = d;
-            its = subst (λ (y : Tape). IsStateOf (arena_of s.script) y d) (sym tape) state;
+            its = state_there source s b.shelf at.instance.number t.number (at.page ∷ h.ancestors) p (tape_for (page_visit b (ticket_of t) at) (recorded (reads_of effects))) d tape number state;
             bytes = has;
             kept = (
-              before.0,
+              goes.before,
               (
-                before.1.1,
-                subst (λ (n : ℕ). IsKeptFrom (Some before.0) n d (kept_at x.show.page)) links
-                    (subst (λ (o : Option Suspended). IsKeptFrom o t.links d (kept_at x.show.page)) before.1.0 made.state),
+                goes.its,
+                subst (λ (n : ℕ). IsKeptFrom (Some goes.before) n d (kept_at x.show.page)) links
+                    (subst (λ (o : Option Suspended). IsKeptFrom o t.links d (kept_at x.show.page)) goes.from made.state),
               ),
             );
           };
@@ -243,7 +266,7 @@ module _ (b : Book) (orderly : IsOrderly b) (t : Ticket) (out : Contains b.out t
   start_keeps name (begins k s) adm ok fits over (Some (Finishes f)) keeps has = tt
   start_keeps name (begins k s) adm ok fits over (Some (Opens o)) (inl none) has = absurd none
   start_keeps name (begins k s) adm ok fits over (Some (Opens o)) (inr from) has =
-      first_kept b.scripts b t k s (segment_of r).effects r.entered.items from.0 o fits.run.script from.1.1 (keeps_state r.outcome _ from.0 over from.1.0)
+      first_kept (own tt) b.scripts b t k s (segment_of r).effects r.entered.items from.0 o fits.run.script from.1.1 (keeps_state r.outcome _ from.0 over from.1.0)
       (subst StateHasBytes from.1.1.told has)
   start_keeps name (begins k s) adm ok fits over (Some (Extends x)) (inl none) has = absurd none
   start_keeps name (begins k s) adm ok fits over (Some (Extends x)) (inr from) has = absurd from.1.1
@@ -262,7 +285,7 @@ module _ (b : Book) (orderly : IsOrderly b) (t : Ticket) (out : Contains b.out t
       let stands = page_stands b name n at adm in
       let h = orderly.instances.lineage n.instance at.instance stands.here n.page at.page stands.shown in
       let free = orderly.instances.no_page t.number (inl (among_of b.out t.number out)) n.instance at.instance stands.here in
-      next_kept b.scripts b t at n.instance n.page (segment_of r).effects r.entered.items from.0 x h free stands.here stands.shown from.1.1 (keeps_state r.outcome _ from.0 over from.1.0) (subst StateHasBytes from.1.1.told has) fits
+      next_kept (own tt) b.scripts b t at n.instance n.page (segment_of r).effects r.entered.items from.0 x h free stands.here stands.shown from.1.1 (keeps_state r.outcome _ from.0 over from.1.0) (subst StateHasBytes from.1.1.told has) fits
 
   keeps_by : (d : Destination) (a : Admission) → admit b d ≡ a → refusal_of a ≡ None → FitsAs b.scripts b t a → KeepsStateAs b t a r
       → (c : Option Change) → KeepsStateOf t r d c → IsSpelledBy c → HasStateBy b.scripts b.shelf b.instances c
@@ -273,7 +296,7 @@ pub a_shown_page_has_its_state : AShownPageHasItsState
 a_shown_page_has_its_state b orderly t out a adm ok fits r over c keeps has = keeps_by b orderly t out r (target_of t.target) a adm ok fits over c keeps has
 
 -- a visit whose pages are the chain of a page that has its state
-pub goes_on_from : (v : Visit) (ps : List Page) (p : Page) (k : Kept) → v.pages ≡ chain ps p → (has : HasState v.script (home_of v) ps p k) → IsStateBehind v has.state
+pub goes_on_from : (v : Visit) (ps : List Page) (p : Page) (k : Kept) → v.pages ≡ chain ps p → (has : HasState v.script (own (home_of v)) ps p k) → IsStateBehind v has.state
 goes_on_from v ps p k e has =
     let h = has.lineage in
     record {
@@ -285,13 +308,13 @@ goes_on_from v ps p k e has =
 
 -- and so is an answer to the page of a place, of which this is kept
 pub origin_goes_on : (b : Book) (t : next.Ticket) (at : Place) (s : Named) (o : Option Suspended) (k : Kept) → at.instance.script ≡ s
-    → (has : HasState s (home s b.shelf at.instance.number) at.instance.pages at.page k) → o ≡ Some has.state → GoesOnFrom (page_visit b t at) o
+    → (has : HasState s (own (home s b.shelf at.instance.number)) at.instance.pages at.page k) → o ≡ Some has.state → GoesOnFrom (page_visit b t at) o
 origin_goes_on b t at s o k its has e =
-    subst (λ (x : Named). (is : HasState x (home x b.shelf at.instance.number) at.instance.pages at.page k) → o ≡ Some is.state → GoesOnFrom (page_visit b t at) o) its
+    subst (λ (x : Named). (is : HasState x (own (home x b.shelf at.instance.number)) at.instance.pages at.page k) → o ≡ Some is.state → GoesOnFrom (page_visit b t at) o) its
     (λ is f. subst (λ (x : Option Suspended). GoesOnFrom (page_visit b t at) x) (sym f) (goes_on_from (page_visit b t at) at.instance.pages at.page k refl is)) has e
 
 -- the state of a page that is found among those of an instance
-pub state_found : (s : Named) (h : Home) (ps : List Page) (n : ℕ) (xs : List (Page × Kept)) (x : Page × Kept) → HaveStates s h ps xs
+pub state_found : (s : Named) (h : Source Home) (ps : List Page) (n : ℕ) (xs : List (Page × Kept)) (x : Page × Kept) → HaveStates s h ps xs
     → at_number (λ (y : Page × Kept). y.0.number) n xs ≡ Some x → HasState s h ps x.0 x.1
 state_found s h ps n xs x all found = all_at (λ (y : Page × Kept). HasState s h ps y.0 y.1) (λ (y : Page × Kept). y.0.number) n xs x all found
 

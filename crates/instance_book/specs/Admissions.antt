@@ -14,7 +14,6 @@ use Rattle.replay_spec.specs.Book as book
 use Rattle.replay_spec.specs.Admission as spec
 use Rattle.replay_spec.specs.Recovery.{page_of_numbers}
 use Rattle.replay_spec.specs.Next as next
-use Rattle.replay_spec.specs.Next.{home}
 use Rattle.instance_book.specs.declared.numbered.Numbered.{Numbered}
 use Rattle.instance_book.specs.declared.page.KeptPage.{KeptPage}
 use Rattle.instance_book.specs.declared.instance.KeptInstance.{KeptInstance}
@@ -24,7 +23,7 @@ use Rattle.instance_book.specs.declared.admission.Admission.{Admission}
 use Rattle.instance_book.specs.declared.admission.Admission.TheVariants.{Begins, Resumes, Refused}
 use Rattle.instance_book.specs.declared.ticket.Ticket.{Ticket}
 use Rattle.instance_book.specs.Views.{page_of, pages_of, instance_of, instances_of, book_of, ticket_of}
-use Rattle.instance_book.specs.Places.{kept_at, shown_in, HasState, HaveStates}
+use Rattle.instance_book.specs.Places.{Source, own, source_in, kept_at, shown_in, HasState, HaveStates}
 use Rattle.instance_book.specs.Fits.{IsFor, FitsStart, FitsAs, FitsIfStart}
 
 abbrev pub place_of : List Named → Place → spec.Place
@@ -39,14 +38,14 @@ admission_of scripts (Refused r) = spec.refused r
 abbrev pub IsPlacedAt : List Named → Place → Type 0
 IsPlacedAt scripts p = slice_get scripts p.instance.now.item.script ≡ Some (named_of p.script.now)
 
--- and each of its pages has the state of its chain, the place's page among them
-pub record IsKeptAt (scripts : List Named) (shelf : ℕ) (p : Place) : Type 0 where
+-- and each of its pages has its state, the place's page among them
+pub record IsKeptAt (scripts : List Named) (shelf : Source ℕ) (p : Place) : Type 0 where
   pub all :
       let s = named_of p.script.now in
-      HaveStates s (home s shelf p.instance.now.number) (pages_of p.instance.now.item.pages) (shown_in p.instance.now.item.pages)
+      HaveStates s (source_in s shelf p.instance.now.number) (pages_of p.instance.now.item.pages) (shown_in p.instance.now.item.pages)
   pub state :
       let s = named_of p.script.now in
-      HasState s (home s shelf p.instance.now.number) (pages_of p.instance.now.item.pages) (page_of p.page.now) (kept_at p.page.now)
+      HasState s (source_in s shelf p.instance.now.number) (pages_of p.instance.now.item.pages) (page_of p.page.now) (kept_at p.page.now)
 
 -- why the page of this instance can't be answered
 abbrev pub IsWhyNot : (clock : ℕ) → Numbered KeptInstance → Numbered KeptPage → Option Refusal → Type 0
@@ -117,5 +116,5 @@ ResumesPlaced scripts _ = ⊤
 
 -- and what it resumes is kept so
 abbrev pub ResumesKept : List Named → (shelf : ℕ) → Admission → Type 0
-ResumesKept scripts shelf (Resumes place) = IsKeptAt scripts shelf place
+ResumesKept scripts shelf (Resumes place) = IsKeptAt scripts (own shelf) place
 ResumesKept scripts shelf _ = ⊤

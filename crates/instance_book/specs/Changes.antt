@@ -6,7 +6,6 @@ use Rattle.script_nodes.specs.Setup.{Named}
 use Rattle.instance_cells.specs.Views.{effect_of}
 use Rattle.replay_spec.specs.Book as spec
 use Rattle.replay_spec.specs.Change.{put_page, put_instance, mend, without}
-use Rattle.replay_spec.specs.Next.{home}
 use Rattle.replay_spec.specs.Step as step
 use Rattle.replay_spec.specs.Step.{Decision, replies, records}
 use Rattle.stored_states.specs.Views.{suspended_of}
@@ -27,8 +26,8 @@ use Rattle.instance_book.specs.declared.book.Book.{Book}
 use Rattle.instance_book.specs.Orders.{numbers_of}
 use Rattle.instance_book.specs.Lists.{HasRoom}
 use Rattle.instance_book.specs.Views.{page_of, pages_of, script_in, instance_with, instance_of, instances_of, reply_of, HasRoomAt}
-use Rattle.instance_book.specs.Places.{kept_at, shown_in, HasState, IsNextAt}
-use Rattle.instance_book.specs.Makes.{HasItsStates, HasPlaces}
+use Rattle.instance_book.specs.Places.{Source, own, source_in, kept_at, shown_in, HasState, IsNextAt}
+use Rattle.instance_book.specs.Makes.{shelf_from, HasStatesFrom, HasPlaces}
 
 -- the one that came anew, or else what there is
 abbrev pub renewed : {A : Type 0} → A → Option A → A
@@ -145,6 +144,16 @@ abbrev pub put_into : List Named → Prepared → spec.Book → spec.Book
 put_into scripts p b =
     record (changed_by scripts p.change b) { logged = max b.logged p.logged }
 
+-- the deadline of the page that a change shows, if any, is below the end of those that can be told
+abbrev pub HasDeadlineIn : Change → Type 0
+HasDeadlineIn (Opens o) = o.page.item.deadline < 2 ^ 63
+HasDeadlineIn (Extends x) = x.show.page.item.deadline < 2 ^ 63
+HasDeadlineIn _ = ⊤
+
+abbrev pub HasDeadlineBy : Option Change → Type 0
+HasDeadlineBy None = ⊤
+HasDeadlineBy (Some c) = HasDeadlineIn c
+
 -- the room that it takes is there
 pub record HasRoomToOpen (o : Opening) (b : Book) : Type 0 where
   pub page : HasRoom o.instance.pages
@@ -161,24 +170,28 @@ abbrev pub HasRoomFor : Option Change → Book → Type 0
 HasRoomFor None b = ⊤
 HasRoomFor (Some c) b = HasRoomWith c b
 
--- a new instance is of a script of the setup, and its one page has the state of its chain
-pub record OpensKept (scripts : List Named) (shelf : ℕ) (o : Opening) : Type 0 where
+-- a new instance is of a script of the setup, and its one page has its state
+pub record OpensKept (scripts : List Named) (shelf : Source ℕ) (o : Opening) : Type 0 where
   pub place : o.instance.script < length scripts
   pub pages : pages_of o.instance.pages ≡ []
   pub shown : shown_in o.instance.pages ≡ []
   pub state :
       let s = script_in scripts o.instance.script in
-      HasState s (home s shelf o.page.number) (page_of o.page ∷ []) (page_of o.page) (kept_at o.page)
+      HasState s (source_in s shelf o.page.number) (page_of o.page ∷ []) (page_of o.page) (kept_at o.page)
 
--- a new page has the state of its chain, in this shelf of these instances
-abbrev pub HasStateIn : List Named → (shelf : ℕ) → List spec.Instance → Change → Type 0
+-- a new page has its state, in this shelf of these instances
+abbrev pub HasStateIn : List Named → Source ℕ → List spec.Instance → Change → Type 0
 HasStateIn scripts shelf is (Opens o) = OpensKept scripts shelf o
 HasStateIn scripts shelf is (Extends x) = IsNextAt shelf is x.instance x.show.page
 HasStateIn scripts shelf is _ = ⊤
 
+abbrev pub HasStateFrom : List Named → Source ℕ → List spec.Instance → Option Change → Type 0
+HasStateFrom scripts shelf is None = ⊤
+HasStateFrom scripts shelf is (Some c) = HasStateIn scripts shelf is c
+
+-- it is that of its chain
 abbrev pub HasStateBy : List Named → (shelf : ℕ) → List spec.Instance → Option Change → Type 0
-HasStateBy scripts shelf is None = ⊤
-HasStateBy scripts shelf is (Some c) = HasStateIn scripts shelf is c
+HasStateBy scripts shelf is c = HasStateFrom scripts (own shelf) is c
 
 -- a new instance is of a script of the setup; with it each goes on to be
 abbrev pub IsPlacedIn : List Named → Change → Type 0
@@ -202,8 +215,8 @@ abbrev pub IsSpelledBy : Option Change → Type 0
 IsSpelledBy None = ⊤
 IsSpelledBy (Some c) = IsSpelledIn c
 
--- where the change's new page has the state of its chain too, each goes on to have its own
+-- where the change's new page has its state too, each goes on to have its own
 abbrev pub KeepsStatesBy : Option Change → (old new : Book) → Type 0
 KeepsStatesBy c old new =
-    (scripts : List Named) → HasStateBy scripts old.shelf (instances_of scripts old.instances) c
-    → HasItsStates scripts old → HasItsStates scripts new
+    (source : Source ⊤) (scripts : List Named) → HasStateFrom scripts (shelf_from source old.shelf) (instances_of scripts old.instances) c
+    → HasStatesFrom source scripts old → HasStatesFrom source scripts new

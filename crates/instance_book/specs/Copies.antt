@@ -13,8 +13,8 @@ use Rattle.instance_book.specs.declared.prepared.Prepared.{Prepared}
 use Rattle.instance_book.specs.declared.prepared.Change.{Change}
 use Rattle.instance_book.specs.declared.book.Book.{Book}
 use Rattle.instance_book.specs.Views.{page_of, pages_of, instance_with}
-use Rattle.instance_book.specs.Changes.{shown_with, extension_of, begun_with, change_of, inside_of, decision_by, decision_of, instances_after, HasRoomWith, HasRoomFor, HasStateIn, HasStateBy, instances_with}
-use Rattle.instance_book.specs.Places.{kept_at, shown_in}
+use Rattle.instance_book.specs.Changes.{shown_with, extension_of, begun_with, change_of, inside_of, decision_by, decision_of, instances_after, HasRoomWith, HasRoomFor, HasStateIn, HasStateFrom, instances_with}
+use Rattle.instance_book.specs.Places.{Source, kept_at, shown_in}
 
 -- the same instance under each number and setup
 abbrev pub IsSameInstance : (i copy : KeptInstance) → Type 0
@@ -46,14 +46,14 @@ pub record IsSameChange (c copy : Change) : Type 0 where
   pub inside : inside_of copy ≡ inside_of c
   pub instances : (scripts : List Named) (is : List spec.Instance) → instances_with scripts copy is ≡ instances_with scripts c is
   pub room : (b : Book) → HasRoomWith c b → HasRoomWith copy b
-  pub states : (scripts : List Named) (shelf : ℕ) (is : List spec.Instance) → HasStateIn scripts shelf is c → HasStateIn scripts shelf is copy
+  pub states : (scripts : List Named) (shelf : Source ℕ) (is : List spec.Instance) → HasStateIn scripts shelf is c → HasStateIn scripts shelf is copy
 
 -- where there is one
 pub record IsSameIf (c copy : Option Change) : Type 0 where
   pub decision : (r : step.Reply) → decision_by r copy ≡ decision_by r c
   pub instances : (scripts : List Named) (is : List spec.Instance) → instances_after scripts copy is ≡ instances_after scripts c is
   pub room : (b : Book) → HasRoomFor c b → HasRoomFor copy b
-  pub states : (scripts : List Named) (shelf : ℕ) (is : List spec.Instance) → HasStateBy scripts shelf is c → HasStateBy scripts shelf is copy
+  pub states : (scripts : List Named) (shelf : Source ℕ) (is : List spec.Instance) → HasStateFrom scripts shelf is c → HasStateFrom scripts shelf is copy
 
 -- the same visit
 pub record IsSame (p copy : Prepared) : Type 0 where
@@ -62,4 +62,4 @@ pub record IsSame (p copy : Prepared) : Type 0 where
   pub decision : decision_of copy ≡ decision_of p
   pub instances : (scripts : List Named) (is : List spec.Instance) → instances_after scripts copy.change is ≡ instances_after scripts p.change is
   pub room : (b : Book) → HasRoomFor p.change b → HasRoomFor copy.change b
-  pub states : (scripts : List Named) (shelf : ℕ) (is : List spec.Instance) → HasStateBy scripts shelf is p.change → HasStateBy scripts shelf is copy.change
+  pub states : (scripts : List Named) (shelf : Source ℕ) (is : List spec.Instance) → HasStateFrom scripts shelf is p.change → HasStateFrom scripts shelf is copy.change

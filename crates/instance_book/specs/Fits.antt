@@ -3,17 +3,18 @@ use Rattle.std.specs.Prelude.{◌≡◌, ℕ, List, [], ◌∷◌, ◌++◌, Opt
 use Rattle.script_nodes.specs.Arena.{Arena}
 use Rattle.script_nodes.specs.Setup.{Named}
 use Rattle.replay_spec.specs.Book as spec
-use Rattle.replay_spec.specs.Admission.{Admission, begins, resumes, refused}
+use Rattle.replay_spec.specs.Admission.{Place, Admission, begins, resumes, refused}
 use Rattle.replay_spec.specs.Next.{Visit, url_for, home_of, page_tape, start_visit, page_visit}
 use Rattle.machine_spec.specs.Machine.{Suspended}
 use Rattle.machine_spec.specs.Fits.{Fits}
 use Rattle.machine_spec.specs.Laws.{IsStateOf}
 use Rattle.stored_states.specs.Views.{origin_of}
+use Rattle.frame_codec.specs.Stored.{IsStored}
 use Rattle.stored_states.specs.declared.segment.Origin.{Origin}
 use Rattle.kept_states.specs.Links.{links_at}
 use Rattle.instance_book.specs.declared.ticket.Ticket.{Ticket}
 use Rattle.instance_book.specs.Views.{ticket_of}
-use Rattle.instance_book.specs.Places.{arena_of}
+use Rattle.instance_book.specs.Places.{Source, own, given, IsGiven, arena_of}
 
 -- the visit answers a page, and this is the state of the page's chain
 pub record IsStateBehind (v : Visit) (d : Suspended) : Type 0 where
@@ -53,6 +54,26 @@ FitsScript a (Some d) = Fits a d
 
 abbrev pub IsOriginOf : Named → Origin → Type 0
 IsOriginOf s from = FitsScript (arena_of s.script) (origin_of from)
+
+-- and it is one that can be written
+abbrev pub IsStoredScript : Arena → Option Suspended → Type 0
+IsStoredScript a None = ⊤
+IsStoredScript a (Some d) = IsStored a d
+
+abbrev pub IsStoredOrigin : Named → Origin → Type 0
+IsStoredOrigin s from = IsStoredScript (arena_of s.script) (origin_of from)
+
+-- the ticket goes on from the state that is given to the page, and the links of its own page are those of an answer to it
+pub record GoesOnGiven (states : ℕ → Option Suspended) (at : Place) (t : Ticket) : Type 0 where
+  pub before : Suspended
+  pub from : origin_of t.from ≡ Some before
+  pub state : IsGiven at.instance.script states at.page.number before
+  pub links : t.links ≡ links_at (length (spec.chain at.instance.pages at.page))
+
+-- where pages have the states of their chains it is for the visit that answers the page, and else it goes on from the given state
+abbrev pub GoesOnBySource : Source ⊤ → List Named → spec.Book → Place → Ticket → Type 0
+GoesOnBySource (own all) scripts b at t = IsFor scripts t (page_visit b (ticket_of t) at)
+GoesOnBySource (given states) scripts b at t = GoesOnGiven states at t
 
 -- the ticket's script is one of the setup, and what it goes on from fits it, so its segment can be run
 pub record IsRunnable (scripts : List Named) (t : Ticket) : Type 0 where

@@ -1,5 +1,5 @@
 -- What a call makes of a book, and of a list of instances.
-use Rattle.std.specs.Prelude.{◌≡◌, ℕ, List, length, Option, option_map, IfSome}
+use Rattle.std.specs.Prelude.{◌≡◌, ℕ, List, length, Option, option_map, IfSome, ⊤}
 use Rattle.std.specs.Borrow.{Bor}
 use Rattle.script_nodes.specs.Setup.{Named}
 use Rattle.replay_spec.specs.Book as spec
@@ -10,7 +10,7 @@ use Rattle.instance_book.specs.declared.page.KeptPage.{KeptPage}
 use Rattle.instance_book.specs.declared.instance.KeptInstance.{KeptInstance}
 use Rattle.instance_book.specs.declared.book.Book.{Book}
 use Rattle.instance_book.specs.Views.{instance_of, instances_of, book_of}
-use Rattle.instance_book.specs.Places.{IsKept, AreKept, IsPlaced, ArePlaced, IsNextAt}
+use Rattle.instance_book.specs.Places.{Source, own, seen_from, IsKept, AreKept, IsPlaced, ArePlaced, IsNextAt}
 
 -- whatever the setup, of the one list this was made
 abbrev pub AllBecome : (List spec.Instance → List spec.Instance) → (old new : InOrder KeptInstance) → Type 0
@@ -27,7 +27,7 @@ IsInstanceAt n is i =
 
 abbrev pub IsKeptAmong : InOrder KeptInstance → Option (Bor (Numbered KeptInstance)) → Type 0
 IsKeptAmong is i =
-    (scripts : List Named) (shelf : ℕ) → AreKept scripts shelf is → IfSome i (λ x. IsKept scripts shelf x.now)
+    (scripts : List Named) (shelf : Source ℕ) → AreKept scripts shelf is → IfSome i (λ x. IsKept scripts shelf x.now)
 
 -- it is of a script of the setup, as each is
 abbrev pub IsPlacedAmong : InOrder KeptInstance → Option (Bor (Numbered KeptInstance)) → Type 0
@@ -56,14 +56,22 @@ HasPlaces scripts b = ArePlaced scripts b.instances
 abbrev pub KeepsPlaces : (old new : Book) → Type 0
 KeepsPlaces old new = (scripts : List Named) → HasPlaces scripts old → HasPlaces scripts new
 
--- and each of its pages has the state of its chain; and so it goes on to be
+-- whose states they are in a book's shelf
+abbrev pub shelf_from : Source ⊤ → (shelf : ℕ) → Source ℕ
+shelf_from source shelf = seen_from (λ all. shelf) source
+
+-- and each of its pages has its state: that of its chain, or the one that is given to it; and so it goes on to be
+abbrev pub HasStatesFrom : Source ⊤ → List Named → Book → Type 0
+HasStatesFrom source scripts b = AreKept scripts (shelf_from source b.shelf) b.instances
+
 abbrev pub HasItsStates : List Named → Book → Type 0
-HasItsStates scripts b = AreKept scripts b.shelf b.instances
+HasItsStates scripts b = AreKept scripts (own b.shelf) b.instances
 
 abbrev pub KeepsStates : (old new : Book) → Type 0
-KeepsStates old new = (scripts : List Named) → HasItsStates scripts old → HasItsStates scripts new
+KeepsStates old new =
+    (source : Source ⊤) (scripts : List Named) → HasStatesFrom source scripts old → HasStatesFrom source scripts new
 
--- where this is the next page of its instance and has the state of its chain, each goes on to be kept so
+-- where this is the next page of its instance and has its state, each goes on to be kept so
 abbrev pub StayKeptNext : (instance : ℕ) → Numbered KeptPage → (old new : InOrder KeptInstance) → Type 0
 StayKeptNext n p old new =
-    (scripts : List Named) (shelf : ℕ) → IsNextAt shelf (instances_of scripts old) n p → AreKept scripts shelf old → AreKept scripts shelf new
+    (scripts : List Named) (shelf : Source ℕ) → IsNextAt shelf (instances_of scripts old) n p → AreKept scripts shelf old → AreKept scripts shelf new

@@ -1,5 +1,5 @@
--- What is kept of an instance: its script's place in the setup, and of each page the state of its chain.
-use Rattle.std.specs.Prelude.{◌≡◌, ◌<◌, ℕ, List, [], ◌∷◌, map, length, reverse, Some, None}
+-- What is kept of an instance: its script's place in the setup, and of each page its state.
+use Rattle.std.specs.Prelude.{◌≡◌, ◌<◌, ℕ, List, [], ◌∷◌, map, length, reverse, Option, Some, None}
 use Rattle.std.specs.List.{AllByRecursion}
 use Rattle.script_nodes.specs.Arena.{Arena}
 use Rattle.script_nodes.specs.Layout.{layout}
@@ -14,6 +14,7 @@ use Rattle.stored_states.specs.Views.{origin_of, suspended_of}
 use Rattle.stored_states.specs.declared.frame.Suspended as stored
 use Rattle.stored_states.specs.declared.segment.Origin.{Origin}
 use Rattle.frame_codec.specs.Spelling.{StateHasBytes}
+use Rattle.frame_codec.specs.Stored.{IsStored}
 use Rattle.kept_states.specs.Kept.{Kept, IsKeptFrom, kept_of}
 use Rattle.kept_states.specs.Links.{links_at}
 use Rattle.instance_book.specs.declared.numbered.Numbered.{Numbered}
@@ -36,39 +37,58 @@ shown_of p = (page_of p, kept_at p)
 abbrev pub shown_in : InOrder KeptPage → List (spec.Page × Kept)
 shown_in ps = map shown_of ps.things.items
 
--- The state of a page behind these ancestors, the nearest first: it is kept of the script that shows the page over its ancestors'
--- answers and its own, with what was read recorded.
-abbrev pub IsStateAt : Named → Home → List spec.Page → spec.Page → Suspended → Type 0
-IsStateAt s h older p d = IsStateOf (arena_of s.script) (page_tape h (reverse older) p) d
+-- Which states the pages of a book have: those of their chains, which are looked at from a shelf or a home; or those that are given to
+-- their numbers.
+pub data Source (A : Type 0) : Type 0 where
+  own : A → Source A
+  given : (ℕ → Option Suspended) → Source A
+
+abbrev pub seen_from : {A B : Type 0} → (A → B) → Source A → Source B
+seen_from f (own x) = own (f x)
+seen_from f (given states) = given states
+
+-- in the instance of this number
+abbrev pub source_in : Named → Source ℕ → (instance : ℕ) → Source Home
+source_in s shelf n = seen_from (λ number. home s number n) shelf
+
+-- a given state fits the script, and has a spelling
+abbrev pub IsGiven : Named → (ℕ → Option Suspended) → (number : ℕ) → Suspended → Type 0
+IsGiven s states n d = (states n ≡ Some d) × IsStored (arena_of s.script) d
+
+-- The state of a page behind these ancestors, the nearest first. That of its chain is kept of the script that shows the page over its
+-- ancestors' answers and its own, with what was read recorded.
+abbrev pub IsStateAt : Named → Source Home → List spec.Page → spec.Page → Suspended → Type 0
+IsStateAt s (own h) older p d = IsStateOf (arena_of s.script) (page_tape h (reverse older) p) d
+IsStateAt s (given states) older p d = IsGiven s states p.number d
 
 -- Of the state of a page behind these ancestors this is kept: that of a root by itself, and each other one as its links say, by
 -- itself or as what differs from the state of the page before.
-abbrev pub IsKeptBehind : Named → Home → List spec.Page → Suspended → Kept → Type 0
+abbrev pub IsKeptBehind : Named → Source Home → List spec.Page → Suspended → Kept → Type 0
 IsKeptBehind s h [] d k = IsKeptFrom None 0 d k
 IsKeptBehind s h (q ∷ older) d k =
     (before : Suspended) × (IsStateAt s h older q before × IsKeptFrom (Some before) (links_at (length (q ∷ older))) d k)
 
 -- a page whose ancestors stand among these has a state with a spelling, of which this is kept
-pub record HasState (s : Named) (h : Home) (ps : List spec.Page) (p : spec.Page) (k : Kept) : Type 0 where
+pub record HasState (s : Named) (h : Source Home) (ps : List spec.Page) (p : spec.Page) (k : Kept) : Type 0 where
   pub lineage : Lineage ps p
   pub state : Suspended
   pub its : IsStateAt s h lineage.ancestors p state
   pub bytes : StateHasBytes state
   pub kept : IsKeptBehind s h lineage.ancestors state k
 
-abbrev pub HaveStates : Named → Home → List spec.Page → List (spec.Page × Kept) → Type 0
+abbrev pub HaveStates : Named → Source Home → List spec.Page → List (spec.Page × Kept) → Type 0
 HaveStates s h ps xs = AllByRecursion (λ x. HasState s h ps x.0 x.1) xs
 
 -- An instance of this number and of the script of this place, which is one of the setup, has these pages with these states.
-pub record IsKeptAs (scripts : List Named) (shelf number place : ℕ) (ps : List spec.Page) (xs : List (spec.Page × Kept)) : Type 0 where
+pub record IsKeptAs (scripts : List Named) (shelf : Source ℕ) (number place : ℕ) (ps : List spec.Page) (xs : List (spec.Page × Kept)) : Type 0 where
   pub placed : place < length scripts
-  pub states : let s = script_in scripts place in HaveStates s (home s shelf number) ps xs
+  pub states : let s = script_in scripts place in HaveStates s (source_in s shelf number) ps xs
 
--- the instance is of a script of the setup, and each page has the state of its chain; each instance is so
-abbrev pub IsKept : List Named → (shelf : ℕ) → Numbered KeptInstance → Type 0
+-- the instance is of a script of the setup, and each page has its state; each instance is so
+abbrev pub IsKept : List Named → Source ℕ → Numbered KeptInstance → Type 0
 IsKept scripts shelf i = IsKeptAs scripts shelf i.number i.item.script (pages_of i.item.pages) (shown_in i.item.pages)
 
-abbrev pub AreKept : List Named → (shelf : ℕ) → InOrder KeptInstance → Type 0
+abbrev pub AreKept : List Named → Source ℕ → InOrder KeptInstance → Type 0
 AreKept scripts shelf is = AllByRecursion (IsKept scripts shelf) is.things.items
 
 -- the instance is of a script of the setup; each instance is so
@@ -88,24 +108,24 @@ StayPlacedWith i old new = (scripts : List Named) → IsPlaced scripts i → Are
 -- where this one is so too, each goes on to be
 abbrev pub StayKeptWith : Numbered KeptInstance → (old new : InOrder KeptInstance) → Type 0
 StayKeptWith i old new =
-    (scripts : List Named) (shelf : ℕ) → IsKept scripts shelf i → AreKept scripts shelf old → AreKept scripts shelf new
+    (scripts : List Named) (shelf : Source ℕ) → IsKept scripts shelf i → AreKept scripts shelf old → AreKept scripts shelf new
 
 -- where each was so, each is
 abbrev pub StayKept : (old new : InOrder KeptInstance) → Type 0
-StayKept old new = (scripts : List Named) (shelf : ℕ) → AreKept scripts shelf old → AreKept scripts shelf new
+StayKept old new = (scripts : List Named) (shelf : Source ℕ) → AreKept scripts shelf old → AreKept scripts shelf new
 
 -- the page is new among those of an instance, and this is kept of its state
-pub record IsNextIn (shelf : ℕ) (i : spec.Instance) (p : spec.Page) (k : Kept) : Type 0 where
+pub record IsNextIn (shelf : Source ℕ) (i : spec.Instance) (p : spec.Page) (k : Kept) : Type 0 where
   pub unused : spec.page_at p.number i.pages ≡ None
-  pub state : HasState i.script (home i.script shelf i.number) (put_page p i.pages) p k
+  pub state : HasState i.script (source_in i.script shelf i.number) (put_page p i.pages) p k
 
 -- so it is in the instance of a number, where there is one
-abbrev pub IsNextAt : (shelf : ℕ) → List spec.Instance → (instance : ℕ) → Numbered KeptPage → Type 0
+abbrev pub IsNextAt : Source ℕ → List spec.Instance → (instance : ℕ) → Numbered KeptPage → Type 0
 IsNextAt shelf is n p = (i : spec.Instance) → spec.instance_at n is ≡ Some i → IsNextIn shelf i (page_of p) (kept_at p)
 
 -- the pages of an instance of a script have their states, and so has this one among them
 pub record AreStatesOf (s : Named) (ps : InOrder KeptPage) (p : Numbered KeptPage) : Type 0 where
-  pub home : Home
+  pub home : Source Home
   pub all : HaveStates s home (pages_of ps) (shown_in ps)
   pub own : HasState s home (pages_of ps) (page_of p) (kept_at p)
 
@@ -117,9 +137,9 @@ IsStateIn s ps p d = (are : AreStatesOf s ps p) → are.own.state ≡ suspended_
 abbrev pub IsOriginIn : Named → InOrder KeptPage → Numbered KeptPage → Origin → Type 0
 IsOriginIn s ps p from = (are : AreStatesOf s ps p) → origin_of from ≡ Some are.own.state
 
--- Of the pages of an instance each has the state of its chain; then so it is with one more whose state is that of its chain.
+-- Of the pages of an instance each has its state; then so it is with one more that has its own.
 abbrev pub OneMoreHasItsState : Type 0
 OneMoreHasItsState =
-    (s : Named) (h : Home) (ps : List spec.Page) (xs : List (spec.Page × Kept)) (p : spec.Page) (k : Kept)
+    (s : Named) (h : Source Home) (ps : List spec.Page) (xs : List (spec.Page × Kept)) (p : spec.Page) (k : Kept)
     → spec.page_at p.number ps ≡ None → HasState s h (put_page p ps) p k → HaveStates s h ps xs
     → HaveStates s h (put_page p ps) (put_in_order (λ x. x.0.number) (p, k) xs)

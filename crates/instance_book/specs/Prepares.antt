@@ -17,6 +17,7 @@ use Rattle.replay_spec.specs.Book.{Doubt, instance_at, spend}
 use Rattle.replay_spec.specs.Rules.{Rules}
 use Rattle.replay_spec.specs.Admission.{Place, Admission, begins, resumes, refused, refusal_of, admit}
 use Rattle.replay_spec.specs.Next.{start_visit, page_visit}
+use Rattle.replay_spec.specs.Step as step
 use Rattle.replay_spec.specs.Step.{Decision, replies, records, settles, carried_out, refusal, shown, ended, finished}
 use Rattle.machine_spec.specs.Machine.{Suspended}
 use Rattle.stored_states.specs.Views.{origin_of, suspended_of, segment_of, state_of}
@@ -57,6 +58,23 @@ abbrev pub Prepares : List Named → Rules → spec.Book → Decision → Result
 Prepares scripts rules b d (Ok p) = IsCarriedOut scripts rules b d p
 Prepares scripts rules b d (Err reply.Memory) = IsRecord d
 Prepares scripts rules b d (Err r) = d ≡ replies (reply_of r)
+
+-- what a run that can be landed is answered with
+abbrev pub IsOfRun : step.Reply → Type 0
+IsOfRun (step.shown bytes url) = ⊤
+IsOfRun (step.finished bytes) = ⊤
+IsOfRun (step.ended bytes) = ⊤
+IsOfRun (step.refusal r) = ⊤
+IsOfRun (step.fault f) = ⊤
+IsOfRun (step.out_of_fuel cost) = ⊤
+IsOfRun _ = ⊥
+
+-- what is answered where there is no room for what a run came to
+abbrev pub WantsRoom : step.Reply → Type 0
+WantsRoom (step.shelf_full count) = ⊤
+WantsRoom (step.instance_full count) = ⊤
+WantsRoom step.memory = ⊤
+WantsRoom _ = ⊥
 
 -- the first page of an instance, and the instance without it and with it
 abbrev pub first_page : Ticket → List Effect → List TxName → (deadline : ℕ) → spec.Page

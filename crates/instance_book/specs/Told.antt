@@ -1,5 +1,5 @@
 -- What a record that is told again makes of a book.
-use Rattle.std.specs.Prelude.{◌≡◌, ◌<◌, ℕ, ◌+◌, max, List, [], length, map, Option, Some, None, slice_get}
+use Rattle.std.specs.Prelude.{◌≡◌, ◌<◌, ℕ, ◌+◌, max, List, [], length, map, Option, Some, None, slice_get, ⊤}
 use Rattle.std.specs.Borrow.{Bor}
 use Rattle.script_value.specs.Val.{list, no_vals}
 use Rattle.script_value.specs.Views.{meaning}
@@ -12,7 +12,7 @@ use Rattle.script_nodes.specs.declared.setup.Setup.{Setup}
 use Rattle.page_names.specs.Names.{start}
 use Rattle.instance_cells.specs.Cells.{Effect, AreOn, reads_of}
 use Rattle.instance_cells.specs.Views.{effect_of}
-use Rattle.replay_spec.specs.Tape.{recorded}
+use Rattle.replay_spec.specs.Tape.{recorded, Tape}
 use Rattle.replay_spec.specs.Book as spec
 use Rattle.replay_spec.specs.Book.{instance_at, page_at, reopened}
 use Rattle.replay_spec.specs.Rules.{Rules}
@@ -33,11 +33,11 @@ use Rattle.instance_book.specs.declared.retold.ToldPage.{ToldPage}
 use Rattle.instance_book.specs.declared.book.Book.{Book}
 use Rattle.instance_book.specs.declared.ticket.Ticket.{Ticket}
 use Rattle.instance_book.specs.Views.{instance_of, ticket_of, book_of}
-use Rattle.instance_book.specs.Places.{arena_of}
-use Rattle.instance_book.specs.Makes.{Makes, HasPlaces, HasItsStates}
+use Rattle.instance_book.specs.Places.{Source, own, given, IsGiven, arena_of}
+use Rattle.instance_book.specs.Makes.{Makes, HasPlaces, HasStatesFrom}
 use Rattle.instance_book.specs.Changes.{opening_of, begun_with}
 use Rattle.instance_book.specs.Prepares.{rules_with, first_instance, opening_by, extension_by, OpensAs}
-use Rattle.instance_book.specs.Fits.{IsFor, FitsStart}
+use Rattle.instance_book.specs.Fits.{IsFor, FitsStart, IsStoredOrigin, GoesOnGiven, GoesOnBySource}
 use Rattle.instance_book.specs.Admissions.{book_under}
 
 -- the ticket of a record's start, and of its answer
@@ -69,6 +69,18 @@ pub record AnswersAgain (setup : Setup) (b : Book) (instance page : ℕ) (answer
   pub ticket : ticket_of t ≡ told_answer at answer number nonce
   pub fits : IsFor (scripts_of setup) t (page_visit (book_under setup b) (ticket_of t) at)
   pub cells : t.cells ≡ at.instance.cells
+
+-- and goes on from the state that is given to the page
+pub record AnswersGiven (setup : Setup) (b : Book) (instance page : ℕ) (states : ℕ → Option Suspended) (t : Ticket) : Type 0 where
+  pub at : Place
+  pub found : page_of_numbers (book_under setup b) instance page ≡ Some at
+  pub goes : GoesOnGiven states at t
+
+-- it goes on from a state of the instance's script that can be written
+pub record AnswersStored (setup : Setup) (b : Book) (instance page : ℕ) (t : Ticket) : Type 0 where
+  pub at : Place
+  pub found : page_of_numbers (book_under setup b) instance page ≡ Some at
+  pub stored : IsStoredOrigin at.instance.script t.from
 
 -- what a record is landed under beside no journal: its length is measured by whoever keeps one
 abbrev pub no_rules : Rules
@@ -131,14 +143,19 @@ LandsExtension t instance answered p old new =
     → let b = book_beside scripts length old in instance_at instance b.instances ≡ Some i
     → book_beside scripts length new ≡ land no_rules (told_extension t instance answered p) p.inside.items b
 
--- the page has the state of a start of its script, with a spelling
-abbrev pub HasStartState : List Named → Book → Ticket → ToldPage → Type 0
-HasStartState scripts b t p =
-    (named : Named) × ((slice_get scripts t.script ≡ Some named) × StateHasBytes (suspended_of p.state)
-    × IsStateOf (arena_of named.script) (tape_for (start_visit (book_beside scripts 0 b) (ticket_of t) t.script named) (recorded (reads_of (effects_in p)))) (suspended_of p.state))
+-- the state is the one that the script shows its page with over the tape, or the one that is given to the page's number
+abbrev pub IsStateOver : Source ⊤ → Named → Tape → (number : ℕ) → Suspended → Type 0
+IsStateOver (own all) s t n d = IsStateOf (arena_of s.script) t d
+IsStateOver (given states) s t n d = IsGiven s states n d
 
--- the page is new in its instance, and has the state of the chain of the page that it answers, and the ticket is for that answer
-pub record HasAnswerState (scripts : List Named) (b : Book) (t : Ticket) (instance answered : ℕ) (p : ToldPage) : Type 0 where
+-- the page has the state of a start of its script, with a spelling
+abbrev pub HasStartState : Source ⊤ → List Named → Book → Ticket → ToldPage → Type 0
+HasStartState source scripts b t p =
+    (named : Named) × ((slice_get scripts t.script ≡ Some named) × StateHasBytes (suspended_of p.state)
+    × IsStateOver source named (tape_for (start_visit (book_beside scripts 0 b) (ticket_of t) t.script named) (recorded (reads_of (effects_in p)))) t.number (suspended_of p.state))
+
+-- the page is new in its instance, and has its state behind that of the page that it answers, and the ticket is for that answer
+pub record HasAnswerState (source : Source ⊤) (scripts : List Named) (b : Book) (t : Ticket) (instance answered : ℕ) (p : ToldPage) : Type 0 where
   pub at : Place
   pub here : instance_at instance (book_beside scripts 0 b).instances ≡ Some at.instance
   pub shown : page_at answered at.instance.pages ≡ Some at.page
@@ -146,8 +163,8 @@ pub record HasAnswerState (scripts : List Named) (b : Book) (t : Ticket) (instan
   pub unused : page_at t.number at.instance.pages ≡ None
   pub bytes : StateHasBytes (suspended_of p.state)
   pub state :
-      IsStateOf (arena_of at.instance.script.script) (tape_for (page_visit (book_beside scripts 0 b) (ticket_of t) at) (recorded (reads_of (effects_in p)))) (suspended_of p.state)
-  pub fits : IsFor scripts t (page_visit (book_beside scripts 0 b) (ticket_of t) at)
+      IsStateOver source at.instance.script (tape_for (page_visit (book_beside scripts 0 b) (ticket_of t) at) (recorded (reads_of (effects_in p)))) t.number (suspended_of p.state)
+  pub fits : GoesOnBySource source scripts (book_beside scripts 0 b) at t
 
 -- each instance goes on to be of a script of the setup, where the ticket's is one
 abbrev pub KeepsStartPlaces : Ticket → (old new : Book) → Type 0
@@ -156,11 +173,13 @@ KeepsStartPlaces t old new = (scripts : List Named) → t.script < length script
 -- so each page goes on to have its own
 abbrev pub KeepsStartStates : Ticket → ToldPage → (old new : Book) → Type 0
 KeepsStartStates t p old new =
-    (scripts : List Named) → HasStartState scripts old t p → HasItsStates scripts old → HasItsStates scripts new
+    (source : Source ⊤) (scripts : List Named) → HasStartState source scripts old t p → HasStatesFrom source scripts old
+    → HasStatesFrom source scripts new
 
 abbrev pub KeepsAnswerStates : Ticket → (instance answered : ℕ) → ToldPage → (old new : Book) → Type 0
 KeepsAnswerStates t instance answered p old new =
-    (scripts : List Named) → HasAnswerState scripts old t instance answered p → HasItsStates scripts old → HasItsStates scripts new
+    (source : Source ⊤) (scripts : List Named) → HasAnswerState source scripts old t instance answered p → HasStatesFrom source scripts old
+    → HasStatesFrom source scripts new
 
 -- the ending and the finish of a record
 abbrev pub told_ending : (number instance page : ℕ) → Value → List Effect → List TxName → spec.Change

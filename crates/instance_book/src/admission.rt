@@ -1,11 +1,13 @@
-ghost use Rattle.std.specs.Prelude.{◌≡◌, ◌<◌, ℕ, List, Some, length, option_map, slice_get, IfSome};
+ghost use Rattle.std.specs.Prelude.{◌≡◌, ◌<◌, ℕ, List, Option, Some, length, option_map, slice_get, IfSome};
 ghost use Rattle.script_nodes.specs.Setup.{Named};
 ghost use Rattle.script_nodes.specs.Views.{named_of, scripts_of};
 ghost use Rattle.page_names.specs.Views.{name_of};
 ghost use Rattle.replay_spec.specs.Admission as spec;
 ghost use Rattle.replay_spec.specs.Names.{first_closed};
 ghost use Rattle.instance_book.specs.Views.{instance_of, page_of};
-ghost use Rattle.instance_book.specs.Makes.{HasItsStates, HasPlaces};
+ghost use Rattle.machine_spec.specs.Machine.{Suspended};
+ghost use Rattle.instance_book.specs.Places.{own, given};
+ghost use Rattle.instance_book.specs.Makes.{HasStatesFrom, HasItsStates, HasPlaces};
 ghost use Rattle.instance_book.specs.Admissions.{IsWhyNot, named_if, IsPlaceOf, IsPlaceAt, IsStartOf, IsAdmittedAs, IsPlacedAt, IsKeptAt, ResumesPlaced, ResumesKept};
 
 use crate::book::Book;
@@ -93,7 +95,9 @@ pub(crate) fn place_of_numbers<'a>(
     requires { HasPlaces (scripts_of setup.now) book.now }
     ensures place { IsPlaceOf setup.now book.now instance page result }
     ensures placed { IfSome result (IsPlacedAt (scripts_of setup.now)) }
-    ensures states { HasItsStates (scripts_of setup.now) book.now → IfSome result (IsKeptAt (scripts_of setup.now) book.now.shelf) }
+    ensures states { HasItsStates (scripts_of setup.now) book.now → IfSome result (IsKeptAt (scripts_of setup.now) (own book.now.shelf)) }
+    ensures told { (states : ℕ → Option Suspended) → HasStatesFrom (given states) (scripts_of setup.now) book.now
+        → IfSome result (IsKeptAt (scripts_of setup.now) (given states)) }
 {
     let instance = book.instances.instance(instance)?;
     let script = script_of(setup, instance)?;
@@ -115,7 +119,7 @@ fn place_at<'a>(
     requires { HasPlaces (scripts_of setup.now) book.now }
     ensures place { IsPlaceAt setup.now book.now name.now page.now result }
     ensures placed { IfSome result (IsPlacedAt (scripts_of setup.now)) }
-    ensures states { HasItsStates (scripts_of setup.now) book.now → IfSome result (IsKeptAt (scripts_of setup.now) book.now.shelf) }
+    ensures states { HasItsStates (scripts_of setup.now) book.now → IfSome result (IsKeptAt (scripts_of setup.now) (own book.now.shelf)) }
 {
     let place = place_of_numbers(book, setup, page.instance, page.page)?;
     if page.shelf == book.shelf

@@ -2,10 +2,12 @@ ghost use Rattle.std.specs.Prelude.{◌≡◌, ◌<◌, ◌^◌, List, ℕ, Opti
 ghost use Rattle.script_nodes.specs.Setup.{Named};
 ghost use Rattle.script_nodes.specs.Views.{named_of, scripts_of};
 ghost use Rattle.replay_spec.specs.Book as spec;
+ghost use Rattle.machine_spec.specs.Machine.{Suspended};
 ghost use Rattle.instance_book.specs.Views.{IsTicketFor};
-ghost use Rattle.instance_book.specs.Fits.{IsRunnable};
-ghost use Rattle.instance_book.specs.Makes.{count_of, Makes, StaysSame, HasPlaces, KeepsPlaces, HasItsStates, KeepsStates};
-ghost use Rattle.instance_book.specs.Admissions.{IsPlacedAt, IsKeptAt, named_if, script_at, HasCellsBy, FitsStartIn, FitsPlace, admission_for, refusal_for, FitsIn, StartsIn};
+ghost use Rattle.instance_book.specs.Places.{own, given};
+ghost use Rattle.instance_book.specs.Fits.{IsRunnable, IsStoredOrigin, GoesOnGiven};
+ghost use Rattle.instance_book.specs.Makes.{count_of, Makes, StaysSame, HasPlaces, KeepsPlaces, HasStatesFrom, HasItsStates, KeepsStates};
+ghost use Rattle.instance_book.specs.Admissions.{place_of, IsPlacedAt, IsKeptAt, named_if, script_at, HasCellsBy, FitsStartIn, FitsPlace, admission_for, refusal_for, FitsIn, StartsIn};
 ghost use Rattle.instance_book.specs.Swept.{swept, cells_at, IsEmpty};
 
 use crate::admission::{Admission, Place, admission_to, script_of};
@@ -28,6 +30,7 @@ impl Book {
         ensures book { IsEmpty shelf result }
         ensures placed { (scripts : List Named) → HasPlaces scripts result }
         ensures states { (scripts : List Named) → HasItsStates scripts result }
+        ensures told { (states : ℕ → Option Suspended) (scripts : List Named) → HasStatesFrom (given states) scripts result }
     {
         Book {
             shelf,
@@ -145,7 +148,10 @@ impl Book {
     ) -> Result<Ticket, AllocError>
         requires { IsPlacedAt (scripts_of setup.now) place }
         ensures ticket { IfOk result (IsTicketFor target.now answer number nonce) }
-        ensures fits { IsKeptAt (scripts_of setup.now) self.now.shelf place.entry → IfOk result (FitsPlace setup.now self.now place.entry) }
+        ensures fits { IsKeptAt (scripts_of setup.now) (own self.now.shelf) place.entry → IfOk result (FitsPlace setup.now self.now place.entry) }
+        ensures told { (states : ℕ → Option Suspended) → IsKeptAt (scripts_of setup.now) (given states) place.entry
+            → IfOk result (GoesOnGiven states (place_of (scripts_of setup.now) place.entry)) }
+        ensures stored { IfOk result (λ t. IsStoredOrigin (named_of place.entry.script.now) t.from) }
         ensures runs { IfOk result (IsRunnable (scripts_of setup.now)) }
         ensures cells { IfOk result (λ t. t.cells ≡ place.entry.instance.now.item.cells) }
     {

@@ -3,7 +3,7 @@ ghost use Rattle.script_nodes.specs.Views.{named_of};
 ghost use Rattle.stored_states.specs.Views.{suspended_of};
 ghost use Rattle.frame_codec.specs.Stored.{IsStored};
 ghost use Rattle.instance_book.specs.Places.{IsStateIn, IsOriginIn};
-ghost use Rattle.instance_book.specs.Fits.{IsOriginOf};
+ghost use Rattle.instance_book.specs.Fits.{IsOriginOf, IsStoredOrigin};
 ghost use Rattle.instance_book.specs.Fronts.{IsFrontIn};
 
 use crate::in_order::InOrder;
@@ -87,6 +87,7 @@ pub fn origin_at(
     page: &Numbered<KeptPage>,
 ) -> Result<Origin, AllocError>
     ensures fits { IfOk result (IsOriginOf (named_of script.now)) }
+    ensures stored { IfOk result (IsStoredOrigin (named_of script.now)) }
     ensures origin { IfOk result (IsOriginIn (named_of script.now) pages.now page.now) }
 {
     // A script's root tells that its nodes are its tree's.

@@ -5,11 +5,11 @@ ghost use Rattle.stored_states.specs.Views.{segment_of, suspended_of};
 ghost use Rattle.page_names.specs.Names as names;
 ghost use Rattle.page_names.specs.Views.{target_of};
 ghost use Rattle.instance_book.specs.Lists.{HasRoom};
-ghost use Rattle.instance_book.specs.Views.{pages_of, HasRoomAt};
+ghost use Rattle.instance_book.specs.Views.{pages_of, HasRoomAt, reply_of};
 ghost use Rattle.instance_book.specs.Places.{shown_in};
 ghost use Rattle.instance_book.specs.Makes.{StaysSame, KeepsPlaces, KeepsStates};
-ghost use Rattle.instance_book.specs.Changes.{renewed, HasRoomFor};
-ghost use Rattle.instance_book.specs.Prepares.{StartsOn, AnswersOn, IsOnCells, AreOnCells, IsPrepared, IsKeptOfTicket, OpensTo, ExtendsTo, StartKeepsState, AnswerKeepsState, KeepsItsState, IsOfSegment};
+ghost use Rattle.instance_book.specs.Changes.{renewed, HasDeadlineBy, HasRoomFor};
+ghost use Rattle.instance_book.specs.Prepares.{IsOfRun, WantsRoom, StartsOn, AnswersOn, IsOnCells, AreOnCells, IsPrepared, IsKeptOfTicket, OpensTo, ExtendsTo, StartKeepsState, AnswerKeepsState, KeepsItsState, IsOfSegment};
 ghost use Rattle.instance_book.specs.Segments.{Revokes, BeginsBy, IsLeftBy, GoesOnBy, Shows, EndsOn, FinishesOn, OpensOn};
 
 use crate::after::{After, Show};
@@ -347,6 +347,9 @@ impl Book {
         ensures placed { KeepsPlaces self.old self.new }
         ensures states { KeepsStates self.old self.new }
         ensures room { IfOk result (λ p. HasRoomFor p.change self.new) }
+        ensures deadline { IfOk result (λ p. HasDeadlineBy p.change) }
+        ensures reply { IfOk result (λ p. IsOfRun (reply_of p.reply)) }
+        ensures refused { IfErr result (λ r. WantsRoom (reply_of r)) }
         ensures state { IfOk result (λ p. StartKeepsState ticket.now segment p.change) }
         ensures decided { StartsOn self.old ticket.now (segment_of segment) instances life result }
         ensures itself { (name : List ℕ) → IfOk result (IsOfSegment self.old ticket.now (segment_of segment) (names.start name)) }
@@ -418,6 +421,9 @@ impl Book {
         ensures placed { KeepsPlaces self.old self.new }
         ensures states { KeepsStates self.old self.new }
         ensures room { IfOk result (λ p. HasRoomFor p.change self.new) }
+        ensures deadline { IfOk result (λ p. HasDeadlineBy p.change) }
+        ensures reply { IfOk result (λ p. IsOfRun (reply_of p.reply)) }
+        ensures refused { IfErr result (λ r. WantsRoom (reply_of r)) }
         ensures state { IfOk result (λ p. AnswerKeepsState ticket.now segment page.now.instance page.now.page p.change) }
         ensures decided { AnswersOn self.old ticket.now page.now (segment_of segment) pages life result }
         ensures itself { (name : List ℕ) → IfOk result (IsOfSegment self.old ticket.now (segment_of segment) (names.page name page.now)) }
@@ -477,9 +483,9 @@ impl Book {
     ///
     /// It asks for a number that is out, for a life in its range in seconds, and for effects on the cells of the visit's
     /// instance. The segment is the one over the present cells of an admitted target: then what is prepared is what the visit
-    /// comes to, and carries it out, and a refusal is `ShelfFull`, `InstanceFull` or want of memory. A page that it shows
-    /// keeps the state of the segment. Whatever the ticket is for, what is prepared is a change of its segment, or none, and
-    /// carries itself out.
+    /// comes to, and carries it out. A page that it shows keeps the state of the segment. Whatever the ticket is for, what is
+    /// prepared is a change of its segment, or none, and carries itself out; its reply is one of a run, and a refusal is
+    /// `ShelfFull`, `InstanceFull` or want of memory.
     pub fn prepare(
         &mut self,
         alloc: Global,
@@ -496,6 +502,9 @@ impl Book {
         ensures placed { KeepsPlaces self.old self.new }
         ensures states { KeepsStates self.old self.new }
         ensures room { IfOk result (λ p. HasRoomFor p.change self.new) }
+        ensures deadline { IfOk result (λ p. HasDeadlineBy p.change) }
+        ensures reply { IfOk result (λ p. IsOfRun (reply_of p.reply)) }
+        ensures refused { IfErr result (λ r. WantsRoom (reply_of r)) }
         ensures state { IfOk result (λ p. KeepsItsState ticket.now segment p.change) }
         ensures decided { IsPrepared self.old ticket.now (segment_of segment) instances pages life result }
         ensures itself { IfOk result (IsOfSegment self.old ticket.now (segment_of segment) (target_of ticket.now.target)) }

@@ -1,11 +1,13 @@
-ghost use Rattle.std.specs.Prelude.{IfOk};
+ghost use Rattle.std.specs.Prelude.{◌≡◌, IfOk, option_map};
+ghost use Rattle.stored_states.specs.Views.{origin_of, suspended_of};
+ghost use Rattle.kept_states.specs.Links.{behind_at};
 ghost use Rattle.instance_book.specs.Fits.{IsCopy};
 
 use instance_cells::Cells;
 use page_names::Target;
 use script_value::{Str, Value};
 use std::alloc::{AllocError, Global};
-use stored_states::Origin;
+use stored_states::{Origin, Suspended};
 
 /// The right to publish one segment under a number and a nonce, with all that the run of the segment needs.
 #[derive(Drop)]
@@ -27,6 +29,19 @@ pub struct Ticket {
 }
 
 impl Ticket {
+    /// The state that a page of the segment is written behind: that of the page that is answered, where the links ask for it.
+    pub fn behind(&self) -> Option<&Suspended>
+        ensures { option_map (λ d. suspended_of d.now) result ≡ behind_at self.now.links (origin_of self.now.from) }
+    {
+        if self.links == 0 {
+            return None;
+        }
+        match &self.from {
+            Origin::Start => None,
+            Origin::Page(state) => Some(state),
+        }
+    }
+
     /// A copy, equal to its source.
     pub fn try_clone(&self, alloc: Global) -> Result<Ticket, AllocError>
         ensures { IfOk result (λ copy. IsCopy copy self.now) }

@@ -1,10 +1,12 @@
-ghost use Rattle.std.specs.Prelude.{◌≡◌, None, slice_get, IfOk, IfSome, IfNone};
+ghost use Rattle.std.specs.Prelude.{◌≡◌, ℕ, Option, None, slice_get, IfOk, IfSome, IfNone};
 ghost use Rattle.script_nodes.specs.Views.{scripts_of};
 ghost use Rattle.replay_spec.specs.Recovery.{page_of_numbers};
-ghost use Rattle.instance_book.specs.Makes.{HasPlaces, HasItsStates};
+ghost use Rattle.machine_spec.specs.Machine.{Suspended};
+ghost use Rattle.instance_book.specs.Places.{given};
+ghost use Rattle.instance_book.specs.Makes.{HasPlaces, HasStatesFrom, HasItsStates};
 ghost use Rattle.instance_book.specs.Admissions.{book_under};
 ghost use Rattle.instance_book.specs.Fits.{IsRunnable};
-ghost use Rattle.instance_book.specs.Told.{StartsAgain, AnswersThere, AnswersAgain};
+ghost use Rattle.instance_book.specs.Told.{StartsAgain, AnswersThere, AnswersGiven, AnswersStored, AnswersAgain};
 
 use crate::admission::place_of_numbers;
 use crate::book::Book;
@@ -56,6 +58,9 @@ impl Book {
         ensures none { IfOk result (λ t. IfNone t (page_of_numbers (book_under setup.now self.now) instance page ≡ None)) }
         ensures some { IfOk result (λ t. IfSome t (AnswersThere setup.now self.now instance page answer number nonce)) }
         ensures runs { IfOk result (λ t. IfSome t (IsRunnable (scripts_of setup.now))) }
+        ensures told { (states : ℕ → Option Suspended) → HasStatesFrom (given states) (scripts_of setup.now) self.now
+            → IfOk result (λ t. IfSome t (AnswersGiven setup.now self.now instance page states)) }
+        ensures stored { IfOk result (λ t. IfSome t (AnswersStored setup.now self.now instance page)) }
         ensures again { HasItsStates (scripts_of setup.now) self.now → IfOk result (λ t. IfSome t (AnswersAgain setup.now self.now instance page answer number nonce)) }
     {
         let Some(place) = place_of_numbers(self, setup, instance, page) else {

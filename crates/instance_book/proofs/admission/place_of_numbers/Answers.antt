@@ -1,10 +1,13 @@
-use Rattle.std.proofs.Common.{◌≡◌, sym, subst}
+use Rattle.std.proofs.Common.{◌≡◌, ℕ, sym, subst, List, Some}
 use Rattle.std.proofs.lemmas.Option.{same_Some}
 use Rattle.script_nodes.specs.Setup.{Named}
 use Rattle.script_nodes.specs.Views.{scripts_of, named_of}
-use Rattle.replay_spec.specs.Next.{home}
+use Rattle.replay_spec.specs.Book.{at_number}
+use Rattle.instance_book.specs.declared.numbered.Numbered.{Numbered}
+use Rattle.instance_book.specs.declared.page.KeptPage.{KeptPage}
+use Rattle.instance_book.specs.declared.instance.KeptInstance.{KeptInstance}
 use Rattle.instance_book.specs.Views.{page_of, pages_of, script_in}
-use Rattle.instance_book.specs.Places.{kept_at, shown_of, shown_in, HasState, HaveStates}
+use Rattle.instance_book.specs.Places.{Source, own, given, source_in, kept_at, shown_of, shown_in, HasState, HaveStates, IsKept}
 use Rattle.instance_book.proofs.States.{state_found}
 use Rattle.instance_book.proofs.admission.place_of_numbers.Goals as goal
 
@@ -14,18 +17,34 @@ script_of-requires c = c.in_ok-instance.ensures.placed (scripts_of c.args.setup.
 pub returns-clause-placed : goal.returns-clause-placed
 returns-clause-placed c = sym c.in_ok-script.ensures.script
 
-pub returns-clause-states : goal.returns-clause-states
-returns-clause-states c own =
-    let scripts = scripts_of c.args.setup.now in
-    let shelf = c.args.book.now.shelf in
-    let i = c.in_ok-instance.instance.now in
-    let p = c.in_ok-shown.shown.now in
-    let named = named_of c.in_ok-script.script.now in
+-- what is kept of the place's instance
+at_place : (scripts : List Named) (shelf : Source ℕ) (named : Named) (i : Numbered KeptInstance) (p : Numbered KeptPage) (n : ℕ) → named ≡ script_in scripts i.item.script
+    → Some (shown_of p) ≡ at_number (λ y. y.0.number) n (shown_in i.item.pages) → IsKept scripts shelf i
+    → HaveStates named (source_in named shelf i.number) (pages_of i.item.pages) (shown_in i.item.pages)
+    × HasState named (source_in named shelf i.number) (pages_of i.item.pages) (page_of p) (kept_at p)
+at_place scripts shelf named i p n its shown kept =
     let s = script_in scripts i.item.script in
-    let kept = c.in_ok-instance.ensures.states scripts shelf own in
-    let its : named ≡ s = same_Some named s c.in_ok-script.ensures.its in
-    let has = state_found s (home s shelf i.number) (pages_of i.item.pages) c.args.page (shown_in i.item.pages) (shown_of p) kept.states (sym c.in_ok-shown.ensures.shown) in
-    record {
-      all = subst (λ (x : Named). HaveStates x (home x shelf i.number) (pages_of i.item.pages) (shown_in i.item.pages)) (sym its) kept.states;
-      state = subst (λ (x : Named). HasState x (home x shelf i.number) (pages_of i.item.pages) (page_of p) (kept_at p)) (sym its) has;
-    }
+    let has = state_found s (source_in s shelf i.number) (pages_of i.item.pages) n (shown_in i.item.pages) (shown_of p) kept.states (sym shown) in (
+      subst (λ (x : Named). HaveStates x (source_in x shelf i.number) (pages_of i.item.pages) (shown_in i.item.pages)) (sym its) kept.states,
+      subst (λ (x : Named). HasState x (source_in x shelf i.number) (pages_of i.item.pages) (page_of p) (kept_at p)) (sym its) has,
+    )
+
+pub returns-clause-states : goal.returns-clause-states
+returns-clause-states c all =
+    let scripts = scripts_of c.args.setup.now in
+    let shelf : Source ℕ = own c.args.book.now.shelf in
+    let i = c.in_ok-instance.instance.now in
+    let named = named_of c.in_ok-script.script.now in
+    let both = at_place scripts shelf named i c.in_ok-shown.shown.now c.args.page (same_Some named (script_in scripts i.item.script) c.in_ok-script.ensures.its) c.in_ok-shown.ensures.shown
+    (c.in_ok-instance.ensures.states scripts shelf all) in
+    record { all = both.0; state = both.1 }
+
+pub returns-clause-told : goal.returns-clause-told
+returns-clause-told c states all =
+    let scripts = scripts_of c.args.setup.now in
+    let shelf : Source ℕ = given states in
+    let i = c.in_ok-instance.instance.now in
+    let named = named_of c.in_ok-script.script.now in
+    let both = at_place scripts shelf named i c.in_ok-shown.shown.now c.args.page (same_Some named (script_in scripts i.item.script) c.in_ok-script.ensures.its) c.in_ok-shown.ensures.shown
+    (c.in_ok-instance.ensures.states scripts shelf all) in
+    record { all = both.0; state = both.1 }

@@ -4,6 +4,7 @@ use Rattle.replay_spec.specs.Change.{put_instance, mend, without}
 use Rattle.instance_book.specs.Views.{instance_of, instances_of}
 use Rattle.instance_book.specs.Places.{IsNextAt}
 use Rattle.instance_book.specs.Changes.{ended_with, shown_with, OpensKept}
+use Rattle.instance_book.specs.Makes.{shelf_from}
 use Rattle.instance_book.proofs.Seen.{length_mend, length_put, length_kept, length_seen}
 use Rattle.instance_book.proofs.States.{kept_first}
 use Rattle.instance_book.proofs.book.Book.change.Goals as goal
@@ -45,11 +46,12 @@ invariant_of-self-in-Finishes c =
     record { ticks = c.args.self.now.ticks; numbers = c.args.self.now.numbers; few = omega (arith, before, fewer, after, c.args.self.now.few); below = c.args.self.now.below }
 
 pub returns-in-Opens-clause-states : goal.returns-in-Opens-clause-states
-returns-in-Opens-clause-states c scripts kept all =
+returns-in-Opens-clause-states c source scripts kept all =
     let o = c.in-Opens.opening in
-    let own : OpensKept scripts c.args.self.now.shelf o = rw (c.in-Some.is, c.in-Opens.is) at kept in
-    c.put_instance.ensures.states scripts c.args.self.now.shelf
-    (kept_first scripts c.args.self.now.shelf o c.begin.result own c.begin.ensures.number c.begin.ensures.script c.begin.ensures.pages c.begin.ensures.shown) all
+    let shelf = shelf_from source c.args.self.now.shelf in
+    let own : OpensKept scripts shelf o = rw (c.in-Some.is, c.in-Opens.is) at kept in
+    c.put_instance.ensures.states scripts shelf
+    (kept_first scripts shelf o c.begin.result own c.begin.ensures.number c.begin.ensures.script c.begin.ensures.pages c.begin.ensures.shown) all
 
 pub returns-in-Opens-clause-placed : goal.returns-in-Opens-clause-placed
 returns-in-Opens-clause-placed c scripts placed all =
@@ -67,13 +69,14 @@ pub returns-in-Finishes-clause-placed : goal.returns-in-Finishes-clause-placed
 returns-in-Finishes-clause-placed c scripts placed all = c.free.ensures.placed scripts all
 
 pub returns-in-Extends-clause-states : goal.returns-in-Extends-clause-states
-returns-in-Extends-clause-states c scripts kept all =
+returns-in-Extends-clause-states c source scripts kept all =
     let x = c.in-Extends.extension in
-    let own : IsNextAt c.args.self.now.shelf (instances_of scripts c.args.self.now.instances) x.instance x.show.page = rw (c.in-Some.is, c.in-Extends.is) at kept in
-    c.show.ensures.states scripts c.args.self.now.shelf own all
+    let shelf = shelf_from source c.args.self.now.shelf in
+    let own : IsNextAt shelf (instances_of scripts c.args.self.now.instances) x.instance x.show.page = rw (c.in-Some.is, c.in-Extends.is) at kept in
+    c.show.ensures.states scripts shelf own all
 
 pub returns-in-Ends-clause-states : goal.returns-in-Ends-clause-states
-returns-in-Ends-clause-states c scripts kept all = c.end.ensures.states scripts c.args.self.now.shelf all
+returns-in-Ends-clause-states c source scripts kept all = c.end.ensures.states scripts (shelf_from source c.args.self.now.shelf) all
 
 pub returns-in-Finishes-clause-states : goal.returns-in-Finishes-clause-states
-returns-in-Finishes-clause-states c scripts kept all = c.free.ensures.states scripts c.args.self.now.shelf all
+returns-in-Finishes-clause-states c source scripts kept all = c.free.ensures.states scripts (shelf_from source c.args.self.now.shelf) all

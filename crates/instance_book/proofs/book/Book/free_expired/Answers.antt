@@ -1,6 +1,7 @@
 use Rattle.std.proofs.Common.{◌≡◌, ◌∙◌, ap, sym, List, [], length, map, filter, arith}
 use Rattle.replay_spec.specs.Book.{Instance, is_live}
 use Rattle.instance_book.specs.Views.{instance_of}
+use Rattle.instance_book.specs.Makes.{shelf_from}
 use Rattle.instance_book.proofs.Seen.{length_kept, length_seen}
 use Rattle.instance_book.proofs.book.Book.free_expired.Goals as goal
 
@@ -21,7 +22,7 @@ overflow_sub-result c =
     omega (arith, before, after, fewer, c.len.ensures, c.len-before.ensures)
 
 pub returns-clause-states : goal.returns-clause-states
-returns-clause-states c scripts all = c.keep_live.ensures.states scripts c.args.self.now.shelf all
+returns-clause-states c source scripts all = c.keep_live.ensures.states scripts (shelf_from source c.args.self.now.shelf) all
 
 pub returns-clause-placed : goal.returns-clause-placed
 returns-clause-placed c scripts all = c.keep_live.ensures.placed scripts all

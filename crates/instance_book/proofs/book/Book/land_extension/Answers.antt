@@ -10,6 +10,7 @@ use Rattle.instance_book.specs.Prepares.{next_page, ExtendsAs}
 use Rattle.instance_book.specs.Segments.{GoesOnBy, gone_on}
 use Rattle.instance_book.specs.Told.{book_beside, effects_in}
 use Rattle.instance_book.specs.declared.prepared.Extension.{Extension}
+use Rattle.instance_book.specs.Makes.{shelf_from}
 use Rattle.instance_book.proofs.Seen.{same_length, instance_some}
 use Rattle.instance_book.proofs.States.{next_kept}
 use Rattle.instance_book.proofs.Recorded.{extension_landed}
@@ -44,7 +45,7 @@ pub returns-clause-placed : goal.returns-clause-placed
 returns-clause-placed c scripts all = c.pass_over.ensures.placed scripts (c.change.ensures.placed scripts tt (c.make_room_in.ensures.placed scripts all))
 
 pub returns-clause-states : goal.returns-clause-states
-returns-clause-states c scripts own all =
+returns-clause-states c source scripts own all =
     let t = c.args.ticket.now in
     let p = c.args.page in
     let show = c.in_ok-show.show in
@@ -60,8 +61,9 @@ returns-clause-states c scripts own all =
       state = c.in_ok-show.ensures.state;
       told = refl;
     } in
-    let next : IsNextAt b.shelf b.instances c.args.instance show.page =
-    next_kept scripts b t own.at c.args.instance c.args.answered (effects_in p) p.inside.items (suspended_of p.state) x own.lineage own.unused own.here own.shown made own.state own.bytes own.fits in
-    let moved : IsNextAt b.shelf (instances_of scripts c.make_room_in.new.self) c.args.instance show.page =
-    subst (λ (is : List Instance). IsNextAt b.shelf is c.args.instance show.page) (sym (c.make_room_in.ensures.instances scripts)) next in
-    c.pass_over.ensures.states scripts (c.change.ensures.states scripts moved (c.make_room_in.ensures.states scripts c.args.self.now.shelf all))
+    let shelf = shelf_from source b.shelf in
+    let next : IsNextAt shelf b.instances c.args.instance show.page =
+    next_kept source scripts b t own.at c.args.instance c.args.answered (effects_in p) p.inside.items (suspended_of p.state) x own.lineage own.unused own.here own.shown made own.state own.bytes own.fits in
+    let moved : IsNextAt shelf (instances_of scripts c.make_room_in.new.self) c.args.instance show.page =
+    subst (λ (is : List Instance). IsNextAt shelf is c.args.instance show.page) (sym (c.make_room_in.ensures.instances scripts)) next in
+    c.pass_over.ensures.states source scripts (c.change.ensures.states source scripts moved (c.make_room_in.ensures.states scripts shelf all))

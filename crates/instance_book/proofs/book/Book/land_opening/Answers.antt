@@ -5,6 +5,7 @@ use Rattle.instance_book.specs.Changes.{changed_by, OpensKept}
 use Rattle.instance_book.specs.Told.{book_beside, effects_in}
 use Rattle.instance_book.specs.declared.prepared.Change.TheVariants.{Opens}
 use Rattle.std.proofs.Common.{Some}
+use Rattle.instance_book.specs.Makes.{shelf_from}
 use Rattle.instance_book.proofs.States.{first_kept}
 use Rattle.instance_book.proofs.Recorded.{opening_landed}
 use Rattle.instance_book.proofs.book.Book.land_opening.Goals as goal
@@ -24,12 +25,12 @@ returns-clause-placed c scripts place all =
     c.pass_over.ensures.placed scripts (c.change.ensures.placed scripts own (c.in_ok-opening.ensures.placed scripts all))
 
 pub returns-clause-states : goal.returns-clause-states
-returns-clause-states c scripts own all =
+returns-clause-states c source scripts own all =
     let t = c.args.ticket.now in
     let p = c.args.page in
     let o = c.in_ok-opening.opening in
     let b = book_beside scripts 0 c.args.self.now in
-    let kept : OpensKept scripts b.shelf o =
-    first_kept scripts b t t.script own.0 (effects_in p) p.inside.items (suspended_of p.state) o own.1.0 c.in_ok-opening.ensures.opens.kept own.1.2 own.1.1 in
+    let kept : OpensKept scripts (shelf_from source b.shelf) o =
+    first_kept source scripts b t t.script own.0 (effects_in p) p.inside.items (suspended_of p.state) o own.1.0 c.in_ok-opening.ensures.opens.kept own.1.2 own.1.1 in
     let same : b.shelf ≡ c.opened.new.self.shelf = sym (ap (λ (x : spec.Book). x.shelf) (c.in_ok-opening.ensures.book scripts 0 None)) in
-    c.pass_over.ensures.states scripts (c.change.ensures.states scripts (subst (λ (n : ℕ). OpensKept scripts n o) same kept) (c.in_ok-opening.ensures.states scripts all))
+    c.pass_over.ensures.states source scripts (c.change.ensures.states source scripts (subst (λ (n : ℕ). OpensKept scripts (shelf_from source n) o) same kept) (c.in_ok-opening.ensures.states source scripts all))

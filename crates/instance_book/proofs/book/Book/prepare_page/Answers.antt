@@ -1,4 +1,4 @@
-use Rattle.std.proofs.Common.{◌≡◌, ◌∙◌, ap, sym, subst, ℕ, ◌+◌, [], length, Some, IfOk, nat_le, true, false, arith, inl}
+use Rattle.std.proofs.Common.{◌≡◌, ◌∙◌, ap, sym, subst, ℕ, ◌+◌, ◌<◌, ◌^◌, [], length, Some, IfOk, nat_le, true, false, arith, inl}
 use Rattle.std.proofs.lemmas.Bool.Decides.{nat_tests}
 use Rattle.std.specs.Option.{option_copied}
 use Rattle.stored_states.specs.Views.{outcome_of, segment_of, state_of, suspended_of}
@@ -11,6 +11,7 @@ use Rattle.replay_spec.proofs.Numbered.{number_of}
 use Rattle.instance_book.proofs.Seen.{instance_some, instance_none, length_seen}
 use Rattle.instance_book.proofs.Lands.{page_full, extended, ending_lands, finish_lands, ending_room, ending_shows_none, finish_shows_none, page_shown, room_made, under}
 use Rattle.instance_book.proofs.Itself.{ends_itself, extended_itself, finishes_itself}
+use Rattle.instance_book.proofs.Timely.{timely, timely_if}
 use Rattle.instance_book.proofs.book.Book.prepare_page.Goals as goal
 
 pub returns-in_default-clause-decided : goal.returns-in_default-clause-decided
@@ -118,3 +119,25 @@ returns-in-Ok-clause-itself c name =
 pub returns-in-Ok-finish-clause-itself : goal.returns-in-Ok-finish-clause-itself
 returns-in-Ok-finish-clause-itself c name =
     finishes_itself c.args.self.now c.args.ticket.now (segment_of c.args.segment) name c.args.page.now c.in-Finished.bytes c.in-Ok-finish.prepared c.in-Ok-finish.ensures
+
+pub returns-in-Shown-clause-deadline : goal.returns-in-Shown-clause-deadline
+returns-in-Shown-clause-deadline c =
+    let soon : c.deadline-deadline.result < 2 ^ 63 = omega (arith, c.args.self.now.ticks, c.requires.life, c.deadline-deadline.ensures) in
+    (timely_if _ c.extension-made.result c.with_room.result (λ p x. timely p _ (x []).recorded.decision (tt, soon)) c.extension-made.ensures.shows c.with_room.ensures.made).0
+
+pub returns-in-Shown-clause-reply : goal.returns-in-Shown-clause-reply
+returns-in-Shown-clause-reply c =
+    let soon : c.deadline-deadline.result < 2 ^ 63 = omega (arith, c.args.self.now.ticks, c.requires.life, c.deadline-deadline.ensures) in
+    (timely_if _ c.extension-made.result c.with_room.result (λ p x. timely p _ (x []).recorded.decision (tt, soon)) c.extension-made.ensures.shows c.with_room.ensures.made).1
+
+pub returns-in-Ok-clause-deadline : goal.returns-in-Ok-clause-deadline
+returns-in-Ok-clause-deadline c = (timely c.in-Ok.prepared _ (c.in-Ok.ensures []).recorded.decision tt).0
+
+pub returns-in-Ok-clause-reply : goal.returns-in-Ok-clause-reply
+returns-in-Ok-clause-reply c = (timely c.in-Ok.prepared _ (c.in-Ok.ensures []).recorded.decision tt).1
+
+pub returns-in-Ok-finish-clause-deadline : goal.returns-in-Ok-finish-clause-deadline
+returns-in-Ok-finish-clause-deadline c = (timely c.in-Ok-finish.prepared _ c.in-Ok-finish.ensures.decision tt).0
+
+pub returns-in-Ok-finish-clause-reply : goal.returns-in-Ok-finish-clause-reply
+returns-in-Ok-finish-clause-reply c = (timely c.in-Ok-finish.prepared _ c.in-Ok-finish.ensures.decision tt).1

@@ -1,10 +1,11 @@
-use Rattle.std.proofs.Common.{◌≡◌, ap, refl, length, nat_le, false, arith, inr}
+use Rattle.std.proofs.Common.{◌≡◌, ◌<◌, ◌+◌, ◌^◌, ap, refl, length, nat_le, false, arith, inr}
 use Rattle.std.proofs.lemmas.Bool.Decides.{nat_tests}
 use Rattle.stored_states.specs.Views.{outcome_of, segment_of, state_of, suspended_of}
 use Rattle.instance_book.specs.Views.{book_of, instance_of}
 use Rattle.instance_book.proofs.Seen.{length_seen}
 use Rattle.instance_book.proofs.Lands.{opening_lands}
 use Rattle.instance_book.proofs.Itself.{opens_itself}
+use Rattle.instance_book.proofs.Timely.{timely}
 use Rattle.instance_book.proofs.book.Book.prepare_start.Goals as goal
 
 pub returns-in-Ok-clause-decided : goal.returns-in-Ok-clause-decided
@@ -21,3 +22,13 @@ returns-in-Ok-clause-state c = inr (suspended_of c.in-Shown.state, (ap state_of 
 pub returns-in-Ok-clause-itself : goal.returns-in-Ok-clause-itself
 returns-in-Ok-clause-itself c name =
     opens_itself c.args.self.now c.args.ticket.now (segment_of c.args.segment) name c.in-Shown.page c.in-Shown.kind _ c.in-Ok.prepared c.in-Ok.ensures.opens
+
+pub returns-in-Ok-clause-deadline : goal.returns-in-Ok-clause-deadline
+returns-in-Ok-clause-deadline c =
+    let early : c.args.self.now.clock + c.args.life < 2 ^ 63 = omega (arith, c.args.self.now.ticks, c.requires.life) in
+    (timely c.in-Ok.prepared _ c.in-Ok.ensures.opens.recorded.decision (tt, early)).0
+
+pub returns-in-Ok-clause-reply : goal.returns-in-Ok-clause-reply
+returns-in-Ok-clause-reply c =
+    let early : c.args.self.now.clock + c.args.life < 2 ^ 63 = omega (arith, c.args.self.now.ticks, c.requires.life) in
+    (timely c.in-Ok.prepared _ c.in-Ok.ensures.opens.recorded.decision (tt, early)).1

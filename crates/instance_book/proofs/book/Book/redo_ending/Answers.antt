@@ -28,4 +28,4 @@ pub returns-clause-placed : goal.returns-clause-placed
 returns-clause-placed c scripts all = c.pass_over-2.ensures.placed scripts (c.change.ensures.placed scripts tt all)
 
 pub returns-clause-states : goal.returns-clause-states
-returns-clause-states c scripts all = c.pass_over-2.ensures.states scripts (c.change.ensures.states scripts tt all)
+returns-clause-states c source scripts all = c.pass_over-2.ensures.states source scripts (c.change.ensures.states source scripts tt all)

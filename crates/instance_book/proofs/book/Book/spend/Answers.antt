@@ -23,7 +23,7 @@ returns-clause-book c scripts journal down =
     (filter_same _ (λ m. not (m == c.args.number)) _ (λ x b q h. (search rules, search rules)) _ _ c.retain.ensures.filtered)
 
 pub returns-clause-states : goal.returns-clause-states
-returns-clause-states c scripts all = all
+returns-clause-states c source scripts all = all
 
 pub returns-clause-placed : goal.returns-clause-placed
 returns-clause-placed c scripts all = all

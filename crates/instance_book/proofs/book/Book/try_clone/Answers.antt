@@ -1,4 +1,5 @@
 use Rattle.std.proofs.Common.{◌≡◌, subst, length, List, [], ℕ, arith, rules, Contains}
+use Rattle.instance_book.specs.Makes.{shelf_from}
 use Rattle.instance_book.proofs.Seen.{same_length}
 use Rattle.instance_book.proofs.book.Book.try_clone.Goals as goal
 
@@ -15,7 +16,7 @@ invariant_of-result c =
     }
 
 pub returns-clause-states : goal.returns-clause-states
-returns-clause-states c scripts all = c.in_ok-instances.ensures.states scripts c.args.self.now.shelf all
+returns-clause-states c source scripts all = c.in_ok-instances.ensures.states scripts (shelf_from source c.args.self.now.shelf) all
 
 pub returns-clause-placed : goal.returns-clause-placed
 returns-clause-placed c scripts all = c.in_ok-instances.ensures.placed scripts all

@@ -1,4 +1,5 @@
 use Rattle.std.proofs.Common.{[], arith}
+use Rattle.instance_book.specs.Makes.{shelf_from}
 use Rattle.instance_book.proofs.Seen.{same_length}
 use Rattle.instance_book.proofs.book.Book.with_room.Goals as goal
 
@@ -8,10 +9,10 @@ invariant_of-self c =
     record { ticks = c.args.self.now.ticks; numbers = c.args.self.now.numbers; few = omega (arith, same, c.args.self.now.few); below = c.args.self.now.below }
 
 pub returns-in-Ok-make_room_in-clause-states : goal.returns-in-Ok-make_room_in-clause-states
-returns-in-Ok-make_room_in-clause-states c scripts all = c.make_room_in.ensures.states scripts c.args.self.now.shelf all
+returns-in-Ok-make_room_in-clause-states c source scripts all = c.make_room_in.ensures.states scripts (shelf_from source c.args.self.now.shelf) all
 
 pub returns-in-Err-make_room_in-clause-states : goal.returns-in-Err-make_room_in-clause-states
-returns-in-Err-make_room_in-clause-states c scripts all = c.make_room_in.ensures.states scripts c.args.self.now.shelf all
+returns-in-Err-make_room_in-clause-states c source scripts all = c.make_room_in.ensures.states scripts (shelf_from source c.args.self.now.shelf) all
 
 pub returns-in-Ok-make_room_in-clause-placed : goal.returns-in-Ok-make_room_in-clause-placed
 returns-in-Ok-make_room_in-clause-placed c scripts all = c.make_room_in.ensures.placed scripts all

@@ -5,13 +5,13 @@ use Rattle.replay_spec.specs.Change.{mend}
 use Rattle.instance_book.specs.declared.prepared.Extension.{Extension}
 use Rattle.instance_book.specs.declared.prepared.Change.TheVariants.{Extends}
 use Rattle.instance_book.specs.Views.{page_of, HasRoomAt}
-use Rattle.instance_book.specs.Places.{kept_at, IsNextIn}
+use Rattle.instance_book.specs.Places.{Source, kept_at, IsNextIn}
 use Rattle.instance_book.specs.Changes.{shown_with}
 use Rattle.instance_book.specs.Copies.{IsSameExtension, IsSameChange}
 use Rattle.instance_book.proofs.prepared.Change.try_clone.Goals as goal
 
 -- the same page is the next one
-next_alike : (shelf : ℕ) (i : spec.Instance) (p q : spec.Page) (d e : Kept) → q ≡ p → e ≡ d → IsNextIn shelf i p d → IsNextIn shelf i q e
+next_alike : (shelf : Source ℕ) (i : spec.Instance) (p q : spec.Page) (d e : Kept) → q ≡ p → e ≡ d → IsNextIn shelf i p d → IsNextIn shelf i q e
 next_alike shelf i p q d e same state next =
     subst (λ (s : Kept). IsNextIn shelf i q s) (sym state) (subst (λ (r : spec.Page). IsNextIn shelf i r d) (sym same) next)
 

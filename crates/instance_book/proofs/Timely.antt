@@ -1,0 +1,38 @@
+-- What is prepared tells no fault, and a deadline that can be told.
+use Rattle.std.proofs.Common.{◌≡◌, sym, subst, ◌<◌, ◌^◌, Option, Some, None, Result, Ok, Err, IfOk}
+use Rattle.std.specs.declared.alloc.AllocError.{AllocError}
+use Rattle.script_value.specs.declared.outcome.Reply.{Reply}
+use Rattle.replay_spec.specs.Book as spec
+use Rattle.replay_spec.specs.Step as step
+use Rattle.replay_spec.specs.Step.{Decision, replies, records}
+use Rattle.instance_book.specs.declared.prepared.Prepared.{Prepared}
+use Rattle.instance_book.specs.declared.prepared.Change.{Change}
+use Rattle.instance_book.specs.declared.prepared.Change.TheVariants.{Opens, Extends, Ends, Finishes}
+use Rattle.instance_book.specs.Views.{reply_of}
+use Rattle.instance_book.specs.Changes.{decision_by, decision_of, HasDeadlineBy}
+use Rattle.instance_book.specs.Prepares.{IsOfRun}
+
+-- a decision tells so
+abbrev pub IsTimely : Decision → Type 0
+IsTimely (replies r) = IsOfRun r
+IsTimely (records r (spec.opens o) inside) = IsOfRun r × (o.deadline < 2 ^ 63)
+IsTimely (records r (spec.extends x) inside) = IsOfRun r × (x.deadline < 2 ^ 63)
+IsTimely (records r _ inside) = IsOfRun r
+
+timely_by : (r : step.Reply) (c : Option Change) → IsTimely (decision_by r c) → HasDeadlineBy c × IsOfRun r
+timely_by r None h = (tt, h)
+timely_by r (Some (Opens o)) h = (h.1, h.0)
+timely_by r (Some (Extends x)) h = (h.1, h.0)
+timely_by r (Some (Ends e)) h = (tt, h)
+timely_by r (Some (Finishes f)) h = (tt, h)
+
+-- what is prepared for one that does
+pub timely : (p : Prepared) (d : Decision) → decision_of p ≡ d → IsTimely d → HasDeadlineBy p.change × IsOfRun (reply_of p.reply)
+timely p d decided h = timely_by (reply_of p.reply) p.change (subst IsTimely (sym decided) h)
+
+-- and for which room was wanted too
+pub timely_if : (P : Prepared → Type 0) (made : Result Prepared AllocError) (r : Result Prepared Reply)
+    → ((p : Prepared) → P p → HasDeadlineBy p.change × IsOfRun (reply_of p.reply)) → IfOk made P → IfOk r (λ p. made ≡ Ok p)
+    → IfOk r (λ p. HasDeadlineBy p.change) × IfOk r (λ p. IsOfRun (reply_of p.reply))
+timely_if P made (Ok p) tells has is = tells p (subst (λ (m : Result Prepared AllocError). IfOk m P) is has)
+timely_if P made (Err e) tells has is = (tt, tt)
