@@ -13,7 +13,9 @@ use Rattle.instance_book.specs.declared.book.Book as kept
 use Rattle.instance_book.specs.Told.{book_beside}
 use Rattle.journal_records.specs.Records.{Record, begins, changes}
 use Rattle.journal_records.specs.Reading.{read_record}
-use Rattle.journal_books.specs.Retaking.{Told, unread, misread, told, script_for, told_by}
+use Rattle.journal_books.specs.Before.{Earlier}
+use Rattle.journal_books.specs.Retaking as books
+use Rattle.journal_books.specs.Retaking.{Told, unread, misread, told}
 use Rattle.journal_books.specs.Lengths.{state_by}
 use Rattle.journal_books.specs.Making.{Making, nothing, made, with_body, with_bodies, book_of}
 use Rattle.journal_books.specs.Owning.{IsOwnState, IsOwnRecord, AreOwn}
@@ -26,7 +28,7 @@ use Rattle.book_recovery.specs.declared.found.Found.TheVariants as found
 use Rattle.book_recovery.specs.declared.reader.Reader.{Reader}
 use Rattle.book_recovery.specs.Found.{Finds, IsFoundInOrder, HasStates}
 use Rattle.book_recovery.specs.Reading.{seen_by, Gives, IsUnderWay, IsKept, IsOwnFor, IsTaken}
-use Rattle.book_recovery.proofs.Made.{script_beside}
+use Rattle.book_recovery.proofs.Made.{told_beside}
 
 pub all_taken : (setup : Setup) (shelf place : ℕ) (bodies : List (List ℕ)) (old new : Reader) → TakesAll IsTaken old place bodies new → old.setup.now ≡ setup → old.shelf ≡ shelf
     → (m : Making) → Gives (scripts_of setup) (place + 1) old.found old.seen m
@@ -73,7 +75,8 @@ finds scripts shelf n (found.Made b) seen m way is =
     let again = again_at scripts shelf seen b way n in
     record {
       shelf_is = way.shelf_is;
-      book = (is.whole.seen, is.is ∙ ap (λ (x : Book). made (record { book = x; seen = is.whole.seen })) (is.book ∙ again));
+      book = (is.whole.earlier, is.is ∙ ap (λ (x : Book). made (record { book = x; earlier = is.whole.earlier })) (is.book ∙ again));
+      told = is.tells.states;
       again = again;
     }
 finds scripts shelf n (found.Damaged place) seen m way is = is
@@ -131,19 +134,21 @@ own_state_beside scripts k l b c unread h = tt
 own_state_beside scripts k l b c misread h = tt
 own_state_beside scripts k l b c (told d) h = state_beside scripts l k b c ∙ h
 
-own_beside : (scripts : List Named) (k l : ℕ) (b : kept.Book) (r : Option Record) → IsOwnRecord (book_beside scripts k b) r → IsOwnRecord (book_beside scripts l b) r
-own_beside scripts k l b None h = tt
-own_beside scripts k l b (Some (begins shelf named)) h = tt
-own_beside scripts k l b (Some (changes c state)) h =
-    let same = script_beside scripts k l b c in
-    subst (λ (s : Option Named). IsOwnState (book_beside scripts l b) c (told_by s state)) same
-    (own_state_beside scripts k l b c (told_by (script_for (book_beside scripts k b) c) state) h)
+own_beside : (scripts : List Named) (k l : ℕ) (earlier : Earlier) (b : kept.Book) (r : Option Record)
+    → IsOwnRecord (record { book = book_beside scripts k b; earlier = earlier }) r → IsOwnRecord (record { book = book_beside scripts l b; earlier = earlier }) r
+own_beside scripts k l earlier b None h = tt
+own_beside scripts k l earlier b (Some (begins shelf named)) h = tt
+own_beside scripts k l earlier b (Some (changes c state)) h =
+    subst (λ (x : Told). IsOwnState (book_beside scripts l b) c x) (told_beside scripts k l earlier b c state)
+    (own_state_beside scripts k l b c (books.told_in earlier (book_beside scripts k b) c state) h)
 
 own_found : (scripts : List Named) (shelf n : ℕ) (front rest : List (List ℕ)) (body : List ℕ) (f : Found) (seen : InOrder (Unit {0})) → AreOwn scripts shelf (front ++ body ∷ rest)
-    → Gives scripts n f seen (book_of scripts shelf front) → IsOwnFor scripts f body
+    → Gives scripts n f seen (book_of scripts shelf front) → IsOwnFor scripts seen f body
 own_found scripts shelf n front rest body found.Nothing seen own is = tt
 own_found scripts shelf n front rest body (found.Made b) seen own is =
-    own_beside scripts n 0 b (read_record body) (subst (λ (x : Book). IsOwnRecord x (read_record body)) is.book (own front rest body is.whole refl is.is))
+    let earlier = is.whole.earlier in
+    let there = subst (λ (x : Book). IsOwnRecord (record { book = x; earlier = earlier }) (read_record body)) is.book (own front rest body is.whole refl is.is) in
+    (earlier, (is.tells, own_beside scripts n 0 earlier b (read_record body) there))
 own_found scripts shelf n front rest body (found.Damaged place) seen own is = tt
 own_found scripts shelf n front rest body (found.Other place) seen own is = tt
 own_found scripts shelf n front rest body found.Memory seen own is = tt
@@ -160,9 +165,9 @@ one_given setup shelf place body old new same number t m is =
     there is
 
 one_owned : (setup : Setup) (place : ℕ) (body : List ℕ) (old new : Reader) → old.setup.now ≡ setup → IsTaken old place body new
-    → IsOwnFor (scripts_of setup) old.found body → HasStates (scripts_of setup) old.found → HasStates (scripts_of setup) new.found
+    → IsOwnFor (scripts_of setup) old.seen old.found body → HasStates (scripts_of setup) old.found → HasStates (scripts_of setup) new.found
 one_owned setup place body old new same t =
-    let P : Setup → Type 0 = λ u. IsOwnFor (scripts_of u) old.found body → HasStates (scripts_of u) old.found → HasStates (scripts_of u) new.found in
+    let P : Setup → Type 0 = λ u. IsOwnFor (scripts_of u) old.seen old.found body → HasStates (scripts_of u) old.found → HasStates (scripts_of u) new.found in
     subst P same t.owns
 
 frames_more : (place : ℕ) (front : List (List ℕ)) (body : List ℕ) → place ≡ 8 + length (frames front) → place + 5 + length body ≡ 8 + length (frames (front ++ body ∷ []))
@@ -176,7 +181,7 @@ all_owned setup shelf place front [] old new t same number at own is states = su
 all_owned setup shelf place front (body ∷ bodies) old new t same number at own is states =
     let scripts = scripts_of setup in
     let mid = t.0 in
-    let here : IsOwnFor scripts old.found body = own_found scripts shelf (place + 1) front bodies body old.found old.seen own is in
+    let here : IsOwnFor scripts old.seen old.found body = own_found scripts shelf (place + 1) front bodies body old.found old.seen own is in
     let given = one_given setup shelf place body old mid same number t.1 (book_of scripts shelf front) is in
     let pushed : with_body scripts shelf place body (book_of scripts shelf front) ≡ book_of scripts shelf (front ++ body ∷ []) =
     ap (λ (p : ℕ). with_body scripts shelf p body (book_of scripts shelf front)) at ∙ sym (with_push scripts shelf 8 front body nothing) in

@@ -11,6 +11,7 @@ use Rattle.journal_books.specs.Making.{Making, nothing, damaged, other}
 use Rattle.journal_books.specs.Standing.{IsBook}
 use Rattle.journal_books.specs.Keeping.{HasWholeScripts}
 use Rattle.journal_books.specs.Spelling.{IsInRange}
+use Rattle.book_recovery.specs.Remaking.{HasToldStates}
 use Rattle.book_recovery.specs.declared.found.Found.{Found}
 use Rattle.book_recovery.specs.declared.found.Found.TheVariants.{Nothing, Made, Damaged, Other, Memory}
 
@@ -18,13 +19,15 @@ use Rattle.book_recovery.specs.declared.found.Found.TheVariants.{Nothing, Made, 
 abbrev pub book_with : List Named → (length : ℕ) → Book → spec.Book
 book_with scripts length b = book_of scripts length None b
 
+-- as after a crash
 abbrev pub IsReopened : spec.Book → Type 0
 IsReopened b = b ≡ reopened b
 
--- the book that was found is of this shelf, and is what the records make
+-- the book that was found is of this shelf, and is what the records make, with the states that they told
 pub record FindsBook (scripts : List Named) (shelf length : ℕ) (b : Book) (making : Making) : Type 0 where
   pub shelf_is : b.shelf ≡ shelf
   pub book : IsBook making (book_with scripts length b)
+  pub told : HasToldStates scripts book.0.states b
   pub again : IsReopened (book_with scripts length b)
 
 -- What was found is what the records make of a shelf of this number under this setup, where the journal is this long; unless there
@@ -45,6 +48,7 @@ pub record IsBookInOrder (scripts : List Named) (shelf : ℕ) (b : Book) : Type 
   pub range : (length : ℕ) → IsInRange (book_with scripts length b)
   pub again : (length : ℕ) → IsReopened (book_with scripts length b)
 
+-- so is what was found, where it is a book
 abbrev pub IsFoundInOrder : List Named → (shelf : ℕ) → Found → Type 0
 IsFoundInOrder scripts shelf (Made b) = IsBookInOrder scripts shelf b
 IsFoundInOrder scripts shelf _ = ⊤

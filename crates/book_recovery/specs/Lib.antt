@@ -1,3 +1,3 @@
-pub mod Found
 pub mod Remaking
+pub mod Found
 pub mod Reading

@@ -5,15 +5,18 @@ use Rattle.script_nodes.specs.Views.{scripts_of}
 use Rattle.value_bytes.specs.Laws.{AreBytes}
 use Rattle.replay_spec.specs.Book.{Change, reopened}
 use Rattle.replay_spec.specs.Admission.{is_one}
-use Rattle.replay_spec.specs.Recovery.{Made, number_in, is_repeated, redone, with_number}
+use Rattle.replay_spec.specs.Recovery as recovery
+use Rattle.replay_spec.specs.Recovery.{number_in, is_repeated, redone, with_number}
 use Rattle.replay_spec.specs.Remade.{IsOrderlyMade}
 use Rattle.instance_book.specs.declared.in_order.InOrder.{InOrder}
 use Rattle.instance_book.specs.declared.book.Book.{Book}
 use Rattle.instance_book.specs.Orders.{numbers_of}
 use Rattle.instance_book.specs.Makes.{HasPlaces}
 use Rattle.instance_book.specs.Told.{no_rules, book_beside}
+use Rattle.machine_spec.specs.Machine.{Suspended}
 use Rattle.journal_records.specs.Records.{Record, begins, changes}
 use Rattle.journal_records.specs.Reading.{read_record}
+use Rattle.journal_books.specs.Before.{Earlier, state_at, Made}
 use Rattle.journal_books.specs.Retaking.{misread}
 use Rattle.journal_books.specs.Making.{Making, nothing, made, damaged, other, has_script, with_body}
 use Rattle.journal_books.specs.Owning.{IsOwnRecord}
@@ -21,65 +24,84 @@ use Rattle.book_recovery.specs.declared.found.Found.{Found}
 use Rattle.book_recovery.specs.declared.found.Found.TheVariants as found
 use Rattle.book_recovery.specs.declared.reader.Reader.{Reader}
 use Rattle.book_recovery.specs.Found.{HasStates}
-use Rattle.book_recovery.specs.Remaking.{told_in, names_told, number_by}
+use Rattle.book_recovery.specs.Remaking.{told_in, HasToldStates, names_told, told_states, number_by}
 
 -- the numbers that were seen
 abbrev pub seen_by : InOrder (Unit {0}) → List ℕ
 seen_by seen = numbers_of seen.things.items
 
 -- what was made, where the journal is this long
-abbrev pub made_in : List Named → (length : ℕ) → Book → InOrder (Unit {0}) → Made
+abbrev pub made_in : List Named → (length : ℕ) → Book → InOrder (Unit {0}) → recovery.Made
 made_in scripts length b seen = record { book = book_beside scripts length b; seen = seen_by seen }
 
--- a book that is made: each instance is of a script of the setup, and it is orderly and as after a crash
+-- what records told earlier is of numbers that were seen, and the pages of the book have the states that they told
+pub record TellsOf (scripts : List Named) (seen : InOrder (Unit {0})) (b : Book) (earlier : Earlier) : Type 0 where
+  pub numbers : (k : ℕ) → is_one k earlier.seen ≡ is_one k (seen_by seen)
+  pub known : (n : ℕ) (d : Suspended) → state_at n earlier.states ≡ Some d → is_one n earlier.seen ≡ true
+  pub states : HasToldStates scripts earlier.states b
+
+-- a book that is made: each instance is of a script of the setup, it is orderly and as after a crash, and its pages have states that
+-- records told
 pub record IsUnderWay (scripts : List Named) (shelf : ℕ) (seen : InOrder (Unit {0})) (b : Book) : Type 0 where
   pub placed : HasPlaces scripts b
   pub shelf_is : b.shelf ≡ shelf
   pub orderly : IsOrderlyMade (made_in scripts 0 b seen)
+  pub tells : (earlier : Earlier) × TellsOf scripts seen b earlier
 
--- A record whose state can be read makes this of the book, as after a crash, where these numbers were seen before it.
-pub record IsRedoneAs (scripts : List Named) (seen : InOrder (Unit {0})) (c : Change) (state : Option (List ℕ)) (old new : Book) : Type 0 where
-  pub read : told_in scripts old c state ≡ misread → ⊥
+-- A record whose state can be read makes this of the book, as after a crash, where these numbers were seen before it, and records told
+-- this earlier.
+pub record IsRedoneAs (scripts : List Named) (seen : InOrder (Unit {0})) (earlier : Earlier) (c : Change) (state : Option (List ℕ)) (old new : Book) : Type 0 where
+  pub read : told_in scripts earlier old c state ≡ misread → ⊥
   pub made : (length : ℕ)
       → let b = book_beside scripts length old in
       book_beside scripts length new
-      ≡ reopened (redone no_rules c (names_told (is_repeated (number_in c) (seen_by seen)) b c (told_in scripts old c state)) b)
+      ≡ reopened (redone no_rules c (names_told (is_repeated (number_in c) (seen_by seen)) b c (told_in scripts earlier old c state)) b)
+  pub told :
+      let repeated = is_repeated (number_in c) (seen_by seen) in
+      HasToldStates scripts (told_states scripts repeated c (told_in scripts earlier old c state) old earlier.states) new
 
 -- where it can't be read there is no book
-abbrev pub IsRedoneBy : List Named → InOrder (Unit {0}) → Record → (old : Book) → Option Book → Type 0
-IsRedoneBy scripts seen (begins shelf named) old new = ⊤
-IsRedoneBy scripts seen (changes c state) old None = told_in scripts old c state ≡ misread
-IsRedoneBy scripts seen (changes c state) old (Some new) = IsRedoneAs scripts seen c state old new
+abbrev pub IsRedoneBy : List Named → InOrder (Unit {0}) → Earlier → Record → (old : Book) → Option Book → Type 0
+IsRedoneBy scripts seen earlier (begins shelf named) old new = ⊤
+IsRedoneBy scripts seen earlier (changes c state) old None = told_in scripts earlier old c state ≡ misread
+IsRedoneBy scripts seen earlier (changes c state) old (Some new) = IsRedoneAs scripts seen earlier c state old new
 
--- the record's number is seen from then on
+-- whatever records told earlier
+abbrev pub IsRemade : List Named → InOrder (Unit {0}) → Record → (old : Book) → Option Book → Type 0
+IsRemade scripts seen r old new = (earlier : Earlier) → TellsOf scripts seen old earlier → IsRedoneBy scripts seen earlier r old new
+
+-- the number is seen from then on
 abbrev pub SeesNumber : Option ℕ → (old new : InOrder (Unit {0})) → Type 0
 SeesNumber number old new = (k : ℕ) → is_one k (seen_by new) ≡ is_one k (with_number number (seen_by old))
 
+-- the same of a record that may have no number
 abbrev pub Sees : Record → (old new : InOrder (Unit {0})) → Type 0
 Sees r old new = SeesNumber (number_by r) old new
 
--- a record that may follow others, and one that begins a journal
+-- a record may follow others
 abbrev pub is_later : (scripts : ℕ) → Record → Bool
 is_later scripts (begins shelf named) = false
 is_later scripts (changes c state) = has_script scripts c
 
+-- a record begins a journal
 abbrev pub is_begin : Record → Bool
 is_begin (begins shelf named) = true
 is_begin (changes c state) = false
 
--- it is this, where the journal is this long: the same numbers were seen
+-- it is this, where the journal is this long: the same numbers were seen, and its pages have the states that were told
 pub record IsMadeAs (scripts : List Named) (length : ℕ) (b : Book) (seen : InOrder (Unit {0})) (m : Making) : Type 0 where
   pub whole : Made
   pub is : m ≡ made whole
   pub book : whole.book ≡ book_beside scripts length b
-  pub numbers : (k : ℕ) → is_one k whole.seen ≡ is_one k (seen_by seen)
+  pub tells : TellsOf scripts seen b whole.earlier
 
--- Before the first record the journal is 9 bytes long, and no number was seen. Once there was no memory, nothing is told.
+-- before the first record the journal is 9 bytes long, and no number was seen
 pub record IsNothing (length : ℕ) (seen : InOrder (Unit {0})) (m : Making) : Type 0 where
   pub is : m ≡ nothing
   pub long : length ≡ 9
   pub none : seen_by seen ≡ []
 
+-- What was found so far is what the records make, where the journal is this long. Once there was no memory, nothing is told.
 abbrev pub Gives : List Named → (length : ℕ) → Found → InOrder (Unit {0}) → Making → Type 0
 Gives scripts length found.Nothing seen m = IsNothing length seen m
 Gives scripts length (found.Made b) seen m = IsMadeAs scripts length b seen m
@@ -99,23 +121,33 @@ IsKept scripts shelf seen found.Nothing = seen_by seen ≡ []
 IsKept scripts shelf seen (found.Made b) = IsUnderWay scripts shelf seen b
 IsKept scripts shelf seen _ = ⊤
 
+-- the scripts of the setup that it reads under
+abbrev pub scripts_for : Reader → List Named
+scripts_for r = scripts_of r.setup.now
+
+-- what it made so far is under way
 abbrev pub IsSoundReader : Reader → Type 0
-IsSoundReader r = IsKept (scripts_of r.setup.now) r.shelf r.seen r.found
+IsSoundReader r = IsKept (scripts_for r) r.shelf r.seen r.found
 
 -- a reader for the same shelf under the same setup
 pub record IsSameReader (old new : Reader) : Type 0 where
   pub setup : new.setup.now ≡ old.setup.now
   pub shelf : new.shelf ≡ old.shelf
 
--- the record of this body is an own one of the book
-abbrev pub IsOwnFor : List Named → Found → (body : List ℕ) → Type 0
-IsOwnFor scripts (found.Made b) body = IsOwnRecord (book_beside scripts 0 b) (read_record body)
-IsOwnFor scripts _ body = ⊤
+-- the record is an own one of the book, behind what records told earlier
+abbrev pub IsOwnBehind : List Named → InOrder (Unit {0}) → Book → Option Record → Type 0
+IsOwnBehind scripts seen b r =
+    (earlier : Earlier) × (TellsOf scripts seen b earlier × IsOwnRecord (record { book = book_beside scripts 0 b; earlier = earlier }) r)
+
+-- the record of a body is an own one of the book that was made, if one was
+abbrev pub IsOwnFor : List Named → InOrder (Unit {0}) → Found → (body : List ℕ) → Type 0
+IsOwnFor scripts seen (found.Made b) body = IsOwnBehind scripts seen b (read_record body)
+IsOwnFor scripts seen _ body = ⊤
 
 -- a reader takes one body more, which is bytes
 pub record IsTaken (old : Reader) (place : ℕ) (body : List ℕ) (new : Reader) : Type 0 where
   pub same : IsSameReader old new
   pub bytes : AreBytes body
-  pub gives : GivesWith (scripts_of old.setup.now) old.shelf place body old.found new.found old.seen new.seen
-  pub owns : IsOwnFor (scripts_of old.setup.now) old.found body → HasStates (scripts_of old.setup.now) old.found
-      → HasStates (scripts_of old.setup.now) new.found
+  pub gives : GivesWith (scripts_for old) old.shelf place body old.found new.found old.seen new.seen
+  pub owns : IsOwnFor (scripts_for old) old.seen old.found body → HasStates (scripts_for old) old.found
+      → HasStates (scripts_for old) new.found

@@ -1,29 +1,34 @@
 -- What a record makes of the program's book.
-use Rattle.std.specs.Prelude.{◌≡◌, ℕ, Bool, true, false, List, [], map, Option, Some, None, if◌then◌else◌}
+use Rattle.std.specs.Prelude.{◌≡◌, ℕ, Bool, true, false, ◌&&◌, List, [], map, length, Option, Some, None, if◌then◌else◌}
+use Rattle.script_value.specs.Val.{Val}
 use Rattle.script_value.specs.Views.{meaning}
 use Rattle.script_value.specs.declared.outcome.TxName.{TxName}
 use Rattle.script_value.specs.declared.value.Value.{Value}
 use Rattle.script_nodes.specs.Arena.{Arena}
 use Rattle.script_nodes.specs.Setup.{Named}
+use Rattle.instance_cells.specs.Cells.{Effect}
 use Rattle.instance_cells.specs.Views.{effect_of}
 use Rattle.replay_spec.specs.Book as spec
 use Rattle.replay_spec.specs.Book.{Change}
-use Rattle.replay_spec.specs.Recovery.{redone, number_in}
+use Rattle.replay_spec.specs.Recovery.{are_on, hold_over, redone, number_in}
 use Rattle.replay_spec.specs.Invariant.{AreOrderly}
-use Rattle.machine_spec.specs.Machine.{inside_of}
+use Rattle.machine_spec.specs.Machine.{Suspended, inside_of}
 use Rattle.stored_states.specs.Views.{suspended_of}
-use Rattle.frame_codec.specs.Spelling.{StateHasBytes}
-use Rattle.frame_codec.specs.Reading.{read_state}
+use Rattle.frame_codec.specs.Stored.{IsStored}
+use Rattle.frame_codec.specs.Forms.{read_form}
 use Rattle.instance_book.specs.declared.book.Book.{Book}
 use Rattle.instance_book.specs.declared.retold.ToldPage.{ToldPage}
-use Rattle.instance_book.specs.Makes.{HasItsStates}
+use Rattle.instance_book.specs.Makes.{HasStatesFrom, HasItsStates}
+use Rattle.instance_book.specs.Places.{given}
 use Rattle.instance_book.specs.Told.{no_rules, book_beside}
 use Rattle.journal_records.specs.Records.{Record, begins, changes}
-use Rattle.journal_books.specs.Retaking.{Told, unread, misread, told, script_for, told_by, held}
+use Rattle.journal_books.specs.Before.{States, state_at, Earlier}
+use Rattle.journal_books.specs.Retaking as books
+use Rattle.journal_books.specs.Retaking.{Told, unread, misread, told, held, states_with}
 use Rattle.journal_books.specs.Owning.{IsOwnState}
 use Rattle.book_recovery.specs.declared.remake.Claim.{Claim}
 
--- the change that a claim is of a start, and of an answer to a page
+-- the change that a claim is of a start
 abbrev pub opening_told : (script : ℕ) → Claim → Change
 opening_told script c = spec.opens (record {
   number = c.number;
@@ -35,6 +40,7 @@ opening_told script c = spec.opens (record {
   deadline = c.deadline;
 })
 
+-- of an answer to a page
 abbrev pub extension_told : (instance page : ℕ) → Value → Claim → Change
 extension_told instance page answer c = spec.extends (record {
   number = c.number;
@@ -48,20 +54,30 @@ extension_told instance page answer c = spec.extends (record {
   deadline = c.deadline;
 })
 
--- the page is the one that was claimed, with the state that its bytes are for this script, inside the transactions of that state
-pub record IsPageOf (a : Arena) (c : Claim) (p : ToldPage) : Type 0 where
+-- effects are on these cells and hold over them
+abbrev pub are_held : List Effect → List Val → Bool
+are_held es cells = are_on (length cells) es && hold_over es cells
+
+-- the page is the one that was claimed, with the state that its bytes are for this script behind that one, inside the transactions of
+-- its own
+pub record IsPageOf (a : Arena) (before : Option Suspended) (c : Claim) (p : ToldPage) : Type 0 where
   pub kind : p.kind ≡ c.kind
   pub effects : p.effects.items ≡ c.effects.items
   pub left : p.left.items ≡ c.left.items
   pub deadline : p.deadline ≡ c.deadline
-  pub state : read_state a c.state ≡ Some (suspended_of p.state)
-  pub bytes : StateHasBytes (suspended_of p.state)
+  pub state : read_form a before c.state ≡ Some (suspended_of p.state)
+  pub stored : IsStored a (suspended_of p.state)
   pub inside : p.inside.items ≡ inside_of (suspended_of p.state).frames
 
--- what is told of the state of a record's page
-abbrev pub told_in : List Named → Book → Change → Option (List ℕ) → Told
-told_in scripts b c state = told_by (script_for (book_beside scripts 0 b) c) state
+-- what is told of the state of a record's page, where records told this earlier
+abbrev pub told_in : List Named → Earlier → Book → Change → Option (List ℕ) → Told
+told_in scripts earlier b c state = books.told_in earlier (book_beside scripts 0 b) c state
 
+-- each page of the book has the state that records told
+abbrev pub HasToldStates : List Named → States → Book → Type 0
+HasToldStates scripts states b = HasStatesFrom (given (λ n. state_at n states)) scripts b
+
+-- what is told is a state, or none is due
 abbrev pub is_read : Told → Bool
 is_read misread = false
 is_read unread = true
@@ -77,14 +93,31 @@ names_told seen b c (told d) = if seen then None else held b c (inside_of d.fram
 abbrev pub IsFree : List Named → Option ℕ → Book → Type 0
 IsFree scripts number b = AreOrderly (λ n. number ≡ Some n) (book_beside scripts 0 b).instances
 
--- Whether the state could be read. The record then lands, or is passed over, as recovery decides; else the book is as it was. Where
--- the state is the one that the script leaves, and the number was seen or names nothing, each page goes on to have its own.
-pub record IsTold (scripts : List Named) (c : Change) (state : Option (List ℕ)) (seen read : Bool) (old new : Book) : Type 0 where
-  pub read_is : read ≡ is_read (told_in scripts old c state)
+-- and of its page no state was told
+abbrev pub IsUntold : Option ℕ → States → Type 0
+IsUntold number states = (n : ℕ) → number ≡ Some n → state_at n states ≡ None
+
+-- the states that are told with one record more
+abbrev pub told_states : List Named → (seen : Bool) → Change → Told → Book → States → States
+told_states scripts seen c x old states = states_with (names_told seen (book_beside scripts 0 old) c x) (number_in c) x states
+
+-- Whether the state could be read, where records told this earlier. The record then lands, or is passed over, as recovery decides; else
+-- the book is as it was. Where the number was seen, or names nothing, each page goes on to have the state that was told; and the one of
+-- its chain, where the state is the one that the script leaves.
+pub record IsToldBehind (scripts : List Named) (earlier : Earlier) (c : Change) (state : Option (List ℕ)) (seen read : Bool) (old new : Book) : Type 0 where
+  pub read_is : read ≡ is_read (told_in scripts earlier old c state)
   pub book : read ≡ true → (length : ℕ)
-      → let b = book_beside scripts length old in book_beside scripts length new ≡ redone no_rules c (names_told seen b c (told_in scripts old c state)) b
-  pub states : (seen ≡ false → IsFree scripts (number_in c) old) → IsOwnState (book_beside scripts 0 old) c (told_in scripts old c state)
+      → let b = book_beside scripts length old in
+      book_beside scripts length new ≡ redone no_rules c (names_told seen b c (told_in scripts earlier old c state)) b
+  pub told : read ≡ true → (seen ≡ false → IsFree scripts (number_in c) old × IsUntold (number_in c) earlier.states)
+      → HasToldStates scripts (told_states scripts seen c (told_in scripts earlier old c state) old earlier.states) new
+  pub states : (seen ≡ false → IsFree scripts (number_in c) old) → IsOwnState (book_beside scripts 0 old) c (told_in scripts earlier old c state)
       → HasItsStates scripts old → HasItsStates scripts new
+
+-- whatever records told earlier
+abbrev pub IsTold : List Named → Change → Option (List ℕ) → (seen read : Bool) → (old new : Book) → Type 0
+IsTold scripts c state seen read old new =
+    (earlier : Earlier) → HasToldStates scripts earlier.states old → IsToldBehind scripts earlier c state seen read old new
 
 -- the number of a record
 abbrev pub number_by : Record → Option ℕ

@@ -1,4 +1,4 @@
-//! What the records of a journal make: the book of a shelf, which carry the states of its pages.
+//! What the records of a journal make: the book of a shelf, whose pages have the states that the records tell.
 #![tactic(auto)]
 
 mod found;

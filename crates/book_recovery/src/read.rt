@@ -18,7 +18,8 @@ use web_disk::Disk;
 
 /// Makes the book that the records of a journal tell of, for a shelf of this number under this setup.
 ///
-/// It reads each record once, and runs no script: the record of a page has the page's state. Nothing is written.
+/// It reads each record once, and runs no script: the record of a page tells the page's state, by itself or as what differs from the
+/// state of the page before. Nothing is written.
 /// Where a call of the disk fails, or memory runs out, the journal is as it was.
 pub fn read_book<D: Disk>(
     alloc: Global,
@@ -34,7 +35,8 @@ pub fn read_book<D: Disk>(
     // Also of a disk that does not tell its bytes.
     ensures in_order { IfOk result (λ f. IsFoundInOrder (scripts_of setup.now) shelf f) }
     // Where each record is an own one, each page has the state of its chain.
-    ensures states { IsTrue D.tells → AreOwn (scripts_of setup.now) shelf (bodies_in D.view journal.old)
+    ensures states { IsTrue D.tells
+        → AreOwn (scripts_of setup.now) shelf (bodies_in D.view journal.old)
         → IfOk result (HasStates (scripts_of setup.now)) }
     ensures quiet { IsQuiet (view_of D.view journal.old) (view_of D.view journal.new) }
     ensures len { length_of journal.new ≡ length_of journal.old }

@@ -1,5 +1,4 @@
 ghost use Rattle.std.specs.Prelude.{◌≡◌, ◌<◌, ◌≤◌, ◌+◌, ◌^◌, length, IfOk, IfSome, OnOk, Some, true};
-ghost use Rattle.script_nodes.specs.Views.{scripts_of};
 ghost use Rattle.instance_book.specs.Makes.{HasPlaces, HasItsStates};
 ghost use Rattle.journal_records.specs.Records.{IsInGrammar};
 ghost use Rattle.journal_records.specs.Views.{logged_of};
@@ -44,15 +43,13 @@ fn number_of(logged: &Logged) -> Option<u64>
 
 impl Reader<'_> {
     ghost use Rattle.book_recovery.specs.declared.found.Found.TheVariants as found;
-    ghost use Rattle.book_recovery.specs.Reading.{IsUnderWay, IsRedoneBy, Sees, SeesNumber, is_later, is_begin, GivesWith, IsKept, IsOwnFor, IsSoundReader, IsSameReader, IsTaken, seen_by};
+    ghost use Rattle.book_recovery.specs.Reading.{scripts_for, IsUnderWay, IsRemade, Sees, SeesNumber, is_later, is_begin, GivesWith, IsKept, IsOwnBehind, IsOwnFor, IsSoundReader, IsSameReader, IsTaken, seen_by};
     ghost use Rattle.book_recovery.specs.Found.{HasStates};
     ghost use Rattle.replay_spec.specs.Recovery.{is_repeated};
-    ghost use Rattle.journal_books.specs.Owning.{IsOwnRecord};
-    ghost use Rattle.instance_book.specs.Told.{book_beside};
 
     // Whether a record may follow others: it is a change, and a start is of a script of the setup.
     fn is_later(&self, logged: &Logged) -> bool
-        ensures { result ≡ is_later (length (scripts_of self.now.setup.now)) (logged_of logged.now) }
+        ensures { result ≡ is_later (length (scripts_for self.now)) (logged_of logged.now) }
     {
         match logged {
             Logged::Begin { .. } => false,
@@ -88,13 +85,14 @@ impl Reader<'_> {
     // The book with one record more, which is passed over where its number was seen; none where its state can't be read.
     fn redo(&mut self, book: Book, logged: Logged) -> Result<Option<Book>, AllocError>
         requires fits { IsInGrammar (logged_of logged) }
-        requires kept { IsUnderWay (scripts_of self.old.setup.now) self.old.shelf self.old.seen book }
-        ensures made { IfOk result (IsRedoneBy (scripts_of self.old.setup.now) self.old.seen (logged_of logged) book) }
-        ensures placed { IfOk result (λ found. IfSome found (HasPlaces (scripts_of self.old.setup.now))) }
-        ensures states { is_later (length (scripts_of self.old.setup.now)) (logged_of logged) ≡ true
-            → IsOwnRecord (book_beside (scripts_of self.old.setup.now) 0 book) (Some (logged_of logged))
-            → HasItsStates (scripts_of self.old.setup.now) book
-            → IfOk result (λ found. IfSome found (HasItsStates (scripts_of self.old.setup.now))) }
+        requires kept { IsUnderWay (scripts_for self.old) self.old.shelf self.old.seen book }
+        ensures made { IfOk result
+            (IsRemade (scripts_for self.old) self.old.seen (logged_of logged) book) }
+        ensures placed { IfOk result (λ found. IfSome found (HasPlaces (scripts_for self.old))) }
+        ensures states { is_later (length (scripts_for self.old)) (logged_of logged) ≡ true
+            → IsOwnBehind (scripts_for self.old) self.old.seen book (Some (logged_of logged))
+            → HasItsStates (scripts_for self.old) book
+            → IfOk result (λ found. IfSome found (HasItsStates (scripts_for self.old))) }
         ensures sees { OnOk result (Sees (logged_of logged) self.old.seen self.new.seen) }
         ensures same { IsSameReader self.old self.new }
     {
@@ -109,13 +107,13 @@ impl Reader<'_> {
 
     // What a later record makes.
     fn later(&mut self, place: u64, book: Book, body: &[u8]) -> Found
-        requires kept { IsUnderWay (scripts_of self.old.setup.now) self.old.shelf self.old.seen book }
+        requires kept { IsUnderWay (scripts_for self.old) self.old.shelf self.old.seen book }
         requires room { place + 6 + length body.now ≤ 2 ^ 30 }
-        ensures gives { GivesWith (scripts_of self.old.setup.now) self.old.shelf place body.now
+        ensures gives { GivesWith (scripts_for self.old) self.old.shelf place body.now
             (found.Made book) result self.old.seen self.new.seen }
-        ensures owns { IsOwnFor (scripts_of self.old.setup.now) (found.Made book) body.now
-            → HasItsStates (scripts_of self.old.setup.now) book → HasStates (scripts_of self.old.setup.now) result }
-        ensures kept { IsKept (scripts_of self.old.setup.now) self.old.shelf self.new.seen result }
+        ensures owns { IsOwnFor (scripts_for self.old) self.old.seen (found.Made book) body.now
+            → HasItsStates (scripts_for self.old) book → HasStates (scripts_for self.old) result }
+        ensures kept { IsKept (scripts_for self.old) self.old.shelf self.new.seen result }
         ensures same { IsSameReader self.old self.new }
     {
         records_are_exact();
@@ -136,11 +134,11 @@ impl Reader<'_> {
 
     // What the first record makes.
     fn first(&self, place: u64, body: &[u8]) -> Found
-        ensures gives { GivesWith (scripts_of self.now.setup.now) self.now.shelf place body.now
+        ensures gives { GivesWith (scripts_for self.now) self.now.shelf place body.now
             found.Nothing result self.now.seen self.now.seen }
-        ensures owns { HasStates (scripts_of self.now.setup.now) result }
-        ensures kept { IsKept (scripts_of self.now.setup.now) self.now.shelf self.now.seen found.Nothing
-            → IsKept (scripts_of self.now.setup.now) self.now.shelf self.now.seen result }
+        ensures owns { HasStates (scripts_for self.now) result }
+        ensures kept { IsKept (scripts_for self.now) self.now.shelf self.now.seen found.Nothing
+            → IsKept (scripts_for self.now) self.now.shelf self.now.seen result }
     {
         only_its_begin_begins();
         let logged = match decode(self.alloc, body) {

@@ -1,22 +1,26 @@
-ghost use Rattle.std.specs.Prelude.{◌≡◌, ◌<◌, ◌^◌, ◌&&◌, List, IfOk, OnOk, map, length, Some, None, true, false};
+ghost use Rattle.std.specs.Prelude.{◌≡◌, ◌<◌, ◌^◌, List, IfOk, IfSome, OnOk, map, Some, None, true, false};
+ghost use Rattle.stored_states.specs.Views.{suspended_of};
+ghost use Rattle.frame_codec.specs.Stored.{IsStored};
+ghost use Rattle.frame_codec.specs.Forms.{IsStoredBefore};
+ghost use Rattle.frame_codec.specs.FormViews.{before_of, ReadsForm};
 ghost use Rattle.script_nodes.specs.Setup.{Named};
 ghost use Rattle.script_nodes.specs.Views.{scripts_of};
 ghost use Rattle.instance_cells.specs.Views.{effect_of};
 ghost use Rattle.instance_book.specs.Makes.{HasPlaces, KeepsPlaces};
 ghost use Rattle.replay_spec.specs.Book.{ends, finishes};
-ghost use Rattle.replay_spec.specs.Recovery.{are_on, hold_over};
 ghost use Rattle.journal_records.specs.Records.{IsInGrammar, PageFits, EndingFits, FinishFits};
 ghost use Rattle.journal_records.specs.Reading.{page_change};
 ghost use Rattle.journal_records.specs.Views.{page_of, ending_of, finish_of, logged_of};
-ghost use Rattle.book_recovery.specs.Remaking.{IsMadeBy, IsTold, opening_told, extension_told, number_by};
+ghost use Rattle.book_recovery.specs.Remaking.{IsMadeBy, IsTold, opening_told, extension_told, are_held, number_by};
 
-use frame_codec::decode;
+use frame_codec::{decode_form, forms_are_exact};
 use instance_book::{Book, ToldPage};
 use instance_cells::{Cells, Effect};
 use journal_records::{Logged, LoggedEnded, LoggedFinish, LoggedPage, Origin};
 use script_nodes::{Script, SendKind, Setup};
 use script_value::{Bytes, TxName, Value};
 use std::alloc::{AllocError, Global};
+use stored_states::Suspended;
 
 /// What the record of a page tells of it, apart from where its segment began.
 #[derive(Drop)]
@@ -28,24 +32,50 @@ pub struct Claim {
     pub left: Vec<TxName>,
     /// From this tick on it can't be answered, in seconds.
     pub deadline: u64,
-    /// The bytes of its state, which may be of no script.
+    /// The bytes of its state, which may be none that the script can be in.
     pub state: Bytes,
 }
 
+// The state that these bytes spell in the form that is due; it fits the script, and has a spelling.
+fn state_in(
+    alloc: Global,
+    script: &Script,
+    before: Option<&Suspended>,
+    bytes: &[u8],
+) -> Result<Option<Suspended>, AllocError>
+    requires { IsStoredBefore script.now (before_of before) }
+    ensures read { IfOk result (ReadsForm script.now before.entry bytes.now) }
+    ensures stored { IfOk result (λ found.
+        IfSome found (λ d. IsStored script.now (suspended_of d))) }
+{
+    forms_are_exact();
+    decode_form(alloc, script, before, bytes)
+}
+
 impl Claim {
-    ghost use Rattle.std.specs.Prelude.{IfSome, IfNone};
+    ghost use Rattle.std.specs.Prelude.{IfNone};
     ghost use Rattle.script_nodes.specs.Arena.{script_of};
-    ghost use Rattle.frame_codec.specs.Reading.{read_state};
+    ghost use Rattle.frame_codec.specs.Forms.{read_form};
     ghost use Rattle.journal_books.specs.Retaking.{arena_of};
     ghost use Rattle.book_recovery.specs.Remaking.{IsPageOf};
 
-    // The page that was claimed, where its bytes are a state of this script.
-    fn page(self, alloc: Global, script: &Script) -> Result<Option<ToldPage>, AllocError>
-        ensures some { IfOk result (λ page. IfSome page (IsPageOf (arena_of (script_of script.now)) self)) }
-        ensures none { IfOk result (λ page. IfNone page (read_state (arena_of (script_of script.now)) self.state ≡ None)) }
+    // The page that was claimed, where its bytes are a state of this script behind the one that it is written behind.
+    fn page(
+        self,
+        alloc: Global,
+        script: &Script,
+        before: Option<&Suspended>,
+    ) -> Result<Option<ToldPage>, AllocError>
+        requires { IsStoredBefore (arena_of (script_of script.now)) (before_of before) }
+        ensures some { IfOk result (λ page. IfSome page
+            (IsPageOf (arena_of (script_of script.now)) (before_of before.entry) self)) }
+        ensures none { IfOk result (λ page. IfNone page
+            (read_form (arena_of (script_of script.now)) (before_of before.entry) self.state
+            ≡ None)) }
     {
+        // A script's root tells that its nodes are its tree's.
         let _root = script.root();
-        let Some(state) = decode(alloc, script, self.state.as_slice())? else {
+        let Some(state) = state_in(alloc, script, before, self.state.as_slice())? else {
             return Ok(None);
         };
         Ok(Some(ToldPage {
@@ -61,7 +91,7 @@ impl Claim {
 
 // Whether effects are on these cells and hold over them.
 fn are_held(cells: &Cells, effects: &[Effect]) -> bool
-    ensures { result ≡ (are_on (length cells.now) (map effect_of effects.now) && hold_over (map effect_of effects.now) cells.now) }
+    ensures { result ≡ are_held (map effect_of effects.now) cells.now }
 {
     if !cells.are_on(effects) {
         return false;
@@ -82,7 +112,8 @@ fn remake_opening(
 ) -> Result<bool, AllocError>
     requires number { claim.number < 2 ^ 62 }
     requires placed { HasPlaces (scripts_of setup.now) book.old }
-    ensures told { IfOk result (λ read. IsTold (scripts_of setup.now) (opening_told script claim) (Some claim.state) seen read book.old book.new) }
+    ensures told { IfOk result (λ read. IsTold (scripts_of setup.now)
+        (opening_told script claim) (Some claim.state) seen read book.old book.new) }
     ensures placed { OnOk result (HasPlaces (scripts_of setup.now) book.new) }
 {
     let number = claim.number;
@@ -94,7 +125,7 @@ fn remake_opening(
         book.pass_over(number);
         return Ok(true);
     };
-    let Some(page) = claim.page(alloc, &named.script)? else {
+    let Some(page) = claim.page(alloc, &named.script, None)? else {
         return Ok(false);
     };
     if seen {
@@ -124,7 +155,9 @@ fn remake_extension(
 ) -> Result<bool, AllocError>
     requires number { claim.number < 2 ^ 62 }
     requires placed { HasPlaces (scripts_of setup.now) book.old }
-    ensures told { IfOk result (λ read. IsTold (scripts_of setup.now) (extension_told instance answered answer claim) (Some claim.state) seen read book.old book.new) }
+    ensures told { IfOk result (λ read. IsTold (scripts_of setup.now)
+        (extension_told instance answered answer claim) (Some claim.state) seen read
+        book.old book.new) }
     ensures placed { OnOk result (HasPlaces (scripts_of setup.now) book.new) }
 {
     let number = claim.number;
@@ -145,7 +178,7 @@ fn remake_extension(
         book.pass_over(number);
         return Ok(true);
     };
-    let Some(page) = claim.page(alloc, &named.script)? else {
+    let Some(page) = claim.page(alloc, &named.script, ticket.behind())? else {
         return Ok(false);
     };
     if seen {
@@ -170,7 +203,8 @@ fn remake_page(
 ) -> Result<bool, AllocError>
     requires fits { PageFits (page_of page) }
     requires placed { HasPlaces (scripts_of setup.now) book.old }
-    ensures told { IfOk result (λ read. IsTold (scripts_of setup.now) (page_change (page_of page)) (Some page.state) seen read book.old book.new) }
+    ensures told { IfOk result (λ read. IsTold (scripts_of setup.now)
+        (page_change (page_of page)) (Some page.state) seen read book.old book.new) }
     ensures placed { OnOk result (HasPlaces (scripts_of setup.now) book.new) }
 {
     let LoggedPage {
@@ -217,7 +251,8 @@ pub fn remake(
     requires fits { IsInGrammar (logged_of logged) }
     requires unnumbered { number_by (logged_of logged) ≡ None → seen ≡ false }
     requires placed { HasPlaces (scripts_of setup.now) book.old }
-    ensures made { IfOk result (λ read. IsMadeBy (scripts_of setup.now) (logged_of logged) seen read book.old book.new) }
+    ensures made { IfOk result (λ read.
+        IsMadeBy (scripts_of setup.now) (logged_of logged) seen read book.old book.new) }
     ensures placed { OnOk result (HasPlaces (scripts_of setup.now) book.new) }
 {
     match logged {
@@ -249,7 +284,8 @@ fn remake_ending(
     seen: bool,
 ) -> Result<(), AllocError>
     requires { EndingFits (ending_of ended) }
-    ensures told { OnOk result ((scripts : List Named) → IsTold scripts (ends (ending_of ended)) None seen true book.old book.new) }
+    ensures told { OnOk result ((scripts : List Named)
+        → IsTold scripts (ends (ending_of ended)) None seen true book.old book.new) }
     ensures placed { KeepsPlaces book.old book.new }
 {
     let LoggedEnded {
@@ -270,7 +306,8 @@ fn remake_ending(
 // A page was answered with a last page, and its instance is gone.
 fn remake_finish(alloc: Global, book: &mut Book, finish: LoggedFinish, seen: bool)
     requires { FinishFits (finish_of finish) }
-    ensures told { (scripts : List Named) → IsTold scripts (finishes (finish_of finish)) None seen true book.old book.new }
+    ensures told { (scripts : List Named)
+        → IsTold scripts (finishes (finish_of finish)) None seen true book.old book.new }
     ensures placed { KeepsPlaces book.old book.new }
 {
     let LoggedFinish {

@@ -6,8 +6,20 @@ use Rattle.book_recovery.specs.Remaking.{IsMadeBy, number_by}
 use Rattle.book_recovery.proofs.Retold.{sweep_new}
 use Rattle.book_recovery.proofs.remake.remake.Goals as goal
 
+pub returns-in_ok-remake_ending-in-Ended-clause-made : goal.returns-in_ok-remake_ending-in-Ended-clause-made
+returns-in_ok-remake_ending-in-Ended-clause-made c =
+    let scripts = scripts_of c.args.setup.now in
+    subst (λ (l : Logged). IsMadeBy scripts (logged_of l) c.args.seen true c.args.book.now c.remake_ending.new.book) (sym c.in-Ended.is)
+    (c.in_ok-remake_ending-in-Ended.ensures.told scripts)
+
 pub returns-in_ok-remake_ending-in-Ended-clause-placed : goal.returns-in_ok-remake_ending-in-Ended-clause-placed
 returns-in_ok-remake_ending-in-Ended-clause-placed c = c.remake_ending.ensures.placed (scripts_of c.args.setup.now) c.requires.placed
+
+pub returns-in-Finish-clause-made : goal.returns-in-Finish-clause-made
+returns-in-Finish-clause-made c =
+    let scripts = scripts_of c.args.setup.now in
+    subst (λ (l : Logged). IsMadeBy scripts (logged_of l) c.args.seen true c.args.book.now c.remake_finish.new.book) (sym c.in-Finish.is)
+    (c.remake_finish.ensures.told scripts)
 
 pub returns-in-Finish-clause-placed : goal.returns-in-Finish-clause-placed
 returns-in-Finish-clause-placed c = c.remake_finish.ensures.placed (scripts_of c.args.setup.now) c.requires.placed

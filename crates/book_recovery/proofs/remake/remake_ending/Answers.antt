@@ -6,7 +6,7 @@ use Rattle.book_recovery.proofs.remake.remake_ending.Goals as goal
 
 pub returns-then-seen-clause-told : goal.returns-then-seen-clause-told
 returns-then-seen-clause-told c scripts =
-    plain_seen scripts (ends (ending_of c.args.ended)) c.args.seen c.args.ended.ticket c.args.book.now c.pass_over.new.self refl refl c.if-seen.true c.pass_over.ensures.book
+    plain_seen scripts (ends (ending_of c.args.ended)) c.args.seen c.args.ended.ticket c.args.book.now c.pass_over.new.self refl (λ earlier. refl) c.if-seen.true c.pass_over.ensures.book
     c.pass_over.ensures.states
 
 pub returns-clause-told : goal.returns-clause-told

@@ -2,12 +2,10 @@ use Rattle.std.proofs.Common.{◌≡◌, ◌∙◌, sym, subst, Option, Some, If
 use Rattle.script_nodes.specs.Views.{scripts_of}
 use Rattle.instance_book.specs.declared.book.Book.{Book}
 use Rattle.instance_book.specs.Makes.{HasPlaces, HasItsStates}
-use Rattle.instance_book.specs.Told.{book_beside}
 use Rattle.journal_records.specs.Views.{logged_of}
 use Rattle.journal_records.specs.Reading.{read_record}
-use Rattle.journal_books.specs.Owning.{IsOwnRecord}
-use Rattle.book_recovery.specs.Reading.{is_later, IsRedoneBy}
-use Rattle.book_recovery.proofs.Made.{later_made, later_kept}
+use Rattle.book_recovery.specs.Reading.{is_later, IsRemade, IsOwnBehind}
+use Rattle.book_recovery.proofs.Made.{later_made, later_damaged, later_kept}
 use Rattle.book_recovery.proofs.reader.Reader.later.Goals as goal
 
 pub returns-in-Ok-Some-redo-clause-gives : goal.returns-in-Ok-Some-redo-clause-gives
@@ -19,7 +17,18 @@ returns-in-Ok-Some-redo-clause-gives c m is =
     let read : read_record c.args.body.now ≡ Some r = sym (search (rules, w.ensures.read, w.field-0-is, w.logged-is)) in
     let later : is_later (length scripts) r ≡ true = sym c.is_later.ensures ∙ c.if-not-is_later.false in
     later_made scripts c.args.self.now.shelf c.args.place c.args.body.now r read later c.args.self.now.seen c.redo.new.self.seen c.args.book v.book
-    (subst (λ (o : Option Book). IsRedoneBy scripts c.args.self.now.seen r c.args.book o) v.field-0-is v.ensures.made) v.ensures.sees m is
+    (subst (λ (o : Option Book). IsRemade scripts c.args.self.now.seen r c.args.book o) v.field-0-is v.ensures.made) v.ensures.sees m is
+
+pub returns-in-Ok-None-redo-clause-gives : goal.returns-in-Ok-None-redo-clause-gives
+returns-in-Ok-None-redo-clause-gives c m is =
+    let w = c.in-Ok-Some in
+    let v = c.in-Ok-None-redo in
+    let scripts = scripts_of c.args.self.now.setup.now in
+    let r = logged_of w.logged in
+    let read : read_record c.args.body.now ≡ Some r = sym (search (rules, w.ensures.read, w.field-0-is, w.logged-is)) in
+    let later : is_later (length scripts) r ≡ true = sym c.is_later.ensures ∙ c.if-not-is_later.false in
+    later_damaged scripts c.args.self.now.shelf c.args.place c.args.body.now r read later c.args.self.now.seen c.args.book
+    (subst (λ (o : Option Book). IsRemade scripts c.args.self.now.seen r c.args.book o) v.field-0-is v.ensures.made) m is
 
 pub returns-in-Ok-Some-redo-clause-kept : goal.returns-in-Ok-Some-redo-clause-kept
 returns-in-Ok-Some-redo-clause-kept c =
@@ -29,7 +38,7 @@ returns-in-Ok-Some-redo-clause-kept c =
     let r = logged_of w.logged in
     let later : is_later (length scripts) r ≡ true = sym c.is_later.ensures ∙ c.if-not-is_later.false in
     later_kept scripts c.args.self.now.shelf r later c.args.self.now.seen c.redo.new.self.seen c.args.book v.book c.requires.kept
-    (subst (λ (o : Option Book). IsRedoneBy scripts c.args.self.now.seen r c.args.book o) v.field-0-is v.ensures.made) v.ensures.sees
+    (subst (λ (o : Option Book). IsRemade scripts c.args.self.now.seen r c.args.book o) v.field-0-is v.ensures.made) v.ensures.sees
     (subst (λ (o : Option Book). IfSome o (HasPlaces scripts)) v.field-0-is v.ensures.placed)
 
 pub returns-in-Ok-Some-redo-clause-owns : goal.returns-in-Ok-Some-redo-clause-owns
@@ -40,4 +49,4 @@ returns-in-Ok-Some-redo-clause-owns c own states =
     let r = logged_of w.logged in
     let read : read_record c.args.body.now ≡ Some r = sym (search (rules, w.ensures.read, w.field-0-is, w.logged-is)) in
     let later : is_later (length scripts) r ≡ true = sym c.is_later.ensures ∙ c.if-not-is_later.false in
-    subst (λ (o : Option Book). IfSome o (HasItsStates scripts)) v.field-0-is (v.ensures.states later (subst (IsOwnRecord (book_beside scripts 0 c.args.book)) read own) states)
+    subst (λ (o : Option Book). IfSome o (HasItsStates scripts)) v.field-0-is (v.ensures.states later (subst (IsOwnBehind scripts c.args.self.now.seen c.args.book) read own) states)

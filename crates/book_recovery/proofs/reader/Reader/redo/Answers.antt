@@ -1,67 +1,77 @@
-use Rattle.std.proofs.Common.{◌≡◌, ◌∙◌, ◌≤◌, ◌^◌, ap, subst, arith, Bool, true, Option, ℕ, List}
+use Rattle.std.proofs.Common.{◌≡◌, ◌∙◌, ◌≤◌, ◌^◌, ap, subst, arith, Bool, true, false, Option, ℕ, List}
 use Rattle.script_nodes.specs.Setup.{Named}
 use Rattle.script_nodes.specs.Views.{scripts_of}
 use Rattle.script_nodes.specs.declared.setup.Setup.{Setup}
+use Rattle.journal_records.specs.Records.{Record}
 use Rattle.journal_records.specs.Views.{logged_of}
-use Rattle.replay_spec.specs.Book.{Book}
+use Rattle.replay_spec.specs.Book as spec
 use Rattle.replay_spec.specs.Recovery.{is_repeated}
+use Rattle.instance_book.specs.Places.{own}
 use Rattle.instance_book.specs.Makes.{HasPlaces}
+use Rattle.instance_book.specs.declared.book.Book.{Book}
+use Rattle.book_recovery.specs.declared.reader.Reader.{Reader}
 use Rattle.book_recovery.specs.Remaking.{IsMadeBy, number_by}
-use Rattle.book_recovery.specs.Reading.{seen_by}
-use Rattle.book_recovery.proofs.Made.{low_logged, redone_some, states_then}
+use Rattle.book_recovery.specs.Reading.{seen_by, scripts_for, IsSameReader}
+use Rattle.book_recovery.proofs.Made.{low_logged, redone_none, redone_some, states_then}
 use Rattle.book_recovery.proofs.reader.Reader.redo.Goals as goal
+
+same_scripts : (old new : Reader) → IsSameReader old new → scripts_for new ≡ scripts_for old
+same_scripts old new same = ap (λ (u : Setup). scripts_of u) same.setup
+
+-- it was made under the scripts that the reader began with, and its state could be read, or not
+made_under : (old new : Reader) (r : Record) (seen told read : Bool) (b c : Book) → IsSameReader old new → told ≡ read
+    → IsMadeBy (scripts_for new) r seen told b c → IsMadeBy (scripts_for old) r seen read b c
+made_under old new r seen told read b c same is made =
+    subst (λ (t : Bool). IsMadeBy (scripts_for old) r seen t b c) is
+    (subst (λ (ss : List Named). IsMadeBy ss r seen told b c) (same_scripts old new same) made)
+
+-- whether the record's number was seen
+seen_so : (number : Option ℕ) (r : Record) (seen : Bool) (ns : List ℕ) → number ≡ number_by r → seen ≡ is_repeated number ns → seen ≡ is_repeated (number_by r) ns
+seen_so number r seen ns is so = so ∙ ap (λ (o : Option ℕ). is_repeated o ns) is
 
 pub remake-requires-clause-unnumbered : goal.remake-requires-clause-unnumbered
 remake-requires-clause-unnumbered c none =
-    let r = logged_of c.args.logged in
-    let seen_is : c.in_ok-seen.seen ≡ is_repeated (number_by r) (seen_by c.args.self.now.seen) =
-    c.in_ok-seen.ensures.seen ∙ ap (λ (o : Option ℕ). is_repeated o (seen_by c.args.self.now.seen)) c.number_of.ensures.number in
-    seen_is ∙ ap (λ (o : Option ℕ). is_repeated o (seen_by c.args.self.now.seen)) none
+    let ns = seen_by c.args.self.now.seen in
+    seen_so c.number_of.result (logged_of c.args.logged) c.in_ok-seen.seen ns c.number_of.ensures.number c.in_ok-seen.ensures.seen
+    ∙ ap (λ (o : Option ℕ). is_repeated o ns) none
 
 pub reopen-requires : goal.reopen-requires
 reopen-requires c =
     let r = logged_of c.args.logged in
-    let scripts = scripts_of c.args.self.now.setup.now in
-    let same : scripts_of c.sees.new.self.setup.now ≡ scripts = ap (λ (u : Setup). scripts_of u) c.in_ok-seen.ensures.same.setup in
-    let given : IsMadeBy scripts r c.in_ok-seen.seen c.in_ok-remake.field-0 c.args.book c.remake.new.book =
-    subst (λ (ss : List Named). IsMadeBy ss r c.in_ok-seen.seen c.in_ok-remake.field-0 c.args.book c.remake.new.book) same c.in_ok-remake.ensures.made in
-    let made : IsMadeBy scripts r c.in_ok-seen.seen true c.args.book c.remake.new.book =
-    subst (λ (t : Bool). IsMadeBy scripts r c.in_ok-seen.seen t c.args.book c.remake.new.book) c.if-not-branch.false given in
+    let old = c.args.self.now in
     let b = c.args.book in
-    let drawn : b.drawn ≡ b.logged = ap (λ (x : Book). x.drawn) c.requires.kept.orderly.again in
+    let made = made_under old c.sees.new.self r c.in_ok-seen.seen c.in_ok-remake.field-0 true b c.remake.new.book c.in_ok-seen.ensures.same c.if-not-branch.false c.in_ok-remake.ensures.made in
+    let drawn : b.drawn ≡ b.logged = ap (λ (x : spec.Book). x.drawn) c.requires.kept.orderly.again in
     let most = b.numbers in
     let low : b.logged ≤ 2 ^ 62 = omega (arith, drawn, most) in
-    low_logged scripts r c.in_ok-seen.seen b c.remake.new.book c.requires.fits made low
+    low_logged (scripts_for old) old.seen r c.in_ok-seen.seen b c.remake.new.book c.requires.kept.tells c.requires.fits made low
+
+pub returns-then-not-branch-clause-made : goal.returns-then-not-branch-clause-made
+returns-then-not-branch-clause-made c =
+    let r = logged_of c.args.logged in
+    let old = c.args.self.now in
+    let made = made_under old c.sees.new.self r c.in_ok-seen.seen c.in_ok-remake.field-0 false c.args.book c.remake.new.book c.in_ok-seen.ensures.same c.if-not-branch.true c.in_ok-remake.ensures.made in
+    redone_none (scripts_for old) old.seen r c.in_ok-seen.seen c.args.book c.remake.new.book made
 
 pub returns-clause-made : goal.returns-clause-made
 returns-clause-made c =
     let r = logged_of c.args.logged in
-    let seen_is : c.in_ok-seen.seen ≡ is_repeated (number_by r) (seen_by c.args.self.now.seen) =
-    c.in_ok-seen.ensures.seen ∙ ap (λ (o : Option ℕ). is_repeated o (seen_by c.args.self.now.seen)) c.number_of.ensures.number in
-    let scripts = scripts_of c.args.self.now.setup.now in
-    let same : scripts_of c.sees.new.self.setup.now ≡ scripts = ap (λ (u : Setup). scripts_of u) c.in_ok-seen.ensures.same.setup in
-    let given : IsMadeBy scripts r c.in_ok-seen.seen c.in_ok-remake.field-0 c.args.book c.remake.new.book =
-    subst (λ (ss : List Named). IsMadeBy ss r c.in_ok-seen.seen c.in_ok-remake.field-0 c.args.book c.remake.new.book) same c.in_ok-remake.ensures.made in
-    let made : IsMadeBy scripts r c.in_ok-seen.seen true c.args.book c.remake.new.book =
-    subst (λ (t : Bool). IsMadeBy scripts r c.in_ok-seen.seen t c.args.book c.remake.new.book) c.if-not-branch.false given in
-    redone_some scripts c.args.self.now.seen r c.in_ok-seen.seen c.args.book c.remake.new.book c.reopen.new.self seen_is made c.reopen.ensures.book
+    let old = c.args.self.now in
+    let seen_is = seen_so c.number_of.result r c.in_ok-seen.seen (seen_by old.seen) c.number_of.ensures.number c.in_ok-seen.ensures.seen in
+    let made = made_under old c.sees.new.self r c.in_ok-seen.seen c.in_ok-remake.field-0 true c.args.book c.remake.new.book c.in_ok-seen.ensures.same c.if-not-branch.false c.in_ok-remake.ensures.made in
+    redone_some (scripts_for old) old.shelf old.seen r c.in_ok-seen.seen c.args.book c.remake.new.book c.reopen.new.self c.requires.kept seen_is made c.reopen.ensures.book c.reopen.ensures.states
 
 pub returns-clause-placed : goal.returns-clause-placed
 returns-clause-placed c =
-    let scripts = scripts_of c.args.self.now.setup.now in
-    let same : scripts_of c.sees.new.self.setup.now ≡ scripts = ap (λ (u : Setup). scripts_of u) c.in_ok-seen.ensures.same.setup in
-    c.reopen.ensures.placed scripts (subst (λ (ss : List Named). HasPlaces ss c.remake.new.book) same c.in_ok-remake.ensures.placed)
+    let old = c.args.self.now in
+    let same = same_scripts old c.sees.new.self c.in_ok-seen.ensures.same in
+    c.reopen.ensures.placed (scripts_for old) (subst (λ (ss : List Named). HasPlaces ss c.remake.new.book) same c.in_ok-remake.ensures.placed)
 
 pub returns-clause-states : goal.returns-clause-states
-returns-clause-states c later own states =
+returns-clause-states c later left states =
     let r = logged_of c.args.logged in
-    let seen_is : c.in_ok-seen.seen ≡ is_repeated (number_by r) (seen_by c.args.self.now.seen) =
-    c.in_ok-seen.ensures.seen ∙ ap (λ (o : Option ℕ). is_repeated o (seen_by c.args.self.now.seen)) c.number_of.ensures.number in
-    let scripts = scripts_of c.args.self.now.setup.now in
-    let same : scripts_of c.sees.new.self.setup.now ≡ scripts = ap (λ (u : Setup). scripts_of u) c.in_ok-seen.ensures.same.setup in
-    let given : IsMadeBy scripts r c.in_ok-seen.seen c.in_ok-remake.field-0 c.args.book c.remake.new.book =
-    subst (λ (ss : List Named). IsMadeBy ss r c.in_ok-seen.seen c.in_ok-remake.field-0 c.args.book c.remake.new.book) same c.in_ok-remake.ensures.made in
-    let made : IsMadeBy scripts r c.in_ok-seen.seen true c.args.book c.remake.new.book =
-    subst (λ (t : Bool). IsMadeBy scripts r c.in_ok-seen.seen t c.args.book c.remake.new.book) c.if-not-branch.false given in
-    c.reopen.ensures.states scripts
-    (states_then scripts c.args.self.now.shelf c.args.self.now.seen r c.in_ok-seen.seen true c.args.book c.remake.new.book c.requires.kept seen_is made own states later)
+    let old = c.args.self.now in
+    let seen_is = seen_so c.number_of.result r c.in_ok-seen.seen (seen_by old.seen) c.number_of.ensures.number c.in_ok-seen.ensures.seen in
+    let made = made_under old c.sees.new.self r c.in_ok-seen.seen c.in_ok-remake.field-0 true c.args.book c.remake.new.book c.in_ok-seen.ensures.same c.if-not-branch.false c.in_ok-remake.ensures.made in
+    c.reopen.ensures.states (own tt) (scripts_for old)
+    (states_then (scripts_for old) old.shelf old.seen r c.in_ok-seen.seen true c.args.book c.remake.new.book c.requires.kept seen_is made left states later)
