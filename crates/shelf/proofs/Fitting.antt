@@ -8,6 +8,7 @@ use Rattle.replay_spec.proofs.Admitted.{start_is_no_page}
 use Rattle.instance_book.specs.declared.ticket.Ticket.{Ticket}
 use Rattle.instance_book.specs.Fits.{FitsAs, FitsIfStart}
 use Rattle.instance_book.specs.Prepares.{rules_with, HasItsScript, IsCarriedOut}
+use Rattle.instance_book.specs.Places as sources
 use Rattle.instance_book.specs.Makes.{StaysSame, KeepsStates}
 use Rattle.instance_book.specs.Swept.{cells_in, cells_at}
 use Rattle.instance_book.specs.declared.prepared.Prepared.{Prepared}
@@ -108,6 +109,7 @@ landed_at ss old new t p same h =
         decision = h.itself.decision;
         lands = λ scripts journal down has. subst (λ (b : Book). IsCarriedOut scripts (rules_with 0 0 0 0) b (decision_of p) p) (sym (same scripts journal down)) (h.itself.lands scripts journal down has);
       };
+      deadline = h.deadline;
       state = h.state;
       held = held_same old new t (target_of t.target) (segment_of h.segment).effects same h.held;
       own = subst (λ (b : Book). KeepsStateIfFits b t h.segment) there h.own;
@@ -117,6 +119,6 @@ landed_at ss old new t p same h =
 pub own_at : {D N : Type 0} (view : D → View) (tells : Bool) (ss : List Named) (s : Shelf D N) (book : rust.Book) → book_in ss (record s { book = book }) ≡ book_in ss s → KeepsStates s.book book
     → IsOwnShelf view tells ss s → IsOwnShelf view tells ss (record s { book = book })
 own_at view tells ss s book is states own = record {
-  states = states ss own.states;
+  states = states (sources.own tt) ss own.states;
   own = λ told. subst (λ (b : Book). StandsOwn (rules_of ss s.rules) ss s.rules.number (view s.journal.disk) b) (sym is) (own.own told);
 }

@@ -1,5 +1,5 @@
 -- A shelf in order stays so where a change lands that would be taken in again, whatever its page's state is.
-use Rattle.std.proofs.Common.{◌≡◌, ◌∙◌, ap, sym, subst, refl, ℕ, ◌+◌, ◌≤◌, ◌^◌, ◌++◌, ◌∷◌, [], Bool, IsTrue, false, List, length, Option, Some, None, option_map, Contains, arith}
+use Rattle.std.proofs.Common.{◌≡◌, ◌∙◌, ap, sym, subst, refl, ℕ, ◌+◌, ◌≤◌, ◌^◌, ◌++◌, ◌∷◌, [], Bool, IsTrue, false, List, length, Option, Some, None, option_map, Contains, inl, arith}
 use Rattle.script_value.specs.declared.outcome.TxName.{TxName}
 use Rattle.script_nodes.specs.Setup.{Named}
 use Rattle.web_disk.specs.View.{View, LeavesOnly}
@@ -13,19 +13,24 @@ use Rattle.replay_spec.specs.Book.{Change, opens, extends, ends, finishes, sweep
 use Rattle.replay_spec.specs.Change.{clock_by, land}
 use Rattle.replay_spec.specs.Step.{kept, recovered}
 use Rattle.replay_spec.specs.Recovery.{number_in}
-use Rattle.replay_spec.specs.Invariant.{IsOf, IsOrderlyChange}
+use Rattle.replay_spec.specs.Invariant.{Among, IsOf, IsOrderlyChange}
 use Rattle.replay_spec.proofs.Stand.{among_of}
 use Rattle.replay_spec.proofs.Orderly.{published, failed}
 use Rattle.journal_records.specs.Records.{changes, IsInGrammar}
-use Rattle.journal_books.specs.Retaking.{rules_for, script_for, told_by}
-use Rattle.journal_books.specs.Keeping.{HasWholeScripts, IsTaken, IsOut, without_number, landed_in, Keeps, body_by}
+use Rattle.journal_records.specs.Laws.{AreRecordsExact}
+use Rattle.journal_books.specs.Before.{States, Made}
+use Rattle.journal_books.specs.Making as make
+use Rattle.journal_books.specs.Retaking.{Told, told_in, with_state, rules_for}
+use Rattle.journal_books.specs.Keeping.{HasWholeScripts, IsTakenAs, IsTaken, IsOut, without_number, landed_in, Keeps, body_by}
 use Rattle.journal_books.specs.Standing.{Between, HasRoom, if_kept, Throughout}
 use Rattle.journal_books.specs.Disks.{IsFit}
 use Rattle.journal_books.specs.Spelling.{IsTickInRange, IsInRange}
 use Rattle.journal_books.specs.Laws.{LandingsAreKept, LandingsStandBetween}
 use Rattle.journal_books.proofs.Fitting.{whole_by}
+use Rattle.journal_books.proofs.Taking.{IsNew}
 use Rattle.journal_books.proofs.Standings.{settled_stands, appended, left_standing}
 use Rattle.instance_book.specs.Makes.{HasPlaces}
+use Rattle.book_recovery.specs.Remaking.{HasToldStates}
 use Rattle.shelf.specs.declared.doubt.Doubt as doubt_type
 use Rattle.shelf.specs.declared.shelf.Shelf.{Shelf}
 use Rattle.shelf.specs.Views.{doubt_of, book_in, IsInOrder}
@@ -33,6 +38,7 @@ use Rattle.shelf.specs.Events.{HasMoments}
 use Rattle.shelf.proofs.Standing.{OnlyNow, CountsNow, IsQuietCall, throughout_alike}
 use Rattle.shelf.proofs.Order.{order_of}
 use Rattle.shelf.proofs.Taken.{number_of, taken_fits}
+use Rattle.shelf.proofs.Tales.{told_landed}
 
 -- the change of a segment leaves the clock
 clock_stays : (k : ℕ) (c : Change) (clock : ℕ) → IsOf k c → clock_by c clock ≡ clock
@@ -54,7 +60,8 @@ abbrev pub doubted_in : (count : ℕ) → Change → (inside : List TxName) → 
 doubted_in count c inside b = record b { down = Some (record { count = count; change = c; inside = inside }) }
 
 module _ {D N : Type 0} (view : D → View) (tells : Bool) (ss : List Named) (s : Shelf D N) (order : IsInOrder view tells ss s) (up : s.down ≡ None) (k : ℕ) (out : Contains (book_in ss s).out k)
-    (c : Change) (is_its : IsOf k c) (state : Option (List ℕ)) (inside : List TxName) (fits : IsInGrammar (changes c state)) (taken : IsTaken (book_in ss s) c state inside)
+    (c : Change) (is_its : IsOf k c) (state : Option (List ℕ)) (inside : List TxName) (fits : IsInGrammar (changes c state)) (x : Told) (taken : IsTakenAs (book_in ss s) c inside x)
+    (read : (told : IsTrue tells) → told_in ((order.fit told).holds (ap (λ (o : Option doubt_type.Doubt). option_map doubt_of o) up)).earlier (book_in ss s) c state ≡ x)
     (room : length_of s.journal + 5 + length (body_by c state) ≤ 2 ^ 30) where
   abbrev b : Book
   b = book_in ss s
@@ -72,7 +79,7 @@ module _ {D N : Type 0} (view : D → View) (tells : Bool) (ss : List Named) (s 
   abbrev pub doubted_book : (count : ℕ) → Book
   doubted_book count = doubted_in count c inside (spend k b)
 
-  none_down : b.down ≡ None
+  abbrev none_down : b.down ≡ None
   none_down = ap (λ (o : Option doubt_type.Doubt). option_map doubt_of o) up
 
   number : number_in c ≡ Some k
@@ -85,7 +92,7 @@ module _ {D N : Type 0} (view : D → View) (tells : Bool) (ss : List Named) (s 
   landed_is = ap (λ (o : Option ℕ). land (rules_for (length body)) c inside (without_number o b)) number
 
   change_fits : IsOrderlyChange b.clock b.instances c
-  change_fits = taken_fits b c inside (told_by (script_for b c) state) taken
+  change_fits = taken_fits b c inside x taken
 
   whole_landed : HasWholeScripts landed_book
   whole_landed = record {
@@ -102,7 +109,7 @@ module _ {D N : Type 0} (view : D → View) (tells : Bool) (ss : List Named) (s 
   range_doubted count = record { drawn = order.range.drawn; clock = order.range.clock; doubt = no_tick k c is_its }
 
   module _ (told : IsTrue tells) where
-    fit : IsFit view ss shelf s.journal b
+    abbrev fit : IsFit view ss shelf s.journal b
     fit = order.fit told
 
     abbrev bodies : List (List ℕ)
@@ -111,13 +118,25 @@ module _ {D N : Type 0} (view : D → View) (tells : Bool) (ss : List Named) (s 
     has_room : HasRoom bodies (Some body)
     has_room = let settled = fit.settled none_down in omega (arith, settled.end, room)
 
+    abbrev there : Keeps ss shelf bodies b
+    there = fit.holds none_down
+
+    taken_there : IsTaken there.earlier b c state inside
+    taken_there = subst (IsTakenAs b c inside) (sym (read told)) taken
+
+    new_there : IsNew there.earlier.seen c
+    new_there n e seen =
+        let both : Some n ≡ Some k = sym (number_of n c e) ∙ number in
+        let same : n ≡ k = cc both in
+        there.recoverable.used k (subst (λ (m : ℕ). Among m there.earlier.seen) same seen) (inl (among_of b.out k out))
+
     keeps : LandingsAreKept → Keeps ss shelf (bodies ++ body ∷ []) landed_book
-    keeps law = subst (Keeps ss shelf (bodies ++ body ∷ [])) landed_is (law ss shelf bodies b c state inside (fit.holds none_down) none_down fits taken its_out)
+    keeps law = subst (Keeps ss shelf (bodies ++ body ∷ [])) landed_is (law ss shelf bodies b c state inside there none_down fits taken_there its_out)
 
     between : LandingsStandBetween → (l : Between ss shelf b landed_book) × (l.bodies ≡ bodies) × (l.more ≡ Some body)
     between law =
         subst (λ (d : Book). (l : Between ss shelf b d) × (l.bodies ≡ bodies) × (l.more ≡ Some body)) landed_is
-        (law ss shelf bodies b c state inside (fit.holds none_down) none_down fits taken its_out has_room)
+        (law ss shelf bodies b c state inside there none_down fits taken_there its_out has_room)
 
     -- at each moment of a call that adds the body
     module _ (mid new : Journal D) (call : IsQuietCall view tells s.journal mid) (run : LeavesOnly (view_of view mid) (view_of view new) (MayHold (bodies_in view mid) body)) where
@@ -132,9 +151,18 @@ module _ {D N : Type 0} (view : D → View) (tells : Bool) (ss : List Named) (s 
       (run : IsTrue tells → LeavesOnly (view_of view mid) (view_of view t.journal) (MayHold (bodies_in view mid) body)) (placed : HasPlaces ss t.book) (sound : journal.IsSound t.journal) where
     -- its record was added
     module _ (is : book_in ss t ≡ landed_book) where
-      pub landed_order : LandingsAreKept → is_broken t.journal ≡ false → (IsTrue tells → IsSettled view t.journal × (bodies_in view t.journal ≡ bodies_in view mid ++ body ∷ []))
-          → IsInOrder view tells ss t
-      landed_order law whole added =
+      -- the records tell one state more
+      tells_then : AreRecordsExact → (told : IsTrue tells) (m : Made) → make.book_of ss shelf (bodies told ++ body ∷ []) ≡ make.made m → HasToldStates ss (with_state (Some k) x (there told).earlier.states) t.book
+          → HasToldStates ss m.earlier.states t.book
+      tells_then exact told m made_there stay =
+          let states = (there told).earlier.states in
+          let first = told_landed exact ss shelf (bodies told) b c state inside (there told) fits (taken_there told) (new_there told) m made_there in
+          let then_them : m.earlier.states ≡ with_state (Some k) x states = first ∙ (ap (λ (o : Option ℕ). with_state o (told_in (there told).earlier b c state) states) number ∙ ap (λ (y : Told). with_state (Some k) y states) (read told)) in
+          subst (λ (ys : States). HasToldStates ss ys t.book) (sym then_them) stay
+
+      pub landed_order : AreRecordsExact → LandingsAreKept → is_broken t.journal ≡ false → (IsTrue tells → IsSettled view t.journal × (bodies_in view t.journal ≡ bodies_in view mid ++ body ∷ []))
+          → ((told : IsTrue tells) → HasToldStates ss (with_state (Some k) x (there told).earlier.states) t.book) → IsInOrder view tells ss t
+      landed_order exact law whole added stay =
           order_of view tells ss s t landed_book order placed (published (rules_for (length body)) b k c inside order.orderly (among_of b.out k out) none_down change_fits is_its).orderly
           whole_landed range_landed refl is limits (record {
             sound = sound;
@@ -143,7 +171,10 @@ module _ {D N : Type 0} (view : D → View) (tells : Bool) (ss : List Named) (s 
                 let settled = (added told).0 in
                 let these : bodies told ++ body ∷ [] ≡ bodies_in view t.journal = ap (λ (bs : List (List ℕ)). bs ++ body ∷ []) (sym (ap stored call.seen)) ∙ sym (added told).1 in
                 let all = subst (λ (bs : List (List ℕ)). Keeps ss shelf bs landed_book) these (keeps told law) in
-                record { settled = λ _. settled; holds = λ _. all; stands = settled_stands view ss shelf t.journal landed_book settled (all.seen, all.makes) none_down };
+                record { settled = λ _. settled; holds = λ _. all; stands = settled_stands view ss shelf t.journal landed_book settled (all.earlier, all.makes) none_down };
+            told = λ told _ m made_there.
+                let these : bodies told ++ body ∷ [] ≡ bodies_in view t.journal = ap (λ (bs : List (List ℕ)). bs ++ body ∷ []) (sym (ap stored call.seen)) ∙ sym (added told).1 in
+                tells_then exact told m (ap (make.book_of ss shelf) these ∙ made_there) (stay told);
           })
 
       pub landed_run : LandingsStandBetween → IsTrue tells → OnlyNow (view s.journal.disk) → HasMoments view ss s t
@@ -176,6 +207,7 @@ module _ {D N : Type 0} (view : D → View) (tells : Bool) (ss : List Named) (s 
               holds = λ none. absurd (let no : ⊥ = cc none in no);
               stands = (left_standing ss shelf (length body) b landed_book d (view s.journal.disk) (view t.journal.disk) counts (throughout told mid t.journal call (run told) law only_now) refl kept_same).0;
             };
+            told = λ told none. absurd (in_doubt none);
           })
 
       pub doubted_run : LandingsStandBetween → IsTrue tells → OnlyNow (view s.journal.disk) → HasMoments view ss s t

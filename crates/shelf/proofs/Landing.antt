@@ -1,5 +1,5 @@
 -- A prepared visit lands, by what became of its record: first whatever its ticket was for, then where that was its own visit.
-use Rattle.std.proofs.Common.{◌≡◌, ◌∙◌, ap, sym, subst, refl, ℕ, ◌+◌, ◌≤◌, ◌<◌, ◌^◌, Bool, true, Err, List, [], length, Option, Some, None, option_map, IfSome, Contains, arith}
+use Rattle.std.proofs.Common.{◌≡◌, ◌∙◌, ap, sym, subst, refl, ℕ, ◌+◌, ◌≤◌, ◌<◌, ◌^◌, Bool, true, Err, List, [], ◌∷◌, length, Option, Some, None, option_map, IfSome, Contains, arith}
 use Rattle.std.proofs.lemmas.Bool.Decides.{nat_tests}
 use Rattle.std.proofs.lemmas.Option.{slice_get_within}
 use Rattle.script_value.specs.declared.outcome.Reply.{Reply}
@@ -16,15 +16,18 @@ use Rattle.replay_spec.specs.Admission.{◌>>=◌, refusal_of, admit}
 use Rattle.replay_spec.specs.Eval as eval
 use Rattle.replay_spec.specs.Invariant.{HasPage, IsOf, IsOrderlyChange}
 use Rattle.replay_spec.specs.Step as step
-use Rattle.replay_spec.specs.Step.{Decision, replies, records, carried_out, publish_comes}
+use Rattle.replay_spec.specs.Step.{replies, records, carried_out, publish_comes}
 use Rattle.machine_spec.specs.Machine.{Suspended}
 use Rattle.journal_records.specs.Records.{changes, record_length, IsInGrammar}
-use Rattle.journal_books.specs.Retaking.{arena_of, rules_for}
-use Rattle.journal_books.specs.Lengths.{state_by, told_bytes, state_told, own_body}
-use Rattle.journal_books.specs.Keeping.{IsTaken, IsSpelledState, HasWholeScripts, body_by}
+use Rattle.journal_books.specs.Before.{state_at, Earlier}
+use Rattle.journal_books.specs.Retaking as books_told
+use Rattle.journal_books.specs.Retaking.{arena_of, Told, with_state, rules_for}
+use Rattle.journal_books.specs.Lengths.{state_by, told_bytes, state_told, told_own, own_before, own_body}
+use Rattle.journal_books.specs.Keeping.{IsTakenAs, IsSpelledState, HasWholeScripts, body_by}
 use Rattle.journal_books.specs.Keeping as books
 use Rattle.journal_books.specs.Making.{has_script}
-use Rattle.journal_books.proofs.Brief.{moved_state}
+use Rattle.journal_books.proofs.Brief.{moved_told, length_short}
+use Rattle.journal_books.proofs.Grammar.{TellsInRange, IsToldWith, in_grammar}
 use Rattle.stored_states.specs.Views.{segment_of, suspended_of}
 use Rattle.instance_book.specs.declared.book.Book.{Book}
 use Rattle.instance_book.specs.declared.prepared.Change.{Change}
@@ -34,7 +37,8 @@ use Rattle.instance_book.specs.declared.ticket.Ticket.{Ticket}
 use Rattle.instance_book.specs.declared.in_order.InOrder.{InOrder}
 use Rattle.instance_book.specs.declared.instance.KeptInstance.{KeptInstance}
 use Rattle.instance_book.specs.Views.{book_of, instances_of, ticket_of, reply_of}
-use Rattle.instance_book.specs.Changes.{change_of, inside_of, decision_by, put_into, IsPlacedBy, IsSpelledIn}
+use Rattle.instance_book.specs.Places.{given}
+use Rattle.instance_book.specs.Changes.{HasStateIn, change_of, inside_of, decision_by, put_into, HasDeadlineIn, HasDeadlineBy, IsPlacedBy, IsSpelledIn}
 use Rattle.instance_book.specs.Fits.{FitsAs}
 use Rattle.instance_book.specs.Makes.{Makes, MakesUnder}
 use Rattle.instance_book.specs.Prepares.{rules_with, KeepsStateOf, IsChangeBy, IsDecisionBy, IsCarriedOut, HasItsScript}
@@ -43,24 +47,24 @@ use Rattle.shelf.specs.declared.doubt.Doubt as doubt_type
 use Rattle.shelf.specs.Views.{unmeasured, rules_of, doubt_of, doubt_by, book_in, fate_by, IsInOrder}
 use Rattle.shelf.specs.Holding.{IsWhole, IsWholeIn}
 use Rattle.shelf.specs.Preparing.{CanBeLanded}
-use Rattle.shelf.specs.Recording.{refusal_of_size, CanBeWritten, IsBody, IsWritten, IsOfByte, HasDeadline, state_in, told_in}
+use Rattle.shelf.specs.Recording.{refusal_of_size, CanBeWritten, IsBody, IsWritten, IsOfByte, state_in, behind_in, told_in, IsKeptIn, BindsIn}
 use Rattle.shelf.proofs.Beside.{admit_same, fits_at}
-use Rattle.shelf.proofs.Grammar.{TellsInRange, IsToldWith, in_grammar}
 use Rattle.shelf.proofs.Landed as landed
 use Rattle.shelf.proofs.Publishing.{told, unwritten, replies_is, records_is}
 use Rattle.shelf.proofs.Sizes.{not_refused, size_is}
-use Rattle.shelf.proofs.Stated.{state_left, state_beside}
+use Rattle.shelf.proofs.Shown.{kept_in, GoesHere, behind_told, shown_given}
+use Rattle.shelf.proofs.Stated.{state_left, state_beside, before_left, before_beside}
 use Rattle.shelf.proofs.Steps as steps
 use Rattle.shelf.proofs.Steps.{Comes, short_enough}
-use Rattle.shelf.proofs.Taken.{is_of, is_taken, page_there}
+use Rattle.shelf.proofs.Taken.{is_of, IsTakenSo, is_taken, page_there}
 
 -- ---- what is told of a change
 
-told_with : (c : Change) → IsToldWith (change_of c) (told_in c)
-told_with (Opens o) = tt
-told_with (Extends x) = tt
-told_with (Ends e) = tt
-told_with (Finishes f) = tt
+told_with : (t : Ticket) (c : Change) → IsToldWith (change_of c) (told_in t c)
+told_with t (Opens o) = tt
+told_with t (Extends x) = tt
+told_with t (Ends e) = tt
+told_with t (Finishes f) = tt
 
 -- a start is of the script of its ticket
 byte_there : (ss : List Named) (t : Ticket) (d : Destination) (s : eval.Segment) (c : Change) → length ss ≤ 256 → HasItsScript ss t d → IsChangeBy t s d (change_of c) → IsOfByte c
@@ -117,7 +121,7 @@ orderly_there b t (page name n) s (Extends x) ok is = subst (λ (y : spec.Extens
 orderly_there b t (page name n) s (Ends e) ok is = subst (λ (y : spec.Ending). HasPage b.instances y.instance y.page) (sym is) (has_page b name n ok)
 orderly_there b t (page name n) s (Finishes f) ok is = subst (λ (y : spec.Finish). HasPage b.instances y.instance y.page) (sym is) (has_page b name n ok)
 
-range_there : (t : Ticket) (d : Destination) (s : eval.Segment) (c : Change) → t.nonce < 2 ^ 64 → IsChangeBy t s d (change_of c) → HasDeadline c → TellsInRange (change_of c)
+range_there : (t : Ticket) (d : Destination) (s : eval.Segment) (c : Change) → t.nonce < 2 ^ 64 → IsChangeBy t s d (change_of c) → HasDeadlineIn c → TellsInRange (change_of c)
 range_there t (start name) s (Opens o) nonce is low = (subst (λ (x : spec.Opening). x.nonce < 2 ^ 64) (sym is.1.1) nonce, low)
 range_there t (start name) s (Extends x) nonce is low = absurd is
 range_there t (start name) s (Ends e) nonce is low = tt
@@ -193,30 +197,63 @@ module _ {D N : Type 0} (view : D → View) (tells : Bool) (ss : List Named) (s 
     pub placed : IsPlacedBy ss p.change
     placed = subst (IsPlacedBy ss) (sym some) (placed_there ss t target (segment_of can.segment) c has its)
 
-    pub can_be_written : t.nonce < 2 ^ 64 → HasDeadline c → CanBeWritten (length_of s.journal) (changes told_change (told_in c))
-    can_be_written nonce deadline short parts =
-        in_grammar b order.orderly order.range order.few t.number out told_change (told_in c) its_number (orderly_there b t target (segment_of can.segment) c admitted its)
-        (script_there b t target (segment_of can.segment) c has its) (range_there t target (segment_of can.segment) c nonce its deadline) (told_with c) short.body parts
+    pub can_be_written : t.nonce < 2 ^ 64 → CanBeWritten (length_of s.journal) (changes told_change (told_in t c))
+    can_be_written nonce short parts =
+        in_grammar b order.orderly order.range order.few t.number out told_change (told_in t c) its_number (orderly_there b t target (segment_of can.segment) c admitted its)
+        (script_there b t target (segment_of can.segment) c has its) (range_there t target (segment_of can.segment) c nonce its (subst HasDeadlineBy some can.deadline)) (told_with t c)
+        (length_short told_change (told_in t c) short.body) parts
 
-    pub taken : (spent : Book) → spent.instances ≡ s.book.instances → IsWholeIn ss spent c → IsSpelledIn c → IsTaken b told_change (told_in c) (inside_of c)
-    taken spent same whole spelled =
-        is_taken ss (length_of s.journal) down_now s.book t (segment_of can.segment) target c admitted has its can.held (whole_same ss c spent s.book same whole) spelled
+    pub kept_there : IsKeptIn t c
+    kept_there = kept_in t (segment_of can.segment) can.segment target c its (subst (KeepsStateOf t can.segment target) some can.state)
+
+    -- it would be taken in again, with the state that is told
+    abbrev pub its_told : Told
+    its_told = told_own (state_in c)
+
+    module _ (spent : Book) (same : spent.instances ≡ s.book.instances) (whole : IsWholeIn ss spent c) (spelled : IsSpelledIn c) where
+      whole_here : IsWholeIn ss s.book c
+      whole_here = whole_same ss c spent s.book same whole
+
+      taken_so : IsTakenSo ss (length_of s.journal) down_now s.book t (segment_of can.segment) c
+      taken_so = is_taken ss (length_of s.journal) down_now s.book t (segment_of can.segment) target c admitted has its can.held whole_here spelled
+
+      pub taken : IsTakenAs b told_change (inside_of c) its_told
+      taken = taken_so.0
+
+      module _ (earlier : Earlier) (goes : GoesHere b (λ n. state_at n earlier.states) t c) where
+        pub read : BindsIn t c → books_told.told_in earlier b told_change (told_in t c) ≡ its_told
+        read binds =
+            let behind = behind_told b t c earlier goes in
+            taken_so.1 earlier behind.0 behind.1 binds
+
+        -- so its page has the state that is told, where the number was told of none
+        pub shown : ((y : Suspended) (n : ℕ) (d : Suspended) → state_at n earlier.states ≡ Some d → state_at n ((t.number, y) ∷ earlier.states) ≡ Some d) → ((y : Suspended) → state_at t.number ((t.number, y) ∷ earlier.states) ≡ Some y)
+            → HasStateIn ss (given (λ n. state_at n (with_state (Some t.number) its_told earlier.states))) b.instances c
+        shown more now = by_state (state_in c) refl
+          where
+            by_state : (o : Option Suspended) → state_in c ≡ o → HasStateIn ss (given (λ n. state_at n (with_state (Some t.number) (told_own o) earlier.states))) b.instances c
+            by_state None e =
+                shown_given ss (length_of s.journal) down_now s.book order.orderly t out (segment_of can.segment) can.segment (λ n. state_at n earlier.states) (λ n. state_at n earlier.states) (λ n d h. h) target c admitted has its
+                (subst (KeepsStateOf t can.segment target) some can.state) whole_here spelled (λ y f. absurd (let no : None ≡ Some y = sym e ∙ f in let not : ⊥ = cc in not)) goes
+            by_state (Some y) e =
+                shown_given ss (length_of s.journal) down_now s.book order.orderly t out (segment_of can.segment) can.segment (λ n. state_at n earlier.states) (λ n. state_at n ((t.number, y) ∷ earlier.states)) (more y) target c admitted has its
+                (subst (KeepsStateOf t can.segment target) some can.state) whole_here spelled (λ z f. let same_state : y ≡ z = (let both : Some y ≡ Some z = sym e ∙ f in cc both) in now y ∙ ap (λ (w : Suspended). Some w) same_state) goes
 
     -- its record is short
-    module _ (body : List ℕ) (written : IsBody (length_of s.journal) (changes told_change (told_in c)) (record_length told_change (told_in c)) body) where
-      pub long : length (body_by told_change (told_in c)) ≡ record_length told_change (told_in c)
-      long = size_is told_change (told_in c) written.short.body
+    module _ (body : List ℕ) (written : IsBody (length_of s.journal) (changes told_change (told_in t c)) (record_length told_change (told_in t c)) body) where
+      pub long : length (body_by told_change (told_in t c)) ≡ record_length told_change (told_in t c)
+      long = size_is told_change (told_in t c) written.short.body
 
-      pub room : length_of s.journal + 5 + length (body_by told_change (told_in c)) ≤ 2 ^ 30
+      pub room : length_of s.journal + 5 + length (body_by told_change (told_in t c)) ≤ 2 ^ 30
       room = omega (arith, long, written.short.whole)
 
       abbrev pub landed_book : spec.Book
-      landed_book = land (rules_for (length (body_by told_change (told_in c)))) told_change (inside_of c) (spend t.number b)
+      landed_book = land (rules_for (length (body_by told_change (told_in t c)))) told_change (inside_of c) (spend t.number b)
 
       pub landed_is : (spent new : Book) (n : ℕ) → Makes (spend t.number) s.book spent → MakesUnder (λ scripts. put_into scripts p) spent new → n ≡ length_of s.journal + 5 + length body
           → book_of ss n down_now new ≡ landed_book
       landed_is spent new n spending installing e =
-          let longer : n ≡ length_of s.journal + (length (body_by told_change (told_in c)) + 5) = omega (arith, e, ap (λ (l : List ℕ). length l) written.is) in
+          let longer : n ≡ length_of s.journal + (length (body_by told_change (told_in t c)) + 5) = omega (arith, e, ap (λ (l : List ℕ). length l) written.is) in
           let here = ap (λ (o : Option Change). carried_out (rules_with 0 0 0 0) (spend t.number b) (decision_by (reply_of p.reply) o)) (sym some) ∙ carried.lands t.number in
           installing ss n down_now ∙ (ap (put_into ss p) (spending ss n down_now) ∙ (ap (λ (x : step.Reply × spec.Book). record x.1 { length = n }) (sym here) ∙ ap (λ (m : ℕ). record landed_book { length = m }) longer))
 
@@ -242,37 +279,43 @@ module _ {D N : Type 0} (view : D → View) (tells : Bool) (ss : List Named) (s 
           state_beside ss s.book (length_of s.journal) 0 down_now None told_change
           ∙ state_left book_beside whole t can.segment target can.admitted fits_beside (can.own fits_beside) c (subst (KeepsStateOf t can.segment target) some can.state) its
 
-      pub own_told : state_told b told_change ≡ told_in c
-      own_told = ap (λ (o : Option Suspended). o >>= told_bytes) own_state
+      own_before_is : own_before b told_change ≡ behind_in t c
+      own_before_is =
+          let whole : HasWholeScripts book_beside = record { setup = order.scripts_are.setup; instances = order.scripts_are.instances } in
+          before_beside ss s.book (length_of s.journal) 0 down_now None told_change
+          ∙ before_left book_beside whole t (segment_of can.segment) target can.admitted fits_beside c its
 
-      pub own_written : IsInGrammar (changes told_change (told_in c)) → IsSpelledIn c → books.CanBeWritten b told_change
+      pub own_told : state_told b told_change ≡ told_in t c
+      own_told = ap (λ (o : Option Suspended). o >>= told_bytes (own_before b told_change)) own_state ∙ ap (λ (o : Option Suspended). state_in c >>= told_bytes o) own_before_is
+
+      pub own_written : IsInGrammar (changes told_change (told_in t c)) → IsSpelledIn c → books.CanBeWritten b told_change
       own_written fits_grammar spelled = record {
         body = subst (λ (o : Option (List ℕ)). IsInGrammar (changes told_change o)) (sym own_told) fits_grammar;
         state = subst IsSpelledState (sym own_state) (spelled_in c spelled);
       }
 
-      pub own_body_is : own_body b told_change ≡ body_by told_change (told_in c)
+      pub own_body_is : own_body b told_change ≡ body_by told_change (told_in t c)
       own_body_is = ap (body_by told_change) own_told
 
       module _ (decided : IsCarriedOut ss (unmeasured s.rules) b (publish_comes (unmeasured s.rules) b (ticket_of t)) p) where
         comes_plain : publish_comes (unmeasured s.rules) b (ticket_of t) ≡ records (reply_of p.reply) told_change (inside_of c)
         comes_plain = records_is ss s.rules b _ p decided c some
 
-        pub unwritten_comes : (x : Reply) → IsWritten (length_of s.journal) (changes told_change (told_in c)) (Err x)
+        pub unwritten_comes : (x : Reply) → IsWritten (length_of s.journal) (changes told_change (told_in t c)) (Err x)
             → Comes (rules_of ss s.rules) b (step.publish (ticket_of t)) (fate_by (reply_of x)) (reply_of x) (spend t.number b) None
         unwritten_comes x h =
             unwritten ss s.rules b t (reply_of p.reply) told_change (inside_of c) comes_plain x (subst (λ (o : Option (List ℕ)). IsWritten (length_of s.journal) (changes told_change o) (Err x)) (sym own_told) h)
 
-        module _ (body : List ℕ) (written : IsBody (length_of s.journal) (changes told_change (told_in c)) (record_length told_change (told_in c)) body) where
+        module _ (body : List ℕ) (written : IsBody (length_of s.journal) (changes told_change (told_in t c)) (record_length told_change (told_in t c)) body) where
           comes_to : publish_comes (rules_of ss s.rules) b (ticket_of t) ≡ records (reply_of p.reply) told_change (inside_of c)
           comes_to =
               short_enough ss s.rules b (ticket_of t) (reply_of p.reply) told_change (inside_of c) comes_plain
-              (ap (λ (o : Option (List ℕ)). refusal_of_size b.length (record_length told_change o)) own_told ∙ not_refused b.length (record_length told_change (told_in c)) written.short)
+              (ap (λ (o : Option (List ℕ)). refusal_of_size b.length (record_length told_change o)) own_told ∙ not_refused b.length (record_length told_change (told_in t c)) written.short)
 
           -- the book is measured by the shelf's own rules as by the body
           measured : landed_book body written ≡ land (rules_of ss s.rules) told_change (inside_of c) (spend t.number b)
           measured =
-              let same : state_told (reopened (spend t.number b)) told_change ≡ told_in c = ap (λ (o : Option Suspended). o >>= told_bytes) (moved_state b b.logged [] None told_change) ∙ own_told in
+              let same : state_told (reopened (spend t.number b)) told_change ≡ told_in t c = moved_told b b.logged [] None told_change ∙ own_told in
               ap (λ (m : ℕ). record (landed_book body written) { length = b.length + (m + 5) }) (long body written ∙ ap (record_length told_change) (sym same))
 
           pub landed_comes : (x : Reply) → x ≡ p.reply → fate_by (reply_of p.reply) ≡ step.plain

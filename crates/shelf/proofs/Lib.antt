@@ -2,6 +2,7 @@ pub mod Now
 pub mod Beside
 pub mod Deciding
 pub mod Told
+pub mod Written
 pub mod Steps
 pub mod Sizes
 pub mod Shallow
@@ -13,11 +14,15 @@ pub mod Shelves
 pub mod Publishing
 pub mod Stated
 pub mod Taken
-pub mod Grammar
+pub mod Tales
+pub mod Shown
 pub mod Landed
 pub mod Sweeping
 pub mod Landing
+pub mod Behind
 pub mod Openings
 pub mod OwnOpenings
 pub mod Fitting
+pub mod Leaving
+pub mod Freeing
 pub mod Going

@@ -13,7 +13,7 @@ use Rattle.replay_spec.specs.Eval as eval
 use Rattle.replay_spec.specs.Eval.{run}
 use Rattle.replay_spec.specs.Book.{Page, Instance, Book}
 use Rattle.replay_spec.specs.Admission.{Place, Admission, begins, resumes, refused, refusal_of, admit}
-use Rattle.replay_spec.specs.Next.{Home, Visit, home_of, answered, tape_of, tape_for, page_tape, comes_to, start_visit, page_visit}
+use Rattle.replay_spec.specs.Next.{Home, Visit, home_of, answered, tape_for, comes_to, start_visit, page_visit}
 use Rattle.replay_spec.specs.Next as next
 use Rattle.replay_spec.specs.Laws.{ArePast, EffectsHoldRunSame, EffectsAreOnCells}
 use Rattle.replay_spec.specs.Remade.{EffectsHold}

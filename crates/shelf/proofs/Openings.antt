@@ -10,15 +10,14 @@ use Rattle.page_journal.proofs.Mending.{leaves_then}
 use Rattle.replay_spec.specs.Book.{Doubt, Book, Change, reopened, reopened_with}
 use Rattle.replay_spec.specs.Rules.{Rules, empty_book}
 use Rattle.replay_spec.specs.Step as step
-use Rattle.replay_spec.specs.Step.{crash, lost, kept, live, recovered}
-use Rattle.replay_spec.specs.Recovery.{Made, nothing_made}
-use Rattle.replay_spec.specs.Remade.{made_of}
+use Rattle.replay_spec.specs.Step.{lost, kept, live, recovered}
 use Rattle.replay_spec.specs.Invariant.{IsOrderly}
 use Rattle.replay_spec.proofs.Orderly.{books_stay}
 use Rattle.journal_records.specs.Records.{Record, begins, changes, begin_of, begun_length, IsInGrammar}
 use Rattle.journal_records.specs.Reading.{read_record}
 use Rattle.journal_records.specs.Laws.{AreRecordsExact}
-use Rattle.journal_books.specs.Retaking.{Told, unread, misread, told, script_for, told_by}
+use Rattle.journal_books.specs.Before.{Earlier, nothing_told, Made, nothing_made, made_of}
+use Rattle.journal_books.specs.Retaking.{Told, unread, misread, told, told_in}
 use Rattle.journal_books.specs.Lengths.{journal_rules}
 use Rattle.journal_books.specs.Making.{has_script, told_next, Making, nothing, made, damaged, other, rules_over, are_told, first_by, next_by, with_body, with_bodies, begun, book_of, book_in_bytes}
 use Rattle.journal_books.specs.Standing.{IsBook, Makes, MakesIn, Held, if_kept, StaysThroughout, IsOneOf}
@@ -32,7 +31,9 @@ use Rattle.journal_books.proofs.Standings.{settled_stands}
 use Rattle.instance_book.specs.declared.book.Book.{Book as RustBook}
 use Rattle.instance_book.specs.Swept.{IsEmpty}
 use Rattle.instance_book.specs.Makes.{HasPlaces}
-use Rattle.book_recovery.specs.Found.{book_with, IsBookInOrder}
+use Rattle.book_recovery.specs.Remaking.{HasToldStates}
+use Rattle.book_recovery.specs.Found.{book_with, FindsBook, IsBookInOrder}
+use Rattle.shelf.specs.Views.{TellsStates}
 use Rattle.shelf.specs.Opening.{IsCrashed, AReopenedShelfHasCrashed, AStandingDiskOpens}
 use Rattle.shelf.specs.declared.begin.BeginFault.TheVariants as fault
 
@@ -54,7 +55,7 @@ some_told place n m c (told d) = λ e. cc e
 some_next : (scripts : List Named) (place n : ℕ) (m : Made) (o : Option Record) → next_by scripts place n m o ≢ nothing
 some_next scripts place n m None = λ e. cc e
 some_next scripts place n m (Some (begins s named)) = λ e. cc e
-some_next scripts place n m (Some (changes c state)) = by_test (has_script (length scripts) c) (told_next place n m c (told_by (script_for m.book c) state)) (some_told place n m c (told_by (script_for m.book c) state))
+some_next scripts place n m (Some (changes c state)) = by_test (has_script (length scripts) c) (told_next place n m c (told_in m.earlier m.book c state)) (some_told place n m c (told_in m.earlier m.book c state))
   where
     by_test : (t : Bool) (x : Making) → x ≢ nothing → (if t then x else damaged place) ≢ nothing
     by_test true x h = h
@@ -108,8 +109,8 @@ module _ (scripts : List Named) (shelf : ℕ) (b : RustBook) (empty : IsEmpty sh
 
     pub begun_book : (m : Making) → m ≡ nothing → IsBook (begun scripts shelf m) (book_with scripts n b)
     begun_book m none = (
-      [],
-      ap (begun scripts shelf) none ∙ ap (λ (x : Book). made (record { book = x; seen = [] })) (sym (ap reopened begun_is)),
+      nothing_told,
+      ap (begun scripts shelf) none ∙ ap (λ (x : Book). made (record { book = x; earlier = nothing_told })) (sym (ap reopened begun_is)),
     )
 
     pub begun_fit : {D : Type 0} (view : D → View) (j : Journal D) → AreRecordsExact → AreWhole scripts → IsInGrammar (begin_of shelf scripts) → IsSettled view j
@@ -118,7 +119,7 @@ module _ (scripts : List Named) (shelf : ℕ) (b : RustBook) (empty : IsEmpty sh
         let keeps = fresh_kept x scripts shelf (rules_over scripts shelf) refl whole fits in
         let here : Keeps scripts shelf (bodies_in view j) (book_with scripts n b) =
         subst (λ (bs : List (List ℕ)). Keeps scripts shelf bs (book_with scripts n b)) (sym bodies) (subst (Keeps scripts shelf (first_body scripts shelf ∷ [])) (sym begun_is) keeps) in
-        record { settled = λ _. settled; holds = λ _. here; stands = settled_stands view scripts shelf j (book_with scripts n b) settled (here.seen, here.makes) refl }
+        record { settled = λ _. settled; holds = λ _. here; stands = settled_stands view scripts shelf j (book_with scripts n b) settled (here.earlier, here.makes) refl }
 
 -- what was found of records
 pub found_fit : {D : Type 0} (view : D → View) (scripts : List Named) (shelf : ℕ) (j : Journal D) (b : Book) → AreRecordsExact → AreWhole scripts → IsSettled view j
@@ -128,7 +129,7 @@ found_fit view scripts shelf j b x whole settled (seen, makes) again =
     let r = fits.recoverable whole in
     let down : b.down ≡ None = ap (λ (y : Book). y.down) again in
     let keeps : Keeps scripts shelf (bodies_in view j) (reopened b) = record {
-      seen = seen;
+      earlier = seen;
       makes = makes;
       recoverable = r;
     } in
@@ -227,3 +228,11 @@ standing_opens view reads scripts shelf b old new (fault.Other place) stands amo
     let bytes = (view new).seen in
     ⊎_elim (λ h. no_other scripts shelf place bytes b h is) (λ h. no_other scripts shelf place bytes (if_kept stands.0 b) h is)
     (make_books scripts shelf b (if_kept stands.0 b) stands.1.0 bytes (stands.1.1 bytes (among bytes (reads new))))
+
+-- the pages of a book that was found have the states that the records told
+pub found_told : {D : Type 0} (view : D → View) (scripts : List Named) (shelf n : ℕ) (j : Journal D) (making : Making) (b : RustBook) → book_of scripts shelf (bodies_in view j) ≡ making
+    → FindsBook scripts shelf n b making → TellsStates view scripts shelf j b
+found_told view scripts shelf n j making b same finds m is =
+    let both : made m ≡ made (made_of (book_with scripts n b) finds.book.0) = sym is ∙ (same ∙ finds.book.1) in
+    let earlier : m.earlier ≡ finds.book.0 = cc both in
+    subst (λ (e : Earlier). HasToldStates scripts e.states b) (sym earlier) finds.told

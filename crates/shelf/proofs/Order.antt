@@ -22,7 +22,7 @@ use Rattle.instance_book.specs.Views.{reply_of}
 use Rattle.shelf.specs.declared.rules.Rules as limits_of
 use Rattle.shelf.specs.declared.shelf.Shelf.{Shelf}
 use Rattle.shelf.specs.Ranges.{AreInRange}
-use Rattle.shelf.specs.Views.{rules_of, book_in, shelf_of, fate_by, IsInOrder, IsEvent}
+use Rattle.shelf.specs.Views.{rules_of, book_in, shelf_of, fate_by, TellsStates, IsInOrder, IsEvent}
 
 -- a step of the book is one of the shelf
 pub follows : (source : ℕ → ℕ) (s : runs.Shelf) (event : step.Event) (r : step.Reply) (after : Book) → step.step s.rules s.book (source s.nonces) event (fate_by r) ≡ (r, after)
@@ -64,6 +64,7 @@ module _ {D N : Type 0} where
     pub sound : journal.IsSound new.journal
     pub whole : new.down ≡ None → is_broken new.journal ≡ false
     pub fit : IsTrue tells → IsFit view ss shelf new.journal d
+    pub told : IsTrue tells → new.down ≡ None → TellsStates view ss shelf new.journal new.book
 
   -- a shelf in order stays so where its book is orderly and in range
   pub order_of : (view : D → View) (tells : Bool) (ss : List Named) (old new : Shelf D N) (after : Book) → IsInOrder view tells ss old → HasPlaces ss new.book → IsOrderly after → HasWholeScripts after
@@ -79,6 +80,7 @@ module _ {D N : Type 0} where
     sound = stays.sound;
     whole = stays.whole;
     fit = λ told. subst (λ (b : Book). IsFit view ss new.rules.number new.journal b) (sym is) (subst (λ (l : limits_of.Rules). IsFit view ss l.number new.journal after) (sym limits) (stays.fit told));
+    told = λ told up. subst (λ (l : limits_of.Rules). TellsStates view ss l.number new.journal new.book) (sym limits) (stays.told told up);
   }
 
   -- so it stays behind an event

@@ -9,7 +9,7 @@ use Rattle.page_journal.specs.Holding.{Holdable, MayHoldNowAndThroughout, Closed
 use Rattle.page_journal.specs.Settled.{IsSettled, view_of, bodies_in}
 use Rattle.page_journal.specs.declared.journal.Journal.{Journal}
 use Rattle.page_journal.proofs.Holds.{settled_images, just_these, before_or_after}
-use Rattle.replay_spec.specs.Recovery.{Made}
+use Rattle.journal_books.specs.Before.{Made}
 use Rattle.journal_books.specs.Making.{made, book_of}
 use Rattle.journal_books.specs.Owning.{AreOwn}
 use Rattle.journal_books.specs.Standing.{flight, HasRoom, Hold}

@@ -16,11 +16,13 @@ use Rattle.replay_spec.specs.Laws.{IsLawful}
 use Rattle.replay_spec.specs.Remade.{KeepsSetup}
 use Rattle.journal_books.specs.Retaking.{rules_for}
 use Rattle.journal_books.specs.Lengths.{own_body}
-use Rattle.journal_books.specs.Owning.{AreOwn}
+use Rattle.journal_books.specs.Before.{made_of}
+use Rattle.journal_books.specs.Owning.{AreOwn, IsOwnBefore}
 use Rattle.journal_books.specs.Standing.{Between, if_kept, length_in, Throughout, HasRoom}
 use Rattle.journal_books.specs.Keeping.{Keeps, KeepsDoubt, KeepsWith, landed_bodies, CanBeWritten, IsSpelled, at_stake, stake_of}
 use Rattle.journal_books.specs.Disks.{IsFit}
 use Rattle.journal_books.specs.Laws.{AreOver, MeasuresDoubt, EventsAreKept, EventsStandBetween}
+use Rattle.journal_books.proofs.Telling.{own_before_is, own_are_told}
 use Rattle.journal_books.proofs.Standings.{settled_stands, appended, left_standing}
 use Rattle.shelf.specs.Owning.{OwnRecords, HoldsOwnRecords, HasOwnImages, StaysOwnThroughout, StandsOwn}
 use Rattle.shelf.proofs.Owned.{images_own, with_flight, stays_own, quiet_run_own}
@@ -31,16 +33,31 @@ pub measured_up : (rules : Rules) (n : ℕ) (d : Book) → d.down ≡ None → M
 measured_up rules n d up =
     ap (λ (o : Option Doubt). reopened (recovered rules kept o d)) up ∙ sym (ap (λ (o : Option Doubt). reopened (recovered (rules_for n) kept o d)) up)
 
+-- the records of a journal that can go on are own ones where those of its disk are
+own_bodies : {D : Type 0} (view : D → View) (scripts : List Named) (shelf : ℕ) (old : Journal D) → IsSettled view old → (view old.disk).images (view old.disk).seen → HasOwnImages scripts shelf (view old.disk)
+    → AreOwn scripts shelf (bodies_in view old)
+own_bodies view scripts shelf old s reads own =
+    let v = view old.disk in
+    images_own scripts shelf v v.seen own reads (bodies_in view old) (just_these (bodies_in view old) v.seen (omega (arith, s.end, s.fits)) (settled_images view old s v.seen reads))
+
+-- so what a change's page is written behind is the own state
+pub own_behind : {D : Type 0} (view : D → View) (scripts : List Named) (shelf : ℕ) (b : Book) (old : Journal D) (c : Change) (up : b.down ≡ None) (fit : IsFit view scripts shelf old b)
+    → (view old.disk).images (view old.disk).seen → HasOwnImages scripts shelf (view old.disk) → IsOwnBefore (fit.holds up).earlier b (Some c)
+own_behind view scripts shelf b old c up fit reads own =
+    let k = fit.holds up in
+    own_before_is k.earlier b (Some c) (own_are_told scripts shelf (bodies_in view old) (made_of b k.earlier) k.makes (own_bodies view scripts shelf old (fit.settled up) reads own))
+
 module _ {D : Type 0} (view : D → View) (tells : Bool) (scripts : List Named) (shelf : ℕ) (rules : Rules) (b : Book) (event : Event) (old : Journal D)
     (is_over : AreOver rules scripts shelf) (setup : KeepsSetup event b) (lawful : IsLawful event b) (events : EventsAreKept)
-    (up : b.down ≡ None) (c : Change) (spelled : CanBeWritten b c) (room : length_of old + 5 + length (own_body b c) ≤ 2 ^ 30) (fit : IsFit view scripts shelf old b) where
+    (up : b.down ≡ None) (c : Change) (spelled : CanBeWritten b c) (room : length_of old + 5 + length (own_body b c) ≤ 2 ^ 30) (fit : IsFit view scripts shelf old b)
+    (before : IsOwnBefore (fit.holds up).earlier b (Some c)) where
   abbrev bodies : List (List ℕ)
   bodies = bodies_in view old
 
   abbrev body : List ℕ
   body = own_body b c
 
-  all_kept : KeepsDoubt scripts shelf bodies b
+  abbrev all_kept : KeepsDoubt scripts shelf bodies b
   all_kept = nothing_doubted scripts shelf bodies b up (fit.holds up)
 
   has_room : HasRoom bodies (Some body)
@@ -49,15 +66,12 @@ module _ {D : Type 0} (view : D → View) (tells : Bool) (scripts : List Named) 
   -- behind the event that lands the change
   kept_with : (fate : Fate) → lands rules b event fate ≡ Some c → KeepsWith scripts shelf bodies (body ∷ []) (step rules b 0 event fate).1
   kept_with fate landed =
-      let P : Option Change → Type 0 = λ o. IsSpelled b o → KeepsWith scripts shelf bodies (landed_bodies b o) (step rules b 0 event fate).1 in
-      subst P landed (events scripts shelf bodies rules b 0 event fate is_over setup lawful all_kept) spelled
+      let P : Option Change → Type 0 = λ o. IsOwnBefore (fit.holds up).earlier b o → IsSpelled b o → KeepsWith scripts shelf bodies (landed_bodies b o) (step rules b 0 event fate).1 in
+      subst P landed (events scripts shelf bodies rules b 0 event fate is_over setup lawful all_kept) before spelled
 
-  -- the bodies there are own ones, and with the new one
+  -- the bodies there are own ones
   own_there : (view old.disk).images (view old.disk).seen → HasOwnImages scripts shelf (view old.disk) → AreOwn scripts shelf bodies
-  own_there reads own =
-      let s = fit.settled up in
-      let v = view old.disk in
-      images_own scripts shelf v v.seen own reads bodies (just_these bodies v.seen (omega (arith, s.end, s.fits)) (settled_images view old s v.seen reads))
+  own_there reads own = own_bodies view scripts shelf old (fit.settled up) reads own
 
   module _ (mid new : Journal D) (call : IsQuietCall view tells old mid) (run : LeavesOnly (view_of view mid) (view_of view new) (MayHold (bodies_in view mid) body)) (counts : CountsNow (view_of view new)) where
     run_here : LeavesOnly (view_of view mid) (view_of view new) (MayHold bodies body)
@@ -86,10 +100,10 @@ module _ {D : Type 0} (view : D → View) (tells : Bool) (scripts : List Named) 
       between_these : EventsStandBetween → (k : Between scripts shelf b (if_kept n d)) × (k.bodies ≡ bodies) × (k.more ≡ Some body) × MeasuresDoubt rules n d
       between_these between =
           let x = (step rules b 0 event fate).1 in
-          let P : Option Change → Type 0 = λ o. IsSpelled b o → HasRoom bodies (option_map (own_body b) o)
+          let P : Option Change → Type 0 = λ o. IsOwnBefore (fit.holds up).earlier b o → IsSpelled b o → HasRoom bodies (option_map (own_body b) o)
           → (k : Between scripts shelf b (if_kept (length_in (option_map (own_body b) o)) x)) × (k.bodies ≡ bodies) × (k.more ≡ option_map (own_body b) o) × MeasuresDoubt rules (length_in (option_map (own_body b) o)) x in
           subst (λ (y : Book). (k : Between scripts shelf b (if_kept n y)) × (k.bodies ≡ bodies) × (k.more ≡ Some body) × MeasuresDoubt rules n y) is
-          (subst P stake (between scripts shelf bodies rules b 0 event fate is_over setup lawful all_kept) spelled has_room)
+          (subst P stake (between scripts shelf bodies rules b 0 event fate is_over setup lawful all_kept) before spelled has_room)
 
       -- at each moment, where this is at stake
       pub recorded_moments : EventsStandBetween → OnlyNow (view_of view old) → Throughout scripts shelf b (if_kept n d) (view_of view old) (view_of view new)
@@ -126,7 +140,7 @@ module _ {D : Type 0} (view : D → View) (tells : Bool) (scripts : List Named) 
         let these : bodies ++ body ∷ [] ≡ bodies_in view new = ap (λ (bs : List (List ℕ)). bs ++ body ∷ []) (sym (ap stored call.seen)) ∙ sym added in
         let first = (kept_with fate landed).keeps.keeps in
         let keeps = subst (λ (bs : List (List ℕ)). Keeps scripts shelf bs d) these (subst (Keeps scripts shelf (bodies ++ body ∷ [])) is first) in
-        record { settled = λ _. settled; holds = λ _. keeps; stands = settled_stands view scripts shelf new d settled (keeps.seen, keeps.makes) still }
+        record { settled = λ _. settled; holds = λ _. keeps; stands = settled_stands view scripts shelf new d settled (keeps.earlier, keeps.makes) still }
 
     pub added_own : HasOwnImages scripts shelf (view new.disk) → StandsOwn rules scripts shelf (view new.disk) d
     added_own images =

@@ -2,6 +2,7 @@
 use Rattle.std.proofs.Common.{◌≡◌, ◌∙◌, ap, sym, subst, refl, ℕ, ◌+◌, ◌≤◌, ◌^◌, ◌++◌, ◌∷◌, [], Bool, IsTrue, false, List, length, Option, Some, None, option_map}
 use Rattle.script_nodes.specs.Setup.{Named}
 use Rattle.web_disk.specs.View.{View, LeavesOnly}
+use Rattle.page_journal.specs.Records.{stored}
 use Rattle.page_journal.specs.Holding.{MayHold}
 use Rattle.page_journal.specs.Settled as journal
 use Rattle.page_journal.specs.Settled.{IsSettled, view_of, bodies_in, length_of, is_broken}
@@ -13,19 +14,25 @@ use Rattle.replay_spec.specs.Step as step
 use Rattle.replay_spec.specs.Laws.{IsLawful}
 use Rattle.replay_spec.specs.Invariant.{IsOrderly}
 use Rattle.replay_spec.specs.Remade.{KeepsSetup}
+use Rattle.journal_books.specs.Before.{States, state_at, Made}
+use Rattle.journal_books.specs.Making as make
+use Rattle.journal_books.specs.Owning.{IsOwnBefore}
 use Rattle.journal_books.specs.Standing.{if_kept, Throughout}
 use Rattle.journal_books.specs.Keeping.{HasWholeScripts, CanBeWritten, stake_of}
 use Rattle.journal_books.specs.Lengths.{own_body}
 use Rattle.journal_books.specs.Disks.{IsFit}
 use Rattle.journal_books.specs.Spelling.{IsInRange, GivesTick}
 use Rattle.journal_books.specs.Laws.{MeasuresDoubt, EventsAreKept, EventsStandBetween}
-use Rattle.instance_book.specs.Makes.{HasPlaces, HasItsStates}
+use Rattle.instance_book.specs.Places.{given}
+use Rattle.instance_book.specs.Makes.{HasPlaces, HasItsStates, KeepsStates}
+use Rattle.instance_book.specs.declared.book.Book as kept
 use Rattle.instance_book.specs.Views.{book_of}
+use Rattle.book_recovery.specs.Remaking.{HasToldStates}
 use Rattle.shelf.specs.declared.rules.Rules as limits_of
 use Rattle.shelf.specs.declared.shelf.Shelf.{Shelf}
 use Rattle.shelf.specs.Ranges.{AreInRange}
 use Rattle.shelf.specs.declared.doubt.Doubt as doubt_type
-use Rattle.shelf.specs.Views.{rules_of, doubt_of, book_in, IsInOrder, IsOwnShelf}
+use Rattle.shelf.specs.Views.{rules_of, doubt_of, book_in, TellsStates, IsInOrder, IsOwnShelf}
 use Rattle.shelf.specs.Owning.{StandsOwn}
 use Rattle.shelf.specs.Events.{HasMoments, HasOwnMoments}
 use Rattle.shelf.proofs.Standing.{OnlyNow, CountsNow, IsQuietCall, quiet_fit, quiet_moments, own_alike, measured_alike}
@@ -34,20 +41,35 @@ use Rattle.shelf.proofs.Recorded.{recorded_moments, measured_moments, added_fit,
 use Rattle.shelf.proofs.Owned.{quiet_run_own}
 use Rattle.shelf.proofs.Order.{order_behind}
 
+-- whatever states the pages had that records told, they have
+abbrev pub StayTold : List Named → (old new : kept.Book) → Type 0
+StayTold ss old new = (states : States) → HasToldStates ss states old → HasToldStates ss states new
+
+pub kept_told : (ss : List Named) (old new : kept.Book) → KeepsStates old new → StayTold ss old new
+kept_told ss old new keeps states all = keeps (given (λ n. state_at n states)) ss all
+
+not_doubted : (o : Option doubt_type.Doubt) → option_map doubt_of o ≡ None → o ≡ None
+not_doubted None e = refl
+not_doubted (Some d) e = absurd (let no : ⊥ = cc in no)
+
 module _ {D N : Type 0} (view : D → View) (tells : Bool) (ss : List Named) (s t : Shelf D N) (limits : t.rules ≡ s.rules) (d : Book) (is : book_in ss t ≡ d) (same : reopened (book_in ss s) ≡ reopened d) (down : (book_in ss s).down ≡ d.down)
     (call : IsQuietCall view tells s.journal t.journal) where
   -- an event that leaves no record, behind which the book differs in what is out alone
-  module _ (order : IsInOrder view tells ss s) (places : HasPlaces ss s.book → HasPlaces ss t.book) (sound : journal.IsSound t.journal) (event : step.Event) (fate : step.Fate) (x : step.Reply)
+  module _ (order : IsInOrder view tells ss s) (places : HasPlaces ss s.book → HasPlaces ss t.book) (stay : StayTold ss s.book t.book) (sound : journal.IsSound t.journal) (event : step.Event) (fate : step.Fate) (x : step.Reply)
       (stepped : step.step (rules_of ss s.rules) (book_in ss s) 0 event fate ≡ (x, d)) (setup : KeepsSetup event (book_in ss s)) (lawful : IsLawful event (book_in ss s)) (tick : GivesTick event)
       (events : EventsAreKept) (none : lands (rules_of ss s.rules) (book_in ss s) event fate ≡ None) where
     there : (step.step (rules_of ss s.rules) (book_in ss s) 0 event fate).1 ≡ d
     there = ap (λ (y : step.Reply × Book). y.1) stepped
+
+    still_up : t.down ≡ None → s.down ≡ None
+    still_up up = not_doubted s.down (down ∙ (ap (λ (b : Book). b.down) (sym is) ∙ ap (λ (o : Option doubt_type.Doubt). option_map doubt_of o) up))
 
     pub quiet_order : HasWholeScripts d → (t.down ≡ None → is_broken t.journal ≡ false) → IsInOrder view tells ss t
     quiet_order scripts whole = order_behind view tells ss s t event fate x d order lawful tick places scripts is limits stepped (record {
       sound = sound;
       whole = whole;
       fit = λ told. quiet_fit view tells ss s.rules.number (rules_of ss s.rules) (book_in ss s) event fate s.journal refl setup lawful events d there none same down t.journal call told (order.fit told);
+      told = λ told up m made_there. stay m.earlier.states (order.told told (still_up up) m (ap (λ (bs : List (List ℕ)). make.book_of ss s.rules.number bs) (sym (ap stored call.seen)) ∙ made_there));
     })
 
     pub quiet_run : IsTrue tells → OnlyNow (view s.journal.disk) → HasMoments view ss s t
@@ -85,7 +107,8 @@ module _ {D N : Type 0} (view : D → View) (tells : Bool) (ss : List Named) (s 
 -- an event that leaves a record, with the state of its own script
 module _ {D N : Type 0} (view : D → View) (tells : Bool) (ss : List Named) (s t : Shelf D N) (order : IsInOrder view tells ss s) (limits : t.rules ≡ s.rules) (event : step.Event) (fate : step.Fate) (x : step.Reply) (d : Book) (is : book_in ss t ≡ d)
     (stepped : step.step (rules_of ss s.rules) (book_in ss s) 0 event fate ≡ (x, d)) (setup : KeepsSetup event (book_in ss s)) (lawful : IsLawful event (book_in ss s)) (events : EventsAreKept)
-    (up : s.down ≡ None) (c : Change) (spelled : CanBeWritten (book_in ss s) c) (room : length_of s.journal + 5 + length (own_body (book_in ss s) c) ≤ 2 ^ 30) (mid : Journal D) (call : IsQuietCall view tells s.journal mid)
+    (up : s.down ≡ None) (c : Change) (spelled : CanBeWritten (book_in ss s) c) (room : length_of s.journal + 5 + length (own_body (book_in ss s) c) ≤ 2 ^ 30)
+    (before : (told : IsTrue tells) → IsOwnBefore ((order.fit told).holds (ap (λ (o : Option doubt_type.Doubt). option_map doubt_of o) up)).earlier (book_in ss s) (Some c)) (mid : Journal D) (call : IsQuietCall view tells s.journal mid)
     (run : IsTrue tells → LeavesOnly (view_of view mid) (view_of view t.journal) (MayHold (bodies_in view mid) (own_body (book_in ss s) c))) (counts : CountsNow (view t.journal.disk)) where
   abbrev b : Book
   b = book_in ss s
@@ -93,7 +116,7 @@ module _ {D N : Type 0} (view : D → View) (tells : Bool) (ss : List Named) (s 
   abbrev rules : Rules
   rules = rules_of ss s.rules
 
-  none_down : b.down ≡ None
+  abbrev none_down : b.down ≡ None
   none_down = ap (λ (o : Option doubt_type.Doubt). option_map doubt_of o) up
 
   then_there : (step.step rules b 0 event fate).1 ≡ d
@@ -109,7 +132,7 @@ module _ {D N : Type 0} (view : D → View) (tells : Bool) (ss : List Named) (s 
       let n = length (own_body b c) in (
         n,
         subst (λ (y : Book). Throughout ss s.rules.number b (if_kept n y) (view s.journal.disk) (view t.journal.disk)) (sym is)
-            (recorded_moments view tells ss s.rules.number rules b event s.journal refl setup lawful events none_down c spelled room (order.fit told) mid t.journal call (run told) counts fate d then_there stake between only_now),
+            (recorded_moments view tells ss s.rules.number rules b event s.journal refl setup lawful events none_down c spelled room (order.fit told) (before told) mid t.journal call (run told) counts fate d then_there stake between only_now),
       )
 
   -- at each moment an own one was so
@@ -120,25 +143,29 @@ module _ {D N : Type 0} (view : D → View) (tells : Bool) (ss : List Named) (s 
       let v = view s.journal.disk in
       let w = view t.journal.disk in
       record {
-        own = own_run view tells ss n rules b event s.journal refl setup lawful events none_down c spelled room (order.fit told) mid t.journal call (run told) counts f landed only_now reads (own.own told).images;
+        own = own_run view tells ss n rules b event s.journal refl setup lawful events none_down c spelled room (order.fit told) (before told) mid t.journal call (run told) counts f landed only_now reads (own.own told).images;
         measured = subst (λ (y : Book). (m : ℕ) × Throughout ss n b (if_kept m y) v w × MeasuresDoubt rules m y) (sym is)
-            (measured_moments view tells ss n rules b event s.journal refl setup lawful events none_down c spelled room (order.fit told) mid t.journal call (run told) counts fate d then_there stake between only_now);
+            (measured_moments view tells ss n rules b event s.journal refl setup lawful events none_down c spelled room (order.fit told) (before told) mid t.journal call (run told) counts fate d then_there stake between only_now);
       }
 
   module _ (places : HasPlaces ss s.book → HasPlaces ss t.book) (scripts : HasWholeScripts d) (sound : journal.IsSound t.journal) (tick : GivesTick event) where
     pub added_order : lands rules b event fate ≡ Some c → d.down ≡ None → is_broken t.journal ≡ false
-        → (IsTrue tells → IsSettled view t.journal × (bodies_in view t.journal ≡ bodies_in view mid ++ own_body b c ∷ [])) → IsInOrder view tells ss t
-    added_order landed still whole added = order_behind view tells ss s t event fate x d order lawful tick places scripts is limits stepped (record {
+        → (IsTrue tells → IsSettled view t.journal × (bodies_in view t.journal ≡ bodies_in view mid ++ own_body b c ∷ []))
+        → (IsTrue tells → (m : Made) → make.book_of ss s.rules.number (bodies_in view s.journal ++ own_body b c ∷ []) ≡ make.made m → HasToldStates ss m.earlier.states t.book) → IsInOrder view tells ss t
+    added_order landed still whole added says = order_behind view tells ss s t event fate x d order lawful tick places scripts is limits stepped (record {
       sound = sound;
       whole = λ _. whole;
-      fit = λ told. added_fit view tells ss s.rules.number rules b event s.journal refl setup lawful events none_down c spelled room (order.fit told) mid t.journal call fate d then_there landed still (added told).0 (added told).1;
+      fit = λ told. added_fit view tells ss s.rules.number rules b event s.journal refl setup lawful events none_down c spelled room (order.fit told) (before told) mid t.journal call fate d then_there landed still (added told).0 (added told).1;
+      told = λ told _ m made_there. says told m
+          (ap (λ (bs : List (List ℕ)). make.book_of ss s.rules.number bs) (ap (λ (bs : List (List ℕ)). bs ++ own_body b c ∷ []) (sym (ap stored call.seen)) ∙ sym (added told).1) ∙ made_there);
     })
 
     pub doubted_order : EventsStandBetween → OnlyNow (view s.journal.disk) → stake_of rules b 0 event fate ≡ Some c → (d.down ≡ None → ⊥) → (t.down ≡ None → ⊥) → reopened b ≡ reopened d → IsInOrder view tells ss t
     doubted_order between only_now stake in_doubt in_doubt_there same = order_behind view tells ss s t event fate x d order lawful tick places scripts is limits stepped (record {
       sound = sound;
       whole = λ none. absurd (in_doubt_there none);
-      fit = λ told. doubted_fit view tells ss s.rules.number rules b event s.journal refl setup lawful events none_down c spelled room (order.fit told) mid t.journal call (run told) counts fate d then_there stake between only_now in_doubt same;
+      fit = λ told. doubted_fit view tells ss s.rules.number rules b event s.journal refl setup lawful events none_down c spelled room (order.fit told) (before told) mid t.journal call (run told) counts fate d then_there stake between only_now in_doubt same;
+      told = λ told none. absurd (in_doubt_there none);
     })
 
   -- an own one goes on to be
@@ -146,20 +173,20 @@ module _ {D N : Type 0} (view : D → View) (tells : Bool) (ss : List Named) (s 
     pub added_own : lands rules b event fate ≡ Some c → d.down ≡ None → (IsTrue tells → IsSettled view t.journal × (bodies_in view t.journal ≡ bodies_in view mid ++ own_body b c ∷ [])) → IsOwnShelf view tells ss t
     added_own landed still added = record {
       states = states own.states;
-      own = λ told. own_there told (recorded.added_own view tells ss s.rules.number rules b event s.journal refl setup lawful events none_down c spelled room (order.fit told) mid t.journal call fate d then_there landed still (added told).0 (added told).1
-          (own_images view tells ss s.rules.number rules b event s.journal refl setup lawful events none_down c spelled room (order.fit told) mid t.journal call (run told) counts fate landed (reads told) (own.own told).images));
+      own = λ told. own_there told (recorded.added_own view tells ss s.rules.number rules b event s.journal refl setup lawful events none_down c spelled room (order.fit told) (before told) mid t.journal call fate d then_there landed still (added told).0 (added told).1
+          (own_images view tells ss s.rules.number rules b event s.journal refl setup lawful events none_down c spelled room (order.fit told) (before told) mid t.journal call (run told) counts fate landed (reads told) (own.own told).images));
     }
 
     pub doubted_own : EventsStandBetween → OnlyNow (view s.journal.disk) → stake_of rules b 0 event fate ≡ Some c → reopened b ≡ reopened d → (f : step.Fate) → lands rules b event f ≡ Some c → IsOwnShelf view tells ss t
     doubted_own between only_now stake same f landed = record {
       states = states own.states;
-      own = λ told. own_there told (recorded.doubted_own view tells ss s.rules.number rules b event s.journal refl setup lawful events none_down c spelled room (order.fit told) mid t.journal call (run told) counts fate d then_there stake between only_now same f landed (reads told) (own.own told).images);
+      own = λ told. own_there told (recorded.doubted_own view tells ss s.rules.number rules b event s.journal refl setup lawful events none_down c spelled room (order.fit told) (before told) mid t.journal call (run told) counts fate d then_there stake between only_now same f landed (reads told) (own.own told).images);
     }
 
 -- a shelf whose book alone was made anew, the same
-pub same_order : {D N : Type 0} (view : D → View) (tells : Bool) (ss : List Named) (s t : Shelf D N) → IsInOrder view tells ss s → book_in ss t ≡ book_in ss s → HasPlaces ss t.book → t.journal ≡ s.journal → t.down ≡ s.down → t.rules ≡ s.rules
+pub same_order : {D N : Type 0} (view : D → View) (tells : Bool) (ss : List Named) (s t : Shelf D N) → IsInOrder view tells ss s → book_in ss t ≡ book_in ss s → HasPlaces ss t.book → StayTold ss s.book t.book → t.journal ≡ s.journal → t.down ≡ s.down → t.rules ≡ s.rules
     → IsInOrder view tells ss t
-same_order view tells ss s t order is placed journal_same down limits = record {
+same_order view tells ss s t order is placed stay journal_same down limits = record {
   placed = placed;
   orderly = subst IsOrderly (sym is) order.orderly;
   scripts_are = subst HasWholeScripts (sym is) order.scripts_are;
@@ -171,6 +198,8 @@ same_order view tells ss s t order is placed journal_same down limits = record {
   whole = λ none. subst (λ (j : Journal _). is_broken j ≡ false) (sym journal_same) (order.whole (sym down ∙ none));
   fit = λ told. subst (λ (b : Book). IsFit view ss t.rules.number t.journal b) (sym is) (subst (λ (l : limits_of.Rules). IsFit view ss l.number t.journal (book_in ss s)) (sym limits)
       (subst (λ (j : Journal _). IsFit view ss s.rules.number j (book_in ss s)) (sym journal_same) (order.fit told)));
+  told = λ told up. subst (λ (l : limits_of.Rules). TellsStates view ss l.number t.journal t.book) (sym limits)
+      (subst (λ (j : Journal _). TellsStates view ss s.rules.number j t.book) (sym journal_same) (λ m made_there. stay m.earlier.states (order.told told (sym down ∙ up) m made_there)));
 }
 
 -- what holds of the book beside the journal holds of a shelf's book where nothing is in doubt

@@ -1,5 +1,5 @@
 -- How long a record is, and what is told of one that is too long.
-use Rattle.std.proofs.Common.{◌≡◌, subst, refl, ℕ, ◌+◌, ◌≤◌, ◌^◌, Bool, true, false, ◌&&◌, List, length, Option, Some, None, Err, if◌then◌else◌, arith}
+use Rattle.std.proofs.Common.{◌≡◌, sym, subst, refl, ℕ, ◌+◌, ◌≤◌, ◌^◌, Bool, true, false, List, length, Option, Some, None, Err, arith}
 use Rattle.std.specs.Prelude.{nat_lt}
 use Rattle.std.proofs.lemmas.Bool.Decides.{nat_tests}
 use Rattle.std.proofs.lemmas.Option.{same_Some}
@@ -8,7 +8,8 @@ use Rattle.script_value.specs.declared.outcome.Reply.TheVariants as reply
 use Rattle.replay_spec.specs.Book.{Change}
 use Rattle.replay_spec.specs.Admission.{when, or_else}
 use Rattle.replay_spec.specs.Step as step
-use Rattle.journal_records.specs.Records.{changes, body_of, are_shallow, has_state, body_length, record_length}
+use Rattle.journal_records.specs.Records.{changes, body_of, record_length}
+use Rattle.journal_books.proofs.Brief.{length_short, short_measured}
 use Rattle.instance_book.specs.Views.{reply_of}
 use Rattle.shelf.specs.Events.{TellsCount}
 use Rattle.shelf.specs.Recording.{refusal_of_size, IsShort, IsWritten}
@@ -22,11 +23,7 @@ not_refused journal size short =
 
 -- and its length is that of the body
 pub size_is : (c : Change) (state : Option (List ℕ)) → record_length c state ≤ 1048576 → length (body_of (changes c state)) ≡ record_length c state
-size_is c state low = by_depth (are_shallow c && has_state c state) low
-  where
-    by_depth : (s : Bool) → (if s then body_length (changes c state) else 2 ^ 63) ≤ 1048576 → length (body_of (changes c state)) ≡ (if s then body_length (changes c state) else 2 ^ 63)
-    by_depth true low = omega (arith, low)
-    by_depth false low = absurd (omega (arith, low))
+size_is c state low = sym (short_measured c state (length_short c state low))
 
 -- the measure of a record tells no count of faults
 pub size_count : (journal : ℕ) (size : ℕ) (x : Reply) (old now : ℕ) → refusal_of_size journal size ≡ Some (reply_of x) → TellsCount old now (reply_of x)

@@ -18,6 +18,7 @@ use Rattle.journal_books.specs.Standing.{Between, Hold, HoldIn, if_kept, Stands,
 use Rattle.journal_books.specs.Keeping.{Keeps, KeepsDoubt, IsOwnDoubt, KeepsWith, landed_bodies, IsSpelled}
 use Rattle.journal_books.specs.Disks.{IsFit}
 use Rattle.journal_books.specs.Laws.{AreOver, MeasuresDoubt, EventsAreKept}
+use Rattle.journal_books.specs.Owning.{IsOwnBefore}
 use Rattle.journal_books.proofs.Between.{stand_alike}
 use Rattle.journal_books.proofs.Standings.{stays_then, stands_then}
 use Rattle.shelf.specs.Owning.{StandsMeasured, StandsOwn}
@@ -62,7 +63,7 @@ throughout_alike scripts shelf a b c old new same (k, run) =
     (l.0, subst (λ (bs : List (List ℕ)). P bs l.0.more) (sym l.1) (subst (P k.bodies) (sym l.2) run))
 
 -- where nothing is in doubt, all that is kept is kept with it
-pub nothing_doubted : (scripts : List Named) (shelf : ℕ) (bodies : List (List ℕ)) (b : Book) → b.down ≡ None → Keeps scripts shelf bodies b → KeepsDoubt scripts shelf bodies b
+abbrev pub nothing_doubted : (scripts : List Named) (shelf : ℕ) (bodies : List (List ℕ)) (b : Book) → b.down ≡ None → Keeps scripts shelf bodies b → KeepsDoubt scripts shelf bodies b
 nothing_doubted scripts shelf bodies b up keeps =
     record { keeps = keeps; doubt = subst (λ (o : Option Doubt). IsOwnDoubt b o keeps.recoverable.doubted) (sym up) tt }
 
@@ -73,8 +74,8 @@ module _ {D : Type 0} (view : D → View) (tells : Bool) (scripts : List Named) 
     quiet_keeps : b.down ≡ None → Keeps scripts shelf (bodies_in view old) b → Keeps scripts shelf (bodies_in view new) d
     quiet_keeps up keeps =
         let old_bodies = bodies_in view old in
-        let P : Option Change → Type 0 = λ o. IsSpelled b o → KeepsWith scripts shelf old_bodies (landed_bodies b o) (step rules b 0 event fate).1 in
-        let all = subst P none (events scripts shelf old_bodies rules b 0 event fate is_over setup lawful (nothing_doubted scripts shelf old_bodies b up keeps)) tt in
+        let P : Option Change → Type 0 = λ o. IsOwnBefore keeps.earlier b o → IsSpelled b o → KeepsWith scripts shelf old_bodies (landed_bodies b o) (step rules b 0 event fate).1 in
+        let all = subst P none (events scripts shelf old_bodies rules b 0 event fate is_over setup lawful (nothing_doubted scripts shelf old_bodies b up keeps)) tt tt in
         let these : old_bodies ++ [] ≡ bodies_in view new = append-nil old_bodies ∙ ap stored (sym call.seen) in
         subst (λ (bs : List (List ℕ)). Keeps scripts shelf bs d) these (subst (Keeps scripts shelf (old_bodies ++ [])) is all.keeps.keeps)
 

@@ -1,15 +1,16 @@
 -- A change of a ticket's segment has the state that its script leaves, where the ticket is for its visit.
-use Rattle.std.proofs.Common.{◌≡◌, ◌∙◌, ap, sym, subst, refl, ℕ, List, slice_get, Option, Some, None, inl, inr}
+use Rattle.std.proofs.Common.{◌≡◌, ◌∙◌, ap, sym, subst, refl, ℕ, List, [], ◌∷◌, ◌++◌, length, slice_get, Option, Some, None, inl, inr}
+use Rattle.std.proofs.lemmas.List.{map-append}
 use Rattle.script_nodes.specs.Setup.{Named}
 use Rattle.page_names.specs.Names.{Destination, start, page}
 use Rattle.page_names.specs.declared.names.PageName.{PageName}
 use Rattle.instance_cells.specs.Cells.{reads_of}
-use Rattle.replay_spec.specs.Tape.{recorded, Tape, shows, finishes, ends, Outcome, paged, faulted, out_of_fuel}
+use Rattle.replay_spec.specs.Tape.{recorded, Answer, Tape, shows, finishes, ends, Outcome, paged, faulted, out_of_fuel}
 use Rattle.replay_spec.specs.Eval as eval
 use Rattle.replay_spec.specs.Book as spec
-use Rattle.replay_spec.specs.Book.{Doubt, Book}
+use Rattle.replay_spec.specs.Book.{Page, Doubt, Book, chain}
 use Rattle.replay_spec.specs.Admission.{◌>>=◌, Place, Admission, begins, resumes, refused, refusal_of, admit}
-use Rattle.replay_spec.specs.Next.{tape_for, start_visit, page_visit}
+use Rattle.replay_spec.specs.Next.{Home, home, past, answered, page_tape, tape_for, start_visit, page_visit}
 use Rattle.replay_spec.specs.Recovery.{page_of_numbers}
 use Rattle.replay_spec.specs.Laws.{Waits}
 use Rattle.replay_spec.proofs.Admitted.{StandsAt, page_stands, start_is_no_page, page_is_no_start}
@@ -18,12 +19,14 @@ use Rattle.machine_spec.specs.Laws.{started, Stops, IsStateOf}
 use Rattle.machine_spec.proofs.Halting.{script_stop}
 use Rattle.machine_spec.proofs.Law.{page_is_inside}
 use Rattle.machine_spec.proofs.Replay.{stops_as_run, one_state}
-use Rattle.stored_states.specs.Views.{Keeps, segment_of, state_of}
+use Rattle.kept_states.specs.Links.{links_at, behind_at}
+use Rattle.stored_states.specs.Views.{Keeps, origin_of, segment_of, state_of}
 use Rattle.stored_states.specs.declared.segment.Outcome.{Outcome as StoredOutcome}
 use Rattle.stored_states.specs.declared.segment.Outcome.TheVariants.{Shown, Finished, Ended, Faulted, Fuel}
 use Rattle.stored_states.specs.declared.segment.Segment.{Segment}
 use Rattle.journal_books.specs.Retaking.{arena_of}
-use Rattle.journal_books.specs.Lengths.{kept_at, kept_by, state_over, state_by}
+use Rattle.journal_books.specs.Before.{links_behind}
+use Rattle.journal_books.specs.Lengths.{kept_at, kept_by, state_over, state_by, chain_tape, own_state, own_before}
 use Rattle.journal_books.specs.Keeping.{IsWhole, HasWholeScripts}
 use Rattle.instance_book.specs.declared.book.Book as kept
 use Rattle.instance_book.specs.declared.prepared.Opening.{Opening}
@@ -33,10 +36,10 @@ use Rattle.instance_book.specs.declared.prepared.Change.TheVariants.{Opens, Exte
 use Rattle.instance_book.specs.declared.ticket.Ticket.{Ticket}
 use Rattle.instance_book.specs.Views.{ticket_of, book_of}
 use Rattle.instance_book.specs.Changes.{change_of}
-use Rattle.instance_book.specs.Fits.{FitsAs}
+use Rattle.instance_book.specs.Fits.{IsStateBehind, GoesOnFrom, FitsAs}
 use Rattle.instance_book.specs.Laws.{KeepsStateAs}
 use Rattle.instance_book.specs.Prepares.{IsStartBy, IsAnswerBy, IsChangeBy, OpensFrom, ExtendsFrom, KeepsStateOf}
-use Rattle.shelf.specs.Recording.{state_in}
+use Rattle.shelf.specs.Recording.{state_in, behind_in}
 
 -- ---- the state that is kept over a tape is the one that the script leaves
 
@@ -115,7 +118,61 @@ module _ (b : Book) (whole : HasWholeScripts b) (t : Ticket) (r : Segment) where
   state_left (start name) ok fits over c keeps is = start_left name (admit b (start name)) refl ok fits over c keeps is
   state_left (page name n) ok fits over c keeps is = page_left name n (admit b (page name n)) refl ok fits over c keeps is
 
+-- ---- the state that a page's is written behind is what its ticket goes on from
+
+tape_there : (h : Home) (qs : List Page) (p : Page) → chain_tape h (qs ++ p ∷ []) ≡ Some (page_tape h qs p)
+tape_there h [] p = refl
+tape_there h (q ∷ qs) p = ap (λ (l : List Answer). Some (record { first = past h q; later = l })) (map-append (answered h) qs (p ∷ []))
+
+module _ (b : Book) (t : Ticket) (at : Place) (whole : IsWhole at.instance.script) where
+  abbrev behind : List Page
+  behind = chain at.instance.pages at.page
+
+  own_is : (d : Suspended) → IsStateBehind (page_visit b (ticket_of t) at) d → own_state b.shelf at ≡ Some d
+  own_is d from =
+      let s = at.instance.script in
+      let h = home s b.shelf at.instance.number in
+      ap (λ (qs : List Page). chain_tape h qs >>= state_over s.script) from.chain
+      ∙ (ap (λ (o : Option Tape). o >>= state_over s.script) (tape_there h from.ancestors from.page) ∙ left_over s (page_tape h from.ancestors from.page) d whole from.state)
+
+  goes_behind : (o : Option Suspended) → GoesOnFrom (page_visit b (ticket_of t) at) o → behind_at (links_behind at) (own_state b.shelf at) ≡ behind_at (links_behind at) o
+  goes_behind None from =
+      let own = own_state b.shelf at in
+      subst (λ (qs : List Page). behind_at (links_at (length qs)) own ≡ behind_at (links_at (length qs)) None) (sym from) refl
+  goes_behind (Some d) from = ap (behind_at (links_behind at)) (own_is d from)
+
+module _ (b : Book) (whole : HasWholeScripts b) (t : Ticket) (s : eval.Segment) where
+  abbrev IsBehind : Change → Type 0
+  IsBehind c = own_before b (change_of c) ≡ behind_in t c
+
+  answer_behind : (name : List ℕ) (n : PageName) (a : Admission) → admit b (page name n) ≡ a → refusal_of a ≡ None → FitsAs b.scripts b t a → (x : Extension)
+      → IsAnswerBy t s n.instance n.page (change_of (Extends x)) → IsBehind (Extends x)
+  answer_behind name n (begins k sc) adm ok fits x is = absurd (page_is_no_start b name n k sc adm)
+  answer_behind name n (refused why) adm ok fits x is = absurd (cc)
+  answer_behind name n (resumes at) adm ok fits x is =
+      let stands = page_stands b name n at adm in
+      ap (λ (y : spec.Extension). own_before b (spec.extends y)) is.1.1
+      ∙ (ap (λ (o : Option Place). o >>= (λ z. behind_at (links_behind z) (own_state b.shelf z))) (place_found b name n at stands)
+      ∙ (goes_behind b t at (whole.instances n.instance at.instance stands.here) (origin_of t.from) fits.from ∙ ap (λ (l : ℕ). behind_at l (origin_of t.from)) (sym fits.links)))
+
+  pub before_left : (d : Destination) → refusal_of (admit b d) ≡ None → FitsAs b.scripts b t (admit b d) → (c : Change) → IsChangeBy t s d (change_of c) → IsBehind c
+  before_left (start name) ok fits (Opens o) is = refl
+  before_left (start name) ok fits (Extends x) is = absurd is
+  before_left (start name) ok fits (Ends e) is = refl
+  before_left (start name) ok fits (Finishes f) is = refl
+  before_left (page name n) ok fits (Opens o) is = refl
+  before_left (page name n) ok fits (Extends x) is = answer_behind name n (admit b (page name n)) refl ok fits x is
+  before_left (page name n) ok fits (Ends e) is = refl
+  before_left (page name n) ok fits (Finishes f) is = refl
+
 -- whatever the journal and the doubt beside the book
+pub before_beside : (ss : List Named) (b : kept.Book) (l m : ℕ) (d e : Option Doubt) (c : spec.Change) → own_before (book_of ss l d b) c ≡ own_before (book_of ss m e b) c
+before_beside ss b l m d e (spec.opens o) = refl
+before_beside ss b l m d e (spec.extends x) = refl
+before_beside ss b l m d e (spec.ends x) = refl
+before_beside ss b l m d e (spec.finishes f) = refl
+before_beside ss b l m d e (spec.sweeps tick) = refl
+
 pub state_beside : (ss : List Named) (b : kept.Book) (l m : ℕ) (d e : Option Doubt) (c : spec.Change) → state_by (book_of ss l d b) c ≡ state_by (book_of ss m e b) c
 state_beside ss b l m d e (spec.opens o) = refl
 state_beside ss b l m d e (spec.extends x) = refl

@@ -1,93 +1,27 @@
 -- What the events of a shelf come to.
-use Rattle.std.proofs.Common.{◌≡◌, ◌∙◌, ap, sym, subst, refl, ℕ, ◌^◌, ◌==◌, nat_le, Bool, true, false, List, [], length, Option, Some, None}
+use Rattle.std.proofs.Common.{◌≡◌, ◌∙◌, ap, refl, ℕ, ◌^◌, ◌==◌, nat_le, true, false, List, [], length, Option, Some, None}
 use Rattle.script_value.specs.Val.{Val}
 use Rattle.script_value.specs.declared.outcome.Refusal.{Refusal}
 use Rattle.script_value.specs.declared.outcome.TxName.{TxName}
 use Rattle.script_nodes.specs.Setup.{Named}
 use Rattle.page_names.specs.Names.{Destination}
 use Rattle.replay_spec.specs.Tape as tape
-use Rattle.replay_spec.specs.Tape.{How, shows, finishes, ends, Outcome, paged, faulted, out_of_fuel}
-use Rattle.replay_spec.specs.Eval.{Segment}
+use Rattle.replay_spec.specs.Tape.{out_of_fuel}
 use Rattle.replay_spec.specs.Book.{Change, sweeps, Doubt, Book, draw, spend}
 use Rattle.replay_spec.specs.Change.{land}
 use Rattle.replay_spec.specs.Rules.{Rules}
-use Rattle.replay_spec.specs.Admission.{when, or_else, Admission, begins, resumes, refused, refusal_of, admit}
+use Rattle.replay_spec.specs.Admission.{when, or_else, refusal_of, admit}
 use Rattle.replay_spec.specs.Next as next
-use Rattle.replay_spec.specs.Next.{Origin, starts, answers, Visit}
 use Rattle.replay_spec.specs.Step as step
-use Rattle.replay_spec.specs.Step.{Decision, replies, records, unless, full, full_journal, reply_by, with_room, stopped, decide, settle, publish_comes, sweep_comes, freed, plain, no_memory, disk_fault}
+use Rattle.replay_spec.specs.Step.{replies, records, unless, decide, settle, publish_comes, sweep_comes, freed, plain, no_memory, disk_fault}
 use Rattle.replay_spec.specs.Runs.{lands, recorded_under}
 use Rattle.replay_spec.specs.Remade.{through}
 use Rattle.replay_spec.proofs.Last.{last}
 use Rattle.journal_records.specs.Records.{record_length}
 use Rattle.journal_books.specs.Lengths.{state_told}
-use Rattle.instance_book.specs.Prepares.{rules_with}
 use Rattle.shelf.specs.declared.rules.Rules as limits_of
 use Rattle.shelf.specs.Views.{unmeasured, rules_of, fate_by}
 use Rattle.shelf.specs.Recording.{refusal_of_size}
-
--- a decision's reply is neither want of memory nor a fault of the disk
-abbrev pub IsPlain : Decision → Type 0
-IsPlain (replies r) = fate_by r ≡ plain
-IsPlain (records r c inside) = fate_by r ≡ plain
-
-abbrev IsPlainIf : Option step.Reply → Type 0
-IsPlainIf None = Unit {0}
-IsPlainIf (Some r) = fate_by r ≡ plain
-
-plain_unless : (o : Option step.Reply) (d : Decision) → IsPlainIf o → IsPlain d → IsPlain (unless o d)
-plain_unless None d h k = k
-plain_unless (Some r) d h k = h
-
-plain_when : (b : Bool) (r : step.Reply) → fate_by r ≡ plain → IsPlainIf (when b r)
-plain_when false r h = tt
-plain_when true r h = h
-
-module _ (fuel life instances pages : ℕ) where
-  abbrev rules : Rules
-  rules = rules_with fuel life instances pages
-
-  plain_full : (how : How) (origin : Origin) (count : ℕ) → IsPlainIf (full rules how origin count)
-  plain_full (shows kind) (starts k) count = plain_when (nat_le instances count) (step.shelf_full count) refl
-  plain_full (shows kind) (answers i p) count = plain_when (nat_le pages count) (step.instance_full count) refl
-  plain_full finishes origin count = tt
-  plain_full ends origin count = tt
-
-  plain_room : (b : Book) (how : How) (bytes url : List ℕ) (inside : List TxName) (c : Option Change) → IsPlain (with_room rules b (reply_by how bytes url) inside c)
-  plain_room b (shows kind) bytes url inside None = refl
-  plain_room b (shows kind) bytes url inside (Some c) = refl
-  plain_room b finishes bytes url inside None = refl
-  plain_room b finishes bytes url inside (Some c) = refl
-  plain_room b ends bytes url inside None = refl
-  plain_room b ends bytes url inside (Some c) = refl
-
-  plain_stopped : (b : Book) (count : ℕ) (v : Visit) (s : Segment) (o : Outcome) → IsPlain (stopped rules b count v s o)
-  plain_stopped b count v s (paged how bytes) = plain_unless (full rules how v.origin count) _ (plain_full how v.origin count) (plain_room b how bytes _ s.entered _)
-  plain_stopped b count v s (faulted f) = refl
-  plain_stopped b count v s (out_of_fuel cost) = refl
-
-  plain_decision : (b : Book) (t : next.Ticket) (a : Admission) → IsPlain (decide rules b t a)
-  plain_decision b t (begins k s) =
-      let v = next.start_visit b t k s in
-      let o = next.comes_to v (tape.present s.script.cells fuel) in
-      plain_stopped b (length b.instances) v o o.outcome
-  plain_decision b t (resumes at) =
-      let v = next.page_visit b t at in
-      let o = next.comes_to v (tape.present at.instance.cells fuel) in
-      plain_stopped b (length at.instance.pages) v o o.outcome
-  plain_decision b t (refused r) = refl
-
-  plain_publish : (b : Book) (t : next.Ticket) → b.down ≡ None → IsPlain (publish_comes rules b t)
-  plain_publish b t up =
-      let decided : publish_comes rules b t ≡ decide rules b t (admit b t.target) = ap (λ (o : Option Doubt). unless (step.down_by o) (decide rules b t (admit b t.target))) up in
-      subst IsPlain (sym decided) (plain_decision b t (admit b t.target))
-
-pub records_plain : (r : limits_of.Rules) (b : Book) (t : next.Ticket) (x : step.Reply) (c : Change) (inside : List TxName) → b.down ≡ None → publish_comes (unmeasured r) b t ≡ records x c inside
-    → fate_by x ≡ plain
-records_plain r b t x c inside up is = subst IsPlain is (plain_publish r.fuel r.life r.instances r.pages b t up)
-
-pub replies_plain : (r : limits_of.Rules) (b : Book) (t : next.Ticket) (x : step.Reply) → b.down ≡ None → publish_comes (unmeasured r) b t ≡ replies x → fate_by x ≡ plain
-replies_plain r b t x up is = subst IsPlain is (plain_publish r.fuel r.life r.instances r.pages b t up)
 
 -- what is told is the reply, whatever fate is read off it, and nothing is recorded
 pub record IsTold (rules : Rules) (b : Book) (x : step.Reply) : Type 0 where

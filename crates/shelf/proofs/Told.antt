@@ -1,16 +1,20 @@
 -- A state that has a spelling can be told.
-use Rattle.std.proofs.Common.{◌≡◌, ap, subst, List, [], ◌∷◌, reverse, Some, None, if◌then◌else◌, Bool, true, refl, ℕ, arith}
+use Rattle.std.proofs.Common.{◌≡◌, ◌∙◌, ap, sym, subst, List, [], ◌∷◌, reverse, Option, Some, None, if◌then◌else◌, Bool, true, false, refl, ℕ, zero, suc, arith}
 use Rattle.std.specs.List.{list_all, AllByRecursion}
 use Rattle.std.proofs.lemmas.Bool.{and_from}
 use Rattle.std.proofs.lemmas.Bool.Decides.{nat_tests}
 use Rattle.std.proofs.lemmas.List.{reverse-reverse}
 use Rattle.script_value.specs.Val.{Val}
 use Rattle.value_bytes.specs.Spelling.{HasBytes}
+use Rattle.kept_states.specs.Kept.{Form, spelled, whole, bytes_of, IsKeptBy, form_byte, KeptAreWritten}
+use Rattle.kept_states.specs.Links.{behind_at}
 use Rattle.machine_spec.specs.Machine.{Frame, in_binding, in_operand, in_body, in_seq, in_and, in_or, in_if, in_count, in_store, in_turn, in_isolate, in_page, in_finish, in_back, Suspended}
-use Rattle.frame_codec.specs.Spelling.{state_bytes, FrameHasBytes, ShadowHasBytes, StateHasBytes}
+use Rattle.frame_codec.specs.Forms.{form_bytes, BindsBefore}
+use Rattle.frame_codec.specs.Spelling.{FrameHasBytes, ShadowHasBytes, StateHasBytes}
 use Rattle.frame_codec.proofs.States.{all_reversed}
 use Rattle.journal_records.specs.Fields.{is_shallow}
 use Rattle.journal_books.specs.Lengths.{is_shallow_frame, is_shallow_state, told_bytes}
+use Rattle.shelf.specs.Recording.{IsKeptForm}
 
 value_shallow : (v : Val) → HasBytes v → is_shallow v ≡ true
 value_shallow v h = let deep = h.deep in grind (arith, nat_tests, deep)
@@ -47,5 +51,38 @@ spelled_shallow d h =
     (and_from (list_all is_shallow_frame d.frames) (list_all cell d.shadows) (all_shallow FrameHasBytes is_shallow_frame frame_shallow d.frames all)
     (all_shallow ShadowHasBytes cell (λ s x. value_shallow s.1 x.1) d.shadows h.shadows.1))
 
-pub spelled_told : (d : Suspended) → StateHasBytes d → told_bytes d ≡ Some (state_bytes d)
-spelled_told d h = ap (λ (b : Bool). if b then Some (state_bytes d) else None) (spelled_shallow d h)
+pub spelled_told : (before : Option Suspended) (d : Suspended) → StateHasBytes d → told_bytes before d ≡ Some (form_bytes before d)
+spelled_told before d h = ap (λ (b : Bool). if b then Some (form_bytes before d) else None) (spelled_shallow d h)
+
+-- ---- what is kept of a state is written so
+
+pub form_kept : (before : Option Suspended) (links : ℕ) (d : Suspended) (f : Form) → IsKeptBy before links d f → IsKeptForm (behind_at links before) d f
+form_kept None zero d f h = h
+form_kept None (suc n) d f h = h
+form_kept (Some p) zero d f h = h
+form_kept (Some p) (suc n) d f h = h
+
+kept_form : (before : Option Suspended) (d : Suspended) (f : Form) → IsKeptForm before d f → IsKeptBy before 1 d f
+kept_form None d f h = h
+kept_form (Some p) d f h = h
+
+module _ (d : Suspended) (bytes : List ℕ) where
+  by_form : (before : Option Suspended) (f : Form) → IsKeptForm before d f → bytes_of f ≡ Some bytes → StateHasBytes d × BindsBefore before d
+  by_form None (spelled parts) h is = (h.0, tt)
+  by_form None (whole e) h is = absurd (let no : ⊥ = cc is in no)
+  by_form (Some p) (spelled parts) h is = (h.0.0, h.0.1)
+  by_form (Some p) (whole e) h is = absurd (let no : ⊥ = cc is in no)
+
+  module _ (law : KeptAreWritten) (before : Option Suspended) (f : Form) (kept : IsKeptForm before d f) (is : bytes_of f ≡ Some bytes) where
+    pub kept_spelled : StateHasBytes d
+    kept_spelled = (by_form before f kept is).0
+
+    pub kept_binds : BindsBefore before d
+    kept_binds = (by_form before f kept is).1
+
+    pub kept_told : Some (form_byte before ∷ bytes) ≡ told_bytes before d
+    kept_told = ap (λ (bs : List ℕ). Some bs) (law before 1 d f bytes (kept_form before d f kept) is) ∙ sym (spelled_told before d kept_spelled)
+
+-- what nests too deep has no bytes
+pub deep_told : (before : Option Suspended) (d : Suspended) → is_shallow_state d ≡ false → None ≡ told_bytes before d
+deep_told before d deep = sym (ap (λ (b : Bool). if b then Some (form_bytes before d) else None) deep)

@@ -18,6 +18,7 @@ use Rattle.instance_book.specs.Admissions.{book_under, refusal_for}
 use Rattle.instance_book.specs.Views.{ticket_of, reply_of, book_of}
 use Rattle.page_names.specs.Views.{target_of}
 use Rattle.stored_states.specs.Views.{segment_of}
+use Rattle.instance_book.specs.Changes.{HasDeadlineBy}
 use Rattle.instance_book.specs.Prepares.{Prepares, IsOfSegment, KeepsItsState}
 use Rattle.instance_book.specs.Fits.{FitsAs}
 use Rattle.instance_book.specs.Laws.{KeepsStateAs}
@@ -54,12 +55,13 @@ KeepsStateIfFits b t r =
     FitsAs b.scripts b t a → KeepsStateAs b t a r
 
 -- What is prepared can be landed, whatever the ticket is for, where the state that it shows is whole: the target is admitted; it is a
--- change of some segment of the ticket, or none, and carries itself out; the segment's effects hold; and the change has its state,
--- which is that of its visit where the ticket fits.
+-- change of some segment of the ticket, or none, and carries itself out; its deadline is one that records tell; the segment's effects
+-- hold; and the change has its state, which is that of its visit where the ticket fits.
 pub record CanBeLanded (scripts : List Named) (b : Book) (t : Ticket) (p : Prepared) : Type 0 where
   pub admitted : refusal_of (admit (book_of scripts 0 None b) (target_of t.target)) ≡ None
   pub segment : Segment
   pub itself : IsOfSegment b t (segment_of segment) (target_of t.target) p
+  pub deadline : HasDeadlineBy p.change
   pub state : KeepsItsState t segment p.change
   pub held : AreHeldNow b t segment
   pub own : KeepsStateIfFits (book_of scripts 0 None b) t segment

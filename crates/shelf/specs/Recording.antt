@@ -1,19 +1,32 @@
 -- How the record of a change is measured and written.
-use Rattle.std.specs.Prelude.{◌≡◌, ◌≤◌, ◌<◌, ◌+◌, ◌^◌, ℕ, Bool, List, Option, Some, None, Result, Ok, Err, nat_lt, ⊤}
+use Rattle.std.specs.Prelude.{◌≡◌, ◌≤◌, ◌<◌, ◌+◌, ◌^◌, ℕ, Bool, List, Option, Some, None, Result, Ok, Err, IfSome, option_map, nat_lt, ⊤}
 use Rattle.script_value.specs.declared.outcome.Reply.{Reply}
 use Rattle.script_value.specs.declared.outcome.Reply.TheVariants as reply
 use Rattle.replay_spec.specs.Admission.{when, or_else, ◌>>=◌}
 use Rattle.replay_spec.specs.Step as step
 use Rattle.replay_spec.specs.Step.{oversize, journal_full, most_of_record, most_of_journal}
 use Rattle.script_value.specs.Val.{Val}
-use Rattle.journal_records.specs.Fields.{is_shallow, deadlines_end}
+use Rattle.journal_records.specs.Fields.{is_shallow}
 use Rattle.journal_records.specs.Records.{Record, begins, changes, body_of, IsInGrammar, record_length, PartsFit}
+use Rattle.script_nodes.specs.declared.setup.Setup.{Setup}
+use Rattle.script_nodes.specs.Views.{scripts_of}
+use Rattle.instance_book.specs.declared.book.Book.{Book}
+use Rattle.instance_book.specs.declared.ticket.Ticket.{Ticket}
 use Rattle.instance_book.specs.declared.prepared.Change.{Change}
-use Rattle.instance_book.specs.declared.prepared.Change.TheVariants.{Opens, Extends}
+use Rattle.instance_book.specs.declared.prepared.Change.TheVariants.{Opens, Extends, Ends, Finishes}
 use Rattle.instance_book.specs.Changes.{change_of}
 use Rattle.instance_book.specs.Views.{reply_of}
+use Rattle.instance_book.specs.Places.{given, kept_at}
+use Rattle.instance_book.specs.Makes.{HasStatesFrom}
+use Rattle.instance_book.specs.Prepares.{IsKeptOfTicket}
+use Rattle.instance_book.specs.Told.{AnswersGiven}
 use Rattle.machine_spec.specs.Machine.{Suspended}
-use Rattle.stored_states.specs.Views.{suspended_of}
+use Rattle.std.specs.Borrow.{Bor}
+use Rattle.stored_states.specs.Views.{origin_of, suspended_of}
+use Rattle.stored_states.specs.declared.frame.Suspended as stored
+use Rattle.frame_codec.specs.Forms.{BindsBefore}
+use Rattle.kept_states.specs.Kept.{Form, IsAlone, IsBehind, IsKeptFrom}
+use Rattle.kept_states.specs.Links.{behind_at}
 use Rattle.journal_books.specs.Lengths.{told_bytes}
 
 -- why a record of this length can't be added to a journal of this one
@@ -44,14 +57,56 @@ IsWritten journal (changes c state) (Ok body) = IsBody journal (changes c state)
 IsWritten journal (changes c state) (Err reply.Memory) = ⊤
 IsWritten journal (changes c state) (Err r) = refusal_of_size journal (record_length c state) ≡ Some (reply_of r)
 
--- the state of the page that a change shows, and the bytes that its record tells of it
+-- the state of the page that a change shows
 abbrev pub state_in : Change → Option Suspended
 state_in (Opens o) = Some (suspended_of o.state)
 state_in (Extends x) = Some (suspended_of x.state)
 state_in _ = None
 
-abbrev pub told_in : Change → Option (List ℕ)
-told_in c = state_in c >>= told_bytes
+-- that is written behind what the change's ticket goes on from, where the links ask for it
+abbrev pub behind_in : Ticket → Change → Option Suspended
+behind_in t (Extends x) = behind_at t.links (origin_of t.from)
+behind_in t _ = None
+
+-- and the bytes that its record tells of it
+abbrev pub told_in : Ticket → Change → Option (List ℕ)
+told_in t c = state_in c >>= told_bytes (behind_in t c)
+
+-- just a change that shows a page is told with a state
+abbrev pub IsStateFor : Change → Option (List ℕ) → Type 0
+IsStateFor (Ends e) state = state ≡ None
+IsStateFor (Finishes f) state = state ≡ None
+IsStateFor _ state = ⊤
+
+-- the state that another one is written behind, if any
+abbrev pub state_of : Option (Bor stored.Suspended) → Option Suspended
+state_of before = option_map (λ p. suspended_of p.now) before
+
+-- the state is kept by itself, or behind another one
+abbrev pub IsKeptForm : (before : Option Suspended) → Suspended → Form → Type 0
+IsKeptForm None d f = IsAlone d f
+IsKeptForm (Some p) d f = IsBehind p d f
+
+-- what is kept of the state of the page that a change shows is that of its ticket
+abbrev pub IsKeptIn : Ticket → Change → Type 0
+IsKeptIn t (Opens o) = IsKeptFrom None 0 (suspended_of o.state) (kept_at o.page)
+IsKeptIn t (Extends x) = IsKeptOfTicket t (suspended_of x.state) x.show.page
+IsKeptIn t _ = ⊤
+
+-- each web cell that is bound where the state is written behind is bound in it
+abbrev pub BindsIn : Ticket → Change → Type 0
+BindsIn t c = IfSome (state_in c) (BindsBefore (behind_in t c))
+
+-- two tickets go on from the same, and their pages have as many links
+pub record GoOnAlike (one other : Ticket) : Type 0 where
+  pub from : origin_of one.from ≡ origin_of other.from
+  pub links : one.links ≡ other.links
+
+-- whichever states are given to the pages of the book, the ticket of an answer goes on from that of the page that is answered
+abbrev pub GoesOnAsGiven : Setup → Book → Ticket → Change → Type 0
+GoesOnAsGiven setup b t (Extends x) =
+    (states : ℕ → Option Suspended) → HasStatesFrom (given states) (scripts_of setup) b → AnswersGiven setup b x.instance x.answered states t
+GoesOnAsGiven setup b t _ = ⊤
 
 -- whether the value of a binding of a web cell nests no deeper than one may that is written
 abbrev pub is_shallow_shadow : ℕ × Val → Bool
@@ -62,16 +117,6 @@ abbrev pub IsOfByte : Change → Type 0
 IsOfByte (Opens o) = o.instance.script < 256
 IsOfByte _ = ⊤
 
--- the deadline of the page that a change shows is such as records tell
-abbrev pub HasDeadline : Change → Type 0
-HasDeadline (Opens o) = o.page.item.deadline < deadlines_end
-HasDeadline (Extends x) = x.show.page.item.deadline < deadlines_end
-HasDeadline _ = ⊤
-
--- so the record of the change can be written, where it is short
-abbrev pub CanBeTold : (journal : ℕ) → Change → Type 0
-CanBeTold journal c = HasDeadline c → CanBeWritten journal (changes (change_of c) (told_in c))
-
--- its body, with the state that it tells
-abbrev pub IsToldBody : (journal : ℕ) → Change → Result (List ℕ) Reply → Type 0
-IsToldBody journal c result = IsWritten journal (changes (change_of c) (told_in c)) result
+-- the body of the change's record, with the state that it tells; or why there is none
+abbrev pub IsToldBody : (journal : ℕ) → Ticket → Change → Result (List ℕ) Reply → Type 0
+IsToldBody journal t c result = IsWritten journal (changes (change_of c) (told_in t c)) result

@@ -13,8 +13,11 @@ use Rattle.instance_cells.specs.Cells.{Effect, Holds}
 use Rattle.instance_cells.specs.Views.{effect_of}
 use Rattle.web_disk.specs.View.{View}
 use Rattle.page_journal.specs.Settled as journal
-use Rattle.page_journal.specs.Settled.{is_broken, length_of}
+use Rattle.page_journal.specs.Settled.{is_broken, bodies_in, length_of}
+use Rattle.page_journal.specs.declared.journal.Journal.{Journal}
+use Rattle.journal_books.specs.Before.{Made}
 use Rattle.journal_books.specs.Lengths.{journal_rules}
+use Rattle.journal_books.specs.Making as make
 use Rattle.journal_books.specs.Keeping.{HasWholeScripts}
 use Rattle.journal_books.specs.Disks.{IsFit}
 use Rattle.journal_books.specs.Spelling.{IsInRange}
@@ -40,6 +43,8 @@ use Rattle.instance_book.specs.Swept.{cells_in}
 use Rattle.instance_book.specs.Fits.{FitsAs}
 use Rattle.instance_book.specs.Prepares.{rules_with}
 use Rattle.instance_book.specs.Laws.{KeepsStateAs}
+use Rattle.instance_book.specs.declared.book.Book as kept
+use Rattle.book_recovery.specs.Remaking.{HasToldStates}
 use Rattle.ticket_runs.specs.Runs.{IsRunOver}
 use Rattle.shelf.specs.declared.doubt.Doubt.{Doubt}
 use Rattle.shelf.specs.declared.doubt.Doubted.{Doubted}
@@ -86,9 +91,15 @@ shelf_of scripts given s = record { rules = rules_of scripts s.rules; book = boo
 abbrev pub HasGiven : (source : ℕ → ℕ) → (given : ℕ) → (coming : ℕ → ℕ) → Type 0
 HasGiven source given coming = (k : ℕ) → coming k ≡ source (given + k)
 
+-- the pages of a book have the states that the records of the journal told
+abbrev pub TellsStates : {D : Type 0} → (D → View) → List Named → (shelf : ℕ) → Journal D → kept.Book → Type 0
+TellsStates view scripts shelf j b =
+    (m : Made) → make.book_of scripts shelf (bodies_in view j) ≡ make.made m → HasToldStates scripts m.earlier.states b
+
 -- What holds of a shelf between its calls, on a disk of this view, whoever left the journal: each instance is of a script of the
 -- setup; the book is orderly, of whole scripts and of numbers that records tell, and of the shelf's number; the limits are in their
--- ranges; where nothing is in doubt, the journal can go on; and where the disk tells its bytes, it stands for the book.
+-- ranges; where nothing is in doubt, the journal can go on; and where the disk tells its bytes, it stands for the book, whose pages have
+-- the states that the records told.
 pub record IsInOrder {D N : Type 0} (view : D → View) (tells : Bool) (scripts : List Named) (s : Shelf D N) : Type 0 where
   pub placed : HasPlaces scripts s.book
   pub orderly : IsOrderly (book_in scripts s)
@@ -100,6 +111,7 @@ pub record IsInOrder {D N : Type 0} (view : D → View) (tells : Bool) (scripts 
   pub sound : journal.IsSound s.journal
   pub whole : s.down ≡ None → is_broken s.journal ≡ false
   pub fit : IsTrue tells → IsFit view scripts s.rules.number s.journal (book_in scripts s)
+  pub told : IsTrue tells → s.down ≡ None → TellsStates view scripts s.rules.number s.journal s.book
 
 -- What this program's own shelves have besides: each page has the state of its chain; and where the disk tells its bytes, so has each
 -- record that a crash may leave there, and what is in doubt is measured as its record is.

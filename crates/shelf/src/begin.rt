@@ -13,6 +13,7 @@ ghost use Rattle.shelf.specs.Faults.{begin_fault, IsReadFault};
 ghost use Rattle.shelf.specs.Opening.{HasOwnRecords, OpensOwn};
 ghost use Rattle.shelf.specs.Owning.{StaysOwnThroughout};
 ghost use Rattle.shelf.specs.Ranges.{AreInRange};
+ghost use Rattle.shelf.specs.Views.{TellsStates};
 
 use crate::recording::added;
 use crate::rules::Rules;
@@ -99,6 +100,7 @@ fn open<D: Disk>(
     requires begins { IsInGrammar (begin_of number (scripts_of setup.now)) }
     ensures begun { IsTrue D.tells → IfOk result (λ b. IsBook (begun (scripts_of setup.now) number (book_of (scripts_of setup.now) number (bodies_in D.view journal.old))) (book_with (scripts_of setup.now) (length_of journal.new) b)) }
     ensures fit { IsTrue D.tells → IfOk result (λ b. IsFit D.view (scripts_of setup.now) number journal.new (book_with (scripts_of setup.now) (length_of journal.new) b)) }
+    ensures told { IsTrue D.tells → IfOk result (TellsStates D.view (scripts_of setup.now) number journal.new) }
     ensures in_order { IfOk result (λ b. IsBookInOrder (scripts_of setup.now) number b) }
     ensures sound { IsSound journal.new }
     ensures whole { OnOk result (is_broken journal.new ≡ false) }

@@ -3,12 +3,13 @@ ghost use Rattle.web_disk.specs.View.{NoNewImage, Elapses};
 ghost use Rattle.page_journal.specs.Settled.{IsSettled, IsReady, IsSound, view_of, length_of, is_broken};
 ghost use Rattle.script_nodes.specs.Views.{scripts_of};
 ghost use Rattle.instance_book.specs.Makes.{HasPlaces};
-ghost use Rattle.instance_book.specs.Changes.{IsSpelledIn};
+ghost use Rattle.journal_records.specs.Records.{changes};
+ghost use Rattle.instance_book.specs.Changes.{change_of, IsSpelledIn};
 ghost use Rattle.shelf.specs.Holding.{IsWholeIn};
-ghost use Rattle.shelf.specs.Recording.{CanBeTold, IsToldBody, IsOfByte};
+ghost use Rattle.shelf.specs.Recording.{CanBeWritten, IsToldBody, IsOfByte, IsKeptIn, BindsIn, GoesOnAsGiven, told_in};
 
 use crate::recording::{recorded, told_state, written};
-use instance_book::{Book, Change};
+use instance_book::{Book, Change, Ticket};
 use page_journal::Journal;
 use script_nodes::Setup;
 use script_value::{Bytes, Reply};
@@ -24,16 +25,20 @@ pub fn told_body<D: Disk>(
     journal: &mut Journal<D>,
     book: &Book,
     setup: &Setup,
+    ticket: &Ticket,
     change: &Change,
 ) -> Result<Bytes, Reply>
     requires sound { IsSound journal.old }
     requires settled { IsTrue D.tells → IsSettled D.view journal.old }
     requires placed { HasPlaces (scripts_of setup.now) book.now }
     requires byte { IsOfByte change.now }
-    requires spelled { CanBeTold (length_of journal.old) change.now }
-    ensures written { IsToldBody (length_of journal.old) change.now result }
+    requires kept { IsKeptIn ticket.now change.now }
+    requires spelled { CanBeWritten (length_of journal.old) (changes (change_of change.now) (told_in ticket.now change.now)) }
+    ensures written { IsToldBody (length_of journal.old) ticket.now change.now result }
     ensures state { OnOk result (IsWholeIn (scripts_of setup.now) book.now change.now) }
     ensures spelled { OnOk result (IsSpelledIn change.now) }
+    ensures binds { OnOk result (BindsIn ticket.now change.now) }
+    ensures goes { OnOk result (GoesOnAsGiven setup.now book.now ticket.now change.now) }
     ensures ready { IfOk result (λ body. IsReady D.view journal.new (length body)) }
     ensures sound { IsSound journal.new }
     ensures settled { IsTrue D.tells → IsSettled D.view journal.new }
@@ -44,7 +49,7 @@ pub fn told_body<D: Disk>(
     ensures time { Elapses (view_of D.view journal.old) (view_of D.view journal.new) }
     ensures faults { (view_of D.view journal.new).faults ≡ (view_of D.view journal.old).faults }
 {
-    match told_state(alloc, book, setup, change) {
+    match told_state(alloc, book, setup, ticket, change) {
         Ok(state) => written(alloc, journal, &recorded(change, state.as_ref())),
         Err(_) => Err(Reply::Memory),
     }

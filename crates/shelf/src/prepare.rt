@@ -1,4 +1,4 @@
-ghost use Rattle.std.specs.Prelude.{◌≡◌, ◌⊎◌, ◌≤◌, ◌↔◌, None, Err, IfOk, IsTrue, Contains};
+ghost use Rattle.std.specs.Prelude.{◌≤◌, IfOk, Contains};
 ghost use Rattle.page_names.specs.Views.{target_of};
 ghost use Rattle.script_nodes.specs.Views.{scripts_of};
 ghost use Rattle.server_limits.specs.Limits.{most_fuel, most_life};
@@ -8,10 +8,8 @@ ghost use Rattle.instance_book.specs.Changes.{HasRoomFor, HasStateBy, IsSpelledB
 ghost use Rattle.instance_book.specs.Fits.{IsRunnable};
 ghost use Rattle.instance_book.specs.Makes.{HasPlaces, StaysSame, KeepsPlaces, KeepsStates};
 ghost use Rattle.instance_book.specs.Prepares.{HasItsScript};
-ghost use Rattle.instance_book.specs.Views.{instances_of, reply_of};
-ghost use Rattle.replay_spec.specs.Step.{plain};
-ghost use Rattle.script_value.specs.declared.outcome.Reply.TheVariants as reply;
-ghost use Rattle.shelf.specs.Views.{IsRunIfAny, fate_by};
+ghost use Rattle.instance_book.specs.Views.{instances_of};
+ghost use Rattle.shelf.specs.Views.{IsRunIfAny};
 ghost use Rattle.shelf.specs.Preparing.{IsDecided, IsDecidedIfHeld, IsRefused, WantsMemory, CanBeLanded, TellsOfRun};
 
 use crate::rules::Rules;
@@ -21,40 +19,6 @@ use script_nodes::Setup;
 use script_value::Reply;
 use send_suspend::Segment;
 use std::alloc::Global;
-
-// Whether a reply tells neither want of memory nor a fault of a disk.
-fn is_plain(reply: &Reply) -> bool
-    ensures { IsTrue result ↔ (fate_by (reply_of reply.now) ≡ plain) }
-{
-    match reply {
-        Reply::Memory => false,
-        Reply::DiskFault(_) => false,
-        _ => true,
-    }
-}
-
-// What was prepared, or answered, where this is what a run can come to. A run comes to nothing else.
-fn of_run(prepared: Result<Prepared, Reply>) -> Result<Prepared, Reply>
-    ensures tells { TellsOfRun result }
-    ensures same { TellsOfRun prepared → result ≡ prepared }
-    ensures given { (result ≡ prepared) ⊎ (result ≡ Err reply.Memory) }
-{
-    match prepared {
-        Ok(prepared) => {
-            if is_plain(&prepared.reply) {
-                return Ok(prepared);
-            }
-            drop(prepared);
-        }
-        Err(reply) => {
-            if is_plain(&reply) {
-                return Err(reply);
-            }
-            drop(reply);
-        }
-    }
-    Err(Reply::Memory)
-}
 
 /// What the publish of a ticket is prepared as, or answered, on a shelf that is not down, before its record is measured.
 ///
@@ -95,14 +59,14 @@ pub fn prepared(
         return Err(Reply::Memory);
     };
     match segment_now(alloc, book, setup, ticket, first, rules.fuel) {
-        Ok(segment) => of_run(book.prepare(
+        Ok(segment) => book.prepare(
             alloc,
             ticket,
             segment,
             rules.instances,
             rules.pages,
             rules.life,
-        )),
+        ),
         Err(_) => Err(Reply::Memory),
     }
 }

@@ -15,6 +15,7 @@ use instance_book::{Prepared, Ticket};
 use journal_books::{
     events_are_kept, events_stand_between, landings_are_kept, landings_stand_between,
 };
+use journal_records::records_are_exact;
 use script_nodes::Setup;
 use script_value::Reply;
 use send_suspend::Segment;
@@ -118,11 +119,12 @@ impl<D: Disk, N: Nonces + Drop> Shelf<D, N> {
         events_stand_between();
         landings_are_kept();
         landings_stand_between();
+        records_are_exact();
         self.book.spend(ticket.number);
         let Some(change) = &prepared.change else {
             return self.book.install(prepared);
         };
-        let body = match told_body(alloc, &mut self.journal, &self.book, setup, change) {
+        let body = match told_body(alloc, &mut self.journal, &self.book, setup, ticket, change) {
             Ok(body) => body,
             Err(reply) => {
                 drop(prepared);

@@ -10,51 +10,59 @@ ghost use Rattle.instance_book.specs.Makes.{HasPlaces};
 ghost use Rattle.instance_book.specs.Views.{reply_of};
 ghost use Rattle.instance_book.specs.Changes.{change_of, IsSpelledIn};
 ghost use Rattle.frame_codec.specs.Spelling.{StateHasBytes};
+ghost use Rattle.frame_codec.specs.Forms.{BindsBefore};
+ghost use Rattle.kept_states.specs.Kept.{form_byte, kept_of};
 ghost use Rattle.stored_states.specs.Views.{suspended_of};
 ghost use Rattle.journal_books.specs.Lengths as spec;
 ghost use Rattle.shelf.specs.Holding.{FitsIfSpelled, IsWhole, IsWholeIn};
-ghost use Rattle.shelf.specs.Recording.{refusal_of_size, CanBeWritten, IsWritten, IsOfByte, HasDeadline, state_in, told_in};
+ghost use Rattle.shelf.specs.Recording.{refusal_of_size, CanBeWritten, IsWritten, IsOfByte, IsStateFor, IsKeptForm, IsKeptIn, BindsIn, GoesOnAsGiven, GoOnAlike, told_in, state_of};
 
 use crate::nesting::nests_shallow;
 use crate::same::are_same_names;
-use frame_codec::{encode as encode_state, is_spelled, is_stored, length};
-use instance_book::{Book, Change};
+use frame_codec::{
+    ALONE, BEHIND, encode as encode_state, is_spelled, is_stored, states_are_exact, with_form,
+};
+use instance_book::{Book, Change, Ticket};
 use journal_records::{
     Recorded, RecordedEnded, RecordedFinish, RecordedOrigin, RecordedPage, encode, record_length,
 };
+use kept_states::{KeptState, kept_are_written};
 use page_journal::{AppendFault, Journal, MAX_LEN};
 use script_nodes::{Script, Setup};
-use script_value::{Bytes, Reply, TxName};
+use script_value::{Bytes, Reply, TxName, Value};
 use std::alloc::{AllocError, Global};
-use stored_states::Suspended;
+use stored_states::{Origin, Suspended};
 use web_disk::Disk;
 
 /// The greatest length of a record's body, in bytes.
 pub const MOST_OF_RECORD: u64 = 1_048_576;
 
-// Deadlines stay below this.
-const DEADLINES: u64 = 9_223_372_036_854_775_808;
-
-// The state of the page that a change shows.
-fn shown_state(change: &Change) -> Option<&Suspended>
-    ensures { option_map (λ state. suspended_of state.now) result ≡ state_in change.now }
+// The byte of the form that is due: behind another state, or by itself.
+fn form_byte(before: Option<&Suspended>) -> u8
+    ensures { result ≡ form_byte (state_of before.entry) }
 {
-    match change {
-        Change::Opens(opening) => Some(&opening.state),
-        Change::Extends(extension) => Some(&extension.state),
-        Change::Ends(_) => None,
-        Change::Finishes(_) => None,
+    match before {
+        Some(_) => BEHIND,
+        None => ALONE,
     }
 }
 
-// The bytes of a state; none where a value nests too deep to be written. One that has no spelling for another cause is told as want
-// of memory.
-fn state_bytes(alloc: Global, state: &Suspended) -> Result<Option<Bytes>, AllocError>
-    ensures told { IfOk result (λ bytes. bytes ≡ spec.told_bytes (suspended_of state.now)) }
+// The bytes of a state as it is kept, behind another one or by itself; none where a value nests too deep to be written. One that is
+// kept as it is for another cause is told as want of memory.
+fn state_bytes(
+    alloc: Global,
+    before: Option<&Suspended>,
+    kept: &KeptState,
+    state: &Suspended,
+) -> Result<Option<Bytes>, AllocError>
+    requires { IsKeptForm (state_of before) (suspended_of state.now) (kept_of kept.now).form }
+    ensures told { IfOk result (λ bytes. bytes ≡ spec.told_bytes (state_of before.entry) (suspended_of state.now)) }
     ensures spelled { IfOk result (λ bytes. IfSome bytes (λ _. StateHasBytes (suspended_of state.now))) }
+    ensures binds { IfOk result (λ bytes. IfSome bytes (λ _. BindsBefore (state_of before.entry) (suspended_of state.now))) }
 {
-    if is_spelled(state) {
-        return Ok(Some(encode_state(alloc, state)?));
+    kept_are_written();
+    if let Some(bytes) = kept.bytes() {
+        return Ok(Some(with_form(alloc, form_byte(before), bytes)?));
     }
     if nests_shallow(state) {
         return Err(AllocError);
@@ -71,6 +79,75 @@ fn fits_if_spelled(script: &Script, state: &Suspended) -> bool
     } else {
         true
     }
+}
+
+// Whether two states are the same, and fit the script.
+fn are_same_states(
+    alloc: Global,
+    script: &Script,
+    one: &Suspended,
+    other: &Suspended,
+) -> Result<bool, AllocError>
+    ensures { IfOk result (λ same. IsTrue same → suspended_of one.now ≡ suspended_of other.now) }
+{
+    states_are_exact();
+    if !is_stored(script, one) || !is_stored(script, other) {
+        return Ok(false);
+    }
+    let one = encode_state(alloc, one)?;
+    let other = encode_state(alloc, other)?;
+    Ok(one.as_slice() == other.as_slice())
+}
+
+// Whether two tickets go on from the same, and their pages have as many links.
+fn go_on_alike(
+    alloc: Global,
+    script: &Script,
+    one: &Ticket,
+    other: &Ticket,
+) -> Result<bool, AllocError>
+    ensures { IfOk result (λ same. IsTrue same → GoOnAlike one.now other.now) }
+{
+    if one.links != other.links {
+        return Ok(false);
+    }
+    let (Origin::Page(one), Origin::Page(other)) = (&one.from, &other.from) else {
+        return Ok(false);
+    };
+    are_same_states(alloc, script, one, other)
+}
+
+// Whether the ticket of an answer goes on from the state that the book has of the page, so its own page can be kept and written behind
+// that.
+fn goes_on_from_book(
+    alloc: Global,
+    book: &Book,
+    setup: &Setup,
+    ticket: &Ticket,
+    change: &Change,
+) -> Result<bool, AllocError>
+    requires { HasPlaces (scripts_of setup.now) book.now }
+    ensures { IfOk result (λ goes. IsTrue goes → GoesOnAsGiven setup.now book.now ticket.now change.now) }
+{
+    let Change::Extends(extension) = change else {
+        return Ok(true);
+    };
+    let Some(named) = book.script(setup, extension.instance) else {
+        return Ok(false);
+    };
+    let Some(there) = book.told_answer(
+        alloc,
+        setup,
+        extension.instance,
+        extension.answered,
+        Value::Truth(false),
+        ticket.number,
+        ticket.nonce,
+    )?
+    else {
+        return Ok(false);
+    };
+    go_on_alike(alloc, &named.script, &there, ticket)
 }
 
 // Whether a page with this state is inside the transactions of the state's frames, and the state fits the script where it has a
@@ -124,18 +201,6 @@ fn shows_whole(
     is_whole(alloc, &named.script, state, inside.as_slice())
 }
 
-// Whether the deadline of the page that a change shows, if any, is such as records tell.
-fn has_deadline(change: &Change) -> bool
-    ensures { IsTrue result → HasDeadline change.now }
-{
-    match change {
-        Change::Opens(opening) => opening.page.item.deadline < DEADLINES,
-        Change::Extends(extension) => extension.show.page.item.deadline < DEADLINES,
-        Change::Ends(_) => true,
-        Change::Finishes(_) => true,
-    }
-}
-
 /// The bytes of the state of the page that a change shows, for its record; none where it shows no page, or a value of the state nests
 /// too deep to be written.
 ///
@@ -144,31 +209,43 @@ pub fn told_state(
     alloc: Global,
     book: &Book,
     setup: &Setup,
+    ticket: &Ticket,
     change: &Change,
 ) -> Result<Option<Bytes>, AllocError>
-    requires { HasPlaces (scripts_of setup.now) book.now }
-    ensures told { IfOk result (λ bytes. bytes ≡ told_in change.now) }
+    requires placed { HasPlaces (scripts_of setup.now) book.now }
+    requires kept { IsKeptIn ticket.now change.now }
+    ensures told { IfOk result (λ bytes. bytes ≡ told_in ticket.now change.now) }
+    ensures binds { IfOk result (λ bytes. IfSome bytes (λ _. BindsIn ticket.now change.now)) }
+    ensures goes { OnOk result (GoesOnAsGiven setup.now book.now ticket.now change.now) }
     ensures whole { OnOk result (IsWholeIn (scripts_of setup.now) book.now change.now) }
     ensures spelled { IfOk result (λ bytes. IfSome bytes (λ _. IsSpelledIn change.now)) }
-    ensures deadline { OnOk result (HasDeadline change.now) }
 {
-    if !has_deadline(change) {
-        return Err(AllocError);
-    }
     if !shows_whole(alloc, book, setup, change)? {
         return Err(AllocError);
     }
-    match shown_state(change) {
-        Some(state) => state_bytes(alloc, state),
-        None => Ok(None),
+    if !goes_on_from_book(alloc, book, setup, ticket, change)? {
+        return Err(AllocError);
+    }
+    match change {
+        Change::Opens(opening) => {
+            state_bytes(alloc, None, &opening.page.item.state, &opening.state)
+        }
+        Change::Extends(extension) => state_bytes(
+            alloc,
+            ticket.behind(),
+            &extension.show.page.item.state,
+            &extension.state,
+        ),
+        Change::Ends(_) => Ok(None),
+        Change::Finishes(_) => Ok(None),
     }
 }
 
 /// What the record of a visit's change says, where these are the bytes of its state.
 pub fn recorded<'r>(change: &'r Change, state: Option<&'r Bytes>) -> Recorded<'r>
     requires byte { IsOfByte change.now }
-    requires state { option_map (λ bytes. bytes.now) state ≡ told_in change.now }
-    ensures { recorded_of result ≡ changes (change_of change.now) (told_in change.now) }
+    requires state { IsStateFor change.now (option_map (λ bytes. bytes.now) state) }
+    ensures { recorded_of result ≡ changes (change_of change.now) (option_map (λ bytes. bytes.now) state.entry) }
 {
     let state = state.map(|bytes| bytes.as_slice());
     match change {

@@ -4,7 +4,7 @@ use crate::doubt::{Doubt, Doubted};
 use crate::recording::{added, written};
 use crate::shelf::Shelf;
 use journal_books::{events_are_kept, events_stand_between};
-use journal_records::Recorded;
+use journal_records::{Recorded, records_are_exact};
 use script_value::Reply;
 use std::alloc::Global;
 use web_disk::Disk;
@@ -34,6 +34,7 @@ impl<D: Disk, N: Nonces + Drop> Shelf<D, N> {
     {
         events_are_kept();
         events_stand_between();
+        records_are_exact();
         if tick <= self.book.clock() {
             return Ok(0);
         }

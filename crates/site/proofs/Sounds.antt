@@ -65,7 +65,7 @@ leaves_both v0 v1 P Q a b = record {
 -- what is kept of a doubt that the rules measure as its record is
 measured_makes : (ss : List Named) (n : ℕ) (rules : Rules) (m : ℕ) (b : Book) (image : List ℕ) → MeasuresDoubt rules m b → MakesIn ss n image (if_kept m b) → MakesIn ss n image (recovered rules kept b.down b)
 measured_makes ss n rules m b image measured h =
-    (h.0, h.1 ∙ ap (λ (y : Book). made (record { book = y; seen = h.0 })) (sym measured))
+    (h.0, h.1 ∙ ap (λ (y : Book). made (record { book = y; earlier = h.0 })) (sym measured))
 
 -- an image makes the one book, or the other with what is in doubt there
 makes_either : (ss : List Named) (n : ℕ) (rules : Rules) (m : ℕ) (b c : Book) (image : List ℕ) → MeasuresDoubt rules m c → MakesIn ss n image b ⊎ MakesIn ss n image (if_kept m c)

@@ -3,12 +3,13 @@ use Rattle.script_nodes.specs.Views.{scripts_of}
 use Rattle.page_journal.specs.Records.{stored}
 use Rattle.page_journal.specs.Settled.{bodies_in, length_of}
 use Rattle.journal_records.specs.Records.{begun_length}
+use Rattle.journal_books.specs.Before.{state_at}
 use Rattle.journal_books.specs.Making.{nothing, begun, book_of}
 use Rattle.journal_books.specs.Standing.{IsBook, Makes}
 use Rattle.journal_books.specs.Keeping.{first_body}
 use Rattle.book_recovery.specs.declared.found.Found.{Found}
 use Rattle.book_recovery.specs.Found.{Finds, IsFoundInOrder, book_with}
-use Rattle.shelf.proofs.Openings.{none_read, nine, empty_in_order, begun_book, begun_fit, found_fit, found_begun}
+use Rattle.shelf.proofs.Openings.{none_read, nine, empty_in_order, begun_book, begun_fit, found_fit, found_begun, found_told}
 use Rattle.page_journal.proofs.Mending.{leaves_then}
 use Rattle.shelf.specs.Owning.{HoldsOwnRecords}
 use Rattle.shelf.proofs.OwnOpenings.{read_moments, begun_records}
@@ -119,3 +120,17 @@ returns-in-Ok-start-clause-own g c = λ told own.
     let bodies : bodies_in view c.start.new.journal ≡ first_body ss c.args.number ∷ [] =
     (c.in-Ok-start.ensures.bodies told).1 ∙ ap (λ (bs : List (List ℕ)). bs ++ first_body ss c.args.number ∷ []) (ap stored c.read_book.ensures.quiet.seen ∙ none_read ss c.args.number (bodies_in view j) none) in
     record { records = begun_records view ss c.args.number c.start.new.journal (first_body ss c.args.number) bodies; states = c.empty.ensures.states ss }
+
+pub returns-in-Made-clause-told : goal.returns-in-Made-clause-told
+returns-in-Made-clause-told g c = λ told.
+    let ss = scripts_of c.args.setup.now in
+    let j = c.args.journal.now in
+    let new = c.read_book.new.journal in
+    let view = g.D.Disk.view in
+    let m = book_of ss c.args.number (bodies_in view j) in
+    let finds = subst (λ (f : Found). Finds ss c.args.number (length_of j) f m) c.in-Made.is (c.in-Ok.ensures.found told) in
+    let bodies : bodies_in view new ≡ bodies_in view j = ap stored c.read_book.ensures.quiet.seen in
+    found_told view ss c.args.number (length_of j) new m c.in-Made.book (ap (book_of ss c.args.number) bodies) finds
+
+pub returns-in-Ok-start-clause-told : goal.returns-in-Ok-start-clause-told
+returns-in-Ok-start-clause-told g c = λ told m is. c.empty.ensures.told (λ n. state_at n m.earlier.states) (scripts_of c.args.setup.now)

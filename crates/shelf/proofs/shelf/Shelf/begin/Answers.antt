@@ -56,6 +56,7 @@ returns-in-Ok-open-clause-in_order g c =
       sound = c.open.ensures.sound;
       whole = λ _. c.in-Ok-open.ensures.whole;
       fit = c.in-Ok-open.ensures.fit;
+      told = λ told _. c.in-Ok-open.ensures.told told;
     }
 
 pub returns-in-Err-open-clause-any_moment : goal.returns-in-Err-open-clause-any_moment

@@ -1,4 +1,4 @@
-use Rattle.std.proofs.Common.{◌≡◌, ◌∙◌, ap, sym, subst, refl, Option, None, option_map, IfSome, Err, Contains}
+use Rattle.std.proofs.Common.{◌≡◌, ◌∙◌, ap, sym, subst, refl, Option, Some, None, option_map, IfSome, Err, Contains}
 use Rattle.script_value.specs.declared.outcome.Reply.TheVariants as reply
 use Rattle.script_nodes.specs.Views.{scripts_of}
 use Rattle.page_names.specs.Views.{target_of}
@@ -7,157 +7,82 @@ use Rattle.replay_spec.specs.Book.{Book, spend}
 use Rattle.replay_spec.specs.Admission.{refusal_of, admit}
 use Rattle.replay_spec.specs.Invariant.{IsOrderly}
 use Rattle.replay_spec.specs.Step as step
-use Rattle.journal_books.specs.Keeping.{HasWholeScripts}
 use Rattle.instance_book.specs.Admissions.{refusal_for, FitsIn}
 use Rattle.instance_book.specs.Fits.{FitsAs}
 use Rattle.instance_book.specs.Views.{book_of, ticket_of, reply_of}
 use Rattle.instance_book.specs.Prepares.{IsCarriedOut, Prepares}
 use Rattle.shelf.specs.declared.doubt.Doubt as doubt_type
-use Rattle.shelf.specs.Views.{unmeasured, book_in, doubt_of, IsOwnVisit}
+use Rattle.shelf.specs.Views.{unmeasured, book_in, doubt_of, FitsNow}
 use Rattle.shelf.specs.Preparing.{Decides}
 use Rattle.shelf.specs.Events.{decision_of, TellsReply, no_publish}
 use Rattle.shelf.proofs.Beside.{admit_same, fits_at, holds_at, orderly_at}
-use Rattle.shelf.proofs.Steps.{replied, wanting, down_publish}
+use Rattle.shelf.proofs.Steps.{replied, down_publish}
 use Rattle.shelf.proofs.Standing.{no_call}
-use Rattle.shelf.proofs.Order.{quiet, quiet_event}
-use Rattle.shelf.proofs.Shelves.{quiet_order, quiet_run, quiet_own, quiet_own_moments, same_order, at_up}
+use Rattle.shelf.proofs.Shelves.{same_order, kept_told, at_up}
 use Rattle.shelf.proofs.Publishing.{answered, told_answered, no_count, up_refusal, down_refusal, refused_ok, refused_err, not_refused_by, same_error}
-use Rattle.shelf.proofs.Fitting.{event_from, moments_from, own_moments_from, shown_at, landed_at, own_at}
+use Rattle.shelf.proofs.Fitting.{shown_at, landed_at}
+use Rattle.shelf.proofs.Leaving.{Publishes, spent_publishes, visit_anew, publishes_from}
 use Rattle.shelf.proofs.Now.{if_none}
 use Rattle.shelf.proofs.shelf.Shelf.publish.Goals as goal
+use Rattle.shelf.proofs.shelf.Shelf.publish.Goals.{After-spend, After-prepared, After-land, After-spend-in-Err}
 
 -- a shelf that is down
 
-pub returns-in-Some-clause-event : goal.returns-in-Some-clause-event
-returns-in-Some-clause-event g c own =
+down : (g : _) (c : After-spend g) → option_map doubt_of c.args.self.now.down ≡ Some (doubt_of c.in-Some.doubt)
+down g c = ap (λ (o : Option doubt_type.Doubt). option_map doubt_of o) c.in-Some.is
+
+turned : (g : _) (c : After-spend g)
+    → Publishes g.D.Disk.view g.D.Disk.tells g.N.Nonces.nonce c.args.setup.now c.args.self.now (record c.args.self.now { book = c.spend.new.self }) c.args.ticket (reply.Down c.in-Some.doubt.count)
+turned g c =
+    let view = g.D.Disk.view in
+    let tells = g.D.Disk.tells in
     let ss = scripts_of c.args.setup.now in
     let s = c.args.self.now in
     let t = c.args.ticket in
-    let l = length_of s.journal in
-    let dn = option_map doubt_of s.down in
-    let b = book_in ss s in
     let order = c.requires.in_order in
-    let is = c.spend.ensures.book ss l dn in
-    let down = ap (λ (o : Option doubt_type.Doubt). option_map doubt_of o) c.in-Some.is in
-    let comes = replied ss s.rules b (ticket_of t) (step.down c.in-Some.doubt.count) (down_publish ss s.rules b (ticket_of t) (doubt_of c.in-Some.doubt) down) in
-    quiet_event g.N.Nonces.nonce ss s _ (step.publish (ticket_of t)) (step.down c.in-Some.doubt.count) (spend t.number b) refl refl is (λ given. refl) comes.step
+    let answer = replied ss s.rules (book_in ss s) (ticket_of t) (step.down c.in-Some.doubt.count) (down_publish ss s.rules (book_in ss s) (ticket_of t) (doubt_of c.in-Some.doubt) (down g c)) in
+    spent_publishes view tells g.N.Nonces.nonce c.args.setup.now s (record s { book = c.spend.new.self }) t (reply.Down c.in-Some.doubt.count) order c.events_are_kept.ensures (g.met.D.Disk.only_now s.journal.disk) c.requires.out
+    (c.spend.ensures.book ss (length_of s.journal) (option_map doubt_of s.down)) refl refl (no_call view tells s.journal) order.sound order.whole (c.spend.ensures.placed ss) (λ source. c.spend.ensures.states source ss) (λ own. answer)
+
+pub returns-in-Some-clause-event : goal.returns-in-Some-clause-event
+returns-in-Some-clause-event g c = (turned g (goal.at.returns-in-Some-clause-event g c).After-spend).event
 
 pub returns-in-Some-clause-in_order : goal.returns-in-Some-clause-in_order
-returns-in-Some-clause-in_order g c =
-    let ss = scripts_of c.args.setup.now in
-    let s = c.args.self.now in
-    let t = c.args.ticket in
-    let l = length_of s.journal in
-    let dn = option_map doubt_of s.down in
-    let b = book_in ss s in
-    let order = c.requires.in_order in
-    let is = c.spend.ensures.book ss l dn in
-    let scripts : HasWholeScripts (spend t.number b) = record { setup = order.scripts_are.setup; instances = order.scripts_are.instances } in
-    let wants = wanting ss s.rules b (ticket_of t) in
-    quiet_order g.D.Disk.view g.D.Disk.tells ss s _ refl (spend t.number b) is refl refl (no_call g.D.Disk.view g.D.Disk.tells s.journal)
-    order (c.spend.ensures.placed ss) order.sound (step.publish (ticket_of t)) step.no_memory step.memory (wants.step 0) tt c.requires.out tt c.events_are_kept.ensures wants.landed scripts order.whole
+returns-in-Some-clause-in_order g c = (turned g (goal.at.returns-in-Some-clause-in_order g c).After-spend).in_order
 
 pub returns-in-Some-clause-own : goal.returns-in-Some-clause-own
-returns-in-Some-clause-own g c own =
-    let ss = scripts_of c.args.setup.now in
-    let s = c.args.self.now in
-    let t = c.args.ticket in
-    let l = length_of s.journal in
-    let dn = option_map doubt_of s.down in
-    let b = book_in ss s in
-    let order = c.requires.in_order in
-    let is = c.spend.ensures.book ss l dn in
-    quiet_own g.D.Disk.view g.D.Disk.tells ss s _ refl (spend t.number b) is refl refl (no_call g.D.Disk.view g.D.Disk.tells s.journal) (c.spend.ensures.states ss) own.own
+returns-in-Some-clause-own g c = (turned g (goal.at.returns-in-Some-clause-own g c).After-spend).own
 
 pub returns-in-Some-clause-spent : goal.returns-in-Some-clause-spent
-returns-in-Some-clause-spent g c =
-    let ss = scripts_of c.args.setup.now in
-    let s = c.args.self.now in
-    let t = c.args.ticket in
-    let l = length_of s.journal in
-    let dn = option_map doubt_of s.down in
-    let b = book_in ss s in
-    let order = c.requires.in_order in
-    let is = c.spend.ensures.book ss l dn in
-    ap (λ (y : Book). y.out) is
+returns-in-Some-clause-spent g c = (turned g (goal.at.returns-in-Some-clause-spent g c).After-spend).spent
 
 pub returns-in-Some-clause-any_moment : goal.returns-in-Some-clause-any_moment
-returns-in-Some-clause-any_moment g c told =
-    let ss = scripts_of c.args.setup.now in
-    let s = c.args.self.now in
-    let t = c.args.ticket in
-    let l = length_of s.journal in
-    let dn = option_map doubt_of s.down in
-    let b = book_in ss s in
-    let order = c.requires.in_order in
-    let is = c.spend.ensures.book ss l dn in
-    let scripts : HasWholeScripts (spend t.number b) = record { setup = order.scripts_are.setup; instances = order.scripts_are.instances } in
-    let wants = wanting ss s.rules b (ticket_of t) in
-    quiet_run g.D.Disk.view g.D.Disk.tells ss s (record s { book = c.spend.new.self }) refl (spend t.number b) is refl refl (no_call g.D.Disk.view g.D.Disk.tells s.journal)
-    order (c.spend.ensures.placed ss) order.sound (step.publish (ticket_of t)) step.no_memory step.memory (wants.step 0) tt c.requires.out tt c.events_are_kept.ensures wants.landed told (g.met.D.Disk.only_now s.journal.disk)
+returns-in-Some-clause-any_moment g c = (turned g (goal.at.returns-in-Some-clause-any_moment g c).After-spend).any_moment
 
 pub returns-in-Some-clause-own_moments : goal.returns-in-Some-clause-own_moments
-returns-in-Some-clause-own_moments g c told own =
-    let ss = scripts_of c.args.setup.now in
-    let s = c.args.self.now in
-    let t = c.args.ticket in
-    let l = length_of s.journal in
-    let dn = option_map doubt_of s.down in
-    let b = book_in ss s in
-    let order = c.requires.in_order in
-    let is = c.spend.ensures.book ss l dn in
-    quiet_own_moments g.D.Disk.view g.D.Disk.tells ss s (record s { book = c.spend.new.self }) refl (spend t.number b) is refl refl (no_call g.D.Disk.view g.D.Disk.tells s.journal) told (g.met.D.Disk.only_now s.journal.disk) own.own
+returns-in-Some-clause-own_moments g c = (turned g (goal.at.returns-in-Some-clause-own_moments g c).After-spend).own_moments
 
 pub returns-in-Some-clause-refused : goal.returns-in-Some-clause-refused
 returns-in-Some-clause-refused g c =
-    let ss = scripts_of c.args.setup.now in
-    let s = c.args.self.now in
-    let t = c.args.ticket in
-    let l = length_of s.journal in
-    let dn = option_map doubt_of s.down in
-    let b = book_in ss s in
-    let order = c.requires.in_order in
-    let down = ap (λ (o : Option doubt_type.Doubt). option_map doubt_of o) c.in-Some.is in
-    let x = target_of t.target in
-    subst (λ (o : Option step.Reply). IfSome o (λ r. step.down c.in-Some.doubt.count ≡ r)) (sym (down_refusal b x (doubt_of c.in-Some.doubt) down)) refl
+    let b = book_in (scripts_of c.args.setup.now) c.args.self.now in
+    subst (λ (o : Option step.Reply). IfSome o (λ r. step.down c.in-Some.doubt.count ≡ r)) (sym (down_refusal b (target_of c.args.ticket.target) (doubt_of c.in-Some.doubt) (down g (goal.at.returns-in-Some-clause-refused g c).After-spend))) refl
 
 pub returns-in-Some-clause-none : goal.returns-in-Some-clause-none
 returns-in-Some-clause-none g c no_segment free =
-    let ss = scripts_of c.args.setup.now in
-    let s = c.args.self.now in
-    let t = c.args.ticket in
-    let l = length_of s.journal in
-    let dn = option_map doubt_of s.down in
-    let b = book_in ss s in
-    let order = c.requires.in_order in
-    let down = ap (λ (o : Option doubt_type.Doubt). option_map doubt_of o) c.in-Some.is in
-    let told = sym (down_refusal b (target_of t.target) (doubt_of c.in-Some.doubt) down) ∙ free in
+    let b = book_in (scripts_of c.args.setup.now) c.args.self.now in
+    let told = sym (down_refusal b (target_of c.args.ticket.target) (doubt_of c.in-Some.doubt) (down g (goal.at.returns-in-Some-clause-none g c).After-spend)) ∙ free in
     absurd (let no : ⊥ = cc told in no)
 
 pub returns-in-Some-clause-held : goal.returns-in-Some-clause-held
 returns-in-Some-clause-held g c own r is held =
     let ss = scripts_of c.args.setup.now in
     let s = c.args.self.now in
-    let t = c.args.ticket in
-    let l = length_of s.journal in
-    let dn = option_map doubt_of s.down in
     let b = book_in ss s in
-    let order = c.requires.in_order in
-    let down = ap (λ (o : Option doubt_type.Doubt). option_map doubt_of o) c.in-Some.is in
-    let told = down_publish ss s.rules b (ticket_of t) (doubt_of c.in-Some.doubt) down in
-    subst (λ (d : step.Decision). TellsReply d (step.down c.in-Some.doubt.count)) (sym (ap (λ (o : Option _). step.unless (step.down_by o) (step.decide (unmeasured s.rules) b (ticket_of t) (admit b (target_of t.target)))) down)) refl
+    let t = c.args.ticket in
+    subst (λ (d : step.Decision). TellsReply d (step.down c.in-Some.doubt.count)) (sym (ap (λ (o : Option _). step.unless (step.down_by o) (step.decide (unmeasured s.rules) b (ticket_of t) (admit b (target_of t.target)))) (down g (goal.at.returns-in-Some-clause-held g c).After-spend))) refl
 
 pub returns-in-Some-clause-memory : goal.returns-in-Some-clause-memory
-returns-in-Some-clause-memory g c e =
-    let ss = scripts_of c.args.setup.now in
-    let s = c.args.self.now in
-    let t = c.args.ticket in
-    let l = length_of s.journal in
-    let dn = option_map doubt_of s.down in
-    let b = book_in ss s in
-    let order = c.requires.in_order in
-    let is = c.spend.ensures.book ss l dn in
-    is
+returns-in-Some-clause-memory g c = (turned g (goal.at.returns-in-Some-clause-memory g c).After-spend).memory
 
 -- what was prepared
 
@@ -165,321 +90,168 @@ pub prepared-requires-clause-orderly : goal.prepared-requires-clause-orderly
 prepared-requires-clause-orderly g c =
     let ss = scripts_of c.args.setup.now in
     let s = c.args.self.now in
-    let t = c.args.ticket in
-    let l = length_of s.journal in
-    let dn = option_map doubt_of s.down in
-    let b = book_in ss s in
-    let order = c.requires.in_order in
-    orderly_at ss s.book l 0 (subst (λ (o : Option doubt_type.Doubt). IsOrderly (book_of ss l (option_map doubt_of o) s.book)) c.in_default.is order.orderly)
+    orderly_at ss s.book (length_of s.journal) 0 (subst (λ (o : Option doubt_type.Doubt). IsOrderly (book_of ss (length_of s.journal) (option_map doubt_of o) s.book)) c.in_default.is c.requires.in_order.orderly)
+
+-- it is prepared on the same book
+same_book : (g : _) (c : After-prepared g)
+    → let ss = scripts_of c.args.setup.now in let s = c.args.self.now in book_of ss (length_of s.journal) (option_map doubt_of s.down) c.prepared.new.book ≡ book_in ss s
+same_book g c = c.prepared.ensures.book (scripts_of c.args.setup.now) (length_of c.args.self.now.journal) (option_map doubt_of c.args.self.now.down)
 
 pub land-requires-clause-in_order : goal.land-requires-clause-in_order
 land-requires-clause-in_order g c =
     let ss = scripts_of c.args.setup.now in
     let s = c.args.self.now in
-    let t = c.args.ticket in
-    let l = length_of s.journal in
-    let dn = option_map doubt_of s.down in
-    let b = book_in ss s in
-    let order = c.requires.in_order in
-    let same = c.prepared.ensures.book ss l dn in
-    same_order g.D.Disk.view g.D.Disk.tells ss s _ order same (c.prepared.ensures.placed ss order.placed) refl refl refl
+    same_order g.D.Disk.view g.D.Disk.tells ss s (record s { book = c.prepared.new.book }) c.requires.in_order (same_book g (goal.at.land-requires-clause-in_order g c).After-prepared) (c.prepared.ensures.placed ss c.requires.in_order.placed) (kept_told ss s.book c.prepared.new.book c.prepared.ensures.states) refl refl refl
 
 pub land-requires-clause-out : goal.land-requires-clause-out
-land-requires-clause-out g c =
-    let ss = scripts_of c.args.setup.now in
-    let s = c.args.self.now in
-    let t = c.args.ticket in
-    let l = length_of s.journal in
-    let dn = option_map doubt_of s.down in
-    let b = book_in ss s in
-    let order = c.requires.in_order in
-    let same = c.prepared.ensures.book ss l dn in
-    subst (λ (y : Book). Contains y.out t.number) (sym same) c.requires.out
+land-requires-clause-out g c = subst (λ (y : Book). Contains y.out c.args.ticket.number) (sym (same_book g (goal.at.land-requires-clause-out g c).After-prepared)) c.requires.out
 
 pub land-requires-clause-landed : goal.land-requires-clause-landed
-land-requires-clause-landed g c =
+land-requires-clause-landed g c = landed_at (scripts_of c.args.setup.now) c.args.self.now.book c.prepared.new.book c.args.ticket c.in-Ok.prepared c.prepared.ensures.book c.in-Ok.ensures.landed
+
+-- a ticket that fits there fitted before
+fitted : (g : _) (c : After-prepared g)
+    → FitsNow c.args.setup.now (record c.args.self.now { book = c.prepared.new.book }) c.args.ticket → FitsIn c.args.setup.now c.args.self.now.book c.args.ticket.target c.args.ticket
+fitted g c fits =
     let ss = scripts_of c.args.setup.now in
     let s = c.args.self.now in
     let t = c.args.ticket in
-    let l = length_of s.journal in
-    let dn = option_map doubt_of s.down in
-    let b = book_in ss s in
-    let order = c.requires.in_order in
-    landed_at ss s.book c.prepared.new.book t c.in-Ok.prepared c.prepared.ensures.book c.in-Ok.ensures.landed
+    fits_at ss s.book (length_of s.journal) 0 (option_map doubt_of s.down) None t (target_of t.target) (subst (λ (y : Book). FitsAs ss y t (admit y (target_of t.target))) (same_book g c) fits)
 
 pub land-requires-clause-shown : goal.land-requires-clause-shown
 land-requires-clause-shown g c own spelled =
     let ss = scripts_of c.args.setup.now in
-    let s = c.args.self.now in
-    let t = c.args.ticket in
-    let l = length_of s.journal in
-    let dn = option_map doubt_of s.down in
-    let b = book_in ss s in
-    let order = c.requires.in_order in
-    let same = c.prepared.ensures.book ss l dn in
-    let there : FitsAs ss b t (admit b (target_of t.target)) = subst (λ (y : Book). FitsAs ss y t (admit y (target_of t.target))) same own.fits in
-    let fits : FitsIn c.args.setup.now s.book t.target t = fits_at ss s.book l 0 dn None t (target_of t.target) there in
-    shown_at ss s.book c.prepared.new.book c.in-Ok.prepared.change (c.prepared.ensures.book ss 0 None) (c.in-Ok.ensures.shown fits spelled)
+    shown_at ss c.args.self.now.book c.prepared.new.book c.in-Ok.prepared.change (c.prepared.ensures.book ss 0 None) (c.in-Ok.ensures.shown (fitted g (goal.at.land-requires-clause-shown g c).After-prepared own.fits) spelled)
 
 pub land-requires-clause-decided : goal.land-requires-clause-decided
 land-requires-clause-decided g c own =
     let ss = scripts_of c.args.setup.now in
     let s = c.args.self.now in
-    let t = c.args.ticket in
     let l = length_of s.journal in
-    let dn = option_map doubt_of s.down in
+    let here = (goal.at.land-requires-clause-decided g c).After-prepared in
+    let P : Book → Type 0 = λ y. IsCarriedOut ss (unmeasured s.rules) y (step.publish_comes (unmeasured s.rules) y (ticket_of c.args.ticket)) c.in-Ok.prepared in
+    let decided : P (book_of ss l None s.book) = c.in-Ok.ensures.decided (fitted g here own.fits) l in
+    subst P (sym (same_book g here)) (at_up ss s P c.in_default.is decided)
+
+-- where there was no memory for the run of an admitted target, that is the answer
+wanting : (g : _) (c : After-prepared g) → let ss = scripts_of c.args.setup.now in let s = c.args.self.now in
+    c.args.segment ≡ None → no_publish (book_in ss s) (target_of c.args.ticket.target) ≡ None → c.prepared.result ≡ Err reply.Memory
+wanting g c no_segment free =
+    let ss = scripts_of c.args.setup.now in
+    let s = c.args.self.now in
     let b = book_in ss s in
-    let order = c.requires.in_order in
-    let same = c.prepared.ensures.book ss l dn in
-    let there : FitsAs ss b t (admit b (target_of t.target)) = subst (λ (y : Book). FitsAs ss y t (admit y (target_of t.target))) same own.fits in
-    let fits : FitsIn c.args.setup.now s.book t.target t = fits_at ss s.book l 0 dn None t (target_of t.target) there in
-    let P : Book → Type 0 = λ y. IsCarriedOut ss (unmeasured s.rules) y (step.publish_comes (unmeasured s.rules) y (ticket_of t)) c.in-Ok.prepared in
-    let here : P (book_of ss l None s.book) = c.in-Ok.ensures.decided fits l in
-    subst P (sym same) (at_up ss s P c.in_default.is here)
+    let x = target_of c.args.ticket.target in
+    let up = ap (λ (o : Option doubt_type.Doubt). option_map doubt_of o) c.in_default.is in
+    let why : refusal_of (admit b x) ≡ None = not_refused_by (refusal_of (admit b x)) (sym (up_refusal b x up) ∙ free) in
+    c.prepared.ensures.none no_segment (ap refusal_of (admit_same ss s.book 0 (length_of s.journal) None (option_map doubt_of s.down) x) ∙ why)
+
+landed : (g : _) (c : After-land g) → Publishes g.D.Disk.view g.D.Disk.tells g.N.Nonces.nonce c.args.setup.now c.args.self.now c.land.new.self c.args.ticket c.land.result
+landed g c =
+    let done = c.land.ensures in
+    publishes_from g.D.Disk.view g.D.Disk.tells c.args.setup.now c.args.self.now c.prepared.new.book c.prepared.ensures.book c.prepared.ensures.states c.args.ticket g.N.Nonces.nonce c.land.new.self c.land.result (record {
+      event = done.event;
+      in_order = done.in_order;
+      own = done.own;
+      spent = done.spent;
+      any_moment = done.any_moment;
+      own_moments = done.own_moments;
+      memory = done.memory;
+    })
 
 pub returns-in-Ok-clause-event : goal.returns-in-Ok-clause-event
-returns-in-Ok-clause-event g c own =
-    let ss = scripts_of c.args.setup.now in
-    let s = c.args.self.now in
-    let t = c.args.ticket in
-    let l = length_of s.journal in
-    let dn = option_map doubt_of s.down in
-    let b = book_in ss s in
-    let order = c.requires.in_order in
-    let same = c.prepared.ensures.book ss l dn in
-    let visit : IsOwnVisit g.D.Disk.view g.D.Disk.tells c.args.setup.now (record s { book = c.prepared.new.book }) t = record {
-      own = own_at g.D.Disk.view g.D.Disk.tells ss s c.prepared.new.book same c.prepared.ensures.states own.own;
-      fits = subst (λ (y : Book). FitsAs ss y t (admit y (target_of t.target))) (sym same) own.fits;
-    } in
-    event_from g.N.Nonces.nonce ss s _ _ (step.publish (ticket_of t)) (reply_of c.land.result) refl refl same (c.land.ensures.event visit)
+returns-in-Ok-clause-event g c = (landed g (goal.at.returns-in-Ok-clause-event g c).After-land).event
 
 pub returns-in-Ok-clause-own : goal.returns-in-Ok-clause-own
-returns-in-Ok-clause-own g c own =
-    let ss = scripts_of c.args.setup.now in
-    let s = c.args.self.now in
-    let t = c.args.ticket in
-    let l = length_of s.journal in
-    let dn = option_map doubt_of s.down in
-    let b = book_in ss s in
-    let order = c.requires.in_order in
-    let same = c.prepared.ensures.book ss l dn in
-    let visit : IsOwnVisit g.D.Disk.view g.D.Disk.tells c.args.setup.now (record s { book = c.prepared.new.book }) t = record {
-      own = own_at g.D.Disk.view g.D.Disk.tells ss s c.prepared.new.book same c.prepared.ensures.states own.own;
-      fits = subst (λ (y : Book). FitsAs ss y t (admit y (target_of t.target))) (sym same) own.fits;
-    } in
-    c.land.ensures.own visit
+returns-in-Ok-clause-own g c = (landed g (goal.at.returns-in-Ok-clause-own g c).After-land).own
 
 pub returns-in-Ok-clause-spent : goal.returns-in-Ok-clause-spent
-returns-in-Ok-clause-spent g c =
-    let ss = scripts_of c.args.setup.now in
-    let s = c.args.self.now in
-    let t = c.args.ticket in
-    let l = length_of s.journal in
-    let dn = option_map doubt_of s.down in
-    let b = book_in ss s in
-    let order = c.requires.in_order in
-    let same = c.prepared.ensures.book ss l dn in
-    subst (λ (y : Book). (book_in ss c.land.new.self).out ≡ (spend t.number y).out) same c.land.ensures.spent
+returns-in-Ok-clause-spent g c = (landed g (goal.at.returns-in-Ok-clause-spent g c).After-land).spent
 
 pub returns-in-Ok-clause-any_moment : goal.returns-in-Ok-clause-any_moment
-returns-in-Ok-clause-any_moment g c told =
-    let ss = scripts_of c.args.setup.now in
-    let s = c.args.self.now in
-    let t = c.args.ticket in
-    let l = length_of s.journal in
-    let dn = option_map doubt_of s.down in
-    let b = book_in ss s in
-    let order = c.requires.in_order in
-    let same = c.prepared.ensures.book ss l dn in
-    moments_from g.D.Disk.view ss s (record s { book = c.prepared.new.book }) c.land.new.self refl refl same (c.land.ensures.any_moment told)
+returns-in-Ok-clause-any_moment g c = (landed g (goal.at.returns-in-Ok-clause-any_moment g c).After-land).any_moment
 
 pub returns-in-Ok-clause-own_moments : goal.returns-in-Ok-clause-own_moments
-returns-in-Ok-clause-own_moments g c told own =
-    let ss = scripts_of c.args.setup.now in
-    let s = c.args.self.now in
-    let t = c.args.ticket in
-    let l = length_of s.journal in
-    let dn = option_map doubt_of s.down in
-    let b = book_in ss s in
-    let order = c.requires.in_order in
-    let same = c.prepared.ensures.book ss l dn in
-    let visit : IsOwnVisit g.D.Disk.view g.D.Disk.tells c.args.setup.now (record s { book = c.prepared.new.book }) t = record {
-      own = own_at g.D.Disk.view g.D.Disk.tells ss s c.prepared.new.book same c.prepared.ensures.states own.own;
-      fits = subst (λ (y : Book). FitsAs ss y t (admit y (target_of t.target))) (sym same) own.fits;
-    } in
-    own_moments_from g.D.Disk.view ss s (record s { book = c.prepared.new.book }) c.land.new.self refl refl same (c.land.ensures.own_moments told visit)
+returns-in-Ok-clause-own_moments g c = (landed g (goal.at.returns-in-Ok-clause-own_moments g c).After-land).own_moments
 
 pub returns-in-Ok-clause-refused : goal.returns-in-Ok-clause-refused
 returns-in-Ok-clause-refused g c =
     let ss = scripts_of c.args.setup.now in
     let s = c.args.self.now in
     let t = c.args.ticket in
-    let l = length_of s.journal in
-    let dn = option_map doubt_of s.down in
     let b = book_in ss s in
-    let order = c.requires.in_order in
     let x = target_of t.target in
     let up = ap (λ (o : Option doubt_type.Doubt). option_map doubt_of o) c.in_default.is in
     let none = refused_ok (refusal_for c.args.setup.now s.book t.target) c.prepared.result c.in-Ok.prepared c.prepared.ensures.refused c.in-Ok.is in
-    let why : refusal_of (admit b x) ≡ None = ap refusal_of (admit_same ss s.book l 0 dn None x) ∙ none in
+    let why : refusal_of (admit b x) ≡ None = ap refusal_of (admit_same ss s.book (length_of s.journal) 0 (option_map doubt_of s.down) None x) ∙ none in
     if_none (no_publish b x) (λ r. reply_of c.land.result ≡ r) (up_refusal b x up ∙ ap step.refused_by why)
 
 pub returns-in-Ok-clause-none : goal.returns-in-Ok-clause-none
 returns-in-Ok-clause-none g c no_segment free =
-    let ss = scripts_of c.args.setup.now in
-    let s = c.args.self.now in
-    let t = c.args.ticket in
-    let l = length_of s.journal in
-    let dn = option_map doubt_of s.down in
-    let b = book_in ss s in
-    let order = c.requires.in_order in
-    let x = target_of t.target in
-    let up = ap (λ (o : Option doubt_type.Doubt). option_map doubt_of o) c.in_default.is in
-    let why : refusal_of (admit b x) ≡ None = not_refused_by (refusal_of (admit b x)) (sym (up_refusal b x up) ∙ free) in
-    let wants = c.prepared.ensures.none no_segment (ap refusal_of (admit_same ss s.book 0 l None dn x) ∙ why) in
+    let wants = wanting g (goal.at.returns-in-Ok-clause-none g c).After-prepared no_segment free in
     let made = c.in-Ok.is in
     absurd (let no : ⊥ = cc (made, wants) in no)
 
 pub returns-in-Ok-clause-held : goal.returns-in-Ok-clause-held
 returns-in-Ok-clause-held g c own r is held =
-    let ss = scripts_of c.args.setup.now in
     let s = c.args.self.now in
-    let t = c.args.ticket in
-    let l = length_of s.journal in
-    let dn = option_map doubt_of s.down in
-    let b = book_in ss s in
-    let order = c.requires.in_order in
-    let same = c.prepared.ensures.book ss l dn in
-    let visit : IsOwnVisit g.D.Disk.view g.D.Disk.tells c.args.setup.now (record s { book = c.prepared.new.book }) t = record {
-      own = own_at g.D.Disk.view g.D.Disk.tells ss s c.prepared.new.book same c.prepared.ensures.states own.own;
-      fits = subst (λ (y : Book). FitsAs ss y t (admit y (target_of t.target))) (sym same) own.fits;
-    } in
-    subst (λ (y : Book). TellsReply (step.publish_comes (unmeasured s.rules) y (ticket_of t)) (reply_of c.land.result)) same (c.land.ensures.told visit)
+    subst (λ (y : Book). TellsReply (step.publish_comes (unmeasured s.rules) y (ticket_of c.args.ticket)) (reply_of c.land.result)) (same_book g (goal.at.returns-in-Ok-clause-held g c).After-prepared)
+    (c.land.ensures.told (visit_anew g.D.Disk.view g.D.Disk.tells c.args.setup.now s c.prepared.new.book c.prepared.ensures.book c.prepared.ensures.states c.args.ticket own))
 
 pub returns-in-Ok-clause-memory : goal.returns-in-Ok-clause-memory
-returns-in-Ok-clause-memory g c e =
-    let ss = scripts_of c.args.setup.now in
-    let s = c.args.self.now in
-    let t = c.args.ticket in
-    let l = length_of s.journal in
-    let dn = option_map doubt_of s.down in
-    let b = book_in ss s in
-    let order = c.requires.in_order in
-    let same = c.prepared.ensures.book ss l dn in
-    subst (λ (y : Book). book_in ss c.land.new.self ≡ spend t.number y) same (c.land.ensures.memory e)
+returns-in-Ok-clause-memory g c = (landed g (goal.at.returns-in-Ok-clause-memory g c).After-land).memory
 
 -- what was refused, or found no memory
 
-pub returns-clause-event : goal.returns-clause-event
-returns-clause-event g c own =
+refused : (g : _) (c : After-spend-in-Err g)
+    → Publishes g.D.Disk.view g.D.Disk.tells g.N.Nonces.nonce c.args.setup.now c.args.self.now (record c.args.self.now { book = c.spend-in-Err.new.self }) c.args.ticket c.in-Err.reply
+refused g c =
+    let view = g.D.Disk.view in
+    let tells = g.D.Disk.tells in
     let ss = scripts_of c.args.setup.now in
     let s = c.args.self.now in
     let t = c.args.ticket in
     let l = length_of s.journal in
     let dn = option_map doubt_of s.down in
-    let b = book_in ss s in
     let order = c.requires.in_order in
-    let is = c.spend-in-Err.ensures.book ss l dn ∙ ap (spend t.number) (c.prepared.ensures.book ss l dn) in
-    let fits : FitsIn c.args.setup.now s.book t.target t = fits_at ss s.book l 0 dn None t (target_of t.target) own.fits in
-    let decided = at_up ss s (λ y. Decides ss (unmeasured s.rules) y (step.publish_comes (unmeasured s.rules) y (ticket_of t)) (Err c.in-Err.reply)) c.in_default.is (c.in-Err.ensures.decided fits l) in
-    let comes = answered ss s.rules b t c.in-Err.reply decided in
-    quiet_event g.N.Nonces.nonce ss s _ (step.publish (ticket_of t)) (reply_of c.in-Err.reply) (spend t.number b) refl refl is (λ given. quiet c.in-Err.reply given) comes.step
+    spent_publishes view tells g.N.Nonces.nonce c.args.setup.now s (record s { book = c.spend-in-Err.new.self }) t c.in-Err.reply order c.events_are_kept.ensures (g.met.D.Disk.only_now s.journal.disk) c.requires.out
+    (c.spend-in-Err.ensures.book ss l dn ∙ ap (spend t.number) (c.prepared.ensures.book ss l dn)) refl refl (no_call view tells s.journal) order.sound order.whole (λ all. c.spend-in-Err.ensures.placed ss (c.prepared.ensures.placed ss all))
+    (λ source all. c.spend-in-Err.ensures.states source ss (c.prepared.ensures.states source ss all))
+    (λ own.
+    let decided = c.in-Err.ensures.decided (fits_at ss s.book l 0 dn None t (target_of t.target) own.fits) l in
+    answered ss s.rules (book_in ss s) t c.in-Err.reply (at_up ss s (λ y. Decides ss (unmeasured s.rules) y (step.publish_comes (unmeasured s.rules) y (ticket_of t)) (Err c.in-Err.reply)) c.in_default.is decided))
+
+pub returns-clause-event : goal.returns-clause-event
+returns-clause-event g c = (refused g (goal.at.returns-clause-event g c).After-spend-in-Err).event
 
 pub returns-clause-in_order : goal.returns-clause-in_order
-returns-clause-in_order g c =
-    let ss = scripts_of c.args.setup.now in
-    let s = c.args.self.now in
-    let t = c.args.ticket in
-    let l = length_of s.journal in
-    let dn = option_map doubt_of s.down in
-    let b = book_in ss s in
-    let order = c.requires.in_order in
-    let is = c.spend-in-Err.ensures.book ss l dn ∙ ap (spend t.number) (c.prepared.ensures.book ss l dn) in
-    let scripts : HasWholeScripts (spend t.number b) = record { setup = order.scripts_are.setup; instances = order.scripts_are.instances } in
-    let wants = wanting ss s.rules b (ticket_of t) in
-    quiet_order g.D.Disk.view g.D.Disk.tells ss s _ refl (spend t.number b) is refl refl (no_call g.D.Disk.view g.D.Disk.tells s.journal)
-    order (λ all. c.spend-in-Err.ensures.placed ss (c.prepared.ensures.placed ss all)) order.sound (step.publish (ticket_of t)) step.no_memory step.memory (wants.step 0) tt c.requires.out tt c.events_are_kept.ensures wants.landed scripts order.whole
+returns-clause-in_order g c = (refused g (goal.at.returns-clause-in_order g c).After-spend-in-Err).in_order
 
 pub returns-clause-own : goal.returns-clause-own
-returns-clause-own g c own =
-    let ss = scripts_of c.args.setup.now in
-    let s = c.args.self.now in
-    let t = c.args.ticket in
-    let l = length_of s.journal in
-    let dn = option_map doubt_of s.down in
-    let b = book_in ss s in
-    let order = c.requires.in_order in
-    let is = c.spend-in-Err.ensures.book ss l dn ∙ ap (spend t.number) (c.prepared.ensures.book ss l dn) in
-    quiet_own g.D.Disk.view g.D.Disk.tells ss s _ refl (spend t.number b) is refl refl (no_call g.D.Disk.view g.D.Disk.tells s.journal) (λ all. c.spend-in-Err.ensures.states ss (c.prepared.ensures.states ss all)) own.own
+returns-clause-own g c = (refused g (goal.at.returns-clause-own g c).After-spend-in-Err).own
 
 pub returns-clause-spent : goal.returns-clause-spent
-returns-clause-spent g c =
-    let ss = scripts_of c.args.setup.now in
-    let s = c.args.self.now in
-    let t = c.args.ticket in
-    let l = length_of s.journal in
-    let dn = option_map doubt_of s.down in
-    let b = book_in ss s in
-    let order = c.requires.in_order in
-    let is = c.spend-in-Err.ensures.book ss l dn ∙ ap (spend t.number) (c.prepared.ensures.book ss l dn) in
-    ap (λ (y : Book). y.out) is
+returns-clause-spent g c = (refused g (goal.at.returns-clause-spent g c).After-spend-in-Err).spent
 
 pub returns-clause-any_moment : goal.returns-clause-any_moment
-returns-clause-any_moment g c told =
-    let ss = scripts_of c.args.setup.now in
-    let s = c.args.self.now in
-    let t = c.args.ticket in
-    let l = length_of s.journal in
-    let dn = option_map doubt_of s.down in
-    let b = book_in ss s in
-    let order = c.requires.in_order in
-    let is = c.spend-in-Err.ensures.book ss l dn ∙ ap (spend t.number) (c.prepared.ensures.book ss l dn) in
-    let scripts : HasWholeScripts (spend t.number b) = record { setup = order.scripts_are.setup; instances = order.scripts_are.instances } in
-    let wants = wanting ss s.rules b (ticket_of t) in
-    quiet_run g.D.Disk.view g.D.Disk.tells ss s (record s { book = c.spend-in-Err.new.self }) refl (spend t.number b) is refl refl (no_call g.D.Disk.view g.D.Disk.tells s.journal)
-    order (λ all. c.spend-in-Err.ensures.placed ss (c.prepared.ensures.placed ss all)) order.sound (step.publish (ticket_of t)) step.no_memory step.memory (wants.step 0) tt c.requires.out tt c.events_are_kept.ensures wants.landed told (g.met.D.Disk.only_now s.journal.disk)
+returns-clause-any_moment g c = (refused g (goal.at.returns-clause-any_moment g c).After-spend-in-Err).any_moment
 
 pub returns-clause-own_moments : goal.returns-clause-own_moments
-returns-clause-own_moments g c told own =
-    let ss = scripts_of c.args.setup.now in
-    let s = c.args.self.now in
-    let t = c.args.ticket in
-    let l = length_of s.journal in
-    let dn = option_map doubt_of s.down in
-    let b = book_in ss s in
-    let order = c.requires.in_order in
-    let is = c.spend-in-Err.ensures.book ss l dn ∙ ap (spend t.number) (c.prepared.ensures.book ss l dn) in
-    quiet_own_moments g.D.Disk.view g.D.Disk.tells ss s (record s { book = c.spend-in-Err.new.self }) refl (spend t.number b) is refl refl (no_call g.D.Disk.view g.D.Disk.tells s.journal) told (g.met.D.Disk.only_now s.journal.disk) own.own
+returns-clause-own_moments g c = (refused g (goal.at.returns-clause-own_moments g c).After-spend-in-Err).own_moments
 
 pub returns-clause-refused : goal.returns-clause-refused
 returns-clause-refused g c =
     let ss = scripts_of c.args.setup.now in
     let s = c.args.self.now in
     let t = c.args.ticket in
-    let l = length_of s.journal in
-    let dn = option_map doubt_of s.down in
     let b = book_in ss s in
-    let order = c.requires.in_order in
     let x = target_of t.target in
     let up = ap (λ (o : Option doubt_type.Doubt). option_map doubt_of o) c.in_default.is in
     let told = refused_err (refusal_for c.args.setup.now s.book t.target) c.prepared.result c.in-Err.reply c.prepared.ensures.refused c.in-Err.is in
-    let why : refusal_for c.args.setup.now s.book t.target ≡ refusal_of (admit b x) = ap refusal_of (admit_same ss s.book 0 l None dn x) in
+    let why : refusal_for c.args.setup.now s.book t.target ≡ refusal_of (admit b x) = ap refusal_of (admit_same ss s.book 0 (length_of s.journal) None (option_map doubt_of s.down) x) in
     subst (λ (o : Option step.Reply). IfSome o (λ r. reply_of c.in-Err.reply ≡ r)) (sym (up_refusal b x up ∙ ap step.refused_by (sym why))) told
 
 pub returns-clause-none : goal.returns-clause-none
-returns-clause-none g c no_segment free =
-    let ss = scripts_of c.args.setup.now in
-    let s = c.args.self.now in
-    let t = c.args.ticket in
-    let l = length_of s.journal in
-    let dn = option_map doubt_of s.down in
-    let b = book_in ss s in
-    let order = c.requires.in_order in
-    let x = target_of t.target in
-    let up = ap (λ (o : Option doubt_type.Doubt). option_map doubt_of o) c.in_default.is in
-    let why : refusal_of (admit b x) ≡ None = not_refused_by (refusal_of (admit b x)) (sym (up_refusal b x up) ∙ free) in
-    let wants = c.prepared.ensures.none no_segment (ap refusal_of (admit_same ss s.book 0 l None dn x) ∙ why) in
-    same_error c.prepared.result c.in-Err.reply reply.Memory c.in-Err.is wants
+returns-clause-none g c no_segment free = same_error c.prepared.result c.in-Err.reply reply.Memory c.in-Err.is (wanting g (goal.at.returns-clause-none g c).After-prepared no_segment free)
 
 pub returns-clause-held : goal.returns-clause-held
 returns-clause-held g c own r is held =
@@ -488,32 +260,13 @@ returns-clause-held g c own r is held =
     let t = c.args.ticket in
     let l = length_of s.journal in
     let dn = option_map doubt_of s.down in
-    let b = book_in ss s in
-    let order = c.requires.in_order in
-    let fits : FitsIn c.args.setup.now s.book t.target t = fits_at ss s.book l 0 dn None t (target_of t.target) own.fits in
+    let fits = fits_at ss s.book l 0 dn None t (target_of t.target) own.fits in
     let here = holds_at ss s.book l 0 dn None (target_of t.target) _ held in
     let prepares = at_up ss s (λ y. Prepares ss (unmeasured s.rules) y (step.publish_comes (unmeasured s.rules) y (ticket_of t)) (Err c.in-Err.reply)) c.in_default.is (c.in-Err.ensures.held fits r is here l) in
-    told_answered ss s.rules b (decision_of c.args.setup.now s t) c.in-Err.reply prepares
+    told_answered ss s.rules (book_in ss s) (decision_of c.args.setup.now s t) c.in-Err.reply prepares
 
 pub returns-clause-memory : goal.returns-clause-memory
-returns-clause-memory g c e =
-    let ss = scripts_of c.args.setup.now in
-    let s = c.args.self.now in
-    let t = c.args.ticket in
-    let l = length_of s.journal in
-    let dn = option_map doubt_of s.down in
-    let b = book_in ss s in
-    let order = c.requires.in_order in
-    let is = c.spend-in-Err.ensures.book ss l dn ∙ ap (spend t.number) (c.prepared.ensures.book ss l dn) in
-    is
+returns-clause-memory g c = (refused g (goal.at.returns-clause-memory g c).After-spend-in-Err).memory
 
 pub returns-clause-cause : goal.returns-clause-cause
-returns-clause-cause g c =
-    let ss = scripts_of c.args.setup.now in
-    let s = c.args.self.now in
-    let t = c.args.ticket in
-    let l = length_of s.journal in
-    let dn = option_map doubt_of s.down in
-    let b = book_in ss s in
-    let order = c.requires.in_order in
-    no_count c.in-Err.reply _ _ c.in-Err.ensures.tells
+returns-clause-cause g c = no_count c.in-Err.reply _ _ c.in-Err.ensures.tells
