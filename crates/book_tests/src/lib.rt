@@ -1,5 +1,5 @@
-//! Tests of copies of the book and what it gives, of setups, and of shelves on disks that fail, are damaged or full: what no
-//! row of steps says.
+//! Tests of copies of the book and what it gives, of setups, and of shelves on disks that fail, are damaged or full, and of pages
+//! behind one another: what no row of steps says.
 #![tactic(auto)]
 
 #[cfg(test)]
@@ -8,6 +8,8 @@ mod copies;
 mod cuts;
 #[cfg(test)]
 mod full;
+#[cfg(test)]
+mod links;
 #[cfg(test)]
 mod numbers;
 #[cfg(test)]

@@ -4,14 +4,14 @@ use std::test::Fail;
 use web_disk::{MemoryDisk, Wreck};
 
 // A journal of no records.
-const EMPTY: &[u8] = &[75, 83, 87, 69, 66, 0, 0, 2, 0];
+const EMPTY: &[u8] = &[75, 83, 87, 69, 66, 0, 0, 3, 0];
 
 // The places and the bodies of three records.
 const RECORDS: &[(u64, &[u8])] = &[(8, b"abc"), (16, b""), (21, b"defghij")];
 
 // A journal of these three.
 const THREE: &[u8] = &[
-    75, 83, 87, 69, 66, 0, 0, 2, 1, 3, 0, 0, 0, b'a', b'b', b'c', 1, 0, 0, 0, 0, 1, 7, 0, 0, 0,
+    75, 83, 87, 69, 66, 0, 0, 3, 1, 3, 0, 0, 0, b'a', b'b', b'c', 1, 0, 0, 0, 0, 1, 7, 0, 0, 0,
     b'd', b'e', b'f', b'g', b'h', b'i', b'j', 0,
 ];
 
@@ -177,7 +177,8 @@ const CHANGES: &[(usize, u8, Result<(usize, usize), u64>)] = &[
     (4, 98, Err(0)),
     (5, 1, Err(0)),
     (7, 1, Err(0)),
-    (7, 3, Err(0)),
+    (7, 2, Err(0)),
+    (7, 4, Err(0)),
     (8, 0, Ok((0, 9))),
     (8, 2, Ok((0, 9))),
     (16, 0, Ok((1, 17))),

@@ -65,7 +65,7 @@ pub fn begin(alloc: Global, shelf: u32, setup: &Setup) -> Result<Bytes, Fail> {
 // A header and a record with this body.
 fn begun(alloc: Global, first: &[u8]) -> Result<Vec<u8>, Fail> {
     let mut bytes = Vec::new(alloc);
-    bytes.extend_from_slice(&[75, 83, 87, 69, 66, 0, 0, 2])?;
+    bytes.extend_from_slice(&[75, 83, 87, 69, 66, 0, 0, 3])?;
     add(&mut bytes, first)?;
     Ok(bytes)
 }

@@ -7,9 +7,9 @@ use script_value::Value;
 use std::alloc::Global;
 use std::test::Fail;
 
-// Segment 1 starts the script that counts in its cell, which begins with 5, and adds 1 there. Its state is that of the first page: the
-// second part of the first node waits.
-const START: &str = "2 q1 q9 0 1 5 d0 d1 2 0 q1 d0 0 q100 d21 d0 d1 2 d0 d1 d0";
+// Segment 1 starts the script that counts in its cell, which begins with 5, and adds 1 there. Its state is that of the first page,
+// by itself: the second part of the first node waits. What answers a page tells what differs: no variable, and one frame.
+const START: &str = "2 q1 q9 0 1 5 d0 d1 2 0 q1 d0 0 q100 d22 0 d0 d1 2 d0 d1 d0";
 
 // What records make: how many instances there are, the next number, the clock, and the cell of instance 1.
 type Made = (u32, u64, u64, Option<i64>);
@@ -20,32 +20,32 @@ const MAKE: &[(&[&str], Made)] = &[
     // No script is run: a start that tells of something else is taken as it tells, where that holds over the cells. Here it adds
     // something else, does nothing, sends its page otherwise, or leaves a transaction.
     (
-        &["2 q1 q9 0 1 5 d0 d1 2 0 q2 d0 0 q100 d21 d0 d1 2 d0 d1 d0"],
+        &["2 q1 q9 0 1 5 d0 d1 2 0 q2 d0 0 q100 d22 0 d0 d1 2 d0 d1 d0"],
         (1, 2, 0, Some(7)),
     ),
     (
-        &["2 q1 q9 0 1 5 d0 d0 d0 0 q100 d21 d0 d1 2 d0 d1 d0"],
+        &["2 q1 q9 0 1 5 d0 d0 d0 0 q100 d22 0 d0 d1 2 d0 d1 d0"],
         (1, 2, 0, Some(5)),
     ),
     (
-        &["2 q1 q9 0 1 5 d0 d1 2 0 q1 d0 1 q100 d21 d0 d1 2 d0 d1 d0"],
+        &["2 q1 q9 0 1 5 d0 d1 2 0 q1 d0 1 q100 d22 0 d0 d1 2 d0 d1 d0"],
         (1, 2, 0, Some(6)),
     ),
     (
-        &["2 q1 q9 0 1 5 d0 d1 2 0 q1 d1 q0 d0 0 q100 d21 d0 d1 2 d0 d1 d0"],
+        &["2 q1 q9 0 1 5 d0 d1 2 0 q1 d1 q0 d0 0 q100 d22 0 d0 d1 2 d0 d1 d0"],
         (1, 2, 0, Some(6)),
     ),
     // Two that read the cell, the first of them what is there, and one on a cell that is not there.
     (
-        &["2 q1 q9 0 1 5 d0 d1 0 0 0 q5 d0 0 q100 d21 d0 d1 2 d0 d1 d0"],
+        &["2 q1 q9 0 1 5 d0 d1 0 0 0 q5 d0 0 q100 d22 0 d0 d1 2 d0 d1 d0"],
         (1, 2, 0, Some(5)),
     ),
     (
-        &["2 q1 q9 0 1 5 d0 d1 0 0 0 q6 d0 0 q100 d21 d0 d1 2 d0 d1 d0"],
+        &["2 q1 q9 0 1 5 d0 d1 0 0 0 q6 d0 0 q100 d22 0 d0 d1 2 d0 d1 d0"],
         (0, 2, 0, None),
     ),
     (
-        &["2 q1 q9 0 1 5 d0 d1 2 1 q1 d0 0 q100 d21 d0 d1 2 d0 d1 d0"],
+        &["2 q1 q9 0 1 5 d0 d1 2 1 q1 d0 0 q100 d22 0 d0 d1 2 d0 d1 d0"],
         (0, 2, 0, None),
     ),
     // An answer to page 1 whose page lives longer, and is the second; one that is sent otherwise, one that reads what is not there,
@@ -53,7 +53,7 @@ const MAKE: &[(&[&str], Made)] = &[
     (
         &[
             START,
-            "2 q2 q9 1 q1 q1 5 d0 d0 d0 0 q200 d21 d0 d1 2 d0 d2 d0",
+            "2 q2 q9 1 q1 q1 5 d0 d0 d0 0 q200 d30 1 d0 d0 d0 d1 2 d0 d2 d0",
             "5 q100",
         ],
         (1, 3, 100, Some(6)),
@@ -61,7 +61,7 @@ const MAKE: &[(&[&str], Made)] = &[
     (
         &[
             START,
-            "2 q2 q9 1 q1 q1 5 d0 d0 d0 1 q200 d21 d0 d1 2 d0 d2 d0",
+            "2 q2 q9 1 q1 q1 5 d0 d0 d0 1 q200 d30 1 d0 d0 d0 d1 2 d0 d2 d0",
             "5 q100",
         ],
         (1, 3, 100, Some(6)),
@@ -69,7 +69,7 @@ const MAKE: &[(&[&str], Made)] = &[
     (
         &[
             START,
-            "2 q2 q9 1 q1 q1 5 d0 d1 0 0 0 q5 d0 0 q200 d21 d0 d1 2 d0 d2 d0",
+            "2 q2 q9 1 q1 q1 5 d0 d1 0 0 0 q5 d0 0 q200 d30 1 d0 d0 d0 d1 2 d0 d2 d0",
             "5 q100",
         ],
         (0, 3, 100, None),
@@ -77,7 +77,7 @@ const MAKE: &[(&[&str], Made)] = &[
     (
         &[
             START,
-            "2 q2 q9 1 q1 q1 5 d0 d1 2 1 q2 d0 0 q200 d21 d0 d1 2 d0 d2 d0",
+            "2 q2 q9 1 q1 q1 5 d0 d1 2 1 q2 d0 0 q200 d30 1 d0 d0 d0 d1 2 d0 d2 d0",
             "5 q100",
         ],
         (0, 3, 100, None),
@@ -86,7 +86,7 @@ const MAKE: &[(&[&str], Made)] = &[
     (
         &[
             START,
-            "2 q1 q9 1 q1 q1 5 d0 d0 d0 0 q200 d21 d0 d1 2 d0 d2 d0",
+            "2 q1 q9 1 q1 q1 5 d0 d0 d0 0 q200 d30 1 d0 d0 d0 d1 2 d0 d2 d0",
             "5 q100",
         ],
         (0, 2, 100, None),
@@ -95,8 +95,8 @@ const MAKE: &[(&[&str], Made)] = &[
     (
         &[
             START,
-            "2 q2 q9 1 q1 q1 5 d0 d0 d0 1 q100 d21 d0 d1 2 d0 d2 d0",
-            "2 q3 q9 1 q1 q1 5 d0 d0 d0 0 q200 d21 d0 d1 2 d0 d2 d0",
+            "2 q2 q9 1 q1 q1 5 d0 d0 d0 1 q100 d30 1 d0 d0 d0 d1 2 d0 d2 d0",
+            "2 q3 q9 1 q1 q1 5 d0 d0 d0 0 q200 d30 1 d0 d0 d0 d1 2 d0 d2 d0",
             "5 q100",
         ],
         (1, 4, 100, Some(6)),
@@ -105,18 +105,18 @@ const MAKE: &[(&[&str], Made)] = &[
     (
         &[
             START,
-            "2 q2 q9 1 q1 q1 5 d0 d0 d0 0 q100 d21 d0 d1 2 d0 d2 d0",
-            "2 q3 q9 1 q1 q2 5 d0 d1 2 0 q2 d0 0 q200 d21 d0 d1 2 d0 d1 d0",
+            "2 q2 q9 1 q1 q1 5 d0 d0 d0 0 q100 d30 1 d0 d0 d0 d1 2 d0 d2 d0",
+            "2 q3 q9 1 q1 q2 5 d0 d1 2 0 q2 d0 0 q200 d30 1 d0 d0 d0 d1 2 d0 d1 d0",
             "5 q100",
         ],
         (1, 4, 100, Some(8)),
     ),
     (
         &[
-            "2 q1 q9 0 0 5 d0 d0 d0 0 q100 d21 d0 d1 2 d0 d0 d0",
-            "2 q2 q9 1 q1 q1 5 d0 d0 d0 0 q100 d21 d0 d1 2 d0 d1 d0",
-            "2 q3 q9 1 q1 q2 5 d0 d0 d0 0 q100 d21 d0 d1 2 d0 d2 d0",
-            "2 q4 q9 1 q1 q3 5 d0 d0 d0 0 q200 d21 d0 d1 2 d0 d0 d0",
+            "2 q1 q9 0 0 5 d0 d0 d0 0 q100 d22 0 d0 d1 2 d0 d0 d0",
+            "2 q2 q9 1 q1 q1 5 d0 d0 d0 0 q100 d30 1 d0 d0 d0 d1 2 d0 d1 d0",
+            "2 q3 q9 1 q1 q2 5 d0 d0 d0 0 q100 d30 1 d0 d0 d0 d1 2 d0 d2 d0",
+            "2 q4 q9 1 q1 q3 5 d0 d0 d0 0 q200 d30 1 d0 d0 d0 d1 2 d0 d0 d0",
             "5 q100",
         ],
         (1, 5, 100, None),
@@ -135,7 +135,7 @@ const MAKE: &[(&[&str], Made)] = &[
     (
         &[
             START,
-            "2 q2 q9 0 1 5 d0 d0 d0 0 q100 d21 d0 d1 2 d0 d1 d0",
+            "2 q2 q9 0 1 5 d0 d0 d0 0 q100 d22 0 d0 d1 2 d0 d1 d0",
             "2 q3 q9 1 q2 q1 5 d0 d0 d0 0 q200 d0",
         ],
         (2, 4, 0, Some(6)),
@@ -183,7 +183,7 @@ const MAKE: &[(&[&str], Made)] = &[
     (&["3 q1 q7 q7 5 d0 d0 d0", START], (0, 2, 0, None)),
     (
         &[
-            "2 q1 q9 0 1 5 d0 d1 2 1 q1 d0 0 q100 d21 d0 d1 2 d0 d1 d0",
+            "2 q1 q9 0 1 5 d0 d1 2 1 q1 d0 0 q100 d22 0 d0 d1 2 d0 d1 d0",
             START,
         ],
         (0, 2, 0, None),

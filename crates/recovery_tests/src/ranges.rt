@@ -10,7 +10,7 @@ const LAST: u64 = 4_611_686_018_427_387_903;
 
 // Records whose segment has this number.
 const SEGMENTS: &[&str] = &[
-    "2 # q9 0 0 5 d0 d0 d0 0 q100 d21 d0 d1 2 d0 d0 d0",
+    "2 # q9 0 0 5 d0 d0 d0 0 q100 d22 0 d0 d1 2 d0 d0 d0",
     "2 # q9 1 q9 q8 5 d0 d0 d0 0 q100 d0",
     "3 # q9 q8 5 d0 d0 d0",
     "4 # q9 q8 5 d0 d0",

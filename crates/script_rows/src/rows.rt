@@ -1,4 +1,5 @@
 use crate::runs::{Asked, question_of};
+use crate::states::{Writing, writing_of};
 use crate::twins::{Chain, chain_of};
 use crate::{differences, first, kept, read, runs, states, syntax, text, twins, values};
 use std::alloc::{AllocError, Global};
@@ -10,14 +11,18 @@ fn told_of_pages(
     asked: &Asked,
     chain: &Chain,
 ) -> Result<String, AllocError> {
+    let script = &asked.script;
     match word {
         "both" => twins::each_told(alloc, chain),
         "last" => twins::last_told(alloc, chain),
-        "bytes" => states::bytes_told(alloc, chain),
-        "cuts" => states::cuts_told(alloc, &asked.script, chain),
-        "changes" => states::changes_told(alloc, &asked.script, chain),
-        "differs" => differences::difference_told(alloc, &asked.script, chain),
-        _ => kept::kept_told(alloc, &asked.script, chain),
+        "bytes" => states::bytes_told(alloc, script, Writing::Bare, chain),
+        "cuts" => states::cuts_told(alloc, script, Writing::Bare, chain),
+        "changes" => states::changes_told(alloc, script, Writing::Bare, chain),
+        "form" => states::bytes_told(alloc, script, writing_of(chain), chain),
+        "form-cuts" => states::cuts_told(alloc, script, writing_of(chain), chain),
+        "form-changes" => states::changes_told(alloc, script, writing_of(chain), chain),
+        "differs" => differences::difference_told(alloc, script, chain),
+        _ => kept::kept_told(alloc, script, chain),
     }
 }
 
@@ -48,9 +53,16 @@ fn answer(alloc: Global, word: &str, row: &str) -> Result<String, AllocError> {
         "recorded" => runs::recorded(alloc, asked),
         "value" => runs::value_told(alloc, asked),
         "first" => first::first_told(alloc, asked),
-        "both" | "last" | "bytes" | "cuts" | "changes" | "differs" | "kept" => {
-            of_pages(alloc, word, asked)
-        }
+        "both"
+        | "last"
+        | "bytes"
+        | "cuts"
+        | "changes"
+        | "form"
+        | "form-cuts"
+        | "form-changes"
+        | "differs"
+        | "kept" => of_pages(alloc, word, asked),
         "again" => twins::again_told(alloc, asked),
         "state" => states::read_told(alloc, asked),
         "against" => differences::read_told(alloc, asked),

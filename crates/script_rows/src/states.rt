@@ -1,6 +1,7 @@
 use crate::syntax::script_of;
 use crate::twins::Chain;
-use frame_codec::{decode, encode, is_spelled, length};
+use frame_codec::{decode, decode_form, encode, encode_form, is_spelled, is_stored, length};
+use kept_states::next_links;
 use script_nodes::Script;
 use script_value::Bytes;
 use std::alloc::{AllocError, Global};
@@ -15,13 +16,72 @@ pub fn spelling(alloc: Global, state: &Suspended) -> Result<Option<Bytes>, Alloc
     }
 }
 
-// The spelling of what is kept at the last page, if there is one, and it is as long as it is said to be.
-fn kept_at_last(alloc: Global, chain: &Chain) -> Result<Option<Bytes>, AllocError> {
-    let Some(Outcome::Shown { state, .. }) = chain.last_stop() else {
-        return Ok(None);
-    };
-    match spelling(alloc, state)? {
-        Some(bytes) if length(state) == bytes.len() as u64 => Ok(Some(bytes)),
+/// How the bytes of a state are read and written.
+#[derive(Clone, Copy)]
+pub enum Writing<'a> {
+    /// By itself, without the byte of a form.
+    Bare,
+    /// In the form that is due: by itself, or behind this state of the page before.
+    Form(Option<&'a Suspended>),
+}
+
+impl Writing<'_> {
+    // The spelling of a state, if it has one, and is as long as it is said to be.
+    fn spelling(self, alloc: Global, state: &Suspended) -> Result<Option<Bytes>, AllocError> {
+        if !is_spelled(state) {
+            return Ok(None);
+        }
+        match self {
+            Writing::Bare => {
+                let bytes = encode(alloc, state)?;
+                Ok(if length(state) == bytes.len() as u64 {
+                    Some(bytes)
+                } else {
+                    None
+                })
+            }
+            Writing::Form(before) => Ok(Some(encode_form(alloc, before, state)?)),
+        }
+    }
+
+    // The state that these bytes spell, if they spell one.
+    fn read(
+        self,
+        alloc: Global,
+        script: &Script,
+        bytes: &[u8],
+    ) -> Result<Option<Suspended>, AllocError> {
+        match self {
+            Writing::Bare => decode(alloc, script, bytes),
+            Writing::Form(None) => decode_form(alloc, script, None, bytes),
+            Writing::Form(Some(before)) => {
+                if is_stored(script, before) {
+                    decode_form(alloc, script, Some(before), bytes)
+                } else {
+                    Ok(None)
+                }
+            }
+        }
+    }
+}
+
+/// How a record says the state of the last page: behind the page before, where that has fewer than 32 links.
+pub fn writing_of(chain: &Chain) -> Writing<'_> {
+    let mut links = 0;
+    for _ in chain.segments.iter().skip(1) {
+        links = next_links(links);
+    }
+    Writing::Form(if links == 0 { None } else { chain.page(1) })
+}
+
+// The spelling of what is kept at the last page, if there is one.
+fn kept_at_last(
+    alloc: Global,
+    writing: Writing<'_>,
+    chain: &Chain,
+) -> Result<Option<Bytes>, AllocError> {
+    match chain.last_stop() {
+        Some(Outcome::Shown { state, .. }) => writing.spelling(alloc, state),
         _ => Ok(None),
     }
 }
@@ -61,19 +121,26 @@ pub fn bytes_of(alloc: Global, digits: &str) -> Result<Option<Vec<u8>>, AllocErr
     Ok(if high.is_none() { Some(bytes) } else { None })
 }
 
-/// What is kept of a script at its last page: how many bytes, and these bytes.
-pub fn bytes_told(alloc: Global, chain: &Chain) -> Result<String, AllocError> {
-    match kept_at_last(alloc, chain)? {
-        Some(kept) => {
-            let count = kept.len();
-            let digits = digits(alloc, kept.as_slice())?;
-            format!(in alloc; "{count} {digits}")
-        }
-        None => nothing_kept(alloc),
-    }
+/// What is kept of a script at its last page: how many bytes, and these bytes, if they are read back.
+pub fn bytes_told(
+    alloc: Global,
+    script: &Script,
+    writing: Writing<'_>,
+    chain: &Chain,
+) -> Result<String, AllocError> {
+    let Some(kept) = kept_at_last(alloc, writing, chain)? else {
+        return nothing_kept(alloc);
+    };
+    let Reading::State = reading_of(alloc, script, writing, kept.as_slice())? else {
+        return String::from_str(alloc, "not read back");
+    };
+    let count = kept.len();
+    let digits = digits(alloc, kept.as_slice())?;
+    format!(in alloc; "{count} {digits}")
 }
 
 // How bytes are read.
+#[derive(Drop)]
 enum Reading {
     None,
     State,
@@ -81,11 +148,16 @@ enum Reading {
 }
 
 // How bytes are read: as no state, as one that they spell, or as one that other bytes spell.
-fn reading_of(alloc: Global, script: &Script, bytes: &[u8]) -> Result<Reading, AllocError> {
-    let Some(state) = decode(alloc, script, bytes)? else {
+fn reading_of(
+    alloc: Global,
+    script: &Script,
+    writing: Writing<'_>,
+    bytes: &[u8],
+) -> Result<Reading, AllocError> {
+    let Some(state) = writing.read(alloc, script, bytes)? else {
         return Ok(Reading::None);
     };
-    match spelling(alloc, &state)? {
+    match writing.spelling(alloc, &state)? {
         Some(spelled) => Ok(if spelled.as_slice() == bytes {
             Reading::State
         } else {
@@ -107,7 +179,7 @@ pub fn read_told(alloc: Global, row: &str) -> Result<String, AllocError> {
     };
     String::from_str(
         alloc,
-        match reading_of(alloc, &script, bytes.as_slice())? {
+        match reading_of(alloc, &script, Writing::Bare, bytes.as_slice())? {
             Reading::None => "none",
             Reading::State => "state",
             Reading::Misread => "misread",
@@ -142,32 +214,38 @@ impl Counts {
 fn count_cuts(
     alloc: Global,
     script: &Script,
+    writing: Writing<'_>,
     kept: &[u8],
     counts: &mut Counts,
 ) -> Result<(), AllocError> {
     let mut front = Vec::new(alloc);
     for byte in kept {
-        counts.count(reading_of(alloc, script, front.as_slice())?);
+        counts.count(reading_of(alloc, script, writing, front.as_slice())?);
         front.push(*byte)?;
     }
     for behind in 0..=255_u8 {
         front.push(behind)?;
-        counts.count(reading_of(alloc, script, front.as_slice())?);
+        counts.count(reading_of(alloc, script, writing, front.as_slice())?);
         front.pop();
     }
     Ok(())
 }
 
 /// How many of the beginnings of the last page's state, and of what it is with one byte more, are states.
-pub fn cuts_told(alloc: Global, script: &Script, chain: &Chain) -> Result<String, AllocError> {
-    let Some(kept) = kept_at_last(alloc, chain)? else {
+pub fn cuts_told(
+    alloc: Global,
+    script: &Script,
+    writing: Writing<'_>,
+    chain: &Chain,
+) -> Result<String, AllocError> {
+    let Some(kept) = kept_at_last(alloc, writing, chain)? else {
         return nothing_kept(alloc);
     };
     let mut counts = Counts {
         states: 0,
         misread: 0,
     };
-    count_cuts(alloc, script, kept.as_slice(), &mut counts)?;
+    count_cuts(alloc, script, writing, kept.as_slice(), &mut counts)?;
     counts.told(alloc)
 }
 
@@ -175,6 +253,7 @@ pub fn cuts_told(alloc: Global, script: &Script, chain: &Chain) -> Result<String
 fn count_changes(
     alloc: Global,
     script: &Script,
+    writing: Writing<'_>,
     kept: &[u8],
     place: usize,
     counts: &mut Counts,
@@ -186,15 +265,20 @@ fn count_changes(
         };
         *byte = value;
         if changed.as_slice() != kept {
-            counts.count(reading_of(alloc, script, changed.as_slice())?);
+            counts.count(reading_of(alloc, script, writing, changed.as_slice())?);
         }
     }
     Ok(())
 }
 
 /// How many of the changes of one byte of the last page's state are states.
-pub fn changes_told(alloc: Global, script: &Script, chain: &Chain) -> Result<String, AllocError> {
-    let Some(kept) = kept_at_last(alloc, chain)? else {
+pub fn changes_told(
+    alloc: Global,
+    script: &Script,
+    writing: Writing<'_>,
+    chain: &Chain,
+) -> Result<String, AllocError> {
+    let Some(kept) = kept_at_last(alloc, writing, chain)? else {
         return nothing_kept(alloc);
     };
     let mut counts = Counts {
@@ -202,7 +286,7 @@ pub fn changes_told(alloc: Global, script: &Script, chain: &Chain) -> Result<Str
         misread: 0,
     };
     for place in 0..kept.len() {
-        count_changes(alloc, script, kept.as_slice(), place, &mut counts)?;
+        count_changes(alloc, script, writing, kept.as_slice(), place, &mut counts)?;
     }
     counts.told(alloc)
 }
