@@ -17,7 +17,8 @@ use Rattle.replay_spec.specs.Tape.{Tape, State, End, got, stop, Run, ◌>>=◌, 
 use Rattle.replay_spec.specs.Eval.{value_at, copied, is_not_false}
 use Rattle.machine_spec.specs.Machine.{Frame, in_binding, in_operand, in_body, in_seq, in_and, in_or, in_if, in_count, in_store, in_turn, in_isolate, in_page, in_finish, in_back, Control, visit, value, Point, inside_of, visits, gives, node_at, part_in, part_at, parts_from, bindings_from, bindings_in, body_at, body_in, op_at, op_in, store_by, next_binding, next_part, next_operand, next_turn, first_turn, visited, cut, taken, next, outer_env, outer_frames, Machine, stepped, step, then, steps}
 use Rattle.machine_spec.specs.Laws.{started, Stops}
-use Rattle.machine_spec.proofs.Meaning.{length_more, drop_next}
+use Rattle.machine_spec.proofs.Meaning.{length_more, drop_next, drop_all}
+use Rattle.script_nodes.proofs.Trees.{all_front, all_last, all_weaker}
 
 abbrev at : Control → List Val → List Frame → State → Machine
 at c env fs s = record { point = record { control = c; env = env; frames = fs }; state = s }
@@ -111,18 +112,6 @@ first a n (Ok (pos k)) g fs l env s = turn a n k k g fs l [] env s (omega arith)
 first a n (Ok (negsuc k)) g fs l env s = tt
 first a n (Err k) g fs l env s = tt
 
-all_front : (P : ℕ → Type 0) (ps qs : List ℕ) → AllByRecursion P (ps ++ qs) → AllByRecursion P ps
-all_front P [] qs h = tt
-all_front P (p ∷ ps) qs h = (h.0, all_front P ps qs h.1)
-
-all_last : (P : ℕ → Type 0) (ps : List ℕ) (q : ℕ) → AllByRecursion P (ps ++ q ∷ []) → P q
-all_last P [] q h = h.0
-all_last P (p ∷ ps) q h = all_last P ps q h.1
-
-drop_all : (xs : List ℕ) → drop 0 xs ≡ xs
-drop_all [] = refl
-drop_all (x ∷ xs) = refl
-
 node_ends : (a : Arena) (n : ℕ) (x : Node) → node_at a n ≡ x → AllByRecursion (Good a) (parts x) → (fs : List Frame) → Lands a fs → (env : List Val) (s : State) → Ends a (visited n x env fs s)
 node_ends a n (node.Lit v) e g fs l env s = leaf a env fs l (copied (inside_of fs) (meaning v) s)
 node_ends a n (node.Var k) e g fs l env s = leaf a env fs l (copied (inside_of fs) (value_at env k) s)
@@ -176,10 +165,6 @@ node_ends a n (node.InstSet c b) e g fs l env s =
     acts a (charge (inside_of fs) 1 s) (λ _. visits b env (in_store n ∷ fs)) (λ _ t. g.0 (in_store n ∷ fs) (lands a (in_store n) fs (λ v env u. leaf a env fs l (store_by (node_at a n) (inside_of fs) v u))) env t)
 node_ends a n (node.InstAdd c b) e g fs l env s =
     acts a (charge (inside_of fs) 1 s) (λ _. visits b env (in_store n ∷ fs)) (λ _ t. g.0 (in_store n ∷ fs) (lands a (in_store n) fs (λ v env u. leaf a env fs l (store_by (node_at a n) (inside_of fs) v u))) env t)
-
-all_weaker : (P Q : ℕ → Type 0) (ps : List ℕ) → ((p : ℕ) → P p → Q p) → AllByRecursion P ps → AllByRecursion Q ps
-all_weaker P Q [] f h = tt
-all_weaker P Q (p ∷ ps) f h = (f p h.0, all_weaker P Q ps f h.1)
 
 -- the parts of each node stand behind it
 abbrev pub AreBehind : Arena → Type 0

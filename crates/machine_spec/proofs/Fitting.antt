@@ -20,7 +20,7 @@ use Rattle.replay_spec.specs.Laws.{Waits}
 use Rattle.machine_spec.specs.Machine.{Frame, in_binding, in_operand, in_body, in_seq, in_and, in_or, in_if, in_count, in_store, in_turn, in_isolate, in_page, in_finish, in_back, Control, visit, value, Point, inside_of, visits, gives, given, node_at, part_in, part_at, parts_from, bindings_from, bindings_in, body_at, body_in, op_at, op_in, store_by, next_binding, next_part, next_operand, next_turn, first_turn, visited, cut, taken, next, Machine, Suspended, Step, goes, stopped, stepped, step_at, step, then, steps}
 use Rattle.machine_spec.specs.Laws.{started}
 use Rattle.machine_spec.specs.Fits.{node_of, place_of, IsKind, Binds, Works, FitsAt, IsSend, Fits, EachStateFits}
-use Rattle.machine_spec.proofs.Meaning.{cut_back, length_more}
+use Rattle.machine_spec.proofs.Meaning.{cut_back, length_more, drop_all}
 use Rattle.machine_spec.proofs.Acts.{IsPlain, visited_paid, taken_any, any_given, plain_or_page}
 use Rattle.machine_spec.proofs.Grow.{more, Grows, Grown, law}
 
@@ -29,7 +29,7 @@ use Rattle.machine_spec.proofs.Grow.{more, Grows, Grown, law}
 is_let : (n : ℕ) (done : List Val) (x : Node) → IsKind (in_binding n done) x → x ≡ node.Let (bindings_in x) (body_in x)
 is_let n done x h = grind (arith, h)
 
-few_done : (n : ℕ) (done : List Val) (x : Node) → IsKind (in_binding n done) x → length done < length (bindings_in x)
+pub few_done : (n : ℕ) (done : List Val) (x : Node) → IsKind (in_binding n done) x → length done < length (bindings_in x)
 few_done n done x h = grind (arith, h)
 
 is_for : (n turns : ℕ) (done : List Val) (x : Node) → IsKind (in_turn n turns done) x → x ≡ node.For (part_in x 0) (body_in x)
@@ -80,10 +80,6 @@ get_seam xs y k e = rw e (seam xs)
     seam : (xs : List ℕ) → slice_get (xs ++ y ∷ []) (length xs) ≡ Some y
     seam [] = refl
     seam (x ∷ xs) = seam xs
-
-drop_all : (xs : List ℕ) → drop 0 xs ≡ xs
-drop_all [] = refl
-drop_all (x ∷ xs) = refl
 
 -- ## Frames
 

@@ -97,7 +97,7 @@ cut_back xs ys =
 pub length_more : (done : List Val) (v : Val) → length (done ++ v ∷ []) ≡ suc (length done)
 length_more done v = let h = length-append done (v ∷ []) in omega arith
 
-drop_all : (xs : List ℕ) → drop 0 xs ≡ xs
+pub drop_all : (xs : List ℕ) → drop 0 xs ≡ xs
 drop_all [] = refl
 drop_all (x ∷ xs) = refl
 

@@ -20,7 +20,7 @@ on_on : (a : Arena) (j k : ℕ) (m n : Machine) (y z : Step) → step a m ≡ y 
 on_on a j k m n (goes m1) z p e q ih = let r = ih m1 e in (suc r.0, one_more a m (goes m1) z r.0 p r.1)
 on_on a j k m n (stopped o names d s) z p e q ih = absurd (cc)
 
-same_machine : (m n : Machine) → goes m ≡ goes n → m ≡ n
+pub same_machine : (m n : Machine) → goes m ≡ goes n → m ≡ n
 same_machine m n e = cc
 
 -- so many steps, and then some more

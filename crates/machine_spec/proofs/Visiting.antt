@@ -12,15 +12,7 @@ use Rattle.replay_spec.specs.Laws.{longer}
 use Rattle.machine_spec.specs.Laws.{IsStateOf}
 use Rattle.machine_spec.specs.Visits.{IsShownBy, AVisitGoesOn}
 use Rattle.machine_spec.proofs.Law.{resume_is}
-
--- one more page, and then the newest segment
-one_more : (h : Home) (ps : List Page) (p : Page) (x : Answer) → tape_of h (ps ++ p ∷ []) x ≡ longer x (page_tape h ps p)
-one_more h [] p x = refl
-one_more h (q ∷ ps) p x = ap (λ (xs : List Answer). record { first = (answered h q).segment; later = xs ++ x ∷ [] }) (mapped ps)
-  where
-    mapped : (ps : List Page) → map (answered h) (ps ++ p ∷ []) ≡ map (answered h) ps ++ answered h p ∷ []
-    mapped [] = refl
-    mapped (r ∷ ps) = ap (λ (xs : List Answer). answered h r ∷ xs) (mapped ps)
+use Rattle.replay_spec.proofs.Decided.{tape_longer}
 
 shown_answer : (v : Visit) (read : List Val) (p : Page) → IsShownBy v read p → answered (home_of v) p ≡ newest v (recorded read)
 shown_answer v read p is = rw (is.number, is.nonce, is.answer, is.reads) refl
@@ -29,7 +21,7 @@ pub visit_goes_on : AVisitGoesOn
 visit_goes_on a i v same ps p chain d is cells fuel h =
     let x = newest v (present cells fuel) in
     let r = resume_is a i (page_tape (home_of v) ps p) d is x cells fuel h in
-    let tape = λ (y : Answer). ap (λ (qs : List Page). tape_of (home_of v) qs y) chain ∙ one_more (home_of v) ps p y in
+    let tape = λ (y : Answer). ap (λ (qs : List Page). tape_of (home_of v) qs y) chain ∙ tape_longer (home_of v) ps p y in
     record {
       stops = r.stops;
       comes = r.runs ∙ sym (ap (λ (s : Script). run s (tape_for v (present cells fuel))) same ∙ ap (run (script_of a)) (tape x));

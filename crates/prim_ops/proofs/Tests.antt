@@ -16,7 +16,7 @@ empty_list (v ∷ vs) true h = let p = h.0 refl in cc
 empty_list (v ∷ vs) false h = refl
 
 mutual
-  same_means : (v w : Val) → same v w ≡ true → v ≡ w
+  pub same_means : (v w : Val) → same v w ≡ true → v ≡ w
   same_means (number m) (number n) h = ap number ((signed_Decides m n).0 h)
   same_means (truth true) (truth true) h = refl
   same_means (truth false) (truth false) h = refl
@@ -25,7 +25,7 @@ mutual
   same_means (list vs) (list ws) h = ap list (same_items_mean vs ws h)
   same_means v w h = cc
 
-  same_items_mean : (vs ws : Vals) → same_items vs ws ≡ true → vs ≡ ws
+  pub same_items_mean : (vs ws : Vals) → same_items vs ws ≡ true → vs ≡ ws
   same_items_mean no_vals no_vals h = refl
   same_items_mean (val v vs) (val w ws) h =
       let two = and_parts (same v w) (same_items vs ws) h in
@@ -35,7 +35,7 @@ mutual
   same_items_mean vs ws h = cc
 
 mutual
-  same_self : (v : Val) → same v v ≡ true
+  pub same_self : (v : Val) → same v v ≡ true
   same_self (number n) = (signed_Decides n n).1 refl
   same_self (truth true) = refl
   same_self (truth false) = refl
@@ -43,11 +43,11 @@ mutual
   same_self (symbol s) = (bytes_eq-Decides s s).1 refl
   same_self (list vs) = same_items_self vs
 
-  same_items_self : (vs : Vals) → same_items vs vs ≡ true
+  pub same_items_self : (vs : Vals) → same_items vs vs ≡ true
   same_items_self no_vals = refl
   same_items_self (val v vs) = and_from _ _ (same_self v) (same_items_self vs)
 
-same_decides : (v w : Val) → Decides (same v w) (v ≡ w)
+pub same_decides : (v w : Val) → Decides (same v w) (v ≡ w)
 same_decides v w = (same_means v w, λ e. rw (← e) (same_self v))
 
 pub equal_is_same : (v w : Val) (r : Bool) → (IsTrue r ↔ (v ≡ w)) → same v w ≡ r

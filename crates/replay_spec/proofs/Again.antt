@@ -39,7 +39,7 @@ same_with_more v fuel cs how bytes less e =
 held : (v : Visit) (fuel : ℕ) (cs : List Val) → Holds (comes_to v (present cs fuel)).effects cs
 held v fuel cs = hold v.script.script (map (answered (home_of v)) v.pages) (newest v (present cs fuel)) (pages_past (home_of v) v.pages) fuel cs
 
-passes : {A : Type 0} (b : Bool) (x : A) → b ≡ true → when b x ≡ Some x
+pub passes : {A : Type 0} (b : Bool) (x : A) → b ≡ true → when b x ≡ Some x
 passes b x e = grind (arith, e)
 
 so : (kind : SendKind) (bytes : List ℕ) (o : Outcome) (m : Segment) → o ≡ paged (shows kind) bytes → shows_so o kind m.effects m.left m ≡ Some m.entered
@@ -91,7 +91,7 @@ start_again rules b t k s (tape.faulted f) less at e = tt
 start_again rules b t k s (tape.out_of_fuel cost) less at e = tt
 
 -- the page of the place is found by its numbers
-place_there : (b : Book) (at : Place) → Stands b at → page_of_numbers b at.instance.number at.page.number ≡ Some at
+pub place_there : (b : Book) (at : Place) → Stands b at → page_of_numbers b at.instance.number at.page.number ≡ Some at
 place_there b at h = let there = stands_there b at h in let here = there.0 in let shown = there.1 in rw (here, shown) refl
 
 page_again : (rules : Rules) (b : Book) (t : Ticket) (at : Place) (outcome : Outcome) → rules.fuel ≤ most_fuel → IsOrderly b → NameTheirCells b → Stands b at

@@ -42,7 +42,7 @@ moved_doubt : (b : Book) (drawn : ℕ) (out : List ℕ) (down o : Option Doubt) 
 moved_doubt b drawn out down None h = tt
 moved_doubt b drawn out down (Some doubt) h = moved b drawn out down doubt.change doubt.inside h
 
-not_one : (n : ℕ) (ns : List ℕ) → (Among n ns → ⊥) → is_one n ns ≡ false
+pub not_one : (n : ℕ) (ns : List ℕ) → (Among n ns → ⊥) → is_one n ns ≡ false
 not_one n [] h = refl
 not_one n (m ∷ ns) h = let rest = not_one n ns (λ there. h (inr there)) in let other : m ≡ n → ⊥ = λ e. h (inl e) in grind (arith, nat_tests, rest, other)
 
@@ -61,7 +61,7 @@ same_length : (journal : Option Journal) (b : Book) (c : Change) → longer_by j
 same_length None b c = refl
 same_length (Some j) b c = refl
 
-spent_length : (journal : Option Journal) (b : Book) (n : ℕ) (c : Change) → longer_by journal (spend n b) c ≡ longer_by journal b c
+pub spent_length : (journal : Option Journal) (b : Book) (n : ℕ) (c : Change) → longer_by journal (spend n b) c ≡ longer_by journal b c
 spent_length None b n c = refl
 spent_length (Some j) b n c = refl
 
@@ -110,16 +110,16 @@ remake rules b nonce event fate seen less g names doubt lawful used =
     remake_by rules b (step rules b nonce event fate).1 (lands rules b event fate) seen (goes rules b nonce event fate) lawful less g names doubt used
 
 -- a setup that is kept
-settled_setup : (rules : Rules) (b : Book) (fate : Fate) (d : Decision) → (settle rules b fate d).1.scripts ≡ b.scripts
+pub settled_setup : (rules : Rules) (b : Book) (fate : Fate) (d : Decision) → (settle rules b fate d).1.scripts ≡ b.scripts
 settled_setup rules b fate d = grind arith
 
 took_setup : (b : Book) (target : Destination) (nonce : ℕ) (fate : Fate) → (take_by b target nonce fate).1.scripts ≡ b.scripts
 took_setup b target nonce fate = grind arith
 
-swept_setup : (rules : Rules) (b : Book) (tick : ℕ) (fate : Fate) (is_late : Bool) → (if is_late then (swept 0, b) else settle rules b fate (sweep_comes rules b tick)).1.scripts ≡ b.scripts
+pub swept_setup : (rules : Rules) (b : Book) (tick : ℕ) (fate : Fate) (is_late : Bool) → (if is_late then (swept 0, b) else settle rules b fate (sweep_comes rules b tick)).1.scripts ≡ b.scripts
 swept_setup rules b tick fate is_late = grind (arith, settled_setup rules b fate (sweep_comes rules b tick))
 
-setup_kept : (rules : Rules) (b : Book) (nonce : ℕ) (x : Event) (fate : Fate) → KeepsSetup x b → (step rules b nonce x fate).1.scripts ≡ b.scripts
+pub setup_kept : (rules : Rules) (b : Book) (nonce : ℕ) (x : Event) (fate : Fate) → KeepsSetup x b → (step rules b nonce x fate).1.scripts ≡ b.scripts
 unfolding step
 setup_kept rules b nonce (take target answer) fate h = took_setup b target nonce fate
 setup_kept rules b nonce (publish t) fate h = settled_setup rules (spend t.number b) (fate_of rules.journal fate) (publish_comes rules b t)
@@ -189,18 +189,18 @@ redo_alike : (r s : Rules) (c : Change) (m : Made) → r.journal ≡ s.journal �
 redo_alike r s c m e = ap (λ (x : Book). reopened x) (redone_alike r s c (taken_in m c) m.book e)
 
 -- the numbers that were seen are used behind an event, with the one that it uses
-abbrev seen_by : Option Change → List ℕ → List ℕ
+abbrev pub seen_by : Option Change → List ℕ → List ℕ
 seen_by None seen = seen
 seen_by (Some c) seen = with_number (number_in c) seen
 
-number_used : (b d : Book) (c : Change) (seen : List ℕ) → Uses b (Some c) d → AreUsed seen d → AreUsed (with_number (number_in c) seen) d
+pub number_used : (b d : Book) (c : Change) (seen : List ℕ) → Uses b (Some c) d → AreUsed seen d → AreUsed (with_number (number_in c) seen) d
 number_used b d (opens o) seen u h n there x = ⊎_elim (λ e. (u n e).1 x) (λ old. h n old x) there
 number_used b d (extends o) seen u h n there x = ⊎_elim (λ e. (u n e).1 x) (λ old. h n old x) there
 number_used b d (ends o) seen u h n there x = ⊎_elim (λ e. (u n e).1 x) (λ old. h n old x) there
 number_used b d (finishes f) seen u h n there x = ⊎_elim (λ e. (u n e).1 x) (λ old. h n old x) there
 number_used b d (sweeps tick) seen u h n there x = h n there x
 
-used_then : (b d : Book) (o : Option Change) (seen : List ℕ) → Uses b o d → ((n : ℕ) → Unused d n → Unused b n) → AreUsed seen b → AreUsed (seen_by o seen) d
+pub used_then : (b d : Book) (o : Option Change) (seen : List ℕ) → Uses b o d → ((n : ℕ) → Unused d n → Unused b n) → AreUsed seen b → AreUsed (seen_by o seen) d
 used_then b d None seen u fewer h = λ n there x. h n there (fewer n x)
 used_then b d (Some c) seen u fewer h = number_used b d c seen u (λ n there x. h n there (fewer n x))
 

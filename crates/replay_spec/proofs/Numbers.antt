@@ -14,6 +14,7 @@ use Rattle.replay_spec.specs.Invariant.{Among, AreDifferent, IsOf, Unused, IsOrd
 use Rattle.replay_spec.specs.Laws.{then_book, changes_of, numbers_of, NoNumberTwice, tickets_by, TicketsAreOut}
 use Rattle.replay_spec.proofs.Going.{Goes, stays, draws, spends, publishes, fails, goes_to, fails_at, keeps, loses, goes}
 use Rattle.replay_spec.proofs.Orderly.{recorded_orderly, is_out, is_doubted, published_fewer, kept_fewer, stepped}
+use Rattle.script_nodes.specs.Setup.{Named}
 
 -- each number of the change was unused, and is used now
 abbrev pub Uses : Book → Option Change → Book → Type 0
@@ -58,14 +59,14 @@ no_twice (m ∷ ms) b g lawful =
     more_different b d o (changes_of ms d) (uses m.rules b d o (goes m.rules b m.nonce m.event m.fate) lawful.0 g) one.fewer rest.0 rest.1
 
 -- numbers of tickets
-abbrev numbers : List Ticket → List ℕ
+abbrev pub numbers : List Ticket → List ℕ
 numbers ts = map (λ t. t.number) ts
 
-numbers_more : (ts : List Ticket) (t : Ticket) → numbers (ts ++ t ∷ []) ≡ numbers ts ++ t.number ∷ []
+pub numbers_more : (ts : List Ticket) (t : Ticket) → numbers (ts ++ t ∷ []) ≡ numbers ts ++ t.number ∷ []
 numbers_more [] t = refl
 numbers_more (u ∷ ts) t = ap (λ (ns : List ℕ). u.number ∷ ns) (numbers_more ts t)
 
-numbers_spent : (n : ℕ) (ts : List Ticket) → numbers (filter (λ u. not (u.number == n)) ts) ≡ filter (λ m. not (m == n)) (numbers ts)
+pub numbers_spent : (n : ℕ) (ts : List Ticket) → numbers (filter (λ u. not (u.number == n)) ts) ≡ filter (λ m. not (m == n)) (numbers ts)
 numbers_spent n [] = refl
 numbers_spent n (t ∷ ts) = grind (arith, numbers_spent n ts)
 
@@ -104,8 +105,12 @@ took_by b target answer nonce kept ts h = took b target answer nonce ts h (no_ta
 took_by b target answer nonce (disk_fault count) ts h = took b target answer nonce ts h (no_take b target) (refused_take b.down (b.drawn == 2 ^ 62) (refusal_of (admit b target)))
 
 -- what a settled decision leaves out
-settled_out : (rules : Rules) (b : Book) (fate : Fate) (d : Decision) → (settle rules b fate d).1.out ≡ b.out
+pub settled_out : (rules : Rules) (b : Book) (fate : Fate) (d : Decision) → (settle rules b fate d).1.out ≡ b.out
 settled_out rules b fate d = grind arith
+
+-- nor draws it a number
+pub settled_drawn : (rules : Rules) (b : Book) (fate : Fate) (d : Decision) → (settle rules b fate d).1.drawn ≡ b.drawn
+settled_drawn rules b fate d = grind arith
 
 swept_out : (rules : Rules) (b : Book) (tick : ℕ) (fate : Fate) (is_late : Bool) → (if is_late then (swept 0, b) else settle rules b fate (sweep_comes rules b tick)).1.out ≡ b.out
 swept_out rules b tick fate is_late = grind (arith, settled_out rules b fate (sweep_comes rules b tick))
@@ -133,3 +138,8 @@ tickets_out (m ∷ ms) b ts g lawful numbers =
     let d = then_book m b in
     let next = stepped_out m.rules b m.nonce m.event m.fate ts numbers in
     tickets_out ms d (tickets_by m.event (step m.rules b m.nonce m.event m.fate).0 ts) (stepped m b g lawful.0).orderly lawful.1 next
+
+-- what a crash leaves out
+pub crashed_out : (rules : Rules) (b : Book) (nonce : ℕ) (scripts : List Named) (fate : Fate) → (step rules b nonce (crash scripts) fate).1.out ≡ []
+unfolding step
+crashed_out rules b nonce scripts fate = refl

@@ -82,7 +82,7 @@ pub recorded_orderly : {lawful : Type 0} (rules : Rules) (b : Book) (t : Ticket)
     → IsOrderlyChange b.clock b.instances c × IsOf t.number c
 recorded_orderly rules b t c inside h = subst (IsOrderlyDecision b t.number) h.decided (decided_by rules b t (admit b t.target) (says b t.target))
 
-different_more : (ns : List ℕ) (m : ℕ) → AreDifferent ns → (Among m ns → ⊥) → AreDifferent (ns ++ m ∷ [])
+pub different_more : (ns : List ℕ) (m : ℕ) → AreDifferent ns → (Among m ns → ⊥) → AreDifferent (ns ++ m ∷ [])
 different_more [] m h new = (λ none. none, tt)
 different_more (n ∷ ns) m h new =
     (λ there. ⊎_elim (λ old. h.0 old) (λ e. new (inl (sym e))) (among_drawn n m ns there), different_more ns m h.1 (λ there. new (inr there)))

@@ -16,11 +16,11 @@ use Rattle.replay_spec.proofs.Stand.{orderly_less, none_orderly}
 use Rattle.replay_spec.proofs.Landed.{land_well}
 
 -- what is not among those seen
-abbrev Unseen : List ℕ → ℕ → Type 0
+abbrev pub Unseen : List ℕ → ℕ → Type 0
 Unseen seen n = Among n seen → ⊥
 
 -- the page that a record answers is there
-page_there : (b : Book) (k n : ℕ) (at : Place) → page_of_numbers b k n ≡ Some at → HasPage b.instances k n
+pub page_there : (b : Book) (k n : ℕ) (at : Place) → page_of_numbers b k n ≡ Some at → HasPage b.instances k n
 page_there b k n at e =
     let i = came_from (instance_at k b.instances) _ at e in
     let p = came_from (page_at n i.0.pages) _ at i.1.1 in
@@ -33,7 +33,7 @@ fits b (ends x) names e = let at = came_from (page_of_numbers b x.instance x.pag
 fits b (finishes f) names e = let at = came_from (page_of_numbers b f.instance f.page) _ names e in page_there b f.instance f.page at.0 at.1.0
 fits b (sweeps tick) names e = let later = (when_is (nat_lt b.clock tick) [] names e).0 in grind (arith, nat_tests, later)
 
-among_is : (n : ℕ) (ns : List ℕ) → Among n ns → is_one n ns ≡ true
+pub among_is : (n : ℕ) (ns : List ℕ) → Among n ns → is_one n ns ≡ true
 among_is n [] h = absurd h
 among_is n (m ∷ ns) h = grind (arith, nat_tests, h, among_is n ns)
 
@@ -45,7 +45,7 @@ unseen m c names e = by_test (is_repeated (number_in c) m.seen) refl e
     by_test true is f = absurd (let no : ⊥ = cc in no)
     by_test false is f = (f, is)
 
-new_number : (c : Change) (seen : List ℕ) → is_repeated (number_in c) seen ≡ false → (n : ℕ) → IsOf n c → Unseen seen n
+pub new_number : (c : Change) (seen : List ℕ) → is_repeated (number_in c) seen ≡ false → (n : ℕ) → IsOf n c → Unseen seen n
 new_number (opens o) seen e n is there = absurd (let one = among_is n seen there in let no : ⊥ = cc in no)
 new_number (extends x) seen e n is there = absurd (let one = among_is n seen there in let no : ⊥ = cc in no)
 new_number (ends x) seen e n is there = absurd (let one = among_is n seen there in let no : ⊥ = cc in no)
@@ -53,7 +53,7 @@ new_number (finishes f) seen e n is there = absurd (let one = among_is n seen th
 new_number (sweeps tick) seen e n is there = is
 
 -- with the number of a record
-more_seen : (c : Change) (seen : List ℕ) (n : ℕ) → Unseen (with_number (number_in c) seen) n → Unseen seen n × (IsOf n c → ⊥)
+pub more_seen : (c : Change) (seen : List ℕ) (n : ℕ) → Unseen (with_number (number_in c) seen) n → Unseen seen n × (IsOf n c → ⊥)
 more_seen (opens o) seen n h = (λ there. h (inr there), λ e. h (inl e))
 more_seen (extends x) seen n h = (λ there. h (inr there), λ e. h (inl e))
 more_seen (ends x) seen n h = (λ there. h (inr there), λ e. h (inl e))
@@ -76,7 +76,7 @@ redone_orderly rules c m (Some names) h e =
     (land_well m.book.scripts m.book.clock (Unseen m.seen) (Unseen (with_number (number_in c) m.seen)) m.book.instances c names h.instances (fits m.book c names t.0)
     (new_number c m.seen t.1) (more_seen c m.seen)).0
 
-redone_logged : (rules : Rules) (c : Change) (o : Option (List TxName)) (b : Book) → (redone rules c o b).logged ≡ max b.logged (logged_by c)
+pub redone_logged : (rules : Rules) (c : Change) (o : Option (List TxName)) (b : Book) → (redone rules c o b).logged ≡ max b.logged (logged_by c)
 redone_logged rules c None b = refl
 redone_logged rules c (Some names) b = refl
 

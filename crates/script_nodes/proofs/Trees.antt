@@ -10,15 +10,15 @@ use Rattle.script_nodes.proofs.Scripts.{has_nodes, parts_behind}
 abbrev Same : (ℕ → Core) → (ℕ → Core) → ℕ → Type 0
 Same f g p = f p ≡ g p
 
-all_front : (P : ℕ → Type 0) (ps qs : List ℕ) → AllByRecursion P (ps ++ qs) → AllByRecursion P ps
+pub all_front : (P : ℕ → Type 0) (ps qs : List ℕ) → AllByRecursion P (ps ++ qs) → AllByRecursion P ps
 all_front P [] qs h = tt
 all_front P (p ∷ ps) qs h = (h.0, all_front P ps qs h.1)
 
-all_last : (P : ℕ → Type 0) (ps : List ℕ) (q : ℕ) → AllByRecursion P (ps ++ q ∷ []) → P q
+pub all_last : (P : ℕ → Type 0) (ps : List ℕ) (q : ℕ) → AllByRecursion P (ps ++ q ∷ []) → P q
 all_last P [] q h = h.0
 all_last P (p ∷ ps) q h = all_last P ps q h.1
 
-all_weaker : (P Q : ℕ → Type 0) (ps : List ℕ) → ((p : ℕ) → P p → Q p) → AllByRecursion P ps → AllByRecursion Q ps
+pub all_weaker : (P Q : ℕ → Type 0) (ps : List ℕ) → ((p : ℕ) → P p → Q p) → AllByRecursion P ps → AllByRecursion Q ps
 all_weaker P Q [] f h = tt
 all_weaker P Q (p ∷ ps) f h = (f p h.0, all_weaker P Q ps f h.1)
 

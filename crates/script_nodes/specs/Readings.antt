@@ -8,6 +8,7 @@ use Rattle.script_nodes.specs.Core.{Core, Cores, lit, var, bind, branch, repeat,
 use Rattle.script_nodes.specs.Arena.{tree_within, tree_at}
 use Rattle.script_nodes.specs.Layout.{layout, layout_all, starts, value_from}
 use Rattle.script_nodes.specs.Layouts.{length-layout, length-layout_all, count_pos}
+use Rattle.script_value.proofs.Folds.{vals_of-items_of}
 
 slice_get_seam : (before : List Node) (x : Node) (xs : List Node) → slice_get (before ++ x ∷ xs) (length before) ≡ Some x
 slice_get_seam [] x xs = refl
@@ -25,10 +26,6 @@ front nodes n (x ∷ xs) ys h = (h.0, front nodes (n + 1) xs ys h.1)
 pub behind : (nodes : List Node) (n m : ℕ) (xs ys : List Node) → n + length xs ≡ m → StandAt nodes n (xs ++ ys) → StandAt nodes m ys
 behind nodes n m [] ys e h = let f : n ≡ m = omega arith in rw (← f) h
 behind nodes n m (x ∷ xs) ys e h = behind nodes (n + 1) m xs ys (omega arith) h.1
-
-vals_of-items_of : (vs : Vals) → vals_of (items_of vs) ≡ vs
-vals_of-items_of no_vals = refl
-vals_of-items_of (val v vs) = ap (val v) (vals_of-items_of vs)
 
 pub meaning-value_from : (v : Val) → meaning (value_from v) ≡ v
 meaning-value_from (number n) = refl

@@ -6,7 +6,7 @@ use Rattle.std.proofs.lemmas.Option.{some_pair_parts, none-some}
 use Rattle.script_value.specs.Val.{Val, Vals, number, truth, text, symbol, list, no_vals, val, vals_of, items_of, depth, depth_all}
 use Rattle.script_value.specs.Views.{meaning}
 use Rattle.script_value.specs.declared.value.Value.{Value}
-use Rattle.script_value.proofs.Folds.{items_of-vals_of}
+use Rattle.script_value.proofs.Folds.{items_of-vals_of, vals_of-items_of}
 use Rattle.wire_bytes.specs.Spelling.{u32_bytes}
 use Rattle.value_bytes.specs.Spelling.{count_of, value_bytes, all_bytes, list_bytes, Fits, AllFit, HasBytesWithin}
 use Rattle.value_bytes.specs.Reading.{Reader, seen_as, read_i64, read_utf8, read_kind, read_front, read_none, read_list, read_within, read_items_within}
@@ -23,10 +23,6 @@ all_bytes-vals_of (v ∷ vs) = ap (λ (r : List ℕ). value_bytes v ++ r) (all_b
 all_bytes-items : (vs : Vals) → all_bytes vs ≡ flat_map value_bytes (items_of vs)
 all_bytes-items no_vals = refl
 all_bytes-items (val v vs) = ap (λ (r : List ℕ). value_bytes v ++ r) (all_bytes-items vs)
-
-vals_of-items_of : (vs : Vals) → vals_of (items_of vs) ≡ vs
-vals_of-items_of no_vals = refl
-vals_of-items_of (val v vs) = ap (λ (r : Vals). val v r) (vals_of-items_of vs)
 
 each_fits : (levels : ℕ) (vs : Vals) → depth_all vs ≤ levels → AllFit vs → AllByRecursion (HasBytesWithin levels) (items_of vs)
 each_fits levels no_vals deep fit = tt
@@ -51,12 +47,6 @@ list_fits vs fit = (omega (arith, fit.0, count_of-vals_of vs), fit.1)
 
 pub list_has_fit : (vs : List Val) → Fits (list (vals_of vs)) → (length vs < 2 ^ 32) × AllFit (vals_of vs)
 list_has_fit vs fit = (omega (arith, fit.0, count_of-vals_of vs), fit.1)
-
--- an item is less deep than its list
-pub item_depth : (xs : List Value) (i : ℕ) (d : Value) → i < length xs → depth (meaning (get_or xs i d)) ≤ depth_all (vals_of (map meaning xs))
-item_depth [] i d h = absurd (omega arith)
-item_depth (x ∷ xs) zero d h = omega arith
-item_depth (x ∷ xs) (suc i) d h = omega (arith, item_depth xs i d (omega arith))
 
 -- ---- the items of a list
 
@@ -102,7 +92,7 @@ front_back levels items law (list vs) rest has =
     ap (seen_as (λ ws. list (vals_of ws))) (law.back vs rest has.deep has.fits)
     ∙ ap (λ (ws : Vals). Some (list ws, rest)) (vals_of-items_of vs)
 
-chosen : {A : Type 0} (b : Bool) (x y z : A) → cond b x y ≡ z → ((b ≡ true) × (x ≡ z)) ⊎ ((b ≡ false) × (y ≡ z))
+pub chosen : {A : Type 0} (b : Bool) (x y z : A) → cond b x y ≡ z → ((b ≡ true) × (x ≡ z)) ⊎ ((b ≡ false) × (y ≡ z))
 chosen true x y z e = inl (refl, e)
 chosen false x y z e = inr (refl, e)
 

@@ -27,7 +27,7 @@ are_one p (s ∷ ss) a b (inr i) (inr j) =
 -- ---- bindings whose cells rise
 
 -- a lower cell is not bound
-above_none : (c : ℕ) (ss : Bindings) → AreAbove c ss → binding c ss ≡ None
+pub above_none : (c : ℕ) (ss : Bindings) → AreAbove c ss → binding c ss ≡ None
 above_none c [] h = refl
 above_none c (s ∷ ss) h =
     let no : (s.0 == c) ≡ false = grind (arith, nat_tests, h.0) in rw no (above_none c ss h.1)
@@ -126,7 +126,7 @@ covered : (o found : Option Val) → (o ≡ None → found ≡ None) → or_that
 covered None found h = h refl
 covered (Some v) found h = refl
 
-all_rise : (made ss : Bindings) → Rise ss → Rise (all_bound made ss)
+pub all_rise : (made ss : Bindings) → Rise ss → Rise (all_bound made ss)
 all_rise [] ss h = h
 all_rise (s ∷ made) ss h = all_rise made (bound_to s.0 s.1 ss) (rise s.0 s.1 ss h)
 

@@ -12,6 +12,7 @@ use Rattle.xexpr_page.specs.declared.fault.RenderFault.{RenderFault}
 use Rattle.xexpr_page.specs.declared.fault.RenderFault.TheVariants.{Memory, NotPage}
 use Rattle.xexpr_page.specs.Markup.{start_tag, end_tag, is_void, is_element}
 use Rattle.xexpr_page.specs.Page.{Pushes, join, appended, element, pair_in, void_of, element_of, page_of, children_of, attribute_of, attributes_of}
+use Rattle.script_value.proofs.Folds.{item_depth}
 
 -- one piece more, and what is left
 pub appended_join : (old new : List ℕ) (p q : Option (List ℕ)) → appended old p ≡ Some new → appended old (join p q) ≡ appended new q
@@ -93,16 +94,10 @@ child_none old now xs i d h e inv none =
     (inv ∙ appended_none now (children_of (vals_of (map meaning (drop i xs))))
     (children_here xs i d h ∙ joined_none (page_of (meaning (get_or xs i d))) (children_of (vals_of (map meaning (drop (i + 1) xs)))) (rw (← e) none)))
 
-nth_depth : (xs : List Value) (i : ℕ) (d : Value) → i < length xs
-    → depth (meaning (get_or xs i d)) ≤ depth_all (vals_of (map meaning xs))
-nth_depth [] i d h = absurd (omega arith)
-nth_depth (x ∷ xs) zero d h = omega arith
-nth_depth (x ∷ xs) (suc i) d h = omega (arith, nth_depth xs i d (omega arith))
-
 -- a child nests less deep than all children
 pub child_depth : (xs : List Value) (i : ℕ) (d : Value) → i < length xs → d ≡ get_or xs i d
     → depth (meaning d) ≤ depth_all (vals_of (map meaning xs))
-child_depth xs i d h e = rw e (nth_depth xs i d h)
+child_depth xs i d h e = rw e (item_depth xs i d h)
 
 -- an element that was written: its start, its children and its end
 pub element_written : (old mid late : List ℕ) (n : List ℕ) (attributes children : Option (List ℕ))

@@ -1,8 +1,8 @@
 use Rattle.std.proofs.Common.{ap, arith}
 use Rattle.script_value.specs.Val.{depth}
 use Rattle.script_value.specs.Views.{meaning}
-use Rattle.value_bytes.proofs.Trees.{item_depth}
 use Rattle.value_bytes.proofs.length.+lengths.Goals as goal
+use Rattle.script_value.proofs.Folds.{item_depth}
 
 pub all_length-value_length-requires : goal.all_length-value_length-requires
 all_length-value_length-requires t c =

@@ -3,8 +3,9 @@ use Rattle.std.proofs.lemmas.Bool.Decides.{nat_tests}
 use Rattle.script_value.specs.Val.{Val, depth, vals_of}
 use Rattle.script_value.specs.Views.{meaning}
 use Rattle.value_bytes.specs.Spelling.{Fits, AllFit}
-use Rattle.value_bytes.proofs.Trees.{item_depth, list_fits, list_has_fit}
+use Rattle.value_bytes.proofs.Trees.{list_fits, list_has_fit}
 use Rattle.value_bytes.proofs.write.+tests.Goals as goal
+use Rattle.script_value.proofs.Folds.{item_depth}
 
 pub all_fit-fits-requires : goal.all_fit-fits-requires
 all_fit-fits-requires t c =

@@ -3,8 +3,9 @@ use Rattle.std.specs.Prelude.{OnOk}
 use Rattle.script_value.specs.Val.{depth}
 use Rattle.script_value.specs.Views.{meaning}
 use Rattle.value_bytes.specs.Spelling.{Fits, value_bytes}
-use Rattle.value_bytes.proofs.Trees.{item_depth, fits_here, list_has_fit, list_whole}
+use Rattle.value_bytes.proofs.Trees.{fits_here, list_has_fit, list_whole}
 use Rattle.value_bytes.proofs.write.+writes.Goals as goal
+use Rattle.script_value.proofs.Folds.{item_depth}
 
 pub write_all-write_parts-requires : goal.write_all-write_parts-requires
 write_all-write_parts-requires t c =
