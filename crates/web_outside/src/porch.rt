@@ -4,9 +4,10 @@ ghost use Rattle.web_outside.specs.View.{PorchView};
 ghost use Rattle.web_outside.specs.Porches.{GivesFirst, GainsLast, given_after, lent_after, EndsOnly};
 
 use crate::{Failed, Link};
+use server_limits::MOST_CONNECTIONS;
 
 /// The most links that one porch gives.
-pub const CONNECTION_LIMIT: u64 = 1_000_000;
+pub const CONNECTION_LIMIT: u64 = MOST_CONNECTIONS;
 
 /// Where one worker gets its links, one after the other.
 pub trait Porch {
