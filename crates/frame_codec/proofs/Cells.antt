@@ -3,15 +3,12 @@ use Rattle.std.proofs.Common.{◌≡◌, ℕ, ◌+◌, ◌<◌, ◌≤◌, ◌&&
 use Rattle.std.specs.Prelude.{⊤}
 use Rattle.std.specs.List.{AllByRecursion}
 use Rattle.std.proofs.lemmas.Bool.Decides.{nat_tests}
+use Rattle.std.proofs.lemmas.Bool.{and_parts}
 use Rattle.script_value.specs.Val.{Val}
 use Rattle.web_cells.specs.Shadows.{AreAbove, Rise}
 use Rattle.script_nodes.specs.Arena.{Arena}
 use Rattle.frame_codec.specs.Stored.{ShadowsFit}
 use Rattle.frame_codec.specs.Walk.{shadows_fit}
-
-both_true : (b c : Bool) → (b && c) ≡ true → (b ≡ true) × (c ≡ true)
-both_true true c e = (refl, e)
-both_true false c e = absurd cc
 
 -- what the first test says
 pub record First (least cells : ℕ) (s : ℕ × Val) (ss : List (ℕ × Val)) : Type 0 where
@@ -21,8 +18,8 @@ pub record First (least cells : ℕ) (s : ℕ × Val) (ss : List (ℕ × Val)) :
 
 pub first : (least cells : ℕ) (s : ℕ × Val) (ss : List (ℕ × Val)) → shadows_fit least cells (s ∷ ss) ≡ true → First least cells s ss
 first least cells s ss e =
-    let b = both_true (nat_le least s.0) (nat_lt s.0 cells && shadows_fit (s.0 + 1) cells ss) e in
-    let c = both_true (nat_lt s.0 cells) (shadows_fit (s.0 + 1) cells ss) b.1 in
+    let b = and_parts (nat_le least s.0) (nat_lt s.0 cells && shadows_fit (s.0 + 1) cells ss) e in
+    let c = and_parts (nat_lt s.0 cells) (shadows_fit (s.0 + 1) cells ss) b.1 in
     record { from = grind (arith, nat_tests, b.0); named = grind (arith, nat_tests, c.0); more = c.1 }
 
 above : (c least cells : ℕ) (ss : List (ℕ × Val)) → c < least → shadows_fit least cells ss ≡ true → AreAbove c ss

@@ -4,13 +4,14 @@ use Rattle.std.specs.Bool.{Decides}
 use Rattle.std.proofs.lemmas.Bool.Decides.{not_from_Decides}
 use Rattle.script_value.specs.Val.{Val}
 use Rattle.prim_ops.specs.Same.{same}
+use Rattle.prim_ops.proofs.Tests.{same_decides}
 use Rattle.web_cells.specs.Shadows.{binding}
 use Rattle.web_cells.specs.Own.{IsOwn}
 use Rattle.machine_spec.specs.Machine.{Suspended}
 use Rattle.frame_codec.specs.Deltas.{Delta, Shares, IsDelta}
 use Rattle.frame_codec.specs.Difference.{same_frame, one_longer, shared_by, is_value, own_of, difference, DifferencesAreComputed}
 use Rattle.frame_codec.proofs.Differences.{joins, are_one}
-use Rattle.frame_codec.proofs.Same.{value_decides, frame_decides, bound_decides}
+use Rattle.frame_codec.proofs.Same.{frame_decides, bound_decides}
 
 pub shares : {A : Type 0} (test : A → A → Bool) → ((x y : A) → Decides (test x y) (x ≡ y)) → (xs ys : List A)
     → Shares xs ys (shared_by test xs ys).0 (shared_by test xs ys).1
@@ -33,7 +34,7 @@ owns p (s ∷ ss) = by_test (is_value (binding s.0 p) s.1) refl (owns p ss)
 
 pub differs : (p d : Suspended) → IsDelta p d (difference p d)
 differs p d = record {
-  env = shares same value_decides p.env d.env;
+  env = shares same same_decides p.env d.env;
   frames = shares same_frame frame_decides (reverse p.frames) (reverse d.frames);
   shadows = owns p.shadows d.shadows;
 }

@@ -4,7 +4,7 @@ use Rattle.std.specs.Prelude.{IsTrue, map, unwrap_or}
 use Rattle.std.specs.List.{AllByRecursion}
 use Rattle.std.proofs.lemmas.List.{append-nil, reverse-reverse, map-append, take-map}
 use Rattle.std.proofs.lemmas.Bool.{false≢true}
-use Rattle.std.proofs.lemmas.Option.{none-some}
+use Rattle.std.proofs.lemmas.Option.{none-some, same_Some}
 use Rattle.script_value.specs.Val.{Val}
 use Rattle.web_cells.specs.Shadows.{binding, all_bound, last_shadow, Rise}
 use Rattle.web_cells.specs.Own.{IsOwn, BindsAllOf}
@@ -69,9 +69,6 @@ bound_still p made c e = by_binding (binding c p) (sym (last_binds c made p) ∙
 
 -- ---- what is written is read
 
-some_same : (d e : Delta) → Some d ≡ Some e → d ≡ e
-some_same d e h = ap (λ (o : Option Delta). unwrap_or o d) h
-
 abbrev parts_of : Delta → DeltaParts
 parts_of d = (d.env_shared, (d.env, (d.frames_shared, (d.frames, d.shadows))))
 
@@ -127,7 +124,7 @@ delta_back a p s d stored is has =
 as_parts : (o : Option (DeltaParts × List ℕ)) (d : Delta) → as_delta o ≡ Some d → o ≡ Some (parts_of d, [])
 as_parts None d e = absurd (none-some d e)
 as_parts (Some (x, [])) d e =
-    let same = some_same (record { env_shared = x.0; env = x.1.0; frames_shared = x.1.1.0; frames = x.1.1.1.0; shadows = x.1.1.1.1 }) d e in
+    let same = same_Some (record { env_shared = x.0; env = x.1.0; frames_shared = x.1.1.0; frames = x.1.1.1.0; shadows = x.1.1.1.1 }) d e in
     ap (λ (y : Delta). Some (parts_of y, [])) same
 as_parts (Some (x, b ∷ rest)) d e = absurd (none-some d e)
 
@@ -236,7 +233,7 @@ record Known (p s : Suspended) (said d : Delta) : Type 0 where
 known : (a : Arena) (p : Suspended) (bytes : List ℕ) (said : Delta) → Rise p.shadows → read_delta a bytes ≡ Some said
     → (s : Suspended) (d : Delta) → IsStored a s → BindsAllOf p.shadows s.shadows → IsDelta p s d → DeltaHasBytes d → bytes ≡ delta_bytes d → Known p s said d
 known a p bytes said hp read s d stored all is has whole =
-    let same = some_same said d (sym read ∙ ap (λ (b : List ℕ). read_delta a b) whole ∙ delta_back a p s d stored is has) in
+    let same = same_Some said d (sym read ∙ ap (λ (b : List ℕ). read_delta a b) whole ∙ delta_back a p s d stored is has) in
     record { same = same; whole = ap (λ (x : Delta). joined p x) same ∙ joins p s d hp stored.shadows.rise all is }
 
 -- where the bytes say nothing

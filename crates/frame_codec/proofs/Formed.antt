@@ -6,6 +6,7 @@ use Rattle.std.proofs.lemmas.Option.{none-some}
 use Rattle.web_cells.specs.Own.{BindsAllOf}
 use Rattle.script_nodes.specs.Arena.{Arena}
 use Rattle.value_bytes.specs.Laws.{AreBytes}
+use Rattle.value_bytes.proofs.Numbers.{tail_are_bytes}
 use Rattle.machine_spec.specs.Machine.{Suspended}
 use Rattle.frame_codec.specs.Spelling.{state_bytes}
 use Rattle.frame_codec.specs.Stored.{IsStored}
@@ -18,10 +19,6 @@ use Rattle.frame_codec.proofs.Differences.{joins, are_one, bound_still}
 use Rattle.frame_codec.proofs.Computed.{differs}
 use Rattle.frame_codec.proofs.Reread.{written_is_read}
 use Rattle.frame_codec.proofs.Leaving.{are_exact}
-
--- bytes behind the first are bytes
-behind_first : (b : ℕ) (bytes : List ℕ) → AreBytes (b ∷ bytes) → AreBytes bytes
-behind_first b bytes small i = small (suc i)
 
 same_first : (x y : ℕ) (xs ys : List ℕ) → x ∷ xs ≡ y ∷ ys → (x ≡ y) × (xs ≡ ys)
 same_first x y xs ys e = (cc, cc)
@@ -44,7 +41,7 @@ alone_exact : (a : Arena) (bytes : List ℕ) (d : Suspended) → AreBytes bytes 
 alone_exact a [] d small e = absurd (none-some d e)
 alone_exact a (b ∷ bytes) d small e =
     let f = is_form b 0 (read_state a bytes) d e in
-    let s = found_is_spelled a bytes d f.read (behind_first b bytes small) in
+    let s = found_is_spelled a bytes d f.read (tail_are_bytes b bytes small) in
     record { whole = λ i. f.is i ∷ s.whole i; stored = s.stored; binds = tt }
 
 alone : (a : Arena) → AreFormsExact a None
@@ -77,7 +74,7 @@ module _ (a : Arena) (p : Suspended) (sp : IsStored a p) where
   behind_exact (b ∷ bytes) d small e =
       let f = is_form b 1 (option_map (joined p) (read_difference a p bytes)) d e in
       let j = is_joined p (read_difference a p bytes) d f.read in
-      let s = its.exact bytes j.x (behind_first b bytes small) j.read in
+      let s = its.exact bytes j.x (tail_are_bytes b bytes small) j.read in
       let same : difference p (joined p j.x) ≡ j.x = are_one p (joined p j.x) (difference p (joined p j.x)) j.x (differs p (joined p j.x)) s.is in
       let bytes_are : bytes ≡ delta_bytes (difference p (joined p j.x)) = s.whole ∙ ap (λ (y : Delta). delta_bytes y) (sym same) in
       subst (λ (e : Suspended). SpellsForm a (Some p) (b ∷ bytes) e) j.whole

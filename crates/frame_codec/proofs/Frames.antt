@@ -3,6 +3,7 @@ use Rattle.std.proofs.Common.{◌≡◌, ℕ, ◌<◌, ◌^◌, ◌==◌, Bool, 
 use Rattle.std.specs.Prelude.{⊤}
 use Rattle.std.proofs.lemmas.Bool.Decides.{nat_tests}
 use Rattle.std.proofs.lemmas.Option.{some_pair_parts, none-some}
+use Rattle.std.proofs.lemmas.Bool.{cond-true, cond-false}
 use Rattle.script_value.specs.Val.{Val}
 use Rattle.script_value.specs.Pieces.{◌>>=◌}
 use Rattle.script_nodes.specs.declared.script.Node.{Node}
@@ -14,7 +15,7 @@ use Rattle.value_bytes.specs.Reading.{Reader, seen_as, read_value, read_values}
 use Rattle.value_bytes.specs.Laws.{AreBytes, Spells, IsExact}
 use Rattle.value_bytes.proofs.Numbers.{bind_some, seen_some, rest_are_bytes, tail_are_bytes, byte_exact, u32_exact, u64_exact}
 use Rattle.value_bytes.proofs.Lists.{list_exact}
-use Rattle.value_bytes.proofs.Trees.{value_exact}
+use Rattle.value_bytes.proofs.Trees.{value_exact, chosen}
 use Rattle.machine_spec.specs.Machine.{Frame, in_binding, in_operand, in_body, in_seq, in_and, in_or, in_if, in_count, in_store, in_turn, in_isolate, in_page, in_finish, in_back, bindings_in, node_at}
 use Rattle.machine_spec.specs.Fits.{node_of}
 use Rattle.frame_codec.specs.Spelling.{frame_bytes, let_bytes, shadow_bytes, IsShort, FrameHasBytes, ShadowHasBytes}
@@ -112,24 +113,16 @@ IsRead a f = FrameHasBytes f × LetFits f (node_at a (node_of f))
 
 -- ---- back
 
-if_true : {A : Type 0} (b : Bool) (x y : A) → b ≡ true → cond b x y ≡ x
-if_true true x y e = refl
-if_true false x y e = absurd cc
-
-if_false : {A : Type 0} (b : Bool) (x y : A) → b ≡ false → cond b x y ≡ y
-if_false true x y e = absurd cc
-if_false false x y e = refl
-
 binding_known : (count n : ℕ) (done : List Val) → ¬ (length done ≡ count) → let_frame count n (length done) done ≡ Some (in_binding n done)
 binding_known count n done other =
     let first : (length done == count) ≡ false = grind (arith, nat_tests, other) in
     let second : (length done == length done) ≡ true = grind (arith, nat_tests) in
-    if_false (length done == count) _ _ first ∙ if_true (length done == length done) _ _ second
+    cond-false (length done == count) _ _ first ∙ cond-true (length done == length done) _ _ second
 
 body_known : (count n bound : ℕ) → bound ≡ count → let_frame count n bound [] ≡ Some (in_body n bound)
 body_known count n bound same =
     let first : (bound == count) ≡ true = grind (arith, nat_tests, same) in
-    if_true (bound == count) _ _ first
+    cond-true (bound == count) _ _ first
 
 abbrev framed : (rest : List ℕ) → Option Frame → Option (Frame × List ℕ)
 framed rest o = o >>= λ f. Some (f, rest)
@@ -169,10 +162,6 @@ frame_back a (in_finish n) rest fit = absurd fit.0
 frame_back a (in_back n) rest fit = absurd fit.0
 
 -- ---- and what is read
-
-chosen : {A : Type 0} (b : Bool) (x y z : A) → cond b x y ≡ z → ((b ≡ true) × (x ≡ z)) ⊎ ((b ≡ false) × (y ≡ z))
-chosen true x y z e = inl (refl, e)
-chosen false x y z e = inr (refl, e)
 
 abbrev SpellsFrame : Arena → (kind : ℕ) → List ℕ → Frame → List ℕ → Type 0
 SpellsFrame a kind bytes f rest = Spells frame_bytes (IsRead a) (kind ∷ bytes) f rest

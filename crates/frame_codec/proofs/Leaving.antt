@@ -8,7 +8,7 @@ use Rattle.script_value.specs.Val.{Val}
 use Rattle.web_cells.specs.Shadows.{bound_to, binding, all_bound, last_shadow, AreAbove, Rise}
 use Rattle.web_cells.specs.Own.{IsOwn}
 use Rattle.web_cells.proofs.Shadowed.{last_binds, rise}
-use Rattle.web_cells.proofs.Owned.{same_bindings}
+use Rattle.web_cells.proofs.Owned.{same_bindings, above_none, all_rise}
 use Rattle.script_nodes.specs.Arena.{Arena}
 use Rattle.machine_spec.specs.Machine.{Frame, Suspended}
 use Rattle.frame_codec.specs.Spelling.{ShadowHasBytes}
@@ -25,14 +25,6 @@ abbrev Bindings : Type 0
 Bindings = List (ℕ × Val)
 
 -- ---- rising cells
-
-above_none : (c : ℕ) (ss : Bindings) → AreAbove c ss → binding c ss ≡ None
-above_none c [] h = refl
-above_none c (s ∷ ss) h = let no : (s.0 == c) ≡ false = grind (arith, nat_tests, h.0) in rw no (above_none c ss h.1)
-
-all_rise : (made ss : Bindings) → Rise ss → Rise (all_bound made ss)
-all_rise [] ss h = h
-all_rise (s ∷ made) ss h = all_rise made (bound_to s.0 s.1 ss) (rise s.0 s.1 ss h)
 
 own_above : (p : Bindings) (c : ℕ) (ss : Bindings) → AreAbove c ss → AreAbove c (own_of p ss)
 own_above p c [] h = tt

@@ -3,6 +3,7 @@ use Rattle.std.proofs.Common.{◌≡◌, ℕ, ◌+◌, ◌≤◌, ◌==◌, Bool
 use Rattle.std.specs.Prelude.{pos, negsuc, slice_get, unwrap_or}
 use Rattle.std.proofs.lemmas.Bool.Decides.{nat_tests}
 use Rattle.std.proofs.lemmas.Option.{slice_get_past}
+use Rattle.std.proofs.lemmas.Bool.{cond-true, cond-false}
 use Rattle.script_value.specs.Val.{Val, number, truth, text, symbol, list}
 use Rattle.script_value.specs.declared.value.Value.TheVariants.{Truth}
 use Rattle.script_nodes.specs.declared.script.Node.{Node}
@@ -17,24 +18,16 @@ node_there a n x e = sym (ap (λ (o : Option Node). unwrap_or o (node.Lit (Truth
 pub no_node : (a : Arena) (n : ℕ) → length a.nodes ≤ n → node_at a n ≡ node.Lit (Truth false)
 no_node a n h = ap (λ (o : Option Node). unwrap_or o (node.Lit (Truth false))) (slice_get_past a.nodes n h)
 
-if_true : {A : Type 0} (b : Bool) (x y : A) → b ≡ true → cond b x y ≡ x
-if_true true x y e = refl
-if_true false x y e = absurd cc
-
-if_false : {A : Type 0} (b : Bool) (x y : A) → b ≡ false → cond b x y ≡ y
-if_false true x y e = absurd cc
-if_false false x y e = refl
-
 -- the variable is the number of the turn
 pub numbered_so : (turn k : ℕ) (o : Option Val) (v : Val) → o ≡ Some v → v ≡ number (pos turn) → numbered turn k o ≡ Some (k + 1)
 numbered_so turn k o v e same =
     let test : (turn == turn) ≡ true = grind (arith, nat_tests) in
-    ap (λ p. numbered turn k p) (e ∙ ap (λ (w : Val). Some w) same) ∙ if_true (turn == turn) _ _ test
+    ap (λ p. numbered turn k p) (e ∙ ap (λ (w : Val). Some w) same) ∙ cond-true (turn == turn) _ _ test
 
 another : (turn k : ℕ) (v : Val) → ¬ (v ≡ number (pos turn)) → numbered turn k (Some v) ≡ None
 another turn k (number (pos m)) other =
     let differ : (m == turn) ≡ false = grind (arith, nat_tests, λ (e : m ≡ turn). other (ap (λ (i : ℕ). number (pos i)) e)) in
-    if_false (m == turn) _ _ differ
+    cond-false (m == turn) _ _ differ
 another turn k (number (negsuc m)) other = refl
 another turn k (truth b) other = refl
 another turn k (text t) other = refl

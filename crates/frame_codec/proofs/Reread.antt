@@ -1,11 +1,12 @@
 -- What bytes say of a difference from a parent's state that fits.
 use Rattle.std.proofs.Common.{◌≡◌, ℕ, zero, suc, ◌<◌, ◌==◌, ◌^◌, nat_lt, Bool, true, false, List, [], ◌∷◌, ◌++◌, length, take, reverse, Option, Some, None, refl, sym, ap, subst, ◌∙◌, arith, cond}
+use Rattle.std.specs.Prelude.{option_map, IfSome, IsNone}
 use Rattle.std.specs.List.{AllByRecursion}
 use Rattle.std.specs.Str.{bytes_eq}
 use Rattle.std.proofs.lemmas.Bool.{and_parts, and_from}
 use Rattle.std.proofs.lemmas.Bool.Decides.{nat_tests}
 use Rattle.std.proofs.lemmas.List.{reverse-reverse, length-reverse}
-use Rattle.std.proofs.lemmas.Option.{none-some, cond_some}
+use Rattle.std.proofs.lemmas.Option.{none-some, cond_some, same_Some}
 use Rattle.std.proofs.lemmas.Slice.Eq.{bytes_eq-Decides}
 use Rattle.script_value.specs.Val.{Val}
 use Rattle.web_cells.specs.Shadows.{bound_to, all_bound, Rise}
@@ -31,7 +32,7 @@ all_take P zero xs h = tt
 all_take P (suc n) [] h = tt
 all_take P (suc n) (x ∷ xs) h = (h.0, all_take P n xs h.1)
 
-all_append : {A : Type 0} (P : A → Type 0) (xs ys : List A) → AllByRecursion P xs → AllByRecursion P ys → AllByRecursion P (xs ++ ys)
+pub all_append : {A : Type 0} (P : A → Type 0) (xs ys : List A) → AllByRecursion P xs → AllByRecursion P ys → AllByRecursion P (xs ++ ys)
 all_append P [] ys h k = k
 all_append P (x ∷ xs) ys h k = (h.0, all_append P xs ys h.1 k)
 
@@ -136,9 +137,6 @@ reread a p bytes x (Some y) r e =
       these = subst (λ (z : Delta). delta_bytes (difference p (joined p z)) ≡ bytes) c.1 these;
     }
 
-some_same : (x y : Delta) → Some x ≡ Some y → x ≡ y
-some_same x y e = cc
-
 pub read_is_spelled : (a : Arena) (p : Suspended) (bytes : List ℕ) (x : Delta) → IsStored a p → AreBytes bytes → read_difference a p bytes ≡ Some x → SpellsDelta a p bytes x
 read_is_spelled a p bytes x sp small e =
     let r = reread a p bytes x (read_delta a bytes) refl e in
@@ -148,7 +146,7 @@ read_is_spelled a p bytes x sp small e =
     let its = differs p d in
     let again = delta_back a p d (difference p d) stored its (each_has_bytes p d (difference p d) stored.bytes its) in
     let same : difference p d ≡ x =
-    some_same (difference p d) x (sym again ∙ ap (λ (b : List ℕ). read_delta a b) r.these ∙ r.read) in
+    same_Some (difference p d) x (sym again ∙ ap (λ (b : List ℕ). read_delta a b) r.these ∙ r.read) in
     record { whole = spells.whole; has = spells.has; is = subst (λ (y : Delta). IsDelta p d y) same its; stored = stored }
 
 -- what is written of a state that binds what its parent binds spells its difference
@@ -176,3 +174,9 @@ unspelled_is_none a p bytes sp small none = by_read (read_difference a p bytes) 
     by_read (Some x) e =
         let s = read_is_spelled a p bytes x sp small e in
         absurd (none (joined p x) x s.stored (bound_still p.shadows x.shadows) s.is s.has s.whole)
+
+-- what is found, where it is spelled so or nothing is, is what is read
+pub found_is_read : {A : Type 0} (view : A → Delta) (a : Arena) (p : Suspended) (bytes : List ℕ) (found : Option A) → IsStored a p → AreBytes bytes
+    → IfSome found (λ x. SpellsDelta a p bytes (view x)) → (IsNone found → HasNoDelta a p bytes) → option_map view found ≡ read_difference a p bytes
+found_is_read view a p bytes None sp small spelled none = sym (unspelled_is_none a p bytes sp small (none refl))
+found_is_read view a p bytes (Some x) sp small spelled none = sym (spelled_is_read a p bytes (view x) spelled)

@@ -1,66 +1,30 @@
 -- What the tests of values and of frames say.
 use Rattle.std.proofs.Common.{◌≡◌, ◌==◌, ◌&&◌, ℕ, Bool, true, false, List, Option, Some, None, refl, ap, subst}
 use Rattle.std.specs.Bool.{Decides}
-use Rattle.std.specs.Cmp.{signed_Decides, unsigned_Decides}
+use Rattle.std.specs.Cmp.{unsigned_Decides}
 use Rattle.std.specs.Cmp.Lexicographic.{pointwise}
 use Rattle.std.proofs.lemmas.Bool.{and_parts, and_from}
-use Rattle.std.proofs.lemmas.Slice.Eq.{bytes_eq-Decides, slice_eq-Decides}
-use Rattle.script_value.specs.Val.{Val, Vals, number, truth, text, symbol, list, no_vals, val}
+use Rattle.std.proofs.lemmas.Slice.Eq.{slice_eq-Decides}
+use Rattle.script_value.specs.Val.{Val}
 use Rattle.script_value.specs.declared.outcome.TxName.{TxName}
-use Rattle.prim_ops.specs.Same.{same, same_items}
+use Rattle.prim_ops.specs.Same.{same}
+use Rattle.prim_ops.proofs.Tests.{same_decides}
 use Rattle.script_nodes.specs.declared.script.SendKind.{SendKind}
 use Rattle.script_nodes.specs.declared.script.SendKind.TheVariants.{Suspend, Forward}
 use Rattle.replay_spec.specs.Names.{is_name}
 use Rattle.replay_spec.specs.Recovery.{is_kind}
+use Rattle.replay_spec.proofs.Tests.{equal_self, kind_self}
 use Rattle.machine_spec.specs.Machine.{Frame, in_binding, in_operand, in_body, in_seq, in_and, in_or, in_if, in_count, in_store, in_turn, in_isolate, in_page, in_finish, in_back}
 use Rattle.frame_codec.specs.Difference.{same_frame, is_value}
 
-mutual
-  same_means : (v w : Val) → same v w ≡ true → v ≡ w
-  same_means (number m) (number n) h = ap number ((signed_Decides m n).0 h)
-  same_means (truth true) (truth true) h = refl
-  same_means (truth false) (truth false) h = refl
-  same_means (text s) (text t) h = ap text ((bytes_eq-Decides s t).0 h)
-  same_means (symbol s) (symbol t) h = ap symbol ((bytes_eq-Decides s t).0 h)
-  same_means (list vs) (list ws) h = ap list (same_items_mean vs ws h)
-  same_means v w h = cc
-
-  same_items_mean : (vs ws : Vals) → same_items vs ws ≡ true → vs ≡ ws
-  same_items_mean no_vals no_vals h = refl
-  same_items_mean (val v vs) (val w ws) h =
-      let two = and_parts (same v w) (same_items vs ws) h in
-      let p = same_means v w two.0 in
-      let q = same_items_mean vs ws two.1 in
-      λ i. val (p i) (q i)
-  same_items_mean vs ws h = cc
-
-mutual
-  same_self : (v : Val) → same v v ≡ true
-  same_self (number n) = (signed_Decides n n).1 refl
-  same_self (truth true) = refl
-  same_self (truth false) = refl
-  same_self (text t) = (bytes_eq-Decides t t).1 refl
-  same_self (symbol s) = (bytes_eq-Decides s s).1 refl
-  same_self (list vs) = same_items_self vs
-
-  same_items_self : (vs : Vals) → same_items vs vs ≡ true
-  same_items_self no_vals = refl
-  same_items_self (val v vs) = and_from _ _ (same_self v) (same_items_self vs)
-
-pub value_decides : (v w : Val) → Decides (same v w) (v ≡ w)
-value_decides v w = (same_means v w, λ e. subst (λ (x : Val). same v x ≡ true) e (same_self v))
-
 values_mean : (vs ws : List Val) → pointwise same vs ws ≡ true → vs ≡ ws
-values_mean vs ws h = (slice_eq-Decides value_decides vs ws (pointwise same vs ws) refl).0 h
+values_mean vs ws h = (slice_eq-Decides same_decides vs ws (pointwise same vs ws) refl).0 h
 
 values_self : (vs : List Val) → pointwise same vs vs ≡ true
-values_self vs = (slice_eq-Decides value_decides vs vs (pointwise same vs vs) refl).1 refl
+values_self vs = (slice_eq-Decides same_decides vs vs (pointwise same vs vs) refl).1 refl
 
 number_means : (m n : ℕ) → (m == n) ≡ true → m ≡ n
 number_means m n h = (unsigned_Decides m n).0 h
-
-number_self : (n : ℕ) → (n == n) ≡ true
-number_self n = (unsigned_Decides n n).1 refl
 
 name_means : (s t : TxName) → is_name s t ≡ true → s ≡ t
 name_means s t h =
@@ -73,10 +37,6 @@ kind_means : (k l : SendKind) → is_kind k l ≡ true → k ≡ l
 kind_means Suspend Suspend h = refl
 kind_means Forward Forward h = refl
 kind_means k l h = cc
-
-kind_self : (k : SendKind) → is_kind k k ≡ true
-kind_self Suspend = refl
-kind_self Forward = refl
 
 -- a frame of this node, and of what else it has
 by_node : {A : Type 0} (f : ℕ → A → Frame) (m n : ℕ) (x y : A) (b : Bool) → (b ≡ true → x ≡ y) → ((m == n) && b) ≡ true → f m x ≡ f n y
@@ -110,20 +70,20 @@ frame_means (in_back m) (in_back n) h = ap in_back (number_means m n h)
 frame_means f g h = cc
 
 frame_self : (f : Frame) → same_frame f f ≡ true
-frame_self (in_binding n vs) = and_from _ _ (number_self n) (values_self vs)
-frame_self (in_operand n vs) = and_from _ _ (number_self n) (values_self vs)
-frame_self (in_body n k) = and_from _ _ (number_self n) (number_self k)
-frame_self (in_seq n k) = and_from _ _ (number_self n) (number_self k)
-frame_self (in_and n k) = and_from _ _ (number_self n) (number_self k)
-frame_self (in_or n k) = and_from _ _ (number_self n) (number_self k)
-frame_self (in_if n k) = and_from _ _ (number_self n) (number_self k)
-frame_self (in_count n) = number_self n
-frame_self (in_store n) = number_self n
-frame_self (in_turn n k vs) = and_from _ _ (number_self n) (and_from _ _ (number_self k) (values_self vs))
-frame_self (in_isolate n t) = and_from _ _ (number_self n) (and_from _ _ (number_self t.ticket) (number_self t.entry))
-frame_self (in_page n k) = and_from _ _ (number_self n) (kind_self k)
-frame_self (in_finish n) = number_self n
-frame_self (in_back n) = number_self n
+frame_self (in_binding n vs) = and_from _ _ (equal_self n) (values_self vs)
+frame_self (in_operand n vs) = and_from _ _ (equal_self n) (values_self vs)
+frame_self (in_body n k) = and_from _ _ (equal_self n) (equal_self k)
+frame_self (in_seq n k) = and_from _ _ (equal_self n) (equal_self k)
+frame_self (in_and n k) = and_from _ _ (equal_self n) (equal_self k)
+frame_self (in_or n k) = and_from _ _ (equal_self n) (equal_self k)
+frame_self (in_if n k) = and_from _ _ (equal_self n) (equal_self k)
+frame_self (in_count n) = equal_self n
+frame_self (in_store n) = equal_self n
+frame_self (in_turn n k vs) = and_from _ _ (equal_self n) (and_from _ _ (equal_self k) (values_self vs))
+frame_self (in_isolate n t) = and_from _ _ (equal_self n) (and_from _ _ (equal_self t.ticket) (equal_self t.entry))
+frame_self (in_page n k) = and_from _ _ (equal_self n) (kind_self k)
+frame_self (in_finish n) = equal_self n
+frame_self (in_back n) = equal_self n
 
 pub frame_decides : (f g : Frame) → Decides (same_frame f g) (f ≡ g)
 frame_decides f g = (frame_means f g, λ e. subst (λ (x : Frame). same_frame f x ≡ true) e (frame_self f))
@@ -131,4 +91,4 @@ frame_decides f g = (frame_means f g, λ e. subst (λ (x : Frame). same_frame f 
 pub bound_decides : (o : Option Val) (v : Val) → Decides (is_value o v) (o ≡ Some v)
 bound_decides None v = (λ h. absurd (cc), λ e. absurd (cc))
 bound_decides (Some w) v =
-    (λ h. ap (λ (x : Val). Some x) ((value_decides w v).0 h), λ e. let same : w ≡ v = cc in (value_decides w v).1 same)
+    (λ h. ap (λ (x : Val). Some x) ((same_decides w v).0 h), λ e. let same : w ≡ v = cc in (same_decides w v).1 same)

@@ -3,6 +3,7 @@ use Rattle.std.proofs.Common.{◌≡◌, ℕ, ◌+◌, ◌<◌, ◌≤◌, ◌==
 use Rattle.std.specs.List.{AllByRecursion}
 use Rattle.std.proofs.lemmas.Bool.Decides.{nat_tests}
 use Rattle.std.proofs.lemmas.List.{append-nil, map-append}
+use Rattle.std.proofs.lemmas.Bool.{cond-false}
 use Rattle.script_value.specs.Val.{Val}
 use Rattle.web_cells.specs.Shadows.{bound_to, all_bound}
 use Rattle.web_cells.specs.Views.{pair_of}
@@ -17,10 +18,6 @@ one_bound (t ∷ made) s ss = one_bound made s (bound_to t.0 t.1 ss)
 pub one_more : (made : List Shadow) (s : Shadow) → all_bound (map pair_of (made ++ s ∷ [])) [] ≡ bound_to s.cell (pair_of s).1 (all_bound (map pair_of made) [])
 one_more made s = ap (λ (ss : List (ℕ × Val)). all_bound ss []) (map-append pair_of made (s ∷ [])) ∙ one_bound (map pair_of made) (pair_of s) []
 
-if_false : {A : Type 0} (b : Bool) (x y : A) → b ≡ false → cond b x y ≡ y
-if_false true x y e = absurd cc
-if_false false x y e = refl
-
 abbrev AreBelow : ℕ → List (ℕ × Val) → Type 0
 AreBelow c ss = AllByRecursion (λ s. s.0 < c) ss
 
@@ -29,7 +26,7 @@ behind_all c v [] h = refl
 behind_all c v (s ∷ ss) h =
     let less : nat_lt c s.0 ≡ false = grind (arith, nat_tests, h.0) in
     let differ : (c == s.0) ≡ false = grind (arith, nat_tests, h.0) in
-    if_false (nat_lt c s.0) _ _ less ∙ if_false (c == s.0) _ _ differ ∙ ap (λ (r : List (ℕ × Val)). s ∷ r) (behind_all c v ss h.1)
+    cond-false (nat_lt c s.0) _ _ less ∙ cond-false (c == s.0) _ _ differ ∙ ap (λ (r : List (ℕ × Val)). s ∷ r) (behind_all c v ss h.1)
 
 still_below : (least c : ℕ) (v : Val) (ss : List (ℕ × Val)) → least ≤ c → AreBelow least ss → AreBelow (c + 1) (ss ++ (c, v) ∷ [])
 still_below least c v [] h b = (omega arith, tt)

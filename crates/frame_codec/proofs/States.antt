@@ -4,6 +4,7 @@ use mathlib.Core.List.{reverse_aux}
 use Rattle.std.specs.List.{AllByRecursion}
 use Rattle.std.proofs.lemmas.List.{append-nil, reverse-reverse}
 use Rattle.std.proofs.lemmas.Option.{none-some, cond_some}
+use Rattle.std.proofs.lemmas.Bool.{and_parts, cond-true}
 use Rattle.script_value.specs.Val.{Val}
 use Rattle.script_nodes.specs.Arena.{Arena}
 use Rattle.value_bytes.specs.Spelling.{values_bytes, list_bytes, HaveBytes, FitsList}
@@ -80,10 +81,6 @@ stored_parts a d s =
 
 -- ---- back
 
-pub if_true : {A : Type 0} (b : Bool) (x y : A) → b ≡ true → cond b x y ≡ x
-if_true true x y e = refl
-if_true false x y e = absurd cc
-
 abbrev is_fitting : Arena → Parts → Bool
 is_fitting a x = frames_fit a x.0 x.1.0 && shadows_fit 0 (length a.web) x.1.1
 
@@ -94,14 +91,10 @@ state_back a d s =
     let test : is_fitting a (parts_of d) ≡ true = λ i. frames i && shadows i in
     ap (λ (b : List ℕ). read_state a b) (sym (append-nil (state_bytes d)))
     ∙ ap (λ o. fitting a o) ((parts_exact a).back (parts_of d) [] (stored_parts a d s))
-    ∙ if_true (is_fitting a (parts_of d)) (Some (state_of (parts_of d))) None test
+    ∙ cond-true (is_fitting a (parts_of d)) (Some (state_of (parts_of d))) None test
     ∙ ap (λ (e : Suspended). Some e) (state_again d)
 
 -- ---- what is read
-
-pub both_true : (b c : Bool) → (b && c) ≡ true → (b ≡ true) × (c ≡ true)
-both_true true c e = (refl, e)
-both_true false c e = absurd cc
 
 -- the parts of a state that was read
 record Fitted (a : Arena) (o : Option (Parts × List ℕ)) (d : Suspended) : Type 0 where
@@ -122,7 +115,7 @@ state_spells a bytes d small e =
     let f = fitted a (read_parts a bytes) d e in
     let x = f.parts in
     let s = (parts_exact a).exact bytes x [] small f.read in
-    let b = both_true (frames_fit a x.0 x.1.0) (shadows_fit 0 (length a.web) x.1.1) f.test in
+    let b = and_parts (frames_fit a x.0 x.1.0) (shadows_fit 0 (length a.web) x.1.1) f.test in
     let again = sym (reverse-reverse x.1.0) in
     let frames = all_first FrameHasBytes (λ f. LetFits f (node_at a (node_of f))) x.1.0 s.fit.1.0.1 in
     subst (λ k. SpellsState a bytes k) f.same (record {

@@ -5,13 +5,15 @@ use mathlib.Core.List.{reverse_aux}
 use Rattle.std.specs.List.{AllByRecursion}
 use Rattle.std.proofs.lemmas.Bool.Decides.{nat_tests}
 use Rattle.std.proofs.lemmas.List.{append-nil, take-append-drop, length-take, reverse-reverse}
-use Rattle.std.proofs.lemmas.Option.{none-some, cond_some, slice_get_past, slice_get_within}
+use Rattle.std.proofs.lemmas.Option.{none-some, cond_some, slice_get_past, slice_get_within, same_Some}
+use Rattle.std.proofs.lemmas.Bool.{and_parts, cond-true}
 use Rattle.script_value.specs.Val.{Val, number, truth, text, symbol, list}
 use Rattle.script_value.specs.Pieces.{◌>>=◌}
 use Rattle.script_nodes.specs.declared.script.Node.{Node}
 use Rattle.script_nodes.specs.declared.script.Node.TheVariants as node
 use Rattle.script_nodes.specs.Arena.{Arena, parts}
 use Rattle.value_bytes.proofs.Numbers.{bind_some}
+use Rattle.value_bytes.proofs.Trees.{chosen}
 use Rattle.machine_spec.specs.Machine.{Frame, in_binding, in_operand, in_body, in_seq, in_and, in_or, in_if, in_count, in_store, in_turn, in_isolate, in_page, in_finish, in_back, node_at, Suspended}
 use Rattle.machine_spec.specs.Fits.{node_of, place_of, IsKind, Binds, Works, IsSend, Fits}
 use Rattle.frame_codec.specs.Spelling.{FrameHasBytes}
@@ -19,17 +21,6 @@ use Rattle.frame_codec.specs.Walk.{part_worked, numbered, scope_in, Place, enter
 use Rattle.frame_codec.proofs.Frames.{LetFits}
 
 -- ---- parts
-
-chosen : {A : Type 0} (b : Bool) (x y z : A) → cond b x y ≡ z → ((b ≡ true) × (x ≡ z)) ⊎ ((b ≡ false) × (y ≡ z))
-chosen true x y z e = inl (refl, e)
-chosen false x y z e = inr (refl, e)
-
-if_true : {A : Type 0} (b : Bool) (x y : A) → b ≡ true → cond b x y ≡ x
-if_true true x y e = refl
-if_true false x y e = absurd cc
-
-some_same : {A : Type 0} (x y : A) → ◌≡◌ {A = Option A} (Some x) (Some y) → x ≡ y
-some_same x y e = cc
 
 among : (xs : List ℕ) (y i p : ℕ) → slice_get xs i ≡ Some p → slice_get (xs ++ y ∷ []) i ≡ Some p
 among [] y i p e = absurd (none-some p e)
@@ -78,7 +69,7 @@ fits_worked (in_back n) x p h k e = absurd h
 fits_worked (in_binding n done) (node.Let bindings body) p h k e = not_last bindings body (length done) p k e
 fits_worked (in_body n bound) (node.Let bindings body) p h k e =
     let same : (bound == length bindings) ≡ true = grind (arith, nat_tests, k) in
-    if_true (bound == length bindings) _ _ same ∙ sym (seam bindings body []) ∙ ap (λ (i : ℕ). slice_get (bindings ++ body ∷ []) i) (sym k) ∙ e
+    cond-true (bound == length bindings) _ _ same ∙ sym (seam bindings body []) ∙ ap (λ (i : ℕ). slice_get (bindings ++ body ∷ []) i) (sym k) ∙ e
 fits_worked (in_seq n i) (node.Seq ps) p h k e = e
 fits_worked (in_if n i) (node.If test a b) p h k e = e
 fits_worked (in_and n i) (node.And ps) p h k e = e
@@ -87,7 +78,7 @@ fits_worked (in_operand n done) (node.Prim o ps) p h k e = e
 fits_worked (in_count n) (node.For count body) p h k e = e
 fits_worked (in_turn n turns done) (node.For count body) p h k e =
     let less : nat_lt (length done) turns ≡ true = grind (arith, nat_tests, k) in
-    if_true (nat_lt (length done) turns) _ _ less ∙ e
+    cond-true (nat_lt (length done) turns) _ _ less ∙ e
 fits_worked (in_store n) (node.CellShadow c v) p h k e = e
 fits_worked (in_store n) (node.InstSet c v) p h k e = e
 fits_worked (in_store n) (node.InstAdd c v) p h k e = e
@@ -158,7 +149,7 @@ body_bound n bound env outer later k m whole len e =
 same_bound : (f : Frame) (env outer : List Val) (k m : ℕ) → Scope env k outer → ◌≡◌ {A = Option ℕ} (Some k) (Some m) → Binds f outer outer → Bound f env outer m
 same_bound f env outer k m s e b = record {
   inner = outer;
-  scope = record { rest = s.rest; whole = s.whole; len = sym (some_same k m e) ∙ s.len };
+  scope = record { rest = s.rest; whole = s.whole; len = sym (same_Some k m e) ∙ s.len };
   binds = b;
 }
 
@@ -191,7 +182,7 @@ body_left n bound env outer inner vs m s count whole =
     let test : nat_le (length outer + bound) (length env) ≡ true = grind (arith, nat_tests, long) in
     record {
       scope = record { rest = vs ++ s.rest; whole = all; len = refl };
-      entered = if_true (nat_le (length outer + bound) (length env)) _ _ test ∙ ap (λ (i : ℕ). Some i) (sym sum);
+      entered = cond-true (nat_le (length outer + bound) (length env)) _ _ test ∙ ap (λ (i : ℕ). Some i) (sym sum);
     }
 
 turn_left : (n turns : ℕ) (done env outer inner : List Val) (m : ℕ) → Scope env m inner → inner ≡ outer ++ number (pos (length done)) ∷ []
@@ -204,7 +195,7 @@ turn_left n turns done env outer inner m s whole =
     let test : (length done == length done) ≡ true = grind (arith, nat_tests) in
     record {
       scope = record { rest = v ∷ s.rest; whole = all; len = refl };
-      entered = ap (λ o. numbered (length done) (length outer) o) here ∙ if_true (length done == length done) _ _ test ∙ ap (λ (i : ℕ). Some i) sum;
+      entered = ap (λ o. numbered (length done) (length outer) o) here ∙ cond-true (length done == length done) _ _ test ∙ ap (λ (i : ℕ). Some i) sum;
     }
 
 same_left : (f : Frame) (env outer inner : List Val) (m : ℕ) → Scope env m inner → inner ≡ outer → scope_in f env (length outer) ≡ Some (length outer)
@@ -252,7 +243,7 @@ entered a env gs f p next h r e =
           let w = worked_fits f (node_at a (node_of f)) b.0 h b.1 in
           let s = scope_binds f env r.inner p.scope c.0 h r.scope c.1 in
           let outside : Works a gs (node_of f) r.inner = subst (λ (n : ℕ). Works a gs n r.inner) same r.works in
-          subst (λ q. Reached a env (f ∷ gs) q) (some_same (place b.0 c.0) next c.2) (record {
+          subst (λ q. Reached a env (f ∷ gs) q) (same_Some (place b.0 c.0) next c.2) (record {
             inner = s.inner;
             scope = s.scope;
             works = (w.0, (w.1, (r.inner, (s.binds, outside))));
@@ -262,7 +253,7 @@ entered a env gs f p next h r e =
 
 walked : (a : Arena) (env : List Val) (fs gs : List Frame) (p q : Place) → AllByRecursion FrameHasBytes fs → Reached a env gs p → walk a env p fs ≡ Some q
     → Reached a env (reverse_aux fs gs) q
-walked a env [] gs p q h r e = subst (λ x. Reached a env gs x) (some_same p q e) r
+walked a env [] gs p q h r e = subst (λ x. Reached a env gs x) (same_Some p q e) r
 walked a env (f ∷ fs) gs p q h r e =
     let b = bind_some (enters a env p f) (λ next. walk a env next fs) q e in
     walked a env fs (f ∷ gs) b.0 q h.1 (entered a env gs f p b.0 h.0 r b.1) b.2
@@ -283,7 +274,7 @@ came a env gs f q h r =
     record {
       from = place (node_of f) (length outer);
       reached = record { inner = outer; scope = left.scope; works = r.works.1.1.1.1 };
-      step = if_true (node_of f == node_of f) _ _ test
+      step = cond-true (node_of f == node_of f) _ _ test
           ∙ ap (λ o. o >>= λ n. (scope_in f env (length outer) >>= λ k. Some (place n k))) part
           ∙ ap (λ o. o >>= λ k. Some (place q.node k)) left.entered;
     }
@@ -317,10 +308,6 @@ is_sent : (x : Node) → IsSend x → is_send x ≡ true
 is_sent (node.Send kind body) s = refl
 is_sent x s = absurd s
 
-both_true : (b c : Bool) → (b && c) ≡ true → (b ≡ true) × (c ≡ true)
-both_true true c e = (refl, e)
-both_true false c e = absurd cc
-
 all_of : (env inner rest : List Val) → env ≡ inner ++ rest → length inner ≡ length env → inner ≡ env
 all_of env inner [] whole len = sym (whole ∙ append-nil inner)
 all_of env inner (v ∷ rest) whole len = absurd (omega (arith, ap length whole, len, length-append inner (v ∷ rest)))
@@ -329,7 +316,7 @@ ended : (a : Arena) (env : List Val) (o : Option Place) → ends_well a env o �
     → (q : Place) × ((o ≡ Some q) × ((q.scope ≡ length env) × IsSend (node_at a q.node)))
 ended a env None e = absurd cc
 ended a env (Some q) e =
-    let b = both_true (q.scope == length env) (is_send (node_at a q.node)) e in
+    let b = and_parts (q.scope == length env) (is_send (node_at a q.node)) e in
     (q, (refl, (grind (arith, nat_tests, b.0), sends (node_at a q.node) b.1)))
 
 abbrev kept : List Val → List Frame → List (ℕ × Val) → Suspended

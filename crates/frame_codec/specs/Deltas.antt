@@ -1,5 +1,5 @@
 -- What differs between a page's state and its parent's, and how it is written.
-use Rattle.std.specs.Prelude.{◌≡◌, ℕ, zero, suc, List, [], ◌∷◌, ◌++◌, take, reverse, Option, Some, None, ⊤}
+use Rattle.std.specs.Prelude.{◌≡◌, ℕ, zero, suc, List, [], ◌∷◌, ◌++◌, take, drop, map, reverse, slice_get, Option, Some, None, ⊤}
 use Rattle.script_value.specs.Val.{Val}
 use Rattle.web_cells.specs.Shadows.{all_bound, Rise}
 use Rattle.web_cells.specs.Own.{IsOwn, BindsAllOf}
@@ -35,6 +35,14 @@ Shares [] ys (suc n) rest = ⊥
 Shares (x ∷ xs) [] (suc n) rest = ⊥
 Shares (x ∷ xs) (y ∷ ys) (suc n) rest = (x ≡ y) × Shares xs ys n rest
 
+-- the longest front of items that mean the same has this length
+abbrev pub SharesFirst : {A B : Type 0} → (meaning : A → B) → (xs ys : List A) → (count : ℕ) → Type 0
+SharesFirst meaning xs ys count = Shares (map meaning xs) (map meaning ys) count (map meaning (drop count ys))
+
+-- at this place stands what means the same
+abbrev pub StandsAt : {A B : Type 0} → (meaning : A → B) → List A → (place : ℕ) → A → Type 0
+StandsAt meaning xs place x = slice_get (map meaning xs) place ≡ Some (meaning x)
+
 -- the difference of a state from its parent
 pub record IsDelta (p s : Suspended) (d : Delta) : Type 0 where
   pub env : Shares p.env s.env d.env_shared d.env
@@ -68,6 +76,10 @@ pub record DeltaHasBytes (d : Delta) : Type 0 where
   pub frames_shared : IsShort d.frames_shared
   pub frames : FitsList FrameHasBytes d.frames
   pub shadows : FitsList ShadowHasBytes d.shadows
+
+-- these are the bytes of a difference that has a spelling
+abbrev pub IsSpellingOf : List ℕ → Delta → Type 0
+IsSpellingOf bytes d = DeltaHasBytes d × (bytes ≡ delta_bytes d)
 
 -- what a difference is made of
 abbrev pub DeltaParts : Type 0

@@ -7,7 +7,7 @@ use Rattle.wire_bytes.specs.Reading.{read_u32, value_of}
 use Rattle.value_bytes.specs.Reading.{Reader, read_several, read_list, read_value}
 use Rattle.value_bytes.specs.Views.{Stops}
 use Rattle.value_bytes.specs.declared.unread.Unread.{Unread}
-use Rattle.machine_spec.specs.Machine.{Suspended}
+use Rattle.machine_spec.specs.Machine.{Frame, Suspended}
 use Rattle.frame_codec.specs.Reading.{read_frame, read_shadow}
 use Rattle.frame_codec.specs.Stored.{IsStored}
 use Rattle.frame_codec.specs.Deltas.{Delta, IsDelta, GoesOnFrom, DeltaHasBytes, joined}
@@ -50,12 +50,20 @@ read_first read most bytes = do
   count ← read_u32 bytes
   read_several read (min most count.0) count.1
 
+-- of a list of frames
+abbrev pub read_first_frames : Arena → (most : ℕ) → Reader (List Frame)
+read_first_frames a most bytes = read_first (read_frame a) most bytes
+
 -- a shared count, and of the list behind it what of the first so many is not shared
 abbrev pub read_behind : {A : Type 0} → Reader A → (most : ℕ) → Reader (ℕ × List A)
 read_behind read most bytes = do
   shared ← read_u32 bytes
   own ← read_first read (most - shared.0) shared.1
   Some ((min most shared.0, own.0), own.1)
+
+-- what bytes say of the first so many of a list behind a shared count
+abbrev pub told_behind : {A : Type 0} → Reader A → (most : ℕ) → List ℕ → Option (ℕ × List A)
+told_behind read most bytes = value_of (read_behind read most bytes)
 
 -- what the parts of a state's spelling say of a front of it
 abbrev pub read_front : Arena → Need → Parted → Option Suspended

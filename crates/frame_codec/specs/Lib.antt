@@ -12,4 +12,5 @@ pub mod FormViews
 pub mod Parted
 pub mod PartedViews
 pub mod Fronts
+pub mod FrontViews
 pub mod Vectors

@@ -5,7 +5,7 @@ use Rattle.script_value.specs.Pieces.{◌>>=◌}
 use Rattle.script_value.specs.declared.outcome.TxName.{TxName}
 use Rattle.script_nodes.specs.Arena.{Arena}
 use Rattle.wire_bytes.specs.Reading.{read_u8, read_u32, read_u64}
-use Rattle.value_bytes.specs.Reading.{Reader, seen_as, read_list, read_value, read_values}
+use Rattle.value_bytes.specs.Reading.{Reader, seen_as, read_several, read_list, read_value, read_values}
 use Rattle.machine_spec.specs.Machine.{Frame, in_binding, in_operand, in_body, in_seq, in_and, in_or, in_if, in_count, in_store, in_turn, in_isolate, bindings_in, node_at, Suspended}
 use Rattle.frame_codec.specs.Walk.{frames_fit, shadows_fit}
 
@@ -74,9 +74,21 @@ abbrev pub read_frame : Arena → Reader Frame
 read_frame a [] = None
 read_frame a (kind ∷ rest) = read_kind a kind rest
 
+-- so many frames
+abbrev pub read_frames_of : Arena → (count : ℕ) → Reader (List Frame)
+read_frames_of a count bytes = read_several (read_frame a) count bytes
+
+-- a list of frames
+abbrev pub read_frames : Arena → Reader (List Frame)
+read_frames a bytes = read_list (read_frame a) bytes
+
 -- a binding of a web cell
 abbrev pub read_shadow : Reader (ℕ × Val)
 read_shadow bytes = read_both read_u8 read_value bytes
+
+-- a list of bindings
+abbrev pub read_shadows : Reader (List (ℕ × Val))
+read_shadows bytes = read_list read_shadow bytes
 
 -- the variables, the frames and the bindings of a state
 abbrev pub read_parts : Arena → Reader (List Val × (List Frame × List (ℕ × Val)))

@@ -1,14 +1,14 @@
-ghost use Rattle.std.specs.Prelude.{◌≡◌, ◌↔◌, IsTrue, IfOk, IfSome, IsNone, option_map};
+ghost use Rattle.std.specs.Prelude.{◌≡◌, ◌↔◌, IsTrue, IfOk};
 ghost use Rattle.web_cells.specs.Shadows.{Rise};
 ghost use Rattle.stored_states.specs.Views.{suspended_of};
 ghost use Rattle.value_bytes.specs.Views.{Reads};
 ghost use Rattle.frame_codec.specs.Stored.{IsStored};
-ghost use Rattle.frame_codec.specs.Deltas.{delta_bytes, joined, DeltaHasBytes, SpellsDelta, HasNoDelta};
+ghost use Rattle.frame_codec.specs.Deltas.{delta_bytes, DeltaHasBytes, IsSpellingOf};
 ghost use Rattle.frame_codec.specs.FormViews.{ReadsDifference};
 ghost use Rattle.frame_codec.specs.Parted.{delta_parts};
 ghost use Rattle.frame_codec.specs.PartedViews.{parted_of};
 ghost use Rattle.frame_codec.specs.Deltas as spec;
-ghost use Rattle.frame_codec.specs.DeltaViews.{delta_of, parts_of_delta};
+ghost use Rattle.frame_codec.specs.DeltaViews.{delta_of, parts_of_delta, IsJoined, SaysDelta, FindsDelta, MissesNoDelta, DecidesDelta};
 
 use crate::difference::Delta;
 use crate::fit::{frames_fit, shadows_fit};
@@ -85,7 +85,7 @@ fn read_parts(alloc: Global, script: &Script, cursor: &mut Cursor<'_>) -> Result
 
 // What these bytes say, whether a state differs so from its parent or not. No count in them is trusted.
 fn read_delta(alloc: Global, script: &Script, bytes: &[u8]) -> Result<Option<Delta>, AllocError>
-    ensures { IfOk result (λ found. option_map delta_of found ≡ spec.read_delta script.now bytes.now) }
+    ensures { IfOk result (SaysDelta script.now bytes.now) }
 {
     let mut cursor = Cursor::over(bytes);
     match read_parts(alloc, script, &mut cursor) {
@@ -116,7 +116,7 @@ pub fn is_stored(script: &Script, state: &Suspended) -> bool
 
 // Whether these are the bytes of a difference.
 fn has_these_bytes(alloc: Global, delta: &Delta, bytes: &[u8]) -> Result<bool, AllocError>
-    ensures { IfOk result (λ same. IsTrue same ↔ (DeltaHasBytes (delta_of delta.now) × (bytes.now ≡ delta_bytes (delta_of delta.now)))) }
+    ensures { IfOk result (λ same. IsTrue same ↔ IsSpellingOf bytes.now (delta_of delta.now)) }
 {
     if !is_delta_spelled(delta) {
         return Ok(false);
@@ -127,7 +127,7 @@ fn has_these_bytes(alloc: Global, delta: &Delta, bytes: &[u8]) -> Result<bool, A
 
 // The parent's state, which stays, with what differs.
 fn join_to(alloc: Global, parent: &Suspended, delta: Delta) -> Result<Suspended, AllocError>
-    ensures { IfOk result (λ state. suspended_of state ≡ joined (suspended_of parent.now) (delta_of delta)) }
+    ensures { IfOk result (IsJoined parent.now delta) }
 {
     join(alloc, parent.try_clone(alloc)?, delta)
 }
@@ -140,8 +140,7 @@ fn find_delta(
     bytes: &[u8],
 ) -> Result<Option<Delta>, AllocError>
     requires { Rise parent.now.shades }
-    ensures spelled { IfOk result (λ found. IfSome found (λ d. SpellsDelta script.now (suspended_of parent.now) bytes.now (delta_of d))) }
-    ensures none { IfOk result (λ found. IsNone found → HasNoDelta script.now (suspended_of parent.now) bytes.now) }
+    ensures { IfOk result (DecidesDelta script.now parent.now bytes.now) }
 {
     let Some(said) = read_delta(alloc, script, bytes)? else {
         return Ok(None);
@@ -168,12 +167,9 @@ pub fn decode_delta(
     bytes: &[u8],
 ) -> Result<Option<Delta>, AllocError>
     requires { Rise parent.now.shades }
-    ensures spelled { IfOk result (λ found. IfSome found (λ d. SpellsDelta script.now (suspended_of parent.now) bytes.now (delta_of d))) }
-    ensures none { IfOk result (λ found. IsNone found → HasNoDelta script.now (suspended_of parent.now) bytes.now) }
+    ensures spelled { IfOk result (FindsDelta script.now parent.now bytes.now) }
+    ensures none { IfOk result (MissesNoDelta script.now parent.now bytes.now) }
     ensures read { IfOk result (ReadsDifference script.now parent.now bytes.now) }
 {
-    match find_delta(alloc, script, parent, bytes)? {
-        Some(delta) => Ok(Some(delta)),
-        None => Ok(None),
-    }
+    Ok(find_delta(alloc, script, parent, bytes)?)
 }

@@ -9,7 +9,7 @@ ghost use Rattle.machine_spec.specs.Fits as fits;
 ghost use Rattle.stored_states.specs.Views.{frame_of};
 ghost use Rattle.frame_codec.specs.Reading.{bindings_of};
 ghost use Rattle.frame_codec.specs.Walk as spec;
-ghost use Rattle.frame_codec.specs.Views.{place_of};
+ghost use Rattle.frame_codec.specs.Views.{place_of, Enters, WalksTo, TellsFit};
 
 use script_nodes::{Node, Script};
 use script_value::Value;
@@ -173,7 +173,7 @@ fn scope_in(frame: &Frame, env: &[Value], scope: usize) -> Option<usize>
 
 // The node and the scope that are left to what stands in a frame.
 fn enters(script: &Script, env: &[Value], place: &Place, frame: &Frame) -> Option<Place>
-    ensures { option_map place_of result ≡ spec.enters script.now (map meaning env.now) (place_of place.now) (frame_of frame.now) }
+    ensures { Enters script.now env.now place.now frame.now result }
 {
     if place.node != node_of(frame) {
         return None;
@@ -186,7 +186,7 @@ fn enters(script: &Script, env: &[Value], place: &Place, frame: &Frame) -> Optio
 
 // The node and the scope behind frames, the outermost first.
 fn walk(script: &Script, env: &[Value], frames: &[Frame]) -> Option<Place>
-    ensures { option_map place_of result ≡ spec.walk script.now (map meaning env.now) spec.outermost (map frame_of frames.now) }
+    ensures { WalksTo script.now env.now frames.now result }
 {
     let mut place = Place { node: 0, scope: 0 };
     for frame in frames {
@@ -207,7 +207,7 @@ fn is_send(script: &Script, number: u32) -> bool
 
 /// Whether frames, the outermost first, work on a node that sends a page, with these variables.
 pub fn frames_fit(script: &Script, env: &[Value], frames: &[Frame]) -> bool
-    ensures { result ≡ spec.frames_fit script.now (map meaning env.now) (map frame_of frames.now) }
+    ensures { TellsFit script.now env.now frames.now result }
 {
     match walk(script, env, frames) {
         Some(place) => place.scope == env.len() && is_send(script, place.node),

@@ -1,12 +1,13 @@
-ghost use Rattle.std.specs.Prelude.{◌≡◌, IfOk, option_map, map};
-ghost use Rattle.wire_bytes.specs.Reading.{value_of};
-ghost use Rattle.value_bytes.specs.Reading.{read_several, read_list, read_value};
+ghost use Rattle.std.specs.Prelude.{IfOk};
+ghost use Rattle.value_bytes.specs.Reading.{read_several, read_value};
 ghost use Rattle.value_bytes.specs.Views.{Reads};
-ghost use Rattle.stored_states.specs.Views.{frame_of, suspended_of};
-ghost use Rattle.frame_codec.specs.Reading.{read_frame, read_shadow};
+ghost use Rattle.stored_states.specs.Views.{suspended_of};
+ghost use Rattle.frame_codec.specs.Reading.{read_frame};
+ghost use Rattle.frame_codec.specs.Views.{frames_of};
 ghost use Rattle.frame_codec.specs.DeltaViews.{delta_of};
 ghost use Rattle.frame_codec.specs.PartedViews.{parted_of};
-ghost use Rattle.frame_codec.specs.Fronts.{Tells, read_first, read_behind};
+ghost use Rattle.frame_codec.specs.Fronts.{Tells, read_first, read_first_frames, told_behind};
+ghost use Rattle.frame_codec.specs.FrontViews.{shared_and_own, SaysFront, SaysDeltaFront};
 ghost use Rattle.frame_codec.specs.Fronts as spec;
 
 use crate::difference::Delta;
@@ -51,7 +52,7 @@ fn first_frames(
     cursor: &mut Cursor<'_>,
     most: usize,
 ) -> Result<Vec<Frame>, Unread>
-    ensures { Reads (λ fs. map frame_of fs.items) result cursor.new (read_first (read_frame script.now) most cursor.old) }
+    ensures { Reads frames_of result cursor.new (read_first_frames script.now most cursor.old) }
 {
     let count = number_32(cursor)? as usize;
     read_frames_of(alloc, script, cursor, most.min(count))
@@ -59,7 +60,7 @@ fn first_frames(
 
 // How many of the first so many variables are shared, and what of them is not.
 fn values_behind(alloc: Global, bytes: &[u8], most: usize) -> Result<(usize, Items), Unread>
-    ensures { Tells (λ x. (x.0, x.1)) result (value_of (read_behind read_value most bytes.now)) }
+    ensures { Tells (λ x. (x.0, x.1)) result (told_behind read_value most bytes.now) }
 {
     let mut cursor = Cursor::over(bytes);
     let shared = number_32(&mut cursor)? as usize;
@@ -74,7 +75,7 @@ fn frames_behind(
     bytes: &[u8],
     most: usize,
 ) -> Result<(usize, Vec<Frame>), Unread>
-    ensures { Tells (λ x. (x.0, map frame_of x.1.items)) result (value_of (read_behind (read_frame script.now) most bytes.now)) }
+    ensures { Tells shared_and_own result (told_behind (read_frame script.now) most bytes.now) }
 {
     let mut cursor = Cursor::over(bytes);
     let shared = number_32(&mut cursor)? as usize;
@@ -133,7 +134,7 @@ pub fn read_front(
     parts: &Parted,
     need: Need,
 ) -> Result<Option<Suspended>, AllocError>
-    ensures { IfOk result (λ found. option_map suspended_of found ≡ spec.read_front script.now need (parted_of parts.now)) }
+    ensures { IfOk result (SaysFront script.now need parts.now) }
 {
     match state_front(alloc, script, parts, need) {
         Ok(state) => Ok(Some(state)),
@@ -152,7 +153,7 @@ pub fn read_delta_front(
     parts: &Parted,
     need: Need,
 ) -> Result<Option<Delta>, AllocError>
-    ensures { IfOk result (λ found. option_map delta_of found ≡ spec.read_delta_front script.now need (parted_of parts.now)) }
+    ensures { IfOk result (SaysDeltaFront script.now need parts.now) }
 {
     match delta_front(alloc, script, parts, need) {
         Ok(delta) => Ok(Some(delta)),

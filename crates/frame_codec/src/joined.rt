@@ -1,10 +1,7 @@
 ghost use Rattle.std.specs.Prelude.{◌≡◌, IfOk, take};
 ghost use Rattle.web_cells.specs.Shadows.{all_bound};
-ghost use Rattle.stored_states.specs.Views.{suspended_of};
-ghost use Rattle.frame_codec.specs.Deltas.{IsDelta, GoesOnFrom, joined};
-ghost use Rattle.frame_codec.specs.Difference.{difference as computed};
-ghost use Rattle.frame_codec.specs.DeltaViews.{delta_of};
-ghost use Rattle.frame_codec.specs.Fronts as spec;
+ghost use Rattle.frame_codec.specs.DeltaViews.{Differs, IsComputed, JoinsBack, IsJoined};
+ghost use Rattle.frame_codec.specs.FrontViews.{IsFrontOf};
 
 use crate::difference::Delta;
 use crate::need::Need;
@@ -16,7 +13,7 @@ use web_cells::{Own, Shades};
 
 // What differs between a state and its parent's.
 fn difference(alloc: Global, parent: &Suspended, state: &Suspended) -> Result<Delta, AllocError>
-    ensures { IfOk result (λ d. IsDelta (suspended_of parent.now) (suspended_of state.now) (delta_of d)) }
+    ensures { IfOk result (Differs parent.now state.now) }
 {
     let variables = state.env.as_slice();
     let env_shared = shared_values(parent.env.as_slice(), variables);
@@ -40,9 +37,9 @@ fn difference(alloc: Global, parent: &Suspended, state: &Suspended) -> Result<De
 ///
 /// With it the parent's state is the state again, where the web cells of both rise and this binds each that its parent binds.
 pub fn delta(alloc: Global, parent: &Suspended, state: &Suspended) -> Result<Delta, AllocError>
-    ensures delta { IfOk result (λ d. IsDelta (suspended_of parent.now) (suspended_of state.now) (delta_of d)) }
-    ensures computed { IfOk result (λ d. delta_of d ≡ computed (suspended_of parent.now) (suspended_of state.now)) }
-    ensures back { IfOk result (λ d. GoesOnFrom (suspended_of parent.now) (suspended_of state.now) → joined (suspended_of parent.now) (delta_of d) ≡ suspended_of state.now) }
+    ensures delta { IfOk result (Differs parent.now state.now) }
+    ensures computed { IfOk result (IsComputed parent.now state.now) }
+    ensures back { IfOk result (JoinsBack parent.now state.now) }
 {
     Ok(difference(alloc, parent, state)?)
 }
@@ -67,7 +64,7 @@ fn front_frames(alloc: Global, frames: &[Frame], count: usize) -> Result<Vec<Fra
 
 /// A copy of a front of a state.
 pub fn copied_front(alloc: Global, state: &Suspended, need: Need) -> Result<Suspended, AllocError>
-    ensures { IfOk result (λ copy. suspended_of copy ≡ spec.front need (suspended_of state.now)) }
+    ensures { IfOk result (IsFrontOf need state.now) }
 {
     Ok(Suspended {
         env: front_values(alloc, &state.env, need.variables)?,
@@ -89,7 +86,7 @@ fn bound_with(alloc: Global, mut shades: Shades, own: &Own) -> Result<Shades, Al
 
 /// The parent's state, or a front of it that has what is shared, with what differs.
 pub fn join(alloc: Global, parent: Suspended, delta: Delta) -> Result<Suspended, AllocError>
-    ensures { IfOk result (λ state. suspended_of state ≡ joined (suspended_of parent) (delta_of delta)) }
+    ensures { IfOk result (IsJoined parent delta) }
 {
     let mut env = parent.env;
     env.truncate(delta.env_shared);

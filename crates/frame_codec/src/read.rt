@@ -1,10 +1,9 @@
-ghost use Rattle.std.specs.Prelude.{◌≡◌, option_map, map};
+ghost use Rattle.std.specs.Prelude.{◌≡◌, option_map};
 ghost use Rattle.web_cells.specs.Views.{pair_of};
-ghost use Rattle.value_bytes.specs.Reading.{read_list, read_several};
 ghost use Rattle.value_bytes.specs.Views.{Reads};
 ghost use Rattle.stored_states.specs.Views.{frame_of};
 ghost use Rattle.frame_codec.specs.Reading as spec;
-ghost use Rattle.frame_codec.specs.Views.{parts_of};
+ghost use Rattle.frame_codec.specs.Views.{frames_of, shadows_of, parts_of};
 
 use crate::fit::bindings_of;
 use script_nodes::Script;
@@ -128,7 +127,7 @@ pub fn read_frames_of(
     cursor: &mut Cursor<'_>,
     count: usize,
 ) -> Result<Vec<Frame>, Unread>
-    ensures { Reads (λ fs. map frame_of fs.items) result cursor.new (read_several (spec.read_frame script.now) count cursor.old) }
+    ensures { Reads frames_of result cursor.new (spec.read_frames_of script.now count cursor.old) }
 {
     let mut frames = Vec::new(alloc);
     for turn in 0..count {
@@ -144,7 +143,7 @@ pub fn read_frames(
     script: &Script,
     cursor: &mut Cursor<'_>,
 ) -> Result<Vec<Frame>, Unread>
-    ensures { Reads (λ fs. map frame_of fs.items) result cursor.new (read_list (spec.read_frame script.now) cursor.old) }
+    ensures { Reads frames_of result cursor.new (spec.read_frames script.now cursor.old) }
 {
     let count = number_32(cursor)?;
     read_frames_of(alloc, script, cursor, count as usize)
@@ -161,7 +160,7 @@ fn read_shadow(alloc: Global, cursor: &mut Cursor<'_>) -> Result<Shadow, Unread>
 // A list of bindings. They are kept one by one, so that no count is trusted.
 #[tactic(auto, using(value_bytes::proofs::Turns::one_more, value_bytes::proofs::Turns::no_more, value_bytes::proofs::Turns::at_end))]
 pub fn read_shadows(alloc: Global, cursor: &mut Cursor<'_>) -> Result<Vec<Shadow>, Unread>
-    ensures { Reads (λ ss. map pair_of ss.items) result cursor.new (read_list spec.read_shadow cursor.old) }
+    ensures { Reads shadows_of result cursor.new (spec.read_shadows cursor.old) }
 {
     let count = number_32(cursor)?;
     let mut shadows = Vec::new(alloc);

@@ -1,7 +1,7 @@
-ghost use Rattle.std.specs.Prelude.{◌≡◌, ◌↔◌, ◌≤◌, ◌++◌, IsTrue, OnOk, Some, map, drop, take, length, slice_get};
+ghost use Rattle.std.specs.Prelude.{◌≡◌, ◌↔◌, ◌≤◌, ◌++◌, IsTrue, OnOk, map, drop, take, length};
 ghost use Rattle.script_value.specs.Views.{meaning};
 ghost use Rattle.stored_states.specs.Views.{frame_of};
-ghost use Rattle.frame_codec.specs.Deltas.{Shares};
+ghost use Rattle.frame_codec.specs.Deltas.{SharesFirst, StandsAt};
 
 use script_value::{Items, Value, equal};
 use std::alloc::{AllocError, Global};
@@ -9,7 +9,7 @@ use stored_states::Frame;
 
 // Whether this value stands at this place.
 fn is_value_at(values: &[Value], place: usize, value: &Value) -> bool
-    ensures { IsTrue result ↔ (slice_get (map meaning values.now) place ≡ Some (meaning value.now)) }
+    ensures { IsTrue result ↔ StandsAt meaning values.now place value.now }
 {
     match values.get(place) {
         Some(other) => equal(other, value),
@@ -20,7 +20,7 @@ fn is_value_at(values: &[Value], place: usize, value: &Value) -> bool
 /// How many of the first values of two lists are the same.
 pub fn shared_values(parent: &[Value], values: &[Value]) -> usize
     ensures within { result ≤ length values.now }
-    ensures shares { Shares (map meaning parent.now) (map meaning values.now) result (map meaning (drop result values.now)) }
+    ensures shares { SharesFirst meaning parent.now values.now result }
 {
     for (place, value) in values.iter().enumerate() {
         if !is_value_at(parent, place, value) {
@@ -84,7 +84,7 @@ fn same_frame(frame: &Frame, other: &Frame) -> bool
 
 // Whether this frame stands at this place.
 fn is_frame_at(frames: &[Frame], place: usize, frame: &Frame) -> bool
-    ensures { IsTrue result ↔ (slice_get (map frame_of frames.now) place ≡ Some (frame_of frame.now)) }
+    ensures { IsTrue result ↔ StandsAt frame_of frames.now place frame.now }
 {
     match frames.get(place) {
         Some(other) => same_frame(other, frame),
@@ -95,7 +95,7 @@ fn is_frame_at(frames: &[Frame], place: usize, frame: &Frame) -> bool
 /// How many of the first frames of two lists are the same.
 pub fn shared_frames(parent: &[Frame], frames: &[Frame]) -> usize
     ensures within { result ≤ length frames.now }
-    ensures shares { Shares (map frame_of parent.now) (map frame_of frames.now) result (map frame_of (drop result frames.now)) }
+    ensures shares { SharesFirst frame_of parent.now frames.now result }
 {
     for (place, frame) in frames.iter().enumerate() {
         if !is_frame_at(parent, place, frame) {

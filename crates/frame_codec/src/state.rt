@@ -1,10 +1,8 @@
-ghost use Rattle.std.specs.Prelude.{◌≡◌, [], Some, option_map, IfOk, IfSome, IsNone, map};
+ghost use Rattle.std.specs.Prelude.{◌≡◌, [], IfOk, IsNone, map};
 ghost use Rattle.web_cells.specs.Shadows.{all_bound};
 ghost use Rattle.web_cells.specs.Views.{pair_of};
-ghost use Rattle.stored_states.specs.Views.{suspended_of};
-ghost use Rattle.frame_codec.specs.Laws.{SpellsState, HasNone};
-ghost use Rattle.frame_codec.specs.Reading as spec;
-ghost use Rattle.frame_codec.specs.Views.{parts_of};
+ghost use Rattle.frame_codec.specs.Laws.{HasNone};
+ghost use Rattle.frame_codec.specs.Views.{IsOfParts, ReadsState, FindsSpelled};
 
 use crate::fit::{frames_fit, shadows_fit};
 use crate::read::{Parts, read_parts};
@@ -30,7 +28,7 @@ pub fn shades_of(alloc: Global, shadows: Vec<Shadow>) -> Result<Shades, AllocErr
 // The state of these parts, where it fits the script.
 #[tactic(auto, using(crate::proofs::Shades::bound_in_order))]
 fn fitting(alloc: Global, script: &Script, parts: Parts) -> Result<Option<Suspended>, AllocError>
-    ensures { IfOk result (λ found. option_map suspended_of found ≡ spec.fitting script.now (Some (parts_of parts, []))) }
+    ensures { IfOk result (IsOfParts script.now parts) }
 {
     let cells = script.web_defaults().len();
     if frames_fit(script, parts.env.as_slice(), parts.frames.as_slice())
@@ -49,7 +47,7 @@ fn fitting(alloc: Global, script: &Script, parts: Parts) -> Result<Option<Suspen
 
 // The state that these bytes spell, and that fits the script.
 fn read_state(alloc: Global, script: &Script, bytes: &[u8]) -> Result<Option<Suspended>, AllocError>
-    ensures { IfOk result (λ found. option_map suspended_of found ≡ spec.read_state script.now bytes.now) }
+    ensures { IfOk result (ReadsState script.now bytes.now) }
 {
     let mut cursor = Cursor::over(bytes);
     match read_parts(alloc, script, &mut cursor) {
@@ -69,8 +67,8 @@ fn read_state(alloc: Global, script: &Script, bytes: &[u8]) -> Result<Option<Sus
 ///
 /// What it takes of memory is never more than the bytes that are there ask for: no count in them is trusted.
 pub fn decode(alloc: Global, script: &Script, bytes: &[u8]) -> Result<Option<Suspended>, AllocError>
-    ensures read { IfOk result (λ found. option_map suspended_of found ≡ spec.read_state script.now bytes.now) }
-    ensures spelled { IfOk result (λ found. IfSome found (λ d. SpellsState script.now bytes.now (suspended_of d))) }
+    ensures read { IfOk result (ReadsState script.now bytes.now) }
+    ensures spelled { IfOk result (FindsSpelled script.now bytes.now) }
     ensures none { IfOk result (λ found. IsNone found → HasNone script.now bytes.now) }
 {
     match read_state(alloc, script, bytes)? {

@@ -1,14 +1,15 @@
 ghost use Rattle.std.specs.Prelude.{◌≡◌, ◌++◌, ◌∷◌, ◌<◌, ◌^◌, OnOk, IfOk, map};
-ghost use Rattle.std.specs.List.{AllByRecursion, flat_map};
+ghost use Rattle.std.specs.List.{AllByRecursion};
 ghost use Rattle.script_value.specs.Views.{meaning};
 ghost use Rattle.web_cells.specs.Views.{pair_of};
 ghost use Rattle.wire_bytes.specs.Spelling.{u32_bytes};
-ghost use Rattle.value_bytes.specs.Spelling.{HaveBytes, FitsList, list_bytes, values_bytes};
+ghost use Rattle.value_bytes.specs.Spelling.{HaveBytes, FitsList};
 ghost use Rattle.machine_spec.specs.Machine.{in_binding, in_operand, in_turn, in_isolate};
 ghost use Rattle.stored_states.specs.Views.{frame_of, suspended_of};
-ghost use Rattle.frame_codec.specs.Spelling.{frame_bytes, let_bytes, part_bytes, shadow_bytes, state_bytes, FrameHasBytes, ShadowHasBytes, StateHasBytes};
+ghost use Rattle.frame_codec.specs.Spelling.{frame_bytes, part_bytes, shadow_bytes, state_bytes, FrameHasBytes, ShadowHasBytes, StateHasBytes};
 ghost use Rattle.frame_codec.specs.Parted.{state_parts};
 ghost use Rattle.frame_codec.specs.PartedViews.{parted_of};
+ghost use Rattle.frame_codec.specs.Views.{let_with, each_frame, frames_bytes, each_shadow, shadows_bytes};
 
 use crate::parted::Parted;
 use script_value::{Bytes, Items, TxName, Value};
@@ -39,7 +40,7 @@ fn write_part(writer: &mut Writer, kind: u8, node: u32, part: usize) -> Result<(
 fn write_let(writer: &mut Writer, node: u32, part: usize, done: &[Value]) -> Result<(), AllocError>
     requires part { part < 2 ^ 32 }
     requires done { HaveBytes (map meaning done.now) }
-    ensures { OnOk result (writer.new ≡ writer.old ++ 1 ∷ let_bytes node part (map meaning done.now)) }
+    ensures { OnOk result (writer.new ≡ writer.old ++ let_with node part done.now) }
 {
     write_part(writer, 1, node, part)?;
     write_values(writer, done)
@@ -108,7 +109,7 @@ fn write_frame(writer: &mut Writer, frame: &Frame) -> Result<(), AllocError>
 
 fn write_each_frame(writer: &mut Writer, frames: &[Frame]) -> Result<(), AllocError>
     requires { AllByRecursion FrameHasBytes (map frame_of frames.now) }
-    ensures { OnOk result (writer.new ≡ writer.old ++ flat_map frame_bytes (map frame_of frames.now)) }
+    ensures { OnOk result (writer.new ≡ writer.old ++ each_frame frames.now) }
 {
     for frame in frames {
         write_frame(writer, frame)?;
@@ -119,7 +120,7 @@ fn write_each_frame(writer: &mut Writer, frames: &[Frame]) -> Result<(), AllocEr
 // How many frames, and each of them.
 pub fn write_frames(writer: &mut Writer, frames: &[Frame]) -> Result<(), AllocError>
     requires { FitsList FrameHasBytes (map frame_of frames.now) }
-    ensures { OnOk result (writer.new ≡ writer.old ++ list_bytes frame_bytes (map frame_of frames.now)) }
+    ensures { OnOk result (writer.new ≡ writer.old ++ frames_bytes frames.now) }
 {
     writer.u32(frames.len() as u32)?;
     write_each_frame(writer, frames)
@@ -135,7 +136,7 @@ fn write_shadow(writer: &mut Writer, shadow: &Shadow) -> Result<(), AllocError>
 
 fn write_each_shadow(writer: &mut Writer, shadows: &[Shadow]) -> Result<(), AllocError>
     requires { AllByRecursion ShadowHasBytes (map pair_of shadows.now) }
-    ensures { OnOk result (writer.new ≡ writer.old ++ flat_map shadow_bytes (map pair_of shadows.now)) }
+    ensures { OnOk result (writer.new ≡ writer.old ++ each_shadow shadows.now) }
 {
     for shadow in shadows {
         write_shadow(writer, shadow)?;
@@ -146,7 +147,7 @@ fn write_each_shadow(writer: &mut Writer, shadows: &[Shadow]) -> Result<(), Allo
 // How many bindings, and each of them.
 pub fn write_shadows(writer: &mut Writer, shadows: &[Shadow]) -> Result<(), AllocError>
     requires { FitsList ShadowHasBytes (map pair_of shadows.now) }
-    ensures { OnOk result (writer.new ≡ writer.old ++ list_bytes shadow_bytes (map pair_of shadows.now)) }
+    ensures { OnOk result (writer.new ≡ writer.old ++ shadows_bytes shadows.now) }
 {
     writer.u32(shadows.len() as u32)?;
     write_each_shadow(writer, shadows)
