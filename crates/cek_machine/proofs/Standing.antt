@@ -8,7 +8,7 @@ use Rattle.replay_spec.specs.Tape.{got}
 use Rattle.machine_spec.specs.Machine as spec
 use Rattle.machine_spec.specs.Machine.{node_at, bindings_in, next, goes, step, outer_env, outer_frames, stepped, in_binding, in_operand, in_seq, in_and, in_or, in_if, in_count, in_store, in_turn}
 use Rattle.machine_spec.specs.Fits.{node_of, place_of, IsKind, FitsAt}
-use Rattle.machine_spec.proofs.Fitting.{node_is_there}
+use Rattle.machine_spec.proofs.Fitting.{node_is_there, few_done}
 use Rattle.machine_spec.proofs.Stepping.{visit_there, place_there, fits_on, pays_on}
 use Rattle.machine_spec.specs.Dues.{InSegment}
 use Rattle.cek_machine.specs.Machines.{most_cost, steps_left}
@@ -35,9 +35,6 @@ row_or n k x h = grind (arith, h)
 let_binding : (n : ℕ) (done : List Val) (x : Node) → IsKind (in_binding n done) x → IsLet x
 let_binding n done x h = grind (arith, h)
 
-few_bindings : (n : ℕ) (done : List Val) (x : Node) → IsKind (in_binding n done) x → length done < length (bindings_in x)
-few_bindings n done x h = grind (arith, h)
-
 prim_operand : (n : ℕ) (done : List Val) (x : Node) → IsKind (in_operand n done) x → IsPrim x
 prim_operand n done x h = grind (arith, h)
 
@@ -57,7 +54,7 @@ store_store n x h = grind (arith, h)
 by_kind : (a : Arena) (f : Frame) (p : ℕ) → IsKind (frame_of f) (node_at a (node_of (frame_of f)))
     → slice_get (parts (node_at a (node_of (frame_of f)))) (place_of (frame_of f)) ≡ Some p → Stands a f
 by_kind a (frame.Binding n done) p h e =
-    ((node_is_there a (in_binding n done) h, let_binding n done (node_at a n) h), few_bindings n done (node_at a n) h)
+    ((node_is_there a (in_binding n done) h, let_binding n done (node_at a n) h), few_done n done (node_at a n) h)
 by_kind a (frame.Operand n done) p h e =
     ((node_is_there a (in_operand n done) h, prim_operand n done (node_at a n) h), place_there (length done) p (parts (node_at a n)) e)
 by_kind a (frame.Body n bound) p h e = tt

@@ -1,17 +1,26 @@
 -- The machine of the program, and a step of it.
-use Rattle.std.specs.Prelude.{◌≡◌, ℕ, ◌+◌, ◌-◌, ◌*◌, ◌^◌, ◌<◌, [], Option, Some, None, unwrap_or}
+use Rattle.std.specs.Prelude.{◌≡◌, ℕ, ◌+◌, ◌-◌, ◌*◌, ◌^◌, ◌<◌, [], Option, Some, None, unwrap_or, Result, IfOk}
+use Rattle.std.specs.declared.alloc.AllocError.{AllocError}
+use Rattle.script_value.specs.declared.value.Value.{Value}
+use Rattle.script_value.specs.Views.{meaning}
+use Rattle.stored_states.specs.declared.frame.Suspended.{Suspended}
+use Rattle.stored_states.specs.Views.{suspended_of}
 use Rattle.segments.specs.declared.ends.PlainEnd.{PlainEnd}
 use Rattle.segments.specs.Views.{outcome_of}
 use Rattle.segment_progress.specs.States.{state_of}
 use Rattle.script_nodes.specs.Arena.{Arena, IsScript}
-use Rattle.replay_spec.specs.Tape.{Now, Reads, bound}
-use Rattle.machine_spec.specs.Laws.{started}
+use Rattle.replay_spec.specs.Tape.{State, Now, Reads, bound}
+use Rattle.machine_spec.specs.Laws.{started, resumed}
 use Rattle.machine_spec.specs.Machine as spec
-use Rattle.machine_spec.specs.Machine.{inside_of, goes, stopped, step, steps}
+use Rattle.machine_spec.specs.Machine.{inside_of, goes, stopped, next, step, steps}
 use Rattle.cek_machine.specs.declared.machine.Machine.{Machine}
 use Rattle.machine_spec.specs.Fits.{FitsAt}
 use Rattle.machine_spec.specs.Dues.{InSegment, owed}
-use Rattle.cek_machine.specs.Spots.{point, frames_of, control_of, Sound}
+use Rattle.cek_machine.specs.Spots.{point, frames_of, control_of, ControlTakesMemory, Sound}
+
+-- how far the tape was used
+abbrev pub state_in : Machine → State
+state_in m = state_of m.spot.progress
 
 abbrev pub machine_of : Machine → spec.Machine
 machine_of m = record { point = point m.control m.spot; state = state_of m.spot.progress }
@@ -45,8 +54,26 @@ Steps (Some end) a old new = step a (machine_of old) ≡ stopped (outcome_of end
 abbrev pub start_of : Arena → Now → spec.Machine
 start_of a now = started a (record { first = now; later = [] })
 
+abbrev pub Starts : Result Machine AllocError → Arena → Now → Type 0
+Starts r a now = IfOk r (λ m. machine_of m ≡ start_of a now)
+
+-- a machine that goes on from what was kept, with this answer, in this segment
+abbrev pub Resumes : Result Machine AllocError → Arena → Suspended → Value → Now → Type 0
+Resumes r a kept v now = IfOk r (λ m. machine_of m ≡ resumed a (suspended_of kept) (record { value = meaning v; segment = now }))
+
+-- the next step of a machine takes memory
+abbrev pub StepTakesMemory : Arena → spec.Machine → Type 0
+StepTakesMemory a m = ControlTakesMemory m.point.control m.point.frames m.state (next a m.point.control m.point.env m.point.frames m.state)
+
+-- behind some steps that went on the next one takes memory
+abbrev pub RunTakesMemory : Arena → spec.Machine → Type 0
+RunTakesMemory a m = (k : ℕ) × ((mid : spec.Machine) × ((steps a k m ≡ goes mid) × StepTakesMemory a mid))
+
 -- these steps were taken, and the last of them is this stop
-abbrev pub Runs : PlainEnd → (a : Arena) → (old new : Machine) → (before count : ℕ) → Type 0
-Runs end a old new before count =
+abbrev pub RunsOver : Arena → PlainEnd → (old new : Machine) → (before count : ℕ) → Type 0
+RunsOver a end old new before count =
     (k : ℕ) × ((count ≡ before + k + 1) × ((mid : spec.Machine) × ((steps a k (machine_of old) ≡ goes mid)
     × (step a mid ≡ stopped (outcome_of end) (inside_of (frames_of new.spot)) (kept_of new) (state_of new.spot.progress)))))
+
+abbrev pub Runs : PlainEnd → (old new : Machine) → (before count : ℕ) → Type 0
+Runs end old new before count = RunsOver old.script.now end old new before count

@@ -1,20 +1,27 @@
 -- What the machine of the program stands for in the definitions.
-use Rattle.std.specs.Prelude.{◌≡◌, ℕ, List, [], ◌∷◌, map, reverse, Option, Some, None, Result, Ok, Err, ⊤}
+use Rattle.std.specs.Prelude.{◌≡◌, ℕ, ◌<◌, ◌-◌, List, [], ◌∷◌, length, Option, Some, None, Result, Ok, Err, ⊤}
 use Rattle.script_value.specs.Val.{Val}
 use Rattle.script_value.specs.Views.{meaning}
+use Rattle.script_value.specs.declared.value.Value.{Value}
+use Rattle.script_value.specs.declared.outcome.TxName.{TxName}
+use Rattle.script_nodes.specs.declared.script.Node.{Node}
+use Rattle.script_nodes.specs.declared.script.SendKind.{SendKind}
+use Rattle.script_nodes.specs.Arena.{Arena}
 use Rattle.segment_progress.specs.declared.halt.Halt.{Halt}
 use Rattle.segment_progress.specs.declared.halt.Halt.TheVariants.{Memory, Stopped}
 use Rattle.segments.specs.Views.{outcome_of}
 use Rattle.segment_progress.specs.States as plain
 use Rattle.segment_progress.specs.States.{state_of}
-use Rattle.replay_spec.specs.Tape.{End, got, stop, Run, ◌>>◌, charge}
+use Rattle.replay_spec.specs.Tape.{State, paged, faulted, out_of_fuel, End, got, stop, Run, ◌>>◌, charge, send_page, add_cell}
+use Rattle.replay_spec.specs.Eval.{copied}
 use Rattle.stored_states.specs.declared.frame.Frame.{Frame}
+use Rattle.stored_states.specs.declared.frame.Frame.TheVariants as frame
 use Rattle.cek_machine.specs.declared.control.Control.{Control}
 use Rattle.cek_machine.specs.declared.control.Control.TheVariants.{Visit, Give}
 use Rattle.cek_machine.specs.declared.spot.Spot.{Spot}
 use Rattle.stored_states.specs.Views.{frame_of, stack}
 use Rattle.machine_spec.specs.Machine as spec
-use Rattle.machine_spec.specs.Machine.{inside_of, visits}
+use Rattle.machine_spec.specs.Machine.{inside_of, visits, given, visited, next_part, next_turn, taken, next, outer_env, outer_frames}
 
 abbrev pub control_of : Control → spec.Control
 control_of (Visit n) = spec.visit n
@@ -30,19 +37,93 @@ point c s = record { control = control_of c; env = s.env; frames = frames_of s }
 abbrev pub Sound : Spot → Type 0
 Sound s = plain.inside_of s.progress ≡ inside_of (frames_of s)
 
--- what is next, or the stop with this environment and these frames, unless memory ran out
-abbrev pub ComesOut : Result Control Halt → List Val → List spec.Frame → (new : Spot) → End spec.Point → Type 0
-ComesOut (Ok c) env fs new e = e ≡ got (point c new) (state_of new.progress)
-ComesOut (Err Memory) env fs new e = ⊤
-ComesOut (Err (Stopped o)) env fs new e =
+-- a further effect is noted
+abbrev pub NotesMore : (old new : State) → Type 0
+NotesMore old new = length old.effects < length new.effects
+
+-- memory is taken: the move goes on, or it stops with a page or behind a further effect
+abbrev pub TakesMemory : State → End spec.Point → Type 0
+TakesMemory old (got p new) = ⊤
+TakesMemory old (stop (paged how bytes) entered new) = ⊤
+TakesMemory old (stop (faulted k) entered new) = NotesMore old new
+TakesMemory old (stop (out_of_fuel cost) entered new) = NotesMore old new
+
+-- The same where a frame takes the value of its part: an operand's frame and a turn's take memory for the value, which they
+-- keep behind those that are done.
+abbrev pub FrameTakesMemory : spec.Frame → State → End spec.Point → Type 0
+FrameTakesMemory (spec.in_operand n done) old e = ⊤
+FrameTakesMemory (spec.in_turn n turns done) old e = ⊤
+FrameTakesMemory f old e = TakesMemory old e
+
+-- and where a control is next
+abbrev pub ControlTakesMemory : spec.Control → List spec.Frame → State → End spec.Point → Type 0
+ControlTakesMemory (spec.value v) (f ∷ fs) old e = FrameTakesMemory f old e
+ControlTakesMemory c fs old e = TakesMemory old e
+
+-- what is next, or the stop with this environment and these frames; memory ran out at most where it is taken
+abbrev pub ComesOut : (memory : Type 0) → Result Control Halt → List Val → List spec.Frame → (new : Spot) → End spec.Point → Type 0
+ComesOut memory (Ok c) env fs new e = e ≡ got (point c new) (state_of new.progress)
+ComesOut memory (Err Memory) env fs new e = memory
+ComesOut memory (Err (Stopped o)) env fs new e =
     (e ≡ stop (outcome_of o) (inside_of fs) (state_of new.progress)) × ((new.env ≡ env) × (frames_of new ≡ fs))
 
 abbrev pub Comes : Result Control Halt → (old new : Spot) → End spec.Point → Type 0
-Comes r old new e = ComesOut r old.env (frames_of old) new e
+Comes r old new e = ComesOut (TakesMemory (state_of old.progress) e) r old.env (frames_of old) new e
 
 -- a call moved the spot as this action does
 abbrev pub Moves : Result Control Halt → (old new : Spot) → (List Val → List spec.Frame → Run spec.Point) → Type 0
 Moves r old new act = Comes r old new (act old.env (frames_of old) (state_of old.progress))
+
+-- it moved to the value of this action, done inside the transactions that are open
+abbrev pub Gives : Result Control Halt → (old new : Spot) → (List TxName → Run Val) → Type 0
+Gives r old new act = Moves r old new (λ env fs. given (act (inside_of fs)) env fs)
+
+-- it moved to a copy of this value
+abbrev pub GivesCopy : Result Control Halt → (old new : Spot) → Val → Type 0
+GivesCopy r old new v = Gives r old new (λ inside. copied inside v)
+
+-- it moved to the answer to this page
+abbrev pub Sends : Result Control Halt → (old new : Spot) → SendKind → (page : Val) → Type 0
+Sends r old new kind page = Gives r old new (λ inside. send_page inside kind page)
+
+-- it moved to what an add of this value gives
+abbrev pub Adds : Result Control Halt → (old new : Spot) → (cell : ℕ) → Val → Type 0
+Adds r old new c v = Gives r old new (λ inside. add_cell inside c v)
+
+-- it moved to a part, in this frame
+abbrev pub WorksOn : Result Control Halt → (old new : Spot) → Frame → (part : ℕ) → Type 0
+WorksOn r old new f p = Moves r old new (λ env fs. visits p env (frame_of f ∷ fs))
+
+-- it moved to the first of the parts that are left, in this frame, or to the value of the last
+abbrev pub WorksOnNext : Result Control Halt → (old new : Spot) → Frame → (left : List ℕ) → Val → Type 0
+WorksOnNext r old new f left v = Moves r old new (next_part (frame_of f) left v)
+
+-- it moved to the turn behind those that are done, or to the list of their values
+abbrev pub TurnsOn : Result Control Halt → (old new : Spot) → (node turns body : ℕ) → (done : List Val) → Type 0
+TurnsOn r old new n turns b done = Moves r old new (next_turn n turns b (turns - length done) done)
+
+-- it visited this node
+abbrev pub Visits : Result Control Halt → (old new : Spot) → (number : ℕ) → Node → Type 0
+Visits r old new n x = Moves r old new (visited n x)
+
+-- this frame took the value of its part
+abbrev pub TakesFor : Frame → Result Control Halt → (old new : Spot) → End spec.Point → Type 0
+TakesFor f r old new e = ComesOut (FrameTakesMemory (frame_of f) (state_of old.progress) e) r old.env (frames_of old) new e
+
+abbrev pub Takes : Result Control Halt → (old new : Spot) → Arena → Frame → Value → Type 0
+Takes r old new a f v = TakesFor f r old new (taken a (frame_of f) (meaning v) old.env (frames_of old) (state_of old.progress))
+
+-- a turn's frame did
+abbrev pub TakesTurn : Result Control Halt → (old new : Spot) → Arena → (node turns : ℕ) → (done : List Val) → Value → Type 0
+TakesTurn r old new a n turns done v = Takes r old new a (frame.Turn n turns done) v
+
+-- this control was next
+abbrev pub ControlComes : spec.Control → Result Control Halt → (old new : Spot) → End spec.Point → Type 0
+ControlComes c r old new e =
+    ComesOut (ControlTakesMemory c (frames_of old) (state_of old.progress) e) r (outer_env c old.env (frames_of old)) (outer_frames c (frames_of old)) new e
+
+abbrev pub Nexts : Result Control Halt → (old new : Spot) → Arena → Control → Type 0
+Nexts r old new a c = ControlComes (control_of c) r old new (next a (control_of c) old.env (frames_of old) (state_of old.progress))
 
 -- a frame that enters no transaction
 abbrev pub IsFlat : Frame → Type 0

@@ -1,16 +1,13 @@
-ghost use Rattle.std.specs.Prelude.{◌≡◌, ◌+◌, OnOk, IfOk, None, map};
-ghost use Rattle.script_value.specs.Views.{meaning};
+ghost use Rattle.std.specs.Prelude.{◌≡◌, ◌+◌, OnOk, OnErr, IfOk, None, map};
 ghost use Rattle.script_nodes.specs.Arena.{IsScript};
 ghost use Rattle.segments.specs.Views.{now_of, outcome_of};
 ghost use Rattle.instance_cells.specs.Views.{effect_of};
-ghost use Rattle.segment_progress.specs.States.{state_of};
-ghost use Rattle.machine_spec.specs.Machine.{cut, next, outer_env, outer_frames, inside_of};
+ghost use Rattle.machine_spec.specs.Machine.{cut};
 ghost use Rattle.machine_spec.specs.Fits.{FitsAt, Fits};
-ghost use Rattle.machine_spec.specs.Laws.{resumed};
 ghost use Rattle.cek_machine.specs.Kinds.{Stands};
-ghost use Rattle.cek_machine.specs.Spots.{Sound, Pops, ComesOut, frames_of, control_of};
+ghost use Rattle.cek_machine.specs.Spots.{Sound, Pops, Nexts, frames_of, control_of};
 ghost use Rattle.stored_states.specs.Views.{suspended_of, frame_of};
-ghost use Rattle.cek_machine.specs.Machines.{Steps as StepsSo, Runs, IsReady, IsWithin, machine_of, start_of, kept_of};
+ghost use Rattle.cek_machine.specs.Machines.{Steps as StepsSo, Runs, Starts, Resumes, StepTakesMemory, RunTakesMemory, IsReady, IsWithin, machine_of, state_in, kept_of};
 
 use crate::control::Control;
 use crate::nodes::node_of;
@@ -60,12 +57,12 @@ impl<'t> Spot<'t> {
     }
 
     // What is next.
-    #[tactic(auto, using(crate::proofs::Standing::visits_there, crate::proofs::Standing::stands))]
+    #[tactic(auto, using(crate::proofs::Standing::visits_there, crate::proofs::Standing::stands, crate::proofs::Taken::paged_takes))]
     fn next(&mut self, script: &Script, alloc: Global, control: Control) -> Result<Control, Halt>
         requires sound { Sound self.old }
         requires script { IsScript script.now }
         requires fits { FitsAt script.now (control_of control) self.old.env (frames_of self.old) }
-        ensures gives { ComesOut result (outer_env (control_of control) self.old.env (frames_of self.old)) (outer_frames (control_of control) (frames_of self.old)) self.new (next script.now (control_of control) self.old.env (frames_of self.old) (state_of self.old.progress)) }
+        ensures gives { Nexts result self.old self.new script.now control }
         ensures sound { OnOk result (Sound self.new) }
     {
         match control {
@@ -88,7 +85,7 @@ impl<'s> Machine<'s> {
         script: &'s Script,
         segment: Now<'s>,
     ) -> Result<Machine<'s>, AllocError>
-        ensures machine { IfOk result (λ m. machine_of m ≡ start_of script.now (now_of segment.entry)) }
+        ensures machine { Starts result script.now (now_of segment.entry) }
         ensures script { IfOk result (λ m. m.script.now ≡ script.now) }
         ensures ready { IfOk result (λ m. IsReady m) }
     {
@@ -120,7 +117,7 @@ impl<'s> Machine<'s> {
         segment: Now<'s>,
     ) -> Result<Machine<'s>, AllocError>
         requires { Fits script.now (suspended_of state) }
-        ensures machine { IfOk result (λ m. machine_of m ≡ resumed script.now (suspended_of state) (record { value = meaning answer; segment = now_of segment.entry })) }
+        ensures machine { Resumes result script.now state answer (now_of segment.entry) }
         ensures script { IfOk result (λ m. m.script.now ≡ script.now) }
         ensures ready { IfOk result (λ m. IsReady m) }
     {
@@ -144,7 +141,8 @@ impl<'s> Machine<'s> {
         })
     }
 
-    /// One step of the table, which counts one: the machine goes on, or it stops so.
+    /// One step of the table, which counts one: the machine goes on, or it stops so. Memory runs out at most where the step takes
+    /// some: a stop with no page, before any effect, is told whatever memory there is.
     pub fn step<L: Ledger>(
         &mut self,
         alloc: Global,
@@ -153,6 +151,7 @@ impl<'s> Machine<'s> {
         requires { IsReady self.old }
         ensures step { IfOk result (λ end. StepsSo end self.old.script.now self.old self.new) }
         ensures ready { IfOk result (λ end. end ≡ None → IsReady self.new) }
+        ensures memory { OnErr result (StepTakesMemory self.old.script.now (machine_of self.old)) }
         ensures script { self.new.script ≡ self.old.script }
         ensures counted { steps.new ≡ steps.old + 1 }
     {
@@ -168,7 +167,7 @@ impl<'s> Machine<'s> {
         }
     }
 
-    /// Steps up to the stop. A segment over present cells comes to one.
+    /// Steps up to the stop. A segment over present cells comes to one. Memory runs out at most at a step that takes some.
     pub fn run<L: Ledger>(
         &mut self,
         alloc: Global,
@@ -176,7 +175,8 @@ impl<'s> Machine<'s> {
     ) -> Result<PlainEnd, AllocError>
         requires ready { IsReady self.old }
         requires within { IsWithin self.old }
-        ensures runs { IfOk result (λ end. Runs end self.old.script.now self.old self.new steps.old steps.new) }
+        ensures runs { IfOk result (λ end. Runs end self.old self.new steps.old steps.new) }
+        ensures memory { OnErr result (RunTakesMemory self.old.script.now (machine_of self.old)) }
     {
         loop {
             match self.step(alloc, steps)? {
@@ -189,9 +189,9 @@ impl<'s> Machine<'s> {
     /// What the segment came to, where it stopped so, and what is kept of the machine there.
     pub fn into_parts(self, alloc: Global, end: PlainEnd) -> (Rerun, Suspended)
         ensures end { outcome_of result.0.end ≡ outcome_of end }
-        ensures effects { map effect_of result.0.effects.items ≡ (state_of self.entry.spot.progress).effects }
-        ensures left { result.0.left.items ≡ (state_of self.entry.spot.progress).left }
-        ensures cost { result.0.cost ≡ (state_of self.entry.spot.progress).cost }
+        ensures effects { map effect_of result.0.effects.items ≡ (state_in self.entry).effects }
+        ensures left { result.0.left.items ≡ (state_in self.entry).left }
+        ensures cost { result.0.cost ≡ (state_in self.entry).cost }
         ensures kept { suspended_of result.1 ≡ kept_of self.entry }
     {
         let Machine { spot, .. } = self;

@@ -1,11 +1,11 @@
 ghost use Rattle.std.specs.Prelude.{◌≡◌, ◌<◌, ◌≤◌, ◌+◌, ◌-◌, ◌^◌, ◌∷◌, ◌++◌, [], length, suc, OnOk, IsTrue};
 ghost use Rattle.script_value.specs.Views.{meaning};
 ghost use Rattle.prim_ops.specs.Table.{takes};
-ghost use Rattle.replay_spec.specs.Tape.{send_page, shadow, set_cell, add_cell};
-ghost use Rattle.replay_spec.specs.Eval.{value_at, copied};
+ghost use Rattle.replay_spec.specs.Tape.{shadow, set_cell};
+ghost use Rattle.replay_spec.specs.Eval.{value_at};
 ghost use Rattle.script_nodes.specs.declared.script.Node.TheVariants as variant;
-ghost use Rattle.machine_spec.specs.Machine.{inside_of, given, visits, next_part, next_operand, next_binding, visited};
-ghost use Rattle.cek_machine.specs.Spots.{Moves, Sound, SoundUnder, IsFlat};
+ghost use Rattle.machine_spec.specs.Machine.{next_operand, next_binding};
+ghost use Rattle.cek_machine.specs.Spots.{Moves, Gives, GivesCopy, Sends, Adds, WorksOn, WorksOnNext, Visits, Sound, SoundUnder, IsFlat};
 ghost use Rattle.stored_states.specs.Views.{frame_of};
 
 use crate::control::Control;
@@ -27,7 +27,7 @@ impl<'t> Spot<'t> {
     /// A value that a node names is copied, and given.
     pub fn copy_of(&mut self, alloc: Global, value: &Value) -> Result<Control, Halt>
         requires { Sound self.old }
-        ensures gives { Moves result self.old self.new (λ env fs. given (copied (inside_of fs) (meaning value.now)) env fs) }
+        ensures gives { GivesCopy result self.old self.new (meaning value.now) }
         ensures sound { OnOk result (Sound self.new) }
     {
         let value = self.progress.copy_of(alloc, Some(value))?;
@@ -37,7 +37,7 @@ impl<'t> Spot<'t> {
     /// A variable's value is copied, and given.
     pub fn variable(&mut self, alloc: Global, place: usize) -> Result<Control, Halt>
         requires { Sound self.old }
-        ensures gives { Moves result self.old self.new (λ env fs. given (copied (inside_of fs) (value_at env place)) env fs) }
+        ensures gives { GivesCopy result self.old self.new (value_at self.old.env place) }
         ensures sound { OnOk result (Sound self.new) }
     {
         let value = self.progress.copy_of(alloc, self.env.get(place))?;
@@ -47,7 +47,7 @@ impl<'t> Spot<'t> {
     /// The value of a web cell is copied, and given.
     pub fn web_cell(&mut self, alloc: Global, node: u32, cell: u8) -> Result<Control, Halt>
         requires { Sound self.old }
-        ensures gives { Moves result self.old self.new (visited node (variant.CellRef cell)) }
+        ensures gives { Visits result self.old self.new node (variant.CellRef cell) }
         ensures sound { OnOk result (Sound self.new) }
     {
         let value = self.progress.web_cell(alloc, cell)?;
@@ -55,9 +55,10 @@ impl<'t> Spot<'t> {
     }
 
     /// The value of an instance cell is copied, and given.
+    #[tactic(auto, using(crate::proofs::Taken::read_takes))]
     pub fn instance_cell(&mut self, alloc: Global, node: u32, cell: u8) -> Result<Control, Halt>
         requires { Sound self.old }
-        ensures gives { Moves result self.old self.new (visited node (variant.InstRef cell)) }
+        ensures gives { Visits result self.old self.new node (variant.InstRef cell) }
         ensures sound { OnOk result (Sound self.new) }
     {
         let value = self.progress.instance_cell(alloc, cell)?;
@@ -69,7 +70,7 @@ impl<'t> Spot<'t> {
     pub fn work(&mut self, frame: Frame, part: u32) -> Result<Control, Halt>
         requires sound { Sound self.old }
         requires flat { IsFlat frame }
-        ensures gives { Moves result self.old self.new (λ env fs. visits part env (frame_of frame ∷ fs)) }
+        ensures gives { WorksOn result self.old self.new frame part }
         ensures sound { OnOk result (Sound self.new) }
     {
         self.frames.push(frame)?;
@@ -80,7 +81,7 @@ impl<'t> Spot<'t> {
     pub fn next_part(&mut self, frame: Frame, left: &[u32], value: Value) -> Result<Control, Halt>
         requires sound { Sound self.old }
         requires flat { IsFlat frame }
-        ensures gives { Moves result self.old self.new (λ env fs. next_part (frame_of frame) left.now (meaning value) env fs) }
+        ensures gives { WorksOnNext result self.old self.new frame left.now (meaning value) }
         ensures sound { OnOk result (Sound self.new) }
     {
         match left {
@@ -100,7 +101,7 @@ impl<'t> Spot<'t> {
     ) -> Result<Control, Halt>
         requires sound { Sound self.old }
         requires full { IsTrue (takes op (length done + length left.now)) }
-        ensures gives { Moves result self.old self.new (λ env fs. next_operand node op left.now done env fs) }
+        ensures gives { Moves result self.old self.new (next_operand node op left.now done) }
         ensures sound { OnOk result (Sound self.new) }
     {
         match left {
@@ -121,7 +122,7 @@ impl<'t> Spot<'t> {
         done: Items,
     ) -> Result<Control, Halt>
         requires sound { Sound self.old }
-        ensures gives { Moves result self.old self.new (λ env fs. next_binding node left.now body done env fs) }
+        ensures gives { Moves result self.old self.new (next_binding node left.now body done) }
         ensures sound { OnOk result (Sound self.new) }
     {
         match left {
@@ -135,9 +136,10 @@ impl<'t> Spot<'t> {
     }
 
     /// A page is sent: the answer to it, or the stop there.
+    #[tactic(auto, using(crate::proofs::Taken::page_takes))]
     pub fn send(&mut self, alloc: Global, kind: SendKind, page: &Value) -> Result<Control, Halt>
         requires { Sound self.old }
-        ensures gives { Moves result self.old self.new (λ env fs. given (send_page (inside_of fs) kind (meaning page.now)) env fs) }
+        ensures gives { Sends result self.old self.new kind (meaning page.now) }
         ensures sound { OnOk result (Sound self.new) }
     {
         let value = self.progress.send(alloc, kind, page)?;
@@ -154,7 +156,7 @@ impl<'t> Spot<'t> {
         body: u32,
     ) -> Result<Control, Halt>
         requires { Sound self.old }
-        ensures gives { Moves result self.old self.new (visited node (variant.Send kind body)) }
+        ensures gives { Visits result self.old self.new node (variant.Send kind body) }
         ensures sound { OnOk result (Sound self.new) }
     {
         self.progress.charge(1)?;
@@ -167,7 +169,7 @@ impl<'t> Spot<'t> {
     #[tactic(auto, using(stored_states::proofs::Stacks::stack_push))]
     pub fn isolate(&mut self, node: u32, body: u32) -> Result<Control, Halt>
         requires { Sound self.old }
-        ensures gives { Moves result self.old self.new (visited node (variant.Isolate body)) }
+        ensures gives { Visits result self.old self.new node (variant.Isolate body) }
         ensures sound { OnOk result (Sound self.new) }
     {
         let name = self.progress.enter()?;
@@ -178,7 +180,7 @@ impl<'t> Spot<'t> {
     /// A web cell is bound to a value.
     pub fn shadow(&mut self, cell: u8, value: Value) -> Result<Control, Halt>
         requires { Sound self.old }
-        ensures gives { Moves result self.old self.new (λ env fs. given (shadow cell (meaning value)) env fs) }
+        ensures gives { Gives result self.old self.new (λ inside. shadow cell (meaning value)) }
         ensures sound { OnOk result (Sound self.new) }
     {
         let value = self.progress.shadow(cell, value)?;
@@ -186,9 +188,10 @@ impl<'t> Spot<'t> {
     }
 
     /// An instance cell is set to a value.
+    #[tactic(auto, using(crate::proofs::Taken::set_takes))]
     pub fn set_cell(&mut self, alloc: Global, cell: u8, value: Value) -> Result<Control, Halt>
         requires { Sound self.old }
-        ensures gives { Moves result self.old self.new (λ env fs. given (set_cell cell (meaning value)) env fs) }
+        ensures gives { Gives result self.old self.new (λ inside. set_cell cell (meaning value)) }
         ensures sound { OnOk result (Sound self.new) }
     {
         let value = self.progress.set_cell(alloc, cell, value)?;
@@ -196,9 +199,10 @@ impl<'t> Spot<'t> {
     }
 
     /// A value is added to an instance cell.
+    #[tactic(auto, using(crate::proofs::Taken::add_takes))]
     pub fn add_cell(&mut self, alloc: Global, cell: u8, value: &Value) -> Result<Control, Halt>
         requires { Sound self.old }
-        ensures gives { Moves result self.old self.new (λ env fs. given (add_cell (inside_of fs) cell (meaning value.now)) env fs) }
+        ensures gives { Adds result self.old self.new cell (meaning value.now) }
         ensures sound { OnOk result (Sound self.new) }
     {
         let value = self.progress.add_cell(alloc, cell, value)?;

@@ -2,9 +2,8 @@ ghost use Rattle.std.specs.Prelude.{◌≡◌, ◌<◌, ◌≤◌, ◌+◌, ◌-
 ghost use Rattle.script_value.specs.Views.{meaning};
 ghost use Rattle.replay_spec.specs.Tape.{leave};
 ghost use Rattle.stored_states.specs.declared.frame.Frame.TheVariants as frame;
-ghost use Rattle.machine_spec.specs.Machine.{given, taken, next_turn};
 ghost use Rattle.cek_machine.specs.Kinds.{IsNodeAt, IsFor, IsIf, IsStore, IsRowAt, IsPrimAt, IsLetAt, Stands};
-ghost use Rattle.cek_machine.specs.Spots.{Moves, Sound, SoundUnder};
+ghost use Rattle.cek_machine.specs.Spots.{Gives, Takes, TakesTurn, TurnsOn, Sound, SoundUnder};
 ghost use Rattle.stored_states.specs.Views.{frame_of};
 
 use crate::control::Control;
@@ -27,7 +26,7 @@ impl<'t> Spot<'t> {
     ) -> Result<Control, Halt>
         requires sound { Sound self.old }
         requires stands { IsLetAt script.now node (length done) }
-        ensures gives { Moves result self.old self.new (taken script.now (frame_of (frame.Binding node done)) (meaning value)) }
+        ensures gives { Takes result self.old self.new script.now (frame.Binding node done) value }
         ensures sound { OnOk result (Sound self.new) }
     {
         match node_of(script, node) {
@@ -52,7 +51,7 @@ impl<'t> Spot<'t> {
     ) -> Result<Control, Halt>
         requires sound { Sound self.old }
         requires stands { IsPrimAt script.now node (length done) }
-        ensures gives { Moves result self.old self.new (taken script.now (frame_of (frame.Operand node done)) (meaning value)) }
+        ensures gives { Takes result self.old self.new script.now (frame.Operand node done) value }
         ensures sound { OnOk result (Sound self.new) }
     {
         match node_of(script, node) {
@@ -76,7 +75,7 @@ impl<'t> Spot<'t> {
     ) -> Result<Control, Halt>
         requires sound { Sound self.old }
         requires stands { IsRowAt script.now node part }
-        ensures gives { Moves result self.old self.new (taken script.now (frame_of (frame.Seq node part)) (meaning value)) }
+        ensures gives { Takes result self.old self.new script.now (frame.Seq node part) value }
         ensures sound { OnOk result (Sound self.new) }
     {
         let left = behind(row_of(node_of(script, node)), part);
@@ -97,7 +96,7 @@ impl<'t> Spot<'t> {
     ) -> Result<Control, Halt>
         requires sound { Sound self.old }
         requires stands { IsRowAt script.now node part }
-        ensures gives { Moves result self.old self.new (taken script.now (frame_of (frame.And node part)) (meaning value)) }
+        ensures gives { Takes result self.old self.new script.now (frame.And node part) value }
         ensures sound { OnOk result (Sound self.new) }
     {
         if is_false(&value) {
@@ -121,7 +120,7 @@ impl<'t> Spot<'t> {
     ) -> Result<Control, Halt>
         requires sound { Sound self.old }
         requires stands { IsRowAt script.now node part }
-        ensures gives { Moves result self.old self.new (taken script.now (frame_of (frame.Or node part)) (meaning value)) }
+        ensures gives { Takes result self.old self.new script.now (frame.Or node part) value }
         ensures sound { OnOk result (Sound self.new) }
     {
         if !is_false(&value) {
@@ -145,7 +144,7 @@ impl<'t> Spot<'t> {
     ) -> Result<Control, Halt>
         requires sound { Sound self.old }
         requires stands { IsNodeAt script.now IsIf node }
-        ensures gives { Moves result self.old self.new (taken script.now (frame_of (frame.If node part)) (meaning value)) }
+        ensures gives { Takes result self.old self.new script.now (frame.If node part) value }
         ensures sound { OnOk result (Sound self.new) }
     {
         if part != 0 {
@@ -177,7 +176,7 @@ impl<'t> Spot<'t> {
     ) -> Result<Control, Halt>
         requires sound { Sound self.old }
         requires stands { IsNodeAt script.now IsStore node }
-        ensures gives { Moves result self.old self.new (taken script.now (frame_of (frame.Store node)) (meaning value)) }
+        ensures gives { Takes result self.old self.new script.now (frame.Store node) value }
         ensures sound { OnOk result (Sound self.new) }
     {
         match node_of(script, node) {
@@ -191,7 +190,7 @@ impl<'t> Spot<'t> {
     // What stands in a transaction is done: it is left.
     fn take_isolate(&mut self, node: u32, name: TxName, value: Value) -> Result<Control, Halt>
         requires { SoundUnder (frame.Isolate node name) self.old }
-        ensures gives { Moves result self.old self.new (λ env fs. given (leave name (meaning value)) env fs) }
+        ensures gives { Gives result self.old self.new (λ inside. leave name (meaning value)) }
         ensures sound { OnOk result (Sound self.new) }
     {
         let outside = self.progress.depth() - 1;
@@ -210,7 +209,7 @@ impl<'t> Spot<'t> {
         done: Items,
     ) -> Result<Control, Halt>
         requires { Sound self.old }
-        ensures gives { Moves result self.old self.new (next_turn node turns body (turns - length done) done) }
+        ensures gives { TurnsOn result self.old self.new node turns body done }
         ensures sound { OnOk result (Sound self.new) }
     {
         if (done.len() as u64) < turns {
@@ -236,7 +235,7 @@ impl<'t> Spot<'t> {
     ) -> Result<Control, Halt>
         requires sound { Sound self.old }
         requires stands { IsNodeAt script.now IsFor node }
-        ensures gives { Moves result self.old self.new (taken script.now (frame_of (frame.Turn node turns done)) (meaning value)) }
+        ensures gives { TakesTurn result self.old self.new script.now node turns done value }
         ensures sound { OnOk result (Sound self.new) }
     {
         match node_of(script, node) {
@@ -260,7 +259,7 @@ impl<'t> Spot<'t> {
     ) -> Result<Control, Halt>
         requires sound { Sound self.old }
         requires stands { IsNodeAt script.now IsFor node }
-        ensures gives { Moves result self.old self.new (taken script.now (frame_of (frame.Count node)) (meaning value)) }
+        ensures gives { Takes result self.old self.new script.now (frame.Count node) value }
         ensures sound { OnOk result (Sound self.new) }
     {
         match node_of(script, node) {
@@ -273,6 +272,7 @@ impl<'t> Spot<'t> {
     }
 
     /// A frame that was popped takes the value of its part.
+    #[tactic(auto, using(crate::proofs::Taken::paged_takes))]
     pub fn take(
         &mut self,
         script: &Script,
@@ -282,7 +282,7 @@ impl<'t> Spot<'t> {
     ) -> Result<Control, Halt>
         requires sound { SoundUnder frame self.old }
         requires stands { Stands script.now frame }
-        ensures gives { Moves result self.old self.new (taken script.now (frame_of frame) (meaning value)) }
+        ensures gives { Takes result self.old self.new script.now frame value }
         ensures sound { OnOk result (Sound self.new) }
     {
         match frame {

@@ -2,8 +2,7 @@ ghost use Rattle.std.specs.Prelude.{OnOk, IsTrue, length};
 ghost use Rattle.prim_ops.specs.Table.{takes};
 ghost use Rattle.script_nodes.specs.declared.script.Node.TheVariants as variant;
 ghost use Rattle.script_nodes.specs.Arena.{IsFull};
-ghost use Rattle.machine_spec.specs.Machine.{visited};
-ghost use Rattle.cek_machine.specs.Spots.{Moves, Sound, IsFlat, paid_visit};
+ghost use Rattle.cek_machine.specs.Spots.{Moves, Visits, Sound, IsFlat, paid_visit};
 ghost use Rattle.stored_states.specs.Views.{frame_of};
 
 use crate::control::Control;
@@ -34,7 +33,7 @@ impl<'t> Spot<'t> {
         body: u32,
     ) -> Result<Control, Halt>
         requires { Sound self.old }
-        ensures gives { Moves result self.old self.new (visited node (variant.Let bindings.now body)) }
+        ensures gives { Visits result self.old self.new node (variant.Let bindings.now body) }
         ensures sound { OnOk result (Sound self.new) }
     {
         self.progress.charge(1)?;
@@ -43,7 +42,7 @@ impl<'t> Spot<'t> {
 
     fn visit_seq(&mut self, node: u32, parts: &Numbers) -> Result<Control, Halt>
         requires { Sound self.old }
-        ensures gives { Moves result self.old self.new (visited node (variant.Seq parts.now)) }
+        ensures gives { Visits result self.old self.new node (variant.Seq parts.now) }
         ensures sound { OnOk result (Sound self.new) }
     {
         self.progress.charge(1)?;
@@ -56,7 +55,7 @@ impl<'t> Spot<'t> {
 
     fn visit_and(&mut self, node: u32, parts: &Numbers) -> Result<Control, Halt>
         requires { Sound self.old }
-        ensures gives { Moves result self.old self.new (visited node (variant.And parts.now)) }
+        ensures gives { Visits result self.old self.new node (variant.And parts.now) }
         ensures sound { OnOk result (Sound self.new) }
     {
         self.progress.charge(1)?;
@@ -69,7 +68,7 @@ impl<'t> Spot<'t> {
 
     fn visit_or(&mut self, node: u32, parts: &Numbers) -> Result<Control, Halt>
         requires { Sound self.old }
-        ensures gives { Moves result self.old self.new (visited node (variant.Or parts.now)) }
+        ensures gives { Visits result self.old self.new node (variant.Or parts.now) }
         ensures sound { OnOk result (Sound self.new) }
     {
         self.progress.charge(1)?;
@@ -89,7 +88,7 @@ impl<'t> Spot<'t> {
     ) -> Result<Control, Halt>
         requires sound { Sound self.old }
         requires full { IsTrue (takes op (length operands.now)) }
-        ensures gives { Moves result self.old self.new (visited node (variant.Prim op operands.now)) }
+        ensures gives { Visits result self.old self.new node (variant.Prim op operands.now) }
         ensures sound { OnOk result (Sound self.new) }
     {
         self.progress.charge(1)?;
@@ -100,7 +99,7 @@ impl<'t> Spot<'t> {
     pub fn visit(&mut self, alloc: Global, number: u32, node: &Node) -> Result<Control, Halt>
         requires sound { Sound self.old }
         requires full { IsFull node.now }
-        ensures gives { Moves result self.old self.new (visited number node.now) }
+        ensures gives { Visits result self.old self.new number node.now }
         ensures sound { OnOk result (Sound self.new) }
     {
         match node {

@@ -16,7 +16,7 @@ use Rattle.machine_spec.specs.Fits.{FitsAt, Fits}
 use Rattle.machine_spec.specs.Dues.{InSegment, owed}
 use Rattle.machine_spec.specs.Laws.{started, resumed, alone, Stops, ComesTo, IsStateOf}
 use Rattle.machine_spec.proofs.Law.{resume_is, start_is}
-use Rattle.machine_spec.proofs.Replay.{first_stop}
+use Rattle.machine_spec.proofs.Replay.{first_stop, same_machine}
 use Rattle.machine_spec.proofs.Bound.{halts}
 use Rattle.machine_spec.proofs.Stepping.{fits_on, fits_kept}
 use Rattle.segments.specs.declared.ends.PlainEnd.{PlainEnd}
@@ -123,9 +123,6 @@ replays (Page g) a i value number url cells fuel h m mid e k o names d t r p q i
     let n = resumed a (suspended_of g) x in
     last_over a fuel n (λ reads. longer (reading reads x) tape) (present cells fuel) c r
     (reached a n mid c.stops k o names d t r (subst (λ (y : Machine). steps a k y ≡ goes mid) e p) q is)
-
-same_machine : (m n : Machine) → goes m ≡ goes n → m ≡ n
-same_machine m n e = cc
 
 -- a machine that fits goes on as one that fits
 steps_fit : (a : Arena) (k : ℕ) (m n : Machine) → FitsAt a m.point.control m.point.env m.point.frames → steps a k m ≡ goes n → FitsAt a n.point.control n.point.env n.point.frames

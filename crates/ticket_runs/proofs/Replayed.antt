@@ -13,9 +13,10 @@ use Rattle.replay_spec.specs.Tape.{Reads, recorded, present, Answer, Tape}
 use Rattle.replay_spec.specs.Eval as eval
 use Rattle.replay_spec.specs.Eval.{run}
 use Rattle.replay_spec.specs.Book.{Page}
-use Rattle.replay_spec.specs.Next.{Home, Visit, home_of, answered, tape_of, tape_for, page_tape, comes_to}
+use Rattle.replay_spec.specs.Next.{Visit, home_of, tape_of, tape_for, page_tape, comes_to}
 use Rattle.replay_spec.specs.Next as next
 use Rattle.replay_spec.specs.Laws.{EffectsAreOnCells, longer}
+use Rattle.replay_spec.proofs.Decided.{tape_longer}
 use Rattle.machine_spec.specs.Machine.{Suspended, inside_of}
 use Rattle.machine_spec.specs.Laws.{IsStateOf}
 use Rattle.stored_states.specs.Views.{suspended_of, origin_of, Keeps, segment_of}
@@ -47,15 +48,6 @@ replays_alike (origin.Page d) origin.Start a x r e h = absurd (cc)
 replays_alike (origin.Page d) (origin.Page c) a x r e h =
     λ t is. h t (subst (λ (s : Suspended). IsStateOf a t s) (sym (same_Some (suspended_of d) (suspended_of c) e)) is)
 
--- one page more, and then the newest segment
-one_more : (h : Home) (ps : List Page) (p : Page) (x : Answer) → tape_of h (ps ++ p ∷ []) x ≡ longer x (page_tape h ps p)
-one_more h [] p x = refl
-one_more h (q ∷ ps) p x = ap (λ (xs : List Answer). record { first = (answered h q).segment; later = xs ++ x ∷ [] }) (mapped ps)
-  where
-    mapped : (ps : List Page) → map (answered h) (ps ++ p ∷ []) ≡ map (answered h) ps ++ answered h p ∷ []
-    mapped [] = refl
-    mapped (r ∷ ps) = ap (λ (xs : List Answer). answered h r ∷ xs) (mapped ps)
-
 -- a segment is that of a visit over these cells, its state is kept over the visit's tape, and its page is inside what the state is
 pub record IsLike (v : Visit) (cells : List Val) (fuel : ℕ) (r : Segment) : Type 0 where
   pub comes : segment_of r ≡ comes_to v (present cells fuel)
@@ -82,7 +74,7 @@ runs_from v a cells fuel r e same origin.Start goes replays =
 runs_from v a cells fuel r e same (origin.Page d) goes replays =
     let t = page_tape (home_of v) goes.ancestors goes.page in
     over_tape v a cells fuel r (λ reads. longer (next.newest v reads) t) e same
-    (λ reads. sym (ap (λ (ps : List Page). tape_of (home_of v) ps (next.newest v reads)) goes.chain ∙ one_more (home_of v) goes.ancestors goes.page (next.newest v reads)))
+    (λ reads. sym (ap (λ (ps : List Page). tape_of (home_of v) ps (next.newest v reads)) goes.chain ∙ tape_longer (home_of v) goes.ancestors goes.page (next.newest v reads)))
     (replays t (subst (λ (b : Arena). IsStateOf b t (suspended_of d)) (sym same) goes.state))
 
 -- the answer of a ticket that is for a visit is the visit's
