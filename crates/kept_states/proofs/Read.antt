@@ -16,6 +16,7 @@ use Rattle.frame_codec.proofs.Differences.{each_has_bytes}
 use Rattle.frame_codec.proofs.Firsts.{front_back, delta_front_back, fronts_join}
 use Rattle.frame_codec.proofs.Kept.{each_kept}
 use Rattle.kept_states.specs.Kept.{CanDiffer}
+use Rattle.kept_states.specs.Given.{FitsScript}
 
 -- what is kept of a script at a page fits it
 pub of_script : (a : Arena) → IsScript a → (t : Tape) (d : Suspended) → IsStateOf a t d → StateHasBytes d → IsStored a d
@@ -25,19 +26,26 @@ of_script a script t d is has = each_kept a script t d is has
 pub rises : (a : Arena) (d : Suspended) → IsStored a d → Rise d.shadows
 rises a d of = of.shadows.rise
 
+-- it fits its script, and with a spelling such a state is stored
+pub fits_script : (a : Arena) (d : Suspended) → IsStored a d → FitsScript a d
+fits_script a d of = record { fits = of.fits; shadows = of.shadows }
+
+stored : (a : Arena) (d : Suspended) → FitsScript a d → StateHasBytes d → IsStored a d
+stored a d of has = record { fits = of.fits; shadows = of.shadows; bytes = has }
+
 -- by itself
-pub alone_back : (a : Arena) (n : Need) (d : Suspended) (parts : Parted) → IsStored a d → parts ≡ state_parts d
+pub alone_back : (a : Arena) (n : Need) (d : Suspended) (parts : Parted) → FitsScript a d → StateHasBytes d → parts ≡ state_parts d
     → read_front a n parts ≡ Some (front n d)
-alone_back a n d parts of whole = ap (λ (x : Parted). read_front a n x) whole ∙ front_back a n d of
+alone_back a n d parts of has whole = ap (λ (x : Parted). read_front a n x) whole ∙ front_back a n d (stored a d of has)
 
 -- the difference is what the bytes say
-said : (a : Arena) (n : Need) (p d : Suspended) (parts : Parted) (x : Delta) → IsStored a d → CanDiffer p d → IsDelta p d x → parts ≡ delta_parts x
+said : (a : Arena) (n : Need) (p d : Suspended) (parts : Parted) (x : Delta) → FitsScript a d → CanDiffer p d → IsDelta p d x → parts ≡ delta_parts x
     → read_delta_front a n parts ≡ Some (delta_front n x)
 said a n p d parts x of can is whole =
-    ap (λ (y : Parted). read_delta_front a n y) whole ∙ delta_front_back a n p d x of is (each_has_bytes p d x can.0 is)
+    ap (λ (y : Parted). read_delta_front a n y) whole ∙ delta_front_back a n p d x (stored a d of can.0) is (each_has_bytes p d x can.0 is)
 
 -- behind its parent's
-pub behind_back : (a : Arena) (n : Need) (p d : Suspended) (parts : Parted) (x e : Delta) → Rise p.shadows → IsStored a d → CanDiffer p d → IsDelta p d x
+pub behind_back : (a : Arena) (n : Need) (p d : Suspended) (parts : Parted) (x e : Delta) → Rise p.shadows → FitsScript a d → CanDiffer p d → IsDelta p d x
     → parts ≡ delta_parts x → Some e ≡ read_delta_front a n parts → joined (front (shared_need e) p) e ≡ front n d
 behind_back a n p d parts x e rise of can is whole read =
     let same : e ≡ delta_front n x = same_Some e (delta_front n x) (read ∙ said a n p d parts x of can is whole) in
@@ -45,6 +53,6 @@ behind_back a n p d parts x e rise of can is whole read =
     ∙ fronts_join n p d x (record { rises = rise; rise = of.shadows.rise; all = can.1 }) is
 
 -- and they say something
-pub behind_found : (a : Arena) (n : Need) (p d : Suspended) (parts : Parted) (x : Delta) → IsStored a d → CanDiffer p d → IsDelta p d x
+pub behind_found : (a : Arena) (n : Need) (p d : Suspended) (parts : Parted) (x : Delta) → FitsScript a d → CanDiffer p d → IsDelta p d x
     → parts ≡ delta_parts x → None ≡ read_delta_front a n parts → ⊥
 behind_found a n p d parts x of can is whole none = none-some (delta_front n x) (none ∙ said a n p d parts x of can is whole)

@@ -4,6 +4,7 @@ use Rattle.web_cells.specs.Own.{BindsAllOf}
 use Rattle.machine_spec.specs.Machine.{Suspended}
 use Rattle.stored_states.specs.Views.{origin_of, suspended_of}
 use Rattle.stored_states.specs.declared.segment.Origin.{Origin}
+use Rattle.stored_states.specs.declared.frame.Suspended as stored
 use Rattle.frame_codec.specs.Spelling.{StateHasBytes}
 use Rattle.frame_codec.specs.Deltas.{Delta, IsDelta}
 use Rattle.frame_codec.specs.Forms.{form_bytes}
@@ -65,6 +66,13 @@ kept_of k = record { links = k.links; form = form_of k.form }
 -- so it is kept behind an origin, which a start has none of
 abbrev pub IsKeptAfter : Origin → (links : ℕ) → Suspended → KeptState → Type 0
 IsKeptAfter before links d k = IsKeptFrom (origin_of before) links d (kept_of k)
+
+-- by itself, and behind a state, as the program keeps them
+abbrev pub IsFormAlone : stored.Suspended → declared.Form → Type 0
+IsFormAlone d form = IsAlone (suspended_of d) (form_of form)
+
+abbrev pub IsFormBehind : (parent d : stored.Suspended) → declared.Form → Type 0
+IsFormBehind p d form = IsBehind (suspended_of p) (suspended_of d) (form_of form)
 
 -- the byte before what is written by itself, and before what is written behind another state
 abbrev pub form_byte : (before : Option Suspended) → ℕ

@@ -1,6 +1,6 @@
 ghost use Rattle.std.specs.Prelude.{◌≡◌, ◌↔◌, IsTrue, IfOk, option_map};
 ghost use Rattle.stored_states.specs.Views.{suspended_of};
-ghost use Rattle.kept_states.specs.Kept.{bytes_of, CanDiffer, IsAlone, IsBehind, form_of};
+ghost use Rattle.kept_states.specs.Kept.{bytes_of, CanDiffer, IsFormAlone, IsFormBehind, form_of};
 ghost use Rattle.kept_states.specs.Given.{GivesAlone, GivesBehind};
 
 use crate::shades::binds_all_of;
@@ -38,7 +38,7 @@ fn can_differ(parent: &Suspended, state: &Suspended) -> bool
 impl Form {
     /// What is kept of a state by itself.
     pub fn alone(alloc: Global, state: &Suspended) -> Result<Form, AllocError>
-        ensures { IfOk result (λ form. IsAlone (suspended_of state.now) (form_of form)) }
+        ensures { IfOk result (IsFormAlone state.now) }
     {
         if is_spelled(state) {
             Ok(Form::Spelled(spell_state(alloc, state)?))
@@ -49,7 +49,7 @@ impl Form {
 
     /// What is kept of a state behind its parent's.
     pub fn behind(alloc: Global, parent: &Suspended, state: &Suspended) -> Result<Form, AllocError>
-        ensures { IfOk result (λ form. IsBehind (suspended_of parent.now) (suspended_of state.now) (form_of form)) }
+        ensures { IfOk result (IsFormBehind parent.now state.now) }
     {
         each_delta_has_bytes();
         if can_differ(parent, state) {
