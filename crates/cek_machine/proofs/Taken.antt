@@ -6,7 +6,7 @@ use Rattle.script_value.specs.declared.outcome.Fault.{Fault}
 use Rattle.script_value.specs.declared.outcome.TxName.{TxName}
 use Rattle.instance_cells.specs.Cells.{Effect, read, cell_at, sum, commit}
 use Rattle.segment_progress.specs.Halts.{IsPaged}
-use Rattle.segment_progress.specs.States.{IsGot, IsGotOrPaged}
+use Rattle.segment_progress.specs.States.{IsGotOrPaged}
 use Rattle.replay_spec.specs.Tape.{Reads, recorded, present, State, Outcome, paged, faulted, out_of_fuel, End, got, stop, Run, ◌>>=◌, after, charged, is_over, bound, note, set_in, set_cell, read_from, read_cell, added, add_to, add_in, add_cell, as_number}
 use Rattle.replay_spec.specs.Eval.{copied}
 use Rattle.machine_spec.specs.Machine.{Frame, Point, gives, given}
@@ -21,12 +21,7 @@ paged_takes old new (paged how bytes) entered h = tt
 paged_takes old new (faulted k) entered h = absurd h
 paged_takes old new (out_of_fuel cost) entered h = absurd h
 
--- an action that goes on, and its value is given
-pub got_takes : (old : State) (e : End Val) (env : List Val) (fs : List Frame) → IsGot e → TakesMemory old (after e (λ v. gives v env fs))
-got_takes old (got v new) env fs h = tt
-got_takes old (stop o entered new) env fs h = absurd h
-
--- one that goes on or stops with a page
+-- an action that goes on, and its value is given, or stops with a page
 pub page_takes : (old : State) (e : End Val) (env : List Val) (fs : List Frame) → IsGotOrPaged e → TakesMemory old (after e (λ v. gives v env fs))
 page_takes old (got v new) env fs h = tt
 page_takes old (stop o entered new) env fs h = paged_takes old new o entered h
@@ -65,9 +60,11 @@ add_takes inside c v s env fs = by_reads s.segment.reads
     by_sum : (w : Val) (n : ℤ) (r : Result Val Fault) → TakesMemory s (after (added inside c w n r s) (λ x. gives x env fs))
     by_sum w n (Ok x) = tt
     by_sum w n (Err k) = notes (read c w) s
+
     by_number : (w : Val) (r : Result ℤ Fault) → TakesMemory s (after (add_to inside c w r s) (λ x. gives x env fs))
     by_number w (Ok n) = by_sum w n (sum w n)
     by_number w (Err k) = notes (read c w) s
+
     by_reads : (r : Reads) → TakesMemory s (after (add_in inside r c v s) (λ x. gives x env fs))
     by_reads (recorded vs) = tt
     by_reads (present cells fuel) = by_number (cell_at (commit s.effects cells) c) (as_number v)
