@@ -12,7 +12,7 @@ use Rattle.kept_states.specs.Given.{Makes}
 use Rattle.kept_states.specs.declared.form.Found.{Found}
 use Rattle.kept_states.specs.declared.form.Found.TheVariants as kept
 use Rattle.frame_codec.specs.declared.difference.Delta.{Delta}
-use Rattle.kept_states.proofs.Read.{rises}
+use Rattle.kept_states.proofs.Read.{rises, fits_script}
 use Rattle.instance_book.proofs.Behind.{arena_again, is_of_script, is_alone, parent_has, links_before, is_behind}
 use Rattle.instance_book.proofs.origins.+front_of.Goals as goal
 
@@ -43,7 +43,7 @@ returns-then-links-eq0 t c links =
     let p = c.args.page.now in
     let none : p.item.state.links ≡ 0 = links ∙ c.if-links-eq0.true in
     λ are. found c.in_ok-front.field-0 c.in-Some.front (front c.args.need are.own.state) c.in-Some.is
-    (c.in_ok-front.ensures are.own.state (is_of_script law s a script same ps p are) (is_alone law s a script same ps p are none))
+    (c.in_ok-front.ensures are.own.state (fits_script a are.own.state (is_of_script law s a script same ps p are)) (is_alone law s a script same ps p are none))
 
 pub front_of-requires : goal.front_of-requires
 front_of-requires t c = omega (arith, c.decreases, c.if-links-eq0.false)
@@ -69,7 +69,7 @@ returns-in-Some-Front t c links =
     let has = parent_has law s a script same ps p n more x number is page shown are in
     let before = has.own.state in
     let makes = c.in_ok-front-2.ensures before are.own.state (rises a before (is_of_script law s a script same ps x has))
-    (is_of_script law s a script same ps p are) (is_behind law s a script same ps p n more x number is page shown are before refl) in
+    (fits_script a are.own.state (is_of_script law s a script same ps p are)) (is_behind law s a script same ps p n more x number is page shown are before refl) in
     front_found c.args.need before are.own.state c.in_ok-front-2.field-0 c.in-Some-Front.front some makes
 
 pub returns-in_ok-join-in-Some-Difference : goal.returns-in_ok-join-in-Some-Difference
@@ -95,7 +95,7 @@ returns-in_ok-join-in-Some-Difference t c links =
     let has = parent_has law s a script same ps p n more x number is page shown are in
     let before = has.own.state in
     let makes = c.in_ok-front-2.ensures before are.own.state (rises a before (is_of_script law s a script same ps x has))
-    (is_of_script law s a script same ps p are) (is_behind law s a script same ps p n more x number is page shown are before refl) in
+    (fits_script a are.own.state (is_of_script law s a script same ps p are)) (is_behind law s a script same ps p n more x number is page shown are before refl) in
     let mine = links_before law s a script same ps p n more x number is page shown are in
     difference_found c.args.need before are.own.state c.in_ok-front-2.field-0 c.in-Some-Difference.own c.shared.result shared joined some c.shared.ensures
     (c.in_ok-shared-in-Some-Difference.ensures mine has) c.in_ok-join-in-Some-Difference.ensures makes
