@@ -16,12 +16,12 @@ use Rattle.value_bytes.specs.Spelling.{value_bytes, HasBytes, most_levels}
 use Rattle.value_bytes.specs.Reading.{seen_as, read_i64, read_value}
 use Rattle.value_bytes.specs.Laws.{AreBytes, Spells, IsExact}
 use Rattle.value_bytes.proofs.Numbers.{bind_some, seen_some, rest_are_bytes, u32_exact, u64_exact, i64_exact, string_exact}
-use Rattle.value_bytes.proofs.Trees.{value_exact}
+use Rattle.value_bytes.proofs.Trees.{value_exact, chosen}
 use Rattle.journal_records.specs.Fields.{name_bytes, NameFits, effect_bytes, EffectFits, send_byte, Origin, start, answered, nothing, origin_bytes, OriginFits, numbers_end, deadlines_end}
 use Rattle.journal_records.specs.Records.{Record, begins, changes, page_bytes, PageFits, ending_bytes, EndingFits, finish_bytes, FinishFits, change_bytes, ChangeFits, body_of, IsInGrammar}
 use Rattle.journal_records.specs.Reading.{name_from, read_name, read_effect_of, read_effect, send_of, read_send, is_nothing, read_nothing, start_from, answered_from, read_origin_of, read_origin, page_from, read_page, ending_from, read_ending, finish_from, read_finish, begins_from, read_begins, page_change, change_from, read_kind, read_front, alone, read_record}
 use Rattle.journal_records.specs.Laws.{IsBodyOf}
-use Rattle.journal_records.proofs.Codec.{Codec, both, listed, IsSeen, seen_exact, byte_codec, below_codec, chosen}
+use Rattle.journal_records.proofs.Codec.{Codec, both, listed, IsSeen, seen_exact, byte_codec, below_codec}
 
 -- ---- numbers, values and names
 

@@ -1,6 +1,6 @@
 -- Records of a journal: how each is written, and which can be.
-use Rattle.std.specs.Prelude.{ℕ, Bool, true, false, ◌&&◌, ◌<◌, ◌+◌, ◌^◌, List, [], ◌∷◌, ◌++◌, length, map, min, Option, Some, None, if◌then◌else◌, ⊤}
-use Rattle.std.specs.List.{list_all, AllByRecursion}
+use Rattle.std.specs.Prelude.{◌≡◌, ℕ, Bool, true, false, ◌&&◌, ◌<◌, ◌+◌, ◌^◌, List, [], ◌∷◌, ◌++◌, length, map, drop, slice_get, min, Option, Some, None, if◌then◌else◌, ⊤}
+use Rattle.std.specs.List.{list_all, flat_map, AllByRecursion}
 use Rattle.script_value.specs.declared.outcome.TxName.{TxName}
 use Rattle.instance_cells.specs.Cells.{Effect}
 use Rattle.script_nodes.specs.declared.script.SendKind.{SendKind}
@@ -171,9 +171,32 @@ abbrev pub IfChangesWith : Record → (Change → Option (List ℕ) → Type 0) 
 IfChangesWith (begins shelf scripts) P = ⊤
 IfChangesWith (changes c state) P = P c state
 
+-- this is the length of the record, where it tells of a change
+abbrev pub IsRecordLength : Record → ℕ → Type 0
+IsRecordLength r n = IfChangesWith r (λ c state. n ≡ record_length c state)
+
 -- the names and the texts of scripts
 abbrev pub texts_of : List Named → List (List ℕ × List ℕ)
 texts_of scripts = map (λ s. (s.name, s.text)) scripts
+
+-- the name and the text of one
+abbrev pub text_of : Named → List ℕ × List ℕ
+text_of s = (s.name, s.text)
+
+-- this name and text stand at a place
+abbrev pub HasTextAt : List Named → (place : ℕ) → List ℕ × List ℕ → Type 0
+HasTextAt scripts place text = slice_get (texts_of scripts) place ≡ Some text
+
+-- the names and the texts from a place on can be written
+abbrev pub FitFrom : (place : ℕ) → List Named → Type 0
+FitFrom place scripts = AllByRecursion ScriptFits (drop place (texts_of scripts))
+
+-- the names and the texts, one behind the other; and those from a place on
+abbrev pub each_text : List Named → List ℕ
+each_text scripts = flat_map script_bytes (texts_of scripts)
+
+abbrev pub each_text_from : (place : ℕ) → List Named → List ℕ
+each_text_from place scripts = flat_map script_bytes (drop place (texts_of scripts))
 
 -- the record that a journal of these scripts begins with
 abbrev pub begin_of : (shelf : ℕ) → List Named → Record

@@ -1,11 +1,14 @@
 -- What the program's records stand for.
-use Rattle.std.specs.Prelude.{ℕ, List, map, Option, Some, None, option_map}
+use Rattle.std.specs.Prelude.{◌≡◌, ℕ, List, ◌∷◌, map, Option, Some, None, option_map, IfSome}
+use Rattle.std.specs.Global.{Vec}
 use Rattle.script_value.specs.Views.{meaning}
 use Rattle.instance_cells.specs.Views.{effect_of}
 use Rattle.replay_spec.specs.Book.{Ending, Finish, ends, finishes, sweeps}
 use Rattle.journal_records.specs.Fields as spec
-use Rattle.journal_records.specs.Records.{Record, begins, changes, Page, bytes_in}
-use Rattle.journal_records.specs.Reading.{page_change}
+use Rattle.value_bytes.specs.Spelling.{list_bytes}
+use Rattle.journal_records.specs.Records.{Record, begins, changes, Page, bytes_in, page_bytes, ending_bytes, finish_bytes}
+use Rattle.journal_records.specs.Reading.{page_change, read_record}
+use Rattle.journal_records.specs.Laws.{IsBodyOf}
 use Rattle.journal_records.specs.declared.logged.LoggedScript.{LoggedScript}
 use Rattle.journal_records.specs.declared.logged.Origin.{Origin}
 use Rattle.journal_records.specs.declared.logged.Origin.TheVariants as origin
@@ -68,6 +71,18 @@ logged_of (logged.Ended e) = changes (ends (ending_of e)) None
 logged_of (logged.Finish f) = changes (finishes (finish_of f)) None
 logged_of (logged.Sweep clock) = changes (sweeps clock) None
 
+-- the names and the texts of scripts that were read
+abbrev pub texts_in : Vec LoggedScript → List (List ℕ × List ℕ)
+texts_in scripts = map script_of scripts.items
+
+-- the record that bytes are the body of
+abbrev pub ReadsRecord : List ℕ → Option Logged → Type 0
+ReadsRecord bytes found = option_map logged_of found ≡ read_record bytes
+
+-- the bytes are the body of what is found
+abbrev pub FindsItsBody : List ℕ → Option Logged → Type 0
+FindsItsBody bytes found = IfSome found (λ l. IsBodyOf bytes (logged_of l))
+
 -- the same of what is lent to be written
 
 abbrev pub lent_origin : RecordedOrigin → spec.Origin
@@ -114,3 +129,17 @@ recorded_of (recorded.Page p) = changes (page_change (lent_page p)) (lent_state 
 recorded_of (recorded.Ended e) = changes (ends (lent_ending e)) None
 recorded_of (recorded.Finish f) = changes (finishes (lent_finish f)) None
 recorded_of (recorded.Sweep clock) = changes (sweeps clock) None
+
+-- scripts, one behind the other, behind their count
+abbrev pub scripts_bytes : List LoggedScript → List ℕ
+scripts_bytes scripts = list_bytes spec.script_bytes (map script_of scripts)
+
+-- the bodies of their records
+abbrev pub page_body : RecordedPage → List ℕ
+page_body p = 2 ∷ page_bytes (lent_page p)
+
+abbrev pub ended_body : RecordedEnded → List ℕ
+ended_body e = 3 ∷ ending_bytes (lent_ending e)
+
+abbrev pub finish_body : RecordedFinish → List ℕ
+finish_body f = 4 ∷ finish_bytes (lent_finish f)

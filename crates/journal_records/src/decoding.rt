@@ -3,10 +3,9 @@ ghost use Rattle.script_value.specs.Views.{meaning};
 ghost use Rattle.instance_cells.specs.Views.{effect_of};
 ghost use Rattle.value_bytes.specs.Reading.{read_list};
 ghost use Rattle.value_bytes.specs.Views.{Reads};
-ghost use Rattle.journal_records.specs.Laws.{IsBodyOf};
 ghost use Rattle.journal_records.specs.Reading as spec;
 ghost use Rattle.journal_records.specs.Reading.{is_nothing, read_below};
-ghost use Rattle.journal_records.specs.Views.{script_of, origin_of, page_of, ending_of, finish_of, logged_of};
+ghost use Rattle.journal_records.specs.Views.{script_of, origin_of, page_of, ending_of, finish_of, logged_of, texts_in, ReadsRecord, FindsItsBody};
 
 use crate::grammar::{DEADLINES_END, NUMBERS_END};
 use crate::logged::{Logged, LoggedEnded, LoggedFinish, LoggedPage, LoggedScript, Origin};
@@ -20,8 +19,8 @@ use wire_bytes::Cursor;
 
 /// The record whose body this is; none where it is the body of no record.
 pub fn decode(alloc: Global, body: &[u8]) -> Result<Option<Logged>, AllocError>
-    ensures read { IfOk result (λ found. option_map logged_of found ≡ spec.read_record body.now) }
-    ensures spelled { IfOk result (λ found. IfSome found (λ logged. IsBodyOf body.now (logged_of logged))) }
+    ensures read { IfOk result (ReadsRecord body.now) }
+    ensures spelled { IfOk result (FindsItsBody body.now) }
 {
     let mut cursor = Cursor::over(body);
     match front(alloc, &mut cursor) {
@@ -65,7 +64,7 @@ fn begin(alloc: Global, cursor: &mut Cursor<'_>) -> Result<Logged, Unread>
 
 #[tactic(auto, using(value_bytes::proofs::Turns::at_start, value_bytes::proofs::Turns::one_more, value_bytes::proofs::Turns::no_more, value_bytes::proofs::Turns::at_end))]
 fn scripts(alloc: Global, cursor: &mut Cursor<'_>) -> Result<Vec<LoggedScript>, Unread>
-    ensures { Reads (λ v. map script_of v.items) result cursor.new (read_list spec.read_script cursor.old) }
+    ensures { Reads texts_in result cursor.new (read_list spec.read_script cursor.old) }
 {
     let count = number_32(cursor)?;
     let mut scripts = Vec::new(alloc);

@@ -4,8 +4,8 @@ ghost use Rattle.instance_cells.specs.Views.{effect_of};
 ghost use Rattle.script_nodes.specs.Views.{scripts_of};
 ghost use Rattle.value_bytes.specs.Spelling.{FitsList, list_bytes, value_bytes};
 ghost use Rattle.journal_records.specs.Fields.{effect_bytes, EffectFits, name_bytes, NameFits, script_bytes, ScriptFits, origin_bytes, OriginFits, send_byte, nothing};
-ghost use Rattle.journal_records.specs.Records.{body_of, begin_of, begins, texts_of, IsInGrammar, effects_bytes, names_bytes, page_bytes, PageFits, ending_bytes, EndingFits, finish_bytes, FinishFits, bytes_in};
-ghost use Rattle.journal_records.specs.Views.{script_of, lent_origin, lent_state, lent_page, lent_ending, lent_finish, recorded_of};
+ghost use Rattle.journal_records.specs.Records.{body_of, begin_of, begins, texts_of, each_text, each_text_from, FitFrom, IsInGrammar, effects_bytes, names_bytes, PageFits, EndingFits, FinishFits, bytes_in};
+ghost use Rattle.journal_records.specs.Views.{script_of, lent_origin, lent_state, lent_page, lent_ending, lent_finish, recorded_of, scripts_bytes, page_body, ended_body, finish_body};
 
 use crate::logged::LoggedScript;
 use crate::recorded::{Recorded, RecordedEnded, RecordedFinish, RecordedOrigin, RecordedPage};
@@ -61,7 +61,7 @@ fn write_record(writer: &mut Writer, record: &Recorded<'_>) -> Result<(), AllocE
 
 fn write_scripts(writer: &mut Writer, scripts: &[LoggedScript]) -> Result<(), AllocError>
     requires { FitsList ScriptFits (map script_of scripts.now) }
-    ensures { OnOk result (writer.new ≡ writer.old ++ list_bytes script_bytes (map script_of scripts.now)) }
+    ensures { OnOk result (writer.new ≡ writer.old ++ scripts_bytes scripts.now) }
 {
     writer.u32(scripts.len() as u32)?;
     for script in scripts {
@@ -81,7 +81,7 @@ fn write_script(writer: &mut Writer, name: &[u8], text: &[u8]) -> Result<(), All
 // The scripts of a setup, one behind the other.
 fn write_setup(writer: &mut Writer, setup: &Setup) -> Result<(), AllocError>
     requires { AllByRecursion ScriptFits (texts_of (scripts_of setup.now)) }
-    ensures { OnOk result (writer.new ≡ writer.old ++ flat_map script_bytes (texts_of (scripts_of setup.now))) }
+    ensures { OnOk result (writer.new ≡ writer.old ++ each_text (scripts_of setup.now)) }
 {
     for place in 0..setup.len() {
         write_place(writer, setup, place)?;
@@ -92,10 +92,10 @@ fn write_setup(writer: &mut Writer, setup: &Setup) -> Result<(), AllocError>
 // The script of a place, in front of those behind it.
 fn write_place(writer: &mut Writer, setup: &Setup, place: usize) -> Result<(), AllocError>
     requires within { place < length (scripts_of setup.now) }
-    requires fit { AllByRecursion ScriptFits (drop place (texts_of (scripts_of setup.now))) }
+    requires fit { FitFrom place (scripts_of setup.now) }
     ensures { OnOk result (
-        writer.new ++ flat_map script_bytes (drop (place + 1) (texts_of (scripts_of setup.now)))
-        ≡ writer.old ++ flat_map script_bytes (drop place (texts_of (scripts_of setup.now)))
+        writer.new ++ each_text_from (place + 1) (scripts_of setup.now)
+        ≡ writer.old ++ each_text_from place (scripts_of setup.now)
         ) }
 {
     match setup.get(place) {
@@ -116,7 +116,7 @@ fn state_in<'r>(page: &RecordedPage<'r>) -> &'r [u8]
 
 fn write_page(writer: &mut Writer, page: &RecordedPage<'_>) -> Result<(), AllocError>
     requires { PageFits (lent_page page.now) }
-    ensures { OnOk result (writer.new ≡ writer.old ++ 2 ∷ page_bytes (lent_page page.now)) }
+    ensures { OnOk result (writer.new ≡ writer.old ++ page_body page.now) }
 {
     writer.u8(2)?;
     writer.u64(page.ticket)?;
@@ -131,7 +131,7 @@ fn write_page(writer: &mut Writer, page: &RecordedPage<'_>) -> Result<(), AllocE
 
 fn write_ended(writer: &mut Writer, ended: &RecordedEnded<'_>) -> Result<(), AllocError>
     requires { EndingFits (lent_ending ended.now) }
-    ensures { OnOk result (writer.new ≡ writer.old ++ 3 ∷ ending_bytes (lent_ending ended.now)) }
+    ensures { OnOk result (writer.new ≡ writer.old ++ ended_body ended.now) }
 {
     writer.u8(3)?;
     writer.u64(ended.ticket)?;
@@ -144,7 +144,7 @@ fn write_ended(writer: &mut Writer, ended: &RecordedEnded<'_>) -> Result<(), All
 
 fn write_finish(writer: &mut Writer, finish: &RecordedFinish<'_>) -> Result<(), AllocError>
     requires { FinishFits (lent_finish finish.now) }
-    ensures { OnOk result (writer.new ≡ writer.old ++ 4 ∷ finish_bytes (lent_finish finish.now)) }
+    ensures { OnOk result (writer.new ≡ writer.old ++ finish_body finish.now) }
 {
     writer.u8(4)?;
     writer.u64(finish.ticket)?;

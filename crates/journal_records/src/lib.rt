@@ -12,7 +12,7 @@ mod recorded;
 
 pub use decoding::decode;
 pub use encoding::{encode, encode_begin};
-pub use grammar::{can_begin, is_in_grammar};
+pub use grammar::can_begin;
 pub use laws::records_are_exact;
 pub use logged::{Logged, LoggedEnded, LoggedFinish, LoggedPage, LoggedScript, Origin};
 pub use measure::{body_length, record_length};

@@ -1,6 +1,6 @@
 ghost use Rattle.std.specs.Prelude.{◌≡◌, ◌↔◌, IsTrue, map, length, slice_get, option_map, Some};
 ghost use Rattle.script_nodes.specs.Views.{named_of, scripts_of};
-ghost use Rattle.journal_records.specs.Records.{begins, begin_of, texts_of};
+ghost use Rattle.journal_records.specs.Records.{begins, begin_of, texts_of, text_of, HasTextAt};
 ghost use Rattle.journal_records.specs.Views.{script_of, origin_of, lent_origin, logged_of, recorded_of};
 
 use crate::recorded::{Recorded, RecordedEnded, RecordedFinish, RecordedOrigin, RecordedPage};
@@ -180,7 +180,7 @@ fn are_texts_of(scripts: &[LoggedScript], setup: &Setup) -> bool
 
 // Whether a setup has this name and text at a place.
 fn is_text_at(script: &LoggedScript, setup: &Setup, place: usize) -> bool
-    ensures { IsTrue result ↔ (slice_get (texts_of (scripts_of setup.now)) place ≡ Some (script_of script.now)) }
+    ensures { IsTrue result ↔ HasTextAt (scripts_of setup.now) place (script_of script.now) }
 {
     match setup.get(place) {
         Some(named) => is_text_of(script, named),
@@ -189,7 +189,7 @@ fn is_text_at(script: &LoggedScript, setup: &Setup, place: usize) -> bool
 }
 
 fn is_text_of(script: &LoggedScript, named: &NamedScript) -> bool
-    ensures { IsTrue result ↔ (script_of script.now ≡ ((named_of named.now).name, (named_of named.now).text)) }
+    ensures { IsTrue result ↔ (script_of script.now ≡ text_of (named_of named.now)) }
 {
     script.name.as_slice() == named.name.as_bytes()
         && script.text.as_slice() == named.text.as_slice()

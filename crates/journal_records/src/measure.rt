@@ -3,9 +3,9 @@ ghost use Rattle.instance_cells.specs.Views.{effect_of};
 ghost use Rattle.value_bytes.specs.Spelling.{list_bytes};
 ghost use Rattle.wire_bytes.specs.Spelling.{byte_string};
 ghost use Rattle.journal_records.specs.Fields.{effect_bytes, script_bytes, origin_bytes};
-ghost use Rattle.journal_records.specs.Records.{effects_bytes, names_bytes, page_bytes, ending_bytes, finish_bytes, bytes_in, has_state, IfChanges, IfChangesWith, PartsFit};
+ghost use Rattle.journal_records.specs.Records.{effects_bytes, names_bytes, page_bytes, ending_bytes, finish_bytes, bytes_in, has_state, IfChanges, IfChangesWith, IsRecordLength, PartsFit};
 ghost use Rattle.journal_records.specs.Records as spec;
-ghost use Rattle.journal_records.specs.Views.{script_of, lent_origin, lent_state, lent_page, lent_ending, lent_finish, recorded_of};
+ghost use Rattle.journal_records.specs.Views.{script_of, lent_origin, lent_state, lent_page, lent_ending, lent_finish, recorded_of, scripts_bytes};
 
 use crate::logged::LoggedScript;
 use crate::nesting::nests_shallow;
@@ -35,7 +35,7 @@ pub fn body_length(record: &Recorded<'_>) -> u64
 /// How long the body of a change's record is, in bytes; 2^63 where a value of it nests deeper than one may that is written, or
 /// where the state of its page has no spelling, since it has no body then, and one above 2^63 as 2^63. It takes no memory.
 pub fn record_length(record: &Recorded<'_>) -> u64
-    ensures length { IfChangesWith (recorded_of record.now) (λ c state. result ≡ spec.record_length c state) }
+    ensures length { IsRecordLength (recorded_of record.now) result }
     ensures parts { result < 2 ^ 63 → IfChanges (recorded_of record.now) PartsFit }
 {
     if nests_shallow(record) && has_its_state(record) {
@@ -133,7 +133,7 @@ fn names_length(names: &[TxName]) -> u64
 
 #[tactic(auto, using(crate::proofs::Sizes::scripts_more))]
 fn scripts_length(scripts: &[LoggedScript]) -> u64
-    ensures { result ≡ min (length (list_bytes script_bytes (map script_of scripts.now))) (2 ^ 63) }
+    ensures { result ≡ min (length (scripts_bytes scripts.now)) (2 ^ 63) }
 {
     let mut sum: u64 = 4;
     for script in scripts {
