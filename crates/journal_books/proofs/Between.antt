@@ -49,7 +49,7 @@ make_books scripts shelf before after k image held = found_in scripts shelf befo
 setup_of : AreRecordsExact → (scripts : List Named) (shelf : ℕ) (bodies : List (List ℕ)) (b : Book) → Makes scripts shelf bodies b → b.scripts ≡ scripts
 setup_of x scripts shelf bodies b (earlier, makes) = (made_fits x scripts shelf bodies (made_of b earlier) makes).scripts_are
 
-recovered_setup : (r : Rules) (o : Option Doubt) (b : Book) → (recovered r kept o b).scripts ≡ b.scripts
+pub recovered_setup : (r : Rules) (o : Option Doubt) (b : Book) → (recovered r kept o b).scripts ≡ b.scripts
 recovered_setup r None b = refl
 recovered_setup r (Some doubt) b = refl
 
@@ -139,7 +139,7 @@ doubt_makes x scripts shelf bodies rules b d (Some doubt) over down holds still 
     (subst (λ (bs : List (List ℕ)). Makes scripts shelf (bodies ++ bs) after) bodies_are made_so, measures)
 
 -- books that are the same after a crash
-kept_alike : (r : Rules) (o : Option Doubt) (b c : Book) → reopened b ≡ reopened c → reopened (recovered r kept o b) ≡ reopened (recovered r kept o c)
+pub kept_alike : (r : Rules) (o : Option Doubt) (b c : Book) → reopened b ≡ reopened c → reopened (recovered r kept o b) ≡ reopened (recovered r kept o c)
 kept_alike r None b c same = same
 kept_alike r (Some doubt) b c same =
     landed_reopened r doubt b ∙ (ap (λ (y : Book). reopened (land r doubt.change doubt.inside y)) same ∙ sym (landed_reopened r doubt c))

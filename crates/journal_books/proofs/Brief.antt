@@ -1,7 +1,7 @@
 -- What a publish records is not too long.
 use Rattle.std.proofs.Common.{◌≡◌, ℕ, ◌+◌, ◌≤◌, ◌^◌, List, [], length, Bool, true, false, Option, Some, None, refl, sym, ap, subst, ◌∙◌, arith}
 use Rattle.std.specs.Prelude.{◌&&◌, nat_lt, if◌then◌else◌, ⊤}
-use Rattle.std.proofs.lemmas.Bool.{and_from}
+use Rattle.std.proofs.lemmas.Bool.{and_from, and_parts}
 use Rattle.std.proofs.lemmas.Bool.Decides.{nat_tests}
 use Rattle.script_value.specs.declared.outcome.TxName.{TxName}
 use Rattle.script_nodes.specs.Setup.{Named}
@@ -17,7 +17,6 @@ use Rattle.replay_spec.proofs.Going.{Records}
 use Rattle.journal_records.specs.Records.{changes, are_shallow, has_state, body_length, record_length}
 use Rattle.journal_books.specs.Lengths.{state_by, state_told, journal_rules}
 use Rattle.journal_books.specs.Keeping.{body_by}
-use Rattle.journal_books.proofs.Typed.{both_true}
 
 -- a page's record has the nonce of its ticket, and this deadline
 abbrev pub Tells : Ticket → (deadline : ℕ) → Change → Type 0
@@ -105,7 +104,7 @@ pub length_short : (c : Change) (state : Option (List ℕ)) → record_length c 
 length_short c state low = by_test (are_shallow c && has_state c state) refl low
   where
     by_test : (t : Bool) → (are_shallow c && has_state c state) ≡ t → (if t then body_length (changes c state) else 2 ^ 63) ≤ 1048576 → IsShort c state
-    by_test true e low = let both = both_true (are_shallow c) (has_state c state) e in record { shallow = both.0; has = both.1; low = omega (arith, low) }
+    by_test true e low = let both = and_parts (are_shallow c) (has_state c state) e in record { shallow = both.0; has = both.1; low = omega (arith, low) }
     by_test false e low = absurd (omega (arith, low))
 
 pub short_measured : (c : Change) (state : Option (List ℕ)) → IsShort c state → record_length c state ≡ length (body_by c state)

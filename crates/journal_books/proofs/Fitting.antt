@@ -4,6 +4,7 @@ use Rattle.std.specs.Prelude.{⊤}
 use Rattle.std.specs.Str.{bytes_eq}
 use Rattle.std.proofs.lemmas.Bool.Decides.{nat_tests}
 use Rattle.std.proofs.lemmas.Slice.Eq.{bytes_eq-Decides}
+use Rattle.std.proofs.lemmas.Bool.{and_parts, and_from}
 use Rattle.script_value.specs.declared.outcome.TxName.{TxName}
 use Rattle.script_nodes.specs.Setup.{Named}
 use Rattle.page_journal.specs.Records.{framed, frames}
@@ -28,7 +29,7 @@ use Rattle.journal_books.specs.Retaking.{Told, unread, misread, told, told_in, l
 use Rattle.journal_books.specs.Making.{Making, nothing, made, damaged, other, rules_over, are_told, has_script, told_next, first_by, next_by, with_body, with_bodies}
 use Rattle.journal_books.specs.Keeping.{AreAllBytes, IsWhole, AreWhole, IsTakenDoubt}
 use Rattle.journal_books.proofs.Retaken.{retaken_orderly}
-use Rattle.journal_books.proofs.Makings.{both_true, told_is}
+use Rattle.journal_books.proofs.Makings.{told_is}
 use Rattle.journal_books.specs.Spelling.{IsDoubtInRange}
 use Rattle.journal_books.specs.Laws.{OnlyItsBeginBegins, BodiesMakeFittingBooks}
 
@@ -74,11 +75,6 @@ FitsMaking all scripts shelf place (made m) = Fits all scripts shelf place m
 FitsMaking all scripts shelf place (damaged p) = ⊤
 FitsMaking all scripts shelf place (other p) = ⊤
 
-split : (a b : Bool) → (a && b) ≡ true → (a ≡ true) × (b ≡ true)
-split true true e = (refl, refl)
-split true false e = absurd (let no : ⊥ = cc in no)
-split false b e = absurd (let no : ⊥ = cc in no)
-
 bytes_are : (xs ys : List ℕ) → bytes_eq xs ys ≡ true → xs ≡ ys
 bytes_are xs ys e = grind (arith, nat_tests, e, bytes_eq-Decides xs ys)
 
@@ -87,8 +83,8 @@ told_only [] [] e = refl
 told_only [] (s ∷ ss) e = absurd (let no : ⊥ = cc in no)
 told_only (p ∷ ps) [] e = absurd (let no : ⊥ = cc in no)
 told_only (p ∷ ps) (s ∷ ss) e =
-    let all = split (bytes_eq p.0 s.name && bytes_eq p.1 s.text) (are_told ps ss) e in
-    let one = split (bytes_eq p.0 s.name) (bytes_eq p.1 s.text) all.0 in
+    let all = and_parts (bytes_eq p.0 s.name && bytes_eq p.1 s.text) (are_told ps ss) e in
+    let one = and_parts (bytes_eq p.0 s.name) (bytes_eq p.1 s.text) all.0 in
     let name = bytes_are p.0 s.name one.0 in
     let text = bytes_are p.1 s.text one.1 in
     let rest = told_only ps ss all.1 in
@@ -102,7 +98,7 @@ only_begin scripts shelf place s named = by_test (s == shelf && are_told named s
   where
     is_begin : (s == shelf && are_told named scripts) ≡ true → begins s named ≡ begin_of shelf scripts
     is_begin t =
-        let all = split (s == shelf) (are_told named scripts) t in
+        let all = and_parts (s == shelf) (are_told named scripts) t in
         let same : s ≡ shelf = grind (arith, nat_tests, all.0) in
         let names = told_only named scripts all.1 in
         λ i. begins (same i) (names i)
@@ -112,7 +108,7 @@ only_begin scripts shelf place s named = by_test (s == shelf && are_told named s
         let parts = begins_same s shelf named (texts_of scripts) e in
         let here : (s == shelf) ≡ true = grind (arith, nat_tests, parts.0) in
         let there : are_told named scripts ≡ true = subst (λ (ns : List (List ℕ × List ℕ)). are_told ns scripts ≡ true) (sym parts.1) (told_is scripts) in
-        both_true (s == shelf) (are_told named scripts) here there
+        and_from (s == shelf) (are_told named scripts) here there
 
     by_test : (t : Bool) → (s == shelf && are_told named scripts) ≡ t
         → (begins s named ≡ begin_of shelf scripts
@@ -129,7 +125,7 @@ first_fits x all scripts shelf body (Some (begins s named)) e are = by_test (s =
   where
     whole : (s == shelf && are_told named scripts) ≡ true → Fits all scripts shelf (8 + 5 + length body) (nothing_made (rules_over scripts shelf) scripts shelf)
     whole t =
-        let both = split (s == shelf) (are_told named scripts) t in
+        let both = and_parts (s == shelf) (are_told named scripts) t in
         let same : s ≡ shelf = grind (arith, nat_tests, both.0) in
         let names = told_only named scripts both.1 in
         record {
@@ -234,7 +230,7 @@ all_fit x all scripts shelf place (body ∷ bodies) m are h =
     (all_fit x all scripts shelf (place + 5 + length body) bodies (with_body scripts shelf place body m) (λ bytes. (are bytes).1)
     (one_fits x all scripts shelf place body m (λ bytes. (are bytes).0) h))
 
-no_doubt : (b : Book) (o : Option Doubt) → o ≡ None → IsTakenDoubt b o unread
+pub no_doubt : (b : Book) (o : Option Doubt) → o ≡ None → IsTakenDoubt b o unread
 no_doubt b o e = subst (λ (x : Option Doubt). IsTakenDoubt b x unread) (sym e) tt
 
 all_used : (b : Book) (seen : List ℕ) → ((n : ℕ) → Among n seen → n < b.logged) → AreUsed seen (reopened b)

@@ -2,7 +2,7 @@
 use Rattle.std.proofs.Common.{◌≡◌, ℕ, ◌≤◌, ◌<◌, ◌^◌, List, [], ◌∷◌, ◌++◌, length, true, Option, Some, None, inl, inr, arith, length-append, Contains}
 use Rattle.std.specs.Prelude.{⊤}
 use Rattle.std.specs.List.{flat_map, list_all, AllByRecursion}
-use Rattle.std.proofs.lemmas.Bool.{cases_lt}
+use Rattle.std.proofs.lemmas.Bool.{cases_lt, and_parts}
 use Rattle.std.proofs.lemmas.Bool.Decides.{nat_tests}
 use Rattle.script_value.specs.declared.outcome.TxName.{TxName}
 use Rattle.instance_cells.specs.Cells.{Effect, read, set, add}
@@ -15,7 +15,7 @@ use Rattle.journal_records.specs.Fields.{numbers_end, deadlines_end, name_bytes,
 use Rattle.journal_records.specs.Records.{Page, ChangeFits, opening_page, extension_page, page_bytes, ending_bytes, finish_bytes, effects_bytes, names_bytes, PartsFit}
 use Rattle.journal_books.specs.Making.{has_script}
 use Rattle.journal_books.specs.Spelling.{IsInRange}
-use Rattle.journal_books.proofs.Typed.{both_true, value_fits, effects_typed}
+use Rattle.journal_books.proofs.Typed.{value_fits, effects_typed}
 use Rattle.journal_books.proofs.Brief.{IsShort}
 
 -- the nonce, the deadline and the tick that a change tells are such as records tell
@@ -172,7 +172,7 @@ module _ (b : Book) (g : IsOrderly b) (range : IsInRange b) (few : length b.scri
   in_grammar (extends x) (Some state) is orderly script tells with brief parts =
       let p = extension_page x state in
       let long = page_long p in
-      let shallow = both_true (is_shallow x.answer) (list_all is_shallow_effect x.effects) brief.shallow in
+      let shallow = and_parts (is_shallow x.answer) (list_all is_shallow_effect x.effects) brief.shallow in
       let numbers = below b x.instance x.page g range.drawn orderly in
       record {
         ticket = number_fits x.number is;
@@ -186,7 +186,7 @@ module _ (b : Book) (g : IsOrderly b) (range : IsInRange b) (few : length b.scri
   in_grammar (ends e) (Some state) is orderly script tells with brief parts = absurd with
   in_grammar (ends e) None is orderly script tells with brief parts =
       let long = ending_long e in
-      let shallow = both_true (is_shallow e.answer) (list_all is_shallow_effect e.effects) brief.shallow in
+      let shallow = and_parts (is_shallow e.answer) (list_all is_shallow_effect e.effects) brief.shallow in
       let numbers = below b e.instance e.page g range.drawn orderly in
       record {
         ticket = number_fits e.number is;
@@ -197,7 +197,7 @@ module _ (b : Book) (g : IsOrderly b) (range : IsInRange b) (few : length b.scri
   in_grammar (finishes f) (Some state) is orderly script tells with brief parts = absurd with
   in_grammar (finishes f) None is orderly script tells with brief parts =
       let long = finish_long f in
-      let shallow = both_true (is_shallow f.answer) (list_all is_shallow_effect f.effects) brief.shallow in
+      let shallow = and_parts (is_shallow f.answer) (list_all is_shallow_effect f.effects) brief.shallow in
       let numbers = below b f.instance f.page g range.drawn orderly in
       record {
         ticket = number_fits f.number is;

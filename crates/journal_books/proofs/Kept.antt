@@ -21,6 +21,7 @@ use Rattle.replay_spec.proofs.Orderly.{stepped, is_out, published, published_few
 use Rattle.replay_spec.proofs.Orderly as orderly
 use Rattle.replay_spec.proofs.Lands.{LandsAs, lands_as}
 use Rattle.replay_spec.proofs.Numbers.{Uses, uses}
+use Rattle.replay_spec.proofs.Events.{settled_setup, swept_setup, setup_kept, used_then}
 use Rattle.machine_spec.specs.Machine.{Suspended, inside_of}
 use Rattle.journal_records.specs.Records.{Record, changes, IsInGrammar, begin_of}
 use Rattle.journal_records.specs.Reading.{read_record}
@@ -38,7 +39,7 @@ use Rattle.journal_books.proofs.Telling.{own_are_told, own_before_is}
 use Rattle.journal_books.proofs.Retaken.{held_fits, held_script}
 use Rattle.journal_books.proofs.Makings.{made_push, made_first}
 use Rattle.journal_books.proofs.Fitting.{WholeIn, whole_by, made_fits}
-use Rattle.journal_books.proofs.Taking.{IsNew, moved_in, there, told_after, told_seen, used_then, IsMadeOf, follow_by}
+use Rattle.journal_books.proofs.Taking.{IsNew, moved_in, there, told_after, told_seen, IsMadeOf, follow_by}
 
 -- ---- the body of a change that would be taken makes the book behind it
 
@@ -108,7 +109,7 @@ cut_last (x ∷ xs) y (f ∷ front) rest z e =
     (λ (more, cut). inr (more, λ i. both.0 i ∷ cut i))
     (cut_last xs y front rest z both.1)
 
-same_made : (m n : Made) → made m ≡ made n → m ≡ n
+pub same_made : (m n : Made) → made m ≡ made n → m ≡ n
 same_made m n e = cc e
 
 each_more : (P : Made → Option Record → Type 0) (scripts : List Named) (shelf : ℕ) (bodies : List (List ℕ)) (body : List ℕ) → OfEach P scripts shelf bodies
@@ -178,23 +179,6 @@ whole_landed b d (Some c) g h (inside, (fits, is)) = subst WholeIn (sym is) (who
 
 whole_setup : (b d : Book) → HasWholeScripts b → d.scripts ≡ b.scripts → AreWhole d.scripts
 whole_setup b d h same k s at = h.setup k s (ap (λ (ss : List Named). slice_get ss k) (sym same) ∙ at)
-
--- a setup that is kept
-settled_setup : (rules : Rules) (b : Book) (fate : Fate) (d : Decision) → (settle rules b fate d).1.scripts ≡ b.scripts
-settled_setup rules b fate d = grind arith
-
-took_setup : (b : Book) (target : _) (nonce : ℕ) (fate : Fate) → (take_by b target nonce fate).1.scripts ≡ b.scripts
-took_setup b target nonce fate = grind arith
-
-swept_setup : (rules : Rules) (b : Book) (tick : ℕ) (fate : Fate) (is_late : Bool) → (if is_late then (swept 0, b) else settle rules b fate (sweep_comes rules b tick)).1.scripts ≡ b.scripts
-swept_setup rules b tick fate is_late = grind (arith, settled_setup rules b fate (sweep_comes rules b tick))
-
-setup_kept : (rules : Rules) (b : Book) (nonce : ℕ) (x : Event) (fate : Fate) → KeepsSetup x b → (step rules b nonce x fate).1.scripts ≡ b.scripts
-unfolding step
-setup_kept rules b nonce (take target answer) fate h = took_setup b target nonce fate
-setup_kept rules b nonce (publish t) fate h = settled_setup rules (spend t.number b) (fate_of rules.journal fate) (publish_comes rules b t)
-setup_kept rules b nonce (sweep tick) fate h = swept_setup rules b tick (fate_of rules.journal fate) (nat_le tick b.clock)
-setup_kept rules b nonce (crash scripts) fate h = h
 
 pub event_kept : AreRecordsExact → EventsAreKept
 event_kept x scripts shelf bodies rules b nonce event fate over setup lawful holds before spelled =

@@ -3,6 +3,7 @@ use Rattle.std.proofs.Common.{◌≡◌, ℕ, ◌+◌, ◌==◌, ◌&&◌, List,
 use Rattle.std.specs.Str.{bytes_eq}
 use Rattle.std.proofs.lemmas.Bool.Decides.{nat_tests}
 use Rattle.std.proofs.lemmas.Slice.Eq.{bytes_eq-Decides}
+use Rattle.std.proofs.lemmas.Bool.{and_from}
 use Rattle.script_nodes.specs.Setup.{Named}
 use Rattle.page_journal.specs.Records.{framed, frames}
 use Rattle.page_journal.proofs.Frames.{length-framed}
@@ -40,17 +41,9 @@ made_push exact scripts shelf bodies m c state x makes fits script is =
     ∙ ap (λ (t : Bool). if t then told_next place n m c (told_in m.earlier m.book c state) else damaged place) script
     ∙ ap (told_next place n m c) is
 
-pub both_true : (a b : Bool) → a ≡ true → b ≡ true → (a && b) ≡ true
-both_true true true x y = refl
-both_true true false x y = y
-both_true false b x y = x
-
-bytes_same : (xs : List ℕ) → bytes_eq xs xs ≡ true
-bytes_same xs = grind (arith, nat_tests, bytes_eq-Decides xs xs)
-
 pub told_is : (scripts : List Named) → are_told (texts_of scripts) scripts ≡ true
 told_is [] = refl
-told_is (s ∷ ss) = both_true (bytes_eq s.name s.name && bytes_eq s.text s.text) (are_told (texts_of ss) ss) (both_true _ _ (bytes_same s.name) (bytes_same s.text)) (told_is ss)
+told_is (s ∷ ss) = and_from (bytes_eq s.name s.name && bytes_eq s.text s.text) (are_told (texts_of ss) ss) (and_from _ _ ((bytes_eq-Decides s.name s.name).1 refl) ((bytes_eq-Decides s.text s.text).1 refl)) (told_is ss)
 
 -- the first record of a journal makes an empty book
 pub made_first : AreRecordsExact → (scripts : List Named) (shelf : ℕ) → IsInGrammar (begin_of shelf scripts)
@@ -58,4 +51,4 @@ pub made_first : AreRecordsExact → (scripts : List Named) (shelf : ℕ) → Is
 made_first x scripts shelf fits =
     let same : (shelf == shelf) ≡ true = grind (arith, nat_tests) in
     ap (first_by scripts shelf 8) (x.back (begin_of shelf scripts) fits)
-    ∙ ap (λ (t : Bool). if t then made (nothing_made (rules_over scripts shelf) scripts shelf) else other 8) (both_true (shelf == shelf) (are_told (texts_of scripts) scripts) same (told_is scripts))
+    ∙ ap (λ (t : Bool). if t then made (nothing_made (rules_over scripts shelf) scripts shelf) else other 8) (and_from (shelf == shelf) (are_told (texts_of scripts) scripts) same (told_is scripts))

@@ -14,21 +14,10 @@ use Rattle.replay_spec.specs.Remade.{IsOrderlyMade}
 use Rattle.replay_spec.proofs.Admitted.{came_from, when_is}
 use Rattle.replay_spec.proofs.Stand.{orderly_less}
 use Rattle.replay_spec.proofs.Landed.{land_well}
-use Rattle.replay_spec.proofs.Recovered.{made_orderly}
+use Rattle.replay_spec.proofs.Recovered.{made_orderly, Unseen, page_there, among_is, new_number, more_seen, redone_logged}
 use Rattle.journal_books.specs.Making.{has_script}
 use Rattle.journal_books.specs.Before.{Made, plain}
 use Rattle.journal_books.specs.Retaking.{Told, held, landing, rules_for, retaken}
-
--- what is not among those seen
-abbrev Unseen : List ℕ → ℕ → Type 0
-Unseen seen n = Among n seen → ⊥
-
--- the page that a record answers is there
-page_there : (b : Book) (k n : ℕ) (at : Place) → page_of_numbers b k n ≡ Some at → HasPage b.instances k n
-page_there b k n at e =
-    let i = came_from (instance_at k b.instances) _ at e in
-    let p = came_from (page_at n i.0.pages) _ at i.1.1 in
-    (p.0, record { instance = i.0; found = i.1.0; shown = p.1.0 })
 
 -- what is held can land
 pub held_fits : (b : Book) (c : Change) (inside names : List TxName) → held b c inside ≡ Some names → IsOrderlyChange b.clock b.instances c
@@ -59,25 +48,6 @@ landing_is m c inside names e = by_test (is_repeated (number_in c) m.earlier.see
     by_test true is f = absurd (let no : ⊥ = cc in no)
     by_test false is f = (f, is)
 
-pub among_is : (n : ℕ) (ns : List ℕ) → Among n ns → is_one n ns ≡ true
-among_is n [] h = absurd h
-among_is n (m ∷ ns) h = grind (arith, nat_tests, h, among_is n ns)
-
-pub new_number : (c : Change) (seen : List ℕ) → is_repeated (number_in c) seen ≡ false → (n : ℕ) → IsOf n c → Unseen seen n
-new_number (opens o) seen e n is there = absurd (let one = among_is n seen there in let no : ⊥ = cc in no)
-new_number (extends x) seen e n is there = absurd (let one = among_is n seen there in let no : ⊥ = cc in no)
-new_number (ends x) seen e n is there = absurd (let one = among_is n seen there in let no : ⊥ = cc in no)
-new_number (finishes f) seen e n is there = absurd (let one = among_is n seen there in let no : ⊥ = cc in no)
-new_number (sweeps tick) seen e n is there = is
-
--- with the number of a record
-pub more_seen : (c : Change) (seen : List ℕ) (n : ℕ) → Unseen (with_number (number_in c) seen) n → Unseen seen n × (IsOf n c → ⊥)
-more_seen (opens o) seen n h = (λ there. h (inr there), λ e. h (inl e))
-more_seen (extends x) seen n h = (λ there. h (inr there), λ e. h (inl e))
-more_seen (ends x) seen n h = (λ there. h (inr there), λ e. h (inl e))
-more_seen (finishes f) seen n h = (λ there. h (inr there), λ e. h (inl e))
-more_seen (sweeps tick) seen n h = (h, λ e. e)
-
 landed_orderly : (n : ℕ) (c : Change) (m : Made) (inside : List TxName) (o : Option (List TxName)) → IsOrderlyMade (plain m) → landing m c inside ≡ o
     → AreOrderly (Unseen (with_number (number_in c) m.earlier.seen)) (redone (rules_for n) c o m.book).instances
 landed_orderly n c m inside None h e =
@@ -87,16 +57,12 @@ landed_orderly n c m inside (Some names) h e =
     (land_well m.book.scripts m.book.clock (Unseen m.earlier.seen) (Unseen (with_number (number_in c) m.earlier.seen)) m.book.instances c names h.instances (held_fits m.book c inside names t.0)
     (new_number c m.earlier.seen t.1) (more_seen c m.earlier.seen)).0
 
-landed_logged : (rules : Rules) (c : Change) (o : Option (List TxName)) (b : Book) → (redone rules c o b).logged ≡ max b.logged (logged_by c)
-landed_logged rules c None b = refl
-landed_logged rules c (Some names) b = refl
-
 pub retaken_orderly : (n : ℕ) (c : Change) (inside : List TxName) (x : Told) (m : Made) → IsOrderlyMade (plain m) → IsOrderlyMade (plain (retaken n c (landing m c inside) x m))
 retaken_orderly n c inside x m h = record {
   instances = landed_orderly n c m inside (landing m c inside) h refl;
   counted = λ k there.
       let p = plain m in
-      let same = landed_logged (rules_for n) c (taken_in p c) m.book ∙ sym (landed_logged (rules_for n) c (landing m c inside) m.book) in
+      let same = redone_logged (rules_for n) c (taken_in p c) m.book ∙ sym (redone_logged (rules_for n) c (landing m c inside) m.book) in
       subst (λ (l : ℕ). k < l) same (((made_orderly (rules_for n)).1 c p h).counted k there);
   again = refl;
 }

@@ -17,14 +17,10 @@ use Rattle.replay_spec.specs.Tape.{Reads, recorded, present, bound, is_over, Ans
 use Rattle.replay_spec.specs.Eval.{eval, eval_into, eval_while, turns, for_each, copied, value_at, is_not_false, is_any, segment_at_end}
 use Rattle.journal_books.specs.Depths.{IsShallow, AreShallow, HasShallow, HaveShallow, AreShallowReads, AreShallowAnswers, IsShallowEffect, RunsStayShallow}
 use Rattle.journal_books.proofs.Shallow.{GivesShallow, listed, operation}
-
--- lists of such values
-more : {A : Type 0} (P : A → Type 0) (xs ys : List A) → AllByRecursion P xs → AllByRecursion P ys → AllByRecursion P (xs ++ ys)
-more P [] ys h g = g
-more P (x ∷ xs) ys h g = (h.0, more P xs ys h.1 g)
+use Rattle.frame_codec.proofs.Reread.{all_append}
 
 one_more : {A : Type 0} (P : A → Type 0) (xs : List A) (x : A) → AllByRecursion P xs → P x → AllByRecursion P (xs ++ x ∷ [])
-one_more P xs x h g = more P xs (x ∷ []) h (g, tt)
+one_more P xs x h g = all_append P xs (x ∷ []) h (g, tt)
 
 value_there : (vs : List Val) (k : ℕ) → AreShallow vs → IsShallow (unwrap_or (slice_get vs k) (truth false))
 value_there [] k h = omega arith
@@ -183,7 +179,7 @@ mutual
   every (var k) env inside h g = copies inside (value_at env k) (value_there env k g)
   every (bind es b) env inside h g =
       paid inside _ (goes_on AreShallow IsShallow (eval_into [] es env inside) (λ vs. eval b (env ++ vs) inside) (every_into [] es env inside h.0 tt g)
-      (λ vs low. every b (env ++ vs) inside h.1 (more IsShallow env vs g low)))
+      (λ vs low. every b (env ++ vs) inside h.1 (all_append IsShallow env vs g low)))
   every (branch t a b) env inside h g =
       paid inside _ (goes_on IsShallow IsShallow (eval t env inside) (λ v. choose (is_false v) (eval b env inside) (eval a env inside)) (every t env inside h.0 g)
       (λ v _. chooses IsShallow (is_false v) (eval b env inside) (eval a env inside) (every b env inside h.2 g) (every a env inside h.1 g)))

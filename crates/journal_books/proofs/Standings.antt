@@ -16,6 +16,7 @@ use Rattle.journal_books.specs.Retaking.{rules_for}
 use Rattle.journal_books.specs.Making.{made, begun, book_in_bytes}
 use Rattle.journal_books.specs.Standing.{Makes, MakesIn, IsOneOf, HasRoom, Between, Hold, Held, if_kept, Stands, Throughout, ThroughoutFrom, StaysThroughout}
 use Rattle.journal_books.proofs.Between.{make_books, stand_alike}
+use Rattle.journal_books.proofs.Kept.{same_made}
 
 -- a moment that is over leaves what a crash now may leave
 abbrev pub OnlyNow : View → Type 0
@@ -67,10 +68,6 @@ stays_by scripts shelf v0 v1 may closed = λ before after k held. by_more k.bodi
     by_more : (bodies : List (List ℕ)) (more : Option (List ℕ)) → HasRoom bodies more → ((image : List ℕ) → v0.images image → Hold bodies more image) → LeavesOnly v0 v1 (Hold bodies more)
     by_more bodies None room held = closed bodies room held
     by_more bodies (Some body) room held = may bodies body room held
-
--- what it finds
-same_made : (m n : Made) → made m ≡ made n → m ≡ n
-same_made m n e = cc e
 
 found_one : (scripts : List Named) (shelf : ℕ) (bytes : List ℕ) (m : Made) (b : Book) → begun scripts shelf (book_in_bytes scripts shelf bytes) ≡ made m → MakesIn scripts shelf bytes b → m.book ≡ reopened b
 found_one scripts shelf bytes m b makes (earlier, is) = ap (λ (x : Made). x.book) (same_made m (made_of b earlier) (sym makes ∙ ap (begun scripts shelf) is))

@@ -27,6 +27,8 @@ use Rattle.replay_spec.proofs.Admitted.{Stands, Says, says}
 use Rattle.replay_spec.proofs.Going.{Records, Goes, stays, draws, spends, publishes, fails, goes_to, fails_at, keeps, loses}
 use Rattle.replay_spec.proofs.Orderly.{stands_there, recorded_orderly, is_same, is_doubted}
 use Rattle.replay_spec.proofs.Numbers.{Uses}
+use Rattle.replay_spec.proofs.Again.{passes, place_there}
+use Rattle.replay_spec.proofs.Events.{not_one, number_used, used_then, spent_length, seen_by}
 use Rattle.journal_records.specs.Records.{body_of, changes, record_length}
 use Rattle.journal_books.specs.Before.{Earlier, made_of, before_told}
 use Rattle.journal_books.specs.Retaking.{Told, unread, misread, told, told_in, if_held, held, landing, states_with, rules_for}
@@ -34,9 +36,7 @@ use Rattle.journal_books.specs.Lengths.{state_over, own_before, state_told, told
 use Rattle.journal_books.specs.Keeping.{IsWhole, HasWholeScripts, IsTakenAs, IsTakenDoubt, IsMeasured, IsOwnDoubt}
 use Rattle.journal_books.proofs.Brief.{moved_state, moved_told, short_measured, recorded_short}
 use Rattle.journal_books.proofs.Owned.{visit_state, names_cells}
-
-passes : {A : Type 0} (b : Bool) (x : A) → b ≡ true → when b x ≡ Some x
-passes b x e = grind (arith, e)
+use Rattle.journal_books.proofs.Fitting.{no_doubt}
 
 -- ---- what a decision records would be taken, with the state that its script leaves
 
@@ -82,10 +82,6 @@ start_taken rules b t k s (paged finishes bytes) w at e = tt
 start_taken rules b t k s (paged ends bytes) w at e = tt
 start_taken rules b t k s (tape.faulted f) w at e = tt
 start_taken rules b t k s (tape.out_of_fuel cost) w at e = tt
-
--- the page of the place is found by its numbers
-place_there : (b : Book) (at : Place) → Stands b at → page_of_numbers b at.instance.number at.page.number ≡ Some at
-place_there b at h = let there = stands_there b at h in let here = there.0 in let shown = there.1 in rw (here, shown) refl
 
 page_taken : (rules : Rules) (b : Book) (t : Ticket) (at : Place) (outcome : Outcome) → IsOrderly b → IsWhole at.instance.script → Stands b at
     → let v = page_visit b t at in
@@ -190,10 +186,6 @@ moved_own b drawn out down (Some doubt) x h =
 abbrev pub IsNew : List ℕ → Change → Type 0
 IsNew seen c = (m : ℕ) → IsOf m c → Among m seen → ⊥
 
-not_one : (n : ℕ) (ns : List ℕ) → (Among n ns → ⊥) → is_one n ns ≡ false
-not_one n [] h = refl
-not_one n (m ∷ ns) h = let rest = not_one n ns (λ there. h (inr there)) in let other : m ≡ n → ⊥ = λ e. h (inl e) in grind (arith, nat_tests, rest, other)
-
 pub not_repeated : (c : Change) (seen : List ℕ) → IsNew seen c → is_repeated (number_in c) seen ≡ false
 not_repeated (spec.opens o) seen h = not_one o.number seen (h o.number refl)
 not_repeated (spec.extends x) seen h = not_one x.number seen (h x.number refl)
@@ -205,11 +197,6 @@ pub there : (b : Book) (earlier : Earlier) (c : Change) (names : List TxName) �
 there b earlier c names can new =
     ap (λ (is_old : Bool). if is_old then None else held (reopened b) c names) (not_repeated c earlier.seen new) ∙ (moved_held b b.logged [] None c names ∙ can)
 
--- with the number of what an event landed
-abbrev pub seen_by : Option Change → List ℕ → List ℕ
-seen_by None seen = seen
-seen_by (Some c) seen = with_number (number_in c) seen
-
 -- and what is told then, with the state that its script left
 abbrev pub told_after : Book → Option Change → Earlier → Earlier
 told_after b None earlier = earlier
@@ -220,17 +207,6 @@ pub told_seen : (b : Book) (o : Option Change) (earlier : Earlier) → (told_aft
 told_seen b None earlier = refl
 told_seen b (Some c) earlier = refl
 
-number_used : (b d : Book) (c : Change) (seen : List ℕ) → Uses b (Some c) d → AreUsed seen d → AreUsed (with_number (number_in c) seen) d
-number_used b d (spec.opens o) seen u h n there x = ⊎_elim (λ e. (u n e).1 x) (λ old. h n old x) there
-number_used b d (spec.extends o) seen u h n there x = ⊎_elim (λ e. (u n e).1 x) (λ old. h n old x) there
-number_used b d (spec.ends o) seen u h n there x = ⊎_elim (λ e. (u n e).1 x) (λ old. h n old x) there
-number_used b d (spec.finishes f) seen u h n there x = ⊎_elim (λ e. (u n e).1 x) (λ old. h n old x) there
-number_used b d (sweeps tick) seen u h n there x = h n there x
-
-pub used_then : (b d : Book) (o : Option Change) (seen : List ℕ) → Uses b o d → ((n : ℕ) → Unused d n → Unused b n) → AreUsed seen b → AreUsed (seen_by o seen) d
-used_then b d None seen u fewer h = λ n there x. h n there (fewer n x)
-used_then b d (Some c) seen u fewer h = number_used b d c seen u (λ n there x. h n there (fewer n x))
-
 -- ---- what an event lands
 
 -- how long a journal is with the record of a change that is measured by its body
@@ -240,10 +216,6 @@ longer_own scripts shelf o b c is h =
     let again : record_length c (state_told (reopened b) c) ≡ length (own_body b c) =
     ap (λ (s : Option (List ℕ)). record_length c s) (moved_told b b.logged [] None c) ∙ h in
     ap (λ (j : Option Journal). longer_by j b c) is ∙ ap (λ (n : ℕ). b.length + (n + 5)) again
-
-spent_length : (o : Option Journal) (b : Book) (n : ℕ) (c : Change) → longer_by o (spend n b) c ≡ longer_by o b c
-spent_length None b n c = refl
-spent_length (Some j) b n c = refl
 
 -- the record of what was landed would be taken, and makes the book behind the event
 abbrev pub IsMadeOf : Book → (seen : List ℕ) → Option Change → Book → Type 0
@@ -256,9 +228,6 @@ pub record Follows (b : Book) (seen : List ℕ) (o : Option Change) (d : Book) :
   pub doubted : Told
   pub doubt : IsTakenDoubt d d.down doubted
   pub own : IsOwnDoubt d d.down doubted
-
-up_doubt : (d : Book) (o : Option Doubt) → o ≡ None → IsTakenDoubt d o unread
-up_doubt d o e = subst (λ (x : Option Doubt). IsTakenDoubt d x unread) (sym e) tt
 
 up_own : (d : Book) (o : Option Doubt) → o ≡ None → IsOwnDoubt d o unread
 up_own d o e = subst (λ (x : Option Doubt). IsOwnDoubt d x unread) (sym e) tt
@@ -301,7 +270,7 @@ module _ {lawful : Type 0} (scripts : List Named) (shelf : ℕ) (rules : Rules) 
           ),
         );
         doubted = unread;
-        doubt = up_doubt (land rules c inside (spend t.number b)) b.down h.up;
+        doubt = no_doubt (land rules c inside (spend t.number b)) b.down h.up;
         own = up_own (land rules c inside (spend t.number b)) b.down h.up;
       }
   follow_by d o (fails count t c inside h) l x doubt own used =
@@ -328,7 +297,7 @@ module _ {lawful : Type 0} (scripts : List Named) (shelf : ℕ) (rules : Rules) 
       ),
     );
     doubted = unread;
-    doubt = up_doubt (land rules (sweeps tick) [] b) b.down up;
+    doubt = no_doubt (land rules (sweeps tick) [] b) b.down up;
     own = up_own (land rules (sweeps tick) [] b) b.down up;
   }
   follow_by d o (fails_at count tick later up) l x doubt own used =

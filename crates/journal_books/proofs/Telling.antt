@@ -23,7 +23,7 @@ use Rattle.replay_spec.proofs.Landed.{never, land_well}
 use Rattle.replay_spec.proofs.Found.{mend_other, mend_found, keep_found}
 use Rattle.replay_spec.proofs.Differ.{put_from, mend_from}
 use Rattle.replay_spec.proofs.Admitted.{came_from}
-use Rattle.replay_spec.proofs.Recovered.{made_orderly}
+use Rattle.replay_spec.proofs.Recovered.{made_orderly, new_number, more_seen}
 use Rattle.machine_spec.specs.Machine.{Suspended, inside_of}
 use Rattle.frame_codec.specs.Forms.{read_form}
 use Rattle.kept_states.specs.Links.{behind_at}
@@ -36,7 +36,7 @@ use Rattle.journal_books.specs.Making.{Making, nothing, made, damaged, other, ru
 use Rattle.journal_books.specs.Owning.{IsOwnState, IsOwnRecord, AreOwn, HasOwnStates, IsOwnBefore}
 use Rattle.journal_books.specs.Laws.{OwnStatesAreTold}
 use Rattle.journal_books.proofs.Makings.{with_push}
-use Rattle.journal_books.proofs.Retaken.{held_fits, landing_is, new_number, more_seen, retaken_orderly}
+use Rattle.journal_books.proofs.Retaken.{held_fits, landing_is, retaken_orderly}
 
 -- ---- what a change's page is written behind
 
