@@ -12,7 +12,7 @@ use Rattle.replay_spec.specs.Recovery.{number_in, is_repeated, with_number, redo
 use Rattle.replay_spec.specs.Invariant.{Among}
 use Rattle.replay_spec.specs.Remade.{IsOrderlyMade}
 use Rattle.replay_spec.proofs.Stand.{orderly_less}
-use Rattle.replay_spec.proofs.Recovered.{made_orderly, among_is}
+use Rattle.replay_spec.proofs.Recovered.{made_orderly, among_is, redone_logged}
 use Rattle.machine_spec.specs.Machine.{Suspended, inside_of}
 use Rattle.instance_book.specs.declared.numbered.Numbered.{Numbered}
 use Rattle.instance_book.specs.declared.in_order.InOrder.{InOrder}
@@ -46,10 +46,6 @@ logged_low (ends e) (Some s) fits = absurd fits
 logged_low (finishes f) None fits = let low = fits.ticket in omega (arith, low)
 logged_low (finishes f) (Some s) fits = absurd fits
 logged_low (sweeps tick) state fits = omega arith
-
-redone_logged : (rules : Rules) (c : Change) (o : Option (List TxName)) (b : Book) → (redone rules c o b).logged ≡ max b.logged (logged_by c)
-redone_logged rules c None b = refl
-redone_logged rules c (Some names) b = refl
 
 redone_shelf : (rules : Rules) (c : Change) (o : Option (List TxName)) (b : Book) → (redone rules c o b).shelf ≡ b.shelf
 redone_shelf rules c None b = refl

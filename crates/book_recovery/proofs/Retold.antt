@@ -1,6 +1,6 @@
 -- What the record of a page makes of a book.
 use Rattle.std.proofs.Common.{◌≡◌, ◌∙◌, ap, sym, subst, ℕ, zero, suc, ◌+◌, ◌<◌, max, Bool, true, false, List, [], ◌∷◌, map, slice_get, Option, Some, None, option_map, Result, Ok, Err, if◌then◌else◌, refl, arith, Bor}
-use Rattle.std.specs.Prelude.{length, IfSome, IfNone, IfOk, OnOk, nat_lt, ◌==◌}
+use Rattle.std.specs.Prelude.{length, IfSome, IfNone, IfOk, OnOk, ◌==◌}
 use Rattle.std.proofs.lemmas.Bool.{and_parts}
 use Rattle.std.proofs.lemmas.Bool.Decides.{nat_tests}
 use Rattle.std.proofs.lemmas.Option.{same_Some}
@@ -11,10 +11,9 @@ use Rattle.script_value.specs.declared.value.Value.{Value}
 use Rattle.script_nodes.specs.Arena.{Arena, IsScript, script_of}
 use Rattle.script_nodes.specs.Setup.{Named}
 use Rattle.script_nodes.specs.Views.{named_of, scripts_of}
-use Rattle.script_nodes.specs.declared.script.Node.{Node}
 use Rattle.script_nodes.specs.declared.setup.NamedScript.{NamedScript}
 use Rattle.script_nodes.specs.declared.setup.Setup.{Setup}
-use Rattle.instance_cells.specs.Cells.{Effect, cell_of, AreOn, Holds, reads_of}
+use Rattle.instance_cells.specs.Cells.{Effect, AreOn, Holds, reads_of}
 use Rattle.instance_cells.specs.Views.{effect_of}
 use Rattle.instance_cells.specs.declared.effect.Effect as effects
 use Rattle.replay_spec.specs.Tape.{recorded}
@@ -34,7 +33,7 @@ use Rattle.frame_codec.specs.Forms.{read_form, IsStoredBefore, FormsAreExact}
 use Rattle.value_bytes.specs.Laws.{AreBytes}
 use Rattle.stored_states.specs.declared.frame.Suspended as stored
 use Rattle.kept_states.specs.Links.{behind_at}
-use Rattle.instance_book.specs.declared.retold.ToldPage.{ToldPage}
+use Rattle.instance_book.specs.declared.shown.ShownPage.{ShownPage}
 use Rattle.instance_book.specs.declared.ticket.Ticket.{Ticket}
 use Rattle.instance_book.specs.declared.book.Book as kept
 use Rattle.instance_book.specs.Views.{ticket_of}
@@ -47,7 +46,8 @@ use Rattle.instance_book.specs.Prepares.{IsOnCells}
 use Rattle.instance_book.specs.Told.{no_rules, book_beside, StartsAgain, AnswersThere, AnswersGiven, AnswersStored, AnswersAgain, Counts, IsRedone, effects_in, told_start, told_answer, told_opening, told_extension, LandsOpening, LandsExtension, HasStartState, HasAnswerState, KeepsStartStates, KeepsAnswerStates}
 use Rattle.instance_book.proofs.Seen.{cells_seen}
 use Rattle.instance_book.proofs.Given.{more_given}
-use Rattle.instance_book.proofs.Recorded.{ends_so, ends_off, ends_not}
+use Rattle.instance_book.proofs.Behind.{arena_again}
+use Rattle.instance_book.proofs.Recorded.{ends_so, ends_off, ends_not, on_from}
 use Rattle.journal_books.specs.Before.{States, state_at, Earlier, links_behind, before_told}
 use Rattle.journal_books.specs.Retaking.{arena_of, Told, unread, misread, told, told_as, script_for, told_by, if_held, held, with_state, states_with}
 use Rattle.journal_books.specs.Lengths.{state_over}
@@ -67,9 +67,6 @@ of_none None P is h = h
 of_none (Some y) P is h = absurd (let no : ⊥ = cc in no)
 
 -- ---- scripts
-
-pub arena_again : (a : Arena) → IsScript a → arena_of (script_of a) ≡ a
-arena_again a script = sym (ap (λ (ns : List Node). record a { nodes = ns }) script.numbered)
 
 pub whole_named : (s : NamedScript) → IsScript s.script → IsWhole (named_of s)
 whole_named s script =
@@ -138,15 +135,8 @@ pub held_by : (es : List Effect) (cells : List Val) (r : Bool) → AreOn (length
 held_by es cells true on h = sym (when_some (are_held es cells) (ends_so es cells on (h.0 refl)))
 held_by es cells false on h = sym (when_none (are_held es cells) (ends_not es cells (λ holds. let t : false ≡ true = h.1 holds in absurd (let no : ⊥ = cc in no))))
 
-on_from : (n : ℕ) (es : List Effect) → are_on n es ≡ true → AreOn n es
-on_from n [] h = tt
-on_from n (e ∷ es) h =
-    let both = and_parts (nat_lt (cell_of e) n) (are_on n es) h in
-    let low = both.0 in
-    (grind (arith, nat_tests, low), on_from n es both.1)
-
 -- what a test of the effects of a page says
-pub held_so : (p : ToldPage) (cells : List Val) (items : List effects.Effect) (test r : Bool) → test ≡ r → test ≡ are_held (map effect_of items) cells → items ≡ p.effects.items
+pub held_so : (p : ShownPage) (cells : List Val) (items : List effects.Effect) (test r : Bool) → test ≡ r → test ≡ are_held (map effect_of items) cells → items ≡ p.effects.items
     → r ≡ are_held (effects_in p) cells
 held_so p cells items test r is so same = sym is ∙ (so ∙ ap (λ (es : List effects.Effect). are_held (map effect_of es) cells) same)
 
@@ -229,7 +219,7 @@ module _ (scripts : List Named) (old : kept.Book) (script : ℕ) (c : Claim) (se
       (λ n. none_either seen (held (book_beside scripts n old) (opening_told script c) []) (ap (λ (s : Option Named). s >>= (λ a. if_held (map effect_of c.effects.items) a.script.cells [])) none)) has
 
   module _ (s : Named) (found : slice_get scripts script ≡ Some s) where
-    module _ (p : ToldPage) (page : IsPageOf (arena_of s.script) None c p) where
+    module _ (p : ShownPage) (page : IsPageOf (arena_of s.script) None c p) where
       opening_state : (earlier : Earlier) → told_in scripts earlier old (opening_told script c) (Some c.state) ≡ told (suspended_of p.state)
       opening_state earlier = ap (λ (x : Option Named). told_by None x (Some c.state)) found ∙ ap told_as page.state
 
@@ -426,7 +416,7 @@ module _ (scripts : List Named) (old : kept.Book) (k m : ℕ) (answer : Value) (
     pub extension_misread : read_form (arena_of s.script) before c.state ≡ None → IsTold scripts (extension_told k m answer c) (Some c.state) seen false old old
     extension_misread none earlier has = misread_so scripts earlier (extension_told k m answer c) (Some c.state) seen old (told_is earlier has None none)
 
-    module _ (p : ToldPage) (page : IsPageOf (arena_of s.script) before c p) where
+    module _ (p : ShownPage) (page : IsPageOf (arena_of s.script) before c p) where
       extension_state : (earlier : Earlier) → HasToldStates scripts earlier.states old → told_in scripts earlier old (extension_told k m answer c) (Some c.state) ≡ told (suspended_of p.state)
       extension_state earlier has = told_is earlier has (Some (suspended_of p.state)) page.state
 

@@ -52,13 +52,13 @@ pub all_bytes : (place : ℕ) (bodies : List (List ℕ)) (old new : Reader) → 
 all_bytes place [] old new t = tt
 all_bytes place (body ∷ bodies) old new t = (t.1.bytes, all_bytes (place + 5 + length body) bodies t.0 new t.2)
 
-pub all_same : (place : ℕ) (bodies : List (List ℕ)) (old new : Reader) → TakesAll IsTaken old place bodies new → (new.setup.now ≡ old.setup.now) × (new.shelf ≡ old.shelf)
+all_same : (place : ℕ) (bodies : List (List ℕ)) (old new : Reader) → TakesAll IsTaken old place bodies new → (new.setup.now ≡ old.setup.now) × (new.shelf ≡ old.shelf)
 all_same place [] old new t = (ap (λ (r : Reader). r.setup.now) t, ap (λ (r : Reader). r.shelf) t)
 all_same place (body ∷ bodies) old new t =
     let rest = all_same (place + 5 + length body) bodies t.0 new t.2 in (rest.0 ∙ t.1.same.setup, rest.1 ∙ t.1.same.shelf)
 
 -- from no record on
-pub made_of_all : (setup : Setup) (shelf : ℕ) (bodies : List (List ℕ)) (old new : Reader) → old.setup.now ≡ setup → old.shelf ≡ shelf → old.found ≡ found.Nothing → seen_by old.seen ≡ []
+made_of_all : (setup : Setup) (shelf : ℕ) (bodies : List (List ℕ)) (old new : Reader) → old.setup.now ≡ setup → old.shelf ≡ shelf → old.found ≡ found.Nothing → seen_by old.seen ≡ []
     → TakesAll IsTaken old 8 bodies new → Gives (scripts_of setup) (length (at_rest bodies)) new.found new.seen (book_of (scripts_of setup) shelf bodies)
 made_of_all setup shelf bodies old new same number empty none t =
     let start : Gives (scripts_of setup) 9 old.found old.seen nothing =
@@ -200,7 +200,15 @@ owned_of_all setup shelf bodies old new same number empty none t own =
     all_owned setup shelf 8 [] bodies old new t same number refl own start (subst (HasStates (scripts_of setup)) (sym empty) tt)
 
 -- what was kept of a reader under its own setup
-pub kept_under : (setup : Setup) (shelf : ℕ) (r : Reader) → r.setup.now ≡ setup → r.shelf ≡ shelf → IsKept (scripts_of r.setup.now) r.shelf r.seen r.found
+kept_under : (setup : Setup) (shelf : ℕ) (r : Reader) → r.setup.now ≡ setup → r.shelf ≡ shelf → IsKept (scripts_of r.setup.now) r.shelf r.seen r.found
     → IsKept (scripts_of setup) shelf r.seen r.found
 kept_under setup shelf r same number h =
     subst (λ (n : ℕ). IsKept (scripts_of setup) n r.seen r.found) number (subst (λ (s : Setup). IsKept (scripts_of s) r.shelf r.seen r.found) same h)
+
+-- from no record on: what was kept, and that it is what the records make
+pub taken_all : (setup : Setup) (shelf : ℕ) (bodies : List (List ℕ)) (old new : Reader) → old.setup.now ≡ setup → old.shelf ≡ shelf → old.found ≡ found.Nothing → seen_by old.seen ≡ []
+    → TakesAll IsTaken old 8 bodies new → IsKept (scripts_of new.setup.now) new.shelf new.seen new.found
+    → IsKept (scripts_of setup) shelf new.seen new.found × Gives (scripts_of setup) (length (at_rest bodies)) new.found new.seen (book_of (scripts_of setup) shelf bodies)
+taken_all setup shelf bodies old new setup_is shelf_is empty none t sound =
+    let same = all_same 8 bodies old new t in
+    (kept_under setup shelf new (same.0 ∙ setup_is) (same.1 ∙ shelf_is) sound, made_of_all setup shelf bodies old new setup_is shelf_is empty none t)

@@ -1,5 +1,6 @@
 -- What a reader of records has made so far.
-use Rattle.std.specs.Prelude.{◌≡◌, ℕ, ◌+◌, Bool, true, false, List, [], length, Option, Some, None, ⊤}
+use Rattle.std.specs.Prelude.{◌≡◌, ℕ, ◌+◌, Bool, true, false, List, [], length, Option, Some, None, ⊤, Result, IfOk, IfSome}
+use Rattle.std.specs.declared.alloc.AllocError.{AllocError}
 use Rattle.script_nodes.specs.Setup.{Named}
 use Rattle.script_nodes.specs.Views.{scripts_of}
 use Rattle.value_bytes.specs.Laws.{AreBytes}
@@ -11,7 +12,7 @@ use Rattle.replay_spec.specs.Remade.{IsOrderlyMade}
 use Rattle.instance_book.specs.declared.in_order.InOrder.{InOrder}
 use Rattle.instance_book.specs.declared.book.Book.{Book}
 use Rattle.instance_book.specs.Orders.{numbers_of}
-use Rattle.instance_book.specs.Makes.{HasPlaces}
+use Rattle.instance_book.specs.Makes.{HasPlaces, HasItsStates}
 use Rattle.instance_book.specs.Told.{no_rules, book_beside}
 use Rattle.machine_spec.specs.Machine.{Suspended}
 use Rattle.journal_records.specs.Records.{Record, begins, changes}
@@ -143,6 +144,17 @@ IsOwnBehind scripts seen b r =
 abbrev pub IsOwnFor : List Named → InOrder (Unit {0}) → Found → (body : List ℕ) → Type 0
 IsOwnFor scripts seen (found.Made b) body = IsOwnBehind scripts seen b (read_record body)
 IsOwnFor scripts seen _ body = ⊤
+
+-- behind a record that may follow others and is an own one, where each page of the book has the state of its chain, so has each of the
+-- book that it makes
+abbrev pub KeepsOwnStates : List Named → InOrder (Unit {0}) → Book → Record → Result (Option Book) AllocError → Type 0
+KeepsOwnStates scripts seen b r result =
+    is_later (length scripts) r ≡ true → IsOwnBehind scripts seen b (Some r) → HasItsStates scripts b
+    → IfOk result (λ made. IfSome made (HasItsStates scripts))
+
+-- so it is with its body
+abbrev pub KeepsOwnWith : List Named → InOrder (Unit {0}) → Book → (body : List ℕ) → Found → Type 0
+KeepsOwnWith scripts seen b body new = IsOwnFor scripts seen (found.Made b) body → HasItsStates scripts b → HasStates scripts new
 
 -- a reader takes one body more, which is bytes
 pub record IsTaken (old : Reader) (place : ℕ) (body : List ℕ) (new : Reader) : Type 0 where

@@ -17,7 +17,7 @@ use Rattle.stored_states.specs.Views.{suspended_of}
 use Rattle.frame_codec.specs.Stored.{IsStored}
 use Rattle.frame_codec.specs.Forms.{read_form}
 use Rattle.instance_book.specs.declared.book.Book.{Book}
-use Rattle.instance_book.specs.declared.retold.ToldPage.{ToldPage}
+use Rattle.instance_book.specs.declared.shown.ShownPage.{ShownPage}
 use Rattle.instance_book.specs.Makes.{HasStatesFrom, HasItsStates}
 use Rattle.instance_book.specs.Places.{given}
 use Rattle.instance_book.specs.Told.{no_rules, book_beside}
@@ -60,7 +60,7 @@ are_held es cells = are_on (length cells) es && hold_over es cells
 
 -- the page is the one that was claimed, with the state that its bytes are for this script behind that one, inside the transactions of
 -- its own
-pub record IsPageOf (a : Arena) (before : Option Suspended) (c : Claim) (p : ToldPage) : Type 0 where
+pub record IsPageOf (a : Arena) (before : Option Suspended) (c : Claim) (p : ShownPage) : Type 0 where
   pub kind : p.kind ≡ c.kind
   pub effects : p.effects.items ≡ c.effects.items
   pub left : p.left.items ≡ c.left.items

@@ -1,5 +1,5 @@
-ghost use Rattle.std.specs.Prelude.{◌≡◌, ◌<◌, ◌≤◌, ◌+◌, ◌^◌, length, IfOk, IfSome, OnOk, Some, true};
-ghost use Rattle.instance_book.specs.Makes.{HasPlaces, HasItsStates};
+ghost use Rattle.std.specs.Prelude.{◌≡◌, ◌<◌, ◌≤◌, ◌+◌, ◌^◌, length, IfOk, IfSome, OnOk};
+ghost use Rattle.instance_book.specs.Makes.{HasPlaces};
 ghost use Rattle.journal_records.specs.Records.{IsInGrammar};
 ghost use Rattle.journal_records.specs.Views.{logged_of};
 ghost use Rattle.book_recovery.specs.Remaking.{number_by};
@@ -43,7 +43,7 @@ fn number_of(logged: &Logged) -> Option<u64>
 
 impl Reader<'_> {
     ghost use Rattle.book_recovery.specs.declared.found.Found.TheVariants as found;
-    ghost use Rattle.book_recovery.specs.Reading.{scripts_for, IsUnderWay, IsRemade, Sees, SeesNumber, is_later, is_begin, GivesWith, IsKept, IsOwnBehind, IsOwnFor, IsSoundReader, IsSameReader, IsTaken, seen_by};
+    ghost use Rattle.book_recovery.specs.Reading.{scripts_for, IsUnderWay, IsRemade, Sees, SeesNumber, is_later, is_begin, GivesWith, IsKept, KeepsOwnStates, KeepsOwnWith, IsSoundReader, IsSameReader, IsTaken, seen_by};
     ghost use Rattle.book_recovery.specs.Found.{HasStates};
     ghost use Rattle.replay_spec.specs.Recovery.{is_repeated};
 
@@ -89,10 +89,8 @@ impl Reader<'_> {
         ensures made { IfOk result
             (IsRemade (scripts_for self.old) self.old.seen (logged_of logged) book) }
         ensures placed { IfOk result (λ found. IfSome found (HasPlaces (scripts_for self.old))) }
-        ensures states { is_later (length (scripts_for self.old)) (logged_of logged) ≡ true
-            → IsOwnBehind (scripts_for self.old) self.old.seen book (Some (logged_of logged))
-            → HasItsStates (scripts_for self.old) book
-            → IfOk result (λ found. IfSome found (HasItsStates (scripts_for self.old))) }
+        ensures states { KeepsOwnStates
+            (scripts_for self.old) self.old.seen book (logged_of logged) result }
         ensures sees { OnOk result (Sees (logged_of logged) self.old.seen self.new.seen) }
         ensures same { IsSameReader self.old self.new }
     {
@@ -111,8 +109,7 @@ impl Reader<'_> {
         requires room { place + 6 + length body.now ≤ 2 ^ 30 }
         ensures gives { GivesWith (scripts_for self.old) self.old.shelf place body.now
             (found.Made book) result self.old.seen self.new.seen }
-        ensures owns { IsOwnFor (scripts_for self.old) self.old.seen (found.Made book) body.now
-            → HasItsStates (scripts_for self.old) book → HasStates (scripts_for self.old) result }
+        ensures owns { KeepsOwnWith (scripts_for self.old) self.old.seen book body.now result }
         ensures kept { IsKept (scripts_for self.old) self.old.shelf self.new.seen result }
         ensures same { IsSameReader self.old self.new }
     {

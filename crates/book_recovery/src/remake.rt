@@ -14,7 +14,7 @@ ghost use Rattle.journal_records.specs.Views.{page_of, ending_of, finish_of, log
 ghost use Rattle.book_recovery.specs.Remaking.{IsMadeBy, IsTold, opening_told, extension_told, are_held, number_by};
 
 use frame_codec::{decode_form, forms_are_exact};
-use instance_book::{Book, ToldPage};
+use instance_book::{Book, ShownPage};
 use instance_cells::{Cells, Effect};
 use journal_records::{Logged, LoggedEnded, LoggedFinish, LoggedPage, Origin};
 use script_nodes::{Script, SendKind, Setup};
@@ -65,7 +65,7 @@ impl Claim {
         alloc: Global,
         script: &Script,
         before: Option<&Suspended>,
-    ) -> Result<Option<ToldPage>, AllocError>
+    ) -> Result<Option<ShownPage>, AllocError>
         requires { IsStoredBefore (arena_of (script_of script.now)) (before_of before) }
         ensures some { IfOk result (λ page. IfSome page
             (IsPageOf (arena_of (script_of script.now)) (before_of before.entry) self)) }
@@ -78,7 +78,7 @@ impl Claim {
         let Some(state) = state_in(alloc, script, before, self.state.as_slice())? else {
             return Ok(None);
         };
-        Ok(Some(ToldPage {
+        Ok(Some(ShownPage {
             kind: self.kind,
             effects: self.effects,
             inside: state.inside(alloc)?,

@@ -21,7 +21,7 @@ use Rattle.instance_book.specs.declared.prepared.Opening.{Opening}
 use Rattle.instance_book.specs.declared.prepared.Change.TheVariants.{Opens}
 use Rattle.instance_book.specs.declared.after.After.{After}
 use Rattle.instance_book.specs.declared.after.Show.{Show}
-use Rattle.instance_book.specs.declared.retold.ToldPage.{ToldPage}
+use Rattle.instance_book.specs.declared.shown.ShownPage.{ShownPage}
 use Rattle.instance_book.specs.declared.ticket.Ticket.{Ticket}
 use Rattle.instance_book.specs.Views.{script_in, no_script}
 use Rattle.instance_book.specs.Changes.{begun_with, shown_with, ended_with, changed_by}
@@ -49,7 +49,7 @@ holds_from (e ∷ es) cells h never =
     let both = and_parts (stands_over e w) (hold_over es (landed e cells)) h in
     stands_from e w both.0 (λ s. holds_from es (landed e cells) both.1 (λ hs. never (s, hs)))
 
-on_from : (n : ℕ) (es : List Effect) → are_on n es ≡ true → AreOn n es
+pub on_from : (n : ℕ) (es : List Effect) → are_on n es ≡ true → AreOn n es
 on_from n [] h = tt
 on_from n (e ∷ es) h =
     let both = and_parts (nat_lt (cell_of e) n) (are_on n es) h in
@@ -90,7 +90,7 @@ module _ (b : Book) (k m : ℕ) (es : List Effect) where
   ended_there i p e f = rw (e, f) refl
 
 -- what lands
-pub opening_landed : (scripts : List Named) (t : Ticket) (p : ToldPage) (b c d : Book) (o : Opening) (s : Named) → b.scripts ≡ scripts → slice_get scripts t.script ≡ Some s
+pub opening_landed : (scripts : List Named) (t : Ticket) (p : ShownPage) (b c d : Book) (o : Opening) (s : Named) → b.scripts ≡ scripts → slice_get scripts t.script ≡ Some s
     → t.cells ≡ s.script.cells → IsOpenedBy t p o → c ≡ changed_by scripts (Some (Opens o)) b → d ≡ counted_to t.number c
     → d ≡ land no_rules (told_opening t p) p.inside.items b
 opening_landed scripts t p b c d o s setup found cells opens changed counted =
@@ -108,7 +108,7 @@ opening_landed scripts t p b c d o s setup found cells opens changed counted =
     ∙ (ap (λ (i : Instance). counted_to t.number (record b { instances = put_instance i b.instances })) begins
     ∙ ap (λ (is : List Instance). counted_to t.number (record b { instances = is })) (sym opened)))
 
-pub extension_landed : (scripts : List Named) (t : Ticket) (k m : ℕ) (p : ToldPage) (b c d : Book) (show : Show) (i : Instance) → instance_at k b.instances ≡ Some i
+pub extension_landed : (scripts : List Named) (t : Ticket) (k m : ℕ) (p : ShownPage) (b c d : Book) (show : Show) (i : Instance) → instance_at k b.instances ≡ Some i
     → shown_with show i ≡ shown_by (effects_in p) p.left.items p.kind (next_page t m (effects_in p) p.inside.items p.deadline) i
     → c ≡ record b { instances = mend k (shown_with show) b.instances } → d ≡ counted_to t.number c
     → d ≡ land no_rules (told_extension t k m p) p.inside.items b

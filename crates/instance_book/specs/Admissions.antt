@@ -1,6 +1,7 @@
 -- What the program's admissions stand for in the definitions.
-use Rattle.std.specs.Prelude.{◌≡◌, ℕ, List, Option, Some, None, option_map, slice_get, ⊤}
+use Rattle.std.specs.Prelude.{◌≡◌, ℕ, List, Option, Some, None, option_map, slice_get, ⊤, Result, IfOk, IfSome}
 use Rattle.std.specs.Borrow.{Bor}
+use Rattle.std.specs.declared.alloc.AllocError.{AllocError}
 use Rattle.script_value.specs.declared.outcome.Refusal.{Refusal}
 use Rattle.script_nodes.specs.Setup.{Named}
 use Rattle.script_nodes.specs.Views.{named_of, scripts_of}
@@ -22,9 +23,11 @@ use Rattle.instance_book.specs.declared.admission.Place.{Place}
 use Rattle.instance_book.specs.declared.admission.Admission.{Admission}
 use Rattle.instance_book.specs.declared.admission.Admission.TheVariants.{Begins, Resumes, Refused}
 use Rattle.instance_book.specs.declared.ticket.Ticket.{Ticket}
+use Rattle.machine_spec.specs.Machine.{Suspended}
 use Rattle.instance_book.specs.Views.{page_of, pages_of, instance_of, instances_of, book_of, ticket_of}
-use Rattle.instance_book.specs.Places.{Source, own, source_in, kept_at, shown_in, HasState, HaveStates}
-use Rattle.instance_book.specs.Fits.{IsFor, FitsStart, FitsAs, FitsIfStart}
+use Rattle.instance_book.specs.Places.{Source, own, given, source_in, kept_at, shown_in, HasState, HaveStates}
+use Rattle.instance_book.specs.Makes.{HasStatesFrom, HasItsStates}
+use Rattle.instance_book.specs.Fits.{IsFor, FitsStart, FitsAs, FitsIfStart, IsStoredOrigin, GoesOnGiven}
 
 abbrev pub place_of : List Named → Place → spec.Place
 place_of scripts p = record { instance = instance_of scripts p.instance.now; page = page_of p.page.now }
@@ -58,6 +61,19 @@ named_if s = option_map (λ n. named_of n.now) s
 abbrev pub script_at : List Named → (instance : ℕ) → Book → Option Named
 script_at scripts n b = option_map (λ i. i.script) (book.instance_at n (instances_of scripts b.instances))
 
+-- it is that of the instance
+abbrev pub IsScriptOf : List Named → Numbered KeptInstance → Option (Bor NamedScript) → Type 0
+IsScriptOf scripts i s = named_if s ≡ Some (instance_of scripts i).script
+
+-- where each page of the book has the state of its chain, so have those of the place's instance; and so it is with given states
+abbrev pub IsKeptWhere : Setup → Book → Option Place → Type 0
+IsKeptWhere setup b p = HasItsStates (scripts_of setup) b → IfSome p (IsKeptAt (scripts_of setup) (own b.shelf))
+
+abbrev pub IsGivenWhere : Setup → Book → Option Place → Type 0
+IsGivenWhere setup b p =
+    (states : ℕ → Option Suspended) → HasStatesFrom (given states) (scripts_of setup) b
+    → IfSome p (IsKeptAt (scripts_of setup) (given states))
+
 -- the book under this setup; admission looks at neither a journal nor a doubt
 abbrev pub book_under : Setup → Book → book.Book
 book_under setup b = book_of (scripts_of setup) 0 None b
@@ -81,6 +97,10 @@ admission_for setup b target = spec.admit (book_under setup b) (target_of target
 abbrev pub refusal_for : Setup → Book → Target → Option Refusal
 refusal_for setup b target = spec.refusal_of (admission_for setup b target)
 
+-- a refusal is why the target is not admitted
+abbrev pub IsRefusalFor : Setup → Book → Target → Refusal → Type 0
+IsRefusalFor setup b target r = refusal_for setup b target ≡ Some r
+
 abbrev pub IsAdmittedAs : Setup → Book → Target → Admission → Type 0
 IsAdmittedAs setup b target a = admission_of (scripts_of setup) a ≡ admission_for setup b target
 
@@ -101,9 +121,28 @@ abbrev pub FitsPlace : Setup → Book → Place → Ticket → Type 0
 FitsPlace setup b place t =
     IsFor (scripts_of setup) t (next.page_visit (book_under setup b) (ticket_of t) (place_of (scripts_of setup) place))
 
+-- where each page of the place's instance has the state of its chain, the ticket is for the answer to its page
+abbrev pub FitsWhereKept : Setup → Book → Place → Result Ticket AllocError → Type 0
+FitsWhereKept setup b place result =
+    IsKeptAt (scripts_of setup) (own b.shelf) place → IfOk result (FitsPlace setup b place)
+
+-- where states are given to them, it goes on from the one that is given to the page
+abbrev pub GoesOnAsGiven : Setup → Place → Result Ticket AllocError → Type 0
+GoesOnAsGiven setup place result =
+    (states : ℕ → Option Suspended) → IsKeptAt (scripts_of setup) (given states) place
+    → IfOk result (GoesOnGiven states (place_of (scripts_of setup) place))
+
+-- what it goes on from is a state of the place's script that can be written
+abbrev pub GoesOnStored : Place → Ticket → Type 0
+GoesOnStored place t = IsStoredOrigin (named_of place.script.now) t.from
+
 -- where the target is admitted in the book, the ticket is for the visit
 abbrev pub FitsIn : Setup → Book → Target → Ticket → Type 0
 FitsIn setup b target t = FitsAs (scripts_of setup) (book_under setup b) t (admission_for setup b target)
+
+-- so it is where each page of the book has the state of its chain
+abbrev pub FitsInKept : Setup → Book → Target → Result Ticket AllocError → Type 0
+FitsInKept setup b target result = HasItsStates (scripts_of setup) b → IfOk result (FitsIn setup b target)
 
 -- where the target is admitted as a start, the ticket is for the visit of it
 abbrev pub StartsIn : Setup → Book → Target → Ticket → Type 0
@@ -118,3 +157,7 @@ ResumesPlaced scripts _ = ⊤
 abbrev pub ResumesKept : List Named → (shelf : ℕ) → Admission → Type 0
 ResumesKept scripts shelf (Resumes place) = IsKeptAt scripts (own shelf) place
 ResumesKept scripts shelf _ = ⊤
+
+-- so it is where each page of the book has the state of its chain
+abbrev pub ResumesWhereKept : Setup → Book → Admission → Type 0
+ResumesWhereKept setup b a = HasItsStates (scripts_of setup) b → ResumesKept (scripts_of setup) b.shelf a

@@ -3,6 +3,7 @@ use Rattle.std.specs.Prelude.{◌≡◌, ℕ, List, Option}
 use Rattle.script_nodes.specs.Setup.{Named}
 use Rattle.replay_spec.specs.Book as spec
 use Rattle.replay_spec.specs.Step as step
+use Rattle.stored_states.specs.Views.{suspended_of}
 use Rattle.instance_book.specs.declared.in_order.InOrder.{InOrder}
 use Rattle.instance_book.specs.declared.page.KeptPage.{KeptPage}
 use Rattle.instance_book.specs.declared.instance.KeptInstance.{KeptInstance}
@@ -34,6 +35,13 @@ pub record IsSameShow (s copy : Show) : Type 0 where
 -- the instance that begins is the same
 abbrev pub BeginsAlike : (o copy : Opening) → Type 0
 BeginsAlike o copy = (scripts : List Named) → begun_with scripts copy ≡ begun_with scripts o
+
+-- it tells the same state; and its instance has the same pages
+abbrev pub TellsAlike : (o copy : Opening) → Type 0
+TellsAlike o copy = suspended_of copy.state ≡ suspended_of o.state
+
+abbrev pub HasSamePages : (o copy : Opening) → Type 0
+HasSamePages o copy = IsSamePages o.instance.pages copy.instance.pages
 
 -- the same record, and the same is made of each instance
 pub record IsSameExtension (x copy : Extension) : Type 0 where

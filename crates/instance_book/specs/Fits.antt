@@ -1,5 +1,6 @@
 -- The visit that a ticket is for.
-use Rattle.std.specs.Prelude.{◌≡◌, ℕ, List, [], ◌∷◌, ◌++◌, Option, Some, None, slice_get, length, ⊤}
+use Rattle.std.specs.Prelude.{◌≡◌, ℕ, List, [], ◌∷◌, ◌++◌, Option, Some, None, slice_get, length, option_map, ⊤}
+use Rattle.std.specs.Borrow.{Bor}
 use Rattle.script_nodes.specs.Arena.{Arena}
 use Rattle.script_nodes.specs.Setup.{Named}
 use Rattle.replay_spec.specs.Book as spec
@@ -8,10 +9,11 @@ use Rattle.replay_spec.specs.Next.{Visit, url_for, home_of, page_tape, start_vis
 use Rattle.machine_spec.specs.Machine.{Suspended}
 use Rattle.machine_spec.specs.Fits.{Fits}
 use Rattle.machine_spec.specs.Laws.{IsStateOf}
-use Rattle.stored_states.specs.Views.{origin_of}
+use Rattle.stored_states.specs.Views.{origin_of, suspended_of}
+use Rattle.stored_states.specs.declared.frame.Suspended as stored
 use Rattle.frame_codec.specs.Stored.{IsStored}
 use Rattle.stored_states.specs.declared.segment.Origin.{Origin}
-use Rattle.kept_states.specs.Links.{links_at}
+use Rattle.kept_states.specs.Links.{links_at, behind_at}
 use Rattle.instance_book.specs.declared.ticket.Ticket.{Ticket}
 use Rattle.instance_book.specs.Views.{ticket_of}
 use Rattle.instance_book.specs.Places.{Source, own, given, IsGiven, arena_of}
@@ -101,3 +103,7 @@ pub record IsCopy (copy t : Ticket) : Type 0 where
   pub from : origin_of copy.from ≡ origin_of t.from
   pub links : copy.links ≡ t.links
   pub cells : copy.cells ≡ t.cells
+
+-- it is the state that a page of the ticket's segment is written behind
+abbrev pub IsWrittenBehind : Ticket → Option (Bor stored.Suspended) → Type 0
+IsWrittenBehind t d = option_map (λ x. suspended_of x.now) d ≡ behind_at t.links (origin_of t.from)

@@ -1,5 +1,6 @@
 -- Fronts of the states of pages.
-use Rattle.std.specs.Prelude.{◌≡◌}
+use Rattle.std.specs.Prelude.{◌≡◌, ℕ, Result, IfOk}
+use Rattle.std.specs.declared.alloc.AllocError.{AllocError}
 use Rattle.script_nodes.specs.Setup.{Named}
 use Rattle.stored_states.specs.Views.{suspended_of}
 use Rattle.stored_states.specs.declared.frame.Suspended as stored
@@ -13,3 +14,7 @@ use Rattle.instance_book.specs.Places.{AreStatesOf}
 -- such a front of the page's state is this
 abbrev pub IsFrontIn : Named → InOrder KeptPage → Numbered KeptPage → Need → stored.Suspended → Type 0
 IsFrontIn s ps p n d = (are : AreStatesOf s ps p) → front n are.own.state ≡ suspended_of d
+
+-- so it is of a page of so many links
+abbrev pub IsFrontAt : Named → InOrder KeptPage → Numbered KeptPage → Need → (links : ℕ) → Result stored.Suspended AllocError → Type 0
+IsFrontAt s ps p n links result = p.item.state.links ≡ links → IfOk result (IsFrontIn s ps p n)

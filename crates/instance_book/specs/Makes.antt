@@ -10,7 +10,8 @@ use Rattle.instance_book.specs.declared.page.KeptPage.{KeptPage}
 use Rattle.instance_book.specs.declared.instance.KeptInstance.{KeptInstance}
 use Rattle.instance_book.specs.declared.book.Book.{Book}
 use Rattle.instance_book.specs.Views.{instance_of, instances_of, book_of}
-use Rattle.instance_book.specs.Places.{Source, own, seen_from, IsKept, AreKept, IsPlaced, ArePlaced, IsNextAt}
+use Rattle.machine_spec.specs.Machine.{Suspended}
+use Rattle.instance_book.specs.Places.{Source, own, given, seen_from, IsKept, AreKept, IsPlaced, ArePlaced, IsNextAt}
 
 -- whatever the setup, of the one list this was made
 abbrev pub AllBecome : (List spec.Instance → List spec.Instance) → (old new : InOrder KeptInstance) → Type 0
@@ -66,6 +67,10 @@ HasStatesFrom source scripts b = AreKept scripts (shelf_from source b.shelf) b.i
 
 abbrev pub HasItsStates : List Named → Book → Type 0
 HasItsStates scripts b = AreKept scripts (own b.shelf) b.instances
+
+-- whichever states are given to its pages, they have them: so it is where there is none
+abbrev pub HasWhatIsGiven : Book → Type 0
+HasWhatIsGiven b = (states : ℕ → Option Suspended) (scripts : List Named) → HasStatesFrom (given states) scripts b
 
 abbrev pub KeepsStates : (old new : Book) → Type 0
 KeepsStates old new =

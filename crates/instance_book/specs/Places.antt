@@ -1,6 +1,7 @@
 -- What is kept of an instance: its script's place in the setup, and of each page its state.
-use Rattle.std.specs.Prelude.{◌≡◌, ◌<◌, ℕ, List, [], ◌∷◌, map, length, reverse, Option, Some, None}
+use Rattle.std.specs.Prelude.{◌≡◌, ◌<◌, ℕ, List, [], ◌∷◌, map, length, reverse, Option, Some, None, option_map}
 use Rattle.std.specs.List.{AllByRecursion}
+use Rattle.std.specs.Borrow.{Bor}
 use Rattle.script_nodes.specs.Arena.{Arena}
 use Rattle.script_nodes.specs.Layout.{layout}
 use Rattle.script_nodes.specs.Setup.{Named, Script}
@@ -36,6 +37,20 @@ shown_of p = (page_of p, kept_at p)
 
 abbrev pub shown_in : InOrder KeptPage → List (spec.Page × Kept)
 shown_in ps = map shown_of ps.things.items
+
+-- the page of a number; and with what is kept of its state
+abbrev pub IsPageAt : ℕ → InOrder KeptPage → Option (Bor (Numbered KeptPage)) → Type 0
+IsPageAt n ps p = option_map (λ x. page_of x.now) p ≡ spec.page_at n (pages_of ps)
+
+abbrev pub IsShownAt : ℕ → InOrder KeptPage → Option (Bor (Numbered KeptPage)) → Type 0
+IsShownAt n ps p = option_map (λ x. shown_of x.now) p ≡ spec.at_number (λ x. x.0.number) n (shown_in ps)
+
+-- one page more, in the place of the one of its number; and with what is kept of its state
+abbrev pub PutsPage : Numbered KeptPage → (old new : InOrder KeptPage) → Type 0
+PutsPage p old new = pages_of new ≡ put_page (page_of p) (pages_of old)
+
+abbrev pub PutsShown : Numbered KeptPage → (old new : InOrder KeptPage) → Type 0
+PutsShown p old new = shown_in new ≡ put_in_order (λ x. x.0.number) (shown_of p) (shown_in old)
 
 -- Which states the pages of a book have: those of their chains, which are looked at from a shelf or a home; or those that are given to
 -- their numbers.

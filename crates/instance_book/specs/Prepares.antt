@@ -1,5 +1,5 @@
 -- What a visit is prepared as.
-use Rattle.std.specs.Prelude.{◌≡◌, ◌⊎◌, ℕ, ◌+◌, List, [], ◌∷◌, length, Option, Some, None, IfSome, Result, Ok, Err, ⊤, slice_get}
+use Rattle.std.specs.Prelude.{◌≡◌, ◌⊎◌, ℕ, ◌+◌, List, [], ◌∷◌, length, Option, Some, None, IfSome, Result, Ok, Err, ⊤, slice_get, IfOk}
 use Rattle.script_value.specs.Val.{list, no_vals}
 use Rattle.script_value.specs.Views.{meaning}
 use Rattle.script_value.specs.declared.outcome.Reply.{Reply}
@@ -207,6 +207,10 @@ AnswersOn book t n s pages life result =
     → let rules = rules_with fuel life instances pages in
     Prepares scripts rules b (settles rules b (length at.instance.pages) (page_visit b (ticket_of t) at) s) result
 
+-- so it is with what the program's segment came to
+abbrev pub AnswersBy : Book → Ticket → PageName → stored.Segment → (pages life : ℕ) → Result Prepared Reply → Type 0
+AnswersBy book t n r pages life result = AnswersOn book t n (segment_of r) pages life result
+
 -- the effects are on the cells of the instance; on those of the ticket's instance, which a start's ticket has itself
 abbrev pub IsOnCells : Book → (instance : ℕ) → List Effect → Type 0
 IsOnCells b n effects = IfSome (cells_at n b) (λ cells. AreOn (length cells) effects)
@@ -230,6 +234,10 @@ IsPrepared book t s instances pages life result =
     (scripts : List Named) (length_now : ℕ) (down : Option Doubt) (fuel : ℕ) (a : Admission)
     → let b = book_of scripts length_now down book in admit b (target_of t.target) ≡ a → refusal_of a ≡ None → FitsAs scripts b t a
     → let rules = rules_with fuel life instances pages in Prepares scripts rules b (settled rules b t a s) result
+
+-- so it is with what the program's segment came to
+abbrev pub IsPreparedBy : Book → Ticket → stored.Segment → (instances pages life : ℕ) → Result Prepared Reply → Type 0
+IsPreparedBy book t r instances pages life result = IsPrepared book t (segment_of r) instances pages life result
 
 -- of the state of a ticket's page this is kept: as many links from one kept by itself as the ticket says, behind that from which
 -- the ticket goes on
@@ -281,6 +289,10 @@ StartKeepsState t r c = ShowsNone c ⊎ OpensFrom t r c
 abbrev pub AnswerKeepsState : Ticket → stored.Segment → (instance answered : ℕ) → Option Change → Type 0
 AnswerKeepsState t r instance answered c = ShowsNone c ⊎ ExtendsFrom t r instance answered c
 
+-- so it is of what is prepared for an answer to the page of this name
+abbrev pub KeepsAnswerState : Ticket → stored.Segment → PageName → Prepared → Type 0
+KeepsAnswerState t r n p = AnswerKeepsState t r n.instance n.page p.change
+
 -- the new page of a ticket, if there is one, is that of its segment
 abbrev pub KeepsStateOf : Ticket → stored.Segment → Destination → Option Change → Type 0
 KeepsStateOf t r (start name) c = StartKeepsState t r c
@@ -326,3 +338,13 @@ CarriesItself book t d p =
 pub record IsOfSegment (book : Book) (t : Ticket) (s : Segment) (d : Destination) (p : Prepared) : Type 0 where
   pub decision : IsDecisionBy t s d (decision_of p)
   pub lands : CarriesItself book t d p
+
+-- so it is for a start, whatever its script's name; for an answer to this page; and for what the ticket is for
+abbrev pub IsOfStart : Book → Ticket → stored.Segment → Result Prepared Reply → Type 0
+IsOfStart book t r result = (name : List ℕ) → IfOk result (IsOfSegment book t (segment_of r) (start name))
+
+abbrev pub IsOfAnswer : Book → Ticket → stored.Segment → PageName → Result Prepared Reply → Type 0
+IsOfAnswer book t r n result = (name : List ℕ) → IfOk result (IsOfSegment book t (segment_of r) (page name n))
+
+abbrev pub IsOfItsSegment : Book → Ticket → stored.Segment → Prepared → Type 0
+IsOfItsSegment book t r p = IsOfSegment book t (segment_of r) (target_of t.target) p

@@ -1,6 +1,7 @@
 -- What a record that is told again makes of a book.
-use Rattle.std.specs.Prelude.{◌≡◌, ◌<◌, ℕ, ◌+◌, max, List, [], length, map, Option, Some, None, slice_get, ⊤}
+use Rattle.std.specs.Prelude.{◌≡◌, ◌<◌, ℕ, ◌+◌, max, List, [], length, map, Option, Some, None, slice_get, ⊤, IfOk, IfSome, Result}
 use Rattle.std.specs.Borrow.{Bor}
+use Rattle.std.specs.declared.alloc.AllocError.{AllocError}
 use Rattle.script_value.specs.Val.{list, no_vals}
 use Rattle.script_value.specs.Views.{meaning}
 use Rattle.script_value.specs.declared.outcome.TxName.{TxName}
@@ -12,6 +13,7 @@ use Rattle.script_nodes.specs.declared.setup.Setup.{Setup}
 use Rattle.page_names.specs.Names.{start}
 use Rattle.instance_cells.specs.Cells.{Effect, AreOn, reads_of}
 use Rattle.instance_cells.specs.Views.{effect_of}
+use Rattle.instance_cells.specs.declared.effect.Effect as kept
 use Rattle.replay_spec.specs.Tape.{recorded, Tape}
 use Rattle.replay_spec.specs.Book as spec
 use Rattle.replay_spec.specs.Book.{instance_at, page_at, reopened}
@@ -29,14 +31,16 @@ use Rattle.frame_codec.specs.Spelling.{StateHasBytes}
 use Rattle.instance_book.specs.declared.numbered.Numbered.{Numbered}
 use Rattle.instance_book.specs.declared.instance.KeptInstance.{KeptInstance}
 use Rattle.instance_book.specs.declared.prepared.Opening.{Opening}
-use Rattle.instance_book.specs.declared.retold.ToldPage.{ToldPage}
+use Rattle.instance_book.specs.declared.prepared.Extension.{Extension}
+use Rattle.instance_book.specs.declared.shown.ShownPage.{ShownPage}
 use Rattle.instance_book.specs.declared.book.Book.{Book}
 use Rattle.instance_book.specs.declared.ticket.Ticket.{Ticket}
 use Rattle.instance_book.specs.Views.{instance_of, ticket_of, book_of}
 use Rattle.instance_book.specs.Places.{Source, own, given, IsGiven, arena_of}
-use Rattle.instance_book.specs.Makes.{Makes, HasPlaces, HasStatesFrom}
-use Rattle.instance_book.specs.Changes.{opening_of, begun_with}
-use Rattle.instance_book.specs.Prepares.{rules_with, first_instance, opening_by, extension_by, OpensAs}
+use Rattle.instance_book.specs.Makes.{Makes, HasPlaces, HasStatesFrom, HasItsStates}
+use Rattle.instance_book.specs.Changes.{opening_of, begun_with, extension_of}
+use Rattle.instance_book.specs.Prepares.{rules_with, first_instance, opening_by, extension_by, OpensAs, ExtendsAs}
+use Rattle.instance_book.specs.Segments.{GoesOnBy}
 use Rattle.instance_book.specs.Fits.{IsFor, FitsStart, IsStoredOrigin, GoesOnGiven, GoesOnBySource}
 use Rattle.instance_book.specs.Admissions.{book_under}
 
@@ -82,6 +86,36 @@ pub record AnswersStored (setup : Setup) (b : Book) (instance page : ℕ) (t : T
   pub found : page_of_numbers (book_under setup b) instance page ≡ Some at
   pub stored : IsStoredOrigin at.instance.script t.from
 
+-- the setup has no script of this place; and no page stands under these numbers
+abbrev pub LacksScript : Setup → (script : ℕ) → Type 0
+LacksScript setup script = slice_get (scripts_of setup) script ≡ None
+
+abbrev pub LacksPage : Setup → Book → (instance page : ℕ) → Type 0
+LacksPage setup b instance page = page_of_numbers (book_under setup b) instance page ≡ None
+
+-- a ticket, where there is one, is for the start, or for the answer
+abbrev pub StartsIfTold : Setup → Book → (script number nonce : ℕ) → Option Ticket → Type 0
+StartsIfTold setup b script number nonce t = IfSome t (StartsAgain setup b script number nonce)
+
+abbrev pub AnswersIfTold : Setup → Book → (instance page : ℕ) → Value → (number nonce : ℕ) → Option Ticket → Type 0
+AnswersIfTold setup b instance page answer number nonce t =
+    IfSome t (AnswersThere setup b instance page answer number nonce)
+
+-- where each page of the book has the state of its chain, it is for that answer with all that it goes on from
+abbrev pub AnswersWhereKept : Setup → Book → (instance page : ℕ) → Value → (number nonce : ℕ) → Result (Option Ticket) AllocError → Type 0
+AnswersWhereKept setup b instance page answer number nonce result =
+    HasItsStates (scripts_of setup) b → IfOk result (λ t. IfSome t (AnswersAgain setup b instance page answer number nonce))
+
+-- where states are given to the pages of the book, it goes on from the one that is given to the page
+abbrev pub AnswersAsGiven : Setup → Book → (instance page : ℕ) → Result (Option Ticket) AllocError → Type 0
+AnswersAsGiven setup b instance page result =
+    (states : ℕ → Option Suspended) → HasStatesFrom (given states) (scripts_of setup) b
+    → IfOk result (λ t. IfSome t (AnswersGiven setup b instance page states))
+
+-- what it goes on from can be written
+abbrev pub IsStoredIfTold : Setup → Book → (instance page : ℕ) → Option Ticket → Type 0
+IsStoredIfTold setup b instance page t = IfSome t (AnswersStored setup b instance page)
+
 -- what a record is landed under beside no journal: its length is measured by whoever keeps one
 abbrev pub no_rules : Rules
 no_rules = rules_with 0 0 0 0
@@ -109,7 +143,7 @@ IsReopened old new =
     (scripts : List Named) (length : ℕ) → book_beside scripts length new ≡ reopened (book_beside scripts length old)
 
 -- the page's effects, as the definitions have them
-abbrev pub effects_in : ToldPage → List Effect
+abbrev pub effects_in : ShownPage → List Effect
 effects_in p = map effect_of p.effects.items
 
 -- a start's page begins an instance so
@@ -119,25 +153,32 @@ pub record IsOpenedAs (t : Ticket) (effects : List Effect) (inside left : List T
   pub begun : (scripts : List Named) → begun_with scripts o ≡ first_instance scripts t effects inside left deadline
   pub kept : OpensAs t effects inside d o
 
-abbrev pub IsOpenedBy : Ticket → ToldPage → Opening → Type 0
+abbrev pub IsOpenedBy : Ticket → ShownPage → Opening → Type 0
 IsOpenedBy t p o = IsOpenedAs t (effects_in p) p.inside.items p.left.items p.kind p.deadline (suspended_of p.state) o
 
+-- an answer's page extends its instance so
+pub record IsExtendedBy (t : Ticket) (answered : ℕ) (p : ShownPage) (i : Numbered KeptInstance) (x : Extension) : Type 0 where
+  pub extension : extension_of x ≡ extension_by t i.number answered (effects_in p) p.left.items p.kind p.deadline
+  pub inside_is : x.show.page.item.inside.items ≡ p.inside.items
+  pub goes : GoesOnBy t answered p i.item x.show
+  pub kept : ExtendsAs t i.number answered (effects_in p) p.inside.items (suspended_of p.state) x
+
 -- the opening of a ticket's page, and its extension
-abbrev pub told_opening : Ticket → ToldPage → spec.Change
+abbrev pub told_opening : Ticket → ShownPage → spec.Change
 told_opening t p = spec.opens (opening_by t (effects_in p) p.left.items p.kind p.deadline)
 
-abbrev pub told_extension : Ticket → (instance answered : ℕ) → ToldPage → spec.Change
+abbrev pub told_extension : Ticket → (instance answered : ℕ) → ShownPage → spec.Change
 told_extension t instance answered p =
     spec.extends (extension_by t instance answered (effects_in p) p.left.items p.kind p.deadline)
 
 -- it lands, where the ticket is for a start of a script of the setup
-abbrev pub LandsOpening : Ticket → ToldPage → (old new : Book) → Type 0
+abbrev pub LandsOpening : Ticket → ShownPage → (old new : Book) → Type 0
 LandsOpening t p old new =
     (scripts : List Named) (length : ℕ) (named : Named) → slice_get scripts t.script ≡ Some named → t.cells ≡ named.script.cells
     → book_beside scripts length new ≡ land no_rules (told_opening t p) p.inside.items (book_beside scripts length old)
 
 -- it lands, where the instance is there
-abbrev pub LandsExtension : Ticket → (instance answered : ℕ) → ToldPage → (old new : Book) → Type 0
+abbrev pub LandsExtension : Ticket → (instance answered : ℕ) → ShownPage → (old new : Book) → Type 0
 LandsExtension t instance answered p old new =
     (scripts : List Named) (length : ℕ) (i : spec.Instance)
     → let b = book_beside scripts length old in instance_at instance b.instances ≡ Some i
@@ -149,13 +190,13 @@ IsStateOver (own all) s t n d = IsStateOf (arena_of s.script) t d
 IsStateOver (given states) s t n d = IsGiven s states n d
 
 -- the page has the state of a start of its script, with a spelling
-abbrev pub HasStartState : Source ⊤ → List Named → Book → Ticket → ToldPage → Type 0
+abbrev pub HasStartState : Source ⊤ → List Named → Book → Ticket → ShownPage → Type 0
 HasStartState source scripts b t p =
     (named : Named) × ((slice_get scripts t.script ≡ Some named) × StateHasBytes (suspended_of p.state)
     × IsStateOver source named (tape_for (start_visit (book_beside scripts 0 b) (ticket_of t) t.script named) (recorded (reads_of (effects_in p)))) t.number (suspended_of p.state))
 
 -- the page is new in its instance, and has its state behind that of the page that it answers, and the ticket is for that answer
-pub record HasAnswerState (source : Source ⊤) (scripts : List Named) (b : Book) (t : Ticket) (instance answered : ℕ) (p : ToldPage) : Type 0 where
+pub record HasAnswerState (source : Source ⊤) (scripts : List Named) (b : Book) (t : Ticket) (instance answered : ℕ) (p : ShownPage) : Type 0 where
   pub at : Place
   pub here : instance_at instance (book_beside scripts 0 b).instances ≡ Some at.instance
   pub shown : page_at answered at.instance.pages ≡ Some at.page
@@ -171,12 +212,12 @@ abbrev pub KeepsStartPlaces : Ticket → (old new : Book) → Type 0
 KeepsStartPlaces t old new = (scripts : List Named) → t.script < length scripts → HasPlaces scripts old → HasPlaces scripts new
 
 -- so each page goes on to have its own
-abbrev pub KeepsStartStates : Ticket → ToldPage → (old new : Book) → Type 0
+abbrev pub KeepsStartStates : Ticket → ShownPage → (old new : Book) → Type 0
 KeepsStartStates t p old new =
     (source : Source ⊤) (scripts : List Named) → HasStartState source scripts old t p → HasStatesFrom source scripts old
     → HasStatesFrom source scripts new
 
-abbrev pub KeepsAnswerStates : Ticket → (instance answered : ℕ) → ToldPage → (old new : Book) → Type 0
+abbrev pub KeepsAnswerStates : Ticket → (instance answered : ℕ) → ShownPage → (old new : Book) → Type 0
 KeepsAnswerStates t instance answered p old new =
     (source : Source ⊤) (scripts : List Named) → HasAnswerState source scripts old t instance answered p → HasStatesFrom source scripts old
     → HasStatesFrom source scripts new
@@ -195,6 +236,15 @@ told_ending number instance page answer effects left = spec.ends (record {
 abbrev pub told_finish : (number instance page : ℕ) → Value → List Effect → spec.Change
 told_finish number instance page answer effects =
     spec.finishes (record { number = number; instance = instance; page = page; answer = meaning answer; effects = effects })
+
+-- the ending or the finish that a record tells of is made again, or passed over
+abbrev pub IsRedoneEnding : (number instance page : ℕ) → Value → List kept.Effect → List TxName → (old new : Book) → Type 0
+IsRedoneEnding number instance page answer effects left old new =
+    IsRedone (told_ending number instance page answer (map effect_of effects) left) old new
+
+abbrev pub IsRedoneFinish : (number instance page : ℕ) → Value → List kept.Effect → (old new : Book) → Type 0
+IsRedoneFinish number instance page answer effects old new =
+    IsRedone (told_finish number instance page answer (map effect_of effects)) old new
 
 -- the page is there and these effects are on its instance's cells, and hold over them
 abbrev pub ended_in : spec.Book → (instance page : ℕ) → List Effect → Option (List TxName)

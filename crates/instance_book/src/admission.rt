@@ -5,10 +5,8 @@ ghost use Rattle.page_names.specs.Views.{name_of};
 ghost use Rattle.replay_spec.specs.Admission as spec;
 ghost use Rattle.replay_spec.specs.Names.{first_closed};
 ghost use Rattle.instance_book.specs.Views.{instance_of, page_of};
-ghost use Rattle.machine_spec.specs.Machine.{Suspended};
-ghost use Rattle.instance_book.specs.Places.{own, given};
-ghost use Rattle.instance_book.specs.Makes.{HasStatesFrom, HasItsStates, HasPlaces};
-ghost use Rattle.instance_book.specs.Admissions.{IsWhyNot, named_if, IsPlaceOf, IsPlaceAt, IsStartOf, IsAdmittedAs, IsPlacedAt, IsKeptAt, ResumesPlaced, ResumesKept};
+ghost use Rattle.instance_book.specs.Makes.{HasPlaces};
+ghost use Rattle.instance_book.specs.Admissions.{IsWhyNot, named_if, IsPlaceOf, IsPlaceAt, IsStartOf, IsAdmittedAs, IsPlacedAt, IsScriptOf, IsKeptWhere, IsGivenWhere, ResumesPlaced, ResumesKept, ResumesWhereKept};
 
 use crate::book::Book;
 use crate::instance::KeptInstance;
@@ -80,7 +78,7 @@ pub(crate) fn script_of<'a>(
 ) -> Option<&'a NamedScript>
     requires { instance.now.item.script < length (scripts_of setup.now) }
     ensures script { named_if result ≡ slice_get (scripts_of setup.now) instance.now.item.script }
-    ensures its { named_if result ≡ Some (instance_of (scripts_of setup.now) instance.now).script }
+    ensures its { IsScriptOf (scripts_of setup.now) instance.now result }
 {
     setup.get(instance.item.script)
 }
@@ -95,9 +93,8 @@ pub(crate) fn place_of_numbers<'a>(
     requires { HasPlaces (scripts_of setup.now) book.now }
     ensures place { IsPlaceOf setup.now book.now instance page result }
     ensures placed { IfSome result (IsPlacedAt (scripts_of setup.now)) }
-    ensures states { HasItsStates (scripts_of setup.now) book.now → IfSome result (IsKeptAt (scripts_of setup.now) (own book.now.shelf)) }
-    ensures told { (states : ℕ → Option Suspended) → HasStatesFrom (given states) (scripts_of setup.now) book.now
-        → IfSome result (IsKeptAt (scripts_of setup.now) (given states)) }
+    ensures states { IsKeptWhere setup.now book.now result }
+    ensures told { IsGivenWhere setup.now book.now result }
 {
     let instance = book.instances.instance(instance)?;
     let script = script_of(setup, instance)?;
@@ -119,7 +116,7 @@ fn place_at<'a>(
     requires { HasPlaces (scripts_of setup.now) book.now }
     ensures place { IsPlaceAt setup.now book.now name.now page.now result }
     ensures placed { IfSome result (IsPlacedAt (scripts_of setup.now)) }
-    ensures states { HasItsStates (scripts_of setup.now) book.now → IfSome result (IsKeptAt (scripts_of setup.now) (own book.now.shelf)) }
+    ensures states { IsKeptWhere setup.now book.now result }
 {
     let place = place_of_numbers(book, setup, page.instance, page.page)?;
     if page.shelf == book.shelf
@@ -156,7 +153,7 @@ fn admission_of_page<'a>(
     requires { HasPlaces (scripts_of setup.now) book.now }
     ensures admission { IsAdmittedAs setup.now book.now (Target.Page name.now page.now) result }
     ensures placed { ResumesPlaced (scripts_of setup.now) result }
-    ensures states { HasItsStates (scripts_of setup.now) book.now → ResumesKept (scripts_of setup.now) book.now.shelf result }
+    ensures states { ResumesWhereKept setup.now book.now result }
 {
     let Some(place) = place_at(book, setup, name, page) else {
         return Admission::Refused(Refusal::Unknown);
@@ -172,7 +169,7 @@ pub fn admission_to<'a>(book: &'a Book, setup: &'a Setup, target: &Target) -> Ad
     requires { HasPlaces (scripts_of setup.now) book.now }
     ensures admission { IsAdmittedAs setup.now book.now target.now result }
     ensures placed { ResumesPlaced (scripts_of setup.now) result }
-    ensures states { HasItsStates (scripts_of setup.now) book.now → ResumesKept (scripts_of setup.now) book.now.shelf result }
+    ensures states { ResumesWhereKept setup.now book.now result }
 {
     match target {
         Target::Start(name) => admission_of_start(setup, name),

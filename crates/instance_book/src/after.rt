@@ -1,8 +1,6 @@
 ghost use Rattle.std.specs.Prelude.{◌≡◌};
-ghost use Rattle.replay_spec.specs.Change.{put_in_order, put_page};
 ghost use Rattle.instance_book.specs.Lists.{HasRoom};
-ghost use Rattle.instance_book.specs.Views.{page_of, pages_of};
-ghost use Rattle.instance_book.specs.Places.{shown_of, shown_in};
+ghost use Rattle.instance_book.specs.Places.{PutsPage, PutsShown};
 ghost use Rattle.instance_book.specs.Changes.{renewed, Becomes, ended_with, shown_with, revoked_with};
 
 use crate::in_order::InOrder;
@@ -58,8 +56,8 @@ impl KeptInstance {
         requires { HasRoom self.old.pages }
         ensures instance { Becomes (shown_with show) self.old self.new }
         ensures script { self.new.script ≡ self.old.script }
-        ensures pages { pages_of self.new.pages ≡ put_page (page_of show.page) (pages_of self.old.pages) }
-        ensures shown { shown_in self.new.pages ≡ put_in_order (λ x. x.0.number) (shown_of show.page) (shown_in self.old.pages) }
+        ensures pages { PutsPage show.page self.old.pages self.new.pages }
+        ensures shown { PutsShown show.page self.old.pages self.new.pages }
     {
         let Show {
             page,

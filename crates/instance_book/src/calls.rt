@@ -1,13 +1,11 @@
-ghost use Rattle.std.specs.Prelude.{◌≡◌, ◌<◌, ◌^◌, List, ℕ, Option, Some, None, slice_get, IfOk, IfErr, OnOk, OnErr, Contains, length, option_map, ◌-◌};
+ghost use Rattle.std.specs.Prelude.{◌≡◌, ◌<◌, ◌^◌, List, Some, None, slice_get, IfOk, IfErr, OnOk, OnErr, Contains, length, option_map, ◌-◌};
 ghost use Rattle.script_nodes.specs.Setup.{Named};
 ghost use Rattle.script_nodes.specs.Views.{named_of, scripts_of};
 ghost use Rattle.replay_spec.specs.Book as spec;
-ghost use Rattle.machine_spec.specs.Machine.{Suspended};
 ghost use Rattle.instance_book.specs.Views.{IsTicketFor};
-ghost use Rattle.instance_book.specs.Places.{own, given};
-ghost use Rattle.instance_book.specs.Fits.{IsRunnable, IsStoredOrigin, GoesOnGiven};
-ghost use Rattle.instance_book.specs.Makes.{count_of, Makes, StaysSame, HasPlaces, KeepsPlaces, HasStatesFrom, HasItsStates, KeepsStates};
-ghost use Rattle.instance_book.specs.Admissions.{place_of, IsPlacedAt, IsKeptAt, named_if, script_at, HasCellsBy, FitsStartIn, FitsPlace, admission_for, refusal_for, FitsIn, StartsIn};
+ghost use Rattle.instance_book.specs.Fits.{IsRunnable};
+ghost use Rattle.instance_book.specs.Makes.{count_of, Makes, StaysSame, HasPlaces, KeepsPlaces, HasItsStates, HasWhatIsGiven, KeepsStates};
+ghost use Rattle.instance_book.specs.Admissions.{IsPlacedAt, named_if, script_at, HasCellsBy, FitsStartIn, FitsWhereKept, GoesOnAsGiven, GoesOnStored, admission_for, refusal_for, IsRefusalFor, FitsInKept, StartsIn};
 ghost use Rattle.instance_book.specs.Swept.{swept, cells_at, IsEmpty};
 
 use crate::admission::{Admission, Place, admission_to, script_of};
@@ -30,7 +28,7 @@ impl Book {
         ensures book { IsEmpty shelf result }
         ensures placed { (scripts : List Named) → HasPlaces scripts result }
         ensures states { (scripts : List Named) → HasItsStates scripts result }
-        ensures told { (states : ℕ → Option Suspended) (scripts : List Named) → HasStatesFrom (given states) scripts result }
+        ensures told { HasWhatIsGiven result }
     {
         Book {
             shelf,
@@ -92,7 +90,7 @@ impl Book {
     pub fn admit(&self, setup: &Setup, target: &Target) -> Result<(), Refusal>
         requires { HasPlaces (scripts_of setup.now) self.now }
         ensures admitted { OnOk result (refusal_for setup.now self.now target.now ≡ None) }
-        ensures refused { IfErr result (λ r. refusal_for setup.now self.now target.now ≡ Some r) }
+        ensures refused { IfErr result (IsRefusalFor setup.now self.now target.now) }
     {
         match admission_to(self, setup, target) {
             Admission::Refused(refusal) => Err(refusal),
@@ -148,10 +146,9 @@ impl Book {
     ) -> Result<Ticket, AllocError>
         requires { IsPlacedAt (scripts_of setup.now) place }
         ensures ticket { IfOk result (IsTicketFor target.now answer number nonce) }
-        ensures fits { IsKeptAt (scripts_of setup.now) (own self.now.shelf) place.entry → IfOk result (FitsPlace setup.now self.now place.entry) }
-        ensures told { (states : ℕ → Option Suspended) → IsKeptAt (scripts_of setup.now) (given states) place.entry
-            → IfOk result (GoesOnGiven states (place_of (scripts_of setup.now) place.entry)) }
-        ensures stored { IfOk result (λ t. IsStoredOrigin (named_of place.entry.script.now) t.from) }
+        ensures fits { FitsWhereKept setup.now self.now place.entry result }
+        ensures told { GoesOnAsGiven setup.now place.entry result }
+        ensures stored { IfOk result (GoesOnStored place.entry) }
         ensures runs { IfOk result (IsRunnable (scripts_of setup.now)) }
         ensures cells { IfOk result (λ t. t.cells ≡ place.entry.instance.now.item.cells) }
     {
@@ -185,7 +182,7 @@ impl Book {
     ) -> Result<Ticket, AllocError>
         requires { HasPlaces (scripts_of setup.now) self.now }
         ensures ticket { IfOk result (IsTicketFor target.now answer number nonce) }
-        ensures fits { HasItsStates (scripts_of setup.now) self.now → IfOk result (FitsIn setup.now self.now target.now) }
+        ensures fits { FitsInKept setup.now self.now target.now result }
         ensures starts { IfOk result (StartsIn setup.now self.now target.now) }
         ensures runs { IfOk result (IsRunnable (scripts_of setup.now)) }
         ensures cells { IfOk result (HasCellsBy (admission_for setup.now self.now target.now)) }
@@ -218,7 +215,7 @@ impl Book {
         requires placed { HasPlaces (scripts_of setup.now) self.old }
         ensures drawn { OnOk result (Makes spec.draw self.old self.new) }
         ensures ticket { IfOk result (IsTicketFor target.now answer self.old.drawn nonce) }
-        ensures fits { HasItsStates (scripts_of setup.now) self.old → IfOk result (FitsIn setup.now self.old target.now) }
+        ensures fits { FitsInKept setup.now self.old target.now result }
         ensures starts { IfOk result (StartsIn setup.now self.old target.now) }
         ensures runs { IfOk result (IsRunnable (scripts_of setup.now)) }
         ensures cells { IfOk result (HasCellsBy (admission_for setup.now self.old target.now)) }

@@ -5,7 +5,7 @@ ghost use Rattle.stored_states.specs.Views.{suspended_of};
 ghost use Rattle.instance_book.specs.Places.{kept_at, StayPlaced, StayKept};
 ghost use Rattle.instance_book.specs.Makes.{AllBecome, StaysSame, KeepsPlaces, KeepsStates};
 ghost use Rattle.instance_book.specs.Changes.{opening_of, ending_of, finish_of};
-ghost use Rattle.instance_book.specs.Copies.{IsSamePages, IsSameInstance, BeginsAlike, IsSameShow, IsSameExtension, IsSameChange, IsSameIf, IsSame};
+ghost use Rattle.instance_book.specs.Copies.{IsSamePages, IsSameInstance, BeginsAlike, IsSameShow, IsSameExtension, IsSameChange, IsSameIf, IsSame, TellsAlike, HasSamePages};
 
 use crate::after::{After, Show};
 use crate::book::Book;
@@ -125,9 +125,9 @@ impl Opening {
         ensures opening { IfOk result (λ copy. opening_of copy ≡ opening_of self.now) }
         ensures page { IfOk result (λ copy. page_of copy.page ≡ page_of self.now.page) }
         ensures state { IfOk result (λ copy. kept_at copy.page ≡ kept_at self.now.page) }
-        ensures told { IfOk result (λ copy. suspended_of copy.state ≡ suspended_of self.now.state) }
+        ensures told { IfOk result (TellsAlike self.now) }
         ensures script { IfOk result (λ copy. copy.instance.script ≡ self.now.instance.script) }
-        ensures pages { IfOk result (λ copy. IsSamePages self.now.instance.pages copy.instance.pages) }
+        ensures pages { IfOk result (HasSamePages self.now) }
         ensures begun { IfOk result (BeginsAlike self.now) }
         ensures room { IfOk result (λ copy. HasRoom copy.instance.pages) }
     {

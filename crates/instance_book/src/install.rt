@@ -9,10 +9,8 @@ use crate::prepared::{Change, Opening, Prepared};
 use script_value::Reply;
 
 impl Opening {
-    ghost use Rattle.replay_spec.specs.Change.{put_in_order, put_page};
     ghost use Rattle.instance_book.specs.Lists.{HasRoom};
-    ghost use Rattle.instance_book.specs.Views.{page_of, pages_of};
-    ghost use Rattle.instance_book.specs.Places.{shown_of, shown_in};
+    ghost use Rattle.instance_book.specs.Places.{PutsPage, PutsShown};
     ghost use Rattle.instance_book.specs.Changes.{BeginsWith};
 
     // The instance that begins with its page.
@@ -21,8 +19,8 @@ impl Opening {
         ensures instance { BeginsWith self result }
         ensures script { result.item.script ≡ self.instance.script }
         ensures number { result.number ≡ self.page.number }
-        ensures pages { pages_of result.item.pages ≡ put_page (page_of self.page) (pages_of self.instance.pages) }
-        ensures shown { shown_in result.item.pages ≡ put_in_order (λ x. x.0.number) (shown_of self.page) (shown_in self.instance.pages) }
+        ensures pages { PutsPage self.page self.instance.pages result.item.pages }
+        ensures shown { PutsShown self.page self.instance.pages result.item.pages }
     {
         let Opening {
             effects: _,

@@ -22,6 +22,7 @@ mod pages;
 mod prepare;
 mod prepared;
 mod retold;
+mod shown;
 mod ticket;
 mod told;
 
@@ -32,7 +33,7 @@ pub use instance::KeptInstance;
 pub use numbered::Numbered;
 pub use page::KeptPage;
 pub use prepared::{Change, Ending, Extension, Finish, Opening, Prepared};
-pub use retold::ToldPage;
+pub use shown::ShownPage;
 pub use ticket::Ticket;
 
 /// Where each page of an instance has the state of its chain, so it is with one more page whose state is that of its chain.

@@ -1,10 +1,10 @@
-ghost use Rattle.std.specs.Prelude.{◌≡◌, IfOk};
+ghost use Rattle.std.specs.Prelude.{IfOk};
 ghost use Rattle.script_nodes.specs.Views.{named_of};
 ghost use Rattle.stored_states.specs.Views.{suspended_of};
 ghost use Rattle.frame_codec.specs.Stored.{IsStored};
 ghost use Rattle.instance_book.specs.Places.{IsStateIn, IsOriginIn};
 ghost use Rattle.instance_book.specs.Fits.{IsOriginOf, IsStoredOrigin};
-ghost use Rattle.instance_book.specs.Fronts.{IsFrontIn};
+ghost use Rattle.instance_book.specs.Fronts.{IsFrontAt};
 
 use crate::in_order::InOrder;
 use crate::numbered::Numbered;
@@ -28,7 +28,7 @@ fn front_of(
     need: Need,
     links: u8,
 ) -> Result<Suspended, AllocError>
-    ensures { page.now.item.state.links ≡ links → IfOk result (IsFrontIn (named_of script.now) pages.now page.now need) }
+    ensures { IsFrontAt (named_of script.now) pages.now page.now need links result }
 {
     // A script's root tells that its nodes are its tree's.
     let _root = script.script.root();
@@ -55,8 +55,8 @@ fn front_of(
     }
 }
 
-// The state of a page. A book that was read from a journal may keep a state that does not fit the script, which is told as want of
-// memory.
+// The state of a page. Its callers know of a book only that the scripts of its instances stand in the setup; that each page has a
+// state of its script is a premise of what they promise of the state, and so it is tested here. What fails is told as want of memory.
 fn state_of(
     alloc: Global,
     script: &NamedScript,

@@ -1,16 +1,15 @@
-ghost use Rattle.std.specs.Prelude.{◌≡◌, ◌<◌, ◌≤◌, ◌+◌, ◌^◌, ◌++◌, ℕ, List, [], None, Ok, IfOk, IfErr, OnOk, map, length, Contains};
+ghost use Rattle.std.specs.Prelude.{◌≡◌, ◌<◌, ◌≤◌, ◌+◌, ◌^◌, ◌++◌, [], None, Ok, IfOk, IfErr, OnOk, map, length, Contains};
 ghost use Rattle.instance_cells.specs.Cells.{AreOn, reads_of};
 ghost use Rattle.instance_cells.specs.Views.{effect_of};
-ghost use Rattle.stored_states.specs.Views.{segment_of, suspended_of};
-ghost use Rattle.page_names.specs.Names as names;
-ghost use Rattle.page_names.specs.Views.{target_of};
+ghost use Rattle.stored_states.specs.Views.{segment_of};
 ghost use Rattle.instance_book.specs.Lists.{HasRoom};
 ghost use Rattle.instance_book.specs.Views.{pages_of, HasRoomAt, reply_of};
 ghost use Rattle.instance_book.specs.Places.{shown_in};
 ghost use Rattle.instance_book.specs.Makes.{StaysSame, KeepsPlaces, KeepsStates};
 ghost use Rattle.instance_book.specs.Changes.{renewed, HasDeadlineBy, HasRoomFor};
-ghost use Rattle.instance_book.specs.Prepares.{IsOfRun, WantsRoom, StartsOn, AnswersOn, IsOnCells, AreOnCells, IsPrepared, IsKeptOfTicket, OpensTo, ExtendsTo, StartKeepsState, AnswerKeepsState, KeepsItsState, IsOfSegment};
-ghost use Rattle.instance_book.specs.Segments.{Revokes, BeginsBy, IsLeftBy, GoesOnBy, Shows, EndsOn, FinishesOn, OpensOn};
+ghost use Rattle.instance_book.specs.Prepares.{IsOfRun, WantsRoom, StartsOn, AnswersBy, IsOnCells, AreOnCells, IsPreparedBy, StartKeepsState, KeepsAnswerState, KeepsItsState, IsOfStart, IsOfAnswer, IsOfItsSegment};
+ghost use Rattle.instance_book.specs.Segments.{Revokes, BeginsBy, IsLeftBy, Shows, EndsOn, FinishesOn, OpensOn, KeepsFirstState, KeepsNextState};
+ghost use Rattle.instance_book.specs.Told.{IsExtendedBy};
 
 use crate::after::{After, Show};
 use crate::book::Book;
@@ -19,7 +18,7 @@ use crate::instance::KeptInstance;
 use crate::numbered::Numbered;
 use crate::page::KeptPage;
 use crate::prepared::{Change, Ending, Extension, Finish, Prepared};
-use crate::retold::ToldPage;
+use crate::shown::ShownPage;
 use crate::ticket::Ticket;
 use expiry::{LONGEST_LIFE, deadline};
 use instance_cells::Effect;
@@ -28,9 +27,17 @@ use page_names::{PageName, Target};
 use script_nodes::SendKind;
 use script_value::{Bytes, Items, Refusal, Reply, TxName, Value};
 use std::alloc::{AllocError, Global};
-use stored_states::{Outcome, Segment, Suspended};
+use stored_states::{Outcome, Segment};
 use stored_values::{StoredValue, StoredValues};
 use transactions::Closed;
+
+// What a segment did that showed no page: its effects, the transactions inside which it stopped, and those that it left.
+#[derive(Drop)]
+struct Done {
+    effects: Vec<Effect>,
+    inside: Vec<TxName>,
+    left: Vec<TxName>,
+}
 
 // The closed transactions with these more.
 fn closed_with(closed: Closed, left: &[TxName]) -> Result<Closed, AllocError>
@@ -145,86 +152,73 @@ impl KeptInstance {
             closed: closed_after(alloc, &self.closed, left)?,
         })
     }
-
-    // What a segment makes of the instance that showed a page behind this one.
-    pub(crate) fn shows(
-        &self,
-        alloc: Global,
-        ticket: &Ticket,
-        parent: u64,
-        kind: SendKind,
-        effects: &[Effect],
-        inside: Vec<TxName>,
-        left: &[TxName],
-        deadline: u64,
-        state: &Suspended,
-    ) -> Result<Show, AllocError>
-        requires { AreOn (length self.now.cells) (map effect_of effects.now) }
-        ensures state { IfOk result (λ show. IsKeptOfTicket ticket.now (suspended_of state.now) show.page) }
-        ensures instance { IfOk result (GoesOnBy ticket.now parent kind effects.now inside.items left.now deadline self.now) }
-    {
-        let after = self.after(alloc, effects, left)?;
-        let revoked = revoked_after(alloc, kind, &self.pages)?;
-        let reads = reads_in(alloc, effects)?;
-        let answer = StoredValue::of(alloc, &ticket.answer)?;
-        let state = KeptState::of(alloc, &ticket.from, ticket.links, state)?;
-        Ok(Show {
-            page: Numbered {
-                number: ticket.number,
-                item: KeptPage {
-                    nonce: ticket.nonce,
-                    parent: Some(parent),
-                    answer,
-                    reads,
-                    inside,
-                    deadline,
-                    state,
-                },
-            },
-            revoked,
-            after,
-        })
-    }
 }
 
 impl Numbered<KeptInstance> {
+    // The extension of a ticket's page, behind the page of the instance that was answered.
+    pub(crate) fn extended(
+        &self,
+        alloc: Global,
+        ticket: &Ticket,
+        answered: u64,
+        page: ShownPage,
+    ) -> Result<Extension, AllocError>
+        requires { AreOn (length self.now.item.cells) (map effect_of page.effects.items) }
+        ensures { IfOk result (IsExtendedBy ticket.now answered page self.now) }
+    {
+        let after = self.item.after(alloc, &page.effects, &page.left)?;
+        let revoked = revoked_after(alloc, page.kind, &self.item.pages)?;
+        let reads = reads_in(alloc, &page.effects)?;
+        let stored = StoredValue::of(alloc, &ticket.answer)?;
+        let state = KeptState::of(alloc, &ticket.from, ticket.links, &page.state)?;
+        let answer = ticket.answer.try_clone(alloc)?;
+        Ok(Extension {
+            instance: self.number,
+            answered,
+            answer,
+            effects: page.effects,
+            left: page.left,
+            kind: page.kind,
+            state: page.state,
+            show: Show {
+                page: Numbered {
+                    number: ticket.number,
+                    item: KeptPage {
+                        nonce: ticket.nonce,
+                        parent: Some(answered),
+                        answer: stored,
+                        reads,
+                        inside: page.inside,
+                        deadline: page.deadline,
+                        state,
+                    },
+                },
+                revoked,
+                after,
+            },
+        })
+    }
+
     // An answer to a page of the instance showed a page.
     fn extension(
         &self,
         alloc: Global,
         ticket: &Ticket,
         answered: u64,
-        page: Bytes,
-        kind: SendKind,
-        effects: Vec<Effect>,
-        inside: Vec<TxName>,
-        left: Vec<TxName>,
-        deadline: u64,
-        state: Suspended,
+        bytes: Bytes,
+        page: ShownPage,
     ) -> Result<Prepared, AllocError>
-        requires on { AreOn (length self.now.item.cells) (map effect_of effects.items) }
+        requires on { AreOn (length self.now.item.cells) (map effect_of page.effects.items) }
         requires number { ticket.now.number < 2 ^ 63 }
-        ensures state { IfOk result (λ p. ExtendsTo ticket.now self.now.number answered (map effect_of effects.items) inside.items (suspended_of state) p.change) }
-        ensures shows { IfOk result (Shows ticket.now answered page kind effects.items inside.items left.items deadline self.now) }
+        ensures state { IfOk result (KeepsNextState ticket.now self.now.number answered page) }
+        ensures shows { IfOk result (Shows ticket.now answered bytes page self.now) }
     {
-        let reply = shown(alloc, page, ticket)?;
-        let show = self.item.shows(
-            alloc, ticket, answered, kind, &effects, inside, &left, deadline, &state,
-        )?;
-        let answer = ticket.answer.try_clone(alloc)?;
+        let reply = shown(alloc, bytes, ticket)?;
+        let extension = self.extended(alloc, ticket, answered, page)?;
         Ok(Prepared {
             reply,
             logged: ticket.number + 1,
-            change: Some(Change::Extends(Extension {
-                instance: self.number,
-                answered,
-                answer,
-                effects,
-                left,
-                kind,
-                state,
-                show,
-            })),
+            change: Some(Change::Extends(extension)),
         })
     }
 
@@ -235,15 +229,13 @@ impl Numbered<KeptInstance> {
         ticket: &Ticket,
         answered: u64,
         page: Bytes,
-        effects: Vec<Effect>,
-        inside: Vec<TxName>,
-        left: Vec<TxName>,
+        done: Done,
     ) -> Result<Prepared, AllocError>
-        requires on { AreOn (length self.now.item.cells) (map effect_of effects.items) }
+        requires on { AreOn (length self.now.item.cells) (map effect_of done.effects.items) }
         requires number { ticket.now.number < 2 ^ 63 }
-        ensures { IfOk result (EndsOn ticket.now answered page effects.items inside.items left.items self.now) }
+        ensures { IfOk result (EndsOn ticket.now answered page done self.now) }
     {
-        let after = self.item.after(alloc, &effects, &left)?;
+        let after = self.item.after(alloc, &done.effects, &done.left)?;
         let answer = ticket.answer.try_clone(alloc)?;
         Ok(Prepared {
             reply: Reply::Ended(page),
@@ -253,9 +245,9 @@ impl Numbered<KeptInstance> {
                 instance: self.number,
                 answered,
                 answer,
-                effects,
-                left,
-                inside,
+                effects: done.effects,
+                left: done.left,
+                inside: done.inside,
                 after,
             })),
         })
@@ -273,7 +265,8 @@ fn finish(
     inside: Vec<TxName>,
 ) -> Result<Prepared, AllocError>
     requires { ticket.now.number < 2 ^ 63 }
-    ensures { IfOk result (FinishesOn ticket.now instance answered page effects.items inside.items) }
+    ensures { IfOk result
+        (FinishesOn ticket.now instance answered page effects.items inside.items) }
 {
     Ok(Prepared {
         reply: Reply::Finished(page),
@@ -295,35 +288,21 @@ impl Book {
         &mut self,
         alloc: Global,
         ticket: &Ticket,
-        page: Bytes,
-        kind: SendKind,
-        effects: Vec<Effect>,
-        inside: Vec<TxName>,
-        left: Vec<TxName>,
-        life: u64,
-        state: Suspended,
+        bytes: Bytes,
+        page: ShownPage,
     ) -> Result<Prepared, AllocError>
-        requires on { AreOn (length ticket.now.cells) (map effect_of effects.items) }
-        requires life { life ≤ LONGEST_LIFE }
+        requires on { AreOn (length ticket.now.cells) (map effect_of page.effects.items) }
         requires number { ticket.now.number < 2 ^ 63 }
         requires few { length self.old.instances.things.items + 1 < 2 ^ 32 }
         ensures book { StaysSame self.old self.new }
         ensures placed { KeepsPlaces self.old self.new }
         ensures states { KeepsStates self.old self.new }
         ensures room { IfOk result (λ p. HasRoomFor p.change self.new) }
-        ensures state { IfOk result (λ p. OpensTo ticket.now (map effect_of effects.items) inside.items (suspended_of state) p.change) }
-        ensures opens { IfOk result (OpensOn ticket.now page kind effects.items inside.items left.items life self.old) }
+        ensures state { IfOk result (KeepsFirstState ticket.now page) }
+        ensures opens { IfOk result (OpensOn ticket.now bytes page) }
     {
-        let reply = shown(alloc, page, ticket)?;
-        let told = ToldPage {
-            kind,
-            effects,
-            inside,
-            left,
-            deadline: deadline(self.clock, life),
-            state,
-        };
-        let opening = self.opened(alloc, ticket, told)?;
+        let reply = shown(alloc, bytes, ticket)?;
+        let opening = self.opened(alloc, ticket, page)?;
         Ok(Prepared {
             reply,
             logged: ticket.number + 1,
@@ -352,7 +331,7 @@ impl Book {
         ensures refused { IfErr result (λ r. WantsRoom (reply_of r)) }
         ensures state { IfOk result (λ p. StartKeepsState ticket.now segment p.change) }
         ensures decided { StartsOn self.old ticket.now (segment_of segment) instances life result }
-        ensures itself { (name : List ℕ) → IfOk result (IsOfSegment self.old ticket.now (segment_of segment) (names.start name)) }
+        ensures itself { IsOfStart self.old ticket.now segment result }
     {
         let Segment {
             outcome,
@@ -367,10 +346,15 @@ impl Book {
                 if count >= instances as usize {
                     return Err(Reply::ShelfFull(count as u64));
                 }
-                let made = self.opening(
-                    alloc, ticket, page, kind, effects, entered, left, life, state,
-                );
-                match made {
+                let first = ShownPage {
+                    kind,
+                    effects,
+                    inside: entered,
+                    left,
+                    deadline: deadline(self.clock, life),
+                    state,
+                };
+                match self.opening(alloc, ticket, page, first) {
                     Ok(prepared) => Ok(prepared),
                     Err(_) => Err(Reply::Memory),
                 }
@@ -424,9 +408,9 @@ impl Book {
         ensures deadline { IfOk result (λ p. HasDeadlineBy p.change) }
         ensures reply { IfOk result (λ p. IsOfRun (reply_of p.reply)) }
         ensures refused { IfErr result (λ r. WantsRoom (reply_of r)) }
-        ensures state { IfOk result (λ p. AnswerKeepsState ticket.now segment page.now.instance page.now.page p.change) }
-        ensures decided { AnswersOn self.old ticket.now page.now (segment_of segment) pages life result }
-        ensures itself { (name : List ℕ) → IfOk result (IsOfSegment self.old ticket.now (segment_of segment) (names.page name page.now)) }
+        ensures state { IfOk result (KeepsAnswerState ticket.now segment page.now) }
+        ensures decided { AnswersBy self.old ticket.now page.now segment pages life result }
+        ensures itself { IsOfAnswer self.old ticket.now segment page.now result }
     {
         let Some(instance) = self.instances.get(page.instance) else {
             return Ok(unchanged(Reply::Refused(Refusal::Unknown)));
@@ -449,13 +433,24 @@ impl Book {
                     return Err(Reply::InstanceFull(count as u64));
                 }
                 let deadline = deadline(self.clock, life);
-                let made = instance.extension(
-                    alloc, ticket, page.page, bytes, kind, effects, entered, left, deadline, state,
-                );
+                let next = ShownPage {
+                    kind,
+                    effects,
+                    inside: entered,
+                    left,
+                    deadline,
+                    state,
+                };
+                let made = instance.extension(alloc, ticket, page.page, bytes, next);
                 self.with_room(page.instance, made)
             }
             Outcome::Ended(bytes) => {
-                match instance.ending(alloc, ticket, page.page, bytes, effects, entered, left) {
+                let done = Done {
+                    effects,
+                    inside: entered,
+                    left,
+                };
+                match instance.ending(alloc, ticket, page.page, bytes, done) {
                     Ok(prepared) => Ok(prepared),
                     Err(_) => Err(Reply::Memory),
                 }
@@ -506,8 +501,8 @@ impl Book {
         ensures reply { IfOk result (λ p. IsOfRun (reply_of p.reply)) }
         ensures refused { IfErr result (λ r. WantsRoom (reply_of r)) }
         ensures state { IfOk result (λ p. KeepsItsState ticket.now segment p.change) }
-        ensures decided { IsPrepared self.old ticket.now (segment_of segment) instances pages life result }
-        ensures itself { IfOk result (IsOfSegment self.old ticket.now (segment_of segment) (target_of ticket.now.target)) }
+        ensures decided { IsPreparedBy self.old ticket.now segment instances pages life result }
+        ensures itself { IfOk result (IsOfItsSegment self.old ticket.now segment) }
     {
         let _out = &self.out;
         match &ticket.target {

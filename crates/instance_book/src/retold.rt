@@ -6,35 +6,22 @@ ghost use Rattle.replay_spec.specs.Book as spec;
 ghost use Rattle.instance_book.specs.Makes.{StaysSame, KeepsPlaces, KeepsStates};
 ghost use Rattle.instance_book.specs.Changes.{HasRoomToOpen};
 ghost use Rattle.instance_book.specs.Prepares.{IsOnCells};
-ghost use Rattle.instance_book.specs.Told.{IsRedone, Counts, IsReopened, IsOpenedBy, LandsOpening, LandsExtension, KeepsStartPlaces, KeepsStartStates, KeepsAnswerStates, told_ending, told_finish, EndsIn};
+ghost use Rattle.instance_book.specs.Told.{IsRedone, IsRedoneEnding, IsRedoneFinish, Counts, IsReopened, IsOpenedBy, LandsOpening, LandsExtension, KeepsStartPlaces, KeepsStartStates, KeepsAnswerStates, EndsIn};
 
 use crate::book::Book;
 use crate::instance::KeptInstance;
 use crate::numbered::Numbered;
 use crate::page::KeptPage;
 use crate::prepare::{begun, reads_in};
-use crate::prepared::{Change, Ending, Extension, Finish, Opening};
+use crate::prepared::{Change, Ending, Finish, Opening};
+use crate::shown::ShownPage;
 use crate::ticket::Ticket;
 use instance_cells::Effect;
 use kept_states::KeptState;
-use script_nodes::SendKind;
 use script_value::{Items, TxName, Value};
 use std::alloc::{AllocError, Global};
-use stored_states::{Origin, Suspended};
+use stored_states::Origin;
 use stored_values::StoredValue;
-
-/// A page that a record tells of, as its segment showed it again.
-#[derive(Drop)]
-pub struct ToldPage {
-    pub kind: SendKind,
-    pub effects: Vec<Effect>,
-    /// The transactions that it is inside, the outermost first.
-    pub inside: Vec<TxName>,
-    pub left: Vec<TxName>,
-    /// From this tick on it can't be answered, in seconds.
-    pub deadline: u64,
-    pub state: Suspended,
-}
 
 // What a page has that answers none: the empty list.
 fn no_answer(alloc: Global) -> Result<StoredValue, AllocError>
@@ -49,7 +36,7 @@ impl Book {
         &mut self,
         alloc: Global,
         ticket: &Ticket,
-        page: ToldPage,
+        page: ShownPage,
     ) -> Result<Opening, AllocError>
         requires on { AreOn (length ticket.now.cells) (map effect_of page.effects.items) }
         requires few { length self.old.instances.things.items + 1 < 2 ^ 32 }
@@ -102,7 +89,7 @@ impl Book {
         &mut self,
         alloc: Global,
         ticket: &Ticket,
-        page: ToldPage,
+        page: ShownPage,
     ) -> Result<(), AllocError>
         requires on { AreOn (length ticket.now.cells) (map effect_of page.effects.items) }
         requires number { ticket.now.number < 2 ^ 62 }
@@ -128,40 +115,22 @@ impl Book {
         ticket: &Ticket,
         instance: u64,
         answered: u64,
-        page: ToldPage,
+        page: ShownPage,
     ) -> Result<(), AllocError>
         requires on { IsOnCells self.old instance (map effect_of page.effects.items) }
         requires number { ticket.now.number < 2 ^ 62 }
-        ensures lands { OnOk result (LandsExtension ticket.now instance answered page self.old self.new) }
+        ensures lands { OnOk result
+            (LandsExtension ticket.now instance answered page self.old self.new) }
         ensures placed { OnOk result (KeepsPlaces self.old self.new) }
-        ensures states { OnOk result (KeepsAnswerStates ticket.now instance answered page self.old self.new) }
+        ensures states { OnOk result
+            (KeepsAnswerStates ticket.now instance answered page self.old self.new) }
     {
-        let ToldPage {
-            kind,
-            effects,
-            inside,
-            left,
-            deadline,
-            state,
-        } = page;
         let Some(kept) = self.instances.get(instance) else {
             return Err(AllocError);
         };
-        let show = kept.item.shows(
-            alloc, ticket, answered, kind, &effects, inside, &left, deadline, &state,
-        )?;
-        let answer = ticket.answer.try_clone(alloc)?;
-        self.instances.make_room_in(instance)?;
-        self.change(Some(Change::Extends(Extension {
-            instance,
-            answered,
-            answer,
-            effects,
-            left,
-            kind,
-            state,
-            show,
-        })));
+        let extension = kept.extended(alloc, ticket, answered, page)?;
+        self.instances.make_room_in(extension.instance)?;
+        self.change(Some(Change::Extends(extension)));
         self.pass_over(ticket.number);
         Ok(())
     }
@@ -201,8 +170,8 @@ impl Book {
         left: Vec<TxName>,
     ) -> Result<(), AllocError>
         requires { number < 2 ^ 62 }
-        ensures redone { OnOk result (IsRedone
-            (told_ending number instance page answer (map effect_of effects.items) left.items) self.old self.new) }
+        ensures redone { OnOk result (IsRedoneEnding
+            number instance page answer effects.items left.items self.old self.new) }
         ensures placed { KeepsPlaces self.old self.new }
         ensures states { KeepsStates self.old self.new }
     {
@@ -237,7 +206,8 @@ impl Book {
         effects: Vec<Effect>,
     )
         requires { number < 2 ^ 62 }
-        ensures redone { IsRedone (told_finish number instance page answer (map effect_of effects.items)) self.old self.new }
+        ensures redone { IsRedoneFinish
+            number instance page answer effects.items self.old self.new }
         ensures placed { KeepsPlaces self.old self.new }
         ensures states { KeepsStates self.old self.new }
     {

@@ -1,7 +1,5 @@
-ghost use Rattle.std.specs.Prelude.{◌≡◌, IfOk, option_map};
-ghost use Rattle.stored_states.specs.Views.{origin_of, suspended_of};
-ghost use Rattle.kept_states.specs.Links.{behind_at};
-ghost use Rattle.instance_book.specs.Fits.{IsCopy};
+ghost use Rattle.std.specs.Prelude.{IfOk};
+ghost use Rattle.instance_book.specs.Fits.{IsCopy, IsWrittenBehind};
 
 use instance_cells::Cells;
 use page_names::Target;
@@ -31,7 +29,7 @@ pub struct Ticket {
 impl Ticket {
     /// The state that a page of the segment is written behind: that of the page that is answered, where the links ask for it.
     pub fn behind(&self) -> Option<&Suspended>
-        ensures { option_map (λ d. suspended_of d.now) result ≡ behind_at self.now.links (origin_of self.now.from) }
+        ensures { IsWrittenBehind self.now result }
     {
         if self.links == 0 {
             return None;

@@ -1,12 +1,8 @@
-ghost use Rattle.std.specs.Prelude.{◌≡◌, ℕ, Option, None, slice_get, IfOk, IfSome, IfNone};
+ghost use Rattle.std.specs.Prelude.{IfOk, IfSome, IfNone};
 ghost use Rattle.script_nodes.specs.Views.{scripts_of};
-ghost use Rattle.replay_spec.specs.Recovery.{page_of_numbers};
-ghost use Rattle.machine_spec.specs.Machine.{Suspended};
-ghost use Rattle.instance_book.specs.Places.{given};
-ghost use Rattle.instance_book.specs.Makes.{HasPlaces, HasStatesFrom, HasItsStates};
-ghost use Rattle.instance_book.specs.Admissions.{book_under};
+ghost use Rattle.instance_book.specs.Makes.{HasPlaces};
 ghost use Rattle.instance_book.specs.Fits.{IsRunnable};
-ghost use Rattle.instance_book.specs.Told.{StartsAgain, AnswersThere, AnswersGiven, AnswersStored, AnswersAgain};
+ghost use Rattle.instance_book.specs.Told.{LacksScript, LacksPage, StartsIfTold, AnswersIfTold, AnswersWhereKept, AnswersAsGiven, IsStoredIfTold};
 
 use crate::admission::place_of_numbers;
 use crate::book::Book;
@@ -28,8 +24,8 @@ impl Book {
         number: u64,
         nonce: u64,
     ) -> Result<Option<Ticket>, AllocError>
-        ensures none { IfOk result (λ t. IfNone t (slice_get (scripts_of setup.now) script ≡ None)) }
-        ensures some { IfOk result (λ t. IfSome t (StartsAgain setup.now self.now script number nonce)) }
+        ensures none { IfOk result (λ t. IfNone t (LacksScript setup.now script)) }
+        ensures some { IfOk result (StartsIfTold setup.now self.now script number nonce) }
     {
         let Some(named) = setup.get(script) else {
             return Ok(None);
@@ -55,13 +51,14 @@ impl Book {
         nonce: u64,
     ) -> Result<Option<Ticket>, AllocError>
         requires { HasPlaces (scripts_of setup.now) self.now }
-        ensures none { IfOk result (λ t. IfNone t (page_of_numbers (book_under setup.now self.now) instance page ≡ None)) }
-        ensures some { IfOk result (λ t. IfSome t (AnswersThere setup.now self.now instance page answer number nonce)) }
+        ensures none { IfOk result (λ t. IfNone t (LacksPage setup.now self.now instance page)) }
+        ensures some { IfOk result
+            (AnswersIfTold setup.now self.now instance page answer number nonce) }
         ensures runs { IfOk result (λ t. IfSome t (IsRunnable (scripts_of setup.now))) }
-        ensures told { (states : ℕ → Option Suspended) → HasStatesFrom (given states) (scripts_of setup.now) self.now
-            → IfOk result (λ t. IfSome t (AnswersGiven setup.now self.now instance page states)) }
-        ensures stored { IfOk result (λ t. IfSome t (AnswersStored setup.now self.now instance page)) }
-        ensures again { HasItsStates (scripts_of setup.now) self.now → IfOk result (λ t. IfSome t (AnswersAgain setup.now self.now instance page answer number nonce)) }
+        ensures told { AnswersAsGiven setup.now self.now instance page result }
+        ensures stored { IfOk result (IsStoredIfTold setup.now self.now instance page) }
+        ensures again { AnswersWhereKept
+            setup.now self.now instance page answer number nonce result }
     {
         let Some(place) = place_of_numbers(self, setup, instance, page) else {
             return Ok(None);

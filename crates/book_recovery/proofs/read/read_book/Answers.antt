@@ -1,4 +1,4 @@
-use Rattle.std.proofs.Common.{◌≡◌, ◌∙◌, sym, subst, ℕ, length}
+use Rattle.std.proofs.Common.{◌≡◌, sym, subst, ℕ, length}
 use Rattle.script_nodes.specs.Views.{scripts_of}
 use Rattle.page_journal.specs.Records.{at_rest}
 use Rattle.page_journal.specs.Settled.{bodies_in, length_of}
@@ -6,7 +6,7 @@ use Rattle.journal_books.specs.Making.{book_of}
 use Rattle.book_recovery.specs.declared.found.Found.{Found}
 use Rattle.book_recovery.specs.Found.{Finds, IsFoundInOrder, HasStates}
 use Rattle.book_recovery.specs.Reading.{Gives}
-use Rattle.book_recovery.proofs.Took.{all_same, all_bytes, made_of_all, owned_of_all, kept_under, finds, in_order}
+use Rattle.book_recovery.proofs.Took.{all_bytes, owned_of_all, taken_all, finds, in_order}
 use Rattle.book_recovery.proofs.read.read_book.Goals as goal
 
 pub returns-clause-found : goal.returns-clause-found
@@ -19,13 +19,11 @@ returns-clause-found g c told =
     let new = c.for_each.new.taker in
     let start = c.new-reader.ensures in
     let took = c.in_ok-for_each.ensures.taken told in
-    let same = all_same 8 bodies old new took in
-    let kept = kept_under setup shelf new (same.0 ∙ start.setup) (same.1 ∙ start.shelf) c.finish.ensures.sound in
-    let gives = made_of_all setup shelf bodies old new start.setup start.shelf start.found start.seen took in
+    let all = taken_all setup shelf bodies old new start.setup start.shelf start.found start.seen took c.finish.ensures.sound in
     let long : length (at_rest bodies) ≡ length_of {D = g.row.D.Denot} c.args.journal.now = sym (c.requires.settled told).end in
-    let here = subst (λ (n : ℕ). Gives scripts n new.found new.seen (book_of scripts shelf bodies)) long gives in
+    let here = subst (λ (n : ℕ). Gives scripts n new.found new.seen (book_of scripts shelf bodies)) long all.1 in
     subst (λ (f : Found). Finds scripts shelf (length_of {D = g.row.D.Denot} c.args.journal.now) f (book_of scripts shelf bodies)) (sym c.finish.ensures.found)
-    (finds scripts shelf (length_of {D = g.row.D.Denot} c.args.journal.now) new.found new.seen (book_of scripts shelf bodies) kept here)
+    (finds scripts shelf (length_of {D = g.row.D.Denot} c.args.journal.now) new.found new.seen (book_of scripts shelf bodies) all.0 here)
 
 pub returns-clause-states : goal.returns-clause-states
 returns-clause-states g c told own =
@@ -51,8 +49,6 @@ returns-clause-in_order g c =
     let new = c.for_each.new.taker in
     let start = c.new-reader.ensures in
     let took = handed.1 in
-    let same = all_same 8 bodies old new took in
-    let kept = kept_under setup shelf new (same.0 ∙ start.setup) (same.1 ∙ start.shelf) c.finish.ensures.sound in
-    let gives = made_of_all setup shelf bodies old new start.setup start.shelf start.found start.seen took in
+    let all = taken_all setup shelf bodies old new start.setup start.shelf start.found start.seen took c.finish.ensures.sound in
     subst (λ (f : Found). IsFoundInOrder scripts shelf f) (sym c.finish.ensures.found)
-    (in_order c.bodies_make_fitting_books.ensures scripts shelf bodies c.each_is_whole.ensures (all_bytes 8 bodies old new took) (length (at_rest bodies)) new.found new.seen kept gives)
+    (in_order c.bodies_make_fitting_books.ensures scripts shelf bodies c.each_is_whole.ensures (all_bytes 8 bodies old new took) (length (at_rest bodies)) new.found new.seen all.0 all.1)

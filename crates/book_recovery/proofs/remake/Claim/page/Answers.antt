@@ -5,7 +5,8 @@ use Rattle.script_nodes.specs.Arena.{Arena}
 use Rattle.frame_codec.specs.Stored.{IsStored}
 use Rattle.frame_codec.specs.Forms.{read_form, IsStoredBefore}
 use Rattle.frame_codec.specs.FormViews.{before_of}
-use Rattle.book_recovery.proofs.Retold.{arena_again, read_again}
+use Rattle.instance_book.proofs.Behind.{arena_again}
+use Rattle.book_recovery.proofs.Retold.{read_again}
 use Rattle.book_recovery.proofs.remake.Claim.page.Goals as goal
 
 pub state_in-requires : goal.state_in-requires

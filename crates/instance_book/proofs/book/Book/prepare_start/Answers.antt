@@ -1,7 +1,8 @@
-use Rattle.std.proofs.Common.{◌≡◌, ◌<◌, ◌+◌, ◌^◌, ap, refl, length, nat_le, false, arith, inr}
+use Rattle.std.proofs.Common.{◌≡◌, ◌<◌, ◌^◌, ap, subst, ℕ, refl, length, nat_le, false, arith, inr}
 use Rattle.std.proofs.lemmas.Bool.Decides.{nat_tests}
 use Rattle.stored_states.specs.Views.{outcome_of, segment_of, state_of, suspended_of}
 use Rattle.instance_book.specs.Views.{book_of, instance_of}
+use Rattle.instance_book.specs.Prepares.{IsOpening}
 use Rattle.instance_book.proofs.Seen.{length_seen}
 use Rattle.instance_book.proofs.Lands.{opening_lands}
 use Rattle.instance_book.proofs.Itself.{opens_itself}
@@ -13,8 +14,10 @@ returns-in-Ok-clause-decided c scripts journal down fuel pages k named fits =
     let b = book_of scripts journal down c.args.self.now in
     let many = length_seen (instance_of scripts) c.args.self.now.instances.things.items in
     let full : nat_le c.args.instances (length b.instances) ≡ false = grind (arith, nat_tests, many, c.if-count-instances.false, c.len-count.ensures) in
-    opening_lands scripts fuel c.args.life c.args.instances pages b c.args.ticket.now refl k named (segment_of c.args.segment) c.in-Shown.kind c.in-Shown.page c.in-Ok.prepared
-    fits (ap outcome_of c.in-Shown.is) full c.in-Ok.ensures.opens
+    let s = segment_of c.args.segment in
+    let opens = subst (λ (d : ℕ). IsOpening c.in-Ok.prepared c.args.ticket.now c.in-Shown.page s.effects s.entered s.left c.in-Shown.kind d) c.deadline.ensures c.in-Ok.ensures.opens in
+    opening_lands scripts fuel c.args.life c.args.instances pages b c.args.ticket.now refl k named s c.in-Shown.kind c.in-Shown.page c.in-Ok.prepared
+    fits (ap outcome_of c.in-Shown.is) full opens
 
 pub returns-in-Ok-clause-state : goal.returns-in-Ok-clause-state
 returns-in-Ok-clause-state c = inr (suspended_of c.in-Shown.state, (ap state_of c.in-Shown.is, c.in-Ok.ensures.state))
@@ -25,10 +28,10 @@ returns-in-Ok-clause-itself c name =
 
 pub returns-in-Ok-clause-deadline : goal.returns-in-Ok-clause-deadline
 returns-in-Ok-clause-deadline c =
-    let early : c.args.self.now.clock + c.args.life < 2 ^ 63 = omega (arith, c.args.self.now.ticks, c.requires.life) in
+    let early : c.deadline.result < 2 ^ 63 = omega (arith, c.args.self.now.ticks, c.requires.life, c.deadline.ensures) in
     (timely c.in-Ok.prepared _ c.in-Ok.ensures.opens.recorded.decision (tt, early)).0
 
 pub returns-in-Ok-clause-reply : goal.returns-in-Ok-clause-reply
 returns-in-Ok-clause-reply c =
-    let early : c.args.self.now.clock + c.args.life < 2 ^ 63 = omega (arith, c.args.self.now.ticks, c.requires.life) in
+    let early : c.deadline.result < 2 ^ 63 = omega (arith, c.args.self.now.ticks, c.requires.life, c.deadline.ensures) in
     (timely c.in-Ok.prepared _ c.in-Ok.ensures.opens.recorded.decision (tt, early)).1

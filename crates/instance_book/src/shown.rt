@@ -1,0 +1,17 @@
+use instance_cells::Effect;
+use script_nodes::SendKind;
+use script_value::TxName;
+use stored_states::Suspended;
+
+/// A page that a segment showed, or that a record tells of, with what its segment did.
+#[derive(Drop)]
+pub struct ShownPage {
+    pub kind: SendKind,
+    pub effects: Vec<Effect>,
+    /// The transactions that it is inside, the outermost first.
+    pub inside: Vec<TxName>,
+    pub left: Vec<TxName>,
+    /// From this tick on it can't be answered, in seconds.
+    pub deadline: u64,
+    pub state: Suspended,
+}
