@@ -56,9 +56,8 @@ returns-clause-states c source scripts own all =
     let made : ExtendsAs t c.args.instance c.args.answered (effects_in p) p.inside.items (suspended_of p.state) x =
     subst (λ (n : ℕ). ExtendsAs t n c.args.answered (effects_in p) p.inside.items (suspended_of p.state) x) number c.in_ok-extension.ensures.kept in
     let shelf = shelf_from source b.shelf in
-    let next : IsNextAt shelf b.instances c.args.instance x.show.page =
+    let here : IsNextAt shelf b.instances x.instance x.show.page =
     next_kept source scripts b t own.at c.args.instance c.args.answered (effects_in p) p.inside.items (suspended_of p.state) x own.lineage own.unused own.here own.shown made own.state own.bytes own.fits in
-    let here : IsNextAt shelf b.instances x.instance x.show.page = subst (λ (n : ℕ). IsNextAt shelf b.instances n x.show.page) (sym made.instance) next in
     let moved : IsNextAt shelf (instances_of scripts c.make_room_in.new.self) x.instance x.show.page =
     subst (λ (is : List Instance). IsNextAt shelf is x.instance x.show.page) (sym (c.make_room_in.ensures.instances scripts)) here in
     c.pass_over.ensures.states source scripts (c.change.ensures.states source scripts moved (c.make_room_in.ensures.states scripts shelf all))
