@@ -4,7 +4,7 @@ use Rattle.script_nodes.specs.Setup.{Named}
 use Rattle.page_names.specs.Names.{Destination, start, page}
 use Rattle.replay_spec.specs.Book.{Book, draw}
 use Rattle.replay_spec.specs.Admission.{Admission, begins, resumes, refused, refusal_of, admit}
-use Rattle.replay_spec.proofs.Admitted.{start_is_no_page}
+use Rattle.replay_spec.proofs.Admitted.{start_is_no_page, admit_drawn}
 use Rattle.instance_book.specs.declared.ticket.Ticket.{Ticket}
 use Rattle.instance_book.specs.Fits.{FitsAs, FitsIfStart}
 use Rattle.instance_book.specs.Prepares.{rules_with, HasItsScript, IsCarriedOut}
@@ -35,10 +35,6 @@ use Rattle.shelf.specs.Events.{HasMoments, HasOwnMoments}
 use Rattle.shelf.specs.Holding.{AreHeld, AreHeldBy}
 use Rattle.shelf.specs.Preparing.{CanBeLanded, KeepsStateIfFits}
 
-same_admission : (b : Book) (d : Destination) → admit (draw b) d ≡ admit b d
-same_admission b (start name) = refl
-same_admission b (page name n) = refl
-
 still_fits : (ss : List Named) (b : Book) (t : Ticket) (a : Admission) → FitsAs ss b t a → FitsAs ss (draw b) t a
 still_fits ss b t (begins k s) fits = record { run = fits.run; place = fits.place; cells = fits.cells }
 still_fits ss b t (resumes at) fits = fits
@@ -46,7 +42,7 @@ still_fits ss b t (refused r) fits = tt
 
 pub fits_drawn : (ss : List Named) (b after : Book) (t : Ticket) (d : Destination) → after ≡ draw b → FitsAs ss b t (admit b d) → FitsAs ss after t (admit after d)
 fits_drawn ss b after t d e fits =
-    subst (λ (c : Book). FitsAs ss c t (admit c d)) (sym e) (subst (FitsAs ss (draw b) t) (sym (same_admission b d)) (still_fits ss b t (admit b d) fits))
+    subst (λ (c : Book). FitsAs ss c t (admit c d)) (sym e) (subst (FitsAs ss (draw b) t) (sym (admit_drawn b d)) (still_fits ss b t (admit b d) fits))
 
 -- the ticket of a start that is admitted has its script's cells
 pub start_has_script : (ss : List Named) (b : Book) (t : Ticket) (x : Destination) (a : Admission) → admit b x ≡ a → refusal_of a ≡ None → FitsIfStart ss b t a → HasItsScript ss t x

@@ -18,6 +18,7 @@ use Rattle.replay_spec.specs.Next as next
 use Rattle.replay_spec.specs.Laws.{ArePast, EffectsHoldRunSame, EffectsAreOnCells}
 use Rattle.replay_spec.specs.Remade.{EffectsHold}
 use Rattle.replay_spec.proofs.Admitted.{page_stands, start_is_no_page, page_is_no_start}
+use Rattle.replay_spec.proofs.Second.{pages_past}
 use Rattle.stored_states.specs.Views.{segment_of}
 use Rattle.stored_states.specs.declared.segment.Segment.{Segment}
 use Rattle.instance_book.specs.declared.ticket.Ticket.{Ticket}
@@ -29,20 +30,15 @@ use Rattle.ticket_runs.specs.Runs.{IsRunOver}
 use Rattle.ticket_runs.proofs.Replayed.{IsLike, run_like}
 use Rattle.shelf.specs.Views.{IsSegmentOf, HaveTheirCells}
 
--- pages that were shown are past
-are_past : (h : Home) (ps : List Page) → ArePast (map (answered h) ps)
-are_past h [] = tt
-are_past h (p ∷ ps) = (tt, are_past h ps)
-
 -- a first run whose effects hold over the cells of now
 same_run : EffectsHoldRunSame → (v : Visit) (fuel : ℕ) (before now : List Val) → Holds (comes_to v (present before fuel)).effects now
     → comes_to v (present now fuel) ≡ comes_to v (present before fuel)
 same_run law v fuel before now holds =
-    law v.script.script (map (answered (home_of v)) v.pages) (next.newest v (recorded [])) (are_past (home_of v) v.pages) fuel before now holds
+    law v.script.script (map (answered (home_of v)) v.pages) (next.newest v (recorded [])) (pages_past (home_of v) v.pages) fuel before now holds
 
 -- a run's effects hold over the cells that it ran over
 run_holds : EffectsHold → (v : Visit) (fuel : ℕ) (over : List Val) → Holds (comes_to v (present over fuel)).effects over
-run_holds law v fuel over = law v.script.script (map (answered (home_of v)) v.pages) (next.newest v (recorded [])) (are_past (home_of v) v.pages) fuel over
+run_holds law v fuel over = law v.script.script (map (answered (home_of v)) v.pages) (next.newest v (recorded [])) (pages_past (home_of v) v.pages) fuel over
 
 -- a run's effects are on the cells of its script
 on_cells : EffectsAreOnCells → (v : Visit) (reads : Reads) (n : ℕ) → OnCells (length v.script.script.web) (length v.script.script.cells) v.script.script.body
@@ -136,9 +132,6 @@ gone_segment b t name n fuel s (refused r) gone adm = tt
 
 pub if_some : {X : Type 0} (o : Option X) (x : X) (P : X → Type 0) → o ≡ Some x → P x → IfSome o P
 if_some o x P e p = subst (λ z. IfSome z P) (sym e) p
-
-pub of_some : {X : Type 0} (o : Option X) (x : X) (P : X → Type 0) → o ≡ Some x → IfSome o P → P x
-of_some o x P e p = subst (λ z. IfSome z P) e p
 
 pub if_none : {X : Type 0} (o : Option X) (P : X → Type 0) → o ≡ None → IfSome o P
 if_none o P e = subst (λ z. IfSome z P) (sym e) tt

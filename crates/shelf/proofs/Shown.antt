@@ -43,7 +43,7 @@ use Rattle.instance_book.proofs.States.{first_kept, next_kept}
 use Rattle.shelf.specs.Holding.{IsWhole, IsWholeIn}
 use Rattle.shelf.specs.Recording.{state_in, behind_in, IsKeptIn, GoesOnAsGiven}
 use Rattle.instance_book.specs.Changes.{IsSpelledIn}
-use Rattle.shelf.proofs.Now.{of_some}
+use Rattle.book_recovery.proofs.Retold.{of_some}
 use Rattle.shelf.proofs.Stated.{place_found}
 use Rattle.shelf.proofs.Taken.{page_there}
 

@@ -8,6 +8,7 @@ use Rattle.script_value.specs.declared.outcome.Reply.TheVariants as reply
 use Rattle.replay_spec.specs.Book.{Change}
 use Rattle.replay_spec.specs.Admission.{when, or_else}
 use Rattle.replay_spec.specs.Step as step
+use Rattle.replay_spec.specs.Step.{most_of_record, most_of_journal}
 use Rattle.journal_records.specs.Records.{changes, body_of, record_length}
 use Rattle.journal_books.proofs.Brief.{length_short, short_measured}
 use Rattle.instance_book.specs.Views.{reply_of}
@@ -17,17 +18,17 @@ use Rattle.shelf.specs.Recording.{refusal_of_size, IsShort, IsWritten}
 -- a record that is short is not refused
 pub not_refused : (journal size : ℕ) → IsShort journal size → refusal_of_size journal size ≡ None
 not_refused journal size short =
-    let one : nat_lt 1048576 size ≡ false = grind (arith, nat_tests, short.body) in
-    let two : nat_lt (2 ^ 30) (journal + (size + 5)) ≡ false = grind (arith, nat_tests, short.whole) in
+    let one : nat_lt most_of_record size ≡ false = grind (arith, nat_tests, short.body) in
+    let two : nat_lt most_of_journal (journal + (size + 5)) ≡ false = grind (arith, nat_tests, short.whole) in
     rw (one, two) refl
 
 -- and its length is that of the body
-pub size_is : (c : Change) (state : Option (List ℕ)) → record_length c state ≤ 1048576 → length (body_of (changes c state)) ≡ record_length c state
+pub size_is : (c : Change) (state : Option (List ℕ)) → record_length c state ≤ most_of_record → length (body_of (changes c state)) ≡ record_length c state
 size_is c state low = sym (short_measured c state (length_short c state low))
 
 -- the measure of a record tells no count of faults
 pub size_count : (journal : ℕ) (size : ℕ) (x : Reply) (old now : ℕ) → refusal_of_size journal size ≡ Some (reply_of x) → TellsCount old now (reply_of x)
-size_count journal size x old now is = by_tests (nat_lt 1048576 size) (nat_lt (2 ^ 30) (journal + (size + 5))) (reply_of x) is
+size_count journal size x old now is = by_tests (nat_lt most_of_record size) (nat_lt most_of_journal (journal + (size + 5))) (reply_of x) is
   where
     by_tests : (a b : Bool) (y : step.Reply) → or_else (when a (step.oversize size)) (when b (step.journal_full (journal + (size + 5)))) ≡ Some y → TellsCount old now y
     by_tests true b y e = subst (TellsCount old now) (same_Some (step.oversize size) y e) tt

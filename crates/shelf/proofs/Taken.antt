@@ -40,7 +40,7 @@ use Rattle.instance_book.specs.Prepares.{opening_by, ending_by, finish_by, IsSta
 use Rattle.instance_book.proofs.Seen.{cells_seen}
 use Rattle.shelf.specs.Holding.{AreHeld, AreHeldBy, IsWhole, IsWholeIn}
 use Rattle.shelf.specs.Recording.{state_in, behind_in, told_in, BindsIn}
-use Rattle.shelf.proofs.Now.{of_some}
+use Rattle.book_recovery.proofs.Retold.{of_some}
 use Rattle.shelf.proofs.Stated.{place_found}
 use Rattle.shelf.proofs.Told.{spelled_told}
 

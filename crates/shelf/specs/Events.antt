@@ -1,5 +1,5 @@
 -- The events that the calls of a shelf are.
-use Rattle.std.specs.Prelude.{◌≡◌, ℕ, Bool, List, Option, Some, None, Result, IfSome, ⊤}
+use Rattle.std.specs.Prelude.{◌≡◌, ◌≤◌, ℕ, Bool, List, Option, Some, None, Result, IfSome, ⊤}
 use Rattle.script_value.specs.Views.{meaning}
 use Rattle.script_value.specs.declared.value.Value.{Value}
 use Rattle.script_value.specs.declared.outcome.Reply.{Reply}
@@ -129,3 +129,11 @@ HasAllOwnMoments view tells old new =
 abbrev pub TellsCount : (before now : ℕ) → step.Reply → Type 0
 TellsCount before now (step.disk_failed count) = (count ≡ now) × Rose before now
 TellsCount before now _ = ⊤
+
+-- so it does of the disk of a shelf
+abbrev pub TellsFaults : {D N : Type 0} → (D → View) → (old new : Shelf D N) → step.Reply → Type 0
+TellsFaults view old new r = TellsCount (view old.journal.disk).faults (view new.journal.disk).faults r
+
+-- which counts on
+abbrev pub CountsOn : {D N : Type 0} → (D → View) → (old new : Shelf D N) → Type 0
+CountsOn view old new = (view old.journal.disk).faults ≤ (view new.journal.disk).faults

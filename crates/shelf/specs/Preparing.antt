@@ -15,10 +15,10 @@ use Rattle.instance_book.specs.declared.book.Book.{Book}
 use Rattle.instance_book.specs.declared.ticket.Ticket.{Ticket}
 use Rattle.instance_book.specs.declared.prepared.Prepared.{Prepared}
 use Rattle.instance_book.specs.Admissions.{book_under, refusal_for}
-use Rattle.instance_book.specs.Views.{ticket_of, reply_of, book_of}
+use Rattle.instance_book.specs.Views.{instances_of, ticket_of, reply_of, book_of}
 use Rattle.page_names.specs.Views.{target_of}
 use Rattle.stored_states.specs.Views.{segment_of}
-use Rattle.instance_book.specs.Changes.{HasDeadlineBy}
+use Rattle.instance_book.specs.Changes.{HasDeadlineBy, HasStateBy, IsSpelledBy}
 use Rattle.instance_book.specs.Prepares.{Prepares, IsOfSegment, KeepsItsState}
 use Rattle.instance_book.specs.Fits.{FitsAs}
 use Rattle.instance_book.specs.Laws.{KeepsStateAs}
@@ -65,6 +65,11 @@ pub record CanBeLanded (scripts : List Named) (b : Book) (t : Ticket) (p : Prepa
   pub state : KeepsItsState t segment p.change
   pub held : AreHeldNow b t segment
   pub own : KeepsStateIfFits (book_of scripts 0 None b) t segment
+
+-- the page that it shows, if any, has the state of its chain, where this has a spelling
+abbrev pub ShowsState : Setup → Book → Prepared → Type 0
+ShowsState setup b p =
+    let scripts = scripts_of setup in IsSpelledBy p.change → HasStateBy scripts b.shelf (instances_of scripts b.instances) p.change
 
 -- no fault of a disk is told, and no want of memory with what is prepared
 abbrev pub TellsOfRun : Result Prepared Reply → Type 0

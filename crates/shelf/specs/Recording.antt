@@ -1,5 +1,5 @@
 -- How the record of a change is measured and written.
-use Rattle.std.specs.Prelude.{◌≡◌, ◌≤◌, ◌<◌, ◌+◌, ◌^◌, ℕ, Bool, List, Option, Some, None, Result, Ok, Err, IfSome, option_map, nat_lt, ⊤}
+use Rattle.std.specs.Prelude.{◌≡◌, ◌≤◌, ◌<◌, ◌+◌, ◌^◌, ℕ, Bool, List, length, Option, Some, None, Result, Ok, Err, IsTrue, IfSome, IfOk, option_map, nat_lt, ⊤}
 use Rattle.script_value.specs.declared.outcome.Reply.{Reply}
 use Rattle.script_value.specs.declared.outcome.Reply.TheVariants as reply
 use Rattle.replay_spec.specs.Admission.{when, or_else, ◌>>=◌}
@@ -25,6 +25,7 @@ use Rattle.std.specs.Borrow.{Bor}
 use Rattle.stored_states.specs.Views.{origin_of, suspended_of}
 use Rattle.stored_states.specs.declared.frame.Suspended as stored
 use Rattle.frame_codec.specs.Forms.{BindsBefore}
+use Rattle.frame_codec.specs.declared.difference.Delta.{Delta}
 use Rattle.kept_states.specs.Kept.{Form, IsAlone, IsBehind, IsKeptFrom}
 use Rattle.kept_states.specs.Links.{behind_at}
 use Rattle.journal_books.specs.Lengths.{told_bytes}
@@ -37,8 +38,8 @@ refusal_of_size journal size =
 
 -- it can
 pub record IsShort (journal size : ℕ) : Type 0 where
-  pub body : size ≤ 1048576
-  pub whole : journal + (size + 5) ≤ 2 ^ 30
+  pub body : size ≤ most_of_record
+  pub whole : journal + (size + 5) ≤ most_of_journal
 
 -- what a record tells of can be written, where it is short
 abbrev pub CanBeWritten : (journal : ℕ) → Record → Type 0
@@ -72,6 +73,10 @@ behind_in t _ = None
 abbrev pub told_in : Ticket → Change → Option (List ℕ)
 told_in t c = state_in c >>= told_bytes (behind_in t c)
 
+-- what is lent, if anything
+abbrev pub lent : {A : Type 0} → Option (Bor A) → Option A
+lent x = option_map (λ a. a.now) x
+
 -- just a change that shows a page is told with a state
 abbrev pub IsStateFor : Change → Option (List ℕ) → Type 0
 IsStateFor (Ends e) state = state ≡ None
@@ -81,6 +86,20 @@ IsStateFor _ state = ⊤
 -- the state that another one is written behind, if any
 abbrev pub state_of : Option (Bor stored.Suspended) → Option Suspended
 state_of before = option_map (λ p. suspended_of p.now) before
+
+-- the bytes are those that are told of a state behind that one
+abbrev pub IsToldAs : (before : Option Suspended) → Suspended → Option (List ℕ) → Type 0
+IsToldAs before d bytes = bytes ≡ told_bytes before d
+
+-- where bytes are told, this holds; where a test tells that it holds, it does; and where it does, it is told
+abbrev pub WhereTold : {E : Type 0} → Result (Option (List ℕ)) E → Type 0 → Type 0
+WhereTold result holds = IfOk result (λ bytes. IfSome bytes (λ _. holds))
+
+abbrev pub WhereTrue : {E : Type 0} → Result Bool E → Type 0 → Type 0
+WhereTrue result holds = IfOk result (λ test. IsTrue test → holds)
+
+abbrev pub IsTrueWhere : {E : Type 0} → Result Bool E → Type 0 → Type 0
+IsTrueWhere result holds = IfOk result (λ test. holds → IsTrue test)
 
 -- the state is kept by itself, or behind another one
 abbrev pub IsKeptForm : (before : Option Suspended) → Suspended → Form → Type 0
@@ -96,6 +115,13 @@ IsKeptIn t _ = ⊤
 -- each web cell that is bound where the state is written behind is bound in it
 abbrev pub BindsIn : Ticket → Change → Type 0
 BindsIn t c = IfSome (state_in c) (BindsBefore (behind_in t c))
+
+-- two states have as many variables and frames; all of a state's are shared with another one
+abbrev pub AreAsLong : (d e : stored.Suspended) → Type 0
+AreAsLong d e = (length d.env ≡ length e.env) × (length d.frames.items ≡ length e.frames.items)
+
+abbrev pub IsAllShared : stored.Suspended → Delta → Type 0
+IsAllShared d x = (x.env_shared ≡ length d.env) × (x.frames_shared ≡ length d.frames.items)
 
 -- two tickets go on from the same, and their pages have as many links
 pub record GoOnAlike (one other : Ticket) : Type 0 where
@@ -116,6 +142,10 @@ is_shallow_shadow s = is_shallow s.1
 abbrev pub IsOfByte : Change → Type 0
 IsOfByte (Opens o) = o.instance.script < 256
 IsOfByte _ = ⊤
+
+-- its record can be written with the state that it tells, where it is short
+abbrev pub CanBeTold : (journal : ℕ) → Ticket → Change → Type 0
+CanBeTold journal t c = CanBeWritten journal (changes (change_of c) (told_in t c))
 
 -- the body of the change's record, with the state that it tells; or why there is none
 abbrev pub IsToldBody : (journal : ℕ) → Ticket → Change → Result (List ℕ) Reply → Type 0

@@ -41,7 +41,7 @@ use Rattle.instance_book.specs.Changes.{change_of, inside_of}
 use Rattle.instance_book.specs.Makes.{HasPlaces, HasItsStates}
 use Rattle.instance_book.specs.Swept.{cells_in}
 use Rattle.instance_book.specs.Fits.{FitsAs}
-use Rattle.instance_book.specs.Prepares.{rules_with}
+use Rattle.instance_book.specs.Prepares.{rules_with, HasItsScript}
 use Rattle.instance_book.specs.Laws.{KeepsStateAs}
 use Rattle.instance_book.specs.declared.book.Book as kept
 use Rattle.book_recovery.specs.Remaking.{HasToldStates}
@@ -171,6 +171,10 @@ FitsNow setup s t = FitsAs (scripts_of setup) (book_in (scripts_of setup) s) t (
 pub record IsOwnVisit {D N : Type 0} (view : D → View) (tells : Bool) (setup : Setup) (s : Shelf D N) (t : Ticket) : Type 0 where
   pub own : IsOwnShelf view tells (scripts_of setup) s
   pub fits : FitsNow setup s t
+
+-- what a start asks of the setup: the ticket's script stands there, and it has the cells that the script begins with
+abbrev pub HasTargetScript : List Named → Ticket → Type 0
+HasTargetScript scripts t = HasItsScript scripts t (target_of t.target)
 
 -- its number is out
 abbrev pub IsOut : {D N : Type 0} → Setup → Shelf D N → Ticket → Type 0

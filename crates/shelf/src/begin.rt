@@ -1,17 +1,11 @@
-ghost use Rattle.std.specs.Prelude.{◌≡◌, ◌≢◌, ◌⊎◌, ◌≤◌, ◌+◌, ◌++◌, ◌∷◌, [], false, length, IsTrue, IfOk, OnOk, IsErrOf, is_ok};
+ghost use Rattle.std.specs.Prelude.{◌≡◌, ◌≤◌, ◌++◌, ◌∷◌, [], false, length, IsTrue, IfOk, OnOk};
 ghost use Rattle.script_nodes.specs.Views.{named_of, scripts_of};
-ghost use Rattle.web_outside.specs.Causes.{Rose};
-ghost use Rattle.page_journal.specs.Scanned.{IsQuiet};
-ghost use Rattle.page_journal.specs.Settled.{IsSettled, IsSound, HasFailed, view_of, bodies_in, length_of, is_broken};
+ghost use Rattle.page_journal.specs.Settled.{IsSettled, IsSound, view_of, bodies_in, is_broken};
 ghost use Rattle.journal_records.specs.Records.{IsInGrammar, begin_of};
-ghost use Rattle.journal_books.specs.Making.{nothing, begun, book_of};
-ghost use Rattle.journal_books.specs.Standing.{IsBook};
 ghost use Rattle.journal_books.specs.Keeping.{IsWhole, AreWhole, first_body};
-ghost use Rattle.journal_books.specs.Disks.{IsFit};
-ghost use Rattle.book_recovery.specs.Found.{book_with, IsBookInOrder};
-ghost use Rattle.shelf.specs.Faults.{begin_fault, IsReadFault};
-ghost use Rattle.shelf.specs.Opening.{HasOwnRecords, OpensOwn};
-ghost use Rattle.shelf.specs.Owning.{StaysOwnThroughout};
+ghost use Rattle.book_recovery.specs.Found.{IsBookInOrder};
+ghost use Rattle.shelf.specs.Faults.{begin_fault};
+ghost use Rattle.shelf.specs.Opening.{HasOwnRecords, OpensOwn, LeavesOwnRecords, HasFirstLength, IsDoneUnlessOutside, TellsFailure, IsMadeOf, CanGoOnWith, TellsReadFault, IsReadAlone};
 ghost use Rattle.shelf.specs.Ranges.{AreInRange};
 ghost use Rattle.shelf.specs.Views.{TellsStates};
 
@@ -63,13 +57,13 @@ fn start<D: Disk>(
     requires begins { IsInGrammar (begin_of number (scripts_of setup.now)) }
     ensures bodies { IsTrue D.tells → OnOk result (IsSettled D.view journal.new
         × (bodies_in D.view journal.new ≡ bodies_in D.view journal.old ++ first_body (scripts_of setup.now) number ∷ [])) }
-    ensures len { OnOk result (length_of journal.new ≡ length_of journal.old + 5 + length (first_body (scripts_of setup.now) number)) }
+    ensures len { OnOk result (HasFirstLength (scripts_of setup.now) number journal.old journal.new) }
     ensures sound { IsSound journal.new }
     ensures whole { OnOk result (is_broken journal.new ≡ false) }
     ensures own_moments { IsTrue D.tells → bodies_in D.view journal.old ≡ []
-        → StaysOwnThroughout (scripts_of setup.now) number (view_of D.view journal.old) (view_of D.view journal.new) }
-    ensures refused { IsErrOf result BeginFault.DiskFault ⊎ (IsErrOf result BeginFault.Memory ⊎ IsTrue (is_ok result)) }
-    ensures cause { IsErrOf result BeginFault.DiskFault → HasFailed (view_of D.view journal.old) (view_of D.view journal.new) }
+        → LeavesOwnRecords D.view (scripts_of setup.now) number journal.old journal.new }
+    ensures refused { IsDoneUnlessOutside result }
+    ensures cause { TellsFailure D.view journal.old journal.new result }
     ensures later { (view_of D.view journal.old).faults ≤ (view_of D.view journal.new).faults }
 {
     let Ok(body) = encode_begin(alloc, number, setup) else {
@@ -98,19 +92,25 @@ fn open<D: Disk>(
     requires whole { is_broken journal.old ≡ false }
     requires settled { IsTrue D.tells → IsSettled D.view journal.old }
     requires begins { IsInGrammar (begin_of number (scripts_of setup.now)) }
-    ensures begun { IsTrue D.tells → IfOk result (λ b. IsBook (begun (scripts_of setup.now) number (book_of (scripts_of setup.now) number (bodies_in D.view journal.old))) (book_with (scripts_of setup.now) (length_of journal.new) b)) }
-    ensures fit { IsTrue D.tells → IfOk result (λ b. IsFit D.view (scripts_of setup.now) number journal.new (book_with (scripts_of setup.now) (length_of journal.new) b)) }
-    ensures told { IsTrue D.tells → IfOk result (TellsStates D.view (scripts_of setup.now) number journal.new) }
+    ensures begun { IsTrue D.tells
+        → IfOk result (IsMadeOf D.view (scripts_of setup.now) number journal.old journal.new) }
+    ensures fit { IsTrue D.tells
+        → IfOk result (CanGoOnWith D.view (scripts_of setup.now) number journal.new) }
+    ensures told { IsTrue D.tells
+        → IfOk result (TellsStates D.view (scripts_of setup.now) number journal.new) }
     ensures in_order { IfOk result (λ b. IsBookInOrder (scripts_of setup.now) number b) }
     ensures sound { IsSound journal.new }
     ensures whole { OnOk result (is_broken journal.new ≡ false) }
     ensures own { IsTrue D.tells → HasOwnRecords D.view (scripts_of setup.now) number journal.old
         → IfOk result (OpensOwn D.view (scripts_of setup.now) number journal.new) }
-    ensures own_moments { IsTrue D.tells → HasOwnRecords D.view (scripts_of setup.now) number journal.old
-        → StaysOwnThroughout (scripts_of setup.now) number (view_of D.view journal.old) (view_of D.view journal.new) }
-    ensures refused { IsTrue D.tells → IsReadFault (book_of (scripts_of setup.now) number (bodies_in D.view journal.old)) result }
-    ensures quiet { IsTrue D.tells → book_of (scripts_of setup.now) number (bodies_in D.view journal.old) ≢ nothing → IsQuiet (view_of D.view journal.old) (view_of D.view journal.new) }
-    ensures cause { IsErrOf result BeginFault.DiskFault → HasFailed (view_of D.view journal.old) (view_of D.view journal.new) }
+    ensures own_moments { IsTrue D.tells
+        → HasOwnRecords D.view (scripts_of setup.now) number journal.old
+        → LeavesOwnRecords D.view (scripts_of setup.now) number journal.old journal.new }
+    ensures refused { IsTrue D.tells
+        → TellsReadFault D.view (scripts_of setup.now) number journal.old result }
+    ensures quiet { IsTrue D.tells
+        → IsReadAlone D.view (scripts_of setup.now) number journal.old journal.new }
+    ensures cause { TellsFailure D.view journal.old journal.new result }
     ensures later { (view_of D.view journal.old).faults ≤ (view_of D.view journal.new).faults }
 {
     records_are_exact();
@@ -149,11 +149,9 @@ fn can_be_run(named: &NamedScript)
 }
 
 impl<D: Disk, N: Nonces + Drop> Shelf<D, N> {
-    ghost use Rattle.replay_spec.specs.Book.{reopened};
-    ghost use Rattle.journal_books.specs.Standing.{StaysThroughout, IsOneOf};
-    ghost use Rattle.shelf.specs.Views.{book_in, IsInOrder, IsOwnShelf};
-    ghost use Rattle.shelf.specs.Owning.{IsOwnImage, HasOwnImages};
-    ghost use Rattle.shelf.specs.Opening.{IsFault, MakesBook, fault_of, disk_of, nonces_of};
+    ghost use Rattle.shelf.specs.Views.{IsInOrder, IsOwnShelf};
+    ghost use Rattle.shelf.specs.Owning.{IsOwnImage};
+    ghost use Rattle.shelf.specs.Opening.{MakesShelf, IsOpenedAnew, OpensOneOf, StandsThroughout, LeavesOwn, TellsFault, TellsCause, disk_of, nonces_of};
 
     /// Opens the shelf of these limits, which are in their ranges, on a disk: its book is what the records of the journal make,
     /// as after a crash. A disk without a record gets the first, which tells the shelf's number and its scripts. A disk that is
@@ -171,19 +169,24 @@ impl<D: Disk, N: Nonces + Drop> Shelf<D, N> {
         requires range { AreInRange rules }
         requires few { length (scripts_of setup.now) ≤ 256 }
         requires begins { IsInGrammar (begin_of rules.number (scripts_of setup.now)) }
-        ensures book { IsTrue D.tells → IfOk result (λ s. MakesBook (scripts_of setup.now) rules.number (D.view disk) (book_in (scripts_of setup.now) s)) }
-        ensures opened { IfOk result (λ s. book_in (scripts_of setup.now) s ≡ reopened (book_in (scripts_of setup.now) s)) }
-        ensures one_of { IsTrue D.tells → IfOk result (λ s. IsOneOf (scripts_of setup.now) rules.number (D.view disk) (book_in (scripts_of setup.now) s)) }
-        ensures any_moment { IsTrue D.tells → StaysThroughout (scripts_of setup.now) rules.number (D.view disk) (D.view (disk_of result)) }
+        ensures book { IsTrue D.tells
+            → MakesShelf (scripts_of setup.now) rules.number (D.view disk) result }
+        ensures opened { IfOk result (IsOpenedAnew (scripts_of setup.now)) }
+        ensures one_of { IsTrue D.tells
+            → OpensOneOf (scripts_of setup.now) rules.number (D.view disk) result }
+        ensures any_moment { IsTrue D.tells
+            → StandsThroughout D.view (scripts_of setup.now) rules.number disk result }
         ensures in_order { IfOk result (λ s. IsInOrder D.view D.tells (scripts_of setup.now) s) }
-        ensures own { IsTrue D.tells → IsOwnImage (scripts_of setup.now) rules.number (D.view disk).seen
+        ensures own { IsTrue D.tells
+            → IsOwnImage (scripts_of setup.now) rules.number (D.view disk).seen
             → IfOk result (IsOwnShelf D.view D.tells (scripts_of setup.now)) }
-        ensures own_moments { IsTrue D.tells → HasOwnImages (scripts_of setup.now) rules.number (D.view disk)
-            → StaysOwnThroughout (scripts_of setup.now) rules.number (D.view disk) (D.view (disk_of result)) }
+        ensures own_moments { IsTrue D.tells
+            → LeavesOwn D.view (scripts_of setup.now) rules.number disk result }
         ensures rules { IfOk result (λ s. s.rules ≡ rules) }
         ensures nonces { nonces_of result ≡ nonces }
-        ensures refused { IsTrue D.tells → IsFault (scripts_of setup.now) rules.number (D.view disk) (fault_of result) }
-        ensures cause { IsErrOf (fault_of result) BeginFault.DiskFault → Rose (D.view disk).faults (D.view (disk_of result)).faults }
+        ensures refused { IsTrue D.tells
+            → TellsFault D.view (scripts_of setup.now) rules.number disk result }
+        ensures cause { TellsCause D.view disk result }
         ensures later { (D.view disk).faults ≤ (D.view (disk_of result)).faults }
     {
         let mut journal = match Journal::begin(alloc, disk) {

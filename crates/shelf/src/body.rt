@@ -3,10 +3,9 @@ ghost use Rattle.web_disk.specs.View.{NoNewImage, Elapses};
 ghost use Rattle.page_journal.specs.Settled.{IsSettled, IsReady, IsSound, view_of, length_of, is_broken};
 ghost use Rattle.script_nodes.specs.Views.{scripts_of};
 ghost use Rattle.instance_book.specs.Makes.{HasPlaces};
-ghost use Rattle.journal_records.specs.Records.{changes};
-ghost use Rattle.instance_book.specs.Changes.{change_of, IsSpelledIn};
+ghost use Rattle.instance_book.specs.Changes.{IsSpelledIn};
 ghost use Rattle.shelf.specs.Holding.{IsWholeIn};
-ghost use Rattle.shelf.specs.Recording.{CanBeWritten, IsToldBody, IsOfByte, IsKeptIn, BindsIn, GoesOnAsGiven, told_in};
+ghost use Rattle.shelf.specs.Recording.{CanBeTold, IsToldBody, IsOfByte, IsKeptIn, BindsIn, GoesOnAsGiven};
 
 use crate::recording::{recorded, told_state, written};
 use instance_book::{Book, Change, Ticket};
@@ -33,7 +32,7 @@ pub fn told_body<D: Disk>(
     requires placed { HasPlaces (scripts_of setup.now) book.now }
     requires byte { IsOfByte change.now }
     requires kept { IsKeptIn ticket.now change.now }
-    requires spelled { CanBeWritten (length_of journal.old) (changes (change_of change.now) (told_in ticket.now change.now)) }
+    requires spelled { CanBeTold (length_of journal.old) ticket.now change.now }
     ensures written { IsToldBody (length_of journal.old) ticket.now change.now result }
     ensures state { OnOk result (IsWholeIn (scripts_of setup.now) book.now change.now) }
     ensures spelled { OnOk result (IsSpelledIn change.now) }

@@ -1,16 +1,13 @@
 ghost use Rattle.std.specs.Prelude.{◌≤◌, IfOk, Contains};
-ghost use Rattle.page_names.specs.Views.{target_of};
 ghost use Rattle.script_nodes.specs.Views.{scripts_of};
 ghost use Rattle.server_limits.specs.Limits.{most_fuel, most_life};
 ghost use Rattle.replay_spec.specs.Invariant.{IsOrderly};
 ghost use Rattle.instance_book.specs.Admissions.{book_under, refusal_for, FitsIn};
-ghost use Rattle.instance_book.specs.Changes.{HasRoomFor, HasStateBy, IsSpelledBy};
+ghost use Rattle.instance_book.specs.Changes.{HasRoomFor};
 ghost use Rattle.instance_book.specs.Fits.{IsRunnable};
 ghost use Rattle.instance_book.specs.Makes.{HasPlaces, StaysSame, KeepsPlaces, KeepsStates};
-ghost use Rattle.instance_book.specs.Prepares.{HasItsScript};
-ghost use Rattle.instance_book.specs.Views.{instances_of};
-ghost use Rattle.shelf.specs.Views.{IsRunIfAny};
-ghost use Rattle.shelf.specs.Preparing.{IsDecided, IsDecidedIfHeld, IsRefused, WantsMemory, CanBeLanded, TellsOfRun};
+ghost use Rattle.shelf.specs.Views.{IsRunIfAny, HasTargetScript};
+ghost use Rattle.shelf.specs.Preparing.{IsDecided, IsDecidedIfHeld, IsRefused, WantsMemory, CanBeLanded, ShowsState, TellsOfRun};
 
 use crate::rules::Rules;
 use crate::second::segment_now;
@@ -37,16 +34,19 @@ pub fn prepared(
     requires orderly { IsOrderly (book_under setup.now book.old) }
     requires out { Contains book.old.out.items ticket.now.number }
     requires runs { IsRunnable (scripts_of setup.now) ticket.now }
-    requires script { HasItsScript (scripts_of setup.now) ticket.now (target_of ticket.now.target) }
+    requires script { HasTargetScript (scripts_of setup.now) ticket.now }
     requires segment { IsRunIfAny (scripts_of setup.now) rules.fuel ticket.now segment }
     ensures book { StaysSame book.old book.new }
     ensures placed { KeepsPlaces book.old book.new }
     ensures states { KeepsStates book.old book.new }
     ensures room { IfOk result (λ p. HasRoomFor p.change book.new) }
     ensures landed { IfOk result (CanBeLanded (scripts_of setup.now) book.old ticket.now) }
-    ensures shown { FitsIn setup.now book.old ticket.now.target ticket.now → IfOk result (λ p. IsSpelledBy p.change → HasStateBy (scripts_of setup.now) book.old.shelf (instances_of (scripts_of setup.now) book.old.instances) p.change) }
-    ensures decided { FitsIn setup.now book.old ticket.now.target ticket.now → IsDecided setup.now rules book.old ticket.now result }
-    ensures held { FitsIn setup.now book.old ticket.now.target ticket.now → IsDecidedIfHeld setup.now rules book.old ticket.now segment result }
+    ensures shown { FitsIn setup.now book.old ticket.now.target ticket.now
+        → IfOk result (ShowsState setup.now book.old) }
+    ensures decided { FitsIn setup.now book.old ticket.now.target ticket.now
+        → IsDecided setup.now rules book.old ticket.now result }
+    ensures held { FitsIn setup.now book.old ticket.now.target ticket.now
+        → IsDecidedIfHeld setup.now rules book.old ticket.now segment result }
     ensures refused { IsRefused setup.now book.old ticket.now.target result }
     ensures tells { TellsOfRun result }
     ensures none { WantsMemory setup.now book.old ticket.now segment result }

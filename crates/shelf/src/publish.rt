@@ -1,9 +1,7 @@
-ghost use Rattle.std.specs.Prelude.{◌≡◌, ◌≤◌, None, IsTrue};
+ghost use Rattle.std.specs.Prelude.{◌≡◌, None, IsTrue};
 ghost use Rattle.script_nodes.specs.Views.{scripts_of};
-ghost use Rattle.page_names.specs.Views.{target_of};
 ghost use Rattle.instance_book.specs.Changes.{HasRoomFor};
 ghost use Rattle.instance_book.specs.Fits.{IsRunnable};
-ghost use Rattle.instance_book.specs.Prepares.{HasItsScript};
 ghost use Rattle.instance_book.specs.Views.{reply_of};
 
 use crate::body::told_body;
@@ -24,10 +22,9 @@ use web_disk::Disk;
 use web_outside::Nonces;
 
 impl<D: Disk, N: Nonces + Drop> Shelf<D, N> {
-    ghost use Rattle.page_journal.specs.Settled.{view_of};
-    ghost use Rattle.shelf.specs.Views.{IsInOrder, IsOwnShelf, IsOwnVisit, IsOut, IsRunFor, fate_by};
+    ghost use Rattle.shelf.specs.Views.{IsInOrder, IsOwnShelf, IsOwnVisit, IsOut, IsRunFor, HasTargetScript, fate_by};
     ghost use Rattle.replay_spec.specs.Step.{plain};
-    ghost use Rattle.shelf.specs.Events.{IsPublish, TellsRefusal, IsToldIfHeld, WantsIfNone, SpendsNumber, SpendsOnly, HasMoments, HasOwnMoments, TellsCount, TellsReply, CarriesOut, ShowsItsState, decision_of};
+    ghost use Rattle.shelf.specs.Events.{IsPublish, TellsRefusal, IsToldIfHeld, WantsIfNone, SpendsNumber, SpendsOnly, HasMoments, HasOwnMoments, TellsFaults, CountsOn, TellsReply, CarriesOut, ShowsItsState, decision_of};
     ghost use Rattle.shelf.specs.Preparing.{CanBeLanded};
 
     /// Publishes the segment of a ticket, which spends its number whatever the reply.
@@ -55,20 +52,26 @@ impl<D: Disk, N: Nonces + Drop> Shelf<D, N> {
         requires in_order { IsInOrder D.view D.tells (scripts_of setup.now) self.old }
         requires out { IsOut setup.now self.old ticket }
         requires runs { IsRunnable (scripts_of setup.now) ticket }
-        requires script { HasItsScript (scripts_of setup.now) ticket (target_of ticket.target) }
+        requires script { HasTargetScript (scripts_of setup.now) ticket }
         requires segment { IsRunFor setup.now self.old ticket segment }
-        ensures event { IsOwnVisit D.view D.tells setup.now self.old ticket → IsPublish N.nonce setup.now self.old self.new ticket result }
+        ensures event { IsOwnVisit D.view D.tells setup.now self.old ticket
+            → IsPublish N.nonce setup.now self.old self.new ticket result }
         ensures in_order { IsInOrder D.view D.tells (scripts_of setup.now) self.new }
-        ensures own { IsOwnVisit D.view D.tells setup.now self.old ticket → IsOwnShelf D.view D.tells (scripts_of setup.now) self.new }
+        ensures own { IsOwnVisit D.view D.tells setup.now self.old ticket
+            → IsOwnShelf D.view D.tells (scripts_of setup.now) self.new }
         ensures spent { SpendsNumber setup.now self.old self.new ticket }
-        ensures any_moment { IsTrue D.tells → HasMoments D.view (scripts_of setup.now) self.old self.new }
-        ensures own_moments { IsTrue D.tells → IsOwnVisit D.view D.tells setup.now self.old ticket → HasOwnMoments D.view (scripts_of setup.now) self.old self.new }
+        ensures any_moment { IsTrue D.tells
+            → HasMoments D.view (scripts_of setup.now) self.old self.new }
+        ensures own_moments { IsTrue D.tells
+            → IsOwnVisit D.view D.tells setup.now self.old ticket
+            → HasOwnMoments D.view (scripts_of setup.now) self.old self.new }
         ensures refused { TellsRefusal setup.now self.old ticket.target result }
         ensures none { WantsIfNone setup.now self.old ticket segment result }
-        ensures held { IsOwnVisit D.view D.tells setup.now self.old ticket → IsToldIfHeld setup.now self.old ticket segment result }
+        ensures held { IsOwnVisit D.view D.tells setup.now self.old ticket
+            → IsToldIfHeld setup.now self.old ticket segment result }
         ensures memory { SpendsOnly setup.now self.old self.new ticket result }
-        ensures cause { TellsCount (view_of D.view self.old.journal).faults (view_of D.view self.new.journal).faults (reply_of result) }
-        ensures later { (view_of D.view self.old.journal).faults ≤ (view_of D.view self.new.journal).faults }
+        ensures cause { TellsFaults D.view self.old self.new (reply_of result) }
+        ensures later { CountsOn D.view self.old self.new }
         ensures nonces { self.new.nonces ≡ self.old.nonces }
         ensures rules { self.new.rules ≡ self.old.rules }
     {
@@ -94,22 +97,30 @@ impl<D: Disk, N: Nonces + Drop> Shelf<D, N> {
         requires in_order { IsInOrder D.view D.tells (scripts_of setup.now) self.old }
         requires up { self.old.down ≡ None }
         requires out { IsOut setup.now self.old ticket.now }
-        requires script { HasItsScript (scripts_of setup.now) ticket.now (target_of ticket.now.target) }
+        requires script { HasTargetScript (scripts_of setup.now) ticket.now }
         requires room { HasRoomFor prepared.change self.old.book }
         requires plain { fate_by (reply_of prepared.reply) ≡ plain }
         requires landed { CanBeLanded (scripts_of setup.now) self.old.book ticket.now prepared }
-        requires shown { IsOwnVisit D.view D.tells setup.now self.old ticket.now → ShowsItsState setup.now self.old prepared.change }
-        requires decided { IsOwnVisit D.view D.tells setup.now self.old ticket.now → CarriesOut setup.now self.old ticket.now prepared }
-        ensures event { IsOwnVisit D.view D.tells setup.now self.old ticket.now → IsPublish N.nonce setup.now self.old self.new ticket.now result }
+        requires shown { IsOwnVisit D.view D.tells setup.now self.old ticket.now
+            → ShowsItsState setup.now self.old prepared.change }
+        requires decided { IsOwnVisit D.view D.tells setup.now self.old ticket.now
+            → CarriesOut setup.now self.old ticket.now prepared }
+        ensures event { IsOwnVisit D.view D.tells setup.now self.old ticket.now
+            → IsPublish N.nonce setup.now self.old self.new ticket.now result }
         ensures in_order { IsInOrder D.view D.tells (scripts_of setup.now) self.new }
-        ensures own { IsOwnVisit D.view D.tells setup.now self.old ticket.now → IsOwnShelf D.view D.tells (scripts_of setup.now) self.new }
+        ensures own { IsOwnVisit D.view D.tells setup.now self.old ticket.now
+            → IsOwnShelf D.view D.tells (scripts_of setup.now) self.new }
         ensures spent { SpendsNumber setup.now self.old self.new ticket.now }
-        ensures any_moment { IsTrue D.tells → HasMoments D.view (scripts_of setup.now) self.old self.new }
-        ensures own_moments { IsTrue D.tells → IsOwnVisit D.view D.tells setup.now self.old ticket.now → HasOwnMoments D.view (scripts_of setup.now) self.old self.new }
-        ensures told { IsOwnVisit D.view D.tells setup.now self.old ticket.now → TellsReply (decision_of setup.now self.old ticket.now) (reply_of result) }
+        ensures any_moment { IsTrue D.tells
+            → HasMoments D.view (scripts_of setup.now) self.old self.new }
+        ensures own_moments { IsTrue D.tells
+            → IsOwnVisit D.view D.tells setup.now self.old ticket.now
+            → HasOwnMoments D.view (scripts_of setup.now) self.old self.new }
+        ensures told { IsOwnVisit D.view D.tells setup.now self.old ticket.now
+            → TellsReply (decision_of setup.now self.old ticket.now) (reply_of result) }
         ensures memory { SpendsOnly setup.now self.old self.new ticket.now result }
-        ensures cause { TellsCount (view_of D.view self.old.journal).faults (view_of D.view self.new.journal).faults (reply_of result) }
-        ensures later { (view_of D.view self.old.journal).faults ≤ (view_of D.view self.new.journal).faults }
+        ensures cause { TellsFaults D.view self.old self.new (reply_of result) }
+        ensures later { CountsOn D.view self.old self.new }
         ensures nonces { self.new.nonces ≡ self.old.nonces }
         ensures rules { self.new.rules ≡ self.old.rules }
     {

@@ -13,15 +13,12 @@ ghost use Rattle.frame_codec.specs.Spelling.{StateHasBytes};
 ghost use Rattle.frame_codec.specs.Forms.{BindsBefore};
 ghost use Rattle.kept_states.specs.Kept.{form_byte, kept_of};
 ghost use Rattle.stored_states.specs.Views.{suspended_of};
-ghost use Rattle.journal_books.specs.Lengths as spec;
 ghost use Rattle.shelf.specs.Holding.{FitsIfSpelled, IsWhole, IsWholeIn};
-ghost use Rattle.shelf.specs.Recording.{refusal_of_size, CanBeWritten, IsWritten, IsOfByte, IsStateFor, IsKeptForm, IsKeptIn, BindsIn, GoesOnAsGiven, GoOnAlike, told_in, state_of};
+ghost use Rattle.shelf.specs.Recording.{refusal_of_size, CanBeWritten, IsWritten, IsOfByte, IsStateFor, IsKeptForm, IsKeptIn, IsToldAs, WhereTold, WhereTrue, IsTrueWhere, BindsIn, GoesOnAsGiven, GoOnAlike, told_in, state_of, lent};
 
 use crate::nesting::nests_shallow;
-use crate::same::are_same_names;
-use frame_codec::{
-    ALONE, BEHIND, encode as encode_state, is_spelled, is_stored, states_are_exact, with_form,
-};
+use crate::same::{are_same_names, are_same_states};
+use frame_codec::{ALONE, BEHIND, is_spelled, is_stored, with_form};
 use instance_book::{Book, Change, Ticket};
 use journal_records::{
     Recorded, RecordedEnded, RecordedFinish, RecordedOrigin, RecordedPage, encode, record_length,
@@ -56,9 +53,9 @@ fn state_bytes(
     state: &Suspended,
 ) -> Result<Option<Bytes>, AllocError>
     requires { IsKeptForm (state_of before) (suspended_of state.now) (kept_of kept.now).form }
-    ensures told { IfOk result (λ bytes. bytes ≡ spec.told_bytes (state_of before.entry) (suspended_of state.now)) }
-    ensures spelled { IfOk result (λ bytes. IfSome bytes (λ _. StateHasBytes (suspended_of state.now))) }
-    ensures binds { IfOk result (λ bytes. IfSome bytes (λ _. BindsBefore (state_of before.entry) (suspended_of state.now))) }
+    ensures told { IfOk result (IsToldAs (state_of before.entry) (suspended_of state.now)) }
+    ensures spelled { WhereTold result (StateHasBytes (suspended_of state.now)) }
+    ensures binds { WhereTold result (BindsBefore (state_of before.entry) (suspended_of state.now)) }
 {
     kept_are_written();
     if let Some(bytes) = kept.bytes() {
@@ -74,39 +71,12 @@ fn state_bytes(
 fn fits_if_spelled(script: &Script, state: &Suspended) -> bool
     ensures { IsTrue result ↔ FitsIfSpelled script.now (suspended_of state.now) }
 {
-    if is_spelled(state) {
-        is_stored(script, state)
-    } else {
-        true
-    }
-}
-
-// Whether two states are the same, and fit the script.
-fn are_same_states(
-    alloc: Global,
-    script: &Script,
-    one: &Suspended,
-    other: &Suspended,
-) -> Result<bool, AllocError>
-    ensures { IfOk result (λ same. IsTrue same → suspended_of one.now ≡ suspended_of other.now) }
-{
-    states_are_exact();
-    if !is_stored(script, one) || !is_stored(script, other) {
-        return Ok(false);
-    }
-    let one = encode_state(alloc, one)?;
-    let other = encode_state(alloc, other)?;
-    Ok(one.as_slice() == other.as_slice())
+    is_stored(script, state) || !is_spelled(state)
 }
 
 // Whether two tickets go on from the same, and their pages have as many links.
-fn go_on_alike(
-    alloc: Global,
-    script: &Script,
-    one: &Ticket,
-    other: &Ticket,
-) -> Result<bool, AllocError>
-    ensures { IfOk result (λ same. IsTrue same → GoOnAlike one.now other.now) }
+fn go_on_alike(alloc: Global, one: &Ticket, other: &Ticket) -> Result<bool, AllocError>
+    ensures { WhereTrue result (GoOnAlike one.now other.now) }
 {
     if one.links != other.links {
         return Ok(false);
@@ -114,11 +84,11 @@ fn go_on_alike(
     let (Origin::Page(one), Origin::Page(other)) = (&one.from, &other.from) else {
         return Ok(false);
     };
-    are_same_states(alloc, script, one, other)
+    are_same_states(alloc, one, other)
 }
 
 // Whether the ticket of an answer goes on from the state that the book has of the page, so its own page can be kept and written behind
-// that.
+// that. A caller may have changed a ticket: the state is read once more.
 fn goes_on_from_book(
     alloc: Global,
     book: &Book,
@@ -127,13 +97,10 @@ fn goes_on_from_book(
     change: &Change,
 ) -> Result<bool, AllocError>
     requires { HasPlaces (scripts_of setup.now) book.now }
-    ensures { IfOk result (λ goes. IsTrue goes → GoesOnAsGiven setup.now book.now ticket.now change.now) }
+    ensures { WhereTrue result (GoesOnAsGiven setup.now book.now ticket.now change.now) }
 {
     let Change::Extends(extension) = change else {
         return Ok(true);
-    };
-    let Some(named) = book.script(setup, extension.instance) else {
-        return Ok(false);
     };
     let Some(there) = book.told_answer(
         alloc,
@@ -147,7 +114,7 @@ fn goes_on_from_book(
     else {
         return Ok(false);
     };
-    go_on_alike(alloc, &named.script, &there, ticket)
+    go_on_alike(alloc, &there, ticket)
 }
 
 // Whether a page with this state is inside the transactions of the state's frames, and the state fits the script where it has a
@@ -158,8 +125,8 @@ fn is_whole(
     state: &Suspended,
     inside: &[TxName],
 ) -> Result<bool, AllocError>
-    ensures whole { IfOk result (λ whole. IsTrue whole → IsWhole script.now (suspended_of state.now) inside.now) }
-    ensures back { IfOk result (λ whole. IsWhole script.now (suspended_of state.now) inside.now → IsTrue whole) }
+    ensures whole { WhereTrue result (IsWhole script.now (suspended_of state.now) inside.now) }
+    ensures back { IsTrueWhere result (IsWhole script.now (suspended_of state.now) inside.now) }
 {
     let names = state.inside(alloc)?;
     if are_same_names(names.as_slice(), inside) {
@@ -177,7 +144,7 @@ fn shows_whole(
     change: &Change,
 ) -> Result<bool, AllocError>
     requires { HasPlaces (scripts_of setup.now) book.now }
-    ensures { IfOk result (λ whole. IsTrue whole → IsWholeIn (scripts_of setup.now) book.now change.now) }
+    ensures { WhereTrue result (IsWholeIn (scripts_of setup.now) book.now change.now) }
 {
     let (named, state, inside) = match change {
         Change::Opens(opening) => (
@@ -215,10 +182,10 @@ pub fn told_state(
     requires placed { HasPlaces (scripts_of setup.now) book.now }
     requires kept { IsKeptIn ticket.now change.now }
     ensures told { IfOk result (λ bytes. bytes ≡ told_in ticket.now change.now) }
-    ensures binds { IfOk result (λ bytes. IfSome bytes (λ _. BindsIn ticket.now change.now)) }
+    ensures binds { WhereTold result (BindsIn ticket.now change.now) }
     ensures goes { OnOk result (GoesOnAsGiven setup.now book.now ticket.now change.now) }
     ensures whole { OnOk result (IsWholeIn (scripts_of setup.now) book.now change.now) }
-    ensures spelled { IfOk result (λ bytes. IfSome bytes (λ _. IsSpelledIn change.now)) }
+    ensures spelled { WhereTold result (IsSpelledIn change.now) }
 {
     if !shows_whole(alloc, book, setup, change)? {
         return Err(AllocError);
@@ -244,8 +211,8 @@ pub fn told_state(
 /// What the record of a visit's change says, where these are the bytes of its state.
 pub fn recorded<'r>(change: &'r Change, state: Option<&'r Bytes>) -> Recorded<'r>
     requires byte { IsOfByte change.now }
-    requires state { IsStateFor change.now (option_map (λ bytes. bytes.now) state) }
-    ensures { recorded_of result ≡ changes (change_of change.now) (option_map (λ bytes. bytes.now) state.entry) }
+    requires state { IsStateFor change.now (lent state) }
+    ensures { recorded_of result ≡ changes (change_of change.now) (lent state.entry) }
 {
     let state = state.map(|bytes| bytes.as_slice());
     match change {

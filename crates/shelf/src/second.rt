@@ -1,11 +1,10 @@
 ghost use Rattle.std.specs.Prelude.{◌≡◌, ◌<◌, ◌^◌, ◌↔◌, IsTrue, IfOk, Ok, None, map};
 ghost use Rattle.script_nodes.specs.Views.{scripts_of};
-ghost use Rattle.page_names.specs.Views.{target_of};
 ghost use Rattle.instance_cells.specs.Views.{effect_of};
 ghost use Rattle.instance_book.specs.Admissions.{book_under};
 ghost use Rattle.instance_book.specs.Fits.{IsRunnable};
-ghost use Rattle.instance_book.specs.Prepares.{AreOnCells, HasItsScript};
-ghost use Rattle.shelf.specs.Views.{HaveTheirCells, IsRunOf, IsSegmentNow, KeepsStateNow, HoldNow};
+ghost use Rattle.instance_book.specs.Prepares.{AreOnCells};
+ghost use Rattle.shelf.specs.Views.{HaveTheirCells, HasTargetScript, IsRunOf, IsSegmentNow, KeepsStateNow, HoldNow};
 ghost use Rattle.shelf.specs.Holding.{AreHeld, AreHeldNow, IsForItsVisit};
 
 use instance_book::{Book, Ticket};
@@ -51,13 +50,16 @@ pub fn segment_now(
     fuel: u64,
 ) -> Result<Segment, AllocError>
     requires runs { IsRunnable (scripts_of setup.now) ticket.now }
-    requires script { HasItsScript (scripts_of setup.now) ticket.now (target_of ticket.now.target) }
+    requires script { HasTargetScript (scripts_of setup.now) ticket.now }
     requires segment { IsRunOf (scripts_of setup.now) fuel ticket.now first }
     requires cells { HaveTheirCells (book_under setup.now book.now) }
     requires fuel { fuel < 2 ^ 63 }
-    ensures segment { IsForItsVisit setup.now book.now ticket.now → IfOk result (IsSegmentNow fuel (book_under setup.now book.now) ticket.now) }
-    ensures state { IsForItsVisit setup.now book.now ticket.now → IfOk result (KeepsStateNow (book_under setup.now book.now) ticket.now) }
-    ensures first { IsForItsVisit setup.now book.now ticket.now → HoldNow (book_under setup.now book.now) ticket.now first → result ≡ Ok first }
+    ensures segment { IsForItsVisit setup.now book.now ticket.now
+        → IfOk result (IsSegmentNow fuel (book_under setup.now book.now) ticket.now) }
+    ensures state { IsForItsVisit setup.now book.now ticket.now
+        → IfOk result (KeepsStateNow (book_under setup.now book.now) ticket.now) }
+    ensures first { IsForItsVisit setup.now book.now ticket.now
+        → HoldNow (book_under setup.now book.now) ticket.now first → result ≡ Ok first }
     ensures on { IfOk result (λ r. AreOnCells book.now ticket.now (map effect_of r.effects.items)) }
     ensures held { IfOk result (AreHeldNow book.now ticket.now) }
 {

@@ -1,4 +1,4 @@
-ghost use Rattle.std.specs.Prelude.{◌≡◌, ◌<◌, ◌≤◌, ◌^◌, IsTrue};
+ghost use Rattle.std.specs.Prelude.{◌≡◌, ◌<◌, ◌^◌, IsTrue};
 
 use crate::doubt::{Doubt, Doubted};
 use crate::recording::{added, written};
@@ -11,9 +11,8 @@ use web_disk::Disk;
 use web_outside::Nonces;
 
 impl<D: Disk, N: Nonces + Drop> Shelf<D, N> {
-    ghost use Rattle.page_journal.specs.Settled.{view_of};
     ghost use Rattle.shelf.specs.Views.{IsInSomeOrder, StaysInOrder, StaysOwn, swept_of};
-    ghost use Rattle.shelf.specs.Events.{IsSweep, HasAllMoments, HasAllOwnMoments, TellsCount};
+    ghost use Rattle.shelf.specs.Events.{IsSweep, HasAllMoments, HasAllOwnMoments, TellsFaults, CountsOn};
 
     /// Goes on to a tick and frees each instance whose pages are all expired then, once this is on the disk; a tick at or below
     /// the clock does nothing. It tells how many instances were freed.
@@ -27,8 +26,8 @@ impl<D: Disk, N: Nonces + Drop> Shelf<D, N> {
         ensures own { StaysOwn D.view D.tells self.old self.new }
         ensures any_moment { IsTrue D.tells → HasAllMoments D.view D.tells self.old self.new }
         ensures own_moments { IsTrue D.tells → HasAllOwnMoments D.view D.tells self.old self.new }
-        ensures cause { TellsCount (view_of D.view self.old.journal).faults (view_of D.view self.new.journal).faults (swept_of result) }
-        ensures later { (view_of D.view self.old.journal).faults ≤ (view_of D.view self.new.journal).faults }
+        ensures cause { TellsFaults D.view self.old self.new (swept_of result) }
+        ensures later { CountsOn D.view self.old self.new }
         ensures nonces { self.new.nonces ≡ self.old.nonces }
         ensures rules { self.new.rules ≡ self.old.rules }
     {

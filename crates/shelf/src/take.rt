@@ -1,10 +1,8 @@
 ghost use Rattle.std.specs.Prelude.{◌≡◌, IfOk};
-ghost use Rattle.page_names.specs.Views.{target_of};
 ghost use Rattle.script_nodes.specs.Views.{scripts_of};
 ghost use Rattle.instance_book.specs.Admissions.{HasCellsBy};
 ghost use Rattle.instance_book.specs.Fits.{IsRunnable};
 ghost use Rattle.instance_book.specs.Makes.{HasItsStates};
-ghost use Rattle.instance_book.specs.Prepares.{HasItsScript};
 
 use crate::shelf::Shelf;
 use instance_book::Ticket;
@@ -20,7 +18,7 @@ use web_outside::Nonces;
 pub const NUMBERS: u64 = 4_611_686_018_427_387_904;
 
 impl<D: Disk, N: Nonces + Drop> Shelf<D, N> {
-    ghost use Rattle.shelf.specs.Views.{IsInOrder, IsOwnShelf, admission_now, FitsNow, IsOut};
+    ghost use Rattle.shelf.specs.Views.{IsInOrder, IsOwnShelf, admission_now, FitsNow, IsOut, HasTargetScript};
     ghost use Rattle.shelf.specs.Events.{IsTake, IsTicketOf, TellsWhyNot};
 
     /// Takes the next number and nonce for a visit of the target. It does not touch the disk.
@@ -39,12 +37,14 @@ impl<D: Disk, N: Nonces + Drop> Shelf<D, N> {
         requires { IsInOrder D.view D.tells (scripts_of setup.now) self.old }
         ensures event { IsTake N.nonce setup.now self.old self.new target.now answer result }
         ensures in_order { IsInOrder D.view D.tells (scripts_of setup.now) self.new }
-        ensures own { IsOwnShelf D.view D.tells (scripts_of setup.now) self.old → IsOwnShelf D.view D.tells (scripts_of setup.now) self.new }
+        ensures own { IsOwnShelf D.view D.tells (scripts_of setup.now) self.old
+            → IsOwnShelf D.view D.tells (scripts_of setup.now) self.new }
         ensures refused { TellsWhyNot setup.now self.old target.now result }
         ensures ticket { IfOk result (IsTicketOf N.nonce setup.now self.old target.now answer) }
-        ensures fits { HasItsStates (scripts_of setup.now) self.old.book → IfOk result (FitsNow setup.now self.new) }
+        ensures fits { HasItsStates (scripts_of setup.now) self.old.book
+            → IfOk result (FitsNow setup.now self.new) }
         ensures runs { IfOk result (IsRunnable (scripts_of setup.now)) }
-        ensures script { IfOk result (λ t. HasItsScript (scripts_of setup.now) t (target_of t.target)) }
+        ensures script { IfOk result (HasTargetScript (scripts_of setup.now)) }
         ensures cells { IfOk result (HasCellsBy (admission_now setup.now self.old target.now)) }
         ensures out { IfOk result (IsOut setup.now self.new) }
         ensures journal { self.new.journal ≡ self.old.journal }

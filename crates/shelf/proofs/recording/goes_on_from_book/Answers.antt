@@ -14,5 +14,5 @@ returns c = if_ok c.go_on_alike.result c.go_on_alike.ensures (λ same alike goes
     let t = c.args.ticket.now in
     let x = c.in-Extends.extension in
     subst (λ (change : Change). GoesOnAsGiven setup b t change) (sym c.in-Extends.is) (λ states has.
-    let given = subst (λ (o : Option Ticket). IfSome o (AnswersGiven setup b x.instance x.answered states)) c.in-Some-2.is (c.in_ok-there.ensures.told states has) in
-    goes_alike setup b x.instance x.answered states c.in-Some-2.there t (alike goes) given))
+    let given = subst (λ (o : Option Ticket). IfSome o (AnswersGiven setup b x.instance x.answered states)) c.in-Some.is (c.in_ok-there.ensures.told states has) in
+    goes_alike setup b x.instance x.answered states c.in-Some.there t (alike goes) given))

@@ -14,7 +14,8 @@ use Rattle.stored_states.specs.declared.segment.Segment.{Segment}
 use Rattle.shelf.specs.Views.{HoldIn, IsSegmentNow, KeepsStateNow}
 use Rattle.shelf.specs.Holding.{AreHeld}
 use Rattle.ticket_runs.proofs.Replayed.{if_ok}
-use Rattle.shelf.proofs.Now.{gone_segment, start_on, start_holds, keeps_state, held_segment, rerun_segment, page_on, of_some}
+use Rattle.book_recovery.proofs.Retold.{of_some}
+use Rattle.shelf.proofs.Now.{gone_segment, start_on, start_holds, keeps_state, held_segment, rerun_segment, page_on}
 use Rattle.shelf.proofs.second.segment_now.Goals as goal
 
 pub returns-in_default-target-clause-first : goal.returns-in_default-target-clause-first
