@@ -26,7 +26,7 @@ use Rattle.journal_books.specs.Keeping.{Keeps, AreWhole, HasWholeScripts, first_
 use Rattle.journal_books.specs.Disks.{IsFit}
 use Rattle.journal_books.proofs.Fitting.{made_fits}
 use Rattle.journal_books.proofs.Kept.{fresh_kept}
-use Rattle.journal_books.proofs.Between.{read_as, make_books}
+use Rattle.journal_books.proofs.Between.{recovered_setup, read_as, make_books}
 use Rattle.journal_books.proofs.Standings.{settled_stands}
 use Rattle.instance_book.specs.declared.book.Book.{Book as RustBook}
 use Rattle.instance_book.specs.Swept.{IsEmpty}
@@ -178,10 +178,6 @@ stays_open scripts shelf v0 v1 v2 bodies reads is counts first quiet = λ before
     none_is_made b m none (seen, made_it) = cc (none, made_it)
 
 -- what is opened is what a crash leaves, by which what is in doubt is lost or kept
-setup_kept : (r : Rules) (o : Option Doubt) (b : Book) → (recovered r kept o b).scripts ≡ b.scripts
-setup_kept r None b = refl
-setup_kept r (Some doubt) b = refl
-
 lost_is : (r : Rules) (o : Option Doubt) (b : Book) → recovered r lost o b ≡ b
 lost_is r None b = refl
 lost_is r (Some doubt) b = refl
@@ -196,7 +192,7 @@ crashed_as rules b c nonce scripts fate setup opened =
 pub reopened_has_crashed : {D : Type 0} (view : D → View) → AReopenedShelfHasCrashed view
 reopened_has_crashed view scripts shelf rules b c nonce old new setup (n, (k, (held, measured))) among one = ⊎_elim
     (λ h. inl (crashed_as rules b c nonce scripts lost (ap (λ (x : Book). x.scripts) (lost_is rules b.down b) ∙ setup) (h ∙ sym (ap reopened (lost_is rules b.down b)))))
-    (λ h. inr (crashed_as rules b c nonce scripts kept (setup_kept rules b.down b ∙ setup) (h ∙ sym measured)))
+    (λ h. inr (crashed_as rules b c nonce scripts kept (recovered_setup rules b.down b ∙ setup) (h ∙ sym measured)))
     (one b (if_kept n b) k (λ image left. held image (among image left)))
 
 -- what was found makes a book, and so does what is begun

@@ -1,5 +1,5 @@
 -- How a shelf's disk goes on to stand for its book.
-use Rattle.std.proofs.Common.{◌≡◌, ℕ, ◌≤◌, Bool, List, [], ◌++◌, Option, Some, None, IsTrue, inl, refl, sym, ◌∙◌, ap, subst, arith}
+use Rattle.std.proofs.Common.{◌≡◌, ℕ, ◌≤◌, Bool, List, [], ◌++◌, Option, None, IsTrue, inl, refl, sym, ◌∙◌, ap, subst, arith}
 use Rattle.std.proofs.lemmas.List.{append-nil}
 use Rattle.script_nodes.specs.Setup.{Named}
 use Rattle.web_disk.specs.View.{View, NoNewImage, Elapses, LeavesOnly}
@@ -7,9 +7,7 @@ use Rattle.page_journal.specs.Records.{stored}
 use Rattle.page_journal.specs.Settled.{IsSettled, view_of, bodies_in}
 use Rattle.page_journal.specs.declared.journal.Journal.{Journal}
 use Rattle.replay_spec.specs.Book.{Change, Doubt, Book, reopened}
-use Rattle.replay_spec.specs.Rules as spec_rules
 use Rattle.replay_spec.specs.Rules.{Rules}
-use Rattle.replay_spec.specs.Change.{land}
 use Rattle.replay_spec.specs.Step.{Event, Fate, kept, recovered, step}
 use Rattle.replay_spec.specs.Runs.{lands}
 use Rattle.replay_spec.specs.Laws.{IsLawful}
@@ -19,7 +17,7 @@ use Rattle.journal_books.specs.Keeping.{Keeps, KeepsDoubt, IsOwnDoubt, KeepsWith
 use Rattle.journal_books.specs.Disks.{IsFit}
 use Rattle.journal_books.specs.Laws.{AreOver, MeasuresDoubt, EventsAreKept}
 use Rattle.journal_books.specs.Owning.{IsOwnBefore}
-use Rattle.journal_books.proofs.Between.{stand_alike}
+use Rattle.journal_books.proofs.Between.{kept_alike, stand_alike}
 use Rattle.journal_books.proofs.Standings.{stays_then, stands_then}
 use Rattle.shelf.specs.Owning.{StandsMeasured, StandsOwn}
 
@@ -92,20 +90,7 @@ module _ {D : Type 0} (view : D → View) (tells : Bool) (scripts : List Named) 
         throughout_alike scripts shelf b (if_kept n b) (if_kept n d) (view_of view old) (view_of view new) ((stand_alike scripts shelf).0 n b d same down)
         (stays_then scripts shelf b (view_of view old) (view_of view new) only_now fit.stands call.images call.time)
 
--- what the rules make of what is in doubt, on a book that differs in what is out alone
-kept_alike : (r : Rules) (o : Option Doubt) (b c : Book) → reopened b ≡ reopened c → reopened (recovered r kept o b) ≡ reopened (recovered r kept o c)
-kept_alike r None b c same = same
-kept_alike r (Some doubt) b c same =
-    landed_reopened r doubt b ∙ (ap (λ (y : Book). reopened (land r doubt.change doubt.inside y)) same ∙ sym (landed_reopened r doubt c))
-  where
-    landed_reopened : (r : Rules) (doubt : Doubt) (b : Book) → reopened (land r doubt.change doubt.inside b) ≡ reopened (land r doubt.change doubt.inside (reopened b))
-    landed_reopened r doubt b = by_journal r.journal
-      where
-        by_journal : (j : Option spec_rules.Journal)
-            → reopened (land (record r { journal = j }) doubt.change doubt.inside b) ≡ reopened (land (record r { journal = j }) doubt.change doubt.inside (reopened b))
-        by_journal None = refl
-        by_journal (Some j) = refl
-
+-- what is in doubt is measured alike on a book that differs in what is out alone
 measures_alike : (rules : Rules) (n : ℕ) (b d : Book) → reopened b ≡ reopened d → b.down ≡ d.down → reopened (if_kept n b) ≡ reopened (if_kept n d) → MeasuresDoubt rules n b → MeasuresDoubt rules n d
 measures_alike rules n b d same down alike measured =
     ap (λ (o : Option Doubt). reopened (recovered rules kept o d)) (sym down) ∙ (sym (kept_alike rules b.down b d same) ∙ (measured ∙ alike))

@@ -1,8 +1,7 @@
 -- A state that has a spelling can be told.
-use Rattle.std.proofs.Common.{◌≡◌, ◌∙◌, ap, sym, subst, List, [], ◌∷◌, reverse, Option, Some, None, if◌then◌else◌, Bool, true, false, refl, ℕ, zero, suc, arith}
+use Rattle.std.proofs.Common.{◌≡◌, ◌∙◌, ap, sym, subst, List, [], ◌∷◌, reverse, Option, Some, None, if◌then◌else◌, Bool, true, false, refl, ℕ, zero, suc}
 use Rattle.std.specs.List.{list_all, AllByRecursion}
 use Rattle.std.proofs.lemmas.Bool.{and_from}
-use Rattle.std.proofs.lemmas.Bool.Decides.{nat_tests}
 use Rattle.std.proofs.lemmas.List.{reverse-reverse}
 use Rattle.script_value.specs.Val.{Val}
 use Rattle.value_bytes.specs.Spelling.{HasBytes}
@@ -13,11 +12,9 @@ use Rattle.frame_codec.specs.Forms.{form_bytes, BindsBefore}
 use Rattle.frame_codec.specs.Spelling.{FrameHasBytes, ShadowHasBytes, StateHasBytes}
 use Rattle.frame_codec.proofs.States.{all_reversed}
 use Rattle.journal_records.specs.Fields.{is_shallow}
+use Rattle.journal_records.proofs.Measured.{value_shallow}
 use Rattle.journal_books.specs.Lengths.{is_shallow_frame, is_shallow_state, told_bytes}
 use Rattle.shelf.specs.Recording.{IsKeptForm}
-
-value_shallow : (v : Val) → HasBytes v → is_shallow v ≡ true
-value_shallow v h = let deep = h.deep in grind (arith, nat_tests, deep)
 
 all_shallow : {A : Type 0} (P : A → Type 0) (test : A → Bool) → ((x : A) → P x → test x ≡ true) → (xs : List A) → AllByRecursion P xs → list_all test xs ≡ true
 all_shallow P test f [] h = refl
