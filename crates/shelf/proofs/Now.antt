@@ -5,7 +5,7 @@ use Rattle.script_value.specs.Val.{Val}
 use Rattle.script_nodes.specs.Core.{OnCells}
 use Rattle.script_nodes.specs.Arena.{Arena, IsScript, script_of}
 use Rattle.script_nodes.specs.Setup.{Named}
-use Rattle.page_names.specs.Names.{start, page}
+use Rattle.page_names.specs.Names.{Destination, start, page}
 use Rattle.page_names.specs.declared.names.PageName.{PageName}
 use Rattle.instance_cells.specs.Cells.{Holds, AreOn}
 use Rattle.replay_spec.specs.Tape.{Reads, recorded, present}
@@ -28,7 +28,9 @@ use Rattle.instance_book.specs.Fits.{IsFor, FitsAs}
 use Rattle.instance_book.specs.Laws.{KeepsStateAs}
 use Rattle.ticket_runs.specs.Runs.{IsRunOver}
 use Rattle.ticket_runs.proofs.Replayed.{IsLike, run_like}
-use Rattle.shelf.specs.Views.{IsSegmentOf, HaveTheirCells}
+use Rattle.book_recovery.proofs.Retold.{of_some}
+use Rattle.shelf.specs.Views.{HoldIn, IsSegmentOf, HaveTheirCells}
+use Rattle.shelf.specs.Holding.{AreHeld}
 
 -- a first run whose effects hold over the cells of now
 same_run : EffectsHoldRunSame → (v : Visit) (fuel : ℕ) (before now : List Val) → Holds (comes_to v (present before fuel)).effects now
@@ -121,6 +123,16 @@ module _ (b : Book) (t : Ticket) (name : List ℕ) (a : Arena) (i : IsScript a) 
         ap (λ (vs : List Val). length vs) (its_cells at e) ∙ theirs n.instance at.instance (page_stands b name n at e).here in
         subst (λ (s : eval.Segment). AreOn (length cells) s.effects) (sym (run_as v refl fits).comes) (on_cells law v (present over fuel) (length cells) (whole_of v fits whole) many)
     page_on law (refused why) whole theirs e ok fits = absurd (cc)
+
+    -- so they are held by these where they hold over them
+    pub page_held : EffectsAreOnCells → (d : Destination) → d ≡ page name n → OnCells (length named.script.web) (length named.script.cells) named.script.body → HaveTheirCells b
+        → refusal_of (admit b d) ≡ None → FitsAs b.scripts b t (admit b d) → HoldIn b d (segment_of r).effects → AreHeld (segment_of r).effects cells
+    page_held law d e whole theirs ok fits hold =
+        let over : HoldIn b (page name n) (segment_of r).effects = subst (λ (x : Destination). HoldIn b x (segment_of r).effects) e hold in
+        record {
+          on = page_on law (admit b d) whole theirs (ap (admit b) (sym e)) ok fits;
+          hold = of_some (cells_in n.instance b) cells (λ vs. Holds (segment_of r).effects vs) here over;
+        }
 
 -- where the instance is gone, nothing is admitted
 pub gone_segment : (b : Book) (t : Ticket) (name : List ℕ) (n : PageName) (fuel : ℕ) (s : eval.Segment) (a : Admission) → cells_in n.instance b ≡ None → admit b (page name n) ≡ a → IsSegmentOf fuel b t a s

@@ -1,5 +1,5 @@
 -- How the record of a change is measured and written.
-use Rattle.std.specs.Prelude.{◌≡◌, ◌≤◌, ◌<◌, ◌+◌, ◌^◌, ℕ, Bool, List, length, Option, Some, None, Result, Ok, Err, IsTrue, IfSome, IfOk, option_map, nat_lt, ⊤}
+use Rattle.std.specs.Prelude.{◌≡◌, ◌≤◌, ◌<◌, ◌+◌, ℕ, Bool, List, length, Option, Some, None, Result, Ok, Err, IsTrue, IfSome, IfOk, option_map, nat_lt, ⊤}
 use Rattle.script_value.specs.declared.outcome.Reply.{Reply}
 use Rattle.script_value.specs.declared.outcome.Reply.TheVariants as reply
 use Rattle.replay_spec.specs.Admission.{when, or_else, ◌>>=◌}

@@ -1,8 +1,8 @@
-use Rattle.std.proofs.Common.{◌≡◌, ◌∙◌, ap, sym, subst, refl, map, length, List, Some, None, IfSome, option_map, true, false}
+use Rattle.std.proofs.Common.{◌≡◌, ◌∙◌, ap, sym, subst, refl, map, List, Some, None, option_map, true, false}
 use Rattle.script_nodes.specs.Views.{scripts_of, named_of}
 use Rattle.page_names.specs.Views.{target_of, name_of}
 use Rattle.page_names.specs.declared.names.Target.{Target}
-use Rattle.instance_cells.specs.Cells.{AreOn, Holds}
+use Rattle.instance_cells.specs.Cells.{Holds}
 use Rattle.instance_cells.specs.Views.{effect_of}
 use Rattle.instance_cells.specs.declared.effect.Effect as rust
 use Rattle.replay_spec.specs.Admission.{admit}
@@ -11,11 +11,10 @@ use Rattle.instance_book.specs.Swept.{cells_in}
 use Rattle.instance_book.proofs.Seen.{cells_seen}
 use Rattle.stored_states.specs.Views.{segment_of}
 use Rattle.stored_states.specs.declared.segment.Segment.{Segment}
-use Rattle.shelf.specs.Views.{HoldIn, IsSegmentNow, KeepsStateNow}
+use Rattle.shelf.specs.Views.{IsSegmentNow, KeepsStateNow}
 use Rattle.shelf.specs.Holding.{AreHeld}
 use Rattle.ticket_runs.proofs.Replayed.{if_ok}
-use Rattle.book_recovery.proofs.Retold.{of_some}
-use Rattle.shelf.proofs.Now.{gone_segment, start_on, start_holds, keeps_state, held_segment, rerun_segment, page_on}
+use Rattle.shelf.proofs.Now.{gone_segment, start_on, start_holds, keeps_state, held_segment, rerun_segment, page_held}
 use Rattle.shelf.proofs.second.segment_now.Goals as goal
 
 pub returns-in_default-target-clause-first : goal.returns-in_default-target-clause-first
@@ -70,14 +69,11 @@ returns-in_err-second-clause-first c own hold =
     let named = c.in-Some.named.now in
     let page = c.in-Page.page in
     let here : cells_in page.instance b ≡ Some c.in-Some-cells.cells.now = sym (cells_seen (scripts_of c.args.setup.now) 0 None page.instance c.args.book.now) ∙ sym c.in-Some-cells.ensures in
-    let effects = map effect_of c.args.first.effects.items in
-    let over : IfSome (cells_in page.instance b) (λ cells. Holds effects cells) = subst (λ (x : Target). HoldIn b (target_of x) effects) c.in-Page.is hold in
-    let holds : Holds effects c.in-Some-cells.cells.now = of_some (cells_in page.instance b) c.in-Some-cells.cells.now (λ cells. Holds effects cells) here over in
-    let on : AreOn (length c.in-Some-cells.cells.now) effects =
-    page_on b t (name_of c.in-Page.field-0) named.script c.root-root.ensures.script (named_of named) refl (sym c.in-Some.ensures) c.args.fuel t.cells c.args.first c.requires.segment page c.in-Some-cells.cells.now here
-    c.effects_are_on_cells.ensures (admit b (target_of t.target)) c.root-root.ensures.cells c.requires.cells (ap (λ (x : Target). admit b (target_of x)) (sym c.in-Page.is)) own.admitted own.fits in
+    let held : AreHeld (map effect_of c.args.first.effects.items) c.in-Some-cells.cells.now =
+    page_held b t (name_of c.in-Page.field-0) named.script c.root-root.ensures.script (named_of named) refl (sym c.in-Some.ensures) c.args.fuel t.cells c.args.first c.requires.segment page c.in-Some-cells.cells.now here
+    c.effects_are_on_cells.ensures (target_of t.target) (ap target_of c.in-Page.is) c.root-root.ensures.cells c.requires.cells own.admitted own.fits hold in
     let seen : AreHeld (map effect_of c.deref.result.now) c.in-Some-cells.cells.now =
-    subst (λ (es : List rust.Effect). AreHeld (map effect_of es) c.in-Some-cells.cells.now) (sym c.deref.ensures.value) (record { on = on; hold = holds }) in
+    subst (λ (es : List rust.Effect). AreHeld (map effect_of es) c.in-Some-cells.cells.now) (sym c.deref.ensures.value) held in
     let no : false ≡ true = c.if-are_held.ensures.1 seen in
     absurd (cc)
 
@@ -88,14 +84,11 @@ returns-clause-first c own hold =
     let named = c.in-Some.named.now in
     let page = c.in-Page.page in
     let here : cells_in page.instance b ≡ Some c.in-Some-cells.cells.now = sym (cells_seen (scripts_of c.args.setup.now) 0 None page.instance c.args.book.now) ∙ sym c.in-Some-cells.ensures in
-    let effects = map effect_of c.args.first.effects.items in
-    let over : IfSome (cells_in page.instance b) (λ cells. Holds effects cells) = subst (λ (x : Target). HoldIn b (target_of x) effects) c.in-Page.is hold in
-    let holds : Holds effects c.in-Some-cells.cells.now = of_some (cells_in page.instance b) c.in-Some-cells.cells.now (λ cells. Holds effects cells) here over in
-    let on : AreOn (length c.in-Some-cells.cells.now) effects =
-    page_on b t (name_of c.in-Page.field-0) named.script c.root-root.ensures.script (named_of named) refl (sym c.in-Some.ensures) c.args.fuel t.cells c.args.first c.requires.segment page c.in-Some-cells.cells.now here
-    c.effects_are_on_cells.ensures (admit b (target_of t.target)) c.root-root.ensures.cells c.requires.cells (ap (λ (x : Target). admit b (target_of x)) (sym c.in-Page.is)) own.admitted own.fits in
+    let held : AreHeld (map effect_of c.args.first.effects.items) c.in-Some-cells.cells.now =
+    page_held b t (name_of c.in-Page.field-0) named.script c.root-root.ensures.script (named_of named) refl (sym c.in-Some.ensures) c.args.fuel t.cells c.args.first c.requires.segment page c.in-Some-cells.cells.now here
+    c.effects_are_on_cells.ensures (target_of t.target) (ap target_of c.in-Page.is) c.root-root.ensures.cells c.requires.cells own.admitted own.fits hold in
     let seen : AreHeld (map effect_of c.deref.result.now) c.in-Some-cells.cells.now =
-    subst (λ (es : List rust.Effect). AreHeld (map effect_of es) c.in-Some-cells.cells.now) (sym c.deref.ensures.value) (record { on = on; hold = holds }) in
+    subst (λ (es : List rust.Effect). AreHeld (map effect_of es) c.in-Some-cells.cells.now) (sym c.deref.ensures.value) held in
     let no : false ≡ true = c.if-are_held.ensures.1 seen in
     absurd (cc)
 
