@@ -1,3 +1,4 @@
 pub mod Spots
 pub mod Rows
 pub mod Locking
+pub mod Locks

@@ -1,10 +1,12 @@
 -- Values on their way behind locks, and seats on their way to callers.
-use Rattle.std.specs.Prelude.{◌≡◌, ℕ, ◌+◌, ◌≤◌, List, [], ◌∷◌, ◌++◌, length, map, Some, slice_get}
+use Rattle.std.specs.Prelude.{◌≡◌, ℕ, ◌+◌, ◌≤◌, List, [], ◌∷◌, ◌++◌, length, map, reverse, Some, slice_get, vec_len}
+use Rattle.std.specs.Global.{Vec}
+use Rattle.std.specs.List.{AllZip}
 use Rattle.atomic_table.specs.Seated.{TableId}
 use Rattle.shelf_lock.specs.declared.kept.Kept.{Ghosts}
 use Rattle.shelf_lock.specs.declared.rule.Start.{Start}
 use Rattle.lock_row.specs.Spots.{Spot, Home, home, home_of}
-use Rattle.lock_row.specs.Rows.{IsFresh, IsNewFor, IsNewPass}
+use Rattle.lock_row.specs.Rows.{IsFresh, ComesBack, IsNewFor, IsNewPass}
 
 -- a lock, what it was made with, and the seats of all its callers
 pub record Held (S O E : Type 0) : Type 0 where
@@ -26,6 +28,10 @@ module _ {O E : Type 0} where
   abbrev pub AreEmpty : (seats places : ℕ) → List (Seats O E) → Type 0
   AreEmpty seats places columns =
       (length columns ≡ seats) × ((k : ℕ) (c : Seats O E) → slice_get columns k ≡ Some c → (c.spots ≡ []) × (places ≤ c.room))
+
+  -- so the columns of a vector, which is as long
+  abbrev pub AreColumns : (seats places : ℕ) → Vec (Seats O E) → Type 0
+  AreColumns seats places columns = AreEmpty seats places columns.items × (vec_len columns ≡ seats)
 
   -- one seat more
   abbrev pub Extends : Spot O E → Seats O E → Seats O E → Type 0
@@ -51,3 +57,15 @@ module _ {S O E : Type 0} (g : Ghosts S O E) where
 
   abbrev pub AreHeld : (seats : ℕ) → List (Held S O E) → Type 0
   AreHeld seats hs = (k : ℕ) (h : Held S O E) → slice_get hs k ≡ Some h → IsHeld seats h
+
+  -- all these values are behind such locks, that of the last value first
+  abbrev pub HoldsAll : (seats : ℕ) → List S → List (Held S O E) → Type 0
+  HoldsAll seats xs hs = AreHeld seats hs × (reverse (map first_value hs) ≡ xs)
+
+  -- the values of these locks came back behind others, that of the last lock first
+  abbrev pub PutsBack : List (Held S O E) → (old new : List S) → Type 0
+  PutsBack hs old new = (back : List S) × (new ≡ old ++ back) × AllZip (ComesBack g) (reverse (map first_value hs)) back
+
+  -- all these values came back
+  abbrev pub AllComeBack : Vec S → Vec S → Type 0
+  AllComeBack old new = AllZip (ComesBack g) old.items new.items × (vec_len new ≡ vec_len old)

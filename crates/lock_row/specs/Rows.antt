@@ -1,20 +1,29 @@
 -- What the calls of a row do.
-use Rattle.std.specs.Prelude.{◌≡◌, ℕ, ◌+◌, ◌-◌, ◌<◌, ◌≤◌, ◌^◌, List, [], ◌∷◌, length, Some, slice_get}
+use Rattle.std.specs.Prelude.{◌≡◌, ℕ, ◌+◌, ◌-◌, ◌<◌, ◌≤◌, ◌^◌, List, [], ◌∷◌, length, map, Some, slice_get}
 use Rattle.std.specs.Fn.{Once}
 use denote.Ref.{MutBor}
+use Rattle.atomic_table.specs.Seated.{TableId}
 use mathlib.Core.List.{IsPrefix}
 use Rattle.shelf_lock.specs.declared.kept.Kept.{Ghosts}
 use Rattle.shelf_lock.specs.declared.view.View.{View}
 use Rattle.shelf_lock.specs.declared.view.Role.TheVariants.{Outside}
-use Rattle.shelf_lock.specs.Order.{made_by, posed, longer, both, Told, Begins, Each, MadeBelow}
+use Rattle.shelf_lock.specs.Order.{made_by, posed, longer, both, Told, Begins, Each, GoesOn, MadeBelow}
 use Rattle.shelf_lock.specs.Turns.{MayCall, KeepsEach}
 use Rattle.shelf_lock.specs.declared.rule.Start.{Start}
-use Rattle.lock_row.specs.Spots.{Spot, spot, Home, IsAt}
+use Rattle.lock_row.specs.Spots.{Spot, spot, Home, IsAt, At}
 
 module _ {S O E : Type 0} (g : Ghosts S O E) where
   -- a value that may be put behind a lock: it has no entry
   abbrev pub IsFresh : S → Type 0
   IsFresh x = g.sound x × (g.history x ≡ []) × (g.first x ≤ 2 ^ 62)
+
+  -- so each of these
+  abbrev pub AreFresh : List S → Type 0
+  AreFresh xs = (k : ℕ) (x : S) → slice_get xs k ≡ Some x → IsFresh x
+
+  -- the locks of these values, in their order
+  abbrev pub AreHomesOf : List S → List (Home O) → Type 0
+  AreHomesOf xs homes = map (λ h. h.opening) homes ≡ map (λ x. g.opening x ∷ []) xs
 
   -- a value that was put there, and came back as nothing had been done
   abbrev pub ComesBack : S → S → Type 0
@@ -35,6 +44,11 @@ module _ {S O E : Type 0} (g : Ghosts S O E) where
       (b ≡ spot a.table (posed Outside (longer a.known.seen note.known.seen) a.known))
       × IsPrefix a.known.seen b.known.seen × IsPrefix note.known.seen b.known.seen
       × (made_by g.caller b.known.caller b.known.seen ≡ made_by g.caller a.known.caller a.known.seen)
+
+  -- at this place the pass hears a note that had seen this
+  abbrev pub HearsAt : ℕ → List E → List (Spot O E) → List (Spot O E) → Type 0
+  HearsAt place noted old new =
+      At place (λ v w. (w ≡ posed Outside (longer v.seen noted) v) × GoesOn g v.caller w.seen (v.seen ∷ noted ∷ [])) old new
 
   -- What a value that was given back tells of a seat at its lock: what the caller had seen begins its history, and has all of
   -- the caller's entries; so of each that the seat had heard of.
@@ -58,10 +72,22 @@ module _ {S O E : Type 0} (g : Ghosts S O E) where
     pub opening_is : opening ≡ g.opening x ∷ []
     pub callers : MadeBelow g seats (g.history x)
 
+  -- a value that was given back from this lock
+  abbrev pub IsBackFrom : (seats : ℕ) → Home O → S → Type 0
+  IsBackFrom seats h x = IsBack h.opening seats x
+
 module _ {O E : Type 0} where
   -- a note of what the pass has seen at a lock
   abbrev pub IsNoteOf : Spot O E → Spot O E → Type 0
   IsNoteOf a note = (note.table ≡ a.table) × (note.known.seen ≡ a.known.seen)
+
+  -- a note of what the pass has seen at this place
+  abbrev pub IsNoteAt : ℕ → List (Spot O E) → Spot O E → Type 0
+  IsNoteAt place pass note = (a : Spot O E) × (slice_get pass place ≡ Some a) × IsNoteOf a note
+
+  -- the pass has a seat at this place, at this table
+  abbrev pub SitsAt : ℕ → List (Spot O E) → TableId → Type 0
+  SitsAt place pass table = (a : Spot O E) × (slice_get pass place ≡ Some a) × (table ≡ a.table)
 
   -- what is then told of this seat is told of both
   abbrev pub Absorbs : Spot O E → Spot O E → Spot O E → Type 0

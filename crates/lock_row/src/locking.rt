@@ -1,9 +1,10 @@
 //! Putting values behind locks, and their seats into passes.
-ghost use Rattle.std.specs.Prelude.{◌≡◌, ℕ, ◌+◌, ◌<◌, ◌≤◌, ◌^◌, ◌++◌, [], ◌∷◌, Some, IfOk, IfErr, IfSome, IfNone, vec_len, vec_capacity, reverse, length, slice_get, map, List};
+ghost use Rattle.std.specs.Prelude.{◌≡◌, ℕ, ◌+◌, ◌<◌, ◌≤◌, ◌^◌, [], Some, IfOk, IfErr, IfSome, IfNone, vec_len, vec_capacity, reverse, length, slice_get, map};
 ghost use Rattle.std.specs.List.{AllZip};
-ghost use Rattle.lock_row.specs.Spots.{spot, home};
-ghost use Rattle.lock_row.specs.Rows.{IsFresh, ComesBack, ZipsAll};
-ghost use Rattle.lock_row.specs.Locking.{IsHeld, AreHeld, AreEmpty, AreDealt, Extends, first_value, home_in};
+ghost use Rattle.lock_row.specs.Spots.{spot};
+ghost use Rattle.lock_row.specs.Rows.{IsFresh, AreFresh, AreHomesOf, ComesBack, ZipsAll};
+ghost use Rattle.lock_row.specs.Locks.{HasRoomFor, GrowsBy, AreMadeFor, lock_homes, seat_spot};
+ghost use Rattle.lock_row.specs.Locking.{IsHeld, AreHeld, AreColumns, AreDealt, Extends, HoldsAll, PutsBack, AllComeBack, first_value, home_in};
 
 use crate::row::LockRow;
 use crate::seats::{Column, RowPass};
@@ -75,8 +76,8 @@ impl<V: Kept> LockRow<V> {
         seats: u32,
     ) -> Result<LockRow<V>, Vec<V>>
         requires few { seats + 1 < 2 ^ 32 }
-        requires fresh { (k : ℕ) (x : _) → slice_get values.items k ≡ Some x → IsFresh V.Kept x }
-        ensures homes { IfOk result (λ r. map (λ h. h.opening) r.homes ≡ map (λ x. V.opening x ∷ []) values.items) }
+        requires fresh { AreFresh V.Kept values.items }
+        ensures homes { IfOk result (λ r. AreHomesOf V.Kept values.items r.homes) }
         ensures seats { IfOk result (λ r. (r.seats ≡ 0) × (r.left ≡ seats)) }
         ensures back { IfErr result (λ v. AllZip (ComesBack V.Kept) values.items v.items) }
         ensures room { IfErr result (λ v. vec_len v ≡ vec_len values) }
@@ -118,10 +119,10 @@ impl<V: Kept> LockRow<V> {
 
 // Room for so many places, and so many callers.
 fn room_for<V: Kept>(alloc: Global, places: usize, seats: u32) -> Option<Room<V>>
-    ensures held { IfSome result (λ r. (r.held.items ≡ []) × (vec_len r.held ≡ 0) × (places ≤ vec_capacity r.held)) }
-    ensures locks { IfSome result (λ r. (r.locks.items ≡ []) × (vec_len r.locks ≡ 0) × (places ≤ vec_capacity r.locks)) }
-    ensures columns { IfSome result (λ r. AreEmpty seats places r.columns.items × (vec_len r.columns ≡ seats)) }
-    ensures spare { IfSome result (λ r. (r.spare.items ≡ []) × (vec_len r.spare ≡ 0) × (seats ≤ vec_capacity r.spare)) }
+    ensures held { IfSome result (λ r. HasRoomFor places r.held) }
+    ensures locks { IfSome result (λ r. HasRoomFor places r.locks) }
+    ensures columns { IfSome result (λ r. AreColumns seats places r.columns) }
+    ensures spare { IfSome result (λ r. HasRoomFor seats r.spare) }
 {
     let Ok(held) = Vec::with_capacity(alloc, places) else {
         return None;
@@ -151,7 +152,7 @@ fn room_for<V: Kept>(alloc: Global, places: usize, seats: u32) -> Option<Room<V>
 
 // For so many callers, room for so many seats.
 fn columns_for<V: Kept>(alloc: Global, places: usize, seats: u32) -> Option<Vec<Column<V>>>
-    ensures { IfSome result (λ c. AreEmpty seats places c.items × (vec_len c ≡ seats)) }
+    ensures { IfSome result (AreColumns seats places) }
 {
     let Ok(mut columns) = Vec::with_capacity(alloc, seats as usize) else {
         return None;
@@ -186,13 +187,13 @@ fn hold_all<V: Kept, R: Wait>(
     seats: u32,
 ) -> Option<Vec<Held<V>>>
     requires some { 0 < seats }
-    requires fresh { (k : ℕ) (x : _) → slice_get values.old.items k ≡ Some x → IsFresh V.Kept x }
-    requires room { (held.items ≡ []) × (vec_len held ≡ 0) × (vec_len values.old ≤ vec_capacity held) }
-    ensures held { IfSome result (λ h. AreHeld V.Kept seats h.items × (reverse (map first_value h.items) ≡ values.old.items)) }
+    requires fresh { AreFresh V.Kept values.old.items }
+    requires room { HasRoomFor (vec_len values.old) held }
+    ensures held { IfSome result (λ h. HoldsAll V.Kept seats values.old.items h.items) }
     ensures len { IfSome result (λ h. vec_len h ≡ vec_len values.old) }
     ensures gone { IfSome result (λ _. (values.new.items ≡ []) × (vec_len values.new ≡ 0)) }
     ensures capacity { vec_capacity values.new ≡ vec_capacity values.old }
-    ensures back { IfNone result (AllZip (ComesBack V.Kept) values.old.items values.new.items × (vec_len values.new ≡ vec_len values.old)) }
+    ensures back { IfNone result (AllComeBack V.Kept values.old values.new) }
 {
     while let Some(value) = values.pop() {
         match Held::new(alloc, value, seats) {
@@ -212,8 +213,8 @@ fn undo_all<V: Kept, R: Wait>(rt: &R, values: &mut Vec<V>, mut held: Vec<Held<V>
     requires some { 0 < seats }
     requires held { AreHeld V.Kept seats held.items }
     requires room { vec_len values.old + vec_len held ≤ vec_capacity values.old }
-    ensures back { (back : List V) × (values.new.items ≡ values.old.items ++ back) × AllZip (ComesBack V.Kept) (reverse (map first_value held.items)) back }
-    ensures room { (vec_capacity values.new ≡ vec_capacity values.old) × (vec_len values.new ≡ vec_len values.old + vec_len held) }
+    ensures back { PutsBack V.Kept held.items values.old.items values.new.items }
+    ensures room { GrowsBy (vec_len held) values.old values.new }
 {
     while let Some(last) = held.pop() {
         values.push_reserved(last.undo(rt, seats));
@@ -228,11 +229,12 @@ fn deal_all<V: Kept>(
     columns: &mut Vec<Column<V>>,
 )
     requires held { AreHeld V.Kept (length columns.old.items) held.items }
-    requires room { (locks.old.items ≡ []) × (vec_len locks.old ≡ 0) × (vec_len held ≤ vec_capacity locks.old) }
+    requires room { HasRoomFor (vec_len held) locks.old }
     requires columns { AreDealt [] (vec_len held) columns.old.items }
-    ensures homes { map (λ l. home l.board.shared.table_id (V.opening l.board.shared.key.value.value ∷ [])) locks.new.items ≡ reverse (map (home_in V.Kept) held.items) }
-    ensures seats { (k : ℕ) (l : _) → slice_get locks.new.items k ≡ Some l → l.board.shared.key.seats ≡ length columns.old.items }
-    ensures len { (vec_len locks.new ≡ vec_len held) × (length columns.new.items ≡ length columns.old.items) }
+    ensures homes { lock_homes V.Kept locks.new.items ≡ reverse (map (home_in V.Kept) held.items) }
+    ensures seats { AreMadeFor (length columns.old.items) locks.new.items }
+    ensures len { vec_len locks.new ≡ vec_len held }
+    ensures many { length columns.new.items ≡ length columns.old.items }
     ensures columns { AreDealt (reverse (map (home_in V.Kept) held.items)) 0 columns.new.items }
 {
     while let Some(last) = held.pop() {
@@ -247,7 +249,8 @@ fn deal_all<V: Kept>(
 fn deal<V: Kept>(columns: &mut Vec<Column<V>>, mut seats: Vec<Pass<V>>)
     requires len { length seats.items ≡ length columns.old.items }
     requires room { (k : ℕ) (c : _) → slice_get columns.old.items k ≡ Some c → 0 < c.room }
-    ensures dealt { ZipsAll Extends columns.old.items (map (λ q. spot q.seat.table_id q.seat.me.0) seats.items) columns.new.items }
+    ensures dealt {
+        ZipsAll Extends columns.old.items (map seat_spot seats.items) columns.new.items }
     ensures len { length columns.new.items ≡ length columns.old.items }
 {
     while let Some(seat) = seats.pop() {
@@ -258,7 +261,7 @@ fn deal<V: Kept>(columns: &mut Vec<Column<V>>, mut seats: Vec<Pass<V>>)
 
 // The passes of the callers, the last caller's first.
 fn passes_of<V: Kept>(mut columns: Vec<Column<V>>, mut spare: Vec<RowPass<V>>) -> Vec<RowPass<V>>
-    requires room { (spare.items ≡ []) × (vec_len spare ≡ 0) × (vec_len columns ≤ vec_capacity spare) }
+    requires room { HasRoomFor (vec_len columns) spare }
     ensures { result.items ≡ reverse (map (λ c. c.spots) columns.items) }
 {
     while let Some(column) = columns.pop() {

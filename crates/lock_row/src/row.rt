@@ -1,11 +1,11 @@
 //! The locks.
-ghost use Rattle.std.specs.Prelude.{◌≡◌, ℕ, ◌<◌, ◌≤◌, ◌+◌, [], ◌∷◌, Some, IfOk, MatchResult, vec_len, vec_capacity, reverse, length, slice_get, map};
+ghost use Rattle.std.specs.Prelude.{◌≡◌, ℕ, ◌<◌, ◌∷◌, Some, IfOk, MatchResult, vec_len, reverse, length, slice_get};
 ghost use Rattle.std.specs.List.{AllZip};
-ghost use Rattle.lock_row.specs.Spots.{Spot, spot, home, home_of, one_dealt, IsAt, IsOf, IsNoteIn, At};
-ghost use Rattle.lock_row.specs.Rows.{MayCallAt, KeepsEachAt, Hears, TellsOf, IsBack, IsClosed, IsNoteOf, IsNewPass, TellsAll, Absorbs, ZipsAll};
-ghost use Rattle.shelf_lock.specs.Order.{Begins, GoesOn, posed, longer, both};
+ghost use Rattle.lock_row.specs.Spots.{spot, one_dealt, IsAt, IsOf, IsNoteIn, At};
+ghost use Rattle.lock_row.specs.Rows.{MayCallAt, KeepsEachAt, Hears, HearsAt, IsBackFrom, IsNoteOf, IsNoteAt, SitsAt, IsNewPass, TellsAll, Absorbs, ZipsAll};
+ghost use Rattle.lock_row.specs.Locks.{HasRoomFor, AreSeatsAt, IsClosedOf, TellsOfSeat, lock_homes};
+ghost use Rattle.shelf_lock.specs.Order.{Begins, both};
 ghost use Rattle.shelf_lock.specs.Turns.{Turned, FoundWorn};
-ghost use Rattle.shelf_lock.specs.declared.view.Role.TheVariants.{Outside};
 
 use crate::seats::{RowNote, RowPass};
 use shelf_lock::{Kept, Note, Pass, ShelfLock, Worn};
@@ -29,23 +29,20 @@ pub struct LockRow<V: Kept> {
 }
 
 impl<V: Kept> Model for LockRow<V> {
-    ghost use Rattle.std.specs.Prelude.{◌≡◌, ◌≤◌, ◌<◌, ◌+◌, ◌^◌, [], ◌∷◌, ℕ, Some, slice_get, map, length, vec_len, vec_capacity};
-    ghost use Rattle.lock_row.specs.Spots.{Homes, home};
-    ghost use Rattle.lock_row.specs.Rows.{IsSpare, AreSpare};
+    ghost use Rattle.std.specs.Prelude.{length, vec_len};
+    ghost use Rattle.lock_row.specs.Spots.{Homes};
+    ghost use Rattle.lock_row.specs.Locks.{HasRoomFor, HasSeats, lock_homes};
 
     ghost Value = { Homes V.Opening };
 
     ghost view = { λ s. record {
-      homes = map (λ l. home l.board.shared.table_id (V.opening l.board.shared.key.value.value ∷ [])) s.locks.items;
+      homes = lock_homes V.Kept s.locks.items;
       seats = s.dealt;
       left = length s.spare.items;
     } };
 
-    ghost invariant = { λ s. (s.room.items ≡ []) × (vec_len s.room ≡ 0) × (vec_len s.locks ≤ vec_capacity s.room)
-        × ((k : ℕ) (l : _) → slice_get s.locks.items k ≡ Some l → l.board.shared.key.seats ≡ s.dealt + length s.spare.items + 1)
-        × (s.dealt + length s.spare.items + 1 < 2 ^ 32)
-        × AreSpare (map (λ l. home l.board.shared.table_id (V.opening l.board.shared.key.value.value ∷ [])) s.locks.items) s.dealt s.spare.items
-        × IsSpare (map (λ l. home l.board.shared.table_id (V.opening l.board.shared.key.value.value ∷ [])) s.locks.items) (s.dealt + length s.spare.items) s.own };
+    ghost invariant = { λ s. HasRoomFor (vec_len s.locks) s.room
+        × HasSeats V.Kept s.dealt s.locks.items s.spare.items s.own };
 }
 
 impl<V: Kept> LockRow<V> {
@@ -93,7 +90,7 @@ impl<V: Kept> LockRow<V> {
         requires own { IsOf self.now pass.old }
         requires place { place < length self.now.homes }
         ensures same { pass.new ≡ pass.old }
-        ensures note { (a : _) × (slice_get pass.old place ≡ Some a) × (result.seat.table_id ≡ a.table) × (result.seat.me.0.seen ≡ a.known.seen) }
+        ensures note { IsNoteAt place pass.old (spot result.seat.table_id result.seat.me.0) }
     {
         self.locks[place].split(&mut pass.seats[place])
     }
@@ -101,10 +98,9 @@ impl<V: Kept> LockRow<V> {
     fn hear_at(&self, pass: &mut RowPass<V>, place: usize, note: Note<V>)
         requires own { IsOf self.now pass.old }
         requires place { place < length self.now.homes }
-        requires note { (a : _) × (slice_get pass.old place ≡ Some a) × (note.seat.table_id ≡ a.table) }
+        requires note { SitsAt place pass.old note.seat.table_id }
         ensures own { IsOf self.now pass.new }
-        ensures heard { At place (λ v w. (w ≡ posed Outside (longer v.seen note.seat.me.0.seen) v)
-            × GoesOn V.Kept v.caller w.seen (v.seen ∷ note.seat.me.0.seen ∷ [])) pass.old pass.new }
+        ensures heard { HearsAt V.Kept place note.seat.me.0.seen pass.old pass.new }
     {
         self.locks[place].join(&mut pass.seats[place], note);
     }
@@ -143,7 +139,7 @@ impl<V: Kept> LockRow<V> {
     /// each pass, and callers who have none made nothing.
     pub fn close<R: Wait>(self, rt: &R, passes: Vec<RowPass<V>>) -> Vec<V>
         requires own { (j : ℕ) (p : _) → slice_get passes.items j ≡ Some p → IsOf self p }
-        ensures back { AllZip (λ h x. IsBack V.Kept h.opening self.seats x) self.homes result.items }
+        ensures back { AllZip (IsBackFrom V.Kept self.seats) self.homes result.items }
         ensures told { (k : ℕ) (x : _) → slice_get result.items k ≡ Some x
             → (j : ℕ) (p : _) → slice_get passes.items j ≡ Some p
             → (a : _) → slice_get p k ≡ Some a → Begins V.Kept (V.history x) a.known }
@@ -167,10 +163,10 @@ impl<V: Kept> LockRow<V> {
 
 // Takes passes in: what is then told of this one is told of all.
 fn take_in<V: Kept>(locks: &[ShelfLock<V>], pass: &mut RowPass<V>, mut others: Vec<RowPass<V>>)
-    requires own { IsAt (map (λ l. home l.board.shared.table_id (V.opening l.board.shared.key.value.value ∷ [])) locks.now) pass.old }
+    requires own { IsAt (lock_homes V.Kept locks.now) pass.old }
     requires others { (j : ℕ) (p : _) → slice_get others.items j ≡ Some p
-        → IsAt (map (λ l. home l.board.shared.table_id (V.opening l.board.shared.key.value.value ∷ [])) locks.now) p }
-    ensures own { IsAt (map (λ l. home l.board.shared.table_id (V.opening l.board.shared.key.value.value ∷ [])) locks.now) pass.new }
+        → IsAt (lock_homes V.Kept locks.now) p }
+    ensures own { IsAt (lock_homes V.Kept locks.now) pass.new }
     ensures told { TellsAll V.Kept (pass.old ∷ others.items) pass.new }
 {
     while let Some(other) = others.pop() {
@@ -181,9 +177,9 @@ fn take_in<V: Kept>(locks: &[ShelfLock<V>], pass: &mut RowPass<V>, mut others: V
 
 // Takes another pass in: what is then told of this one is told of both.
 fn absorb<V: Kept>(locks: &[ShelfLock<V>], pass: &mut RowPass<V>, other: RowPass<V>)
-    requires own { IsAt (map (λ l. home l.board.shared.table_id (V.opening l.board.shared.key.value.value ∷ [])) locks.now) pass.old }
-    requires other { IsAt (map (λ l. home l.board.shared.table_id (V.opening l.board.shared.key.value.value ∷ [])) locks.now) other }
-    ensures own { IsAt (map (λ l. home l.board.shared.table_id (V.opening l.board.shared.key.value.value ∷ [])) locks.now) pass.new }
+    requires own { IsAt (lock_homes V.Kept locks.now) pass.old }
+    requires other { IsAt (lock_homes V.Kept locks.now) other }
+    ensures own { IsAt (lock_homes V.Kept locks.now) pass.new }
     ensures both { ZipsAll Absorbs pass.old other pass.new }
 {
     let RowPass { mut seats } = other;
@@ -194,10 +190,10 @@ fn absorb<V: Kept>(locks: &[ShelfLock<V>], pass: &mut RowPass<V>, other: RowPass
 }
 
 fn absorb_at<V: Kept>(locks: &[ShelfLock<V>], pass: &mut RowPass<V>, place: usize, other: Pass<V>)
-    requires own { IsAt (map (λ l. home l.board.shared.table_id (V.opening l.board.shared.key.value.value ∷ [])) locks.now) pass.old }
+    requires own { IsAt (lock_homes V.Kept locks.now) pass.old }
     requires place { place < length locks.now }
-    requires other { (a : _) × (slice_get pass.old place ≡ Some a) × (other.seat.table_id ≡ a.table) }
-    ensures own { IsAt (map (λ l. home l.board.shared.table_id (V.opening l.board.shared.key.value.value ∷ [])) locks.now) pass.new }
+    requires other { SitsAt place pass.old other.seat.table_id }
+    ensures own { IsAt (lock_homes V.Kept locks.now) pass.new }
     ensures both { At place (λ v w. w ≡ both v other.seat.me.0) pass.old pass.new }
 {
     locks[place].absorb(&mut pass.seats[place], other);
@@ -210,10 +206,10 @@ fn shut<V: Kept, R: Wait>(
     mut seats: Vec<Pass<V>>,
     values: &mut Vec<V>,
 )
-    requires own { map (λ p. p.seat.table_id) seats.items ≡ map (λ l. l.board.shared.table_id) locks.items }
-    requires room { (values.old.items ≡ []) × (vec_len values.old ≡ 0) × (vec_len locks ≤ vec_capacity values.old) }
-    ensures closed { AllZip (λ l x. IsClosed V.Kept l.board.shared.key x) locks.items (reverse values.new.items) }
-    ensures told { AllZip (λ p x. Begins V.Kept (V.history x) p.seat.me.0) seats.items (reverse values.new.items) }
+    requires own { AreSeatsAt locks.items seats.items }
+    requires room { HasRoomFor (vec_len locks) values.old }
+    ensures closed { AllZip (IsClosedOf V.Kept) locks.items (reverse values.new.items) }
+    ensures told { AllZip (TellsOfSeat V.Kept) seats.items (reverse values.new.items) }
 {
     while let Some(lock) = locks.pop() {
         let seat = seats.pop().unwrap();

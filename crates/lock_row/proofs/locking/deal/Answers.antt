@@ -3,6 +3,7 @@ use mathlib.Core.List.{IsPrefix}
 use Rattle.std.proofs.lemmas.List.{append-nil}
 use Rattle.std.proofs.lemmas.Option.{slice_get_within, slice_get_read}
 use Rattle.shelf_lock.proofs.Closings.{prefix_at, prefix_less}
+use Rattle.lock_row.specs.Locks.{seat_spot}
 use Rattle.lock_row.specs.Spots.{spot}
 use Rattle.lock_row.specs.Rows.{ZipsFrom}
 use Rattle.lock_row.specs.Locking.{Extends}
@@ -12,7 +13,7 @@ use Rattle.lock_row.proofs.locking.deal.Goals as goal
 
 pub loop-seat-init : goal.loop-seat-init
 loop-seat-init g c = (
-  zips_first Extends c.args.columns.now.items (map (λ q. spot q.seat.table_id q.seat.me.0) c.args.seats.items) (length c.args.seats.items) (sym (map_length (λ q. spot q.seat.table_id q.seat.me.0) c.args.seats.items)),
+  zips_first Extends c.args.columns.now.items (map seat_spot c.args.seats.items) (length c.args.seats.items) (sym (map_length seat_spot c.args.seats.items)),
   ([], append-nil _),
   refl,
 )
@@ -42,10 +43,10 @@ loop-seat-preserved g c =
     let value = c.index_mut.ensures.value in
     let there : slice_get c.loop-seat.columns.items (length c.pop.new.self.items) ≡ Some c.index_mut.result.now =
     slice_get_read c.loop-seat.columns.items (length c.loop-seat.columns.items) (length c.pop.new.self.items) c.index_mut.result.now refl lt (value ∙ ap (λ (k : ℕ). get_or c.loop-seat.columns.items k c.index_mut.result.now) len) in (
-      zips_on Extends c.args.columns.now.items (map (λ q. spot q.seat.table_id q.seat.me.0) c.args.seats.items) c.loop-seat.columns.items (set c.loop-seat.columns.items c.len.result c.push.new.self) (length c.pop.new.self.items)
+      zips_on Extends c.args.columns.now.items (map seat_spot c.args.seats.items) c.loop-seat.columns.items (set c.loop-seat.columns.items c.len.result c.push.new.self) (length c.pop.new.self.items)
           (spot c.in-Some.seat.seat.table_id c.in-Some.seat.seat.me.0) c.index_mut.result.now c.push.new.self
-          (subst (λ (n : ℕ). ZipsFrom Extends n c.args.columns.now.items (map (λ q. spot q.seat.table_id q.seat.me.0) c.args.seats.items) c.loop-seat.columns.items) longer_by i.0)
-          (get_map (λ q. spot q.seat.table_id q.seat.me.0) c.args.seats.items (length c.pop.new.self.items) c.in-Some.seat at)
+          (subst (λ (n : ℕ). ZipsFrom Extends n c.args.columns.now.items (map seat_spot c.args.seats.items) c.loop-seat.columns.items) longer_by i.0)
+          (get_map seat_spot c.args.seats.items (length c.pop.new.self.items) c.in-Some.seat at)
           there (ap (λ (k : ℕ). set c.loop-seat.columns.items k c.push.new.self) len) c.push.ensures,
       prefix_less c.pop.new.self.items c.args.seats.items c.in-Some.seat before,
       length-set c.loop-seat.columns.items c.len.result c.push.new.self ∙ i.2,

@@ -3,6 +3,7 @@ use Rattle.std.specs.Vec.{vec_len}
 use Rattle.std.proofs.lemmas.List.{append-nil}
 use Rattle.shelf_lock.proofs.Closings.{prefix_at}
 use Rattle.shelf_lock.proofs.Prefixes.{snoc_each}
+use Rattle.lock_row.specs.Locks.{seat_spot, lock_homes, lock_home}
 use Rattle.lock_row.specs.Spots.{spot, home}
 use Rattle.lock_row.specs.Rows.{ZipsAll}
 use Rattle.lock_row.specs.Locking.{AreDealt, Extends, home_in}
@@ -17,16 +18,16 @@ loop-last-init g c =
       room = search (rules, arith);
       count = search (rules, arith);
       many = refl;
-      homes = ([], sym (append-nil _), ap (map (λ k. home k.board.shared.table_id (g.V.Kept.opening k.board.shared.key.value.value ∷ []))) none);
+      homes = ([], sym (append-nil _), ap (lock_homes g.V.Kept) none);
       seats = λ k x e. absurd (let no = sym (ap (λ l. slice_get l k) none) ∙ e in cc no);
-      dealt = subst (λ l. AreDealt (map (λ k. home k.board.shared.table_id (g.V.Kept.opening k.board.shared.key.value.value ∷ [])) l) (vec_len c.args.held) c.args.columns.now.items) (sym none) c.requires.columns;
+      dealt = subst (λ l. AreDealt (lock_homes g.V.Kept l) (vec_len c.args.held) c.args.columns.now.items) (sym none) c.requires.columns;
     }
 
 pub deal-requires-clause-len : goal.deal-requires-clause-len
 deal-requires-clause-len g c =
     let r = c.loop-last.invariant.homes in
     let held = c.requires.held _ _ (prefix_at c.pop.new.self.items c.args.held.items c.in-Some.last (r.0, sym (r.1 ∙ ap (λ l. l ++ r.0) c.in-Some.ensures.items))) in
-    sym (map_length (λ q. spot q.seat.table_id q.seat.me.0) c.last.inside.seats.items)
+    sym (map_length seat_spot c.last.inside.seats.items)
     ∙ (ap (λ h. length h.spots) c.last.view_is ∙ (held.many ∙ sym c.loop-last.invariant.many))
 
 pub deal-requires-clause-room : goal.deal-requires-clause-room
@@ -41,7 +42,7 @@ loop-last-preserved g c =
     let view = c.last.view_is in
     let lock = c.last.inside.lock in
     let pushed = c.push_reserved.ensures.items in
-    let h = λ (k : _). home k.board.shared.table_id (g.V.Kept.opening k.board.shared.key.value.value ∷ []) in
+    let h = lock_home g.V.Kept in
     let held = c.requires.held _ _ (prefix_at c.pop.new.self.items c.args.held.items last (r.0, sym (r.1 ∙ ap (λ l. l ++ r.0) c.in-Some.ensures.items))) in
     let is : h lock ≡ home_in g.V.Kept last = ap (home_in g.V.Kept) view in
     let homes : map h c.push_reserved.new.self.items ≡ map h c.loop-last.locks.items ++ home_in g.V.Kept last ∷ [] =

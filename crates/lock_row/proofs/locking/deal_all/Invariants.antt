@@ -1,5 +1,6 @@
 use Rattle.std.proofs.Common.{◌≡◌, ◌++◌, ◌∷◌, [], ◌+◌, ◌≤◌, ℕ, List, Some, slice_get, length, map, reverse}
 use Rattle.std.specs.Vec.{vec_len, vec_capacity}
+use Rattle.lock_row.specs.Locks.{lock_homes}
 use Rattle.lock_row.specs.Spots.{home}
 use Rattle.lock_row.specs.Locking.{AreDealt, home_in}
 use Rattle.lock_row.proofs.locking.deal_all.Given as goal
@@ -10,9 +11,9 @@ invariant-loop-last g l = record {
   count : vec_len l.locks + vec_len l.held ≡ vec_len l.fn.held;
   many : length l.columns.items ≡ length l.fn.columns.items;
   homes : (rest : List _) × (l.fn.held.items ≡ l.held.items ++ rest)
-      × (map (λ k. home k.board.shared.table_id (g.V.Kept.opening k.board.shared.key.value.value ∷ [])) l.locks.items ≡ reverse (map (home_in g.V.Kept) rest));
+      × (lock_homes g.V.Kept l.locks.items ≡ reverse (map (home_in g.V.Kept) rest));
   seats : (k : ℕ) (x : _) → slice_get l.locks.items k ≡ Some x → x.board.shared.key.seats ≡ length l.fn.columns.items;
-  dealt : AreDealt (map (λ k. home k.board.shared.table_id (g.V.Kept.opening k.board.shared.key.value.value ∷ [])) l.locks.items) (vec_len l.held) l.columns.items;
+  dealt : AreDealt (lock_homes g.V.Kept l.locks.items) (vec_len l.held) l.columns.items;
 }
 
 abbrev pub decreases-loop-last : goal.decreases-loop-last

@@ -1,12 +1,13 @@
 use Rattle.std.proofs.Common.{◌∷◌, [], length, map}
 use mathlib.Core.List.{IsPrefix}
+use Rattle.lock_row.specs.Locks.{lock_homes}
 use Rattle.lock_row.specs.Spots.{IsAt, home}
 use Rattle.lock_row.proofs.Ends.{TellsFrom}
 use Rattle.lock_row.proofs.row.take_in.Given as goal
 
 abbrev pub invariant-loop-other : goal.invariant-loop-other
 invariant-loop-other g l =
-    IsAt (map (λ k. home k.board.shared.table_id (g.V.Kept.opening k.board.shared.key.value.value ∷ [])) l.fn.locks) l.pass
+    IsAt (lock_homes g.V.Kept l.fn.locks) l.pass
     × IsPrefix l.others.items l.fn.others.items
     × TellsFrom g.V.Kept (length l.others.items) l.fn.others.items l.fn.pass l.pass
 

@@ -1,5 +1,6 @@
 use Rattle.std.proofs.Common.{length, map}
 use mathlib.Core.List.{IsPrefix}
+use Rattle.lock_row.specs.Locks.{note_spot}
 use Rattle.lock_row.specs.Spots.{IsOf, spot}
 use Rattle.lock_row.specs.Rows.{ZipsFrom, Hears}
 use Rattle.lock_row.proofs.row.LockRow.hear.Given as goal
@@ -8,7 +9,7 @@ abbrev pub invariant-loop-note : goal.invariant-loop-note
 invariant-loop-note g l =
     IsOf l.fn.self l.pass
     × ZipsFrom (Hears g.V.Kept) (length l.notes.items) l.fn.pass l.fn.note l.pass
-    × IsPrefix (map (λ q. spot q.seat.table_id q.seat.me.0) l.notes.items) l.fn.note
+    × IsPrefix (map note_spot l.notes.items) l.fn.note
 
 abbrev pub decreases-loop-note : goal.decreases-loop-note
 decreases-loop-note g l = length l.notes.items

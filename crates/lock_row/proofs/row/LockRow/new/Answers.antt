@@ -2,6 +2,7 @@ use Rattle.std.proofs.Common.{rules, ◌≡◌, ◌++◌, ◌∷◌, [], ◌+◌
 use Rattle.std.proofs.lemmas.List.{append-nil, length-reverse}
 use Rattle.std.proofs.lemmas.Option.{slice_get_within}
 use Rattle.shelf_lock.proofs.Closings.{prefix_at}
+use Rattle.lock_row.specs.Locks.{lock_home}
 use Rattle.lock_row.specs.Spots.{home}
 use Rattle.lock_row.specs.Rows.{ComesBack, IsNewPass, IsSpare, AreSpare}
 use Rattle.lock_row.specs.Locking.{IsHeld, AreDealt, home_in, first_value}
@@ -29,12 +30,12 @@ deal_all-requires-clause-columns g c k x e =
 
 pub invariant_of-result : goal.invariant_of-result
 invariant_of-result g c =
-    let h = λ (l : _). home l.board.shared.table_id (g.V.Kept.opening l.board.shared.key.value.value ∷ []) in
+    let h = lock_home g.V.Kept in
     let locks = c.deal_all.new.locks.items in
     let columns = c.deal_all.new.columns.items in
     let items : columns ≡ c.pop.new.self.items ++ c.unwrap.result ∷ [] = search rules in
     let len : length columns ≡ length c.pop.new.self.items + 1 = ap length items ∙ omega (arith, length-append c.pop.new.self.items (c.unwrap.result ∷ [])) in
-    let all : length columns ≡ c.args.seats + 1 = c.deal_all.ensures.len.1 ∙ c.in-Some.ensures.columns.0.0 in
+    let all : length columns ≡ c.args.seats + 1 = c.deal_all.ensures.many ∙ c.in-Some.ensures.columns.0.0 in
     let spare = ap length c.passes_of-spare.ensures in
     let turned = length-reverse (map (λ (z : _). z.spots) c.pop.new.self.items) in
     let mapped = map_length (λ (z : _). z.spots) c.pop.new.self.items in
@@ -44,14 +45,12 @@ invariant_of-result g c =
     let own = dealt (length c.pop.new.self.items) c.unwrap.result at in
     let few = c.requires.few in
     let gone = c.in-Some-hold_all.ensures.gone in (
-      gone.0,
-      gone.1,
-      search (rules, arith),
-      (λ k l e. c.deal_all.ensures.seats k l e ∙ (let same = c.in-Some.ensures.columns.0.0 in omega arith)),
+      (gone.0, gone.1, search (rules, arith)),
+      ((λ k l e. c.deal_all.ensures.seats k l e ∙ (let same = c.in-Some.ensures.columns.0.0 in omega arith)),
       omega arith,
       subst (λ l. AreSpare (map h locks) 0 l) (sym c.passes_of-spare.ensures) (spare_of (map h locks) c.pop.new.self.items columns (c.unwrap.result ∷ [], sym items) dealt),
       (let number : length c.pop.new.self.items ≡ 0 + length c.passes_of-spare.result.items = omega arith in
-          subst (λ p. IsSpare (map h locks) (0 + length c.passes_of-spare.result.items) p) (sym c.pass-own.ensures) (own.0, subst (λ n. IsNewPass n c.unwrap.result.spots) number own.1)),
+          subst (λ p. IsSpare (map h locks) (0 + length c.passes_of-spare.result.items) p) (sym c.pass-own.ensures) (own.0, subst (λ n. IsNewPass n c.unwrap.result.spots) number own.1))),
     )
 
 pub returns-in-None-clause-room : goal.returns-in-None-clause-room

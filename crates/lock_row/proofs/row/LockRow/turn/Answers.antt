@@ -1,13 +1,14 @@
 use Rattle.std.proofs.Common.{◌≡◌, ◌∷◌, [], ◌<◌, length, ap}
 use Rattle.shelf_lock.specs.Turns.{Turned, FoundWorn}
 use Rattle.shelf_lock.proofs.Turning.{match_map, match_same}
+use Rattle.lock_row.specs.Locks.{lock_home}
 use Rattle.lock_row.specs.Spots.{home, At}
 use Rattle.lock_row.proofs.Places.{own_at, spot_of, kept_own, goes_at}
 use Rattle.lock_row.proofs.row.LockRow.turn.Goals as goal
 
 own_here : (g : _) (c : goal.After-index_mut g) → (home c.index_mut.result.now.seat.table_id c.index_mut.result.now.seat.me.0.opening ≡ home c.index.result.now.board.shared.table_id (g.V.Kept.opening c.index.result.now.board.shared.key.value.value ∷ [])) × (c.args.place < length c.pass.inside.seats.items)
 own_here g c =
-    own_at (λ q. q.seat.table_id) (λ q. q.seat.me.0) (λ l. home l.board.shared.table_id (g.V.Kept.opening l.board.shared.key.value.value ∷ [])) c.pass.inside.seats.items c.self.inside.locks.items c.args.pass.now c.args.self.now.homes
+    own_at (λ q. q.seat.table_id) (λ q. q.seat.me.0) (lock_home g.V.Kept) c.pass.inside.seats.items c.self.inside.locks.items c.args.pass.now c.args.self.now.homes
     c.args.place c.index_mut.result.now c.index.result.now c.pass.view_is (ap (λ r. r.homes) c.self.view_is) c.requires.own c.requires.place c.index_mut.ensures.value c.index.ensures
 
 pub turn-requires-clause-own : goal.turn-requires-clause-own
@@ -34,7 +35,7 @@ pub returns-clause-turned : goal.returns-clause-turned
 returns-clause-turned g c =
     let q = c.index_mut.result.now in
     let r = c.turn.new.pass in
-    let lt = (let is = c.self.view_is in own_at (λ q. q.seat.table_id) (λ q. q.seat.me.0) (λ l. home l.board.shared.table_id (g.V.Kept.opening l.board.shared.key.value.value ∷ [])) c.pass.inside.seats.items c.self.inside.locks.items c.args.pass.now c.args.self.now.homes
+    let lt = (let is = c.self.view_is in own_at (λ q. q.seat.table_id) (λ q. q.seat.me.0) (lock_home g.V.Kept) c.pass.inside.seats.items c.self.inside.locks.items c.args.pass.now c.args.self.now.homes
     c.args.place c.index_mut.result.now c.index.result.now c.pass.view_is (ap (λ r. r.homes) is) c.requires.own c.requires.place c.index_mut.ensures.value c.index.ensures) in
     match_map (λ a. Turned g.V.Kept g.F.FnOnce c.args.f q.seat.me.0 a r.seat.me.0)
     (λ a. At c.args.place (λ v w. Turned g.V.Kept g.F.FnOnce c.args.f v a w) c.args.pass.now _)
