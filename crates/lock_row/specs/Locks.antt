@@ -1,5 +1,5 @@
 -- Locks and their seats, as the vectors of a row keep them.
-use Rattle.std.specs.Prelude.{◌≡◌, ◌≤◌, ◌<◌, ◌+◌, ◌^◌, ℕ, List, [], ◌∷◌, map, length, reverse, Some, slice_get, vec_len, vec_capacity}
+use Rattle.std.specs.Prelude.{◌≡◌, ◌≤◌, ◌<◌, ◌+◌, ◌^◌, ℕ, List, [], ◌∷◌, map, length, Some, slice_get, vec_len, vec_capacity}
 use Rattle.std.specs.Global.{Vec}
 use Rattle.shelf_lock.specs.declared.kept.Kept.{Ghosts}
 use Rattle.shelf_lock.specs.declared.lock.ShelfLock.{ShelfLock}

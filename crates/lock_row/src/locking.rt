@@ -249,8 +249,7 @@ fn deal_all<V: Kept>(
 fn deal<V: Kept>(columns: &mut Vec<Column<V>>, mut seats: Vec<Pass<V>>)
     requires len { length seats.items ≡ length columns.old.items }
     requires room { (k : ℕ) (c : _) → slice_get columns.old.items k ≡ Some c → 0 < c.room }
-    ensures dealt {
-        ZipsAll Extends columns.old.items (map seat_spot seats.items) columns.new.items }
+    ensures dealt { ZipsAll Extends columns.old.items (map seat_spot seats.items) columns.new.items }
     ensures len { length columns.new.items ≡ length columns.old.items }
 {
     while let Some(seat) = seats.pop() {

@@ -1,7 +1,6 @@
 use Rattle.std.proofs.Common.{◌≡◌, length, map}
 use mathlib.Core.List.{IsPrefix}
 use Rattle.lock_row.specs.Locks.{seat_spot}
-use Rattle.lock_row.specs.Spots.{spot}
 use Rattle.lock_row.specs.Rows.{ZipsFrom}
 use Rattle.lock_row.specs.Locking.{Extends}
 use Rattle.lock_row.proofs.locking.deal.Given as goal

@@ -4,7 +4,6 @@ use Rattle.std.proofs.lemmas.List.{append-nil}
 use Rattle.shelf_lock.proofs.Closings.{prefix_at}
 use Rattle.shelf_lock.proofs.Prefixes.{snoc_each}
 use Rattle.lock_row.specs.Locks.{seat_spot, lock_homes, lock_home}
-use Rattle.lock_row.specs.Spots.{spot, home}
 use Rattle.lock_row.specs.Rows.{ZipsAll}
 use Rattle.lock_row.specs.Locking.{AreDealt, Extends, home_in}
 use Rattle.lock_row.proofs.Places.{map_snoc, map_length}

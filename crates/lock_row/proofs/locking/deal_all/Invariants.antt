@@ -1,7 +1,6 @@
-use Rattle.std.proofs.Common.{◌≡◌, ◌++◌, ◌∷◌, [], ◌+◌, ◌≤◌, ℕ, List, Some, slice_get, length, map, reverse}
+use Rattle.std.proofs.Common.{◌≡◌, ◌++◌, ◌+◌, ◌≤◌, ℕ, List, Some, slice_get, length, map, reverse}
 use Rattle.std.specs.Vec.{vec_len, vec_capacity}
 use Rattle.lock_row.specs.Locks.{lock_homes}
-use Rattle.lock_row.specs.Spots.{home}
 use Rattle.lock_row.specs.Locking.{AreDealt, home_in}
 use Rattle.lock_row.proofs.locking.deal_all.Given as goal
 

@@ -1,7 +1,7 @@
-use Rattle.std.proofs.Common.{◌∷◌, [], length, map}
+use Rattle.std.proofs.Common.{length, map}
 use mathlib.Core.List.{IsPrefix}
 use Rattle.lock_row.specs.Locks.{seat_spot, lock_homes}
-use Rattle.lock_row.specs.Spots.{IsAt, home, spot}
+use Rattle.lock_row.specs.Spots.{IsAt}
 use Rattle.lock_row.specs.Rows.{ZipsFrom, Absorbs}
 use Rattle.lock_row.proofs.row.absorb.Given as goal
 

@@ -1,4 +1,4 @@
-use Rattle.std.proofs.Common.{◌≡◌, ◌∷◌, [], ◌<◌, length, refl, ap, sym, ◌∙◌, map, arith}
+use Rattle.std.proofs.Common.{◌≡◌, ◌∷◌, [], ◌<◌, length, refl, ap, sym, ◌∙◌, arith}
 use Rattle.lock_row.specs.Locks.{lock_homes, lock_home}
 use Rattle.lock_row.specs.Spots.{home}
 use Rattle.lock_row.proofs.Places.{own_at, spot_of, one_of, kept_own, goes_at, map_length}

@@ -1,7 +1,7 @@
-use Rattle.std.proofs.Common.{◌∷◌, [], length, map}
+use Rattle.std.proofs.Common.{length}
 use mathlib.Core.List.{IsPrefix}
 use Rattle.lock_row.specs.Locks.{lock_homes}
-use Rattle.lock_row.specs.Spots.{IsAt, home}
+use Rattle.lock_row.specs.Spots.{IsAt}
 use Rattle.lock_row.proofs.Ends.{TellsFrom}
 use Rattle.lock_row.proofs.row.take_in.Given as goal
 

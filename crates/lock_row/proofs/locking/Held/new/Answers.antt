@@ -1,6 +1,6 @@
 use Rattle.std.proofs.Common.{◌∷◌, [], ap, sym, ◌∙◌, subst}
 use Rattle.lock_row.specs.Locks.{seat_spot}
-use Rattle.lock_row.specs.Spots.{spot, home}
+use Rattle.lock_row.specs.Spots.{home}
 use Rattle.lock_row.specs.Rows.{IsFresh, IsNewFor}
 use Rattle.lock_row.proofs.Places.{map_get, map_length}
 use Rattle.lock_row.proofs.locking.Held.new.Goals as goal

@@ -1,9 +1,9 @@
-use Rattle.std.proofs.Common.{rules, ◌≡◌, ◌∷◌, [], ◌<◌, suc, ℕ, Some, slice_get, length, ap, sym, subst, ◌∙◌, arith, map, refl}
+use Rattle.std.proofs.Common.{rules, ◌≡◌, ◌<◌, suc, ℕ, Some, slice_get, length, ap, sym, subst, ◌∙◌, arith, map, refl}
 use Rattle.std.specs.List.{AllZip}
 use Rattle.std.proofs.lemmas.Option.{slice_get_within}
 use Rattle.shelf_lock.specs.Order.{Begins, MadeBelow}
 use Rattle.lock_row.specs.Locks.{seat_spot, lock_homes, lock_home}
-use Rattle.lock_row.specs.Spots.{Spot, spot, home, IsAt}
+use Rattle.lock_row.specs.Spots.{Spot, spot, IsAt}
 use Rattle.lock_row.specs.Rows.{IsBack}
 use Rattle.lock_row.proofs.Ends.{zip_get, zip_back, zip_along, none_above, tells_both}
 use Rattle.lock_row.proofs.Places.{get_map, map_map, map_length, homes, tables_of}

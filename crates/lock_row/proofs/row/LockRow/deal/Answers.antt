@@ -15,15 +15,17 @@ invariant_of-self g c =
     let items : c.self.inside.spare.items ≡ c.pop.new.self.items ++ c.unwrap-pass.result ∷ [] = search rules in
     let len : length c.self.inside.spare.items ≡ length c.pop.new.self.items + 1 = ap length items ∙ omega (arith, length-append c.pop.new.self.items (c.unwrap-pass.result ∷ [])) in (
       i.0,
-      ((λ k l e. let is = i.1.0 k l e in omega arith),
-      (let few = i.1.1 in omega arith),
-      (λ j p e.
-          let within = slice_get_within c.pop.new.self.items j p e in
-          let s = i.1.2 j p (ap (λ l. slice_get l j) items ∙ get_front c.pop.new.self.items (c.unwrap-pass.result ∷ []) j p e) in
-          let number : c.self.inside.dealt + (length c.self.inside.spare.items - 1 - j) ≡ c.self.inside.dealt + 1 + (length c.pop.new.self.items - 1 - j) = omega arith in
-          (s.0, subst (λ n. IsNewPass n p) number s.1)),
-      (let number : c.self.inside.dealt + length c.self.inside.spare.items ≡ c.self.inside.dealt + 1 + length c.pop.new.self.items = omega arith in
-          (i.1.3.0, subst (λ n. IsNewPass n c.self.inside.own) number i.1.3.1))),
+      (
+        (λ k l e. let is = i.1.0 k l e in omega arith),
+        (let few = i.1.1 in omega arith),
+        (λ j p e.
+            let within = slice_get_within c.pop.new.self.items j p e in
+            let s = i.1.2 j p (ap (λ l. slice_get l j) items ∙ get_front c.pop.new.self.items (c.unwrap-pass.result ∷ []) j p e) in
+            let number : c.self.inside.dealt + (length c.self.inside.spare.items - 1 - j) ≡ c.self.inside.dealt + 1 + (length c.pop.new.self.items - 1 - j) = omega arith in
+            (s.0, subst (λ n. IsNewPass n p) number s.1)),
+        (let number : c.self.inside.dealt + length c.self.inside.spare.items ≡ c.self.inside.dealt + 1 + length c.pop.new.self.items = omega arith in
+            (i.1.3.0, subst (λ n. IsNewPass n c.self.inside.own) number i.1.3.1)),
+      ),
     )
 
 pub returns-clause-own : goal.returns-clause-own

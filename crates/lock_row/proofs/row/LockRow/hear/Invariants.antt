@@ -1,7 +1,7 @@
 use Rattle.std.proofs.Common.{length, map}
 use mathlib.Core.List.{IsPrefix}
 use Rattle.lock_row.specs.Locks.{note_spot}
-use Rattle.lock_row.specs.Spots.{IsOf, spot}
+use Rattle.lock_row.specs.Spots.{IsOf}
 use Rattle.lock_row.specs.Rows.{ZipsFrom, Hears}
 use Rattle.lock_row.proofs.row.LockRow.hear.Given as goal
 

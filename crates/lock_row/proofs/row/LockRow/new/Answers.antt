@@ -46,11 +46,13 @@ invariant_of-result g c =
     let few = c.requires.few in
     let gone = c.in-Some-hold_all.ensures.gone in (
       (gone.0, gone.1, search (rules, arith)),
-      ((λ k l e. c.deal_all.ensures.seats k l e ∙ (let same = c.in-Some.ensures.columns.0.0 in omega arith)),
-      omega arith,
-      subst (λ l. AreSpare (map h locks) 0 l) (sym c.passes_of-spare.ensures) (spare_of (map h locks) c.pop.new.self.items columns (c.unwrap.result ∷ [], sym items) dealt),
-      (let number : length c.pop.new.self.items ≡ 0 + length c.passes_of-spare.result.items = omega arith in
-          subst (λ p. IsSpare (map h locks) (0 + length c.passes_of-spare.result.items) p) (sym c.pass-own.ensures) (own.0, subst (λ n. IsNewPass n c.unwrap.result.spots) number own.1))),
+      (
+        (λ k l e. c.deal_all.ensures.seats k l e ∙ (let same = c.in-Some.ensures.columns.0.0 in omega arith)),
+        omega arith,
+        subst (λ l. AreSpare (map h locks) 0 l) (sym c.passes_of-spare.ensures) (spare_of (map h locks) c.pop.new.self.items columns (c.unwrap.result ∷ [], sym items) dealt),
+        (let number : length c.pop.new.self.items ≡ 0 + length c.passes_of-spare.result.items = omega arith in
+            subst (λ p. IsSpare (map h locks) (0 + length c.passes_of-spare.result.items) p) (sym c.pass-own.ensures) (own.0, subst (λ n. IsNewPass n c.unwrap.result.spots) number own.1)),
+      ),
     )
 
 pub returns-in-None-clause-room : goal.returns-in-None-clause-room
