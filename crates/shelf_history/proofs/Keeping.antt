@@ -7,6 +7,7 @@ use Rattle.replay_spec.specs.Step.{Event, crash, Fate, lost, kept, recovered, Re
 use Rattle.replay_spec.specs.Runs.{Shelf, shelf_step}
 use Rattle.replay_spec.specs.Invariant.{IsOrderly, IsSound}
 use Rattle.replay_spec.specs.Laws.{IsLawful, Moment, Leads}
+use Rattle.replay_spec.proofs.Numbers.{crashed_out}
 use Rattle.replay_spec.proofs.Orderly as orderly
 use Rattle.replay_spec.proofs.Steps as sound_books
 use Rattle.replay_spec.proofs.Steps.{leads_on}
@@ -57,10 +58,6 @@ crash_leads : (rules : Rules) (b : Book) (nonce : ℕ) (scripts : List Named) (f
 crash_leads rules b nonce scripts fate =
     let m : Moment = record { rules = rules; nonce = nonce; event = crash scripts; fate = fate } in record { moments = m ∷ []; lawful = (tt, tt); there = refl }
 
-crash_idle : (rules : Rules) (b : Book) (nonce : ℕ) (scripts : List Named) (fate : Fate) → (step rules b nonce (crash scripts) fate).1.out ≡ []
-unfolding step
-crash_idle rules b nonce scripts fate = refl
-
 pub crash_opens : ACrashOpens
 crash_opens source opened now s es rules nonce scripts fate opening legal =
     let b : Book = book_behind source s es in
@@ -68,7 +65,7 @@ crash_opens source opened now s es rules nonce scripts fate opening legal =
     let on = crash_leads rules b nonce scripts fate in (
       record {
         orderly = (orderly.led b c (well source opened now s es opening legal).orderly on).orderly;
-        idle = crash_idle rules b nonce scripts fate;
+        idle = crashed_out rules b nonce scripts fate;
       },
       leads_on s.book b c (leads source opened now s [] es opening legal) on,
       λ (good : IsSound s.book). (sound_books.led b c (sound source opened now s es opening good legal) on).sound,

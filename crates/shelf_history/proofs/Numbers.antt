@@ -11,15 +11,12 @@ use Rattle.replay_spec.specs.Laws.{IsLawful, IsLawfulRun, Moment, Takes, Leads, 
 use Rattle.replay_spec.proofs.Stand.{among_of}
 use Rattle.replay_spec.proofs.Orderly as orderly
 use Rattle.replay_spec.proofs.Refused.{unchanged}
-use Rattle.replay_spec.proofs.Numbers.{tickets_out}
+use Rattle.replay_spec.proofs.Numbers.{numbers, tickets_out}
 use Rattle.shelf_history.specs.Histories.{Entry, fate_by, events_of, shelf_behind, book_behind, tickets_left, MayCome, IsNext, IsLegal, IsOpened}
 use Rattle.shelf_history.specs.Laws.{HistoriesAreRuns}
 use Rattle.shelf_history.proofs.Members.{contains_mapped}
 use Rattle.shelf_history.proofs.Going.{along, is_step, answers_push, lawful_push, leads_more}
 use Rattle.shelf_history.proofs.Owing.{IsGiven, left_push, Held, held_none, held_then, IsFresh}
-
-abbrev pub numbers : List Ticket → List ℕ
-numbers ts = map (λ t. t.number) ts
 
 -- What stands behind a history.
 pub record Well (source : ℕ → ℕ) (s : Shelf) (es : List Entry) : Type 0 where

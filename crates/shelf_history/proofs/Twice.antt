@@ -1,27 +1,26 @@
 -- No number is taken twice, and what is owed is out.
 use Rattle.std.proofs.Common.{◌≡◌, ◌≤◌, ◌<◌, ◌+◌, ◌⊎◌, ◌==◌, ℕ, Bool, true, List, [], ◌∷◌, ◌++◌, Contains, refl, sym, ◌∙◌, ap, subst, inl, inr, arith, nat_le, if◌then◌else◌}
 use Rattle.std.proofs.lemmas.Bool.Decides.{nat_tests}
-use Rattle.std.proofs.lemmas.List.{map_push, append-nil}
+use Rattle.std.proofs.lemmas.List.{append-nil}
 use Rattle.replay_spec.specs.Book.{Book, spend}
 use Rattle.replay_spec.specs.Rules.{Rules}
 use Rattle.replay_spec.specs.Next.{Ticket}
 use Rattle.page_names.specs.Names.{Destination}
-use Rattle.replay_spec.specs.Step.{Event, take, publish, sweep, crash, Fate, Reply, taken, swept, Decision, fate_of, settle, publish_comes, sweep_comes, take_by, step}
+use Rattle.replay_spec.specs.Step.{Event, take, publish, sweep, crash, Fate, Reply, taken, swept, fate_of, settle, publish_comes, sweep_comes, take_by, step}
 use Rattle.replay_spec.specs.Runs.{Shelf, shelf_step}
 use Rattle.replay_spec.specs.Invariant.{Among, AreDifferent}
 use Rattle.replay_spec.specs.Laws.{tickets_by}
+use Rattle.replay_spec.proofs.Numbers.{numbers, numbers_more, settled_drawn}
+use Rattle.replay_spec.proofs.Orderly.{different_more}
 use Rattle.replay_spec.proofs.Stand.{among_drawn}
 use Rattle.shelf_history.specs.Histories.{Entry, fate_by, shelf_behind, book_behind, tickets_left, owed_by, Owes, MayCome, IsNext, IsLegal}
 use Rattle.shelf_history.specs.Laws.{take_of, given_by, tickets_taken, NoNumberTakenTwice, WhatIsOwedIsOut}
 use Rattle.shelf_history.proofs.Members.{contains_first, contains_more, contains_cases, contains_passed, contains_mapped, contains_none}
 use Rattle.shelf_history.proofs.Going.{along, is_step}
 use Rattle.shelf_history.proofs.Owing.{IsGiven, left_by}
-use Rattle.shelf_history.proofs.Numbers.{numbers, given_next, well}
+use Rattle.shelf_history.proofs.Numbers.{given_next, well}
 
 -- the numbers that are drawn rise
-settled_drawn : (rules : Rules) (b : Book) (fate : Fate) (d : Decision) → (settle rules b fate d).1.drawn ≡ b.drawn
-settled_drawn rules b fate d = grind arith
-
 took_drawn : (b : Book) (target : Destination) (nonce : ℕ) (fate : Fate) → b.drawn ≤ (take_by b target nonce fate).1.drawn
 took_drawn b target nonce fate = grind arith
 
@@ -48,24 +47,14 @@ pub taken_push : (es : List Entry) (e : Entry) → tickets_taken (es ++ e ∷ []
 taken_push [] e = refl
 taken_push (x ∷ es) e = ap (given_by x.event x.reply) (taken_push es e) ∙ given_more x.event x.reply (tickets_taken es) (given_by e.event e.reply [])
 
-numbers_push : (ts : List Ticket) (t : Ticket) → numbers (ts ++ t ∷ []) ≡ numbers ts ++ t.number ∷ []
-numbers_push ts t = map_push (λ (u : Ticket). u.number) ts t
-
-different_push : (ns : List ℕ) (n : ℕ) → AreDifferent ns → (Among n ns → ⊥) → AreDifferent (ns ++ n ∷ [])
-different_push [] n h new = (λ there. there, tt)
-different_push (m ∷ ns) n h new = (
-  λ there. elim (among_drawn m n ns there) [ inl old ↦ h.0 old | inr is ↦ new (inl (sym is)) ],
-  different_push ns n h.1 (λ there. new (inr there)),
-)
-
 -- All numbers that were taken are different, and below the next.
 abbrev AreTaken : List Ticket → (drawn : ℕ) → Type 0
 AreTaken ts drawn = AreDifferent (numbers ts) × ((n : ℕ) → Among n (numbers ts) → n < drawn)
 
 taken_more : (ts : List Ticket) (t : Ticket) (drawn : ℕ) → AreTaken ts drawn → t.number ≡ drawn → AreTaken (ts ++ t ∷ []) (drawn + 1)
 taken_more ts t drawn h is = (
-  subst AreDifferent (sym (numbers_push ts t)) (different_push (numbers ts) t.number h.0 (λ there. let low = h.1 t.number there in omega (arith, low, is))),
-  λ n there. elim (among_drawn n t.number (numbers ts) (subst (Among n) (numbers_push ts t) there)) [
+  subst AreDifferent (sym (numbers_more ts t)) (different_more (numbers ts) t.number h.0 (λ there. let low = h.1 t.number there in omega (arith, low, is))),
+  λ n there. elim (among_drawn n t.number (numbers ts) (subst (Among n) (numbers_more ts t) there)) [
     | inl old ↦ let low = h.1 n old in omega (arith, low)
     | inr same ↦ omega (arith, same, is)
   ],
