@@ -1,10 +1,14 @@
 -- What workers counted together.
-use Rattle.std.specs.Prelude.{List, [], ◌∷◌}
+use Rattle.std.specs.Prelude.{ℕ, List, [], ◌∷◌}
 use Rattle.request_workers.specs.Counting.{Count, nothing, both}
 use Rattle.request_workers.specs.Tallies.{count_of}
 use Rattle.request_workers.specs.declared.tally.Tally.{Tally}
 use Rattle.request_workers.specs.declared.tally.WorkEnd.{WorkEnd}
 use Rattle.request_workers.specs.declared.tally.WorkEnd.TheVariants as ends
+
+-- how many workers work at once, at most
+abbrev pub most_workers : ℕ
+most_workers = 16
 
 abbrev pub total : List Tally → Count
 total [] = nothing

@@ -1,5 +1,6 @@
 -- What workers do with their porches.
-use Rattle.std.specs.Prelude.{◌≡◌, ◌≤◌, ℕ, [], List, Option, map, vec_len, vec_capacity}
+use Rattle.std.specs.Prelude.{◌≡◌, ◌≤◌, ℕ, [], List, Option, Some, map, slice_get, vec_len, vec_capacity}
+use Rattle.std.specs.Global.{Vec}
 use Rattle.std.specs.List.{AllZip}
 use Rattle.web_outside.specs.View.{LinkView, PorchView}
 use Rattle.http_forms.specs.Passes.{PassRules}
@@ -28,6 +29,23 @@ porches_of workers = map (λ w. w.porch) workers
 
 abbrev pub tallies_of : {S P : Type 0} → List (Worker S P) → List Tally
 tallies_of workers = map (λ w. w.tally) workers
+
+-- each of these passes is the service's own
+abbrev pub AreOwn : {S : Type 0} → PassRules S → List S → Type 0
+AreOwn {S} rules passes = (k : ℕ) (p : S) → slice_get passes k ≡ Some p → rules.IsOwn p
+
+-- a vector that is empty, and has room for so many
+abbrev pub HasRoomFor : {T : Type 0} → ℕ → Vec T → Type 0
+HasRoomFor many v = (v.items ≡ []) × (vec_len v ≡ 0) × (many ≤ vec_capacity v)
+
+-- no pass and no porch is left
+abbrev pub AreGone : {S P : Type 0} → Vec S → Vec P → Type 0
+AreGone passes porches = (passes.items ≡ []) × (vec_len passes ≡ 0) × (porches.items ≡ []) × (vec_len porches ≡ 0)
+
+-- the room for passes and for porches is as it was
+abbrev pub KeepRoom : {S P : Type 0} → Vec S → Vec P → Vec S → Vec P → Type 0
+KeepRoom passes porches passes_then porches_then =
+    (vec_capacity passes_then ≡ vec_capacity passes) × (vec_capacity porches_then ≡ vec_capacity porches)
 
 -- Each of the old passes served the links of the porch of its place. These are what the workers were before and behind.
 pub record AreServed {S P L : Type 0} (rules : PassRules S) (link : L → LinkView) (porch : P → PorchView L) (shown : Option ℕ)

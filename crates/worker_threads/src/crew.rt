@@ -1,5 +1,6 @@
 //! Workers on their way to their work and back. They stand in the reverse order meanwhile.
-ghost use Rattle.std.specs.Prelude.{◌≡◌, ◌≤◌, ◌+◌, [], map, reverse, vec_len, vec_capacity};
+ghost use Rattle.std.specs.Prelude.{◌≡◌, reverse, vec_len};
+ghost use Rattle.worker_threads.specs.Workers.{AreGone, HasRoomFor, KeepRoom, passes_of, porches_of, tallies_of};
 
 use crate::worker::Worker;
 use request_workers::Tally;
@@ -11,12 +12,12 @@ pub(crate) fn hire_all<S, P>(
     workers: &mut Vec<Worker<S, P>>,
 )
     requires pairs { vec_len porches.old ≡ vec_len passes.old }
-    requires room { (workers.old.items ≡ []) × (vec_len workers.old ≡ 0) × (vec_len passes.old ≤ vec_capacity workers.old) }
-    ensures passes { map (λ w. w.pass) (reverse workers.new.items) ≡ passes.old.items }
-    ensures porches { map (λ w. w.porch) (reverse workers.new.items) ≡ porches.old.items }
+    requires room { HasRoomFor (vec_len passes.old) workers.old }
+    ensures passes { passes_of (reverse workers.new.items) ≡ passes.old.items }
+    ensures porches { porches_of (reverse workers.new.items) ≡ porches.old.items }
     ensures len { vec_len workers.new ≡ vec_len passes.old }
-    ensures emptied { (passes.new.items ≡ []) × (vec_len passes.new ≡ 0) × (porches.new.items ≡ []) × (vec_len porches.new ≡ 0) }
-    ensures capacity { (vec_capacity passes.new ≡ vec_capacity passes.old) × (vec_capacity porches.new ≡ vec_capacity porches.old) }
+    ensures emptied { AreGone passes.new porches.new }
+    ensures capacity { KeepRoom passes.old porches.old passes.new porches.new }
 {
     'hiring: while let Some(pass) = passes.pop() {
         let porch = porches.pop().unwrap();
@@ -35,12 +36,12 @@ pub(crate) fn dismiss_all<S, P>(
     porches: &mut Vec<P>,
     tallies: &mut Vec<Tally>,
 )
-    requires passes { (passes.old.items ≡ []) × (vec_len passes.old ≡ 0) × (vec_len workers ≤ vec_capacity passes.old) }
-    requires porches { (porches.old.items ≡ []) × (vec_len porches.old ≡ 0) × (vec_len workers ≤ vec_capacity porches.old) }
-    requires tallies { (tallies.old.items ≡ []) × (vec_len tallies.old ≡ 0) × (vec_len workers ≤ vec_capacity tallies.old) }
-    ensures passes { passes.new.items ≡ map (λ w. w.pass) (reverse workers.items) }
-    ensures porches { porches.new.items ≡ map (λ w. w.porch) (reverse workers.items) }
-    ensures tallies { tallies.new.items ≡ map (λ w. w.tally) (reverse workers.items) }
+    requires passes { HasRoomFor (vec_len workers) passes.old }
+    requires porches { HasRoomFor (vec_len workers) porches.old }
+    requires tallies { HasRoomFor (vec_len workers) tallies.old }
+    ensures passes { passes.new.items ≡ passes_of (reverse workers.items) }
+    ensures porches { porches.new.items ≡ porches_of (reverse workers.items) }
+    ensures tallies { tallies.new.items ≡ tallies_of (reverse workers.items) }
 {
     let mut workers = workers;
     'dismissing: while let Some(worker) = workers.pop() {

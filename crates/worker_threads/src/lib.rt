@@ -8,4 +8,4 @@ mod workers;
 
 pub use tallies::total;
 pub use worker::{Room, Worker};
-pub use workers::serve_all;
+pub use workers::{MOST_WORKERS, serve_all};

@@ -1,7 +1,7 @@
 //! What workers counted together.
 ghost use Rattle.std.specs.Prelude.{◌≡◌, ◌≤◌, ◌*◌, ◌+◌, All, length};
 ghost use Rattle.request_workers.specs.Tallies.{count_of, IsBelow};
-ghost use Rattle.worker_threads.specs.Totals.{end_of, end_with, total};
+ghost use Rattle.worker_threads.specs.Totals.{end_of, end_with, most_workers, total};
 
 use request_workers::{Tally, WorkEnd};
 
@@ -17,7 +17,7 @@ fn end_with(first: WorkEnd, later: WorkEnd) -> WorkEnd
 
 /// The sums of what was counted. Its end is a failure where one of the ends is.
 pub fn total(tallies: &[Tally]) -> Tally
-    requires few { length tallies.now ≤ 16 }
+    requires few { length tallies.now ≤ most_workers }
     requires small { All (λ t. IsBelow (count_of t) 1000001) tallies.now }
     ensures count { count_of result ≡ total tallies.now }
     ensures end { result.end ≡ end_of tallies.now }

@@ -1,6 +1,6 @@
 //! Workers in threads of their own.
-ghost use Rattle.std.specs.Prelude.{◌≡◌, ℕ, ◌<◌, Some, length, slice_get, slice_index_or, vec_len};
-ghost use Rattle.worker_threads.specs.Workers.{AreServed, IsRoomFor, WorksAs};
+ghost use Rattle.std.specs.Prelude.{◌≡◌, ℕ, ◌<◌, length, slice_index_or, vec_len};
+ghost use Rattle.worker_threads.specs.Workers.{AreOwn, AreServed, IsRoomFor, WorksAs};
 
 use crate::crew::{dismiss_all, hire_all};
 use crate::worker::{Room, Worker};
@@ -10,8 +10,8 @@ use std::alloc::Global;
 use std::thread::{Threads, for_each_mut};
 use web_outside::{Clock, Gate, Link, Porch};
 
-// The most threads that work at once.
-const MOST_THREADS: usize = 16;
+/// The most workers that work at once.
+pub const MOST_WORKERS: usize = 16;
 
 // Serves the links of the worker's porch.
 fn work_as<A: Answering, P: Porch, C: Clock, G: Gate>(
@@ -23,7 +23,8 @@ fn work_as<A: Answering, P: Porch, C: Clock, G: Gate>(
 )
     requires { (A.rules answering.now).IsOwn worker.old.pass }
     ensures own { (A.rules answering.now).IsOwn worker.new.pass }
-    ensures works { WorksAs (A.rules answering.now) P.Link.view P.view (C.shows clock.now) worker.old worker.new }
+    ensures works { WorksAs (A.rules answering.now) P.Link.view P.view (C.shows clock.now)
+        worker.old worker.new }
 {
     let Worker { pass, porch, tally } = worker;
     *tally = work(alloc, answering, pass, porch, clock, gate);
@@ -53,7 +54,7 @@ where
     for_each_mut(
         rt,
         workers,
-        MOST_THREADS,
+        MOST_WORKERS,
         &|_, worker| work_as(alloc, answering, worker, clock, gate),
     );
 }
@@ -82,9 +83,9 @@ where
     <P::Link as Link>::Input: Send,
     <P::Link as Link>::Output: Send,
     requires pairs { vec_len porches.old ≡ vec_len passes.old }
-    requires own { (k : ℕ) (p : _) → slice_get passes.old.items k ≡ Some p → (A.rules answering.now).IsOwn p }
+    requires own { AreOwn (A.rules answering.now) passes.old.items }
     requires room { IsRoomFor (vec_len passes.old) room }
-    ensures own { (k : ℕ) (p : _) → slice_get passes.new.items k ≡ Some p → (A.rules answering.now).IsOwn p }
+    ensures own { AreOwn (A.rules answering.now) passes.new.items }
     ensures served { AreServed (A.rules answering.now) P.Link.view P.view (C.shows clock.now)
         passes.old.items porches.old.items passes.new.items porches.new.items result.items }
 {

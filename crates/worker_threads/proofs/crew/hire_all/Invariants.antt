@@ -1,11 +1,12 @@
-use Rattle.std.proofs.Common.{◌≡◌, ◌≤◌, ◌+◌, ◌++◌, map}
+use Rattle.std.proofs.Common.{◌≡◌, ◌≤◌, ◌+◌, ◌++◌}
 use Rattle.std.specs.Prelude.{reverse, vec_len, vec_capacity}
+use Rattle.worker_threads.specs.Workers.{passes_of, porches_of}
 use Rattle.worker_threads.proofs.crew.hire_all.Given as goal
 
 abbrev pub invariant-hiring : goal.invariant-hiring
 invariant-hiring g l = record {
-  passes : l.passes.items ++ map (λ w. w.pass) (reverse l.workers.items) ≡ l.fn.passes.items;
-  porches : l.porches.items ++ map (λ w. w.porch) (reverse l.workers.items) ≡ l.fn.porches.items;
+  passes : l.passes.items ++ passes_of (reverse l.workers.items) ≡ l.fn.passes.items;
+  porches : l.porches.items ++ porches_of (reverse l.workers.items) ≡ l.fn.porches.items;
   pairs : vec_len l.porches ≡ vec_len l.passes;
   len : vec_len l.workers + vec_len l.passes ≡ vec_len l.fn.passes;
   room : vec_len l.fn.passes ≤ vec_capacity l.workers;

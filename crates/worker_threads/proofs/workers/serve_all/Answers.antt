@@ -1,7 +1,7 @@
 use Rattle.std.proofs.Common.{◌≡◌, ◌∙◌, ◌<◌, ℕ, List, map, length, get_or, slice_get, Some, sym, ap, subst, arith, rules}
 use Rattle.std.specs.Prelude.{reverse, vec_len}
 use Rattle.std.proofs.lemmas.List.{reverse-reverse}
-use Rattle.worker_threads.specs.Workers.{WorksAs}
+use Rattle.worker_threads.specs.Workers.{WorksAs, passes_of, porches_of, tallies_of}
 use Rattle.worker_threads.specs.declared.worker.Worker.{Worker}
 use Rattle.worker_threads.proofs.Lists.{each_get, each_mapped, each_reverse, each_unmapped, front_of, get_each, zip_of, zip_reverse}
 use Rattle.worker_threads.proofs.workers.serve_all.Goals as goal
@@ -26,7 +26,7 @@ returns-clause-own g c =
     let kept : length new ≡ length c.deref_mut.result.now = search (rules, arith, c.work_all.auto.workers) in
     let each = each_get (λ (w : W). Own w.pass) new (λ k d lt. c.work_all.ensures.own k d (omega (arith, lt, kept))) in
     let size : vec_len c.hire_all.new.workers ≡ length new = (let len = ap length c.deref_mut.ensures.value in omega (arith, kept, len, c.hire_all.new.workers.ok.0)) in
-    let is = c.dismiss_all.ensures.passes ∙ ap (λ (l : List W). map (λ w. w.pass) (reverse l)) (front_of new _ _ size) in
+    let is = c.dismiss_all.ensures.passes ∙ ap (λ (l : List W). passes_of (reverse l)) (front_of new _ _ size) in
     subst (λ l. (k : ℕ) (p : g.row.A-Pass.Denot) → slice_get l k ≡ Some p → Own p) (sym is)
     (each_mapped (λ (w : W). w.pass) Own (reverse new) (each_reverse (λ (w : W). Own w.pass) new each))
 
@@ -43,10 +43,10 @@ returns-clause-served g c =
     record {
       before = reverse old;
       after = reverse new;
-      had_passes = ap (λ (l : List W). map (λ w. w.pass) (reverse l)) was ∙ c.hire_all.ensures.passes;
-      had_porches = ap (λ (l : List W). map (λ w. w.porch) (reverse l)) was ∙ c.hire_all.ensures.porches;
-      has_passes = sym (c.dismiss_all.ensures.passes ∙ ap (λ (l : List W). map (λ w. w.pass) (reverse l)) has);
-      has_porches = sym (c.dismiss_all.ensures.porches ∙ ap (λ (l : List W). map (λ w. w.porch) (reverse l)) has);
-      counted = sym (c.dismiss_all.ensures.tallies ∙ ap (λ (l : List W). map (λ w. w.tally) (reverse l)) has);
+      had_passes = ap (λ (l : List W). passes_of (reverse l)) was ∙ c.hire_all.ensures.passes;
+      had_porches = ap (λ (l : List W). porches_of (reverse l)) was ∙ c.hire_all.ensures.porches;
+      has_passes = sym (c.dismiss_all.ensures.passes ∙ ap (λ (l : List W). passes_of (reverse l)) has);
+      has_porches = sym (c.dismiss_all.ensures.porches ∙ ap (λ (l : List W). porches_of (reverse l)) has);
+      counted = sym (c.dismiss_all.ensures.tallies ∙ ap (λ (l : List W). tallies_of (reverse l)) has);
       works = zip_reverse R old new (zip_of R old new kept c.work_all.ensures.works);
     }
