@@ -11,21 +11,21 @@ use Rattle.script_value.specs.Texts.{lacks}
 use Rattle.script_value.proofs.Options.{bound}
 use Rattle.script_value.proofs.Cuts.{behind_spelled, cut_spelled, cut_found, lacking}
 use Rattle.script_value.proofs.Numerals.{number_spelled, number_found, decimal_digits}
-use Rattle.play_steps.specs.Step.{Step, take, publish, get, tick, crash, worker_of, is_target, is_target_byte, aim_of, take_of, publish_of, get_of, tick_of, crash_of, first_of, step_of, first_step, steps_of, line_of, lines_of, newlines, IsStep, AreSteps}
+use Rattle.play_steps.specs.Step.{Step, take, publish, get, tick, crash, worker_of, is_target, is_target_byte, aim_of, take_of, publish_of, get_of, tick_of, crash_of, first_of, step_of, first_step, steps_of, line_of, lines_of, newlines, workers, IsStep, AreSteps}
 use Rattle.play_steps.specs.Laws.{LinesAreSteps, LinesAreCounted}
 use Rattle.play_steps.proofs.Lines.{one_line, first_cut, cut_first, steps_first, steps_none, steps_nil}
 
 -- what is read is spelled so
 
 aim_spelled : (bytes : List ℕ) (aim : ℕ × List ℕ) → aim_of bytes ≡ Some aim
-    → (bytes ≡ decimal aim.0 ++ 32 ∷ aim.1) × ((aim.0 < 16) × (is_target aim.1 ≡ true))
+    → (bytes ≡ decimal aim.0 ++ 32 ∷ aim.1) × ((aim.0 < workers) × (is_target aim.1 ≡ true))
 unfolding aim_of
 aim_spelled bytes aim e =
     let parts = bound (cut_at 32 bytes) _ aim e in
     let worker = bound (worker_of parts.0.0) _ aim parts.2 in
     let is = cond_some (is_target parts.0.1) _ aim worker.2 in
-    let number = number_spelled 16 parts.0.0 worker.0 (omega arith) worker.1 in
-    let P : ℕ × List ℕ → Type 0 = λ x. (bytes ≡ decimal x.0 ++ 32 ∷ x.1) × ((x.0 < 16) × (is_target x.1 ≡ true)) in
+    let number = number_spelled workers parts.0.0 worker.0 (omega arith) worker.1 in
+    let P : ℕ × List ℕ → Type 0 = λ x. (bytes ≡ decimal x.0 ++ 32 ∷ x.1) × ((x.0 < workers) × (is_target x.1 ≡ true)) in
     subst P is.1 (cut_spelled 32 bytes parts.0.0 parts.0.1 parts.1 ∙ ap (λ ds. ds ++ 32 ∷ parts.0.1) number.0, (number.1, is.0))
 
 take_spelled : (line : List ℕ) (s : Step) → take_of line ≡ Some s → (line ≡ line_of s) × IsStep s
@@ -53,7 +53,7 @@ unfolding publish_of
 publish_spelled line s e =
     let rest = bound (behind (codes "publish ") line) _ s e in
     let worker = bound (worker_of rest.0) _ s rest.2 in
-    let number = number_spelled 16 rest.0 worker.0 (omega arith) worker.1 in
+    let number = number_spelled workers rest.0 worker.0 (omega arith) worker.1 in
     let same : publish worker.0 ≡ s = cc in
     subst (λ (x : Step). (line ≡ line_of x) × IsStep x) same
     (behind_spelled (codes "publish ") line rest.0 rest.1 ∙ ap (λ ds. codes "publish " ++ ds) number.0, number.1)
@@ -98,18 +98,18 @@ step_spelled line s e =
 
 -- what is spelled so is read
 
-aim_found : (worker : ℕ) (target : List ℕ) → worker < 16 → is_target target ≡ true
+aim_found : (worker : ℕ) (target : List ℕ) → worker < workers → is_target target ≡ true
     → aim_of (decimal worker ++ 32 ∷ target) ≡ Some (worker, target)
 unfolding aim_of
 aim_found worker target small is =
     let parts = cut_found 32 (decimal worker) target (lacking is_ascii_digit 32 refl (decimal worker) (decimal_digits worker (omega arith))) in
-    let number = number_found 16 worker (omega arith) small in
+    let number = number_found workers worker (omega arith) small in
     rw (parts, number, is) refl
 
 step_found : (s : Step) → IsStep s → step_of (line_of s) ≡ Some s
 unfolding step_of take_of publish_of get_of tick_of crash_of
 step_found (take worker target) is = let aim = aim_found worker target is.0 is.1 in rw aim refl
-step_found (publish worker) is = let number = number_found 16 worker (omega arith) is in rw number refl
+step_found (publish worker) is = let number = number_found workers worker (omega arith) is in rw number refl
 step_found (get worker target) is = let aim = aim_found worker target is.0 is.1 in rw aim refl
 step_found (tick time) is = let number = number_found (2 ^ 62) time (omega arith) is in rw number refl
 step_found (crash shelf) is = let number = number_found (2 ^ 32) shelf (omega arith) is in rw number refl
@@ -119,7 +119,7 @@ step_found (crash shelf) is = let number = number_found (2 ^ 32) shelf (omega ar
 digits_lack : (n : ℕ) → n < 2 ^ 64 → lacks 10 (decimal n) ≡ true
 digits_lack n small = lacking is_ascii_digit 10 refl (decimal n) (decimal_digits n small)
 
-aim_lacks : (worker : ℕ) (target : List ℕ) → worker < 16 → is_target target ≡ true → lacks 10 (decimal worker ++ 32 ∷ target) ≡ true
+aim_lacks : (worker : ℕ) (target : List ℕ) → worker < workers → is_target target ≡ true → lacks 10 (decimal worker ++ 32 ∷ target) ≡ true
 aim_lacks worker target small is =
     let digits_have = digits_lack worker (omega arith) in
     let target_has = lacking is_target_byte 10 refl target (and_parts _ (list_all is_target_byte target) is).1 in

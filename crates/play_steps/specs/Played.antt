@@ -67,9 +67,13 @@ abbrev pub Performs : (r : StageRules) → Step → Result (Vec Report Global) H
 Performs r step (Ok reports) s t = Came r s step reports.items t
 Performs r step (Err halt) s t = HaltsBy r step halt s t
 
+-- this alone was told, or there was no memory for it
+abbrev pub TellsOne : Report → Result (Vec Report Global) Halt → Type 0
+TellsOne report result = MatchResult result (λ reports. reports.items ≡ report ∷ []) (λ why. why ≡ halt.Memory)
+
 -- what a crash told: how many instances are live, where there was memory for it, or why the shelf was not opened again
 abbrev pub TellsCrash : (shelf : ℕ) → Result ℕ Reopen → Result (Vec Report Global) Halt → Type 0
-TellsCrash shelf (Ok live) result = MatchResult result (λ reports. reports.items ≡ Reopened shelf live ∷ []) (λ why. why ≡ halt.Memory)
+TellsCrash shelf (Ok live) result = TellsOne (Reopened shelf live) result
 TellsCrash shelf (Err reopen.Memory) result = result ≡ Err halt.Memory
 TellsCrash shelf (Err why) result = result ≡ Err (halt.Reopen shelf why)
 

@@ -11,9 +11,13 @@ pub data Step : Type 0 where
   tick : (time : ℕ) → Step
   crash : (shelf : ℕ) → Step
 
--- 0 to 15, in decimal
+-- how many workers hold tickets
+abbrev pub workers : ℕ
+workers = 16
+
+-- a number below that, in decimal
 abbrev pub worker_of : List ℕ → Option ℕ
-worker_of digits = number_below 16 digits
+worker_of digits = number_below workers digits
 
 -- a byte from `!` to `~`
 abbrev pub is_target_byte : ℕ → Bool
@@ -127,17 +131,17 @@ lines_of (s ∷ steps) = line_of s ++ 10 ∷ lines_of steps
 
 -- the worker, the target, the time and the shelf of a step are in their ranges
 abbrev pub IsStep : Step → Type 0
-IsStep (take worker target) = (worker < 16) × (is_target target ≡ true)
-IsStep (publish worker) = worker < 16
-IsStep (get worker target) = (worker < 16) × (is_target target ≡ true)
+IsStep (take worker target) = (worker < workers) × (is_target target ≡ true)
+IsStep (publish worker) = worker < workers
+IsStep (get worker target) = (worker < workers) × (is_target target ≡ true)
 IsStep (tick time) = time < 2 ^ 62
 IsStep (crash shelf) = shelf < 2 ^ 32
 
 -- the worker, the time and the shelf of a step are in their ranges, whatever its target is
 abbrev pub IsWithin : Step → Type 0
-IsWithin (take worker target) = worker < 16
-IsWithin (publish worker) = worker < 16
-IsWithin (get worker target) = worker < 16
+IsWithin (take worker target) = worker < workers
+IsWithin (publish worker) = worker < workers
+IsWithin (get worker target) = worker < workers
 IsWithin (tick time) = time < 2 ^ 62
 IsWithin (crash shelf) = shelf < 2 ^ 32
 
@@ -153,3 +157,7 @@ is_crash _ = false
 -- whether all that these steps do is known: their disks tell what they hold, or none of them crashes
 abbrev pub is_told : (tells : Bool) → List (Option Step) → Bool
 is_told tells steps = tells || not (list_any is_crash steps)
+
+-- all that this step does is known
+abbrev pub IsTold : (tells : Bool) → Step → Type 0
+IsTold tells step = is_told tells (Some step ∷ []) ≡ true

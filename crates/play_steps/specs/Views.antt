@@ -1,4 +1,6 @@
 -- What the program's values stand for.
+use Rattle.std.specs.Prelude.{ℕ, List}
+use Rattle.std.specs.Borrow.{Bor}
 use Rattle.play_steps.specs.declared.step.Step as code
 use Rattle.play_steps.specs.declared.step.Step.TheVariants as steps
 use Rattle.play_steps.specs.Step.{Step, take, publish, get, tick, crash}
@@ -9,3 +11,7 @@ meaning (steps.Publish worker) = publish worker
 meaning (steps.Get worker target) = get worker target.now
 meaning (steps.Tick time) = tick time
 meaning (steps.Crash shelf) = crash shelf
+
+-- a step that was read, and what follows it
+abbrev pub step_found : code.Step × Bor (List ℕ) → Step × List ℕ
+step_found found = (meaning found.0, found.1.now)

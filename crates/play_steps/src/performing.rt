@@ -1,10 +1,10 @@
 ghost use Rattle.std.specs.Prelude.{◌≡◌, ◌≤◌, ◌<◌, ◌^◌, ◌∷◌, [], ℕ, Some, IsTrue, IsErrOf, OnOk, MatchResult, true};
 ghost use Rattle.web_outside.specs.Causes.{Rose};
-ghost use Rattle.play_steps.specs.Step.{IsWithin, is_told, tick};
+ghost use Rattle.play_steps.specs.Step.{IsTold, IsWithin, tick};
 ghost use Rattle.play_steps.specs.Rules.{KeepsShelves, StaysHome, StaysUp};
 ghost use Rattle.play_steps.specs.Transcript.{fits};
 ghost use Rattle.play_steps.specs.Views.{meaning};
-ghost use Rattle.play_steps.specs.Played.{Lengthens, Performs, SweepsAll, TellsCrash, spot};
+ghost use Rattle.play_steps.specs.Played.{Lengthens, Performs, SweepsAll, TellsCrash, TellsOne, spot};
 ghost use Rattle.play_steps.specs.declared.performing.Halt.TheVariants.{Memory as HaltMemory};
 
 use crate::report::Report;
@@ -54,7 +54,7 @@ pub fn fits<T: Stage>(stage: &T, step: &Step) -> bool
 
 // One report alone.
 fn one(alloc: Global, report: Report) -> Result<Vec<Report>, Halt>
-    ensures { MatchResult result (λ reports. reports.items ≡ report ∷ []) (λ halt. halt ≡ Halt.Memory) }
+    ensures { TellsOne report result }
 {
     let mut reports = Vec::new(alloc);
     reports.push(report)?;
@@ -119,13 +119,13 @@ pub fn perform<T: Stage>(
     requires range { IsWithin (meaning step.now) }
     requires fitting { fits T.rules (meaning step.now) (T.state stage.old) ≡ true }
     requires home { T.at_home stage.old devices.old }
-    ensures came { is_told T.tells (Some (meaning step.now) ∷ []) ≡ true → T.own stage.old →
+    ensures came { IsTold T.tells (meaning step.now) → T.own stage.old →
         Performs T.rules (meaning step.now) result
         (spot T.rules (T.state stage.old) (T.faults stage.old devices.old))
         (spot T.rules (T.state stage.new) (T.faults stage.new devices.new)) }
     ensures shelves { OnOk result (KeepsShelves T.rules (T.state stage.old) (T.state stage.new)) }
     ensures sound { T.sound stage.new }
-    ensures own { is_told T.tells (Some (meaning step.now) ∷ []) ≡ true → T.own stage.old → T.own stage.new }
+    ensures own { IsTold T.tells (meaning step.now) → T.own stage.old → T.own stage.new }
     ensures home { T.at_home stage.new devices.new }
     ensures later { T.faults stage.old devices.old ≤ T.faults stage.new devices.new }
     ensures disk { (shelf : ℕ) → IsErrOf result (Halt.Reopen shelf Reopen.Disk) →

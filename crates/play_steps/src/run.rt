@@ -1,6 +1,6 @@
 ghost use Rattle.std.specs.Prelude.{◌≡◌, ◌≤◌, ◌∷◌, [], ℕ, IsTrue, Some, true, false};
 ghost use Rattle.web_outside.specs.Causes.{Rose};
-ghost use Rattle.play_steps.specs.Step.{IsWithin, is_told, steps_of};
+ghost use Rattle.play_steps.specs.Step.{IsTold, IsWithin, is_told, steps_of};
 ghost use Rattle.play_steps.specs.Played.{end_of, scene, Leaves, Turns};
 ghost use Rattle.play_steps.specs.Views.{meaning};
 
@@ -57,14 +57,16 @@ fn play_step<T: Stage, O: Sink>(
     requires sound { T.sound stage.old }
     requires range { IsWithin (meaning step.now) }
     requires home { T.at_home stage.old devices.old }
-    ensures turned { is_told T.tells (Some (meaning step.now) ∷ []) ≡ true → T.own stage.old →
+    ensures turned { IsTold T.tells (meaning step.now) → T.own stage.old →
         Turns T.rules (meaning step.now) result
-        (scene T.rules (O.view sink.old).written (T.state stage.old) (T.faults stage.old devices.old))
-        (scene T.rules (O.view sink.new).written (T.state stage.new) (T.faults stage.new devices.new)) }
+        (scene T.rules (O.view sink.old).written (T.state stage.old)
+        (T.faults stage.old devices.old))
+        (scene T.rules (O.view sink.new).written (T.state stage.new)
+        (T.faults stage.new devices.new)) }
     ensures write { result ≡ Turn.Write → Rose (O.view sink.old).faults (O.view sink.new).faults }
     ensures later { (O.view sink.old).faults ≤ (O.view sink.new).faults }
     ensures sound { T.sound stage.new }
-    ensures own { is_told T.tells (Some (meaning step.now) ∷ []) ≡ true → T.own stage.old → T.own stage.new }
+    ensures own { IsTold T.tells (meaning step.now) → T.own stage.old → T.own stage.new }
     ensures home { T.at_home stage.new devices.new }
     ensures devices_later { T.faults stage.old devices.old ≤ T.faults stage.new devices.new }
     ensures disk { (shelf : ℕ) → result ≡ Turn.Halted (Halt.Reopen shelf Reopen.Disk) →
@@ -95,9 +97,10 @@ fn play_step<T: Stage, O: Sink>(
 ///
 /// For some fates of their events, the sink grows by the transcript of the steps over the stage's
 /// rules, and the stage is left in its last state; this is said of a stage that holds what its own
-/// events left, and not where disks tell nothing and a step is a crash. A line that is no step, or does not fit, ends the run. A failed write and want
-/// of memory for a text end it at a step that was performed, behind the whole text of all before it.
-/// A shelf that crashed and was not opened again ends it there, behind the same.
+/// events left, and not where disks tell nothing and a step is a crash. A line that is no step, or
+/// does not fit, ends the run. A failed write and want of memory for a text end it at a step that was
+/// performed, behind the whole text of all before it. A shelf that crashed and was not opened again
+/// ends it there, behind the same.
 pub fn play<T: Stage, O: Sink>(
     alloc: Global,
     stage: &mut T,
@@ -109,8 +112,10 @@ pub fn play<T: Stage, O: Sink>(
     requires home { T.at_home stage.old devices.old }
     ensures ended { is_told T.tells (steps_of text.now) ≡ true → T.own stage.old →
         Leaves T.rules (steps_of text.now) result
-        (scene T.rules (O.view sink.old).written (T.state stage.old) (T.faults stage.old devices.old))
-        (scene T.rules (O.view sink.new).written (T.state stage.new) (T.faults stage.new devices.new)) }
+        (scene T.rules (O.view sink.old).written (T.state stage.old)
+        (T.faults stage.old devices.old))
+        (scene T.rules (O.view sink.new).written (T.state stage.new)
+        (T.faults stage.new devices.new)) }
     ensures write { result ≡ PlayEnd.Write
         → Rose (O.view sink.old).faults (O.view sink.new).faults }
     ensures later { (O.view sink.old).faults ≤ (O.view sink.new).faults }

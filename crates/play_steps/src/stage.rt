@@ -1,6 +1,7 @@
 ghost use Rattle.std.specs.Prelude.{◌≡◌, ◌≤◌, ℕ, ◌<◌, ◌^◌, Bool, true, false, IsTrue, IfOk, OnOk, IsErrOf};
 ghost use Rattle.web_outside.specs.Causes.{Rose};
-ghost use Rattle.play_steps.specs.Rules.{StageRules, Takes, Publishes, Sweeps, Crashes, RoseOver, StaysUp, StaysHome};
+ghost use Rattle.play_steps.specs.Rules.{StageRules, Takes, Publishes, Sweeps, Crashes, KeepsShelves, RoseOver, StaysUp, StaysHome};
+ghost use Rattle.play_steps.specs.Step.{workers};
 
 use script_value::Reply;
 
@@ -17,7 +18,7 @@ pub enum Reopen {
     Memory,
 }
 
-/// What performs the events of a run's steps: shelves, and the tickets that sixteen workers hold.
+/// What performs the events of a run's steps: shelves, and the tickets that `WORKERS` workers hold.
 pub trait Stage {
     /// Where shelves that crash find their disks. It is lent for each call that needs it.
     type Devices;
@@ -48,16 +49,16 @@ pub trait Stage {
         requires { sound self.now }
         ensures { result ≡ rules.shelves (state self.now) };
 
-    /// Whether the worker, 0 to 15, holds a ticket.
+    /// Whether the worker, below `WORKERS`, holds a ticket.
     fn holds(&self, worker: u32) -> bool
-        requires { worker < 16 }
+        requires { worker < workers }
         ensures { result ≡ rules.holds (state self.now) worker };
 
     /// Draws a number for a visit of the target, and the worker holds its ticket; or the reply that
     /// says why not.
     fn take(&mut self, worker: u32, target: &[u8]) -> Result<u64, Reply>
         requires sound { sound self.old }
-        requires worker { worker < 16 }
+        requires worker { worker < workers }
         requires free { rules.holds (state self.old) worker ≡ false }
         ensures step { own self.old → Takes rules (RoseOver (faults self.old) (faults self.new))
             (state self.old) worker target.now result (state self.new) }
@@ -71,7 +72,7 @@ pub trait Stage {
     /// Runs the visit that the worker's ticket is for, and spends the ticket.
     fn publish(&mut self, worker: u32) -> Reply
         requires sound { sound self.old }
-        requires worker { worker < 16 }
+        requires worker { worker < workers }
         requires held { rules.holds (state self.old) worker ≡ true }
         ensures step { own self.old → Publishes rules (RoseOver (faults self.old) (faults self.new))
             (state self.old) worker result (state self.new) }
@@ -105,7 +106,7 @@ pub trait Stage {
         ensures step { IsTrue tells → own self.old → IfOk result (λ live. Crashes rules
             (Rose (faults self.old devices.old) (faults self.new devices.new))
             (state self.old) shelf live (state self.new)) }
-        ensures shelves { OnOk result (rules.shelves (state self.new) ≡ rules.shelves (state self.old)) }
+        ensures shelves { OnOk result (KeepsShelves rules (state self.old) (state self.new)) }
         ensures sound { sound self.new }
         ensures own { IsTrue tells → own self.old → own self.new }
         ensures home { at_home self.new devices.new }

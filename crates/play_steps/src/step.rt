@@ -2,9 +2,12 @@ ghost use Rattle.std.specs.Prelude.{◌≡◌, ◌<◌, ◌^◌, Some, None, tru
 ghost use Rattle.std.specs.List.{list_all};
 ghost use Rattle.script_value.specs.Pieces.{number_below};
 ghost use Rattle.play_steps.specs.Step as spec;
-ghost use Rattle.play_steps.specs.Views.{meaning};
+ghost use Rattle.play_steps.specs.Views.{meaning, step_found};
 
 use script_value::pieces::{behind, cut_at, number, small_number};
+
+/// How many workers hold tickets.
+pub const WORKERS: u32 = 16;
 
 /// A step.
 #[derive(Clone, Copy)]
@@ -39,10 +42,10 @@ impl Step<'_> {
 // The number of a worker.
 fn worker_of(digits: &[u8]) -> Option<u32>
     ensures spelled { result ≡ spec.worker_of digits.now }
-    ensures range { IfSome result (λ worker. worker < 16) }
+    ensures range { IfSome result (λ worker. worker < spec.workers) }
 {
     let worker = small_number(digits)?;
-    if worker < 16 { Some(worker) } else { None }
+    if worker < WORKERS { Some(worker) } else { None }
 }
 
 // The number of a shelf.
@@ -86,7 +89,7 @@ fn is_target(target: &[u8]) -> bool
 #[tactic(auto, unfolding(crate::specs::Step::aim_of))]
 fn aim_of(bytes: &[u8]) -> Option<(u32, &[u8])>
     ensures spelled { option_map (λ aim. (aim.0, aim.1.now)) result ≡ spec.aim_of bytes.now }
-    ensures worker { IfSome result (λ aim. aim.0 < 16) }
+    ensures worker { IfSome result (λ aim. aim.0 < spec.workers) }
     ensures target { IfSome result (λ aim. spec.is_target aim.1.now ≡ true) }
 {
     let (digits, target) = cut_at(b' ', bytes)?;
@@ -164,11 +167,11 @@ fn parse(line: &[u8]) -> Option<Step>
 }
 
 /// The step at the front of these bytes, and the bytes behind its lines. A step is a line:
-/// `take W TARGET`, `publish W` or `get W TARGET` of a worker from 0 to 15, `tick T` of a time
+/// `take W TARGET`, `publish W` or `get W TARGET` of a worker below `WORKERS`, `tick T` of a time
 /// below 2^62, in seconds, or `crash S` of a shelf.
 #[tactic(auto, unfolding(crate::specs::Step::first_step), using(crate::proofs::Within::step_within))]
 pub fn read_step(bytes: &[u8]) -> Option<(Step<'_>, &[u8])>
-    ensures spelled { option_map (λ found. (meaning found.0, found.1.now)) result ≡ spec.first_step bytes.now }
+    ensures spelled { option_map step_found result ≡ spec.first_step bytes.now }
     ensures range { IfSome result (λ found. spec.IsStep (meaning found.0)) }
     ensures within { IfSome result (λ found. spec.IsWithin (meaning found.0)) }
 {
