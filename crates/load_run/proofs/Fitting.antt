@@ -1,6 +1,6 @@
 -- The step that is drawn fits, and is in its ranges.
 use Rattle.std.proofs.Common.{◌≡◌, ℕ, ◌+◌, ◌<◌, ◌≤◌, ◌==◌, ◌%◌, ◌^◌, not, Bool, true, false, List, cond, refl, arith, nat_lt, sym, ◌∙◌, ap}
-use Rattle.std.proofs.lemmas.Bool.Decides.{nat_tests}
+use Rattle.std.proofs.lemmas.Bool.{lt-ltb}
 use Rattle.play_steps.specs.Rules.{StageRules}
 use Rattle.play_steps.specs.Step.{IsWithin}
 use Rattle.play_steps.specs.Transcript.{fits}
@@ -18,9 +18,6 @@ one_of P false x y p q = q refl
 record Suits (r : StageRules) (s : r.State) (step : LoadStep) : Type 0 where
   within : IsWithin (played step)
   fitting : fits r (played step) s ≡ true
-
-is_below : (a b : ℕ) → a < b → nat_lt a b ≡ true
-is_below a b h = grind (arith, nat_tests)
 
 module _ (r : StageRules) (s : r.State) (source : Source) (some : 0 < r.shelves s) (few : r.shelves s ≤ 2 ^ 32) (early : source.clock + 59 < 2 ^ 62) where
   abbrev n : ℕ
@@ -42,7 +39,7 @@ module _ (r : StageRules) (s : r.State) (source : Source) (some : 0 < r.shelves 
       let ticked = cond (nat_lt (lot_of n) 21) (Tick (source.clock + choice_of n % 60)) spent in
       let small : w < 16 = omega arith in
       one_of (Suits r s) (lot_of n == 0) (Crash (choice_of n % r.shelves s)) ticked
-      (λ zero_lot. record { within = omega arith; fitting = is_below (choice_of n % r.shelves s) (r.shelves s) (omega arith) })
+      (λ zero_lot. record { within = omega arith; fitting = lt-ltb (choice_of n % r.shelves s) (r.shelves s) (omega arith) })
       (λ more. one_of (Suits r s) (nat_lt (lot_of n) 21) (Tick (source.clock + choice_of n % 60)) spent
       (λ low. record { within = omega arith; fitting = refl })
       (λ high. one_of (Suits r s) (r.holds s w) (Publish w) made

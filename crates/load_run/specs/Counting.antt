@@ -19,6 +19,10 @@ tally_of count told = record {
 abbrev pub measure_of : (count : ℕ) → List Report → Measure
 measure_of count told = record { tally = tally_of count told; hash = fnv1a (print told) }
 
+-- the line that is printed of a measure
+abbrev pub line_of : Measure → List ℕ
+line_of measure = summary_text measure.tally measure.hash
+
 -- the line that a run of so many steps prints, of which this was told
 abbrev pub line_for : (count : ℕ) → List Report → List ℕ
-line_for count told = summary_text (tally_of count told) (fnv1a (print told))
+line_for count told = line_of (measure_of count told)

@@ -1,5 +1,5 @@
 -- The steps of a measured run over a stage.
-use Rattle.std.specs.Prelude.{ℕ, zero, suc, List, [], ◌∷◌, map, Option, Some, Bool}
+use Rattle.std.specs.Prelude.{◌≡◌, ℕ, zero, suc, List, [], ◌∷◌, map, Option, Some, Bool}
 use Rattle.play_steps.specs.Rules.{StageRules}
 use Rattle.play_steps.specs.Step.{Step}
 use Rattle.play_steps.specs.Transcript.{Run, performed, transcript}
@@ -23,6 +23,10 @@ step_over r source s = played (drawn_over r source s).0
 abbrev pub learned_from : List Report → Source → Source
 learned_from [] source = source
 learned_from (x ∷ told) source = learned_from told (learned x source)
+
+-- this was learned of reports
+abbrev pub HasLearned : List Report → (old new : Source) → Type 0
+HasLearned told old new = new ≡ learned_from told old
 
 -- what the step behind the next goes by, where the next tells this
 abbrev pub source_past : (r : StageRules) → Source → r.State → List Report → Source

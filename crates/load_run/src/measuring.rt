@@ -5,8 +5,9 @@ ghost use Rattle.play_steps.specs.Played.{spot};
 ghost use Rattle.play_steps.specs.Rules.{KeepsShelves};
 ghost use Rattle.play_steps.specs.Texts.{print};
 ghost use Rattle.load_steps.specs.Generator.{source_of};
-ghost use Rattle.load_steps.specs.Tallies.{grown, summary_text};
-ghost use Rattle.load_run.specs.Drawing.{learned_from};
+ghost use Rattle.load_steps.specs.Tallies.{grown};
+ghost use Rattle.load_run.specs.Counting.{line_of};
+ghost use Rattle.load_run.specs.Drawing.{HasLearned};
 ghost use Rattle.load_run.specs.Course.{GoesOn, Measures, halt_in, shelves_of};
 
 use fnv_hash::Fnv1a;
@@ -29,7 +30,7 @@ impl Measure {
     /// The line that is printed of it: `steps K pages P refused Q hash H` and a newline, `H` in 16
     /// hexadecimal digits.
     pub fn line(&self, alloc: Global) -> Result<String, AllocError>
-        ensures { IfOk result (λ text. string_bytes text ≡ summary_text self.now.tally self.now.hash) }
+        ensures { IfOk result (λ text. string_bytes text ≡ line_of self.now) }
     {
         self.tally.summary(alloc, self.hash)
     }
@@ -60,7 +61,7 @@ fn holders<T: Stage>(stage: &T) -> [bool; 4]
 
 // Learns of reports, one after the other.
 fn learn_all(alloc: Global, told: &[Report], generator: &mut Generator) -> Result<(), AllocError>
-    ensures learned { OnOk result (generator.new ≡ learned_from told.now generator.old) }
+    ensures learned { OnOk result (HasLearned told.now generator.old generator.new) }
     ensures clock { generator.new.clock ≡ generator.old.clock }
 {
     for report in told {
@@ -89,7 +90,8 @@ fn go_on<T: Stage>(
     requires home { T.at_home stage.old devices.old }
     requires some { 0 < shelves_of T.rules (T.state stage.old) }
     requires clock { course.old.generator.clock + 59 < 2 ^ 62 }
-    ensures went { IsTrue T.tells → T.own stage.old → GoesOn T.rules (halt_in result) course.old course.new
+    ensures went { IsTrue T.tells → T.own stage.old →
+        GoesOn T.rules (halt_in result) course.old course.new
         (spot T.rules (T.state stage.old) (T.faults stage.old devices.old))
         (spot T.rules (T.state stage.new) (T.faults stage.new devices.new)) }
     ensures shelves { OnOk result (KeepsShelves T.rules (T.state stage.old) (T.state stage.new)) }
@@ -124,7 +126,7 @@ fn go_on<T: Stage>(
 
 // Prints into the hash what was told, and learns of it.
 fn note(alloc: Global, told: &[Report], course: &mut Course) -> Result<(), AllocError>
-    ensures learned { OnOk result (course.new.generator ≡ learned_from told.now course.old.generator) }
+    ensures learned { OnOk result (HasLearned told.now course.old.generator course.new.generator) }
     ensures hashed { OnOk result (course.new.hash ≡ goes_on course.old.hash (print told.now)) }
     ensures tally { course.new.tally ≡ course.old.tally }
     ensures clock { course.new.generator.clock ≡ course.old.generator.clock }
@@ -155,7 +157,8 @@ pub fn load<T: Stage>(
     requires sound { T.sound stage.old }
     requires home { T.at_home stage.old devices.old }
     requires some { 0 < shelves_of T.rules (T.state stage.old) }
-    ensures measured { IsTrue T.tells → T.own stage.old → Measures T.rules steps (source_of number) result
+    ensures measured { IsTrue T.tells → T.own stage.old →
+        Measures T.rules steps (source_of number) result
         (spot T.rules (T.state stage.old) (T.faults stage.old devices.old))
         (spot T.rules (T.state stage.new) (T.faults stage.new devices.new)) }
     ensures sound { T.sound stage.new }

@@ -100,6 +100,10 @@ next_step shelves holds source = (
 abbrev pub held_in : List Bool → ℕ → Bool
 held_in holds worker = slice_index_or holds worker false
 
+-- the step on which a number decides, over so many shelves and where these of the workers hold a ticket
+abbrev pub step_for : (shelves : ℕ) → (holds : List Bool) → Source → (r : ℕ) → LoadStep
+step_for shelves holds source r = step_of shelves (held_in holds) source r
+
 -- a step was drawn so, over these shelves and where these of the workers hold a ticket
 abbrev pub Draws : (shelves : ℕ) → (holds : List Bool) → (old : Source) → LoadStep → (new : Source) → Type 0
 Draws shelves holds old step new = (step, new) ≡ next_step shelves (held_in holds) old

@@ -12,7 +12,7 @@ use std::marker::Model;
 const MOST_TARGETS: usize = 256;
 
 /// What draws the steps of a measured run: a number, the clock in seconds, and the URLs of the last
-/// pages, at most 256.
+/// pages, at most `MOST_TARGETS`.
 #[derive(Drop)]
 pub struct Generator {
     number: u64,
@@ -81,7 +81,7 @@ impl Generator {
     ) -> Result<LoadStep, AllocError>
         requires shelves { 0 < shelves }
         requires clock { self.now.clock + 59 < 2 ^ 62 }
-        ensures { IfOk result (λ step. step ≡ spec.step_of shelves (spec.held_in holds) self.now number) }
+        ensures { IfOk result (λ step. step ≡ spec.step_for shelves holds self.now number) }
     {
         if lot(number) == 0 {
             return Ok(LoadStep::Crash {
