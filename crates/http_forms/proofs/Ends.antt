@@ -23,7 +23,7 @@ goes_on phases.Line b more = grind (arith, nat_tests)
 goes_on phases.LineFeed b more = grind (arith, nat_tests)
 goes_on phases.LineReturn b more = grind (arith, nat_tests)
 
-none_ends : (phase : Phase) → end_from phase [] ≡ None
+pub none_ends : (phase : Phase) → end_from phase [] ≡ None
 none_ends phases.Blank = refl
 none_ends phases.BlankReturn = refl
 none_ends phases.Line = refl

@@ -4,20 +4,13 @@ use Rattle.std.proofs.lemmas.List.{take-append-drop, take_all, length-take-le, t
 use Rattle.http_forms.specs.Head.{head_end}
 use Rattle.http_forms.specs.Scan.{end_from, end_behind, HasPassed}
 use Rattle.http_forms.specs.declared.head.Phase.{Phase}
-use Rattle.http_forms.specs.declared.head.Phase.TheVariants as phases
-
-nothing_behind : (phase : Phase) → end_from phase [] ≡ None
-nothing_behind phases.Blank = refl
-nothing_behind phases.BlankReturn = refl
-nothing_behind phases.Line = refl
-nothing_behind phases.LineFeed = refl
-nothing_behind phases.LineReturn = refl
+use Rattle.http_forms.proofs.Ends.{none_ends}
 
 -- all was passed over
 pub no_end : (phase : Phase) (bytes : List ℕ) (p : ℕ) → length bytes ≤ p → HasPassed phase (take p bytes) → head_end bytes ≡ None
 no_end phase bytes p h passed =
     ap head_end (sym (append-nil bytes ∙ refl)) ∙ (ap (λ xs. head_end (xs ++ [])) (sym (take_all p bytes h))
-    ∙ (passed [] ∙ ap (option_map (λ n. length (take p bytes) + n)) (nothing_behind phase)))
+    ∙ (passed [] ∙ ap (option_map (λ n. length (take p bytes) + n)) (none_ends phase)))
 
 -- the byte of this place among those that are left
 byte_at : (bytes : List ℕ) (from i : ℕ) → get_or (take (length bytes - from) (drop from bytes)) i 0 ≡ get_or bytes (from + i) 0
