@@ -1,8 +1,12 @@
 -- The program's command line, as clap's words tell it.
-use Rattle.std.specs.Prelude.{◌∷◌, ℕ, true, false, List, [], codes, map, Option, Some, None, fold}
+use Rattle.std.specs.Prelude.{◌≡◌, ◌∷◌, ℕ, true, false, List, [], codes, map, Option, Some, None, fold}
 use Rattle.std.specs.Borrow.{Bor}
-use Rattle.clap.specs.Simple.{App, Shape, new_shape, new_rule, with_rule}
-use Rattle.clap.specs.Walk.{Rule}
+use Rattle.clap.specs.Simple.{App, Shape, new_shape, new_rule, with_rule, subcommand_of}
+use Rattle.clap.specs.Faults.{fault_of}
+use Rattle.clap.specs.Walk.{Rule, Row}
+use Rattle.clap.specs.declared.error.kind.ErrorKind.{ErrorKind}
+use Rattle.clap.specs.declared.builder.command.Command.{Command}
+use Rattle.clap.specs.declared.builder.command.Command.TheViews.{out-Command as fields_of}
 use Rattle.clap.specs.declared.builder.action.ArgAction.TheVariants.{Set, SetTrue}
 use Rattle.clap.specs.declared.builder.value_parser.ValueParser.{ValueParser}
 use Rattle.clap.specs.declared.builder.value_parser.ValueParser.TheVariants as vp
@@ -39,9 +43,17 @@ rule_by flag name default = flag_rule name
 abbrev pub rule_for : Item → Rule
 rule_for i = rule_by i.kind i.name i.default
 
+-- a command's options are its own, and no other command has them
+abbrev pub IsLocal : Command → Type 0
+IsLocal c = (fields_of c).has_globals ≡ false
+
 -- a command with more arguments
 abbrev pub with_rules : App → List Rule → App
 with_rules a rules = fold with_rule a rules
+
+-- a command with the options of a table
+abbrev pub with_items : App → List Item → App
+with_items a items = with_rules a (map rule_for items)
 
 abbrev pub shape_for : Text → List Rule → Shape
 shape_for name rules = record (new_shape name) { rules = rules }
@@ -69,3 +81,11 @@ app = record {
   top = record bare_top { is_leaf = false };
   subs = check_shape ∷ play_shape ∷ serve_shape ∷ load_shape ∷ [];
 }
+
+-- what clap finds wrong with the words
+abbrev pub faults_in : List (Bor (List ℕ)) → List ErrorKind
+faults_in words = fault_of app (texts words)
+
+-- the command's name that clap finds in them, and the rows of its options
+abbrev pub rows_of_words : List (Bor (List ℕ)) → Option (Text × List Row)
+rows_of_words words = subcommand_of app (texts words)

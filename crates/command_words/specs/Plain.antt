@@ -1,5 +1,5 @@
 -- Plain words, and what they ask for.
-use Rattle.std.specs.Prelude.{⊤, ◌≡◌, ◌<◌, ◌≤◌, ◌∷◌, List, [], codes, length}
+use Rattle.std.specs.Prelude.{⊤, ◌≡◌, ◌≢◌, ◌<◌, ◌≤◌, ◌∷◌, List, [], codes, length, Result, Err, IfOk}
 use Rattle.std.specs.Str.Parse.{digits_value}
 use Rattle.server_limits.specs.Limits.{AreConnections, AreInstances, ArePages, AreShelves, IsFuel, IsLife, IsWithin}
 use Rattle.command_words.specs.Options.{ArePlain, IsPlainNumber, Setting, Text, most_run, number_of, play_items, serve_items, spelled, text_of, most_workers}
@@ -9,6 +9,8 @@ use Rattle.command_words.specs.declared.Command.TheVariants.{Check, Play, Serve,
 use Rattle.command_words.specs.declared.Options.{Options}
 use Rattle.command_words.specs.declared.Service.{Service}
 use Rattle.command_words.specs.declared.LoadOptions.{LoadOptions}
+use Rattle.command_words.specs.declared.WordsFault.{WordsFault}
+use Rattle.command_words.specs.declared.WordsFault.TheVariants.{Usage}
 
 -- what settings ask for
 abbrev pub chosen : List Setting → Options
@@ -48,6 +50,14 @@ ArePlainFor words (Load l) =
 abbrev pub IsPlain : List Text → Command → Type 0
 IsPlain words asked =
     (name : Text) × (after : List Text) × (words ≡ name ∷ after) × ArePlainFor after asked
+
+-- plain words are a command, for which there may be no memory
+abbrev pub AcceptsPlain : List Text → Result Command WordsFault → Type 0
+AcceptsPlain words result = (asked : Command) → IsPlain words asked → result ≢ Err Usage
+
+-- a command that was read of plain words is the one that they ask for
+abbrev pub ReadsPlain : List Text → Result Command WordsFault → Type 0
+ReadsPlain words result = (asked : Command) → IsPlain words asked → IfOk result (λ k. k ≡ asked)
 
 -- ---- the ranges
 

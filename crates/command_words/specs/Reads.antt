@@ -92,6 +92,10 @@ abbrev pub HoldsAsked : Option (Text × List Row) → Type 0
 HoldsAsked None = ⊥
 HoldsAsked (Some p) = HoldsFor p.0 p.1
 
+-- they lack some value
+abbrev pub LacksAsked : Option (Text × List Row) → Type 0
+LacksAsked rows = HoldsAsked rows → ⊥
+
 -- no option of this name has a number below this bound
 abbrev pub HoldsNoNumber : ℕ → List Row → Text → Type 0
 HoldsNoNumber bound rows id = (low high : ℕ) → high < bound → HoldsNumber low high rows id → ⊥

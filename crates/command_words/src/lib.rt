@@ -3,14 +3,12 @@
 
 ghost use Rattle.std.specs.Prelude.{◌≡◌, ◌≢◌, ◌++◌, ◌∷◌, ◌<◌, ◌≤◌, ◌^◌, ℕ, List, [], Some, Err, true, false, codes, map, IfOk, IfErr, is_err};
 ghost use Rattle.std.specs.String.{string_bytes};
-ghost use Rattle.clap.specs.Simple.{app_of, subcommand_of, subcommand_rows_of};
-ghost use Rattle.clap.specs.Faults.{fault_of};
+ghost use Rattle.clap.specs.Simple.{app_of, subcommand_rows_of};
 ghost use Rattle.clap.specs.Walk.{rule_of};
-ghost use Rattle.clap.specs.declared.builder.command.Command.TheViews.{out-Command as fields_of};
-ghost use Rattle.command_words.specs.App.{app, bare_top, load_shape, play_shape, rule_for, serve_shape, texts, value_rule, with_rules};
+ghost use Rattle.command_words.specs.App.{IsLocal, app, bare_top, faults_in, load_shape, play_shape, rows_of_words, rule_for, serve_shape, texts, value_rule, with_items};
 ghost use Rattle.command_words.specs.Options.{connections, fuel, instances, journal, life, load_items, most_run, pages, play_items, port, run_number, serve_items, shelves, workers};
-ghost use Rattle.command_words.specs.Plain.{IsInRange, IsPlain};
-ghost use Rattle.command_words.specs.Reads.{AsksFor, Holds, HoldsAsked, HoldsNoNumber, HoldsText, asked_from, options_at, load_at, number_at, rows_in, service_at, text_at};
+ghost use Rattle.command_words.specs.Plain.{AcceptsPlain, IsInRange, ReadsPlain};
+ghost use Rattle.command_words.specs.Reads.{AsksFor, Holds, HoldsNoNumber, LacksAsked, HoldsText, asked_from, options_at, load_at, number_at, rows_in, service_at, text_at};
 ghost use Rattle.command_words.specs.declared.Command.{Command};
 
 use clap::builder::ValueParser;
@@ -236,8 +234,8 @@ fn with_options<'a>(
     alloc: Global,
     command: clap::Command<'a>,
 ) -> Result<clap::Command<'a>, AllocError>
-    ensures app { IfOk result (λ c. app_of c ≡ with_rules (app_of command.entry) (map rule_for play_items)) }
-    ensures local { (fields_of command.entry).has_globals ≡ false → IfOk result (λ c. (fields_of c).has_globals ≡ false) }
+    ensures app { IfOk result (λ c. app_of c ≡ with_items (app_of command.entry) play_items) }
+    ensures local { IsLocal command.entry → IfOk result (λ c. IsLocal c) }
 {
     command
         .arg(fuel_arg(alloc))?
@@ -250,14 +248,14 @@ fn with_options<'a>(
 
 fn play_command<'a>(alloc: Global) -> Result<clap::Command<'a>, AllocError>
     ensures app { IfOk result (λ c. (app_of c).top ≡ play_shape) }
-    ensures local { IfOk result (λ c. (fields_of c).has_globals ≡ false) }
+    ensures local { IfOk result (λ c. IsLocal c) }
 {
     with_options(alloc, clap::Command::new(alloc, "play"))
 }
 
 fn serve_command<'a>(alloc: Global) -> Result<clap::Command<'a>, AllocError>
     ensures app { IfOk result (λ c. (app_of c).top ≡ serve_shape) }
-    ensures local { IfOk result (λ c. (fields_of c).has_globals ≡ false) }
+    ensures local { IfOk result (λ c. IsLocal c) }
 {
     with_options(alloc, clap::Command::new(alloc, "serve"))?
         .arg(port_arg(alloc))?
@@ -267,7 +265,7 @@ fn serve_command<'a>(alloc: Global) -> Result<clap::Command<'a>, AllocError>
 
 fn load_command<'a>(alloc: Global) -> Result<clap::Command<'a>, AllocError>
     ensures app { IfOk result (λ c. (app_of c).top ≡ load_shape) }
-    ensures local { IfOk result (λ c. (fields_of c).has_globals ≡ false) }
+    ensures local { IfOk result (λ c. IsLocal c) }
 {
     let command = clap::Command::new(alloc, "load").arg(run_number_arg(alloc))?;
     with_options(alloc, command)
@@ -293,9 +291,9 @@ fn command_line<'a>(alloc: Global) -> Result<clap::Command<'a>, AllocError>
 
 /// What `clap` finds in the words.
 fn matches_of<'a>(alloc: Global, words: &'a [&'a str]) -> Result<ArgMatches<'a>, WordsFault>
-    ensures fine { IfOk result (λ m. fault_of app (texts words.entry.now) ≡ []) }
-    ensures found { IfOk result (λ m. subcommand_rows_of m ≡ subcommand_of app (texts words.entry.now)) }
-    ensures usage { result ≡ Err WordsFault.Usage → fault_of app (texts words.entry.now) ≢ [] }
+    ensures fine { IfOk result (λ m. faults_in words.entry.now ≡ []) }
+    ensures found { IfOk result (λ m. subcommand_rows_of m ≡ rows_of_words words.entry.now) }
+    ensures usage { result ≡ Err WordsFault.Usage → faults_in words.entry.now ≢ [] }
 {
     let Ok(command) = command_line(alloc) else {
         return Err(WordsFault::Memory);
@@ -378,7 +376,7 @@ fn load_of(alloc: Global, matches: &ArgMatches<'_>) -> Result<LoadOptions, Words
 
 fn command_of(alloc: Global, matches: &ArgMatches<'_>) -> Result<Command, WordsFault>
     ensures value { IfOk result (λ k. AsksFor (subcommand_rows_of matches.now) k) }
-    ensures refused { result ≡ Err WordsFault.Usage → HoldsAsked (subcommand_rows_of matches.now) → ⊥ }
+    ensures refused { result ≡ Err WordsFault.Usage → LacksAsked (subcommand_rows_of matches.now) }
 {
     let Some((name, inner)) = matches.subcommand() else {
         return Err(WordsFault::Usage);
@@ -394,12 +392,12 @@ fn command_of(alloc: Global, matches: &ArgMatches<'_>) -> Result<Command, WordsF
 
 /// The command that the words ask for, of which the first is the program's name.
 pub fn read_words<'a>(alloc: Global, words: &'a [&'a str]) -> Result<Command, WordsFault>
-    ensures usage { result ≡ Err WordsFault.Usage → fault_of app (texts words.entry.now) ≢ [] }
-    ensures fine { IfOk result (λ k. fault_of app (texts words.entry.now) ≡ []) }
-    ensures found { IfOk result (λ k. asked_from (subcommand_of app (texts words.entry.now)) ≡ Some k) }
+    ensures usage { result ≡ Err WordsFault.Usage → faults_in words.entry.now ≢ [] }
+    ensures fine { IfOk result (λ k. faults_in words.entry.now ≡ []) }
+    ensures found { IfOk result (λ k. asked_from (rows_of_words words.entry.now) ≡ Some k) }
     ensures in_range { IfOk result (λ k. IsInRange k) }
-    ensures complete { (asked : Command) → IsPlain (texts words.entry.now) asked → result ≢ Err WordsFault.Usage }
-    ensures plain { (asked : Command) → IsPlain (texts words.entry.now) asked → IfOk result (λ k. k ≡ asked) }
+    ensures complete { AcceptsPlain (texts words.entry.now) result }
+    ensures plain { ReadsPlain (texts words.entry.now) result }
 {
     let matches = matches_of(alloc, words)?;
     command_of(alloc, &matches)
