@@ -5,3 +5,4 @@ pub mod Standing
 pub mod Faults
 pub mod Views
 pub mod Vectors
+pub mod Answers

@@ -1,11 +1,12 @@
 -- How large a setup may be.
 use Rattle.std.specs.Prelude.{ℕ, ◌≤◌, List, [], ◌∷◌, length}
+use Rattle.web_outside.specs.Limits.{most_of_input}
 use Rattle.script_nodes.specs.Setup.{Named}
 use Rattle.sexp_reader.specs.Limits.{most_bytes}
 
--- how many bytes the section of a script may have
+-- how many bytes the section of a script may have: as many as a whole input
 abbrev pub most_script_bytes : ℕ
-most_script_bytes = 16777216
+most_script_bytes = most_of_input
 
 -- how many scripts a setup may have
 abbrev pub most_scripts : ℕ

@@ -61,6 +61,10 @@ pub record HasFault (ending : Ending) (input : List ℕ) (fault : Fault) : Type 
   pub spelled : input ≡ setup_text scripts rest
   pub stands : Stands ending scripts (length (setup_text scripts [])) rest fault
 
+-- a text that is not too long, and UTF-8
+abbrev pub IsReadable : List ℕ → Type 0
+IsReadable text = (length text ≤ most_bytes) × IsUtf8 text
+
 -- these bytes begin with the section of a script whose text is not too long, and UTF-8
 pub record HasText (bytes : List ℕ) : Type 0 where
   pub name : List ℕ

@@ -43,6 +43,10 @@ Gives view (Err e) wanted = Fails e wanted
 abbrev pub Finds : Result (NamedScript × Bor (List ℕ)) SetupFault → Result (Named × List ℕ) spec.Fault → Type 0
 Finds result wanted = Gives (λ found. (named_of found.0, found.1.now)) result wanted
 
+-- the script of the section that these bytes begin with was found, behind these scripts and at this place
+abbrev pub FindsNext : ℕ → List Named → List ℕ → Result (NamedScript × Bor (List ℕ)) SetupFault → Type 0
+FindsNext place scripts bytes result = Finds result (spec.script_at place scripts (spec.section_in bytes))
+
 -- a fault that is told has this property; want of memory is free
 abbrev pub Tells : {X : Type 0} → (spec.Fault → Type 0) → Result X SetupFault → Type 0
 Tells P (Ok x) = ⊤

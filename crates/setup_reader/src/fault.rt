@@ -18,8 +18,8 @@ pub enum SetupKind {
     /// A section has the name of an earlier one.
     #[error("a section has the name of an earlier one")]
     Repeat,
-    /// There are more than 15 sections.
-    #[error("there are more than 15 sections")]
+    /// There are more than `MOST_SCRIPTS` sections.
+    #[error("there are too many sections")]
     Many,
     /// The setup ends before any section.
     #[error("the setup ends before any section")]

@@ -5,9 +5,10 @@ ghost use Rattle.script_nodes.specs.Views.{scripts_of, named_of};
 ghost use Rattle.sexp_reader.specs.Limits.{most_bytes};
 ghost use Rattle.setup_reader.specs.Limits.{AreShort, most_script_bytes, most_scripts};
 ghost use Rattle.setup_reader.specs.Setup as spec;
-ghost use Rattle.setup_reader.specs.Views.{Gives, Finds, Tells, parsed_of};
+ghost use Rattle.setup_reader.specs.Answers.{FindsSpelled, TellsFirst};
+ghost use Rattle.setup_reader.specs.Views.{Gives, FindsNext, Tells, parsed_of};
 ghost use Rattle.setup_reader.specs.Sections.{IsSetup};
-ghost use Rattle.setup_reader.specs.Standing.{HasFault, HasText};
+ghost use Rattle.setup_reader.specs.Standing.{HasFault, HasText, IsReadable};
 
 use crate::fault::{SetupError, SetupFault, SetupKind};
 use core_syntax::{ExpandFault, expand};
@@ -17,12 +18,10 @@ use script_value::Bytes;
 use script_value::pieces::{behind, cut_at, number};
 use sexp_reader::{ReadFault, read_all};
 use std::alloc::{AllocError, Global};
-
-/// The most bytes that a script has.
-const SCRIPT_LIMIT: u64 = 16_777_216;
+use web_outside::INPUT_LIMIT;
 
 /// The most scripts that a setup has.
-const MOST_SCRIPTS: usize = 15;
+pub const MOST_SCRIPTS: usize = 15;
 
 /// What ends a setup.
 #[derive(Clone, Copy, Debug, PartialEq, Eq)]
@@ -60,12 +59,12 @@ impl<'a> Parsed<'a> {
     }
 }
 
-// The length of a script.
+// The length of a script, which is no longer than a whole input.
 fn length_of(digits: &[u8]) -> Option<usize>
     ensures { result ≡ number_below (most_script_bytes + 1) digits.now }
 {
     let length = number(digits)?;
-    if length <= SCRIPT_LIMIT {
+    if length <= INPUT_LIMIT as u64 {
         Some(length as usize)
     } else {
         None
@@ -103,7 +102,7 @@ impl<'a> Section<'a> {
 // The script of this name that a text is.
 fn compile(alloc: Global, name: ScriptName, text: &[u8]) -> Result<NamedScript, SetupFault>
     ensures value { Gives named_of result (spec.script_in (name_of name) text.now) }
-    ensures memory { result ≡ Err SetupFault.Memory → (length text.now ≤ most_bytes) × IsUtf8 text.now }
+    ensures memory { result ≡ Err SetupFault.Memory → IsReadable text.now }
 {
     let data = match read_all(alloc, text) {
         Ok(data) => data,
@@ -129,7 +128,7 @@ fn script_at<'a>(
     setup: &Setup,
     rest: &'a [u8],
 ) -> Result<(NamedScript, &'a [u8]), SetupFault>
-    ensures found { Finds result (spec.script_at place (scripts_of setup.now) (spec.section_in rest.now)) }
+    ensures found { FindsNext place (scripts_of setup.now) rest.now result }
     ensures shorter { IfOk result (λ x. length x.1.now < length rest.now) }
     ensures few { IfOk result (λ x. length (scripts_of setup.now) < most_scripts) }
     ensures memory { result ≡ Err SetupFault.Memory → HasText rest.now }
@@ -209,7 +208,7 @@ impl<'a> Parsed<'a> {
         at_end(ending, input.len() as u64, setup, rest)
     }
 
-    /// The setup that the input spells or begins with, 1 to 15 sections of scripts and what ends it; or its first fault.
+    /// The setup that the input spells or begins with, 1 to `MOST_SCRIPTS` sections of scripts and what ends it; or its first fault.
     #[tactic(auto, using(crate::proofs::Sections::answer_spells, crate::proofs::Sections::answer_found, crate::proofs::Short::answer_few, crate::proofs::Short::answer_short, crate::proofs::Standing::answer_stands, crate::proofs::Standing::answer_told))]
     pub fn parse(alloc: Global, ending: Ending, input: &'a [u8]) -> Result<Parsed<'a>, SetupFault>
         // The answer is that of reading, unless memory ran out.
@@ -217,11 +216,11 @@ impl<'a> Parsed<'a> {
         // What is read is spelled so.
         ensures spelled { IfOk result (λ p. IsSetup ending input.now (parsed_of p)) }
         // What is spelled so is read, unless memory ran out.
-        ensures found { (wanted : spec.Parsed) → IsSetup ending input.now wanted → Gives parsed_of result (Ok wanted) }
+        ensures found { FindsSpelled ending input.now result }
         // The fault that is told stands there.
         ensures fault { Tells (HasFault ending input.now) result }
         // The first fault is told, unless memory ran out.
-        ensures told { (wanted : spec.Fault) → HasFault ending input.now wanted → Gives parsed_of result (Err wanted) }
+        ensures told { TellsFirst ending input.now result }
         // What is wrong before the first text is read is told whatever memory there is.
         ensures memory { result ≡ Err SetupFault.Memory → HasText input.now }
         // The scripts are few, and their names and texts are not too long.
