@@ -5,6 +5,7 @@ use Rattle.clap.specs.Faults.{fault_of as faults_in}
 use Rattle.clap.specs.Simple.{subcommand_of}
 use Rattle.clap.specs.declared.error.kind.ErrorKind.{ErrorKind}
 use Rattle.web_outside.specs.Causes.{Rose}
+use Rattle.web_outside.specs.Limits.{most_of_input}
 use Rattle.web_outside.specs.Pieces.{AppendsUnlessFault, ConsumesSome, ReadsPast, ReadsUpTo}
 use Rattle.web_outside.specs.declared.source.InputFault.{InputFault}
 use Rattle.web_outside.specs.declared.source.InputFault.TheVariants as faults
@@ -25,16 +26,16 @@ use Rattle.server_command.specs.Command.{Met, Prints, Untouched, ReadToEnd, HasD
 use Rattle.server_command.specs.Serving.{Serves, RackFailed, LeavesInput}
 use Rattle.server_command.proofs.Endings.{whole_input, always, tells, no_chances}
 
-read_to_end : (met : Met) (bytes : List ℕ) → Consumes met.input met.unread bytes → IsAtEnd met.unread → length bytes ≤ 16777216 → ReadToEnd met
-read_to_end met bytes read end short = record { end = end; short = whole_input met.input met.unread bytes (λ b. length b ≤ 16777216) read end short }
+read_to_end : (met : Met) (bytes : List ℕ) → Consumes met.input met.unread bytes → IsAtEnd met.unread → length bytes ≤ most_of_input → ReadToEnd met
+read_to_end met bytes read end short = record { end = end; short = whole_input met.input met.unread bytes (λ b. length b ≤ most_of_input) read end short }
 
 -- what was done with the whole input explains the status
-has_done : (asked : Command) (s : Status) (met : Met) (bytes : List ℕ) (chances : Chances) → Consumes met.input met.unread bytes → IsAtEnd met.unread → length bytes ≤ 16777216
+has_done : (asked : Command) (s : Status) (met : Met) (bytes : List ℕ) (chances : Chances) → Consumes met.input met.unread bytes → IsAtEnd met.unread → length bytes ≤ most_of_input
     → Leaves met.rack asked bytes s chances met.output → HasDone asked chances s met
 has_done asked s met bytes chances read end short p =
     (read_to_end met bytes read end short, whole_input met.input met.unread bytes (λ b. Leaves met.rack asked b s chances met.output) read end p)
 
-comes : (asked : Command) (s : Status) (met : Met) (bytes : List ℕ) (chances : Chances) → Consumes met.input met.unread bytes → IsAtEnd met.unread → length bytes ≤ 16777216
+comes : (asked : Command) (s : Status) (met : Met) (bytes : List ℕ) (chances : Chances) → Consumes met.input met.unread bytes → IsAtEnd met.unread → length bytes ≤ most_of_input
     → Leaves met.rack asked bytes s chances met.output → Comes asked chances s met
 comes asked status.Done met bytes chances read end short p = has_done asked status.Done met bytes chances read end short p
 comes asked status.Usage met bytes chances read end short p = absurd p
@@ -50,7 +51,7 @@ comes asked status.Journal met bytes chances read end short p = has_done asked s
 comes asked status.Door met bytes chances read end short p = absurd p
 comes asked status.Key met bytes chances read end short p = absurd p
 
-pub came : (asked : Command) (s : Status) (met : Met) (bytes : List ℕ) → Consumes met.input met.unread bytes → IsAtEnd met.unread → length bytes ≤ 16777216
+pub came : (asked : Command) (s : Status) (met : Met) (bytes : List ℕ) → Consumes met.input met.unread bytes → IsAtEnd met.unread → length bytes ≤ most_of_input
     → Outputs met.rack asked bytes s met.output → Came asked s met
 came asked s met bytes read end short p = (p.0, comes asked s met bytes p.0 read end short p.1)
 
@@ -65,8 +66,8 @@ unread r fault P is h = h (subst (λ x. IsErrOf x fault) (sym is) refl)
 
 pub unread_by : {A : Type 0} (met : Met) (r : Result A InputFault) (fault : InputFault) → r ≡ Err fault
     → AppendsUnlessFault met.output.held met.output.holds (unread_line fault) met.output.before met.output.after
-    → (IsErrOf r faults.Long → ReadsPast met.input met.unread 16777216) → (IsErrOf r faults.Failed → Rose met.input_before met.input_after)
-    → (IsErrOf r faults.Failed → ReadsUpTo met.input met.unread 16777216) → ConsumesSome met.input met.unread → IsUnread fault met
+    → (IsErrOf r faults.Long → ReadsPast met.input met.unread most_of_input) → (IsErrOf r faults.Failed → Rose met.input_before met.input_after)
+    → (IsErrOf r faults.Failed → ReadsUpTo met.input met.unread most_of_input) → ConsumesSome met.input met.unread → IsUnread fault met
 unread_by met r faults.Failed is line long failed short some = (unread r faults.Failed _ is failed, line, unread r faults.Failed _ is short)
 unread_by met r faults.Memory is line long failed short some = (line, some)
 unread_by met r faults.Long is line long failed short some = (unread r faults.Long _ is long, line)
@@ -91,12 +92,12 @@ unread_served serves v s met fault e p none = subst (λ x. CameServing serves v 
 
 -- what was done with the whole input explains the status of a serving
 has_served : (serves : Serves) (v : Service) (s : Status) (met : Met) (bytes : List ℕ) (chances : Chances) → Consumes met.input met.unread bytes → IsAtEnd met.unread
-    → length bytes ≤ 16777216 → LeavesInput serves v bytes chances s met.output met.door met.seeds → HasServed serves v chances s met
+    → length bytes ≤ most_of_input → LeavesInput serves v bytes chances s met.output met.door met.seeds → HasServed serves v chances s met
 has_served serves v s met bytes chances read end short p =
     (read_to_end met bytes read end short, whole_input met.input met.unread bytes (λ b. LeavesInput serves v b chances s met.output met.door met.seeds) read end p)
 
 served_comes : (serves : Serves) (v : Service) (s : Status) (met : Met) (bytes : List ℕ) (chances : Chances) → serves.rack ≡ met.rack → Consumes met.input met.unread bytes
-    → IsAtEnd met.unread → length bytes ≤ 16777216 → LeavesInput serves v bytes chances s met.output met.door met.seeds → ComesServing serves v chances s met
+    → IsAtEnd met.unread → length bytes ≤ most_of_input → LeavesInput serves v bytes chances s met.output met.door met.seeds → ComesServing serves v chances s met
 served_comes serves v status.Done met bytes chances same read end short p = has_served serves v status.Done met bytes chances read end short p
 served_comes serves v status.Usage met bytes chances same read end short p = absurd p
 served_comes serves v status.Setup met bytes chances same read end short p = has_served serves v status.Setup met bytes chances read end short p
@@ -116,7 +117,7 @@ served_comes serves v status.Key met bytes chances same read end short p =
     (has_served serves v status.Key met bytes chances read end short p, p.2.0)
 
 pub served_came : (serves : Serves) (v : Service) (s : Status) (met : Met) (bytes : List ℕ) → serves.rack ≡ met.rack → Consumes met.input met.unread bytes → IsAtEnd met.unread
-    → length bytes ≤ 16777216 → ((chances : Chances) × LeavesInput serves v bytes chances s met.output met.door met.seeds) → CameServing serves v s met
+    → length bytes ≤ most_of_input → ((chances : Chances) × LeavesInput serves v bytes chances s met.output met.door met.seeds) → CameServing serves v s met
 served_came serves v s met bytes same read end short p = (p.0, served_comes serves v s met bytes p.0 same read end short p.1)
 
 -- a job reads its input

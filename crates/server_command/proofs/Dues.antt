@@ -3,11 +3,13 @@ use Rattle.std.proofs.Common.{◌≡◌, ◌≢◌, ◌≤◌, ◌<◌, ◌⊎�
 use Rattle.std.proofs.lemmas.Bool.{le-leb, lt-leb}
 use Rattle.std.specs.Io.KnownBytes.{Consumes}
 use Rattle.web_outside.specs.Causes.{Rose}
+use Rattle.web_outside.specs.Limits.{most_of_input}
 use Rattle.web_outside.specs.Pieces.{ReadsPast}
 use Rattle.command_words.specs.declared.Command.TheVariants.{Check, Play, Serve, Load}
 use Rattle.command_words.specs.declared.LoadOptions.{LoadOptions}
 use Rattle.command_words.specs.declared.Service.{Service}
 use Rattle.command_words.specs.declared.Command.{Command}
+use Rattle.command_words.proofs.Holds.{same_asked}
 use Rattle.setup_reader.specs.Setup.{Parsed, Fault, setup_of}
 use Rattle.setup_reader.proofs.Sections.{setup_found}
 use Rattle.play_steps.specs.Step.{steps_of}
@@ -48,16 +50,16 @@ record IsShort (asked : Command) (met : Met) (bytes : List ℕ) (chances : Chanc
 is_short : (asked : Command) (met : Met) (bytes : List ℕ) (chances : Chances) → met.input ≡ Some bytes → asked_in met.words ≡ Some asked
     → ReadToEnd met → IsShort asked met bytes chances
 is_short asked met bytes chances e is read =
-    let short = known (λ b. length b ≤ 16777216) met.input bytes e read.short in
-    let test : nat_le (length bytes) 16777216 ≡ true = le-leb (length bytes) 16777216 short in
+    let short = known (λ b. length b ≤ most_of_input) met.input bytes e read.short in
+    let test : nat_le (length bytes) most_of_input ≡ true = le-leb (length bytes) most_of_input short in
     record {
       due_is = ap (λ a. due_to a bytes chances) is ∙ rw test refl;
       reached = ap (λ a. reached_by a bytes) is ∙ rw test refl;
     }
 
-due_long : (asked : Command) (met : Met) (bytes : List ℕ) (chances : Chances) → asked_in met.words ≡ Some asked → 16777216 < length bytes → IsDue 11 met bytes chances
+due_long : (asked : Command) (met : Met) (bytes : List ℕ) (chances : Chances) → asked_in met.words ≡ Some asked → most_of_input < length bytes → IsDue 11 met bytes chances
 due_long asked met bytes chances is long =
-    let test : nat_le (length bytes) 16777216 ≡ false = lt-leb (length bytes) 16777216 long in
+    let test : nat_le (length bytes) most_of_input ≡ false = lt-leb (length bytes) most_of_input long in
     let none : reached_by (asked_in met.words) bytes ≡ None = ap (λ a. reached_by a bytes) is ∙ rw test refl in
     record {
       same = sym (ap (λ a. due_to a bytes chances) is ∙ rw test refl);
@@ -93,7 +95,7 @@ asked_exact asked status.Read met bytes chances e is settles h = inr (inl (refl,
 asked_exact asked status.Write met bytes chances e is settles h = inr (inr (inl (refl, h.1)))
 asked_exact asked status.Memory met bytes chances e is settles h = inr (inr (inr (inr (inr (inr refl)))))
 asked_exact asked status.Long met bytes chances e is settles h =
-    inl (due_long asked met bytes chances is (past_length met.input met.unread bytes 16777216 e h.0))
+    inl (due_long asked met bytes chances is (past_length met.input met.unread bytes most_of_input e h.0))
 asked_exact asked status.Disk met bytes chances e is settles h = inr (inr (inr (inl (refl, h.1))))
 asked_exact asked status.Journal met bytes chances e is settles h =
     let short = is_short asked met bytes chances e is h.0 in
@@ -168,7 +170,7 @@ serving_exact serves v status.Read met bytes chances same e is settles h = inr (
 serving_exact serves v status.Write met bytes chances same e is settles h = inr (inr (inl (refl, h.1)))
 serving_exact serves v status.Memory met bytes chances same e is settles h = inr (inr (inr (inr (inr (inr refl)))))
 serving_exact serves v status.Long met bytes chances same e is settles h =
-    inl (due_long (Serve v) met bytes chances is (past_length met.input met.unread bytes 16777216 e h.0.0))
+    inl (due_long (Serve v) met bytes chances is (past_length met.input met.unread bytes most_of_input e h.0.0))
 serving_exact serves v status.Disk met bytes chances same e is settles h = inr (inr (inr (inl (refl, h.1))))
 serving_exact serves v status.Journal met bytes chances same e is settles h =
     let p = input_left serves v status.Journal met bytes chances e h in
@@ -207,9 +209,6 @@ refused_complete : (s : Status) (met : Met) (asked : Command) → asked_in met.w
 refused_complete status.Usage met asked is h = absurd (let no : None ≡ Some asked = sym h.0 ∙ is in cc)
 refused_complete status.Memory met asked is h = refl
 refused_complete s met asked is h = absurd h
-
-same_asked : (o : Option Command) (a b : Command) → o ≡ Some a → o ≡ Some b → a ≡ b
-same_asked o a b e f = cc
 
 -- what a measured run came to is due
 load_due : (l : LoadOptions) (s : Status) (met : Met) (chances : Chances) → IsTrue met.rack.tells → ComesLoading l chances s met
@@ -322,7 +321,7 @@ asked_complete asked status.Read met bytes chances e l opens read write rack h =
 asked_complete asked status.Write met bytes chances e l opens read write rack h = absurd (write h.1)
 asked_complete asked status.Memory met bytes chances e l opens read write rack h = inr (inr refl)
 asked_complete asked status.Long met bytes chances e l opens read write rack h =
-    let long = past_length met.input met.unread bytes 16777216 e h.0 in absurd (omega (arith, long, l.short))
+    let long = past_length met.input met.unread bytes most_of_input e h.0 in absurd (omega (arith, long, l.short))
 asked_complete asked status.Disk met bytes chances e l opens read write rack h = absurd (rack h.1)
 asked_complete asked status.Journal met bytes chances e l opens read write rack h =
     absurd (not_8 8 (lawful_gives asked met bytes chances 8 l opens ((left asked status.Journal met bytes chances e h) (open_settles asked met bytes l opens))) refl)
@@ -346,7 +345,7 @@ serving_complete serves v status.Read met bytes chances same e l opens read writ
 serving_complete serves v status.Write met bytes chances same e l opens read write well h = absurd (write h.1)
 serving_complete serves v status.Memory met bytes chances same e l opens read write well h = inr refl
 serving_complete serves v status.Long met bytes chances same e l opens read write well h =
-    let long = past_length met.input met.unread bytes 16777216 e h.0.0 in absurd (omega (arith, long, l.short))
+    let long = past_length met.input met.unread bytes most_of_input e h.0.0 in absurd (omega (arith, long, l.short))
 serving_complete serves v status.Disk met bytes chances same e l opens read write well h = absurd (well.0 h.1)
 serving_complete serves v status.Journal met bytes chances same e l opens read write well h =
     let p = input_left serves v status.Journal met bytes chances e h in
@@ -381,7 +380,7 @@ check_complete status.Read met bytes chances e l read write h = absurd (read h.0
 check_complete status.Write met bytes chances e l read write h = absurd (write h.1)
 check_complete status.Memory met bytes chances e l read write h = inr refl
 check_complete status.Long met bytes chances e l read write h =
-    let long = past_length met.input met.unread bytes 16777216 e h.0 in absurd (omega (arith, long, l.short))
+    let long = past_length met.input met.unread bytes most_of_input e h.0 in absurd (omega (arith, long, l.short))
 check_complete status.Disk met bytes chances e l read write h =
     let loses = (left Check status.Disk met bytes chances e h.0).1 (open_settles Check met bytes l tt) in
     absurd (check_loses bytes chances loses.0 loses.1 loses.2)

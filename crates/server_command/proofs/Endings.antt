@@ -15,6 +15,7 @@ use Rattle.server_command.specs.declared.program.Status.{Status}
 use Rattle.server_command.specs.declared.program.Status.TheVariants as status
 use Rattle.server_command.specs.Racks.{Racks}
 use Rattle.server_command.specs.Output.{Chances, Sinks, output_of, counted, told_scripts, ending_of, faulty, sinks, Tells, Answers, BreaksOff, nothing}
+use Rattle.server_command.proofs.Openings.{rose_since}
 use Rattle.server_command.specs.Command.{Counts, Known, Outputs, ReadsInput, StandFor, TakesDisks, TellsFaultLine, with_setup}
 
 -- what was read to its end is the input
@@ -28,9 +29,6 @@ whole_input (Some xs) (Some ys) bytes P read end p =
 pub always : (left : Option (List ℕ)) (P : List ℕ → Type 0) → ((bytes : List ℕ) → P bytes) → IfSome left P
 always None P p = tt
 always (Some bytes) P p = p bytes
-
-rose_since : (before mid after : ℕ) → before ≤ mid → Rose mid after → Rose before after
-rose_since before mid after le rose = omega arith
 
 pub since : (old new : Option (List ℕ)) (line : List ℕ) (before mid after : ℕ)
     → before ≤ mid → AppendsUnlessFault old new line mid after → AppendsUnlessFault old new line before after

@@ -2,6 +2,7 @@
 use Rattle.std.proofs.Common.{◌≡◌, ◌≤◌, ◌<◌, ◌++◌, ◌∷◌, ◌⊎◌, ◌∙◌, ℕ, List, [], map, IsTrue, Option, Some, None, Result, Ok, Err, IsErrOf, sym, ap, refl, subst, inl, inr, arith, codes}
 use Rattle.std.specs.Prelude.{replicate}
 use Rattle.std.specs.Io.KnownBytes.{Appends, Keeps}
+use Rattle.std.proofs.lemmas.Option.{same_Some}
 use Rattle.web_outside.specs.Causes.{Rose}
 use Rattle.web_outside.specs.Pieces.{AppendsUnlessFault}
 use Rattle.web_outside.proofs.Writes.{appends_kept, appends_none}
@@ -37,7 +38,7 @@ use Rattle.server_command.specs.Loading.{GivesLoad, HasLeft, HasLoaded, IsLost, 
 use Rattle.server_command.specs.Telling.{TellsUnopened, told, untold, unopened_again, unopened_by}
 use Rattle.server_command.proofs.Endings.{no_chances, since, tells, tells_nothing}
 use Rattle.server_command.proofs.Playing.{Begins, IsFull, are_taken, chances_of, decided, full_held, full_unfit, none_unfit}
-use Rattle.server_command.proofs.Opened.{is_full, same_line}
+use Rattle.server_command.proofs.Opened.{is_full}
 
 -- the line of a run was written, and handed on or not
 pub measure_told : (m : Measure) (text : List ℕ) (s : Status) (old mid new : Option (List ℕ)) (before between after : ℕ)
@@ -159,10 +160,10 @@ pub first_leaves : (rack : Racks) (l : LoadOptions) (shelf : ℕ) (why : OpenCau
 first_leaves rack l shelf why s old new before after closed failed (untold is line) = memory_leaves rack l s old new before after is line
 first_leaves rack l shelf first.Disk s old new before after closed failed (told line is same p) =
     subst (λ x. HasLeft rack l x (sinks old new before after)) (sym same)
-    (no_chances, (failed refl, λ t. (shelf, at_first, subst (λ w. AppendsUnlessFault old new w before after) (sym (same_line _ _ is)) p)))
+    (no_chances, (failed refl, λ t. (shelf, at_first, subst (λ w. AppendsUnlessFault old new w before after) (sym (same_Some _ _ is)) p)))
 first_leaves rack l shelf first.NotEmpty s old new before after closed failed (told line is same p) =
     subst (λ x. HasLeft rack l x (sinks old new before after)) (sym same)
-    (full_leaves rack l shelf old new before after (λ t. is_full rack l.options shelf (closed t)) (subst (λ w. AppendsUnlessFault old new w before after) (sym (same_line _ _ is)) p))
+    (full_leaves rack l shelf old new before after (λ t. is_full rack l.options shelf (closed t)) (subst (λ w. AppendsUnlessFault old new w before after) (sym (same_Some _ _ is)) p))
 first_leaves rack l shelf (first.Damaged place) s old new before after closed failed (told line is same p) =
     subst (λ x. HasLeft rack l x (sinks old new before after)) (sym same) (no_chances, λ t. absurd (closed t))
 first_leaves rack l shelf (first.Other place) s old new before after closed failed (told line is same p) =
@@ -215,7 +216,7 @@ again_leaves rack l shelf reopen.Disk s old new before after lost failed damaged
     subst (λ x. HasLeft rack l x (sinks old new before after)) (sym same) (x.0, (failed refl, x.1))
   where
     shown : AppendsUnlessFault old new (disk_line shelf) before after
-    shown = subst (λ w. AppendsUnlessFault old new w before after) (sym (same_line _ _ is)) p
+    shown = subst (λ w. AppendsUnlessFault old new w before after) (sym (same_Some _ _ is)) p
 
     here : LostLoad rack l shelf → (chances : Chances) × ((k : ℕ) × IsLost l chances k × AppendsUnlessFault old new (disk_line k) before after)
     here q =

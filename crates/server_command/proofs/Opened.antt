@@ -1,11 +1,12 @@
 -- From the opening and the run of a desk to what a command answers.
 use Rattle.std.proofs.Common.{◌≡◌, ◌≢◌, ◌≤◌, ◌<◌, ◌∷◌, inr, ℕ, List, [], Bool, true, IsTrue, Option, Some, None, Ok, refl, sym, subst}
+use Rattle.std.proofs.lemmas.Option.{same_Some}
 use Rattle.web_outside.specs.Pieces.{AppendsUnlessFault}
 use Rattle.command_words.specs.declared.Command.TheVariants.{Play}
 use Rattle.command_words.specs.declared.Options.{Options}
 use Rattle.setup_reader.specs.declared.setup.Ending.TheVariants.{Steps}
 use Rattle.setup_reader.specs.Setup.{Parsed, setup_of}
-use Rattle.play_steps.specs.Step.{Step, is_told, steps_of}
+use Rattle.play_steps.specs.Step.{steps_of}
 use Rattle.play_steps.specs.declared.stage.Reopen.{Reopen}
 use Rattle.play_steps.specs.declared.stage.Reopen.TheVariants as reopen
 use Rattle.play_desk.specs.Opening.{IsClosedBy, IsNotEmpty}
@@ -19,13 +20,6 @@ use Rattle.server_command.specs.Serving.{RackFailed}
 use Rattle.server_command.specs.Telling.{TellsUnopened, told, untold, unopened_again, unopened_by}
 use Rattle.server_command.proofs.Endings.{early}
 use Rattle.server_command.proofs.Playing.{IsFull, Lost, full_outputs, lost_outputs, memory_outputs, never_outputs, unread_outputs}
-
--- disks that tell their bytes tell what crashes leave
-pub tells_crashes : (b : Bool) (steps : List (Option Step)) → IsTrue b → is_told b steps ≡ true
-tells_crashes b steps t = rw t refl
-
-pub same_line : (a b : List ℕ) → Some a ≡ Some b → a ≡ b
-same_line a b e = cc
 
 pub is_full : (rack : Racks) (o : Options) (shelf : ℕ) → (shelf < o.shelves) × IsNotEmpty rack.before.holds shelf → IsFull rack o shelf
 is_full rack o shelf h = by_image h.1.image h.1.held h.1.some
@@ -41,10 +35,10 @@ pub first_outputs : (rack : Racks) (o : Options) (bytes : List ℕ) (setup : Par
 first_outputs rack o bytes setup shelf why s old new before after h closed failed (untold is line) = early rack (Play o) bytes s old new before after is line
 first_outputs rack o bytes setup shelf first.Disk s old new before after h closed failed (told line is same p) =
     subst (λ x. Outputs rack (Play o) bytes x (sinks old new before after)) (sym same)
-    (unread_outputs rack o bytes setup shelf old new before after h (failed refl) (subst (λ l. AppendsUnlessFault old new l before after) (sym (same_line _ _ is)) p))
+    (unread_outputs rack o bytes setup shelf old new before after h (failed refl) (subst (λ l. AppendsUnlessFault old new l before after) (sym (same_Some _ _ is)) p))
 first_outputs rack o bytes setup shelf first.NotEmpty s old new before after h closed failed (told line is same p) =
     subst (λ x. Outputs rack (Play o) bytes x (sinks old new before after)) (sym same)
-    (full_outputs rack o bytes setup shelf old new before after h (λ t. is_full rack o shelf (closed t)) (subst (λ l. AppendsUnlessFault old new l before after) (sym (same_line _ _ is)) p))
+    (full_outputs rack o bytes setup shelf old new before after h (λ t. is_full rack o shelf (closed t)) (subst (λ l. AppendsUnlessFault old new l before after) (sym (same_Some _ _ is)) p))
 first_outputs rack o bytes setup shelf (first.Damaged place) s old new before after h closed failed (told line is same p) =
     subst (λ x. Outputs rack (Play o) bytes x (sinks old new before after)) (sym same) (never_outputs rack o bytes setup old new before after h closed)
 first_outputs rack o bytes setup shelf (first.Other place) s old new before after h closed failed (told line is same p) =
@@ -60,7 +54,7 @@ again_outputs rack o bytes setup shelf why s old mid new before between after h 
     memory_outputs rack o bytes setup s old mid new before between after h (λ t. inr (shelf, lost t)) le is line
 again_outputs rack o bytes setup shelf reopen.Disk s old mid new before between after h lost failed damaged other le (told line is same p) =
     subst (λ x. Outputs rack (Play o) bytes x (sinks old new before after)) (sym same)
-    (lost_outputs rack o bytes setup shelf old mid new before between after h lost le (failed refl) (subst (λ l. AppendsUnlessFault mid new l between after) (sym (same_line _ _ is)) p))
+    (lost_outputs rack o bytes setup shelf old mid new before between after h lost le (failed refl) (subst (λ l. AppendsUnlessFault mid new l between after) (sym (same_Some _ _ is)) p))
 again_outputs rack o bytes setup shelf (reopen.Damaged place) s old mid new before between after h lost failed damaged other le (told line is same p) =
     subst (λ x. Outputs rack (Play o) bytes x (sinks old new before after)) (sym same) (never_outputs rack o bytes setup old new before after h (λ t. damaged t place refl))
 again_outputs rack o bytes setup shelf (reopen.Other place) s old mid new before between after h lost failed damaged other le (told line is same p) =

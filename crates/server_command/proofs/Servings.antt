@@ -1,6 +1,7 @@
 -- What a serving came to, by what its calls say.
 use Rattle.std.proofs.Common.{◌≡◌, ◌≤◌, ◌<◌, ◌^◌, ◌∷◌, ◌∙◌, [], inl, inr, ap, subst, sym, ℕ, List, length, Option, Some, None, IfSome, IsTrue, Result, Ok, refl, arith, codes}
 use Rattle.std.specs.Prelude.{Err, slice_get}
+use Rattle.std.proofs.lemmas.Option.{same_Some}
 use Rattle.web_disk.specs.View.{RackView, AreAmong}
 use Rattle.web_outside.specs.Causes.{Rose}
 use Rattle.web_outside.specs.Pieces.{AppendsUnlessFault}
@@ -109,21 +110,18 @@ pub memory_left : (serves : Serves) (v : Service) (bytes : List ℕ) (s : Status
 memory_left serves v bytes s out door seeds is line none =
     subst (λ (x : Status). (chances : Chances) × LeavesInput serves v bytes chances x out door seeds) (sym is) (no_chances, (line, inl none))
 
-same_line : (a b : List ℕ) → Some a ≡ Some b → a ≡ b
-same_line a b e = cc
-
 -- a shelf was not opened, and that was told
 pub shuts_told : (serves : Serves) (v : Service) (scripts : List Named) (images : List (List ℕ)) (why : Unopened) (s : Status) (out : Sinks) (door seeds : Faults)
     → ServesBy serves v scripts images (Err (fault.Shelf why)) → TellsUnopened why s out → LeavesServing serves v scripts images s out door seeds
 shuts_told serves v scripts images why s out door seeds by (untold is line) =
     subst (λ x. LeavesServing serves v scripts images x out door seeds) (sym is) (line, inl by.0)
 shuts_told serves v scripts images (unopened.Disk shelf) s out door seeds by (told line is same p) =
-    subst (λ x. LeavesServing serves v scripts images x out door seeds) (sym same) (shelf, by.1, subst (PrintsTo out) (sym (same_line _ _ is)) p, by.0)
+    subst (λ x. LeavesServing serves v scripts images x out door seeds) (sym same) (shelf, by.1, subst (PrintsTo out) (sym (same_Some _ _ is)) p, by.0)
 shuts_told serves v scripts images (unopened.NotEmpty shelf) s out door seeds by (told line is same p) = absurd by.1
 shuts_told serves v scripts images (unopened.Damaged shelf place) s out door seeds by (told line is same p) =
-    subst (λ x. LeavesServing serves v scripts images x out door seeds) (sym same) (shelf, damaged place, by.1, subst (PrintsTo out) (sym (same_line _ _ is)) p, by.0)
+    subst (λ x. LeavesServing serves v scripts images x out door seeds) (sym same) (shelf, damaged place, by.1, subst (PrintsTo out) (sym (same_Some _ _ is)) p, by.0)
 shuts_told serves v scripts images (unopened.Other shelf place) s out door seeds by (told line is same p) =
-    subst (λ x. LeavesServing serves v scripts images x out door seeds) (sym same) (shelf, other place, by.1, subst (PrintsTo out) (sym (same_line _ _ is)) p, by.0)
+    subst (λ x. LeavesServing serves v scripts images x out door seeds) (sym same) (shelf, other place, by.1, subst (PrintsTo out) (sym (same_Some _ _ is)) p, by.0)
 shuts_told serves v scripts images unopened.Memory s out door seeds by (told line is same p) = absurd (let no : None ≡ Some line = is in cc)
 
 -- the same of the input that is the setup

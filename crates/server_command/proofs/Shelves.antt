@@ -1,6 +1,7 @@
 -- The shelves of a site: opened one behind the other, and standing when they were given back.
 use Rattle.std.proofs.Common.{◌≡◌, ◌≢◌, ◌<◌, ◌≤◌, ◌+◌, ◌++◌, ◌∷◌, ◌∙◌, ℕ, zero, suc, List, [], length, Bool, IsTrue, Option, Some, None, refl, sym, ap, subst, arith}
 use Rattle.std.specs.Prelude.{slice_get}
+use Rattle.std.proofs.lemmas.Option.{same_Some}
 use Rattle.lock_row.specs.Spots.{Home}
 use Rattle.web_outside.specs.Causes.{Rose}
 use Rattle.web_disk.specs.View.{View, AreAmong}
@@ -33,9 +34,6 @@ use Rattle.server_command.specs.Output.{rules_for}
 use Rattle.server_command.specs.Racks.{Unfit, found_unfit, first_unfit, unfit_left, unfit_making, damaged, other}
 use Rattle.server_command.specs.Serving.{AreOpened, IsOpened, StandsBehind}
 use Rattle.server_command.proofs.Racks.{made_fits}
-
-same_some : {A : Type 0} (x y : A) → Some x ≡ Some y → x ≡ y
-same_some x y e = cc
 
 -- ---- opened
 
@@ -93,7 +91,7 @@ pub first_bad : {D : Type 0} (view : D → View) (scripts : List Named) (k i n :
 first_bad view scripts k i n [] d why is fit here bad = absurd (let no : ⊥ = cc here in no)
 first_bad view scripts k zero n (x ∷ disks) d why is fit here bad =
     let same : n ≡ k = omega (arith, is) in
-    let one : x ≡ d = same_some x d here in
+    let one : x ≡ d = same_Some x d here in
     let found : unfit_left scripts k (view x).seen ≡ Some why = ap (λ y. unfit_left scripts k (view y).seen) one ∙ (ap (λ m. unfit_left scripts m (view d).seen) (sym same) ∙ bad) in
     ap (λ f. found_unfit k f (first_unfit (unfit_left scripts) (k + 1) (seen_on view disks))) found ∙ ap (λ m. Some (m, why)) (sym same)
 first_bad view scripts k (suc i) n (x ∷ disks) d why is fit here bad =
@@ -174,8 +172,8 @@ module _ {D N : Type 0} (view : D → View) (tells : Bool) (told : Type 0) (nonc
       let among = held 0 j d (omega (arith, at)) refl in
       let whole = subst (λ m. StandsBehind view tells nonce scripts m (holds m) x e) (sym at)
       (stands_one k workers (holds k) image n x d e t opened.0 ended.0 (subst (λ m. AreAmong (holds m) (view d).images) at among)) in
-      subst (λ z. StandsBehind view tells nonce scripts j (holds j) z h) (same_some x o o_is)
-      (subst (λ z. StandsBehind view tells nonce scripts j (holds j) x z) (same_some e h h_is) whole)
+      subst (λ z. StandsBehind view tells nonce scripts j (holds j) z h) (same_Some x o o_is)
+      (subst (λ z. StandsBehind view tells nonce scripts j (holds j) x z) (same_Some e h h_is) whole)
   stands_from k workers holds (image ∷ images) (n ∷ sources) (x ∷ openings) (d ∷ disks) (e ∷ histories) t opened ended held (suc i) j o h is o_is h_is =
       stands_from (k + 1) workers holds images sources openings disks histories t opened.1 ended.1 (λ a b y at y_is. held (suc a) b y (omega (arith, at)) y_is) i j o h
       (omega (arith, is)) o_is h_is

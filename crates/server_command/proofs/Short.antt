@@ -4,7 +4,8 @@ use Rattle.std.specs.List.{AllByRecursion}
 use Rattle.script_nodes.specs.Setup.{Named}
 use Rattle.journal_records.specs.Fields.{ScriptFits}
 use Rattle.journal_records.specs.Records.{texts_of}
-use Rattle.setup_reader.specs.Limits.{AreShort}
+use Rattle.server_limits.specs.Limits.{most_shelves}
+use Rattle.setup_reader.specs.Limits.{AreShort, most_scripts}
 use Rattle.server_command.specs.Opening.{CanBegin}
 
 texts_fit : (scripts : List Named) → AreShort scripts → AllByRecursion ScriptFits (texts_of scripts)
@@ -15,6 +16,6 @@ as_many : (scripts : List Named) → length (texts_of scripts) ≤ length script
 as_many [] = omega arith
 as_many (s ∷ scripts) = omega (arith, as_many scripts)
 
-pub can_begin : (count : ℕ) (scripts : List Named) → count ≤ 16 → length scripts ≤ 15 → AreShort scripts → CanBegin count scripts
+pub can_begin : (count : ℕ) (scripts : List Named) → count ≤ most_shelves → length scripts ≤ most_scripts → AreShort scripts → CanBegin count scripts
 can_begin count scripts most few short k low =
     (omega (arith, low, most), (omega (arith, few, as_many scripts), texts_fit scripts short))

@@ -9,6 +9,7 @@ use Rattle.clap.specs.declared.error.kind.ErrorKind.{ErrorKind}
 use Rattle.web_outside.specs.declared.source.InputFault.{InputFault}
 use Rattle.web_outside.specs.declared.source.InputFault.TheVariants as fault
 use Rattle.web_outside.specs.Causes.{Rose}
+use Rattle.web_outside.specs.Limits.{most_of_input}
 use Rattle.web_outside.specs.Pieces.{ReadsPast, ReadsUpTo, ConsumesSome}
 use Rattle.web_outside.specs.View.{SourceView}
 use Rattle.script_nodes.specs.Setup.{Named}
@@ -35,7 +36,7 @@ use Rattle.server_command.specs.Serving.{Serves, Faults, HaveRisen, RackFailed, 
 use Rattle.play_desk.specs.Ledger.{print_of}
 use Rattle.play_desk.specs.Laws.{IsRunOfEvents}
 use Rattle.play_desk.specs.Opening.{HoldTheBooks}
-use Rattle.server_command.specs.Output.{Chances, Output, output_of, told_scripts, desk_for, loaded, run_of, Sinks, PrintsTo, Answers, BreaksOff, Pauses, Loses, ending_of}
+use Rattle.server_command.specs.Output.{memory_line, step_line, Chances, Output, output_of, told_scripts, desk_for, loaded, run_of, Sinks, PrintsTo, Answers, BreaksOff, Pauses, Loses, ending_of}
 use Rattle.server_command.specs.Loading.{LeavesLoad, LoadsEvents}
 
 -- what is done with an input alone
@@ -69,10 +70,6 @@ code_of status.Door = 9
 code_of status.Memory = 10
 code_of status.Long = 11
 code_of status.Key = 14
-
--- the most bytes of an input
-abbrev pub most_of_input : ℕ
-most_of_input = 16777216
 
 -- what a command met: the words; the bytes that its input had, and those that are left of it, where these are told; the input's
 -- counts of faults before and after; its output; its rack; and the faults of the door and of the seeds
@@ -114,7 +111,7 @@ unread_status fault.Long = status.Long
 -- its line
 abbrev pub unread_line : InputFault → List ℕ
 unread_line fault.Failed = codes "error 5 read\n"
-unread_line fault.Memory = codes "error 10 memory\n"
+unread_line fault.Memory = memory_line
 unread_line fault.Long = codes "error 11 long\n"
 
 -- the input was not read whole for this fault, and this was told
@@ -187,7 +184,7 @@ Leaves rack asked bytes status.Write chances out =
     Rose out.before out.after × Known rack asked bytes (BreaksOff (output_of asked bytes chances) out)
 Leaves rack asked bytes status.Disk chances out = RackFailed rack × Known rack asked bytes (Loses asked bytes chances out)
 Leaves rack asked bytes status.Journal chances out = Known rack asked bytes (Gives rack asked bytes chances 8 out)
-Leaves rack asked bytes status.Memory chances out = Known rack asked bytes (Pauses asked bytes chances (codes "error 10 memory\n") out)
+Leaves rack asked bytes status.Memory chances out = Known rack asked bytes (Pauses asked bytes chances memory_line out)
 Leaves rack asked bytes _ chances out = ⊥
 
 -- the same, for some chances
@@ -246,7 +243,7 @@ ComesTo serves (Load l) chances how met = ComesLoading l chances how met
 -- words without a command, or want of memory for them, leave the input unread
 abbrev pub Refuses : Option Command → Status → Met → Type 0
 Refuses asked status.Usage met = (asked ≡ None) × Prints met (codes "error 2 usage\n") × Untouched met
-Refuses asked status.Memory met = Prints met (codes "error 10 memory\n") × Untouched met
+Refuses asked status.Memory met = Prints met memory_line × Untouched met
 Refuses asked _ met = ⊥
 
 -- why the command ends so, and what it wrote
@@ -318,9 +315,13 @@ pub record Ends (serves : Serves) (result : ℕ) (met : Met) : Type 0 where
 
 -- telling a line of the steps leaves its error's line, or that of want of memory
 abbrev pub TellsLine : (number : ℕ) → Status → Sinks → Type 0
-TellsLine number status.Line out = PrintsTo out (codes "error 4 " ++ (decimal number ++ 10 ∷ []))
-TellsLine number status.Memory out = PrintsTo out (codes "error 10 memory\n")
+TellsLine number status.Line out = PrintsTo out (step_line number)
+TellsLine number status.Memory out = PrintsTo out memory_line
 TellsLine number _ out = ⊥
+
+-- plain words ask for the command that they spell
+abbrev pub AreUnderstood : List (List ℕ) → Type 0
+AreUnderstood words = (asked : Command) → IsPlain words asked → asked_in words ≡ Some asked
 
 -- what is left of a command over each input that reads so: as this setup or with this fault
 abbrev pub OutputsFor : Racks → Command → Result Parsed Fault → Status → Sinks → Type 0
@@ -331,7 +332,7 @@ OutputsFor rack asked setup status out =
 abbrev pub Counts : List Named → Status → Sinks → Type 0
 Counts scripts status.Done out = Answers (told_scripts scripts) 0 out
 Counts scripts status.Write out = Rose out.before out.after × BreaksOff (told_scripts scripts) out
-Counts scripts status.Memory out = PrintsTo out (codes "error 10 memory\n")
+Counts scripts status.Memory out = PrintsTo out memory_line
 Counts scripts _ out = ⊥
 
 -- these steps were played over these scripts
@@ -342,7 +343,7 @@ PlaysSteps rack o scripts steps status out =
 -- the line of a setup's fault was told, or there was no memory for that
 abbrev pub TellsFaultLine : Fault → Status → Sinks → Type 0
 TellsFaultLine fault status.Setup out = PrintsTo out (fault_line fault)
-TellsFaultLine fault status.Memory out = PrintsTo out (codes "error 10 memory\n")
+TellsFaultLine fault status.Memory out = PrintsTo out memory_line
 TellsFaultLine fault _ out = ⊥
 
 -- all was done, or a count rose as writing failed

@@ -18,7 +18,7 @@ use Rattle.server_command.specs.declared.program.Status.{Status}
 use Rattle.server_command.specs.declared.program.Status.TheVariants as status
 use Rattle.server_command.specs.Racks.{Racks, AreTaken, disk_line, first_unfit, unfit_new}
 use Rattle.server_command.specs.Serving.{RackFailed}
-use Rattle.server_command.specs.Output.{Answers, BreaksOff, Chances, Output, PrintsTo, Sinks, desk_for, loaded, run_loaded}
+use Rattle.server_command.specs.Output.{memory_line, Answers, BreaksOff, Chances, Output, PrintsTo, Sinks, desk_for, loaded, run_loaded}
 
 -- the line of a measured run is all that is told of it
 abbrev pub told_measure : Measure → Output
@@ -28,7 +28,7 @@ told_measure m = record { text = summary_text m.tally m.hash; error = []; status
 abbrev pub TellsMeasure : Measure → Status → Sinks → Type 0
 TellsMeasure m status.Done out = Answers (told_measure m) 0 out
 TellsMeasure m status.Write out = Rose out.before out.after × BreaksOff (told_measure m) out
-TellsMeasure m status.Memory out = PrintsTo out (codes "error 10 memory\n")
+TellsMeasure m status.Memory out = PrintsTo out memory_line
 TellsMeasure m _ out = ⊥
 
 -- the output that is due to a measured run has this status, by the disks that were taken for it
@@ -55,7 +55,7 @@ LeavesLoad rack l status.Write chances out = Rose out.before out.after × (IsTru
 LeavesLoad rack l status.Disk chances out =
     RackFailed rack × (IsTrue rack.tells → (shelf : ℕ) × IsLost l chances shelf × PrintsTo out (disk_line shelf))
 LeavesLoad rack l status.Journal chances out = IsTrue rack.tells → GivesLoad rack l chances 8 out
-LeavesLoad rack l status.Memory chances out = PrintsTo out (codes "error 10 memory\n")
+LeavesLoad rack l status.Memory chances out = PrintsTo out memory_line
 LeavesLoad rack l _ chances out = ⊥
 
 -- the same, for some chances

@@ -8,10 +8,12 @@ use Rattle.journal_records.specs.Records.{IsInGrammar, begin_of}
 use Rattle.shelf.specs.declared.begin.BeginFault.{BeginFault}
 use Rattle.shelf.specs.declared.begin.BeginFault.TheVariants as fault
 use Rattle.shelf.specs.declared.rules.Rules.{Rules as Limits}
+use Rattle.shelf.specs.Views.{rules_of}
 use Rattle.site.specs.declared.opening.Opening.{Opening}
 use Rattle.command_words.specs.declared.Options.{Options}
 use Rattle.server_command.specs.declared.opening.Unopened.{Unopened}
 use Rattle.server_command.specs.declared.opening.Unopened.TheVariants as unopened
+use Rattle.server_command.specs.Output.{rules_for}
 use Rattle.server_command.specs.Racks.{AreHeld, KeepsHome, damaged, other, first_unfit, unfit_left}
 use Rattle.server_command.specs.Serving.{AreOpened}
 
@@ -38,6 +40,10 @@ pub record AreAsked (o : Options) (r : Limits) : Type 0 where
   pub life : r.life ≡ o.life
   pub instances : r.instances ≡ o.instances
   pub pages : r.pages ≡ o.pages
+
+-- these are the rules of the shelf of this number
+abbrev pub AreRulesFor : Options → (number : ℕ) → Limits → Type 0
+AreRulesFor o number r = (scripts : List Named) → rules_of scripts r ≡ rules_for o number scripts
 
 -- disks came home, and none went; and no count fell
 pub record TakesBack (before after : RackView) (first count : ℕ) : Type 0 where

@@ -3,7 +3,7 @@ use Rattle.std.specs.Prelude.{⊤, ◌≡◌, ◌⊎◌, ℕ, List, [], ◌∷�
 use Rattle.std.specs.Fmt.{decimal}
 use Rattle.std.specs.Io.KnownBytes.{Appends}
 use Rattle.web_outside.specs.Causes.{Rose}
-use Rattle.web_outside.specs.Pieces.{IsCutShort, AppendsUnlessFault}
+use Rattle.web_outside.specs.Pieces.{HandsOn, IsCutShort, AppendsUnlessFault}
 use Rattle.web_outside.specs.View.{SinkView}
 use Rattle.script_nodes.specs.Setup.{Named}
 use Rattle.replay_spec.specs.Rules.{Rules}
@@ -24,6 +24,8 @@ use Rattle.load_run.specs.Counting.{line_for}
 use Rattle.load_setup.specs.Scripts.{load_scripts}
 use Rattle.journal_books.specs.Lengths.{journal_rules}
 use Rattle.play_desk.specs.Desk.{Desk, first_desk, desk_rules}
+use Rattle.server_command.specs.declared.program.Status.{Status}
+use Rattle.server_command.specs.declared.program.Status.TheVariants as status
 use Rattle.server_command.specs.Racks.{Unfit, first_unfit, unfit_new, unfit_left, unfit_line, disk_line}
 
 -- what is written for a whole input: the text, the error's line behind it, and the status
@@ -31,6 +33,14 @@ pub record Output : Type 0 where
   pub text : List ℕ
   pub error : List ℕ
   pub status : ℕ
+
+-- `error 4 LINE`
+abbrev pub step_line : (number : ℕ) → List ℕ
+step_line number = codes "error 4 " ++ (decimal number ++ 10 ∷ [])
+
+-- `error 10 memory`
+abbrev pub memory_line : List ℕ
+memory_line = codes "error 10 memory\n"
 
 -- a setup that has a fault
 abbrev pub faulty : Fault → Output
@@ -72,7 +82,7 @@ unless_shut (Some found) output = shut found.0 found.1
 
 abbrev pub ended : List ℕ → End → Output
 ended text done = record { text = text; error = []; status = 0 }
-ended text (bad_line n) = record { text = text; error = codes "error 4 " ++ (decimal n ++ 10 ∷ []); status = 4 }
+ended text (bad_line n) = record { text = text; error = step_line n; status = 4 }
 
 abbrev pub finished : Run desk_rules → Output
 finished run = ended (text_of run) run.end
@@ -128,6 +138,10 @@ sinks held holds before after = record { held = held; holds = holds; before = be
 -- the same by what contracts see of a sink before and after a call
 abbrev pub sinks_of : (old new : SinkView) → Sinks
 sinks_of old new = sinks old.written new.written old.faults new.faults
+
+-- where all was done, all that was written was handed on
+abbrev pub HandsOnIfDone : Status → SinkView → Type 0
+HandsOnIfDone s sink = s ≡ status.Done → HandsOn sink.written sink.handed
 
 -- the sink grew by this line, or by a part of it where the output failed
 abbrev pub PrintsTo : Sinks → List ℕ → Type 0

@@ -36,7 +36,7 @@ use Rattle.server_command.specs.declared.opening.Unopened.{Unopened}
 use Rattle.server_command.specs.declared.opening.Unopened.TheVariants as unopened
 use Rattle.server_command.specs.declared.serving.ServeFault.{ServeFault}
 use Rattle.server_command.specs.declared.serving.ServeFault.TheVariants as fault
-use Rattle.server_command.specs.Output.{Chances, Output, Sinks, PrintsTo, Answers, BreaksOff, rules_for, served}
+use Rattle.server_command.specs.Output.{memory_line, Chances, Output, Sinks, PrintsTo, Answers, BreaksOff, rules_for, served}
 use Rattle.server_command.specs.Racks.{Racks, AreTaken, StandsForSome, Unfit, damaged, other, disk_line, first_unfit, unfit_left, unfit_line}
 
 -- ---- what is told
@@ -54,10 +54,14 @@ told_count c = record { text = count_line c; error = []; status = 0 }
 abbrev pub TellsCount : Count → Status → Sinks → Type 0
 TellsCount c status.Done out = Answers (told_count c) 0 out
 TellsCount c status.Write out = Rose out.before out.after × BreaksOff (told_count c) out
-TellsCount c status.Memory out = PrintsTo out (codes "error 10 memory\n")
+TellsCount c status.Memory out = PrintsTo out memory_line
 TellsCount c _ out = ⊥
 
 -- ---- what was served
+
+-- these are the sources that seeds give, where they tell that
+abbrev pub AreDrawn : {N : Type 0} → SeedsView N → (count : ℕ) → List N → Type 0
+AreDrawn seeds count sources = IfSome (seeds.gives count) (λ given. given ≡ sources)
 
 -- what contracts see of what a serving meets; its rack, its door and its past before it and behind it; and the seeds before it
 pub record Outside (D P L N : Type 0) : Type 1 where
@@ -118,7 +122,7 @@ pub record Served {D P L N : Type 0} (o : Outside D P L N) (s : Service) (script
   pub openings : List (Opening D N)
   pub disks : List D
   pub shelves : length sources ≡ s.options.shelves
-  pub drawn : IfSome (o.seeds.gives s.options.shelves) (λ given. given ≡ sources)
+  pub drawn : AreDrawn o.seeds s.options.shelves sources
   pub opened : AreOpened o.views.disk o.views.told (IsTrue o.rack.tells) o.views.nonce (λ k. rules_for s.options k scripts) scripts 0
       images sources openings
   pub leaves : Leaves o.views openings o.before o.after o.past (watch_of s) disks end kept
@@ -208,7 +212,7 @@ LeavesServing serves s scripts images status.Done out door seeds =
 LeavesServing serves s scripts images status.Write out door seeds =
     (count : Count) × serves.can s scripts images count × Opens serves.rack s scripts images × TellsCount count status.Write out
 LeavesServing serves s scripts images status.Memory out door seeds =
-    PrintsTo out (codes "error 10 memory\n") × HasServedIfAny serves s scripts images
+    PrintsTo out memory_line × HasServedIfAny serves s scripts images
 LeavesServing serves s scripts images status.Disk out door seeds =
     (shelf : ℕ) × RackFailed serves.rack × PrintsTo out (disk_line shelf) × serves.unopened
 LeavesServing serves s scripts images status.Journal out door seeds =
@@ -234,5 +238,5 @@ LeavesInput serves s bytes chances status.Door out door seeds = ServesInput serv
 LeavesInput serves s bytes chances status.Key out door seeds = ServesInput serves s bytes chances.disks status.Key out door seeds
 LeavesInput serves s bytes chances status.Setup out door seeds = Answers (served (setup_of Input bytes) chances) 3 out × serves.unopened
 LeavesInput serves s bytes chances status.Memory out door seeds =
-    PrintsTo out (codes "error 10 memory\n") × (serves.unopened ⊎ ServesInput serves s bytes chances.disks status.Memory out door seeds)
+    PrintsTo out memory_line × (serves.unopened ⊎ ServesInput serves s bytes chances.disks status.Memory out door seeds)
 LeavesInput serves s bytes chances _ out door seeds = ⊥

@@ -9,7 +9,7 @@ use Rattle.server_command.specs.declared.program.Status.{Status}
 use Rattle.server_command.specs.declared.program.Status.TheVariants as status
 use Rattle.server_command.specs.declared.opening.Unopened.{Unopened}
 use Rattle.server_command.specs.declared.opening.Unopened.TheVariants as unopened
-use Rattle.server_command.specs.Output.{Sinks, PrintsTo}
+use Rattle.server_command.specs.Output.{memory_line, Sinks, PrintsTo}
 use Rattle.server_command.specs.Racks.{not_empty, damaged, other, disk_line, unfit_line}
 
 -- the line that names a shelf which was not opened; want of memory has a line of its own
@@ -31,7 +31,7 @@ unopened_status unopened.Memory = status.Memory
 -- that line was told, or there was no memory for it
 pub data TellsUnopened (why : Unopened) (s : Status) (out : Sinks) : Type 0 where
   told : (line : List ℕ) → unopened_line why ≡ Some line → s ≡ unopened_status why → PrintsTo out line → TellsUnopened why s out
-  untold : s ≡ status.Memory → PrintsTo out (codes "error 10 memory\n") → TellsUnopened why s out
+  untold : s ≡ status.Memory → PrintsTo out memory_line → TellsUnopened why s out
 
 -- why a shelf was not opened at first, and again
 abbrev pub unopened_by : ℕ → OpenCause → Unopened

@@ -1,9 +1,9 @@
-ghost use Rattle.std.specs.Prelude.{◌&&◌, ◌≡◌, ◌≤◌};
-ghost use Rattle.web_outside.specs.Pieces.{HandsAllOn, HandsOn};
+ghost use Rattle.std.specs.Prelude.{◌&&◌, ◌≤◌};
+ghost use Rattle.web_outside.specs.Pieces.{HandsAllOn};
 ghost use Rattle.command_words.specs.Plain.{CanLoad};
 ghost use Rattle.play_desk.specs.Opening.{AreHome};
 ghost use Rattle.server_command.specs.Loading.{HasLeft, TellsMeasure};
-ghost use Rattle.server_command.specs.Output.{sinks_of};
+ghost use Rattle.server_command.specs.Output.{HandsOnIfDone, sinks_of};
 ghost use Rattle.server_command.specs.Racks.{racks_of};
 
 use crate::opening::rules_of;
@@ -20,10 +20,11 @@ use web_outside::{Sink, write_all};
 
 // Tells what a measured run came to.
 fn tell_measure<O: Sink>(alloc: Global, measure: &Measure, output: &mut O) -> Status
-    ensures outputs { TellsMeasure measure.now result (sinks_of (O.view output.old) (O.view output.new)) }
+    ensures outputs { TellsMeasure measure.now result
+        (sinks_of (O.view output.old) (O.view output.new)) }
     ensures handed { HandsAllOn (O.view output.old) (O.view output.new) }
     ensures later { (O.view output.old).faults ≤ (O.view output.new).faults }
-    ensures done { result ≡ Status.Done → HandsOn (O.view output.new).written (O.view output.new).handed }
+    ensures done { HandsOnIfDone result (O.view output.new) }
 {
     let Ok(text) = measure.line(alloc) else {
         return no_memory(output);
@@ -43,11 +44,11 @@ pub fn load_all<O: Sink, D: Disk, R: Rack<D>>(
 ) -> Status
     requires range { CanLoad options.now }
     requires home { AreHome (R.view rack.old).out }
-    ensures leaves { HasLeft (racks_of (R.tells && D.tells) (R.view rack.old) (R.view rack.new)) options.now
-        result (sinks_of (O.view output.old) (O.view output.new)) }
+    ensures leaves { HasLeft (racks_of (R.tells && D.tells) (R.view rack.old) (R.view rack.new))
+        options.now result (sinks_of (O.view output.old) (O.view output.new)) }
     ensures handed { HandsAllOn (O.view output.old) (O.view output.new) }
     ensures later { (O.view output.old).faults ≤ (O.view output.new).faults }
-    ensures done { result ≡ Status.Done → HandsOn (O.view output.new).written (O.view output.new).handed }
+    ensures done { HandsOnIfDone result (O.view output.new) }
     ensures home { AreHome (R.view rack.new).out }
     ensures rack_later { (R.view rack.old).faults ≤ (R.view rack.new).faults }
 {

@@ -1,16 +1,16 @@
 ghost use Rattle.std.specs.Prelude.{List, ◌&&◌, ◌≡◌, ◌≤◌, ◌<◌, ◌+◌, [], ℕ, true, length, slice_get, Some, None, IsTrue, IfOk, IfErr, OnOk, OnErr, vec_len};
 ghost use Rattle.web_outside.specs.Causes.{Rose};
 ghost use Rattle.web_disk.specs.View.{AreAmong};
-ghost use Rattle.script_nodes.specs.Setup.{Named};
 ghost use Rattle.script_nodes.specs.Views.{scripts_of};
 ghost use Rattle.shelf.specs.Ranges as ranges;
-ghost use Rattle.shelf.specs.Views.{rules_of};
+ghost use Rattle.server_limits.specs.Limits.{most_shelves};
+ghost use Rattle.setup_reader.specs.Limits.{most_scripts};
 ghost use Rattle.site.specs.Beginnings.{IsReady};
 ghost use Rattle.site_serving.specs.Serving.{openings_of};
 ghost use Rattle.command_words.specs.Plain.{AreInRange};
 ghost use Rattle.server_command.specs.Output.{rules_for};
 ghost use Rattle.server_command.specs.Racks.{KeepsHome};
-ghost use Rattle.server_command.specs.Opening.{AreAsked, AreGiven, AreOut, CanBegin, HasTaken, IsUntaken, OpensOn, RefusesOn, TakesBack, seen_on, unopened_by};
+ghost use Rattle.server_command.specs.Opening.{AreAsked, AreGiven, AreOut, AreRulesFor, CanBegin, HasTaken, IsUntaken, OpensOn, RefusesOn, TakesBack, seen_on, unopened_by};
 
 use command_words::Options;
 use script_nodes::Setup;
@@ -64,7 +64,7 @@ pub fn rules_of(options: &Options, number: u32) -> Rules
     requires number { number < options.now.shelves }
     ensures in_range { ranges.AreInRange result }
     ensures number { result.number ≡ number }
-    ensures rules { (scripts : List Named) → rules_of scripts result ≡ rules_for options.now number scripts }
+    ensures rules { AreRulesFor options.now number result }
     ensures asked { AreAsked options.now result }
 {
     Rules {
@@ -79,9 +79,10 @@ pub fn rules_of(options: &Options, number: u32) -> Rules
 
 /// Gives back disks, of which that of place 0 has the number 0. Their faults count as the rack's.
 pub fn give_all<D: Disk, R: Rack<D>>(rack: &mut R, disks: Vec<D>)
-    requires few { length disks.items ≤ 16 }
+    requires few { length disks.items ≤ most_shelves }
     ensures back { TakesBack (R.view rack.old) (R.view rack.new) 0 (length disks.items) }
-    ensures given { AreGiven D.view (IsTrue R.tells) (R.view rack.old) (R.view rack.new) disks.items }
+    ensures given { AreGiven D.view (IsTrue R.tells)
+        (R.view rack.old) (R.view rack.new) disks.items }
 {
     let mut disks = disks;
     // A count is below 2^64, so it does not fall where that of a disk is added.
@@ -99,11 +100,12 @@ fn take_all<D: Disk, R: Rack<D>>(
     directory: &str,
     count: u32,
 ) -> Result<Vec<D>, Unopened>
-    requires { count ≤ 16 }
-    ensures taken { IfOk result (λ disks. HasTaken (IsTrue (R.tells && D.tells)) (R.view rack.old) (R.view rack.new)
-        count (seen_on D.view disks.items)) }
+    requires { count ≤ most_shelves }
+    ensures taken { IfOk result (λ disks. HasTaken (IsTrue (R.tells && D.tells))
+        (R.view rack.old) (R.view rack.new) count (seen_on D.view disks.items)) }
     ensures home { OnErr result (KeepsHome (R.view rack.old) (R.view rack.new)) }
-    ensures refused { IfErr result (IsUntaken (Rose (R.view rack.old).faults (R.view rack.new).faults)) }
+    ensures refused { IfErr result
+        (IsUntaken (Rose (R.view rack.old).faults (R.view rack.new).faults)) }
     ensures later { (R.view rack.old).faults ≤ (R.view rack.new).faults }
 {
     let mut disks = Vec::with_capacity(alloc, count as usize)?;
@@ -133,16 +135,16 @@ pub fn open_site<W: Wait, D: Disk, R: Rack<D>, N: Nonces + Drop>(
     options: &Options,
 ) -> Result<Site<D, N>, Unopened>
     requires range { AreInRange options.now }
-    requires few { length (scripts_of setup) ≤ 256 }
+    requires few { length (scripts_of setup) ≤ most_scripts }
     requires begins { CanBegin options.now.shelves (scripts_of setup) }
     requires sources { length sources.items ≡ options.now.shelves }
-    ensures opened { IfOk result (λ site. OpensOn D.view D.tells (IsTrue (R.tells && D.tells)) N.nonce
-        (λ k. rules_for options.now k (scripts_of setup)) (scripts_of setup) sources.items (R.view rack.old) (R.view rack.new)
-        (openings_of site.row.homes)) }
+    ensures opened { IfOk result (λ site. OpensOn D.view D.tells (IsTrue (R.tells && D.tells))
+        N.nonce (λ k. rules_for options.now k (scripts_of setup)) (scripts_of setup) sources.items
+        (R.view rack.old) (R.view rack.new) (openings_of site.row.homes)) }
     ensures count { IfOk result (λ site. length site.row.homes ≡ options.now.shelves) }
     ensures ready { IfOk result IsReady }
-    ensures refused { IfErr result (RefusesOn (IsTrue (R.tells && D.tells)) (scripts_of setup) options.now.shelves
-        (R.view rack.old) (R.view rack.new)) }
+    ensures refused { IfErr result (RefusesOn (IsTrue (R.tells && D.tells)) (scripts_of setup)
+        options.now.shelves (R.view rack.old) (R.view rack.new)) }
     ensures later { (R.view rack.old).faults ≤ (R.view rack.new).faults }
 {
     let rules = rules_of(options, 0);

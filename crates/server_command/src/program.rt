@@ -2,14 +2,14 @@ ghost use Rattle.std.specs.Prelude.{◌&&◌, ◌≡◌, ◌≢◌, ◌≤◌, L
 ghost use Rattle.web_outside.specs.Causes.{Rose};
 ghost use Rattle.web_outside.specs.Pieces.{HandsAllOn, HandsOn};
 ghost use Rattle.script_nodes.specs.Views.{scripts_of};
-ghost use Rattle.setup_reader.specs.Limits.{AreShort};
+ghost use Rattle.setup_reader.specs.Limits.{AreShort, most_scripts};
 ghost use Rattle.setup_reader.specs.Views.{parsed_of};
 ghost use Rattle.command_words.specs.Plain.{AreInRange, CanServe, IsInRange, IsPlain};
 ghost use Rattle.command_words.specs.declared.Command.{Command as Asked};
 ghost use Rattle.server_command.specs.Command as spec;
-ghost use Rattle.server_command.specs.Command.{Came, CameServing, Ends, Explained, IsComplete, IsCompleteLoad, Outputs, OutputsFor, PlaysSteps, texts, asked_in, asked_of, met_of};
+ghost use Rattle.server_command.specs.Command.{AreUnderstood, Came, CameServing, Ends, Explained, IsComplete, IsCompleteLoad, Outputs, OutputsFor, PlaysSteps, texts, asked_in, asked_of, met_of};
 ghost use Rattle.server_command.specs.Opening.{CanBegin};
-ghost use Rattle.server_command.specs.Output.{Chances, ending_of, sinks_of};
+ghost use Rattle.server_command.specs.Output.{Chances, HandsOnIfDone, ending_of, sinks_of};
 ghost use Rattle.server_command.specs.Racks.{KeepsHome, racks_of};
 ghost use Rattle.site_serving.specs.Serving.{pasts_of, views};
 ghost use Rattle.server_command.specs.Serving.{Faults, LeavesInput, LeavesServing, faults_of, outside, serves_over};
@@ -128,14 +128,15 @@ fn play_all<O: Sink, D: Disk, R: Rack<D>>(
     rack: &mut R,
 ) -> Status
     requires range { AreInRange options.now }
-    requires few { length (scripts_of setup.now) ≤ 256 }
+    requires few { length (scripts_of setup.now) ≤ most_scripts }
     requires begins { CanBegin options.now.shelves (scripts_of setup.now) }
     requires home { AreHome (R.view rack.old).out }
-    ensures outputs { PlaysSteps (racks_of (R.tells && D.tells) (R.view rack.old) (R.view rack.new)) options.now
-        (scripts_of setup.now) steps.now result (sinks_of (O.view output.old) (O.view output.new)) }
+    ensures outputs { PlaysSteps (racks_of (R.tells && D.tells) (R.view rack.old) (R.view rack.new))
+        options.now (scripts_of setup.now) steps.now result
+        (sinks_of (O.view output.old) (O.view output.new)) }
     ensures handed { HandsAllOn (O.view output.old) (O.view output.new) }
     ensures later { (O.view output.old).faults ≤ (O.view output.new).faults }
-    ensures done { result ≡ Status.Done → HandsOn (O.view output.new).written (O.view output.new).handed }
+    ensures done { HandsOnIfDone result (O.view output.new) }
     ensures home { AreHome (R.view rack.new).out }
     ensures rack_later { (R.view rack.old).faults ≤ (R.view rack.new).faults }
 {
@@ -174,14 +175,15 @@ fn run_setup<O: Sink, D: Disk, R: Rack<D>>(
     rack: &mut R,
 ) -> Status
     requires range { IsInRange (asked_of job.now) }
-    requires few { length (scripts_of parsed.now.setup) ≤ 15 }
+    requires few { length (scripts_of parsed.now.setup) ≤ most_scripts }
     requires short { AreShort (scripts_of parsed.now.setup) }
     requires home { AreHome (R.view rack.old).out }
     ensures outputs { OutputsFor (racks_of (R.tells && D.tells) (R.view rack.old) (R.view rack.new))
-        (asked_of job.now) (Ok (parsed_of parsed.now)) result (sinks_of (O.view output.old) (O.view output.new)) }
+        (asked_of job.now) (Ok (parsed_of parsed.now)) result
+        (sinks_of (O.view output.old) (O.view output.new)) }
     ensures handed { HandsAllOn (O.view output.old) (O.view output.new) }
     ensures later { (O.view output.old).faults ≤ (O.view output.new).faults }
-    ensures done { result ≡ Status.Done → HandsOn (O.view output.new).written (O.view output.new).handed }
+    ensures done { HandsOnIfDone result (O.view output.new) }
     ensures home { AreHome (R.view rack.new).out }
     ensures rack_later { (R.view rack.old).faults ≤ (R.view rack.new).faults }
 {
@@ -205,7 +207,7 @@ fn run_input<O: Sink, D: Disk, R: Rack<D>>(
         (asked_of job.now) input.now result (sinks_of (O.view output.old) (O.view output.new)) }
     ensures handed { HandsAllOn (O.view output.old) (O.view output.new) }
     ensures later { (O.view output.old).faults ≤ (O.view output.new).faults }
-    ensures done { result ≡ Status.Done → HandsOn (O.view output.new).written (O.view output.new).handed }
+    ensures done { HandsOnIfDone result (O.view output.new) }
     ensures home { AreHome (R.view rack.new).out }
     ensures rack_later { (R.view rack.old).faults ≤ (R.view rack.new).faults }
 {
@@ -229,11 +231,12 @@ fn run_job<I: Source, O: Sink, D: Disk, R: Rack<D>>(
     ensures comes { (words : List (List ℕ)) (door : Faults) (seeds : Faults)
         → Came (asked_of job.now) result
         (met_of words (I.view input.old) (I.view input.new)
-        (sinks_of (O.view output.old) (O.view output.new)) (racks_of (R.tells && D.tells) (R.view rack.old) (R.view rack.new)) door seeds) }
+        (sinks_of (O.view output.old) (O.view output.new))
+        (racks_of (R.tells && D.tells) (R.view rack.old) (R.view rack.new)) door seeds) }
     ensures handed { HandsAllOn (O.view output.old) (O.view output.new) }
     ensures later { (O.view output.old).faults ≤ (O.view output.new).faults }
     ensures input_later { (I.view input.old).faults ≤ (I.view input.new).faults }
-    ensures done { result ≡ Status.Done → HandsOn (O.view output.new).written (O.view output.new).handed }
+    ensures done { HandsOnIfDone result (O.view output.new) }
     ensures home { AreHome (R.view rack.new).out }
     ensures rack_later { (R.view rack.old).faults ≤ (R.view rack.new).faults }
 {
@@ -274,12 +277,15 @@ where
     <<A::Porch as Porch>::Link as Link>::Input: Send,
     <<A::Porch as Porch>::Link as Link>::Output: Send,
     requires can { CanServe service.now }
-    requires few { length (scripts_of setup) ≤ 15 }
+    requires few { length (scripts_of setup) ≤ most_scripts }
     requires short { AreShort (scripts_of setup) }
-    ensures outputs { let o = outside (views D.view D.tells A.Porch.Link.view A.Porch.view N.nonce (C.shows clock.now))
+    ensures outputs { let o = outside
+        (views D.view D.tells A.Porch.Link.view A.Porch.view N.nonce (C.shows clock.now))
         (racks_of (R.tells && D.tells) (R.view rack.old) (R.view rack.new))
-        (A.view door.old) (A.view door.new) (S.view seeds.old) (pasts_of (P.told past.old) (P.told past.new)) in
-        (images : List (List ℕ)) × LeavesServing (serves_over o) service.now (scripts_of setup) images result
+        (A.view door.old) (A.view door.new) (S.view seeds.old)
+        (pasts_of (P.told past.old) (P.told past.new)) in
+        (images : List (List ℕ)) ×
+        LeavesServing (serves_over o) service.now (scripts_of setup) images result
         (sinks_of (O.view output.old) (O.view output.new))
         (faults_of (A.view door.old).faults (A.view door.new).faults)
         (faults_of (S.view seeds.old).faults (S.view seeds.new).faults) }
@@ -287,7 +293,7 @@ where
     ensures later { (O.view output.old).faults ≤ (O.view output.new).faults }
     ensures door_later { (A.view door.old).faults ≤ (A.view door.new).faults }
     ensures seeds_later { (S.view seeds.old).faults ≤ (S.view seeds.new).faults }
-    ensures done { result ≡ Status.Done → HandsOn (O.view output.new).written (O.view output.new).handed }
+    ensures done { HandsOnIfDone result (O.view output.new) }
     ensures home { KeepsHome (R.view rack.old) (R.view rack.new) }
     ensures rack_later { (R.view rack.old).faults ≤ (R.view rack.new).faults }
 {
@@ -339,9 +345,11 @@ where
     <<A::Porch as Porch>::Link as Link>::Input: Send,
     <<A::Porch as Porch>::Link as Link>::Output: Send,
     requires { CanServe service.now }
-    ensures outputs { let o = outside (views D.view D.tells A.Porch.Link.view A.Porch.view N.nonce (C.shows clock.now))
+    ensures outputs { let o = outside
+        (views D.view D.tells A.Porch.Link.view A.Porch.view N.nonce (C.shows clock.now))
         (racks_of (R.tells && D.tells) (R.view rack.old) (R.view rack.new))
-        (A.view door.old) (A.view door.new) (S.view seeds.old) (pasts_of (P.told past.old) (P.told past.new)) in
+        (A.view door.old) (A.view door.new) (S.view seeds.old)
+        (pasts_of (P.told past.old) (P.told past.new)) in
         (chances : Chances) × LeavesInput (serves_over o) service.now input.now chances result
         (sinks_of (O.view output.old) (O.view output.new))
         (faults_of (A.view door.old).faults (A.view door.new).faults)
@@ -350,7 +358,7 @@ where
     ensures later { (O.view output.old).faults ≤ (O.view output.new).faults }
     ensures door_later { (A.view door.old).faults ≤ (A.view door.new).faults }
     ensures seeds_later { (S.view seeds.old).faults ≤ (S.view seeds.new).faults }
-    ensures done { result ≡ Status.Done → HandsOn (O.view output.new).written (O.view output.new).handed }
+    ensures done { HandsOnIfDone result (O.view output.new) }
     ensures home { KeepsHome (R.view rack.old) (R.view rack.new) }
     ensures rack_later { (R.view rack.old).faults ≤ (R.view rack.new).faults }
 {
@@ -398,9 +406,11 @@ where
     <<A::Porch as Porch>::Link as Link>::Input: Send,
     <<A::Porch as Porch>::Link as Link>::Output: Send,
     requires { CanServe service.now }
-    ensures comes { let o = outside (views D.view D.tells A.Porch.Link.view A.Porch.view N.nonce (C.shows clock.now))
+    ensures comes { let o = outside
+        (views D.view D.tells A.Porch.Link.view A.Porch.view N.nonce (C.shows clock.now))
         (racks_of (R.tells && D.tells) (R.view rack.old) (R.view rack.new))
-        (A.view door.old) (A.view door.new) (S.view seeds.old) (pasts_of (P.told past.old) (P.told past.new)) in
+        (A.view door.old) (A.view door.new) (S.view seeds.old)
+        (pasts_of (P.told past.old) (P.told past.new)) in
         (words : List (List ℕ)) → CameServing (serves_over o) service.now result
         (met_of words (I.view input.old) (I.view input.new)
         (sinks_of (O.view output.old) (O.view output.new))
@@ -412,7 +422,7 @@ where
     ensures input_later { (I.view input.old).faults ≤ (I.view input.new).faults }
     ensures door_later { (A.view door.old).faults ≤ (A.view door.new).faults }
     ensures seeds_later { (S.view seeds.old).faults ≤ (S.view seeds.new).faults }
-    ensures done { result ≡ Status.Done → HandsOn (O.view output.new).written (O.view output.new).handed }
+    ensures done { HandsOnIfDone result (O.view output.new) }
     ensures home { KeepsHome (R.view rack.old) (R.view rack.new) }
     ensures rack_later { (R.view rack.old).faults ≤ (R.view rack.new).faults }
 {
@@ -456,9 +466,11 @@ where
     <<A::Porch as Porch>::Link as Link>::Input: Send,
     <<A::Porch as Porch>::Link as Link>::Output: Send,
     requires { AreHome (R.view rack.old).out }
-    ensures explained { let o = outside (views D.view D.tells A.Porch.Link.view A.Porch.view N.nonce (C.shows clock.now))
+    ensures explained { let o = outside
+        (views D.view D.tells A.Porch.Link.view A.Porch.view N.nonce (C.shows clock.now))
         (racks_of (R.tells && D.tells) (R.view rack.old) (R.view rack.new))
-        (A.view door.old) (A.view door.new) (S.view seeds.old) (pasts_of (P.told past.old) (P.told past.new)) in
+        (A.view door.old) (A.view door.new) (S.view seeds.old)
+        (pasts_of (P.told past.old) (P.told past.new)) in
         Explained (serves_over o) result
         (met_of (texts words.now) (I.view input.old) (I.view input.new)
         (sinks_of (O.view output.old) (O.view output.new))
@@ -470,10 +482,10 @@ where
     ensures input_later { (I.view input.old).faults ≤ (I.view input.new).faults }
     ensures door_later { (A.view door.old).faults ≤ (A.view door.new).faults }
     ensures seeds_later { (S.view seeds.old).faults ≤ (S.view seeds.new).faults }
-    ensures done { result ≡ Status.Done → HandsOn (O.view output.new).written (O.view output.new).handed }
+    ensures done { HandsOnIfDone result (O.view output.new) }
     ensures home { AreHome (R.view rack.new).out }
     ensures rack_later { (R.view rack.old).faults ≤ (R.view rack.new).faults }
-    ensures plain { (asked : Asked) → IsPlain (texts words.now) asked → asked_in (texts words.now) ≡ Some asked }
+    ensures plain { AreUnderstood (texts words.now) }
 {
     match read_words(alloc, words) {
         Ok(Command::Check) => run_job(alloc, &Job::Check, input, output, rack),
@@ -531,9 +543,11 @@ where
     requires { AreHome (R.view rack.old).out }
     // How it ended, and what was written, by what the disks held and the fates of its visits; the status is the one that is due
     // to the words and the input by these, but for faults of the outside and for want of memory.
-    ensures ended { let o = outside (views D.view D.tells A.Porch.Link.view A.Porch.view N.nonce (C.shows clock.now))
+    ensures ended { let o = outside
+        (views D.view D.tells A.Porch.Link.view A.Porch.view N.nonce (C.shows clock.now))
         (racks_of (R.tells && D.tells) (R.view rack.old) (R.view rack.new))
-        (A.view door.old) (A.view door.new) (S.view seeds.old) (pasts_of (P.told past.old) (P.told past.new)) in
+        (A.view door.old) (A.view door.new) (S.view seeds.old)
+        (pasts_of (P.told past.old) (P.told past.new)) in
         Ends (serves_over o) result
         (met_of (texts words.now) (I.view input.old) (I.view input.new)
         (sinks_of (O.view output.old) (O.view output.new))
@@ -565,7 +579,7 @@ where
     ensures home { AreHome (R.view rack.new).out }
     ensures rack_later { (R.view rack.old).faults ≤ (R.view rack.new).faults }
     ensures usage { result ≡ 2 → asked_in (texts words.now) ≡ None }
-    ensures plain { (asked : Asked) → IsPlain (texts words.now) asked → asked_in (texts words.now) ≡ Some asked }
+    ensures plain { AreUnderstood (texts words.now) }
     ensures understood { (asked : Asked) → IsPlain (texts words.now) asked → result ≢ 2 }
     ensures read { result ≡ 5 → Rose (I.view input.old).faults (I.view input.new).faults }
     ensures write { result ≡ 6 → Rose (O.view output.old).faults (O.view output.new).faults }

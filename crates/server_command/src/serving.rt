@@ -1,11 +1,12 @@
-ghost use Rattle.std.specs.Prelude.{◌&&◌, ◌≡◌, ◌≤◌, List, ℕ, length, IfOk, IfSome, IsErrOf, IsTrue, vec_len};
+ghost use Rattle.std.specs.Prelude.{◌&&◌, ◌≡◌, ◌≤◌, List, ℕ, length, IfOk, IsErrOf, IsTrue, vec_len};
 ghost use Rattle.web_outside.specs.Causes.{Rose};
 ghost use Rattle.script_nodes.specs.Views.{scripts_of};
+ghost use Rattle.setup_reader.specs.Limits.{most_scripts};
 ghost use Rattle.command_words.specs.Plain.{CanServe};
 ghost use Rattle.site_serving.specs.Serving.{pasts_of, views};
 ghost use Rattle.server_command.specs.Opening.{CanBegin};
 ghost use Rattle.server_command.specs.Racks.{KeepsHome, racks_of};
-ghost use Rattle.server_command.specs.Serving.{ServesBy, outside, serves_over, told_as, watch_of};
+ghost use Rattle.server_command.specs.Serving.{AreDrawn, ServesBy, outside, serves_over, told_as, watch_of};
 
 use crate::opening::{Unopened, give_all, open_site};
 use command_words::Service;
@@ -60,8 +61,9 @@ fn draw_sources<N: Nonces + Drop, S: Seeds<N>>(
     count: u32,
 ) -> Result<Vec<N>, ServeFault>
     ensures count { IfOk result (λ sources. length sources.items ≡ count) }
-    ensures drawn { IfOk result (λ sources. IfSome ((S.view seeds.old).gives count) (λ given. given ≡ sources.items)) }
-    ensures key { IsErrOf result ServeFault.Key → Rose (S.view seeds.old).faults (S.view seeds.new).faults }
+    ensures drawn { IfOk result (λ sources. AreDrawn (S.view seeds.old) count sources.items) }
+    ensures key { IsErrOf result ServeFault.Key →
+        Rose (S.view seeds.old).faults (S.view seeds.new).faults }
     ensures later { (S.view seeds.old).faults ≤ (S.view seeds.new).faults }
     ensures other { IsErrOf result ServeFault.Door → ⊥ }
     ensures none { (why : Unopened) → IsErrOf result (ServeFault.Shelf why) → ⊥ }
@@ -105,14 +107,19 @@ where
     <<A::Porch as Porch>::Link as Link>::Input: Send,
     <<A::Porch as Porch>::Link as Link>::Output: Send,
     requires can { CanServe service.now }
-    requires few { length (scripts_of setup) ≤ 256 }
+    requires few { length (scripts_of setup) ≤ most_scripts }
     requires begins { CanBegin service.now.options.shelves (scripts_of setup) }
-    ensures served { let o = outside (views D.view D.tells A.Porch.Link.view A.Porch.view N.nonce (C.shows clock.now))
-        (racks_of (R.tells && D.tells) (R.view rack.old) (R.view rack.new)) (A.view door.old) (A.view door.new) (S.view seeds.old)
+    ensures served { let o = outside
+        (views D.view D.tells A.Porch.Link.view A.Porch.view N.nonce (C.shows clock.now))
+        (racks_of (R.tells && D.tells) (R.view rack.old) (R.view rack.new))
+        (A.view door.old) (A.view door.new) (S.view seeds.old)
         (pasts_of (P.told past.old) (P.told past.new)) in
-        (images : List (List ℕ)) × ServesBy (serves_over o) service.now (scripts_of setup) images result }
-    ensures key { IsErrOf result ServeFault.Key → Rose (S.view seeds.old).faults (S.view seeds.new).faults }
-    ensures door { IsErrOf result ServeFault.Door → Rose (A.view door.old).faults (A.view door.new).faults }
+        (images : List (List ℕ)) ×
+        ServesBy (serves_over o) service.now (scripts_of setup) images result }
+    ensures key { IsErrOf result ServeFault.Key →
+        Rose (S.view seeds.old).faults (S.view seeds.new).faults }
+    ensures door { IsErrOf result ServeFault.Door →
+        Rose (A.view door.old).faults (A.view door.new).faults }
     ensures door_later { (A.view door.old).faults ≤ (A.view door.new).faults }
     ensures seeds_later { (S.view seeds.old).faults ≤ (S.view seeds.new).faults }
     ensures rack_later { (R.view rack.old).faults ≤ (R.view rack.new).faults }

@@ -1,13 +1,13 @@
 ghost use Rattle.std.specs.Prelude.{◌≡◌, ◌≢◌, ◌≤◌, ◌++◌, ◌∷◌, [], Some, codes, IfOk, string_bytes};
 ghost use Rattle.std.specs.Fmt.{decimal};
 ghost use Rattle.std.specs.Io.KnownBytes.{Keeps};
-ghost use Rattle.web_outside.specs.Pieces.{HandsAllOn, HandsOn};
+ghost use Rattle.web_outside.specs.Pieces.{HandsAllOn};
 ghost use Rattle.script_nodes.specs.Views.{scripts_of};
 ghost use Rattle.setup_reader.specs.Views.{fault_of};
 ghost use Rattle.request_workers.specs.Tallies.{count_of};
 ghost use Rattle.server_command.specs.declared.program.Status.{Status};
 ghost use Rattle.server_command.specs.Command.{Counts, IsDoneUnlessFault, TellsFaultLine, TellsLine, unread_line, unread_status};
-ghost use Rattle.server_command.specs.Output.{PrintsTo, sinks_of};
+ghost use Rattle.server_command.specs.Output.{HandsOnIfDone, PrintsTo, memory_line, sinks_of, step_line};
 ghost use Rattle.server_command.specs.Racks.{damaged, disk_line, not_empty, other, unfit_line};
 ghost use Rattle.server_command.specs.Serving.{TellsCount, count_line};
 ghost use Rattle.server_command.specs.Telling.{TellsUnopened, unopened_line, unopened_status};
@@ -22,7 +22,7 @@ use web_outside::{InputFault, Sink, write_all, write_or_drop};
 
 // The line that names the line of the steps at which a run ended.
 fn line_error(alloc: Global, number: u64) -> Result<String, AllocError>
-    ensures { IfOk result (λ text. string_bytes text ≡ codes "error 4 " ++ (decimal number ++ 10 ∷ [])) }
+    ensures { IfOk result (λ text. string_bytes text ≡ step_line number) }
 {
     format!(in alloc; "error 4 {number}\n")
 }
@@ -37,7 +37,7 @@ fn count_line(alloc: Global, count: usize) -> Result<String, AllocError>
 /// Says that memory ran out.
 pub fn no_memory<O: Sink>(output: &mut O) -> Status
     ensures status { result ≡ Status.Memory }
-    ensures line { PrintsTo (sinks_of (O.view output.old) (O.view output.new)) (codes "error 10 memory\n") }
+    ensures line { PrintsTo (sinks_of (O.view output.old) (O.view output.new)) memory_line }
     ensures handed { HandsAllOn (O.view output.old) (O.view output.new) }
     ensures later { (O.view output.old).faults ≤ (O.view output.new).faults }
 {
@@ -68,9 +68,10 @@ pub fn tell_unread<O: Sink>(fault: InputFault, output: &mut O) -> Status
 
 /// Hands on all that was written, behind which nothing is told.
 pub fn hand_on<O: Sink>(output: &mut O) -> Status
-    ensures done { result ≡ Status.Done → HandsOn (O.view output.new).written (O.view output.new).handed }
+    ensures done { HandsOnIfDone result (O.view output.new) }
     ensures same { Keeps (O.view output.old).written (O.view output.new).written }
-    ensures status { IsDoneUnlessFault result (O.view output.old).faults (O.view output.new).faults }
+    ensures status { IsDoneUnlessFault result
+        (O.view output.old).faults (O.view output.new).faults }
     ensures later { (O.view output.old).faults ≤ (O.view output.new).faults }
 {
     match output.flush() {
@@ -81,10 +82,11 @@ pub fn hand_on<O: Sink>(output: &mut O) -> Status
 
 /// Tells how many scripts a setup has.
 pub fn tell_count<O: Sink>(alloc: Global, setup: &Setup, output: &mut O) -> Status
-    ensures outputs { Counts (scripts_of setup.now) result (sinks_of (O.view output.old) (O.view output.new)) }
+    ensures outputs { Counts (scripts_of setup.now) result
+        (sinks_of (O.view output.old) (O.view output.new)) }
     ensures handed { HandsAllOn (O.view output.old) (O.view output.new) }
     ensures later { (O.view output.old).faults ≤ (O.view output.new).faults }
-    ensures done { result ≡ Status.Done → HandsOn (O.view output.new).written (O.view output.new).handed }
+    ensures done { HandsOnIfDone result (O.view output.new) }
 {
     let Ok(text) = count_line(alloc, setup.len()) else {
         return no_memory(output);
@@ -112,7 +114,8 @@ pub fn tell_line<O: Sink>(alloc: Global, number: u64, output: &mut O) -> Status
 
 /// Tells the fault of a setup.
 pub fn tell_fault<O: Sink>(alloc: Global, error: &SetupError, output: &mut O) -> Status
-    ensures line { TellsFaultLine (fault_of error.now) result (sinks_of (O.view output.old) (O.view output.new)) }
+    ensures line { TellsFaultLine (fault_of error.now) result
+        (sinks_of (O.view output.old) (O.view output.new)) }
     ensures handed { HandsAllOn (O.view output.old) (O.view output.new) }
     ensures later { (O.view output.old).faults ≤ (O.view output.new).faults }
     ensures other { result ≢ Status.Done }
@@ -145,10 +148,11 @@ fn tally_line(alloc: Global, tally: &Tally) -> Result<String, AllocError>
 
 /// Tells what was counted.
 pub fn tell_tally<O: Sink>(alloc: Global, tally: &Tally, output: &mut O) -> Status
-    ensures outputs { TellsCount (count_of tally.now) result (sinks_of (O.view output.old) (O.view output.new)) }
+    ensures outputs { TellsCount (count_of tally.now) result
+        (sinks_of (O.view output.old) (O.view output.new)) }
     ensures handed { HandsAllOn (O.view output.old) (O.view output.new) }
     ensures later { (O.view output.old).faults ≤ (O.view output.new).faults }
-    ensures done { result ≡ Status.Done → HandsOn (O.view output.new).written (O.view output.new).handed }
+    ensures done { HandsOnIfDone result (O.view output.new) }
 {
     let Ok(text) = tally_line(alloc, tally) else {
         return no_memory(output);

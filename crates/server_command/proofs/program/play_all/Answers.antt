@@ -8,7 +8,8 @@ use Rattle.play_desk.specs.Opening.{IsClosedBy}
 use Rattle.server_command.specs.Output.{sinks_of}
 use Rattle.server_command.specs.Racks.{racks_of}
 use Rattle.server_command.specs.Telling.{TellsUnopened}
-use Rattle.server_command.proofs.Opened.{again_outputs, first_outputs, tells_crashes}
+use Rattle.load_run.proofs.Going.{told_by}
+use Rattle.server_command.proofs.Opened.{again_outputs, first_outputs}
 use Rattle.server_command.proofs.Openings.{both_tell}
 use Rattle.server_command.proofs.Playing.{done_outputs, line_outputs, memory_outputs, write_outputs}
 use Rattle.server_command.proofs.Runs.{begins, halted, lost, loses, paused, ran}
@@ -42,8 +43,8 @@ returns-in-Done-clause-outputs g c = λ bytes h.
     (λ t. let b = both_tell g.R.Rack.tells g.D.Disk.tells t in
     ran rack o scripts (steps_of c.args.steps.now) done old.written mid.written _ _ _ _
     (begins rack o scripts c.rules_of-rules.result _ c.rules_of-rules.ensures.asked (c.in-Ok.ensures.desk b.0 b.1) (c.in-Ok.ensures.empty b.0 b.1))
-    (c.in-Done.ensures.ended (tells_crashes tells (steps_of c.args.steps.now) t) (c.in-Ok.ensures.own b.0 b.1))
-    (c.close.ensures.books b.0 b.1 (c.in-Done.ensures.own (tells_crashes tells (steps_of c.args.steps.now) t) (c.in-Ok.ensures.own b.0 b.1))))
+    (c.in-Done.ensures.ended (told_by tells (steps_of c.args.steps.now) t) (c.in-Ok.ensures.own b.0 b.1))
+    (c.close.ensures.books b.0 b.1 (c.in-Done.ensures.own (told_by tells (steps_of c.args.steps.now) t) (c.in-Ok.ensures.own b.0 b.1))))
     c.hand_on.ensures.same c.play-end.ensures.later c.hand_on.ensures.status
 
 pub returns-in-Line-clause-outputs : goal.returns-in-Line-clause-outputs
@@ -59,8 +60,8 @@ returns-in-Line-clause-outputs g c = λ bytes h.
     (λ t. let b = both_tell g.R.Rack.tells g.D.Disk.tells t in
     ran rack o scripts (steps_of c.args.steps.now) (bad_line c.in-Line.number) old.written mid.written _ _ _ _
     (begins rack o scripts c.rules_of-rules.result _ c.rules_of-rules.ensures.asked (c.in-Ok.ensures.desk b.0 b.1) (c.in-Ok.ensures.empty b.0 b.1))
-    (c.in-Line.ensures.ended (tells_crashes tells (steps_of c.args.steps.now) t) (c.in-Ok.ensures.own b.0 b.1))
-    (c.close.ensures.books b.0 b.1 (c.in-Line.ensures.own (tells_crashes tells (steps_of c.args.steps.now) t) (c.in-Ok.ensures.own b.0 b.1))))
+    (c.in-Line.ensures.ended (told_by tells (steps_of c.args.steps.now) t) (c.in-Ok.ensures.own b.0 b.1))
+    (c.close.ensures.books b.0 b.1 (c.in-Line.ensures.own (told_by tells (steps_of c.args.steps.now) t) (c.in-Ok.ensures.own b.0 b.1))))
     c.play-end.ensures.later c.tell_line.ensures.tells
 
 pub returns-in-Write-clause-outputs : goal.returns-in-Write-clause-outputs
@@ -75,7 +76,7 @@ returns-in-Write-clause-outputs g c = λ bytes h.
     (λ t. let b = both_tell g.R.Rack.tells g.D.Disk.tells t in
     halted rack o scripts (steps_of c.args.steps.now) old.written mid.written _ _ _ _
     (begins rack o scripts c.rules_of-rules.result _ c.rules_of-rules.ensures.asked (c.in-Ok.ensures.desk b.0 b.1) (c.in-Ok.ensures.empty b.0 b.1))
-    (c.in-Write.ensures.ended (tells_crashes tells (steps_of c.args.steps.now) t) (c.in-Ok.ensures.own b.0 b.1)))
+    (c.in-Write.ensures.ended (told_by tells (steps_of c.args.steps.now) t) (c.in-Ok.ensures.own b.0 b.1)))
     (c.in-Write.ensures.write refl)
 
 pub returns-in-Memory-clause-outputs : goal.returns-in-Memory-clause-outputs
@@ -91,7 +92,7 @@ returns-in-Memory-clause-outputs g c = λ bytes h.
     (λ t. let b = both_tell g.R.Rack.tells g.D.Disk.tells t in
     paused rack o scripts (steps_of c.args.steps.now) old.written mid.written _ _ _ _
     (begins rack o scripts c.rules_of-rules.result _ c.rules_of-rules.ensures.asked (c.in-Ok.ensures.desk b.0 b.1) (c.in-Ok.ensures.empty b.0 b.1))
-    (c.in-Memory.ensures.ended (tells_crashes tells (steps_of c.args.steps.now) t) (c.in-Ok.ensures.own b.0 b.1)))
+    (c.in-Memory.ensures.ended (told_by tells (steps_of c.args.steps.now) t) (c.in-Ok.ensures.own b.0 b.1)))
     c.play-end.ensures.later c.no_memory.ensures.status c.no_memory.ensures.line
 
 pub returns-in-Reopen-clause-outputs : goal.returns-in-Reopen-clause-outputs
@@ -110,7 +111,7 @@ returns-in-Reopen-clause-outputs g c = λ bytes h.
     (λ t. let b = both_tell g.R.Rack.tells g.D.Disk.tells t in
     lost rack o scripts (steps_of c.args.steps.now) shelf old.written mid.written _ _ _ _
     (begins rack o scripts c.rules_of-rules.result _ c.rules_of-rules.ensures.asked (c.in-Ok.ensures.desk b.0 b.1) (c.in-Ok.ensures.empty b.0 b.1))
-    (loses (steps_of c.args.steps.now) shelf why _ _ (c.in-Reopen.ensures.ended (tells_crashes tells (steps_of c.args.steps.now) t) (c.in-Ok.ensures.own b.0 b.1))))
+    (loses (steps_of c.args.steps.now) shelf why _ _ (c.in-Reopen.ensures.ended (told_by tells (steps_of c.args.steps.now) t) (c.in-Ok.ensures.own b.0 b.1))))
     (λ e. let rose = c.in-Reopen.ensures.disk shelf (ap (λ w. Reopen shelf w) e) in omega (arith, rose, c.in-Ok.ensures.later_open, c.close.ensures.later))
     (λ t place e. c.in-Reopen.ensures.damaged t shelf place (ap (λ w. Reopen shelf w) e))
     (λ t place e. c.in-Reopen.ensures.other t shelf place (ap (λ w. Reopen shelf w) e))
