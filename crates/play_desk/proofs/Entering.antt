@@ -9,6 +9,7 @@ use Rattle.page_names.specs.Names.{Destination, destination_of}
 use Rattle.replay_spec.specs.Next.{Ticket}
 use Rattle.replay_spec.specs.Step.{take, publish, sweep, crash, step, Fate, Reply, taken, swept, live}
 use Rattle.replay_spec.specs.Runs.{Shelf}
+use Rattle.replay_spec.proofs.Numbers.{crashed_out}
 use Rattle.replay_spec.proofs.Refused.{unchanged}
 use Rattle.play_desk.specs.Target.{answer_to, path_and_query, shelf_for}
 use Rattle.play_desk.specs.Desk as desk
@@ -17,7 +18,7 @@ use Rattle.play_steps.specs.Rules.{Call, answered, event}
 use Rattle.play_desk.specs.Ledger.{Entry, Ledger, ledger_of, entered, first_reply, holding, taken_in, take_on, take_at, ledger_take, publish_on, publish_held, ledger_publish, swept_in, ledger_sweep, crashed_in, ledger_crash}
 use Rattle.play_desk.specs.Laws.{AreRuns, AreLawfulRuns}
 use Rattle.play_desk.proofs.ShelfRuns.{entry_of, one_run, one_lawful}
-use Rattle.play_desk.proofs.Held.{AreOut, take_orderly, publish_orderly, publish_lawful, sweep_orderly, crash_orderly, crashed_out}
+use Rattle.play_desk.proofs.Held.{AreOut, take_orderly, publish_orderly, publish_lawful, sweep_orderly, crash_orderly}
 
 -- a desk's event answers as the ledger's, given these replies, which enters these events
 pub record EntersOne {X : Type 0} (d : Desk) (x : X × Desk) (over : Ledger → X × Ledger) : Type 0 where

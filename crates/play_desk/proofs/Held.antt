@@ -237,8 +237,3 @@ crash_orderly n d k s new here none o = record {
       ];
   apart = λ v w t u g h same e. o.apart v w t u (held_elsewhere n k 0 v d.held t g).0 (held_elsewhere n k 0 w d.held u h).0 same e;
 }
-
--- what a crash leaves out
-pub crashed_out : (rules : Rules) (b : Book) (nonce : ℕ) (scripts : List Named) (fate : Fate) → (step rules b nonce (crash scripts) fate).1.out ≡ []
-unfolding step
-crashed_out rules b nonce scripts fate = refl

@@ -9,16 +9,11 @@ use Rattle.replay_spec.specs.Next as next
 use Rattle.replay_spec.specs.Step.{publish, sweep, Fate, Decision, settle, fate_of, publish_comes, sweep_comes, step}
 use Rattle.replay_spec.specs.Step as spec
 use Rattle.replay_spec.specs.Invariant.{Among}
+use Rattle.replay_spec.proofs.Numbers.{settled_drawn, settled_out}
 
 -- what a settled decision keeps
 settled_shelf : (rules : Rules) (b : Book) (fate : Fate) (d : Decision) → (settle rules b fate d).1.shelf ≡ b.shelf
 settled_shelf rules b fate d = grind arith
-
-settled_drawn : (rules : Rules) (b : Book) (fate : Fate) (d : Decision) → (settle rules b fate d).1.drawn ≡ b.drawn
-settled_drawn rules b fate d = grind arith
-
-settled_out : (rules : Rules) (b : Book) (fate : Fate) (d : Decision) → (settle rules b fate d).1.out ≡ b.out
-settled_out rules b fate d = grind arith
 
 -- the same shelf, as many numbers drawn, and these out
 pub record Keeps (b c : Book) (numbers : List ℕ) : Type 0 where

@@ -7,6 +7,8 @@ use Rattle.replay_spec.specs.Rules.{Rules}
 use Rattle.replay_spec.specs.Step.{Event, Fate, Reply, taken, step}
 use Rattle.replay_spec.specs.Runs.{Shelf, shelf_step, drawn_by, after, answers_to}
 use Rattle.replay_spec.specs.Laws.{IsLawful, IsLawfulRun}
+use Rattle.replay_spec.proofs.Goes as run
+use Rattle.replay_spec.proofs.Goes.{after_append, lawful_append}
 use Rattle.play_desk.specs.Desk.{counting, happening, in_64_bits}
 use Rattle.play_desk.specs.Ledger.{Entry}
 use Rattle.play_desk.specs.Laws.{events_on, replies_on, AreAlike, AreRuns, AreLawfulRuns}
@@ -19,17 +21,6 @@ events_append k (e ∷ a) b = grind (arith, events_append k a b)
 replies_append : (k : ℕ) (a b : List Entry) → replies_on k (a ++ b) ≡ replies_on k a ++ replies_on k b
 replies_append k [] b = refl
 replies_append k (e ∷ a) b = grind (arith, replies_append k a b)
-
--- a run goes on where it stopped
-after_append : (source : ℕ → ℕ) (xs ys : List (Event × Fate)) (s : Shelf) → after source (xs ++ ys) s ≡ after source ys (after source xs s)
-after_append source [] ys s = refl
-after_append source (x ∷ xs) ys s = after_append source xs ys (shelf_step source s x.0 x.1).1
-
-answers_append : (source : ℕ → ℕ) (xs ys : List (Event × Fate)) (s : Shelf)
-    → answers_to source (xs ++ ys) s ≡ answers_to source xs s ++ answers_to source ys (after source xs s)
-answers_append source [] ys s = refl
-answers_append source (x ∷ xs) ys s =
-    ap (λ (rs : List Reply). (shelf_step source s x.0 x.1).0 ∷ rs) (answers_append source xs ys (shelf_step source s x.0 x.1).1)
 
 -- ---- shelves that are alike
 
@@ -99,7 +90,7 @@ runs_then a b old mid new one two = record {
   answered = λ k s e.
       let there = one.left k s e in
       ap (λ (xs : List (Event × Fate)). answers_to counting xs s) (events_append k a b)
-      ∙ answers_append counting (events_on k a) (events_on k b) s
+      ∙ run.replies_append counting (events_on k a) (events_on k b) s
       ∙ ap (λ (rs : List Reply). rs ++ answers_to counting (events_on k b) (after counting (events_on k a) s)) (one.answered k s e)
       ∙ ap (λ (rs : List Reply). replies_on k a ++ rs)
       (sym (answers_alike (events_on k b) (after counting (events_on k a) s) there.0 there.2) ∙ two.answered k there.0 there.1)
@@ -158,12 +149,6 @@ one_run ss k s event fate here = record {
         → (u : Shelf) × (slice_get (slice_set ss k next) j ≡ Some u) × AreAlike (after counting (events_on j (x ∷ [])) t) u
     left_other j t there other =
         let test : (k == j) ≡ false = ne_eqb k j other in rw test (t, get_other ss k j next other ∙ there, alike_self t)
-
-lawful_append : (source : ℕ → ℕ) (xs ys : List (Event × Fate)) (s : Shelf) → IsLawfulRun source xs s
-    → IsLawfulRun source ys (after source xs s) → IsLawfulRun source (xs ++ ys) s
-lawful_append source [] ys s one two = two
-lawful_append source (x ∷ xs) ys s one two =
-    (one.0, lawful_append source xs ys (shelf_step source s x.0 x.1).1 one.1 two)
 
 pub lawful_then : (a b : List Entry) (old mid : List Shelf) → AreRuns a old mid → AreLawfulRuns a old
     → AreLawfulRuns b mid → AreLawfulRuns (a ++ b) old

@@ -18,6 +18,7 @@ use Rattle.replay_spec.specs.Step.{take, publish, sweep, crash, Fate, plain}
 use Rattle.replay_spec.specs.Step as spec
 use Rattle.replay_spec.specs.Runs.{Shelf}
 use Rattle.replay_spec.specs.Laws as laws
+use Rattle.replay_spec.proofs.Admitted.{admit_drawn}
 use Rattle.instance_book.specs.Views.{ticket_of, reply_of}
 use Rattle.instance_book.specs.declared.ticket.Ticket.{Ticket}
 use Rattle.shelf.specs.declared.shelf.Shelf as code
@@ -185,10 +186,6 @@ none_stands (Some doubt) worn_out o n k h = absurd (cc)
 none_stands None true o n k h = absurd (cc)
 none_stands None false None n k h = refl
 none_stands None false (Some r) n k h = absurd (cc)
-
-admit_drawn : (b : Book) (d : Destination) → admit (draw b) d ≡ admit b d
-admit_drawn b (start name) = refl
-admit_drawn b (page name n) = refl
 
 pub was_admitted : (b c : Book) (d : Destination) (n k : ℕ) → IfSome (spec.no_take b d) (λ x. spec.taken n k ≡ x) → c ≡ draw b → refusal_of (admit c d) ≡ None
 was_admitted b c d n k h drawn =

@@ -1,5 +1,5 @@
 -- How shelves are opened on the disks of a rack, and closed.
-use Rattle.std.specs.Prelude.{⊤, ◌≡◌, ◌≢◌, ◌⊎◌, ◌≤◌, ◌<◌, ◌+◌, ℕ, Bool, true, false, IsTrue, List, [], ◌∷◌, ◌++◌, slice_get, Some, Result, Ok, Err}
+use Rattle.std.specs.Prelude.{⊤, ◌≡◌, ◌≢◌, ◌⊎◌, ◌≤◌, ◌<◌, ◌+◌, ℕ, Bool, true, false, IsTrue, List, [], ◌∷◌, ◌++◌, slice_get, Some, Result, Ok, Err, IsErrOf}
 use Rattle.web_outside.specs.Causes.{Rose}
 use Rattle.web_outside.specs.declared.nonces.Counting.{Counting}
 use Rattle.web_disk.specs.View.{View, RackView, AreAmong}
@@ -11,6 +11,7 @@ use Rattle.replay_spec.specs.Rules.{empty_book}
 use Rattle.replay_spec.specs.Runs as runs_spec
 use Rattle.replay_spec.specs.Runs.{empty_shelf}
 use Rattle.replay_spec.specs.Step.{lost, kept}
+use Rattle.journal_records.specs.Records.{IsInGrammar, begin_of}
 use Rattle.journal_books.specs.Making.{damaged, other, book_in_bytes}
 use Rattle.journal_books.specs.Standing.{Between, HoldIn, IsOneOf, if_kept}
 use Rattle.journal_books.specs.Laws.{MeasuresDoubt}
@@ -37,6 +38,21 @@ numbered rules number = record rules { number = number }
 -- what the events of the shelf of each number run under
 abbrev pub rules_at : List Named → Rules → (number : ℕ) → runs.Rules
 rules_at scripts rules number = rules_of scripts (numbered rules number)
+
+-- the record that a journal begins with can be written, of each of so many shelves
+abbrev pub CanBegin : List Named → (shelves : ℕ) → Type 0
+CanBegin scripts shelves = (k : ℕ) → k < shelves → IsInGrammar (begin_of k scripts)
+
+-- a call of the rack failed, or of a disk that went back to it
+abbrev pub RackFailed : (old new : RackView) → Type 0
+RackFailed old new = Rose old.faults new.faults
+
+-- it is no record at fault, and none of another program, for which this was not opened again
+abbrev pub IsNeverDamaged : {T : Type 0} → Result T Reopen → Type 0
+IsNeverDamaged result = (place : ℕ) → IsErrOf result (reopen.Damaged place) → ⊥
+
+abbrev pub IsNeverOther : {T : Type 0} → Result T Reopen → Type 0
+IsNeverOther result = (place : ℕ) → IsErrOf result (reopen.Other place) → ⊥
 
 -- every disk is at home
 abbrev pub AreHome : (out : ℕ → Bool) → Type 0

@@ -1,5 +1,5 @@
 -- What shelves with their workers stand for, and what holds of them between the steps of a run.
-use Rattle.std.specs.Prelude.{◌≡◌, ◌≢◌, ◌≤◌, ◌-◌, ◌+◌, ◌^◌, ℕ, Bool, true, List, map, length, min, sum_by, slice_get, Contains, Option, Some, None, Result, option_map}
+use Rattle.std.specs.Prelude.{◌≡◌, ◌≢◌, ◌≤◌, ◌-◌, ◌+◌, ◌^◌, ℕ, Bool, true, List, map, length, min, sum_by, slice_get, Contains, Option, Some, None, Result, is_some, option_map}
 use Rattle.server_limits.specs.Limits.{most_shelves}
 use Rattle.web_outside.specs.Causes.{Rose}
 use Rattle.web_outside.specs.Counted.{counted}
@@ -24,6 +24,7 @@ use Rattle.shelf.specs.Views.{book_in, shelf_of, IsInOrder, IsOwnShelf}
 use Rattle.shelf.specs.declared.shelf.Shelf.{Shelf}
 use Rattle.script_value.specs.declared.outcome.Reply.{Reply}
 use Rattle.play_steps.specs.Rules.{Takes, Publishes, Sweeps}
+use Rattle.play_desk.specs.Desk as desk
 use Rattle.play_desk.specs.Desk.{Desk, desk_rules}
 use Rattle.play_desk.specs.Target.{shelf_for}
 use Rattle.play_desk.specs.declared.staff.Staff.{Staff}
@@ -42,6 +43,10 @@ desk_with scripts shelves tickets = record {
 
 abbrev pub desk_of : {D : Type 0} → Setup → Staff D → Desk
 desk_of setup s = desk_with (scripts_of setup) s.shelves.items s.tickets
+
+-- the worker holds a ticket
+abbrev pub HoldsTicket : {D : Type 0} → Setup → Staff D → (worker : ℕ) → Type 0
+HoldsTicket setup s worker = is_some (desk.ticket_of (desk_of setup s) worker) ≡ true
 
 -- what a publish asks of the ticket: its number is out, and it can be run
 pub record IsUnspent (scripts : List Named) (b : Book) (t : Ticket) : Type 0 where

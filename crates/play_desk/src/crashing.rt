@@ -1,7 +1,7 @@
-ghost use Rattle.std.specs.Prelude.{◌≡◌, ◌≤◌, ◌<◌, ℕ, IsTrue, IfOk, OnOk, IsErrOf, length};
+ghost use Rattle.std.specs.Prelude.{◌≡◌, ◌≤◌, ◌<◌, IsTrue, IfOk, OnOk, IsErrOf, length};
 ghost use Rattle.web_outside.specs.Causes.{Rose};
 ghost use Rattle.script_nodes.specs.Views.{scripts_of};
-ghost use Rattle.play_desk.specs.Opening.{CrashesShelf};
+ghost use Rattle.play_desk.specs.Opening.{CrashesShelf, IsNeverDamaged, IsNeverOther};
 ghost use Rattle.play_desk.specs.Staff.{IsFit, IsHome, IsOwn, KeepsOwn, faults_in, total};
 
 use crate::opening::{put_back, reopened};
@@ -33,8 +33,8 @@ pub fn crash<D: Disk, R: Rack<D>>(
     ensures own { IsTrue R.tells → IsTrue D.tells →
         KeepsOwn D.view D.tells setup.now staff.old staff.new }
     ensures home { IsHome staff.new.shelves.items (R.view rack.new).out }
-    ensures damaged { IsTrue R.tells → IsTrue D.tells → (at : ℕ) → IsErrOf result (Reopen.Damaged at) → ⊥ }
-    ensures other { IsTrue R.tells → IsTrue D.tells → (at : ℕ) → IsErrOf result (Reopen.Other at) → ⊥ }
+    ensures damaged { IsTrue R.tells → IsTrue D.tells → IsNeverDamaged result }
+    ensures other { IsTrue R.tells → IsTrue D.tells → IsNeverOther result }
     ensures disk { IsErrOf result Reopen.Disk →
         Rose (total (R.view rack.old).faults (faults_in D.view staff.old.shelves.items))
         (total (R.view rack.new).faults (faults_in D.view staff.new.shelves.items)) }

@@ -38,7 +38,8 @@ impl<'s, D: Disk, R: Rack<D>> Stage for Desk<'s, D, R> {
 
     ghost at_home = { λ d rack. IsHome d.staff.shelves.items (R.view rack).out };
 
-    ghost faults = { λ d rack. total (R.view rack).faults (faults_in D.view d.staff.shelves.items) };
+    ghost faults = { λ d rack.
+        total (R.view rack).faults (faults_in D.view d.staff.shelves.items) };
 
     fn shelves(&self) -> u32 {
         self.staff.shelves.len() as u32

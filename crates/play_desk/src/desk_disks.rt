@@ -1,11 +1,10 @@
 ghost use Rattle.std.specs.Prelude.{◌≡◌, ◌≤◌, ◌<◌, ℕ, [], false, length, IsTrue, IfOk, IfErr, IsErrAnd, IsErrOf, OnErr, OnOk};
-ghost use Rattle.web_outside.specs.Causes.{Rose};
 ghost use Rattle.script_nodes.specs.Views.{scripts_of};
 ghost use Rattle.journal_records.specs.Records.{IsInGrammar, begin_of};
 ghost use Rattle.shelf.specs.Ranges.{AreInRange};
 ghost use Rattle.play_desk.specs.Desk.{first_desk};
 ghost use Rattle.play_desk.specs.Staff.{HaveOwnNumbers, IsFit, IsHome, IsOwn, desk_of, faults_in, total};
-ghost use Rattle.play_desk.specs.Opening.{AreHome, CountStays, GivesOne, HoldImages, HoldTheBooks, IsClosedBy, IsRefusedBy, OpensNext, numbered, rules_at};
+ghost use Rattle.play_desk.specs.Opening.{AreHome, CanBegin, CountStays, GivesOne, HoldImages, HoldTheBooks, IsClosedBy, IsRefusedBy, OpensNext, RackFailed, numbered, rules_at};
 
 use crate::desk::Desk;
 use crate::opening::{OpenCause, OpenFault, opened, put_back};
@@ -67,8 +66,9 @@ fn open_next<D: Disk, R: Rack<D>>(
     ensures given { OnErr result (GivesOne rules.number (R.view rack.old) (R.view rack.new)) }
     ensures why { IsTrue R.tells → IsTrue D.tells →
         IfErr result (IsRefusedBy ((R.view rack.old).holds rules.number)) }
-    ensures disk { IsErrOf result OpenCause.Disk → Rose (R.view rack.old).faults (R.view rack.new).faults }
-    ensures later { OnErr result (CountStays (R.view rack.old).faults 0 (R.view rack.new).faults 0) }
+    ensures disk { IsErrOf result OpenCause.Disk → RackFailed (R.view rack.old) (R.view rack.new) }
+    ensures later { OnErr result
+        (CountStays (R.view rack.old).faults 0 (R.view rack.new).faults 0) }
 {
     let shelf = opened(alloc, setup, directory, rack, rules)?;
     match shelves.push(shelf) {
@@ -94,7 +94,7 @@ pub fn open_desk<'s, D: Disk, R: Rack<D>>(
 ) -> Result<Desk<'s, D, R>, OpenFault>
     requires range { AreInRange rules }
     requires few { length (scripts_of setup.now) ≤ 256 }
-    requires begins { (k : ℕ) → k < rules.shelves → IsInGrammar (begin_of k (scripts_of setup.now)) }
+    requires begins { CanBegin (scripts_of setup.now) rules.shelves }
     requires home { AreHome (R.view rack.old).out }
     ensures setup { IfOk result (λ d. d.setup.now ≡ setup.entry.now) }
     ensures desk { IsTrue R.tells → IsTrue D.tells → IfOk result (λ d. desk_of d.setup.now d.staff
@@ -110,7 +110,7 @@ pub fn open_desk<'s, D: Disk, R: Rack<D>>(
         IfErr result (λ e. IsClosedBy (R.view rack.old).holds rules.shelves e.shelf e.why) }
     ensures all_home { IfErr result (λ e. AreHome (R.view rack.new).out) }
     ensures disk { IsErrAnd result (λ e. e.why ≡ OpenCause.Disk) →
-        Rose (R.view rack.old).faults (R.view rack.new).faults }
+        RackFailed (R.view rack.old) (R.view rack.new) }
     ensures later { (R.view rack.old).faults ≤ (R.view rack.new).faults }
     ensures later_open { IfOk result (λ d. (R.view rack.old).faults
         ≤ total (R.view rack.new).faults (faults_in D.view d.staff.shelves.items)) }

@@ -1,10 +1,9 @@
-ghost use Rattle.std.specs.Prelude.{◌≡◌, ◌≤◌, ◌<◌, ℕ, [], length, true, false, IsTrue, IfOk, IfErr, OnOk, OnErr, IsErrOf};
+ghost use Rattle.std.specs.Prelude.{◌≡◌, ◌≤◌, [], length, true, false, IsTrue, IfOk, IfErr, OnOk, OnErr, IsErrOf};
 ghost use Rattle.script_nodes.specs.Views.{scripts_of};
 ghost use Rattle.journal_records.specs.Records.{IsInGrammar, begin_of};
 ghost use Rattle.web_disk.specs.View.{AreAmong};
 ghost use Rattle.shelf.specs.Ranges.{AreInRange};
-ghost use Rattle.web_outside.specs.Causes.{Rose};
-ghost use Rattle.play_desk.specs.Opening.{BeginsEmpty, CountRose, CountStays, Finds, GivesOne, HasCrashed, IsOutside, OpensEmpty, OpensOne, TakesEmpty, TakesOrLeaves, cause_of, disk_faults, faults_left, reopen_of};
+ghost use Rattle.play_desk.specs.Opening.{BeginsEmpty, CountRose, CountStays, Finds, GivesOne, HasCrashed, IsNeverDamaged, IsNeverOther, IsOutside, OpensEmpty, OpensOne, RackFailed, TakesEmpty, TakesOrLeaves, cause_of, disk_faults, faults_left, reopen_of};
 ghost use Rattle.play_desk.specs.Staff.{IsServed};
 ghost use Rattle.shelf.specs.Owning.{IsOwnImage};
 ghost use Rattle.shelf.specs.Views.{IsOwnShelf};
@@ -64,7 +63,7 @@ fn taken<D: Disk, R: Rack<D>>(
         IfOk result (λ disk. AreAmong (D.view disk).images ((R.view rack.old).holds number)) }
     ensures fresh { IfOk result (λ disk. (D.view disk).faults ≡ 0) }
     ensures rack { TakesOrLeaves number result (R.view rack.old) (R.view rack.new) }
-    ensures disk { IsErrOf result Reopen.Disk → Rose (R.view rack.old).faults (R.view rack.new).faults }
+    ensures disk { IsErrOf result Reopen.Disk → RackFailed (R.view rack.old) (R.view rack.new) }
     ensures later { (R.view rack.old).faults ≤ (R.view rack.new).faults }
     ensures whole { IfErr result IsOutside }
 {
@@ -162,8 +161,8 @@ pub fn reopened<D: Disk, R: Rack<D>>(
     ensures own { IsTrue R.tells → IsTrue D.tells →
         IsOwnShelf D.view D.tells (scripts_of setup.now) shelf →
         IfOk result (IsOwnShelf D.view D.tells (scripts_of setup.now)) }
-    ensures damaged { IsTrue R.tells → IsTrue D.tells → (place : ℕ) → IsErrOf result (Reopen.Damaged place) → ⊥ }
-    ensures other { IsTrue R.tells → IsTrue D.tells → (place : ℕ) → IsErrOf result (Reopen.Other place) → ⊥ }
+    ensures damaged { IsTrue R.tells → IsTrue D.tells → IsNeverDamaged result }
+    ensures other { IsTrue R.tells → IsTrue D.tells → IsNeverOther result }
     ensures rack { OpensOne shelf.rules.number result (R.view rack.old) (R.view rack.new) }
     ensures disk { IsErrOf result Reopen.Disk →
         CountRose (R.view rack.old).faults (D.view shelf.journal.disk).faults
@@ -187,10 +186,12 @@ fn taken_empty<D: Disk, R: Rack<D>>(
     number: u32,
 ) -> Result<D, OpenCause>
     requires { (R.view rack.old).out number ≡ false }
-    ensures empty { IsTrue R.tells → IsTrue D.tells → TakesEmpty D.view ((R.view rack.old).holds number) result }
+    ensures empty { IsTrue R.tells → IsTrue D.tells →
+        TakesEmpty D.view ((R.view rack.old).holds number) result }
     ensures rack { OpensOne number result (R.view rack.old) (R.view rack.new) }
-    ensures disk { IsErrOf result OpenCause.Disk → Rose (R.view rack.old).faults (R.view rack.new).faults }
-    ensures later { CountStays (R.view rack.old).faults 0 (R.view rack.new).faults (disk_faults D.view result) }
+    ensures disk { IsErrOf result OpenCause.Disk → RackFailed (R.view rack.old) (R.view rack.new) }
+    ensures later { CountStays (R.view rack.old).faults 0
+        (R.view rack.new).faults (disk_faults D.view result) }
     ensures rack_later { OnOk result ((R.view rack.old).faults ≤ (R.view rack.new).faults) }
 {
     let mut disk = match taken(alloc, directory, rack, number) {
@@ -229,8 +230,9 @@ pub fn opened<D: Disk, R: Rack<D>>(
     ensures own { IsTrue R.tells → IsTrue D.tells →
         IfOk result (IsOwnShelf D.view D.tells (scripts_of setup.now)) }
     ensures rack { OpensOne rules.number result (R.view rack.old) (R.view rack.new) }
-    ensures disk { IsErrOf result OpenCause.Disk → Rose (R.view rack.old).faults (R.view rack.new).faults }
-    ensures later { CountStays (R.view rack.old).faults 0 (R.view rack.new).faults (faults_left D.view result) }
+    ensures disk { IsErrOf result OpenCause.Disk → RackFailed (R.view rack.old) (R.view rack.new) }
+    ensures later { CountStays (R.view rack.old).faults 0
+        (R.view rack.new).faults (faults_left D.view result) }
     ensures rack_later { OnOk result ((R.view rack.old).faults ≤ (R.view rack.new).faults) }
 {
     let disk = taken_empty(alloc, directory, rack, rules.number)?;

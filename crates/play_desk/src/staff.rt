@@ -1,6 +1,5 @@
-ghost use Rattle.std.specs.Prelude.{◌≡◌, ◌≢◌, ◌<◌, ◌^◌, true, IfOk, IfSome, is_some, length, map, option_map, replicate, slice_get, slice_set, Some, None};
+ghost use Rattle.std.specs.Prelude.{◌≡◌, ◌≢◌, ◌<◌, ◌^◌, IfOk, IfSome, is_some, length, map, option_map, replicate, slice_get, slice_set, Some, None};
 ghost use Rattle.script_nodes.specs.Views.{scripts_of};
-ghost use Rattle.page_names.specs.Names.{destination_of};
 ghost use Rattle.page_names.specs.Views.{target_of};
 ghost use Rattle.instance_book.specs.Fits.{IsRunnable};
 ghost use Rattle.instance_book.specs.Views.{ticket_of};
@@ -9,7 +8,7 @@ ghost use Rattle.shelf.specs.Views.{IsRunIfAny};
 ghost use Rattle.play_desk.specs.Desk as spec;
 ghost use Rattle.play_desk.specs.Desk.{without_shelf};
 ghost use Rattle.play_desk.specs.Target.{shelf_for};
-ghost use Rattle.play_desk.specs.Staff.{IsFit, KeepsOwn, PublishesTicket, StaysThere, SweepsShelf, TakesTicket, desk_of, place_of};
+ghost use Rattle.play_desk.specs.Staff.{HoldsTicket, IsFit, KeepsOwn, PublishesTicket, StaysThere, SweepsShelf, TakesTicket, desk_of, place_of};
 
 use crate::answer::answer_to;
 use http_forms::path_and_query;
@@ -74,7 +73,8 @@ pub fn no_tickets() -> [Option<Ticket>; 16]
 // What a worker holds once the tickets of the shelf at this place are lost.
 fn left_of(held: Option<Ticket>, count: usize, place: usize, worker: u32) -> Option<Ticket>
     requires { 0 < count }
-    ensures held { option_map ticket_of result ≡ spec.left_of count place worker (option_map ticket_of held) }
+    ensures held { option_map ticket_of result
+        ≡ spec.left_of count place worker (option_map ticket_of held) }
     ensures kept { IfSome result (λ t. (held ≡ Some t) × (place_of count worker t ≢ place)) }
 {
     let ticket = held?;
@@ -119,7 +119,7 @@ pub fn take<D: Disk>(
     requires worker { worker < 16 }
     requires fit { IsFit D.view D.tells (scripts_of setup.now) staff.old }
     ensures step { TakesTicket D.view setup.now staff.old worker target.now result staff.new }
-    ensures held { IfOk result (λ _. is_some (spec.ticket_of (desk_of setup.now staff.new) worker) ≡ true) }
+    ensures held { IfOk result (λ _. HoldsTicket setup.now staff.new worker) }
     ensures fit { IsFit D.view D.tells (scripts_of setup.now) staff.new }
     ensures own { KeepsOwn D.view D.tells setup.now staff.old staff.new }
     ensures there { StaysThere D.view staff.old staff.new }

@@ -38,7 +38,8 @@ use Rattle.site.specs.Openings.{scripts_in, IsOwnOpening, start_of, source_of, c
 use Rattle.site.specs.Sound.{IsSound, HasItsHistory, IsForItsVisit, Holds}
 use Rattle.site.proofs.Outs.{owes_taken}
 use Rattle.site.proofs.Replies.{take_admits}
-use Rattle.site.proofs.Sounds.{prefix_all, stepped}
+use Rattle.shelf_lock.proofs.Prefixes.{prefix_self}
+use Rattle.site.proofs.Sounds.{stepped}
 
 module _ {D N : Type 0} (view : D → View) (tells : Bool) (coming : N → ℕ → ℕ) (o : Opening D N) where
   -- what a take tells of its ticket
@@ -63,7 +64,7 @@ module _ {D N : Type 0} (view : D → View) (tells : Bool) (coming : N → ℕ �
         let admitted = take_admits (rules_of ss s.rules) (book_in ss s) (book_in ss t) target answer (source_of coming o (length (tickets_taken es))) ticket.number ticket.nonce at in
         record {
           front = es ++ e ∷ [];
-          begins = prefix_all (es ++ e ∷ []);
+          begins = prefix_self (es ++ e ∷ []);
           scripts = sym (ap (λ z. z.scripts) book);
           admitted = ap (λ b. refusal_of (admit b (target_of ticket.target))) (sym book) ∙ (ap (λ d. refusal_of (admit (book_in ss t) d)) gave.target_is ∙ admitted);
           fits = subst (λ b. FitsAs ss b ticket (admit b (target_of ticket.target))) book (gave.fits h.own.states);

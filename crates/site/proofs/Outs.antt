@@ -13,7 +13,7 @@ use Rattle.replay_spec.specs.Step.{Event, take, publish, sweep, swept, Fate, Rep
 use Rattle.replay_spec.specs.Runs.{drawn_by}
 use Rattle.replay_spec.specs.Invariant.{IsOrderly}
 use Rattle.replay_spec.specs.Laws.{IsLawful, Moment, tickets_by}
-use Rattle.replay_spec.proofs.Numbers.{tickets_out}
+use Rattle.replay_spec.proofs.Numbers.{numbers, numbers_spent, tickets_out}
 use Rattle.replay_spec.proofs.Stand.{among_of}
 use Rattle.instance_book.specs.Views.{reply_of}
 use Rattle.shelf.specs.Views.{swept_of}
@@ -21,7 +21,7 @@ use Rattle.shelf.proofs.Order.{quiet}
 use Rattle.shelf_history.specs.Histories.{Entry, MayCome, Owes, own_of, owed_by, tickets_left}
 use Rattle.shelf_history.specs.Laws.{take_of, given_by, tickets_taken}
 use Rattle.shelf_history.proofs.Members.{contains_mapped, contains_none}
-use Rattle.shelf_history.proofs.Numbers.{numbers, given_next}
+use Rattle.shelf_history.proofs.Numbers.{given_next}
 use Rattle.shelf_history.proofs.Owing.{IsFresh, held_then, left_push}
 use Rattle.shelf_history.proofs.Twice.{taken_push}
 use Rattle.site.specs.Entries.{entry}
@@ -76,10 +76,6 @@ module _ (rules : Rules) (b c : Book) (nonce : ℕ) (x : Event) (fate : Fate) (r
       let old = subst (λ (ns : List ℕ). Contains ns u.number) (sym out) (contains_mapped (λ (v : Ticket). v.number) ts u there) in
       let below = orderly.below u.number (among_of b.out u.number old) in
       omega (arith, below, same, drawn)
-
-numbers_spent : (n : ℕ) (ts : List Ticket) → numbers (filter (λ u. not (u.number == n)) ts) ≡ filter (λ m. not (m == n)) (numbers ts)
-numbers_spent n [] = refl
-numbers_spent n (t ∷ ts) = grind (arith, numbers_spent n ts)
 
 -- behind a publish its number is out no more, whatever else it did
 pub spent_out : (out more : List ℕ) (es : List Entry) (caller : ℕ) (t : Ticket) (r : Reply) → AreOut out es → Owes caller t es → more ≡ filter (λ m. not (m == t.number)) out

@@ -12,6 +12,7 @@ use Rattle.replay_spec.specs.Admission.{when, or_else, refusal_of, admit}
 use Rattle.replay_spec.specs.Step.{Reply, taken, shown, finished, ended, refusal, fault, out_of_fuel, shelf_full, instance_full, disk_failed, down, oversize, journal_full, worn, memory, swept, live, down_by, refused_by, take_unless, take_by, take, Fate, plain, no_memory, disk_fault, lost, kept, step}
 use Rattle.script_value.specs.Val.{Val}
 use Rattle.replay_spec.specs.Rules.{Rules}
+use Rattle.replay_spec.proofs.Admitted.{admit_drawn}
 use Rattle.web_outside.specs.Causes.{Rose}
 use Rattle.shelf_history.specs.Histories as histories
 use Rattle.shelf_history.specs.Histories.{IsCounted}
@@ -73,10 +74,6 @@ took b c nonce n k (Some doubt) worn_out r h = absurd (let no : down doubt.count
 took b c nonce n k None true r h = absurd (let no : worn ≡ taken n k = ap (λ p. p.0) h in cc)
 took b c nonce n k None false None h = (refl, sym (ap (λ p. p.1) h))
 took b c nonce n k None false (Some r) h = absurd (let no : refusal r ≡ taken n k = ap (λ p. p.0) h in cc)
-
-admit_drawn : (b : Book) (d : Destination) → admit (draw b) d ≡ admit b d
-admit_drawn b (start name) = refl
-admit_drawn b (page name n) = refl
 
 pub take_admits : (rules : Rules) (b c : Book) (d : Destination) (a : Val) (nonce n k : ℕ) → step rules b nonce (take d a) plain ≡ (taken n k, c) → refusal_of (admit c d) ≡ None
 unfolding step

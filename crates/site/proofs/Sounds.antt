@@ -22,6 +22,8 @@ use Rattle.shelf_history.specs.Histories.{Entry, MayCome, fate_by, tickets_left}
 use Rattle.shelf_history.specs.Laws.{tickets_taken}
 use Rattle.shelf_history.specs.Kept.{IsKept}
 use Rattle.shelf_history.proofs.Keeping.{kept_on}
+use Rattle.shelf_lock.proofs.Prefixes.{prefix_self}
+use Rattle.shelf.proofs.Owned.{leaves_as}
 use Rattle.shelf.specs.declared.rules.Rules as limits_of
 use Rattle.shelf.specs.declared.shelf.Shelf.{Shelf}
 use Rattle.shelf.specs.Owning.{HoldsOwnRecords, StandsOwn}
@@ -37,19 +39,6 @@ use Rattle.site.proofs.Replies.{same_fate, counted, take_tells}
 
 pub prefix_on : {A : Type 0} (front es more : List A) → IsPrefix front es → IsPrefix front (es ++ more)
 prefix_on front es more p = (p.0 ++ more, sym (append_assoc front p.0 more) ∙ ap (λ l. l ++ more) p.1)
-
-pub prefix_all : {A : Type 0} (es : List A) → IsPrefix es es
-prefix_all es = ([], append-nil es)
-
-leaves_so : (v0 v1 : View) (P Q : List ℕ → Type 0) → ((image : List ℕ) → P image → Q image) → LeavesOnly v0 v1 P → LeavesOnly v0 v1 Q
-leaves_so v0 v1 P Q so run = record {
-  later = run.later;
-  each = λ image left. so image (run.each image left);
-  before = λ t image le left. elim (run.before t image le left) [
-    | inl was ↦ inl was
-    | inr is ↦ inr (so image is)
-  ];
-}
 
 -- what two runs leave, together
 leaves_both : (v0 v1 : View) (P Q : List ℕ → Type 0) → LeavesOnly v0 v1 P → LeavesOnly v0 v1 Q → LeavesOnly v0 v1 (λ image. P image × Q image)
@@ -115,7 +104,7 @@ module _ {D N : Type 0} (view : D → View) (tells : Bool) (coming : N → ℕ �
               (λ image left. record {
                 own = (its.images.0, its.images.1 image (only_now image left));
                 front = none;
-                begins = prefix_all none;
+                begins = prefix_self none;
                 makes = makes_either ss n (rules_of ss s.rules) m b b image its.stands.1.1.1 (law ss n b (if_kept m b) its.stands.1.0 image (its.stands.1.1.0 image (only_now image left)));
               });
         };
@@ -166,7 +155,7 @@ module _ {D N : Type 0} (view : D → View) (tells : Bool) (coming : N → ℕ �
         let b = book_in ss s in
         let c = if_kept th.0 (book_in ss t) in
         leaves_then (view o.shelf.value.journal.disk) (view s.journal.disk) (view t.journal.disk) Q (p.ever told)
-        (leaves_so _ _ (Held th.1.0) Q
+        (leaves_as _ _ (Held th.1.0) Q
         (λ image held. some_book o b c image
         (subst (λ (r : limits_of.Rules). MakesIn ss r.number image b ⊎ MakesIn ss r.number image c) p.rules (law ss s.rules.number b c th.1.0 image held))) th.1.1)
 
@@ -219,13 +208,13 @@ module _ {D N : Type 0} (view : D → View) (tells : Bool) (coming : N → ℕ �
           (subst (λ (r : limits_of.Rules). P r b c image) p.rules
           (both.0, makes_either ss n (rules_of ss s.rules) k.0 b c image k.2 (law ss n b (if_kept k.0 c) k.1.0 image both.1)))) in
           leaves_then (view o.shelf.value.journal.disk) (view s.journal.disk) (view t.journal.disk) Q
-          (leaves_so _ _ (IsLeft view tells coming o es) Q (left_more (e ∷ [])) (h.ever told))
-          (leaves_so _ _ (λ image. HoldsOwnRecords ss n image × Held k.1.0 image) Q
+          (leaves_as _ _ (IsLeft view tells coming o es) Q (left_more (e ∷ [])) (h.ever told))
+          (leaves_as _ _ (λ image. HoldsOwnRecords ss n image × Held k.1.0 image) Q
           (λ image both.
           let there = here image both in
           elim there.1 [
             | inl x ↦ record { own = there.0; front = es; begins = (e ∷ [], refl); makes = inl x }
-            | inr y ↦ record { own = there.0; front = es ++ e ∷ []; begins = prefix_all (es ++ e ∷ []); makes = inr y }
+            | inr y ↦ record { own = there.0; front = es ++ e ∷ []; begins = prefix_self (es ++ e ∷ []); makes = inr y }
           ])
           (leaves_both (view s.journal.disk) (view t.journal.disk) (HoldsOwnRecords ss n) (Held k.1.0) th.own k.1.1))
 
@@ -233,7 +222,7 @@ module _ {D N : Type 0} (view : D → View) (tells : Bool) (coming : N → ℕ �
       pub ever_same : (e : Entry) → t.journal ≡ s.journal → IsTrue tells → LeavesOnly (view o.shelf.value.journal.disk) (view t.journal.disk) (IsLeft view tells coming o (es ++ e ∷ []))
       ever_same e same told =
           subst (λ j. LeavesOnly (view o.shelf.value.journal.disk) (view j.disk) (IsLeft view tells coming o (es ++ e ∷ []))) (sym same)
-          (leaves_so _ _ (IsLeft view tells coming o es) (IsLeft view tells coming o (es ++ e ∷ [])) (left_more (e ∷ [])) (h.ever told))
+          (leaves_as _ _ (IsLeft view tells coming o es) (IsLeft view tells coming o (es ++ e ∷ [])) (left_more (e ∷ [])) (h.ever told))
 
     -- one entry more
     pub sound_push : (e : Entry) → IsInOrder view tells (scripts_in o) t → AreOut (book_in (scripts_in o) t).out (es ++ e ∷ []) → HasGiven (source_of coming o) (length (tickets_taken (es ++ e ∷ []))) (coming t.nonces)

@@ -1,5 +1,6 @@
 -- What a site begins with, and what it hands back where it does not begin.
-use Rattle.std.specs.Prelude.{◌≡◌, ◌≤◌, ◌<◌, ◌-◌, ◌^◌, ℕ, Bool, IsTrue, List, [], ◌∷◌, length, Some, slice_get, vec_len, vec_capacity}
+use Rattle.std.specs.Prelude.{◌≡◌, ◌≤◌, ◌<◌, ◌-◌, ◌^◌, ℕ, Bool, IsTrue, List, [], ◌∷◌, ◌+◌, length, map, reverse, Some, slice_get, vec_len, vec_capacity}
+use Rattle.std.specs.Global.{Vec}
 use Rattle.web_outside.specs.Causes.{Rose}
 use Rattle.web_disk.specs.View.{View}
 use Rattle.script_nodes.specs.Setup.{Named}
@@ -21,8 +22,7 @@ use Rattle.site.specs.declared.kept.KeptShelf.{KeptShelf}
 use Rattle.site.specs.declared.opening.Opening.{Opening}
 use Rattle.site.specs.declared.fault.SiteFault.{SiteFault}
 use Rattle.site.specs.declared.site.Site.{Site}
-use Rattle.site.specs.Entries.{entries_of}
-use Rattle.site.specs.Sound.{IsSound}
+use Rattle.site.specs.Keeping.{IsSoundShelf}
 use Rattle.site.specs.Passes.{Spots}
 use Rattle.site.specs.Sites.{IsOwn}
 
@@ -57,7 +57,7 @@ module _ {D N : Type 0} (view : D → View) (tells : Bool) (coming : N → ℕ �
     pub setup_is : k.opened.setup.value ≡ setup
     pub opened_is : k.opened.shelf.value ≡ k.shelf
     pub history_is : k.history ≡ []
-    pub sound : IsSound view tells coming k.opened k.shelf (entries_of k.history)
+    pub sound : IsSoundShelf view tells coming k
     pub shelf : IsOpenedOn view tells (scripts_of setup) rules disk nonces k.shelf
 
   -- so each of these, on the disk and with the source of its place
@@ -65,6 +65,10 @@ module _ {D N : Type 0} (view : D → View) (tells : Bool) (coming : N → ℕ �
   AreFreshOn rules disks nonces ks =
       (k : ℕ) (d : D) (n : N) (s : KeptShelf D N) → slice_get disks k ≡ Some d → slice_get nonces k ≡ Some n → slice_get ks k ≡ Some s
       → IsFreshOn (rules_for rules k) d n s
+
+  -- shelves that were opened so on these disks, of which the last is the first shelf's, with sources in the same order
+  abbrev pub AreOpened : Rules → Vec D → Vec N → Vec (KeptShelf D N) → Type 0
+  AreOpened rules disks nonces ks = AreFreshOn rules (reverse disks.items) (reverse nonces.items) ks.items
 
 module _ {D : Type 0} (view : D → View) (tells : Bool) (scripts : List Named) where
   -- A disk that is handed back as the shelf's of this number: a crash at any moment left it between the books that it stood
@@ -94,6 +98,40 @@ module _ {D : Type 0} (view : D → View) (tells : Bool) (scripts : List Named) 
     pub why : IsTrue tells → (d : D) → slice_get disks shelf ≡ Some d → IsFaultOf scripts shelf (view d) fault
     pub cause : fault ≡ DiskFault → (d e : D) → slice_get disks shelf ≡ Some d → slice_get back shelf ≡ Some e
         → Rose (view d).faults (view e).faults
+
+module _ {D : Type 0} (view : D → View) (tells : Bool) (setup : Setup) where
+  -- why the shelf of this number was not opened, and its disk and its source
+  abbrev pub IsNotOpened : {N : Type 0} → ℕ → D → BeginFault × D × N → Type 0
+  IsNotOpened k disk left = IsUnopened view tells (scripts_of setup) k disk left.1 left.0
+
+  -- the shelf that was not opened, and why; the disks are handed back, of which the last is the first shelf's
+  abbrev pub AreNotOpened : (old new : Vec D) → ℕ × BeginFault → Type 0
+  AreNotOpened old new left = AreUnopened view tells (scripts_of setup) (reverse old.items) (reverse new.items) left.0 left.1
+
+module _ {D N : Type 0} where
+  -- the disks and the sources of these shelves
+  abbrev pub disks_of : List (KeptShelf D N) → List D
+  disks_of ks = map (λ k. k.shelf.journal.disk) ks
+
+  abbrev pub nonces_of : List (KeptShelf D N) → List N
+  nonces_of ks = map (λ k. k.shelf.nonces) ks
+
+  -- room for so many more disks and sources
+  abbrev pub HaveRoom : ℕ → Vec D → Vec N → Type 0
+  HaveRoom more disks nonces = (vec_len disks + more ≤ vec_capacity disks) × (vec_len nonces + more ≤ vec_capacity nonces)
+
+  -- the room for disks and for sources is as it was
+  abbrev pub KeepRoom : Vec D → Vec N → Vec D → Vec N → Type 0
+  KeepRoom disks nonces disks_then nonces_then =
+      (vec_capacity disks_then ≡ vec_capacity disks) × (vec_capacity nonces_then ≡ vec_capacity nonces)
+
+  -- no disk and no source is left
+  abbrev pub AreGone : Vec D → Vec N → Type 0
+  AreGone disks nonces = (disks.items ≡ []) × (nonces.items ≡ []) × (vec_len disks ≡ 0) × (vec_len nonces ≡ 0)
+
+-- there are so many
+abbrev pub HasMany : {T : Type 0} → ℕ → Vec T → Type 0
+HasMany many v = (length v.items ≡ many) × (vec_len v ≡ many)
 
 module _ {D N : Type 0} (view : D → View) (tells : Bool) (setup : Setup) (rules : Rules) where
   -- the shelf of this number was opened so, and lies behind its lock
@@ -159,3 +197,11 @@ module _ {D N : Type 0} where
   pub record IsFirstPass (site : Site D N) (caller : ℕ) (pass : Spots D N) : Type 0 where
     pub own : IsOwn site pass
     pub fresh : IsNewPass caller pass
+
+  -- so each of these, that of place k of caller k
+  abbrev pub AreFirstPasses : Site D N → Vec (Spots D N) → Type 0
+  AreFirstPasses site passes = (k : ℕ) (p : Spots D N) → slice_get passes.items k ≡ Some p → IsFirstPass site k p
+
+  -- the site gave passes to so many callers, and is as it was otherwise
+  abbrev pub GivesOut : ℕ → (old new : Site D N) → Type 0
+  GivesOut many old new = new ≡ record old { row = given_out many old.row }

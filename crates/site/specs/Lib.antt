@@ -1,6 +1,7 @@
 pub mod Entries
 pub mod Openings
 pub mod Sound
+pub mod Keeping
 pub mod Passes
 pub mod Sites
 pub mod Beginnings

@@ -1,10 +1,15 @@
 -- What the calls of a site do to a pass.
 use Rattle.std.specs.Prelude.{◌≡◌, ◌⊎◌, ◌≤◌, ◌%◌, ◌<◌, ◌^◌, ℕ, Bool, List, [], ◌∷◌, length, Option, Some, None, nat_lt, if◌then◌else◌, slice_get, Result, Ok, Err}
+use Rattle.std.specs.Global.{Vec}
 use Rattle.script_value.specs.Val.{Val}
 use Rattle.script_value.specs.declared.outcome.Reply.{Reply}
 use Rattle.script_value.specs.declared.outcome.Reply.TheVariants.{Refused}
 use Rattle.script_value.specs.declared.outcome.Refusal.TheVariants.{Unknown}
+use Rattle.script_value.specs.declared.value.Value.{Value}
+use Rattle.script_value.specs.Views.{meaning}
 use Rattle.page_names.specs.Names.{Destination, start, page}
+use Rattle.page_names.specs.declared.names.Target.{Target}
+use Rattle.page_names.specs.Views.{target_of}
 use Rattle.web_disk.specs.View.{View}
 use Rattle.lock_row.specs.Spots.{Spot, spot, IsOf, At, caller_at}
 use Rattle.instance_book.specs.declared.ticket.Ticket.{Ticket}
@@ -51,6 +56,22 @@ module _ {D N : Type 0} (view : D → View) (tells : Bool) (coming : N → ℕ �
   abbrev pub TakesAt : Spots D N → Destination → Val → Result Ticket Reply → Spots D N → Type 0
   TakesAt old target answer result new = TakesOn (shelf_for (length old) (caller_at old) target) old target answer result new
 
+  -- the same by the target and the answer as they were passed
+  abbrev pub TakesFor : Target → Value → Result Ticket Reply → (old new : Spots D N) → Type 0
+  TakesFor target answer result old new = TakesAt old (target_of target) (meaning answer) result new
+
+  -- a take on the shelf at this place
+  abbrev pub TookAt : ℕ → Target → Value → Result Ticket Reply → (old new : Spots D N) → Type 0
+  TookAt k target answer result old new = At k (λ v w. Took view tells coming v (target_of target) (meaning answer) result w) old new
+
+  -- a publish on the shelf at this place
+  abbrev pub PublishedAt : ℕ → Ticket → Reply → (old new : Spots D N) → Type 0
+  PublishedAt k t reply old new = At k (λ v w. Published view tells coming v t reply w) old new
+
+  -- a sweep of the shelf at this place
+  abbrev pub SweptAt : ℕ → (tick : ℕ) → Result ℕ Reply → (old new : Spots D N) → Type 0
+  SweptAt k tick result old new = At k (λ v w. Swept view tells coming v tick result w) old new
+
   -- the pass holds the ticket at this shelf
   pub record HoldsAt (pass : Spots D N) (t : Ticket) : Type 0 where
     pub shelf : ℕ
@@ -68,13 +89,17 @@ module _ {D N : Type 0} (view : D → View) (tells : Bool) (coming : N → ℕ �
   abbrev pub PublishesAt : Spots D N → Ticket → Reply → Spots D N → Type 0
   PublishesAt old t r new =
       (k : ℕ) × (shelf_for (length old) (caller_at old) (ticket_of t).target ≡ Some k)
-      × At k (λ v w. Published view tells coming v t r w) old new
+      × PublishedAt k t r old new
 
   -- a take that gave a ticket and the publish of that; or a take that gave none
   abbrev pub VisitsAt : Spots D N → Destination → Val → Reply → Spots D N → Type 0
   VisitsAt old target answer reply new =
       ((t : Ticket) × (middle : Spots D N) × TakesAt old target answer (Ok t) middle × PublishesAt middle t reply new)
       ⊎ TakesAt old target answer (Err reply) new
+
+  -- the same by the target and the answer as they were passed
+  abbrev pub VisitsFor : Target → Value → Reply → (old new : Spots D N) → Type 0
+  VisitsFor target answer reply old new = VisitsAt old (target_of target) (meaning answer) reply new
 
   -- a tick so far: each shelf that answered was swept, and the others are as they were
   pub record TicksSoFar (old : Spots D N) (tick : ℕ) (answers : List (Result ℕ Reply)) (new : Spots D N) : Type 0 where
@@ -86,3 +111,7 @@ module _ {D N : Type 0} (view : D → View) (tells : Bool) (coming : N → ℕ �
   pub record Ticks (old : Spots D N) (tick : ℕ) (answers : List (Result ℕ Reply)) (new : Spots D N) : Type 0 where
     pub all : length answers ≡ length old
     pub so : TicksSoFar old tick answers new
+
+  -- these are the answers of such a tick
+  abbrev pub AnswersTick : (tick : ℕ) → (old new : Spots D N) → Vec (Result ℕ Reply) → Type 0
+  AnswersTick tick old new answers = Ticks old tick answers.items new

@@ -1,9 +1,9 @@
 //! Opening the shelves of a site, and handing them back.
-ghost use Rattle.std.specs.Prelude.{◌≡◌, ◌≤◌, ◌+◌, ◌++◌, [], length, IfOk, IfErr, OnOk, OnErr, reverse, map, vec_len, vec_capacity};
+ghost use Rattle.std.specs.Prelude.{◌≡◌, ◌≤◌, ◌++◌, length, IfOk, IfErr, OnOk, OnErr, reverse, vec_len};
 ghost use Rattle.script_nodes.specs.Views.{scripts_of};
 ghost use Rattle.journal_records.specs.Records.{IsInGrammar, begin_of};
 ghost use Rattle.shelf.specs.Ranges.{AreInRange};
-ghost use Rattle.site.specs.Beginnings.{rules_for, CanBegin, IsFreshOn, AreFreshOn, IsUnopened, AreUnopened};
+ghost use Rattle.site.specs.Beginnings.{rules_for, CanBegin, IsFreshOn, AreOpened, IsNotOpened, AreNotOpened, HaveRoom, KeepRoom, AreGone, HasMany, disks_of, nonces_of};
 
 use crate::entry::KeptEntry;
 use crate::fault::SiteFault;
@@ -24,12 +24,9 @@ pub const MOST_PASSES: u32 = 16;
 
 impl<D: Disk, N: Nonces + Drop> Site<D, N> {
     ghost use Rattle.std.specs.Prelude.{Some, ℕ, slice_get};
-    ghost use Rattle.shelf_history.specs.Passes.{IsSeenBy};
-    ghost use Rattle.site.specs.Entries.{entries_of};
-    ghost use Rattle.site.specs.Passes.{seen_by};
     ghost use Rattle.site.specs.Sites.{IsOwn};
-    ghost use Rattle.site.specs.Ends.{IsBack};
-    ghost use Rattle.site.specs.Beginnings.{IsBegun, IsNotBegun, IsReady, IsWhole, IsFirstPass, given_out};
+    ghost use Rattle.site.specs.Ends.{AreBack, AllAreSeen};
+    ghost use Rattle.site.specs.Beginnings.{IsBegun, IsNotBegun, IsReady, IsWhole, AreFirstPasses, GivesOut, most_passes};
 
     /// Opens the shelves, each on the disk of its place, with the source of nonces of its place and under the limits with its
     /// place for their number, and puts them behind locks. Where a shelf is not opened, or memory ends, all disks and sources
@@ -88,16 +85,16 @@ impl<D: Disk, N: Nonces + Drop> Site<D, N> {
         }
     }
 
-    /// The passes of so many workers, 1 to 16: that of place k is for worker k, and has seen nothing. Want of memory changes
+    /// The passes of so many workers, 1 to `MOST_PASSES`: that of place k is for worker k, and has seen nothing. Want of memory changes
     /// nothing; else the site gives no others.
     pub fn passes(&mut self, alloc: Global, n: u32) -> Result<Vec<SitePass<D, N>>, AllocError>
         requires ready { IsReady self.old }
-        requires count { (1 ≤ n) × (n ≤ 16) }
+        requires count { (1 ≤ n) × (n ≤ most_passes) }
         ensures whole { IsWhole self.new }
         ensures memory { OnErr result (self.new ≡ self.old) }
-        ensures given { OnOk result (self.new ≡ record self.old { row = given_out n self.old.row }) }
+        ensures given { OnOk result (GivesOut n self.old self.new) }
         ensures count { IfOk result (λ v. length v.items ≡ n) }
-        ensures passes { IfOk result (λ v. (k : ℕ) (p : _) → slice_get v.items k ≡ Some p → IsFirstPass self.new k p) }
+        ensures passes { IfOk result (AreFirstPasses self.new) }
     {
         let mut passes = Vec::with_capacity(alloc, n as usize)?;
         for caller in 0..n {
@@ -123,12 +120,8 @@ impl<D: Disk, N: Nonces + Drop> Site<D, N> {
         ensures disks { length result.0.items ≡ length self.row.homes }
         ensures nonces { length result.1.items ≡ length self.row.homes }
         ensures histories { length result.2.items ≡ length self.row.homes }
-        ensures back { (k : ℕ) (h d n es : _) → slice_get self.row.homes k ≡ Some h → slice_get result.0.items k ≡ Some d
-            → slice_get result.1.items k ≡ Some n → slice_get result.2.items k ≡ Some es
-            → IsBack D.view D.tells N.nonce h.opening self.row.seats d n (entries_of es) }
-        ensures told { (k : ℕ) (es : _) → slice_get result.2.items k ≡ Some es
-            → (j : ℕ) (p : _) → slice_get passes.items j ≡ Some p
-            → (a : _) → slice_get p k ≡ Some a → IsSeenBy a.known.caller (seen_by a.known) (entries_of es) }
+        ensures back { AreBack D.view D.tells N.nonce self.row result }
+        ensures told { AllAreSeen passes result.2 }
     {
         let Site {
             setup: _,
@@ -177,7 +170,7 @@ fn open_one<D: Disk, N: Nonces + Drop>(
     requires few { length (scripts_of setup.now) ≤ 256 }
     requires begins { IsInGrammar (begin_of rules.number (scripts_of setup.now)) }
     ensures opened { IfOk result (IsFreshOn D.view D.tells N.nonce setup.now rules disk source) }
-    ensures unopened { IfErr result (λ e. IsUnopened D.view D.tells (scripts_of setup.now) rules.number disk e.1 e.0) }
+    ensures unopened { IfErr result (IsNotOpened D.view D.tells setup.now rules.number disk) }
     ensures source { IfErr result (λ e. e.2 ≡ source) }
 {
     match Shelf::begin(alloc, disk, source, setup, rules) {
@@ -200,11 +193,12 @@ fn open_all<D: Disk, N: Nonces + Drop>(
     requires nonces { length nonces.old.items ≡ rules.shelves }
     requires few { length (scripts_of setup.now) ≤ 256 }
     requires begins { CanBegin (scripts_of setup.now) rules.shelves }
-    ensures opened { IfOk result (λ v. AreFreshOn D.view D.tells N.nonce setup.now rules (reverse disks.old.items) (reverse nonces.old.items) v.items) }
-    ensures many { IfOk result (λ v. (length v.items ≡ rules.shelves) × (vec_len v ≡ rules.shelves)) }
-    ensures gone { OnOk result ((disks.new.items ≡ []) × (nonces.new.items ≡ []) × (vec_len disks.new ≡ 0) × (vec_len nonces.new ≡ 0)) }
-    ensures room { (vec_capacity disks.new ≡ vec_capacity disks.old) × (vec_capacity nonces.new ≡ vec_capacity nonces.old) }
-    ensures unopened { IfErr result (λ e. AreUnopened D.view D.tells (scripts_of setup.now) (reverse disks.old.items) (reverse disks.new.items) e.0 e.1) }
+    ensures opened { IfOk result
+        (AreOpened D.view D.tells N.nonce setup.now rules disks.old nonces.old) }
+    ensures many { IfOk result (HasMany rules.shelves) }
+    ensures gone { OnOk result (AreGone disks.new nonces.new) }
+    ensures room { KeepRoom disks.old nonces.old disks.new nonces.new }
+    ensures unopened { IfErr result (AreNotOpened D.view D.tells setup.now disks.old disks.new) }
     ensures sources { OnErr result (reverse nonces.new.items ≡ reverse nonces.old.items) }
 {
     let Ok(mut shelves) = Vec::with_capacity(alloc, disks.len()) else {
@@ -232,10 +226,10 @@ fn give_back<D: Disk, N: Nonces + Drop>(
     disks: &mut Vec<D>,
     nonces: &mut Vec<N>,
 )
-    requires room { (vec_len disks.old + vec_len shelves ≤ vec_capacity disks.old) × (vec_len nonces.old + vec_len shelves ≤ vec_capacity nonces.old) }
-    ensures disks { disks.new.items ≡ disks.old.items ++ reverse (map (λ k. k.shelf.journal.disk) shelves.items) }
-    ensures nonces { nonces.new.items ≡ nonces.old.items ++ reverse (map (λ k. k.shelf.nonces) shelves.items) }
-    ensures room { (vec_capacity disks.new ≡ vec_capacity disks.old) × (vec_capacity nonces.new ≡ vec_capacity nonces.old) }
+    requires room { HaveRoom (vec_len shelves) disks.old nonces.old }
+    ensures disks { disks.new.items ≡ disks.old.items ++ reverse (disks_of shelves.items) }
+    ensures nonces { nonces.new.items ≡ nonces.old.items ++ reverse (nonces_of shelves.items) }
+    ensures room { KeepRoom disks.old nonces.old disks.new nonces.new }
 {
     while let Some(shelf) = shelves.pop() {
         let (disk, source, _) = shelf.close();

@@ -24,26 +24,19 @@ pub struct KeptShelf<D: Disk, N: Drop> {
 }
 
 impl<D: Disk, N: Nonces + Drop> KeptShelf<D, N> {
-    ghost use Rattle.std.specs.Prelude.{◌≡◌, ◌<◌, ◌≤◌, ◌^◌, [], ◌∷◌, ◌++◌, length, IfOk, MatchResult, Ok};
-    ghost use Rattle.script_value.specs.Views.{meaning};
+    ghost use Rattle.std.specs.Prelude.{◌≡◌, ◌<◌, ◌^◌, [], length};
     ghost use Rattle.script_nodes.specs.Views.{scripts_of};
-    ghost use Rattle.page_names.specs.Views.{target_of};
-    ghost use Rattle.replay_spec.specs.Book.{reopened};
-    ghost use Rattle.replay_spec.specs.Step as step;
-    ghost use Rattle.instance_book.specs.Views.{ticket_of, reply_of};
-    ghost use Rattle.shelf.specs.Views.{IsInOrder, IsRunIfAny, book_in, taken_of, swept_of};
-    ghost use Rattle.site.specs.Entries.{entries_of, Comes, Sweeps};
-    ghost use Rattle.site.specs.Openings.{scripts_in};
-    ghost use Rattle.site.specs.Sound.{IsSound, Holds, Gives};
+    ghost use Rattle.shelf.specs.Views.{IsInOrder};
+    ghost use Rattle.site.specs.Keeping.{IsSoundShelf, IsHeldOn, GivesOn, OpensAs, IsReopened, IsRunOn, NotesTake, NotesPublish, NotesSweep};
 
     /// A shelf that was opened under this setup, with no entry yet.
     pub fn new(setup: &Setup, shelf: Shelf<D, N>) -> KeptShelf<D, N>
         requires in_order { IsInOrder D.view D.tells (scripts_of setup.now) shelf }
-        requires opened { book_in (scripts_of setup.now) shelf ≡ reopened (book_in (scripts_of setup.now) shelf) }
-        ensures opened { (result.opened.setup.value ≡ setup.now) × (result.opened.shelf.value ≡ shelf) }
+        requires opened { IsReopened (scripts_of setup.now) shelf }
+        ensures opened { OpensAs setup.now shelf result }
         ensures shelf { result.shelf ≡ shelf }
         ensures fresh { result.history ≡ [] }
-        ensures sound { IsSound D.view D.tells N.nonce result.opened result.shelf (entries_of result.history) }
+        ensures sound { IsSoundShelf D.view D.tells N.nonce result }
     {
         images_make_books();
         let _count = shelf.faults();
@@ -69,11 +62,12 @@ impl<D: Disk, N: Nonces + Drop> KeptShelf<D, N> {
     ) -> Result<Ticket, Reply>
         requires room { length self.old.history < 2 ^ 62 }
         requires setup { setup.now ≡ self.old.opened.setup.value }
-        requires sound { IsSound D.view D.tells N.nonce self.old.opened self.old.shelf (entries_of self.old.history) }
-        ensures sound { IsSound D.view D.tells N.nonce self.new.opened self.new.shelf (entries_of self.new.history) }
+        requires sound { IsSoundShelf D.view D.tells N.nonce self.old }
+        ensures sound { IsSoundShelf D.view D.tells N.nonce self.new }
         ensures opened { self.new.opened ≡ self.old.opened }
-        ensures entry { Comes by (step.take (target_of target.now) (meaning answer)) (taken_of result) self.old.history self.new.history }
-        ensures gives { Gives D.view D.tells N.nonce self.old.opened (entries_of self.new.history) by (target_of target.now) (meaning answer) result }
+        ensures entry { NotesTake by target.now answer result self.old self.new }
+        ensures gives { GivesOn D.view D.tells N.nonce by
+            target.now answer result self.old self.new }
     {
         let asked = Snapshot::of(&answer);
         let told = self.shelf.take(alloc, setup, target, answer);
@@ -99,12 +93,12 @@ impl<D: Disk, N: Nonces + Drop> KeptShelf<D, N> {
     ) -> Reply
         requires room { length self.old.history < 2 ^ 62 }
         requires setup { setup.now ≡ self.old.opened.setup.value }
-        requires sound { IsSound D.view D.tells N.nonce self.old.opened self.old.shelf (entries_of self.old.history) }
-        requires held { Holds D.view D.tells N.nonce self.old.opened (entries_of self.old.history) by ticket }
-        requires segment { IsRunIfAny (scripts_of setup.now) self.old.opened.shelf.value.rules.fuel ticket segment }
-        ensures sound { IsSound D.view D.tells N.nonce self.new.opened self.new.shelf (entries_of self.new.history) }
+        requires sound { IsSoundShelf D.view D.tells N.nonce self.old }
+        requires held { IsHeldOn D.view D.tells N.nonce self.old by ticket }
+        requires segment { IsRunOn (scripts_of setup.now) self.old ticket segment }
+        ensures sound { IsSoundShelf D.view D.tells N.nonce self.new }
         ensures opened { self.new.opened ≡ self.old.opened }
-        ensures entry { Comes by (step.publish (ticket_of ticket)) (reply_of result) self.old.history self.new.history }
+        ensures entry { NotesPublish by ticket result self.old self.new }
     {
         images_make_books();
         tickets_go_on_to_fit();
@@ -124,10 +118,10 @@ impl<D: Disk, N: Nonces + Drop> KeptShelf<D, N> {
     pub fn sweep(&mut self, alloc: Global, by: u64, tick: u64) -> Result<u32, Reply>
         requires room { length self.old.history < 2 ^ 62 }
         requires tick { tick < 2 ^ 62 }
-        requires sound { IsSound D.view D.tells N.nonce self.old.opened self.old.shelf (entries_of self.old.history) }
-        ensures sound { IsSound D.view D.tells N.nonce self.new.opened self.new.shelf (entries_of self.new.history) }
+        requires sound { IsSoundShelf D.view D.tells N.nonce self.old }
+        ensures sound { IsSoundShelf D.view D.tells N.nonce self.new }
         ensures opened { self.new.opened ≡ self.old.opened }
-        ensures swept { Sweeps by tick result (book_in (scripts_in self.old.opened) self.old.shelf).clock self.old.history self.new.history }
+        ensures swept { NotesSweep by tick result self.old self.new }
     {
         images_make_books();
         if tick <= self.shelf.book().clock() {
@@ -162,8 +156,7 @@ impl<D: Disk, N: Nonces + Drop> KeptShelf<D, N> {
 
 impl<D: Disk, N: Nonces + Drop> Kept for KeptShelf<D, N> {
     ghost use Rattle.std.specs.Prelude.{◌≡◌, ℕ};
-    ghost use Rattle.site.specs.Entries.{entries_of};
-    ghost use Rattle.site.specs.Sound.{IsSound};
+    ghost use Rattle.site.specs.Keeping.{IsSoundShelf};
 
     type Opening = Opening<D, N>;
 
@@ -177,7 +170,7 @@ impl<D: Disk, N: Nonces + Drop> Kept for KeptShelf<D, N> {
 
     ghost caller = { λ e. e.caller };
 
-    ghost sound = { λ k. IsSound D.view D.tells N.nonce k.opened k.shelf (entries_of k.history) };
+    ghost sound = { λ k. IsSoundShelf D.view D.tells N.nonce k };
 
     fn first_number(&self) -> u64 {
         0

@@ -30,17 +30,12 @@ pub struct Site<D: Disk, N: Nonces + Drop> {
 }
 
 impl<D: Disk, N: Nonces + Drop> Site<D, N> {
-    ghost use Rattle.std.specs.Prelude.{◌≡◌, ◌<◌, ◌^◌, length, Some, IfOk, OnErr, ℕ, slice_get, List};
-    ghost use Rattle.std.specs.List.{AllZip};
-    ghost use Rattle.shelf_history.specs.Passes.{IsSeenBy};
-    ghost use Rattle.site.specs.Entries.{entries_of};
-    ghost use Rattle.site.specs.Ends.{HearsOf, IsBack};
+    ghost use Rattle.std.specs.Prelude.{◌≡◌, ◌<◌, ◌^◌, length, Some, IfOk, OnErr, ℕ, slice_get};
+    ghost use Rattle.site.specs.Ends.{HearsOf};
     ghost use Rattle.lock_row.specs.Rows.{IsNoteOf, ZipsAll};
-    ghost use Rattle.script_value.specs.Views.{meaning};
     ghost use Rattle.page_names.specs.Views.{target_of};
-    ghost use Rattle.lock_row.specs.Spots.{At, IsNoteIn};
-    ghost use Rattle.site.specs.Passes.{Took, Published, Swept, seen_by};
-    ghost use Rattle.site.specs.Sites.{IsOwn, HoldsThere, HoldsAt, IsRunThere, IsRunAt, shelf_for, TakesAt, PublishesAt, VisitsAt, Ticks};
+    ghost use Rattle.lock_row.specs.Spots.{IsNoteIn};
+    ghost use Rattle.site.specs.Sites.{IsOwn, HoldsThere, HoldsAt, IsRunThere, IsRunAt, shelf_for, TakesFor, TookAt, PublishesAt, PublishedAt, VisitsFor, SweptAt, AnswersTick};
     ghost use Rattle.script_nodes.specs.Views.{scripts_of};
     ghost use Rattle.instance_book.specs.Fits.{IsRunnable};
     ghost use Rattle.shelf.specs.Views.{IsRunIfAny};
@@ -84,7 +79,8 @@ impl<D: Disk, N: Nonces + Drop> Site<D, N> {
         requires own { IsOwn self.now pass.old }
         requires shelf { shelf < length self.now.row.homes }
         ensures own { IsOwn self.now pass.new }
-        ensures took { At shelf (λ v w. Took D.view D.tells N.nonce v (target_of target.now) (meaning answer) result w) pass.old pass.new }
+        ensures took { TookAt D.view D.tells N.nonce shelf
+            target.now answer result pass.old pass.new }
     {
         let by = pass.caller();
         let told = self.row.turn(
@@ -113,7 +109,8 @@ impl<D: Disk, N: Nonces + Drop> Site<D, N> {
         requires held { HoldsThere D.view D.tells N.nonce shelf pass.old ticket }
         requires segment { IsRunThere shelf pass.old ticket segment }
         ensures own { IsOwn self.now pass.new }
-        ensures published { At shelf (λ v w. Published D.view D.tells N.nonce v ticket result w) pass.old pass.new }
+        ensures published { PublishedAt D.view D.tells N.nonce shelf
+            ticket result pass.old pass.new }
     {
         let by = pass.caller();
         let told = self.row.turn(
@@ -140,7 +137,7 @@ impl<D: Disk, N: Nonces + Drop> Site<D, N> {
         requires shelf { shelf < length self.now.row.homes }
         requires tick { tick < 2 ^ 62 }
         ensures own { IsOwn self.now pass.new }
-        ensures swept { At shelf (λ v w. Swept D.view D.tells N.nonce v tick result w) pass.old pass.new }
+        ensures swept { SweptAt D.view D.tells N.nonce shelf tick result pass.old pass.new }
     {
         let by = pass.caller();
         let told = self.row.turn(
@@ -166,7 +163,7 @@ impl<D: Disk, N: Nonces + Drop> Site<D, N> {
     ) -> Result<Ticket, Reply>
         requires own { IsOwn self.now pass.old }
         ensures own { IsOwn self.now pass.new }
-        ensures took { TakesAt D.view D.tells N.nonce pass.old (target_of target.now) (meaning answer) result pass.new }
+        ensures took { TakesFor D.view D.tells N.nonce target.now answer result pass.old pass.new }
     {
         let Some(shelf) = self.shelf_for(pass.caller(), target) else {
             return Err(Reply::Refused(Refusal::Unknown));
@@ -207,7 +204,8 @@ impl<D: Disk, N: Nonces + Drop> Site<D, N> {
     ) -> Reply
         requires own { IsOwn self.now pass.old }
         ensures own { IsOwn self.now pass.new }
-        ensures visited { VisitsAt D.view D.tells N.nonce pass.old (target_of target.now) (meaning answer) result pass.new }
+        ensures visited { VisitsFor D.view D.tells N.nonce
+            target.now answer result pass.old pass.new }
     {
         let ticket = match self.take(rt, alloc, pass, target, answer) {
             Ok(ticket) => ticket,
@@ -252,7 +250,7 @@ impl<D: Disk, N: Nonces + Drop> Site<D, N> {
         requires own { IsOwn self.now pass.old }
         requires tick { tick < 2 ^ 62 }
         ensures own { IsOwn self.now pass.new }
-        ensures swept { IfOk result (λ v. Ticks D.view D.tells N.nonce pass.old tick v.items pass.new) }
+        ensures swept { IfOk result (AnswersTick D.view D.tells N.nonce tick pass.old pass.new) }
         ensures memory { OnErr result (pass.new ≡ pass.old) }
     {
         let shelves = self.shelves();

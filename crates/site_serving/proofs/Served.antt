@@ -16,6 +16,7 @@ use Rattle.request_workers.specs.declared.tally.WorkEnd.{WorkEnd}
 use Rattle.request_workers.specs.declared.tally.WorkEnd.TheVariants as ends
 use Rattle.lock_row.specs.Rows.{IsNewPass}
 use Rattle.lock_row.specs.Spots.{Spot, Home, home_of, caller_at}
+use Rattle.lock_row.proofs.Ends.{zip_length}
 use Rattle.lock_row.proofs.Places.{get_there, get_map, map_get, map_length, one_of}
 use Rattle.shelf_history.specs.Histories.{own_of}
 use Rattle.shelf_history.specs.Passes.{IsSeenBy}
@@ -43,12 +44,6 @@ zip_at R [] ys k x y all x_is y_is = absurd (let no : ⊥ = cc x_is in no)
 zip_at R (a ∷ xs) [] k x y all x_is y_is = absurd all
 zip_at R (a ∷ xs) (b ∷ ys) zero x y all x_is y_is = subst (λ u. R u y) (one_of x_is) (subst (R a) (one_of y_is) all.0)
 zip_at R (a ∷ xs) (b ∷ ys) (suc k) x y all x_is y_is = zip_at R xs ys k x y all.1 x_is y_is
-
-pub zip_long : {A B : Type 0} (R : A → B → Type 0) (xs : List A) (ys : List B) → AllZip R xs ys → length ys ≡ length xs
-zip_long R [] [] all = refl
-zip_long R [] (b ∷ ys) all = absurd all
-zip_long R (a ∷ xs) [] all = absurd all
-zip_long R (a ∷ xs) (b ∷ ys) all = ap suc (zip_long R xs ys all.1)
 
 module _ {D N : Type 0} where
   -- a pass that has seen nothing has seen no page
@@ -164,7 +159,7 @@ module _ {D P L N : Type 0} (v : Views D P L N) (site : Site D N) where
 
     one_before : (number : ℕ) (b : Worker (Spots D N) P) → slice_get f.served.after number ≡ Some b → (a : Worker (Spots D N) P) × (slice_get f.served.before number ≡ Some a)
     one_before number b b_is =
-        let long = zip_long (WorksAs (site_rules v.disk v.told v.nonce site) v.link v.porch v.shown) f.served.before f.served.after f.served.works in
+        let long = zip_length (WorksAs (site_rules v.disk v.told v.nonce site) v.link v.porch v.shown) f.served.before f.served.after f.served.works in
         get_there f.served.before number (let low = slice_get_within f.served.after number b b_is in omega (arith, low, long))
 
     -- each worker served its porch
@@ -173,7 +168,7 @@ module _ {D P L N : Type 0} (v : Views D P L N) (site : Site D N) where
       before = f.served.before;
       after = f.served.after;
       had = f.served.had_porches;
-      many = zip_long (WorksAs (site_rules v.disk v.told v.nonce site) v.link v.porch v.shown) f.served.before f.served.after f.served.works;
+      many = zip_length (WorksAs (site_rules v.disk v.told v.nonce site) v.link v.porch v.shown) f.served.before f.served.after f.served.works;
       served = has_served;
       counted = f.served.counted;
       closed = subst (λ ps. IfSome left.closed (λ kept. kept ≡ ps)) (sym f.served.has_porches) closed;
@@ -198,7 +193,7 @@ pub leaves_all : {D P L N : Type 0} (v : Views D P L N) (site : Site D N) (passe
     → slice_get histories k ≡ Some es → IsBack v.disk v.told v.nonce h.opening site.row.seats d n (entries_of es))
     → IfSome left.closed (λ kept. kept ≡ porches') → LeavesAll v site porches left workers disks (kept_of histories tallies)
 leaves_all {D = D} {P = P} {L = L} {N = N} v site passes porches passes' porches' tallies disks nonces histories left workers f many seats ds ns back closed =
-    let long = zip_long (WorksAs (site_rules v.disk v.told v.nonce site) v.link v.porch v.shown) f.served.before f.served.after f.served.works in
+    let long = zip_length (WorksAs (site_rules v.disk v.told v.nonce site) v.link v.porch v.shown) f.served.before f.served.after f.served.works in
     let first = ap length f.served.had_passes in
     let one = map_length (λ (w : Worker (Spots D N) P). w.pass) f.served.before in
     let two = map_length (λ (w : Worker (Spots D N) P). w.tally) f.served.after in
@@ -243,7 +238,7 @@ module _ {S P L : Type 0} (rules : PassRules S) (link : L → LinkView) (porch :
   pub as_many : (passes : List S) (porches : List P) (passes' : List S) (porches' : List P) (tallies : List Tally)
       → AreServed rules link porch shown passes porches passes' porches' tallies → length tallies ≡ length passes
   as_many passes porches passes' porches' tallies s =
-      let long = zip_long (WorksAs rules link porch shown) s.before s.after s.works in
+      let long = zip_length (WorksAs rules link porch shown) s.before s.after s.works in
       let first = ap length s.had_passes in
       let one = map_length (λ (w : Worker S P). w.pass) s.before in
       let two = map_length (λ (w : Worker S P). w.tally) s.after in

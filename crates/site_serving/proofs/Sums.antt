@@ -1,6 +1,6 @@
 -- The pages of all callers together are those of the histories.
 use Rattle.std.proofs.Common.{◌≡◌, ◌≢◌, ◌⊎◌, ◌≤◌, ◌<◌, ◌==◌, ℕ, zero, suc, ◌+◌, Bool, true, false, List, [], ◌∷◌, length, Some, slice_get, refl, ap, sym, ◌∙◌, inl, inr, arith}
-use Rattle.std.proofs.lemmas.Bool.Decides.{eqb_tells}
+use Rattle.std.proofs.lemmas.Bool.{eq-eqb, ne_eqb}
 use Rattle.std.specs.Prelude.{if◌then◌else◌}
 use Rattle.request_workers.specs.declared.tally.Tally.{Tally}
 use Rattle.shelf_history.specs.Histories.{Entry, own_of}
@@ -46,19 +46,13 @@ own_other : (b : Bool) (e : Entry) (own : List Entry) → b ≡ false → (if b 
 own_other true e own is = absurd (let no : ⊥ = cc is in no)
 own_other false e own is = refl
 
-test_of : (a b : ℕ) → a ≡ b → (a == b) ≡ true
-test_of a b is = elim (eqb_tells a b) [ inl t ↦ t.0 | inr f ↦ absurd (f.1 is) ]
-
-test_not : (a b : ℕ) → a ≢ b → (a == b) ≡ false
-test_not a b ne = elim (eqb_tells a b) [ inl t ↦ absurd (ne t.1) | inr f ↦ f.0 ]
-
 -- No caller from n on has an entry. Then none has among the later ones, and the first one's caller is below n.
 none_first : (b : Bool) (e : Entry) (own : List Entry) → (if b then e ∷ own else own) ≡ [] → (b ≡ false) × (own ≡ [])
 none_first true e own is = absurd (let no : ⊥ = cc is in no)
 none_first false e own is = (refl, is)
 
 below_of : (n c : ℕ) → ((who : ℕ) → n ≤ who → (c == who) ≡ false) → c < n
-below_of n c none = elim (lt_or c n) [ inl lt ↦ lt | inr le ↦ absurd (let t = test_of c c refl in let f = none c le in let no : ⊥ = cc in no) ]
+below_of n c none = elim (lt_or c n) [ inl lt ↦ lt | inr le ↦ absurd (let t = eq-eqb c c refl in let f = none c le in let no : ⊥ = cc in no) ]
   where
     lt_or : (a b : ℕ) → (a < b) ⊎ (b ≤ a)
     lt_or a b = grind arith
@@ -70,8 +64,8 @@ own_sum n (e ∷ es) none =
     let low = below_of n e.caller (λ who le. (parts who le).0) in
     let rest = own_sum n es (λ who le. (parts who le).1) in
     sum_more n e.caller (pages_by e.event e.reply) (λ who. pages_in (own_of who (e ∷ es))) (λ who. pages_in (own_of who es)) low
-    (own_first (e.caller == e.caller) e (own_of e.caller es) (test_of e.caller e.caller refl))
-    (λ who ne. ap pages_in (own_other (e.caller == who) e (own_of who es) (test_not e.caller who (λ (is : e.caller ≡ who). ne (sym is)))))
+    (own_first (e.caller == e.caller) e (own_of e.caller es) (eq-eqb e.caller e.caller refl))
+    (λ who ne. ap pages_in (own_other (e.caller == who) e (own_of who es) (ne_eqb e.caller who (λ (is : e.caller ≡ who). ne (sym is)))))
     ∙ ap (λ m. pages_by e.event e.reply + m) rest
 
 -- the pages of one caller, over all shelves

@@ -1,5 +1,6 @@
 -- The past of a serving.
-use Rattle.std.specs.Prelude.{List, map, Option, Some, option_map}
+use Rattle.std.specs.Prelude.{◌≡◌, List, map, Option, Some, IsSomeAnd, option_map}
+use Rattle.std.specs.Global.{Vec}
 use Rattle.past.specs.Entries.{entries}
 use Rattle.request_workers.specs.declared.tally.Tally.{Tally}
 use Rattle.site.specs.declared.entry.KeptEntry.{KeptEntry}
@@ -14,12 +15,23 @@ pub record Kept : Type 0 where
 abbrev pub kept_of : List (List KeptEntry) → List Tally → Kept
 kept_of histories tallies = record { histories = histories; tallies = tallies }
 
+-- the same of vectors
+abbrev pub kept_in : Vec (List KeptEntry) → Vec Tally → Kept
+kept_in histories tallies = kept_of histories.items tallies.items
+
 abbrev pub serving_of : KeptServing → Kept
-serving_of s = kept_of s.histories.value.items s.tallies.value.items
+serving_of s = kept_in s.histories.value s.tallies.value
 
 -- what was kept of each serving, and of the last
 abbrev pub told_by : KeptPast → Option (List Kept)
 told_by p = Some (map serving_of (entries p.servings.value))
 
 abbrev pub last_in : KeptPast → Option Kept
-last_in p = option_map (λ k. kept_of k.0.items k.1.items) p.last
+last_in p = option_map (λ k. kept_in k.0 k.1) p.last
+
+-- these are the tallies, and these the histories, of the last serving
+abbrev pub AreLastTallies : KeptPast → List Tally → Type 0
+AreLastTallies p tallies = IsSomeAnd (last_in p) (λ k. k.tallies ≡ tallies)
+
+abbrev pub AreLastHistories : KeptPast → List (List KeptEntry) → Type 0
+AreLastHistories p histories = IsSomeAnd (last_in p) (λ k. k.histories ≡ histories)

@@ -1,5 +1,6 @@
 -- What serving links from the shelves of a site comes to.
 use Rattle.std.specs.Prelude.{⊤, ◌≡◌, ◌⊎◌, ◌≤◌, [], ◌∷◌, ◌++◌, ℕ, List, Bool, length, Option, Some, All, IfSome, Result, Ok, Err, slice_get}
+use Rattle.web_outside.specs.Causes.{Rose}
 use Rattle.web_outside.specs.Doors.{GiveLists, HaveNone}
 use Rattle.web_outside.specs.Porches.{GainsLast}
 use Rattle.web_outside.specs.View.{LinkView, PorchView, DoorView}
@@ -143,6 +144,10 @@ pub record Leaves {D P L N : Type 0} (v : Views D P L N) (openings : List (Openi
   pub told : GainsLast past.before past.after kept
   pub served : IsServed v openings door left w disks kept
   pub ended : end_of kept.tallies ≡ end
+
+-- a call of the door failed, or one of a porch that it gave
+abbrev pub HasFailed : {P L : Type 0} → (before after : DoorView P L) → Type 0
+HasFailed before after = Rose before.faults after.faults
 
 -- why a door did not listen
 abbrev pub fault_of : DoorFault → ServingFault

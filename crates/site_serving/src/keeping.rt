@@ -1,7 +1,7 @@
 //! What takes the past of a serving.
-ghost use Rattle.std.specs.Prelude.{◌≡◌, ◌+◌, ◌<◌, ◌^◌, ◌++◌, ◌∷◌, [], List, Option, Some, None, length, map, IfSome};
+ghost use Rattle.std.specs.Prelude.{List, Option, None};
 ghost use Rattle.web_outside.specs.Porches.{GainsLast};
-ghost use Rattle.site_serving.specs.Kept.{Kept, kept_of};
+ghost use Rattle.site_serving.specs.Kept.{Kept, kept_in};
 
 use past::History;
 use request_workers::Tally;
@@ -15,7 +15,7 @@ pub trait Past {
 
     /// Is called once, when the workers of a serving have ended. It takes no memory.
     fn keep(&mut self, histories: Vec<History<KeptEntry>>, tallies: Vec<Tally>)
-        ensures { GainsLast (told self.old) (told self.new) (kept_of histories.items tallies.items) };
+        ensures { GainsLast (told self.old) (told self.new) (kept_in histories tallies) };
 }
 
 /// A past that nobody asks for: what it is given is dropped.

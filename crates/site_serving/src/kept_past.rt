@@ -21,8 +21,8 @@ pub struct KeptPast {
 }
 
 impl KeptPast {
-    ghost use Rattle.std.specs.Prelude.{◌≡◌, [], Some, None, IsSomeAnd, MatchOption};
-    ghost use Rattle.site_serving.specs.Kept.{last_in, told_by};
+    ghost use Rattle.std.specs.Prelude.{◌≡◌, [], Some, None, MatchOption};
+    ghost use Rattle.site_serving.specs.Kept.{AreLastHistories, AreLastTallies, last_in, told_by};
 
     /// A past that was given nothing yet.
     pub fn new() -> KeptPast
@@ -37,7 +37,8 @@ impl KeptPast {
 
     /// The tallies of the last serving that was kept, one for each worker; none where no serving was.
     pub fn tallies(&self) -> Option<&[Tally]>
-        ensures { MatchOption result (last_in self.now ≡ None) (λ ts. IsSomeAnd (last_in self.now) (λ k. k.tallies ≡ ts.now)) }
+        ensures { MatchOption result (last_in self.now ≡ None)
+            (λ ts. AreLastTallies self.now ts.now) }
     {
         match &self.last {
             Some((_, tallies)) => Some(tallies.as_slice()),
@@ -47,7 +48,8 @@ impl KeptPast {
 
     /// The histories of that serving, one for each shelf. A program can tell how many entries each has.
     pub fn histories(&self) -> Option<&[History<KeptEntry>]>
-        ensures { MatchOption result (last_in self.now ≡ None) (λ hs. IsSomeAnd (last_in self.now) (λ k. k.histories ≡ hs.now)) }
+        ensures { MatchOption result (last_in self.now ≡ None)
+            (λ hs. AreLastHistories self.now hs.now) }
     {
         match &self.last {
             Some((histories, _)) => Some(histories.as_slice()),
@@ -59,13 +61,13 @@ impl KeptPast {
 impl Past for KeptPast {
     ghost use Rattle.std.specs.Prelude.{◌≡◌, Some};
     ghost use Rattle.web_outside.specs.Porches.{GainsLast};
-    ghost use Rattle.site_serving.specs.Kept.{kept_of, last_in, told_by};
+    ghost use Rattle.site_serving.specs.Kept.{kept_in, last_in, told_by};
 
     ghost told = { told_by };
 
     fn keep(&mut self, histories: Vec<History<KeptEntry>>, tallies: Vec<Tally>)
-        ensures told { GainsLast (told_by self.old) (told_by self.new) (kept_of histories.items tallies.items) }
-        ensures last { last_in self.new ≡ Some (kept_of histories.items tallies.items) }
+        ensures told { GainsLast (told_by self.old) (told_by self.new) (kept_in histories tallies) }
+        ensures last { last_in self.new ≡ Some (kept_in histories tallies) }
     {
         let before = mem::replace(&mut self.servings, Snapshot::of(&past::Past::Nothing));
         let entry = KeptServing {

@@ -1,10 +1,9 @@
 //! Links of a door, served from the shelves of a site.
-ghost use Rattle.std.specs.Prelude.{◌≡◌, ◌≤◌, ◌<◌, ℕ, [], Some, length, slice_get, vec_len, IfOk, IfErr, IsErrOf};
-ghost use Rattle.web_outside.specs.Causes.{Rose};
+ghost use Rattle.std.specs.Prelude.{◌≡◌, ◌≤◌, ℕ, Some, length, slice_get, vec_len, IfOk, IsErrOf};
 ghost use Rattle.worker_threads.specs.Workers.{IsRoomFor};
-ghost use Rattle.site.specs.Beginnings.{IsFirstPass, IsReady, IsWhole};
+ghost use Rattle.site.specs.Beginnings.{IsReady, IsWhole, most_passes};
 ghost use Rattle.site.specs.Sites.{IsOwn};
-ghost use Rattle.site_serving.specs.Serving.{ComesTo, EndsAs, IsManned, fault_of, openings_of, pasts_of, views};
+ghost use Rattle.site_serving.specs.Serving.{ComesTo, EndsAs, HasFailed, IsManned, fault_of, openings_of, pasts_of, views};
 
 use crate::keeping::Past;
 use request_workers::{Tally, WorkEnd};
@@ -21,7 +20,7 @@ use worker_threads::{Room, serve_all, total};
 pub struct Watch {
     /// The port to listen at.
     pub port: u16,
-    /// How many workers there are, 1 to 16.
+    /// How many workers there are, 1 to `site::MOST_PASSES`.
     pub workers: u32,
     /// The most links that each of them serves.
     pub connections: u64,
@@ -59,7 +58,7 @@ fn gather<D: Disk, N: Nonces + Drop, P>(
     count: u32,
 ) -> Result<Crew<D, N, P>, AllocError>
     requires ready { IsReady site.old }
-    requires range { (1 ≤ count) × (count ≤ 16) }
+    requires range { (1 ≤ count) × (count ≤ most_passes) }
     ensures whole { IsWhole site.new }
     ensures homes { site.new.row.homes ≡ site.old.row.homes }
     ensures manned { IfOk result (λ c. IsManned site.new count c.passes.items) }
@@ -120,13 +119,15 @@ where
     <<A::Porch as Porch>::Link as Link>::Output: Send,
     requires whole { IsWhole site }
     requires manned { IsManned site (vec_len passes) passes.items }
-    requires few { vec_len passes ≤ 16 }
+    requires few { vec_len passes ≤ most_passes }
     requires pairs { vec_len porches ≡ vec_len passes }
     requires room { IsRoomFor (vec_len passes) room }
     ensures disks { length result.0.items ≡ length site.row.homes }
-    ensures ends { EndsAs (views D.view D.tells A.Porch.Link.view A.Porch.view N.nonce (C.shows clock.now)) site porches.items
-        (A.view door.new) (pasts_of (P.told past.old) (P.told past.new)) (vec_len passes) result.0.items result.1 }
-    ensures failed { result.1.end ≡ WorkEnd.Failed → Rose (A.view door.old).faults (A.view door.new).faults }
+    ensures ends { EndsAs
+        (views D.view D.tells A.Porch.Link.view A.Porch.view N.nonce (C.shows clock.now))
+        site porches.items (A.view door.new) (pasts_of (P.told past.old) (P.told past.new))
+        (vec_len passes) result.0.items result.1 }
+    ensures failed { result.1.end ≡ WorkEnd.Failed → HasFailed (A.view door.old) (A.view door.new) }
     ensures later { (A.view door.old).faults ≤ (A.view door.new).faults }
 {
     let mut passes = passes;
@@ -180,12 +181,15 @@ where
     <<A::Porch as Porch>::Link as Link>::Input: Send,
     <<A::Porch as Porch>::Link as Link>::Output: Send,
     requires ready { IsReady site }
-    requires workers { (1 ≤ watch.now.workers) × (watch.now.workers ≤ 16) }
+    requires workers { (1 ≤ watch.now.workers) × (watch.now.workers ≤ most_passes) }
     requires links { watch.now.connections ≤ CONNECTION_LIMIT }
     ensures disks { length result.0.items ≡ length site.row.homes }
-    ensures comes { ComesTo (views D.view D.tells A.Porch.Link.view A.Porch.view N.nonce (C.shows clock.now)) (openings_of site.row.homes)
-        (A.view door.old) (A.view door.new) (pasts_of (P.told past.old) (P.told past.new)) watch.now result.0.items result.1 }
-    ensures door { IsErrOf result.1 ServingFault.Door → Rose (A.view door.old).faults (A.view door.new).faults }
+    ensures comes { ComesTo
+        (views D.view D.tells A.Porch.Link.view A.Porch.view N.nonce (C.shows clock.now))
+        (openings_of site.row.homes) (A.view door.old) (A.view door.new)
+        (pasts_of (P.told past.old) (P.told past.new)) watch.now result.0.items result.1 }
+    ensures door { IsErrOf result.1 ServingFault.Door
+        → HasFailed (A.view door.old) (A.view door.new) }
     ensures later { (A.view door.old).faults ≤ (A.view door.new).faults }
 {
     let mut site = site;

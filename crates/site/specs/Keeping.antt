@@ -1,0 +1,62 @@
+-- What the calls of a shelf that is kept behind a lock ask for and do.
+use Rattle.std.specs.Prelude.{◌≡◌, ℕ, Bool, List, Option, Result}
+use Rattle.script_value.specs.declared.outcome.Reply.{Reply}
+use Rattle.script_value.specs.declared.value.Value.{Value}
+use Rattle.script_value.specs.Views.{meaning}
+use Rattle.script_nodes.specs.Setup.{Named}
+use Rattle.script_nodes.specs.declared.setup.Setup.{Setup}
+use Rattle.page_names.specs.declared.names.Target.{Target}
+use Rattle.page_names.specs.Views.{target_of}
+use Rattle.web_disk.specs.View.{View}
+use Rattle.replay_spec.specs.Book.{reopened}
+use Rattle.replay_spec.specs.Step as step
+use Rattle.instance_book.specs.declared.ticket.Ticket.{Ticket}
+use Rattle.instance_book.specs.Views.{ticket_of, reply_of}
+use Rattle.stored_states.specs.declared.segment.Segment.{Segment}
+use Rattle.shelf.specs.declared.shelf.Shelf.{Shelf}
+use Rattle.shelf.specs.Views.{IsRunIfAny, book_in, taken_of}
+use Rattle.site.specs.declared.kept.KeptShelf.{KeptShelf}
+use Rattle.site.specs.Entries.{Comes, Sweeps, entries_of}
+use Rattle.site.specs.Openings.{scripts_in}
+use Rattle.site.specs.Sound.{IsSound, Holds, Gives}
+
+module _ {D N : Type 0} (view : D → View) (tells : Bool) (coming : N → ℕ → ℕ) where
+  -- it is sound, with its history since it was opened
+  abbrev pub IsSoundShelf : KeptShelf D N → Type 0
+  IsSoundShelf k = IsSound view tells coming k.opened k.shelf (entries_of k.history)
+
+  -- by its history the caller holds the ticket
+  abbrev pub IsHeldOn : KeptShelf D N → (caller : ℕ) → Ticket → Type 0
+  IsHeldOn k caller t = Holds view tells coming k.opened (entries_of k.history) caller t
+
+  -- by the history behind a take the caller was given what it was told
+  abbrev pub GivesOn : (caller : ℕ) → Target → Value → Result Ticket Reply → (old new : KeptShelf D N) → Type 0
+  GivesOn caller target answer told old new =
+      Gives view tells coming old.opened (entries_of new.history) caller (target_of target) (meaning answer) told
+
+module _ {D N : Type 0} where
+  -- its opening is under this setup, and of this shelf
+  abbrev pub OpensAs : Setup → Shelf D N → KeptShelf D N → Type 0
+  OpensAs setup shelf k = (k.opened.setup.value ≡ setup) × (k.opened.shelf.value ≡ shelf)
+
+  -- a shelf as it is behind a crash
+  abbrev pub IsReopened : List Named → Shelf D N → Type 0
+  IsReopened scripts shelf = book_in scripts shelf ≡ reopened (book_in scripts shelf)
+
+  -- the segment, if there is one, is that of the ticket's run under the limits that the shelf was opened under
+  abbrev pub IsRunOn : List Named → KeptShelf D N → Ticket → Option Segment → Type 0
+  IsRunOn scripts k t segment = IsRunIfAny scripts k.opened.shelf.value.rules.fuel t segment
+
+  -- the take is the next entry
+  abbrev pub NotesTake : (caller : ℕ) → Target → Value → Result Ticket Reply → (old new : KeptShelf D N) → Type 0
+  NotesTake caller target answer told old new =
+      Comes caller (step.take (target_of target) (meaning answer)) (taken_of told) old.history new.history
+
+  -- the publish is the next entry
+  abbrev pub NotesPublish : (caller : ℕ) → Ticket → Reply → (old new : KeptShelf D N) → Type 0
+  NotesPublish caller t told old new = Comes caller (step.publish (ticket_of t)) (reply_of told) old.history new.history
+
+  -- the sweep is the next entry, where its tick is later than the clock; else there is none
+  abbrev pub NotesSweep : (caller tick : ℕ) → Result ℕ Reply → (old new : KeptShelf D N) → Type 0
+  NotesSweep caller tick told old new =
+      Sweeps caller tick told (book_in (scripts_in old.opened) old.shelf).clock old.history new.history
