@@ -30,7 +30,7 @@ shares_all [] [] n rest h all long = refl
 shares_all [] (y ∷ ys) n rest h all long = absurd (let no : ⊥ = omega (arith, long) in no)
 shares_all (x ∷ xs) [] n rest h all long = absurd (let no : ⊥ = omega (arith, long) in no)
 shares_all (x ∷ xs) (y ∷ ys) zero rest h all long = absurd (let no : ⊥ = omega (arith, all) in no)
-shares_all (x ∷ xs) (y ∷ ys) (suc n) rest h all long =
+shares_all {A = A} (x ∷ xs) (y ∷ ys) (suc n) rest h all long =
     let fewer : n ≡ length xs = omega (arith, all) in
     let later : length xs ≡ length ys = omega (arith, long) in
     ap (λ (z : A). z ∷ xs) h.0 ∙ ap (λ (zs : List A). y ∷ zs) (shares_all xs ys n rest h.1 fewer later)
