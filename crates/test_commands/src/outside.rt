@@ -1,5 +1,6 @@
 //! An outside in memory, which fails where it is told to, and what a command comes to over it.
 
+use crate::texts::input_of;
 use file_disk::ServedRack;
 use server_command::{NoPast, command};
 use std::alloc::Global;
@@ -58,6 +59,41 @@ pub struct Outcome {
     pub handed: bool,
 }
 
+// The status that a command with these words ends with, over this input and this output.
+fn status_of<R: Machine>(
+    rt: &R,
+    words: &[&str],
+    source: &mut TextSource,
+    sink: &mut TextSink,
+) -> u8 {
+    let alloc = rt.alloc();
+    let mut rack = ServedRack::new(rt, alloc);
+    let mut door = ListDoor::new(alloc, 0, Vec::new(alloc), Vec::new(alloc));
+    let mut seeds = ListSeeds::new(Vec::new(alloc));
+    command(
+        rt,
+        alloc,
+        words,
+        source,
+        sink,
+        &mut rack,
+        &mut door,
+        &SetClock::new(0),
+        &mut seeds,
+        &OpenGate,
+        &mut NoPast,
+    )
+}
+
+// The output of a run that is treated so.
+fn sink_of(alloc: Global, outside: &Outside) -> Result<TextSink, Fail> {
+    let mut sink = TextSink::new(alloc, outside.room, outside.writes.to_vec(alloc)?)?;
+    if outside.stuck {
+        sink.stick();
+    }
+    Ok(sink)
+}
+
 /// What a command with these words and this input comes to.
 pub fn ran<R: Machine>(
     rt: &R,
@@ -68,27 +104,8 @@ pub fn ran<R: Machine>(
     let alloc = rt.alloc();
     let reads = outside.reads.to_vec(alloc)?;
     let mut source = TextSource::new(input.to_vec(alloc)?, reads, outside.greatest.max(1));
-    let mut sink = TextSink::new(alloc, outside.room, outside.writes.to_vec(alloc)?)?;
-    if outside.stuck {
-        sink.stick();
-    }
-    let mut rack = ServedRack::new(rt, alloc);
-    let mut door = ListDoor::new(alloc, 0, Vec::new(alloc), Vec::new(alloc));
-    let mut seeds = ListSeeds::new(Vec::new(alloc));
-    let clock = SetClock::new(0);
-    let status = command(
-        rt,
-        alloc,
-        words,
-        &mut source,
-        &mut sink,
-        &mut rack,
-        &mut door,
-        &clock,
-        &mut seeds,
-        &OpenGate,
-        &mut NoPast,
-    );
+    let mut sink = sink_of(alloc, outside)?;
+    let status = status_of(rt, words, &mut source, &mut sink);
     Ok(Outcome {
         status,
         text: String::from_str(alloc, str::from_utf8(sink.bytes())?)?,
@@ -96,65 +113,13 @@ pub fn ran<R: Machine>(
     })
 }
 
-/// A setup of these names and texts of scripts.
-pub fn setup_of(alloc: Global, scripts: &[(&str, &str)]) -> Result<String, Fail> {
-    let mut setup = String::new(alloc);
-    for (name, text) in scripts {
-        let length = text.len();
-        setup.push_str(format!(in alloc; "script {name} {length}\n{text}\n")?.as_str())?;
-    }
-    Ok(setup)
-}
-
-/// The input of `play` with these scripts and steps.
-pub fn input_of(alloc: Global, scripts: &[(&str, &str)], steps: &str) -> Result<String, Fail> {
-    let setup = setup_of(alloc, scripts)?;
-    Ok(format!(in alloc; "{setup}steps\n{steps}")?)
+/// What `play` comes to for a script of this name and steps.
+pub fn played<R: Machine>(rt: &R, name: &str, script: &str, steps: &str) -> Result<Outcome, Fail> {
+    let input = input_of(rt.alloc(), &[(name, script)], steps)?;
+    ran(rt, PLAY, input.as_bytes(), &FAIR)
 }
 
 /// What `play` comes to for a script of the name `sum` and steps.
 pub fn answered<R: Machine>(rt: &R, script: &str, steps: &str) -> Result<Outcome, Fail> {
-    let input = input_of(rt.alloc(), &[("sum", script)], steps)?;
-    ran(rt, PLAY, input.as_bytes(), &FAIR)
-}
-
-/// A text between others, as often as `count` says.
-pub fn repeated(
-    alloc: Global,
-    before: &str,
-    text: &str,
-    count: usize,
-    after: &str,
-) -> Result<String, Fail> {
-    let mut all = String::from_str(alloc, before)?;
-    for _ in 0..count {
-        all.push_str(text)?;
-    }
-    all.push_str(after)?;
-    Ok(all)
-}
-
-/// The steps of a transcript, and what they print.
-#[derive(Drop)]
-pub struct Transcript {
-    pub steps: String,
-    pub printed: String,
-}
-
-/// The parts of a transcript, whose steps stand behind `> `.
-pub fn parts_of(alloc: Global, transcript: &str) -> Result<Transcript, Fail> {
-    let mut steps = String::new(alloc);
-    let mut printed = String::new(alloc);
-    let mut rest = transcript;
-    for _ in 0..transcript.len() {
-        let Some((line, after)) = rest.split_once('\n') else {
-            break;
-        };
-        match line.strip_prefix("> ") {
-            Some(step) => steps.push_str(format!(in alloc; "{step}\n")?.as_str())?,
-            None => printed.push_str(format!(in alloc; "{line}\n")?.as_str())?,
-        }
-        rest = after;
-    }
-    Ok(Transcript { steps, printed })
+    played(rt, "sum", script, steps)
 }

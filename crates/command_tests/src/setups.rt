@@ -1,7 +1,7 @@
 //! Limits of setups and of scripts, as `play` and `check` tell them, by texts that are too long for rows.
 
-use crate::outside::{CHECK, FAIR, Machine, PLAY, answered, ran, repeated, setup_of};
 use std::test::Fail;
+use test_commands::{CHECK, FAIR, Machine, PLAY, answered, ran, repeated, setup_of};
 
 // Whether the script of this text is refused with this fault.
 fn is_refused<R: Machine>(rt: &R, script: &str, fault: &str) -> Result<bool, Fail> {

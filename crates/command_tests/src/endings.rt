@@ -1,11 +1,11 @@
 //! How a run ends: by its words, by its input and by its output.
 
-use crate::outside::{
-    CHECK, FAIR, FULL, Outside, PLAY, STUCK, Transcript, answered, input_of, parts_of, ran,
-};
 use crate::transcripts::{SUM, SUM_SCRIPT};
 use std::alloc::Global;
 use std::test::Fail;
+use test_commands::{
+    CHECK, FAIR, FULL, Outside, PLAY, STUCK, Transcript, answered, input_of, parts_of, ran,
+};
 
 // Words that a line of rows cannot say.
 const NO_COMMANDS: &[&[&str]] = &[&["hovgyelit", ""], &["hovgyelit", "play", "--fuel", ""]];

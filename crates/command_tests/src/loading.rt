@@ -1,7 +1,7 @@
 //! Measured runs: their lines, and what they end with.
 
-use crate::outside::{FAIR, FULL, Outside, ran};
 use std::test::Fail;
+use test_commands::{FAIR, FULL, Outside, ran};
 
 const FIRST: &[&str] = &["hovgyelit", "load", "1"];
 

@@ -1,15 +1,8 @@
-//! Scripts, and a transcript of visits: each step stands behind `> `, and below it what it prints.
+//! A script, and a transcript of visits: each step stands behind `> `, and below it what it prints.
 
 /// A script that asks for two numbers, and shows their sum.
 pub const SUM_SCRIPT: &str =
     "(let ((a (string->number (extract-binding/single 'n (send/suspend (lambda (u) (list 'a (list (list 'href u)) \"1\")))))) (b (string->number (extract-binding/single 'n (send/suspend (lambda (u) (list 'a (list (list 'href u)) \"2\"))))))) (list 'p (number->string (+ a b))))";
-
-/// As many questions as the first answer says, and then the answers.
-pub const QUIZ_SCRIPT: &str = r#"(let ((b (send/suspend (lambda (u) `(a ((href ,u)) "k")))))
-  (cons 'p
-    (for/list ((i (string->number (extract-binding/single 'k b))))
-      (extract-binding/single 'a
-        (send/suspend (lambda (u) `(a ((href ,u)) ,(number->string i))))))))"#;
 
 /// A sum goes on, back, and again.
 pub const SUM: &str = r#"> get 0 /servlets/sum

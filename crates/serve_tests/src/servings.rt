@@ -1,0 +1,171 @@
+//! Setups that are served over links in memory, and what that comes to.
+
+use crate::streets::{Street, door_of};
+use file_disk::ServedRack;
+use server_command::{KeptPast, command};
+use std::alloc::Global;
+use std::test::Fail;
+use test_commands::{Machine, setup_of};
+use web_outside::{Clock, Gate, ListDoor, ListSeeds, OpenGate, SetClock, TextSink, TextSource};
+
+/// Words with one worker.
+pub const SERVE: &[&str] = &["hovgyelit", "serve", "--port", "0", "--workers", "1"];
+
+/// A script of one page.
+pub const TEN: (&str, &str) = ("ten", "'(p \"12345\")");
+
+/// A script that shows the bindings `n` of its answer.
+pub const ALL: (&str, &str) = (
+    "all",
+    "(let ((b (send/suspend (lambda (u) `(a ((href ,u)) \"1\"))))) (cons 'p (extract-bindings 'n b)))",
+);
+
+/// What a link is told that asks for the page of `ten`.
+pub const TEN_PAGE: &str =
+    "HTTP/1.1 200 OK\r\nContent-Type: text/html; charset=utf-8\r\nContent-Length: 12\r\nConnection: close\r\n\r\n<p>12345</p>";
+
+/// The status, what was told, what stands on the links, the pages that each worker counted, and how long the history of each
+/// shelf is.
+#[derive(Drop)]
+pub struct Ending {
+    pub status: u8,
+    pub text: String,
+    pub links: Vec<String>,
+    pub pages: Vec<u64>,
+    pub entries: Vec<u64>,
+}
+
+// What a serving runs on.
+#[derive(Drop)]
+struct Outside {
+    source: TextSource,
+    sink: TextSink,
+    door: ListDoor,
+    seeds: ListSeeds,
+    past: KeptPast,
+}
+
+impl Outside {
+    fn new(alloc: Global, input: &str, street: &Street) -> Result<Outside, Fail> {
+        Ok(Outside {
+            source: TextSource::new(input.as_bytes().to_vec(alloc)?, Vec::new(alloc), 4096),
+            sink: TextSink::new(alloc, street.room, Vec::new(alloc))?,
+            seeds: ListSeeds::new(street.draws.to_vec(alloc)?),
+            door: door_of(alloc, street)?,
+            past: KeptPast::new(),
+        })
+    }
+
+    // The status that serving with these words ends with.
+    fn serve<R: Machine, C: Clock + Sync, G: Gate + Sync>(
+        &mut self,
+        rt: &R,
+        words: &[&str],
+        clock: &C,
+        gate: &G,
+    ) -> u8 {
+        let alloc = rt.alloc();
+        let mut rack = ServedRack::new(rt, alloc);
+        command(
+            rt,
+            alloc,
+            words,
+            &mut self.source,
+            &mut self.sink,
+            &mut rack,
+            &mut self.door,
+            clock,
+            &mut self.seeds,
+            gate,
+            &mut self.past,
+        )
+    }
+}
+
+// What stands on the links that were served.
+fn links_of(alloc: Global, door: &ListDoor) -> Result<Vec<String>, Fail> {
+    let mut links = Vec::new(alloc);
+    for porch in door.closed() {
+        for link in porch.served() {
+            links.push(String::from_str(alloc, str::from_utf8(link.output.bytes())?)?)?;
+        }
+    }
+    Ok(links)
+}
+
+// The pages that each worker counted.
+fn pages_of(alloc: Global, past: &KeptPast) -> Result<Vec<u64>, Fail> {
+    let mut pages = Vec::new(alloc);
+    if let Some(tallies) = past.tallies() {
+        for tally in tallies {
+            pages.push(tally.pages)?;
+        }
+    }
+    Ok(pages)
+}
+
+// How long the history of each shelf is.
+fn entries_of(alloc: Global, past: &KeptPast) -> Result<Vec<u64>, Fail> {
+    let mut entries = Vec::new(alloc);
+    if let Some(histories) = past.histories() {
+        for history in histories {
+            entries.push(history.len())?;
+        }
+    }
+    Ok(entries)
+}
+
+// What a serving came to that ended with this status.
+fn ending_of(alloc: Global, status: u8, outside: &Outside) -> Result<Ending, Fail> {
+    Ok(Ending {
+        status,
+        text: String::from_str(alloc, str::from_utf8(outside.sink.bytes())?)?,
+        links: links_of(alloc, &outside.door)?,
+        pages: pages_of(alloc, &outside.past)?,
+        entries: entries_of(alloc, &outside.past)?,
+    })
+}
+
+/// What serving this input comes to, at this clock and through this gate.
+pub fn served_at<R: Machine, C: Clock + Sync, G: Gate + Sync>(
+    rt: &R,
+    words: &[&str],
+    input: &str,
+    street: &Street,
+    clock: &C,
+    gate: &G,
+) -> Result<Ending, Fail> {
+    let alloc = rt.alloc();
+    let mut outside = Outside::new(alloc, input, street)?;
+    let status = outside.serve(rt, words, clock, gate);
+    ending_of(alloc, status, &outside)
+}
+
+/// What serving this input comes to.
+pub fn served_input<R: Machine>(
+    rt: &R,
+    words: &[&str],
+    input: &str,
+    street: &Street,
+) -> Result<Ending, Fail> {
+    served_at(rt, words, input, street, &SetClock::new(0), &OpenGate)
+}
+
+/// What serving a script comes to.
+pub fn served<R: Machine>(
+    rt: &R,
+    words: &[&str],
+    script: (&str, &str),
+    street: &Street,
+) -> Result<Ending, Fail> {
+    let setup = setup_of(rt.alloc(), &[script])?;
+    served_input(rt, words, &setup, street)
+}
+
+/// What stands on the link of this number, the first being 0.
+pub fn told_on(ending: &Ending, number: usize) -> &str {
+    match ending.links.get(number) {
+        Some(text) => text.as_str(),
+        None => "",
+    }
+}
