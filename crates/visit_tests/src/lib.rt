@@ -3,8 +3,8 @@
 #![tactic(auto)]
 
 #[cfg(test)]
-mod quiz;
+mod isolates;
 #[cfg(test)]
-mod transactions;
+mod quiz;
 #[cfg(test)]
 mod visits;
