@@ -1,13 +1,13 @@
 -- A machine that fits stands on nodes that are there.
-use Rattle.std.proofs.Common.{◌≡◌, ℕ, ◌<◌, ◌^◌, List, ◌∷◌, length, Some, slice_get, sym, ap, subst, arith}
+use Rattle.std.proofs.Common.{◌≡◌, ℕ, ◌<◌, ◌^◌, List, ◌∷◌, length, sym, ap, subst, arith}
 use Rattle.script_value.specs.Val.{Val}
 use Rattle.script_nodes.specs.declared.script.Node.{Node}
 use Rattle.script_nodes.specs.Arena.{Arena, IsScript, parts}
 use Rattle.segment_progress.specs.States.{state_of}
 use Rattle.replay_spec.specs.Tape.{got}
 use Rattle.machine_spec.specs.Machine as spec
-use Rattle.machine_spec.specs.Machine.{node_at, bindings_in, next, goes, step, outer_env, outer_frames, stepped, in_binding, in_operand, in_seq, in_and, in_or, in_if, in_count, in_store, in_turn}
-use Rattle.machine_spec.specs.Fits.{node_of, place_of, IsKind, FitsAt}
+use Rattle.machine_spec.specs.Machine.{node_at, bindings_in, next, goes, step, outer_env, outer_frames, stepped, in_binding, in_operand, in_seq, in_and, in_or, in_if, in_count, in_store, in_turn, in_call, first_of}
+use Rattle.machine_spec.specs.Fits.{node_of, IsKind, IsPart, FitsAt}
 use Rattle.machine_spec.proofs.Fitting.{node_is_there, few_done}
 use Rattle.machine_spec.proofs.Stepping.{visit_there, place_there, fits_on, pays_on}
 use Rattle.machine_spec.specs.Dues.{InSegment}
@@ -16,7 +16,7 @@ use Rattle.stored_states.specs.declared.frame.Frame.{Frame}
 use Rattle.stored_states.specs.declared.frame.Frame.TheVariants as frame
 use Rattle.cek_machine.specs.declared.control.Control.{Control}
 use Rattle.cek_machine.specs.declared.spot.Spot.{Spot}
-use Rattle.cek_machine.specs.Kinds.{IsRow, IsLet, IsPrim, IsIf, IsFor, IsStore, Stands}
+use Rattle.cek_machine.specs.Kinds.{IsRow, IsLet, IsPrim, IsCall, IsIf, IsFor, IsStore, Stands}
 use Rattle.cek_machine.specs.Spots.{frames_of, control_of, point}
 use Rattle.stored_states.specs.Views.{frame_of}
 
@@ -38,6 +38,9 @@ let_binding n done x h = grind (arith, h)
 prim_operand : (n : ℕ) (done : List Val) (x : Node) → IsKind (in_operand n done) x → IsPrim x
 prim_operand n done x h = grind (arith, h)
 
+call_argument : (n : ℕ) (done : List Val) (x : Node) → IsKind (in_call n done) x → IsCall x
+call_argument n done x h = grind (arith, h)
+
 if_if : (n k : ℕ) (x : Node) → IsKind (in_if n k) x → IsIf x
 if_if n k x h = grind (arith, h)
 
@@ -52,11 +55,14 @@ store_store n x h = grind (arith, h)
 
 -- a frame of its node's kind, in a part that is there
 by_kind : (a : Arena) (f : Frame) (p : ℕ) → IsKind (frame_of f) (node_at a (node_of (frame_of f)))
-    → slice_get (parts (node_at a (node_of (frame_of f)))) (place_of (frame_of f)) ≡ Some p → Stands a f
+    → IsPart a (frame_of f) (node_at a (node_of (frame_of f))) p → Stands a f
 by_kind a (frame.Binding n done) p h e =
     ((node_is_there a (in_binding n done) h, let_binding n done (node_at a n) h), few_done n done (node_at a n) h)
 by_kind a (frame.Operand n done) p h e =
     ((node_is_there a (in_operand n done) h, prim_operand n done (node_at a n) h), place_there (length done) p (parts (node_at a n)) e)
+by_kind a (frame.Call n done) p h e =
+    ((node_is_there a (in_call n done) h, call_argument n done (node_at a n) h), place_there (length done) p (parts (node_at a n)) e)
+by_kind a (frame.Task n k outer) p h e = tt
 by_kind a (frame.Body n bound) p h e = tt
 by_kind a (frame.Seq n k) p h e = ((node_is_there a (in_seq n k) h, row_seq n k (node_at a n) h), place_there k p (parts (node_at a n)) e)
 by_kind a (frame.And n k) p h e = ((node_is_there a (in_and n k) h, row_and n k (node_at a n) h), place_there k p (parts (node_at a n)) e)

@@ -1,5 +1,5 @@
 -- Where a move takes memory.
-use Rattle.std.proofs.Common.{◌≡◌, ℕ, ◌+◌, ◌^◌, ℤ, min, Bool, true, false, List, [], ◌∷◌, ◌++◌, Result, Ok, Err, length, refl, arith}
+use Rattle.std.proofs.Common.{◌≡◌, ℕ, ◌+◌, ◌^◌, ℤ, min, Bool, true, false, List, [], ◌∷◌, Result, Ok, Err, refl, arith}
 use Rattle.std.proofs.lemmas.List.{length_push}
 use Rattle.script_value.specs.Val.{Val, size_of}
 use Rattle.script_value.specs.declared.outcome.Fault.{Fault}
@@ -7,9 +7,9 @@ use Rattle.script_value.specs.declared.outcome.TxName.{TxName}
 use Rattle.instance_cells.specs.Cells.{Effect, read, cell_at, sum, commit}
 use Rattle.segment_progress.specs.Halts.{IsPaged}
 use Rattle.segment_progress.specs.States.{IsGotOrPaged}
-use Rattle.replay_spec.specs.Tape.{Reads, recorded, present, State, Outcome, paged, faulted, out_of_fuel, End, got, stop, Run, ◌>>=◌, after, charged, is_over, bound, note, set_in, set_cell, read_from, read_cell, added, add_to, add_in, add_cell, as_number}
+use Rattle.replay_spec.specs.Tape.{Reads, recorded, present, State, Outcome, paged, faulted, out_of_fuel, End, got, stop, ◌>>=◌, after, charged, is_over, bound, note, set_in, set_cell, read_from, read_cell, added, add_to, add_in, add_cell, as_number}
 use Rattle.replay_spec.specs.Eval.{copied}
-use Rattle.machine_spec.specs.Machine.{Frame, Point, gives, given}
+use Rattle.machine_spec.specs.Machine.{Frame, gives, given}
 use Rattle.cek_machine.specs.Spots.{NotesMore, TakesMemory}
 
 notes : (e : Effect) (s : State) → NotesMore s (note e s)

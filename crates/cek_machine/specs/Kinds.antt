@@ -22,6 +22,11 @@ abbrev pub IsPrim : Node → Type 0
 IsPrim (node.Prim o ps) = ⊤
 IsPrim _ = ⊥
 
+-- a call of a task
+abbrev pub IsCall : Node → Type 0
+IsCall (node.Call k ps) = ⊤
+IsCall _ = ⊥
+
 abbrev pub IsIf : Node → Type 0
 IsIf (node.If test a b) = ⊤
 IsIf _ = ⊥
@@ -40,13 +45,19 @@ IsStore _ = ⊥
 abbrev pub IsNodeAt : Arena → (Node → Type 0) → (node : ℕ) → Type 0
 IsNodeAt a IsKind n = (n < length a.nodes) × IsKind (node_at a n)
 
--- and this part of it is there
+-- at a node stands a sequence, a conjunction or a disjunction that has this part
 abbrev pub IsRowAt : Arena → (node part : ℕ) → Type 0
 IsRowAt a n k = IsNodeAt a IsRow n × (k < length (parts (node_at a n)))
 
+-- at a node stands an operation that has this operand
 abbrev pub IsPrimAt : Arena → (node part : ℕ) → Type 0
 IsPrimAt a n k = IsNodeAt a IsPrim n × (k < length (parts (node_at a n)))
 
+-- at a node stands a call that has this operand
+abbrev pub IsCallAt : Arena → (node part : ℕ) → Type 0
+IsCallAt a n k = IsNodeAt a IsCall n × (k < length (parts (node_at a n)))
+
+-- at a node stands a Let that has this binding
 abbrev pub IsLetAt : Arena → (node part : ℕ) → Type 0
 IsLetAt a n k = IsNodeAt a IsLet n × (k < length (bindings_in (node_at a n)))
 
@@ -54,6 +65,7 @@ IsLetAt a n k = IsNodeAt a IsLet n × (k < length (bindings_in (node_at a n)))
 abbrev pub Stands : Arena → Frame → Type 0
 Stands a (frame.Binding n done) = IsLetAt a n (length done)
 Stands a (frame.Operand n done) = IsPrimAt a n (length done)
+Stands a (frame.Call n done) = IsCallAt a n (length done)
 Stands a (frame.Seq n k) = IsRowAt a n k
 Stands a (frame.And n k) = IsRowAt a n k
 Stands a (frame.Or n k) = IsRowAt a n k

@@ -18,18 +18,18 @@ use Rattle.machine_spec.specs.Fits.{FitsAt}
 use Rattle.machine_spec.specs.Dues.{InSegment, owed}
 use Rattle.cek_machine.specs.Spots.{point, frames_of, control_of, ControlTakesMemory, Sound}
 
--- how far the tape was used
+-- how far a machine has used its tape
 abbrev pub state_in : Machine → State
 state_in m = state_of m.spot.progress
 
 abbrev pub machine_of : Machine → spec.Machine
 machine_of m = record { point = point m.control m.spot; state = state_of m.spot.progress }
 
--- it fits its script, and what it is inside is its frames'
+-- a machine fits its script, and the transactions that are open are those of its frames
 abbrev pub IsReady : Machine → Type 0
 IsReady m = Sound m.spot × (IsScript m.script.now × FitsAt m.script.now (control_of m.control) m.spot.env (frames_of m.spot))
 
--- its segment runs over present cells, with no answer left, and within its fuel
+-- the segment of a machine runs over present cells, with no answer left, and within its fuel
 abbrev pub IsWithin : Machine → Type 0
 IsWithin m = (fuel : ℕ) × ((fuel < 2 ^ 63) × InSegment fuel (state_of m.spot.progress))
 
@@ -37,7 +37,7 @@ IsWithin m = (fuel : ℕ) × ((fuel < 2 ^ 63) × InSegment fuel (state_of m.spot
 abbrev pub most_cost : Reads → ℕ
 most_cost reads = unwrap_or (bound reads) 0
 
--- the most steps that are left
+-- the most steps that a machine has left
 abbrev pub steps_left : spec.Machine → ℕ
 steps_left m = owed m.point + 2 * (most_cost m.state.segment.reads - m.state.cost)
 
@@ -45,7 +45,7 @@ steps_left m = owed m.point + 2 * (most_cost m.state.segment.reads - m.state.cos
 abbrev pub kept_of : Machine → spec.Suspended
 kept_of m = record { env = m.spot.env; frames = frames_of m.spot; shadows = (state_of m.spot.progress).shadows }
 
--- it went on, or stopped so
+-- a step of a machine went on, or stopped so
 abbrev pub Steps : Option PlainEnd → (a : Arena) → (old new : Machine) → Type 0
 Steps None a old new = step a (machine_of old) ≡ goes (machine_of new)
 Steps (Some end) a old new = step a (machine_of old) ≡ stopped (outcome_of end) (inside_of (frames_of new.spot)) (kept_of new) (state_of new.spot.progress)
@@ -65,11 +65,11 @@ Resumes r a kept v now = IfOk r (λ m. machine_of m ≡ resumed a (suspended_of 
 abbrev pub StepTakesMemory : Arena → spec.Machine → Type 0
 StepTakesMemory a m = ControlTakesMemory m.point.control m.point.frames m.state (next a m.point.control m.point.env m.point.frames m.state)
 
--- behind some steps that went on the next one takes memory
+-- after some steps of a machine that went on the next one takes memory
 abbrev pub RunTakesMemory : Arena → spec.Machine → Type 0
 RunTakesMemory a m = (k : ℕ) × ((mid : spec.Machine) × ((steps a k m ≡ goes mid) × StepTakesMemory a mid))
 
--- these steps were taken, and the last of them is this stop
+-- a machine took the steps from the one count to the other, and the last of them is this stop
 abbrev pub RunsOver : Arena → PlainEnd → (old new : Machine) → (before count : ℕ) → Type 0
 RunsOver a end old new before count =
     (k : ℕ) × ((count ≡ before + k + 1) × ((mid : spec.Machine) × ((steps a k (machine_of old) ≡ goes mid)

@@ -2,10 +2,9 @@ ghost use Rattle.std.specs.Prelude.{◌≡◌, ◌+◌, OnOk, OnErr, IfOk, None,
 ghost use Rattle.script_nodes.specs.Arena.{IsScript};
 ghost use Rattle.segments.specs.Views.{now_of, outcome_of};
 ghost use Rattle.instance_cells.specs.Views.{effect_of};
-ghost use Rattle.machine_spec.specs.Machine.{cut};
 ghost use Rattle.machine_spec.specs.Fits.{FitsAt, Fits};
 ghost use Rattle.cek_machine.specs.Kinds.{Stands};
-ghost use Rattle.cek_machine.specs.Spots.{Sound, Pops, Nexts, frames_of, control_of};
+ghost use Rattle.cek_machine.specs.Spots.{Sound, Pops, Cuts, Nexts, frames_of, control_of};
 ghost use Rattle.stored_states.specs.Views.{suspended_of, frame_of};
 ghost use Rattle.cek_machine.specs.Machines.{Steps as StepsSo, Runs, Starts, Resumes, StepTakesMemory, RunTakesMemory, IsReady, IsWithin, machine_of, state_in, kept_of};
 
@@ -45,7 +44,7 @@ impl<'t> Spot<'t> {
     // The variables of a frame's part go.
     fn cut(&mut self, frame: &Frame)
         ensures frames { frames_of self.new ≡ frames_of self.old }
-        ensures env { self.new.env ≡ cut (frame_of frame.now) self.old.env }
+        ensures env { Cuts (frame_of frame.now) self.old.env self.new.env }
         ensures progress { self.new.progress ≡ self.old.progress }
     {
         match frame {
@@ -66,8 +65,12 @@ impl<'t> Spot<'t> {
         ensures sound { OnOk result (Sound self.new) }
     {
         match control {
-            Control::Visit(number) => self.visit(alloc, number, node_of(script, number)),
+            Control::Visit(number) => self.visit(script, alloc, number, node_of(script, number)),
             Control::Give(value) => match self.pop() {
+                Some(Frame::Task { outer, .. }) => {
+                    self.env = outer;
+                    Ok(Control::Give(value))
+                }
                 Some(frame) => {
                     self.cut(&frame);
                     self.take(script, alloc, frame, value)

@@ -1,6 +1,6 @@
 ghost use Rattle.std.specs.Prelude.{◌≡◌, ◌<◌, ◌≤◌, ◌+◌, drop, length, pos, suc, IfOk};
 ghost use Rattle.script_value.specs.Views.{meaning};
-ghost use Rattle.script_nodes.specs.Arena.{IsFull, parts};
+ghost use Rattle.script_nodes.specs.Arena.{IsFull, IsOnTasks, parts};
 ghost use Rattle.machine_spec.specs.Machine.{node_at};
 ghost use Rattle.cek_machine.specs.Kinds.{IsRow};
 
@@ -13,6 +13,7 @@ pub fn node_of(script: &Script, number: u32) -> &Node
     requires { number < length script.now.nodes }
     ensures node { node_at script.now number ≡ result.now }
     ensures full { IsFull result.now }
+    ensures tasks { IsOnTasks (length script.now.tasks) result.now }
 {
     script.node(number)
 }

@@ -1,10 +1,10 @@
 ghost use Rattle.std.specs.Prelude.{◌≡◌, ◌<◌, ◌≤◌, ◌+◌, ◌-◌, ◌^◌, ◌∷◌, ◌++◌, [], length, suc, OnOk, IsTrue};
 ghost use Rattle.script_value.specs.Views.{meaning};
-ghost use Rattle.prim_ops.specs.Table.{takes};
+ghost use Rattle.prim_spec.specs.Table.{takes};
 ghost use Rattle.replay_spec.specs.Tape.{shadow, set_cell};
 ghost use Rattle.replay_spec.specs.Eval.{value_at};
 ghost use Rattle.script_nodes.specs.declared.script.Node.TheVariants as variant;
-ghost use Rattle.machine_spec.specs.Machine.{next_operand, next_binding};
+ghost use Rattle.machine_spec.specs.Machine.{next_operand, next_argument, next_binding};
 ghost use Rattle.cek_machine.specs.Spots.{Moves, Gives, GivesCopy, Sends, Adds, WorksOn, WorksOnNext, Visits, Sound, SoundUnder, IsFlat};
 ghost use Rattle.stored_states.specs.Views.{frame_of};
 
@@ -13,6 +13,7 @@ use script_nodes::SendKind;
 use script_value::{Items, Op, Value};
 use segment_progress::{Halt, Progress, applied};
 use std::alloc::Global;
+use std::mem;
 use stored_states::Frame;
 
 /// Where a machine is, its control aside.
@@ -110,6 +111,29 @@ impl<'t> Spot<'t> {
                 Ok(Control::Give(value))
             }
             [part, ..] => self.work(Frame::Operand { node, done }, *part),
+        }
+    }
+
+    /// The first of the operands that are left is worked on; behind them the task's body, whose only variables are their
+    /// values.
+    pub fn next_argument(
+        &mut self,
+        node: u32,
+        body: u32,
+        left: &[u32],
+        done: Items,
+    ) -> Result<Control, Halt>
+        requires sound { Sound self.old }
+        ensures gives { Moves result self.old self.new (next_argument node body left.now done) }
+        ensures sound { OnOk result (Sound self.new) }
+    {
+        match left {
+            [] => {
+                let part = done.len();
+                let outer = mem::replace(&mut self.env, done);
+                self.work(Frame::Task { node, part, outer }, body)
+            }
+            [part, ..] => self.work(Frame::Call { node, done }, *part),
         }
     }
 

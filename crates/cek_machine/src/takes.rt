@@ -2,7 +2,7 @@ ghost use Rattle.std.specs.Prelude.{◌≡◌, ◌<◌, ◌≤◌, ◌+◌, ◌-
 ghost use Rattle.script_value.specs.Views.{meaning};
 ghost use Rattle.replay_spec.specs.Tape.{leave};
 ghost use Rattle.stored_states.specs.declared.frame.Frame.TheVariants as frame;
-ghost use Rattle.cek_machine.specs.Kinds.{IsNodeAt, IsFor, IsIf, IsStore, IsRowAt, IsPrimAt, IsLetAt, Stands};
+ghost use Rattle.cek_machine.specs.Kinds.{IsNodeAt, IsFor, IsIf, IsStore, IsRowAt, IsPrimAt, IsCallAt, IsLetAt, Stands};
 ghost use Rattle.cek_machine.specs.Spots.{Gives, Takes, TakesTurn, TurnsOn, Sound, SoundUnder};
 ghost use Rattle.stored_states.specs.Views.{frame_of};
 
@@ -60,6 +60,30 @@ impl<'t> Spot<'t> {
                 let mut done = done;
                 done.push(value)?;
                 self.next_operand(alloc, node, *op, left, done)
+            }
+            _ => unreachable!(),
+        }
+    }
+
+    // An operand of a call is done: the next, or the body of the task.
+    fn take_argument(
+        &mut self,
+        script: &Script,
+        node: u32,
+        done: Items,
+        value: Value,
+    ) -> Result<Control, Halt>
+        requires sound { Sound self.old }
+        requires stands { IsCallAt script.now node (length done) }
+        ensures gives { Takes result self.old self.new script.now (frame.Call node done) value }
+        ensures sound { OnOk result (Sound self.new) }
+    {
+        match node_of(script, node) {
+            Node::Call { task, operands } => {
+                let left = behind(operands.as_slice(), done.len());
+                let mut done = done;
+                done.push(value)?;
+                self.next_argument(node, script.task(*task), left, done)
             }
             _ => unreachable!(),
         }
@@ -288,6 +312,8 @@ impl<'t> Spot<'t> {
         match frame {
             Frame::Binding { node, done } => self.take_binding(script, node, done, value),
             Frame::Operand { node, done } => self.take_operand(script, alloc, node, done, value),
+            Frame::Call { node, done } => self.take_argument(script, node, done, value),
+            Frame::Task { .. } => Ok(Control::Give(value)),
             Frame::Body { .. } => Ok(Control::Give(value)),
             Frame::Seq { node, part } => self.take_seq(script, node, part, value),
             Frame::And { node, part } => self.take_and(script, node, part, value),

@@ -1,13 +1,13 @@
-ghost use Rattle.std.specs.Prelude.{OnOk, IsTrue, length};
-ghost use Rattle.prim_ops.specs.Table.{takes};
+ghost use Rattle.std.specs.Prelude.{◌<◌, OnOk, IsTrue, length};
+ghost use Rattle.prim_spec.specs.Table.{takes};
 ghost use Rattle.script_nodes.specs.declared.script.Node.TheVariants as variant;
-ghost use Rattle.script_nodes.specs.Arena.{IsFull};
-ghost use Rattle.cek_machine.specs.Spots.{Moves, Visits, Sound, IsFlat, paid_visit};
+ghost use Rattle.script_nodes.specs.Arena.{IsFull, IsOnTasks};
+ghost use Rattle.cek_machine.specs.Spots.{Moves, Visits, VisitsIn, Sound, IsFlat, paid_visit};
 ghost use Rattle.stored_states.specs.Views.{frame_of};
 
 use crate::control::Control;
 use crate::spot::Spot;
-use script_nodes::{Node, Numbers};
+use script_nodes::{Node, Numbers, Script};
 use script_value::{Items, Op, Value};
 use segment_progress::Halt;
 use std::alloc::Global;
@@ -95,11 +95,41 @@ impl<'t> Spot<'t> {
         self.next_operand(alloc, node, op, operands.as_slice(), Items::new(alloc))
     }
 
+    fn visit_call(
+        &mut self,
+        script: &Script,
+        alloc: Global,
+        node: u32,
+        task: u8,
+        operands: &Numbers,
+    ) -> Result<Control, Halt>
+        requires sound { Sound self.old }
+        requires task { task < length script.now.tasks }
+        ensures gives { VisitsIn result self.old self.new script.now node
+            (variant.Call task operands.now) }
+        ensures sound { OnOk result (Sound self.new) }
+    {
+        self.progress.charge(1)?;
+        self.next_argument(
+            node,
+            script.task(task),
+            operands.as_slice(),
+            Items::new(alloc),
+        )
+    }
+
     /// A visit of a node.
-    pub fn visit(&mut self, alloc: Global, number: u32, node: &Node) -> Result<Control, Halt>
+    pub fn visit(
+        &mut self,
+        script: &Script,
+        alloc: Global,
+        number: u32,
+        node: &Node,
+    ) -> Result<Control, Halt>
         requires sound { Sound self.old }
         requires full { IsFull node.now }
-        ensures gives { Visits result self.old self.new number node.now }
+        requires tasks { IsOnTasks (length script.now.tasks) node.now }
+        ensures gives { VisitsIn result self.old self.new script.now number node.now }
         ensures sound { OnOk result (Sound self.new) }
     {
         match node {
@@ -118,6 +148,9 @@ impl<'t> Spot<'t> {
             Node::Or { parts } => self.visit_or(number, parts),
             Node::For { count, .. } => self.paid(Frame::Count { node: number }, *count),
             Node::Prim { op, operands } => self.visit_prim(alloc, number, *op, operands),
+            Node::Call { task, operands } => {
+                self.visit_call(script, alloc, number, *task, operands)
+            }
             Node::Send { kind, body } => self.page(alloc, number, *kind, *body),
             Node::Finish { body } => self.paid(Frame::Finish { node: number }, *body),
             Node::Back { body } => self.paid(Frame::Back { node: number }, *body),

@@ -2,7 +2,7 @@
 use Rattle.std.proofs.Common.{◌≡◌, ℕ, ◌+◌, ◌≤◌, ◌||◌, ◌&&◌, Bool, true, false, not, List, [], ◌∷◌, ◌++◌, Option, Some, None, is_some, Result, Ok, Err, ◌<◌, length, refl, sym, ap, ◌∙◌, arith}
 use Rattle.std.specs.Prelude.{codes, ⊤, if◌then◌else◌}
 use Rattle.script_value.specs.Val.{Val, Vals, number, truth, text, symbol, list, no_vals, val, weight, weight_all}
-use Rattle.prim_ops.specs.Table.{takes}
+use Rattle.prim_spec.specs.Table.{takes}
 use Rattle.core_syntax.specs.declared.faults.SyntaxKind.{SyntaxKind}
 use Rattle.core_syntax.specs.declared.faults.SyntaxKind.TheVariants.{Shape, Unbound, Duplicate, Arity, NoElse, NestedSend, Effect}
 use Rattle.core_syntax.specs.declared.heads.CellKind.{CellKind}
@@ -12,7 +12,7 @@ use Rattle.core_syntax.specs.declared.heads.Head.TheVariants as head
 use Rattle.script_nodes.specs.declared.script.SendKind.{SendKind}
 use Rattle.script_nodes.specs.Core.{Core, var, send, isolate}
 use Rattle.core_syntax.specs.Heads.{head_of}
-use Rattle.core_syntax.specs.Names.{◌>>=◌, or_fault, place_of, CellNames, cell_number, is_taken, are_taken, repeats, free_at_once}
+use Rattle.core_syntax.specs.Names.{◌>>=◌, or_fault, place_of, CellNames, cell_number, is_taken, are_taken, repeats, free_at_once, called}
 use Rattle.core_syntax.specs.Shapes.{on, count_of, is_empty, is_word, bound_name, symbol_in, names_of, parameter, names_before, are_clauses, ends_in_else}
 use Rattle.core_syntax.specs.Templates.{is_template}
 use Rattle.core_syntax.specs.declared.faults.ReadFault.{ReadFault}
@@ -193,6 +193,15 @@ ref_row cells scope p kind (val (text n) (val w vs)) = refl
 ref_row cells scope p kind (val (symbol n) (val w vs)) = refl
 ref_row cells scope p kind (val (list n) (val w vs)) = refl
 
+call_row : (cells : CellNames) (scope : List (List ℕ)) (p : Bool) (vs : Vals) → spec.call_form cells scope vs ≡ read_row cells scope p (row.call_in cells vs)
+call_row cells scope p (val (symbol f) vs) =
+    cell_then (called cells f (count_of vs)) (λ k. row.call k vs) (λ k. spec.cores_from cells scope false [] vs >>= (λ es. Ok (spec.of_task k es))) (core_in_row cells scope p) (λ k. refl)
+call_row cells scope p no_vals = refl
+call_row cells scope p (val (number n) vs) = refl
+call_row cells scope p (val (truth n) vs) = refl
+call_row cells scope p (val (text n) vs) = refl
+call_row cells scope p (val (list n) vs) = refl
+
 store_row : (cells : CellNames) (scope : List (List ℕ)) (p : Bool) (kind : Store) (vs : Vals) → spec.store_form cells scope kind vs ≡ read_row cells scope p (row.store_in cells kind vs)
 store_row cells scope p kind (val (symbol c) (val e no_vals)) =
     cell_then (cell_number (spec.written kind) cells c) (λ k. row.store kind k e) (λ k. spec.core_of cells scope false e >>= (λ e. Ok (spec.store kind k e))) (core_in_row cells scope p) (λ k. refl)
@@ -267,6 +276,7 @@ form_row : (cells : CellNames) (scope : List (List ℕ)) (p : Bool) (h : Option 
     → spec.form_of cells scope p h (val w vs) ≡ read_row cells scope p (row_by cells p h vs)
 form_row cells scope p None w vs = refl
 form_row cells scope p (Some head.Define) w vs = refl
+form_row cells scope p (Some head.DefineTask) w vs = refl
 form_row cells scope p (Some head.Quote) w vs = quote_row cells scope p vs
 form_row cells scope p (Some head.Quasiquote) w vs = template_row cells scope p vs
 form_row cells scope p (Some head.Let) w vs = let_row cells scope p vs
@@ -286,6 +296,7 @@ form_row cells scope p (Some (head.Last kind)) w vs =
 form_row cells scope p (Some head.Isolate) w vs =
     sym (page_then p NestedSend (row.only_part vs >>= (λ e. Ok (row.isolate e))) _ (core_in_row cells scope p)
     (sym (only_row cells scope p false row.isolate isolate vs (λ e. refl))))
+form_row cells scope p (Some head.Call) w vs = sym (page_then p NestedSend (row.call_in cells vs) _ (core_in_row cells scope p) (sym (call_row cells scope p vs)))
 form_row cells scope p (Some (head.Apply o)) w vs = sym (if_then (takes o (count_of vs)) Arity (row.apply o vs) (core_in_row cells scope p))
 
 variable_row : (cells : CellNames) (scope : List (List ℕ)) (p : Bool) (o : Option ℕ)
@@ -389,6 +400,14 @@ send_light cells kind (val (truth n) no_vals) = tt
 send_light cells kind (val (text n) no_vals) = tt
 send_light cells kind (val (symbol n) no_vals) = tt
 
+call_light : (cells : CellNames) (vs : Vals) → Holds (Light vs) (row.call_in cells vs)
+call_light cells (val (symbol f) vs) = any_part (Light (val (symbol f) vs)) (called cells f (count_of vs)) (λ k. row.call k vs) (λ k. omega arith)
+call_light cells no_vals = tt
+call_light cells (val (number n) vs) = tt
+call_light cells (val (truth n) vs) = tt
+call_light cells (val (text n) vs) = tt
+call_light cells (val (list n) vs) = tt
+
 page_light : (P : Row → Type 0) (p : Bool) (k : SyntaxKind) (r : Result Row SyntaxKind) → Holds P r → Holds P (row.outside_page p k >>= (λ _. r))
 page_light P true k r h = tt
 page_light P false k r h = h
@@ -396,6 +415,7 @@ page_light P false k r h = h
 form_light : (cells : CellNames) (p : Bool) (h : Option Head) (vs : Vals) → Holds (Light vs) (row_by cells p h vs)
 form_light cells p None vs = tt
 form_light cells p (Some head.Define) vs = tt
+form_light cells p (Some head.DefineTask) vs = tt
 form_light cells p (Some head.Quote) vs = any_part (Light vs) (row.only_part vs) row.literal (λ v. omega arith)
 form_light cells p (Some head.Quasiquote) vs = template_light vs
 form_light cells p (Some head.Let) vs = let_light cells vs (λ q. row.bind q.0 q.1) (λ q. refl)
@@ -412,6 +432,7 @@ form_light cells p (Some (head.Store kind)) vs = page_light (Light vs) p Effect 
 form_light cells p (Some (head.Send kind)) vs = page_light (Light vs) p NestedSend (row.send_in cells kind vs) (send_light cells kind vs)
 form_light cells p (Some (head.Last kind)) vs = page_light (Light vs) p NestedSend _ (only_row_light vs (row.last kind) (λ e. refl))
 form_light cells p (Some head.Isolate) vs = page_light (Light vs) p NestedSend _ (only_row_light vs row.isolate (λ e. refl))
+form_light cells p (Some head.Call) vs = page_light (Light vs) p NestedSend (row.call_in cells vs) (call_light cells vs)
 form_light cells p (Some (head.Apply o)) vs = only_if (Light vs) (takes o (count_of vs)) Arity (Ok (row.apply o vs)) (λ e. omega arith)
 
 in_light : (cells : CellNames) (p : Bool) (vs : Vals) → Holds (Light vs) (row_in cells p vs)

@@ -11,7 +11,7 @@ use Rattle.script_nodes.specs.declared.script.Node.{Node}
 use Rattle.script_nodes.specs.declared.script.Node.TheVariants as node
 use Rattle.script_nodes.specs.Core.{Core, Cores, bind, branch, seq, no_cores, cores_of, count, count_all, height, height_all}
 use Rattle.script_nodes.specs.Layout.{layout, layout_all, starts, value_from}
-use Rattle.core_syntax.specs.Laid.{Lacks, Stands, StandAll, Lays, LaysAll}
+use Rattle.core_syntax.specs.Laid.{Lacks, Stands, StandAll, StandScript, Lays, LaysAll}
 
 pub value_from-meaning : (v : Value) → value_from (meaning v) ≡ v
 value_from-meaning (value.Int n) = refl
@@ -221,3 +221,26 @@ pub all_stops : {s0 s1 : List Node} {left : ℕ} {ns : List ℕ} (s2 : List Node
     → StandAll s0 s1 left ns (cores_of (take i xs)) → Lays (Err e) s1 s2 left d → LaysAll result s0 s2 left (cores_of xs)
 all_stops s2 result g Memory xs i d l n a b s h = rw (a, b) tt
 all_stops s2 result g TooMany xs i d l n a b s h = rw (a, b) (all_lack xs i d l n s h)
+
+no_room : (old mid more : ℕ) → (0 < more → mid + more ≤ 16384) → mid ≤ 16384 → mid + more ≤ 16384
+no_room old mid zero h l = omega arith
+no_room old mid (suc more) h l = let r = h (omega arith) in omega arith
+
+-- the bodies of tasks behind an expression
+pub script_stands : {old mid new : List Node} {n : ℕ} {numbers : List ℕ} (c : Core) (cs : Cores)
+    → Stands old mid 1024 n (layout (length old) c) (count c) (height c) → StandAll mid new 1024 numbers cs → StandScript old new numbers c cs
+script_stands {old} {mid} {new} {n} {numbers} c cs a b =
+    let here : length mid ≡ length old + count c = a.grown in
+    record {
+      first = b.first ∙ ap (λ k. starts k cs) here;
+      behind = b.behind ∙ (rw (here, a.behind) (append_assoc old (layout (length old) c) (layout_all (length old + count c) cs)));
+      room = (let r = no_room (length old) (length mid) (count_all cs) b.room (let q = a.room in omega arith) in omega arith);
+      low = (let p = a.low in let q = b.low in omega arith);
+    }
+
+pub expression_lacks : (old : ℕ) (c : Core) (cs : Cores) → Lacks old 1024 (count c) (height c) → Lacks old 1024 (count c + count_all cs) (max (height c) (height_all cs))
+expression_lacks old c cs h = λ room. (let low = h (omega arith) in omega arith)
+
+pub bodies_lack : {old mid : List Node} {n : ℕ} (c : Core) (cs : Cores) → Stands old mid 1024 n (layout (length old) c) (count c) (height c)
+    → Lacks (length mid) 1024 (count_all cs) (height_all cs) → Lacks (length old) 1024 (count c + count_all cs) (max (height c) (height_all cs))
+bodies_lack {old} {mid} {n} c cs a h = λ room. (let g = a.grown in let low = h (omega arith) in omega arith)

@@ -9,3 +9,5 @@ pub mod ByRow
 pub mod Expanding
 pub mod Forming
 pub mod Filling
+pub mod Ahead
+pub mod Growing

@@ -42,3 +42,7 @@ exactly_two [] a b e f l m = absurd (omega arith)
 exactly_two (x ∷ []) a b e f l m = absurd (omega arith)
 exactly_two (x ∷ (y ∷ [])) a b e f l m = rw (e, f) refl
 exactly_two (x ∷ (y ∷ (z ∷ xs))) a b e f l m = absurd (omega arith)
+
+pub map_twice : {A B C : Type 0} (f : B → C) (g : A → B) (xs : List A) → map f (map g xs) ≡ map (λ x. f (g x)) xs
+map_twice f g [] = refl
+map_twice f g (x ∷ xs) = ap (λ ys. f (g x) ∷ ys) (map_twice f g xs)

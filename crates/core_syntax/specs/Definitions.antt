@@ -1,99 +1,100 @@
--- A whole script: definitions of cells, and then one expression.
+-- A whole script: definitions of cells and tasks, and then one expression.
 use Rattle.std.specs.Prelude.{ℕ, ◌+◌, ◌||◌, Bool, List, [], ◌∷◌, ◌++◌, length, Option, Some, None, Result, Ok, Err, nat_le, nat_lt, codes, true, false, ⊤, if◌then◌else◌}
-use Rattle.script_value.specs.Val.{Val, number, truth, text, symbol, list, no_vals, val}
+use Rattle.script_value.specs.Val.{Val, Vals, no_vals, val}
 use Rattle.core_syntax.specs.declared.faults.SyntaxKind.{SyntaxKind}
 use Rattle.core_syntax.specs.declared.faults.SyntaxKind.TheVariants.{Shape, Duplicate, TooMany}
 use Rattle.core_syntax.specs.declared.heads.CellKind.{CellKind}
 use Rattle.core_syntax.specs.declared.heads.CellKind.TheVariants.{Web, Instance}
-use Rattle.core_syntax.specs.Limits.{most_cells, most_levels, most_nodes}
-use Rattle.script_nodes.specs.Core.{Core, count, height}
+use Rattle.core_syntax.specs.Limits.{most_cells, most_tasks, most_parameters, most_levels, most_nodes}
+use Rattle.script_nodes.specs.Core.{Core, Cores, core, cores_of, count_all, height_all}
 use Rattle.script_nodes.specs.Setup.{Script}
-use Rattle.core_syntax.specs.Names.{◌>>=◌, CellNames, with_name, is_taken}
-use Rattle.core_syntax.specs.Shapes.{is_word, is_headed, symbol_in, on}
-use Rattle.core_syntax.specs.Forms.{core_of}
-use Rattle.core_syntax.specs.Rows.{row_of}
+use Rattle.core_syntax.specs.Names.{◌>>=◌, CellNames, with_name, with_task_name, is_taken, repeats}
+use Rattle.core_syntax.specs.Shapes.{is_headed, symbol_in}
+use Rattle.core_syntax.specs.Headings.{Definition, definition_of, TaskForm, symbols_in, task_of, is_definition, names_defined}
+use Rattle.core_syntax.specs.Forms.{core_of, body_of}
+use Rattle.core_syntax.specs.Rows.{row_of, is_taken_name}
 
--- a cell with its name and what it begins with
-pub record Definition : Type 0 where
-  pub kind : CellKind
-  pub name : List ℕ
-  pub value : Val
-
--- the kind of cell that a name makes
-abbrev pub kind_made : Val → Option CellKind
-kind_made v = if is_word (codes "make-web-cell") v then Some Web else if is_word (codes "make-instance-cell") v then Some Instance else None
-
--- what is quoted, where this word quotes
-abbrev pub quoted_by : Val → Val → Option Val
-quoted_by word d = if is_word (codes "quote") word then Some d else None
-
--- what a datum without an expression stands for: a number, a truth value, a text, or what is quoted
-abbrev pub constant : Val → Option Val
-constant (number n) = Some (number n)
-constant (truth b) = Some (truth b)
-constant (text t) = Some (text t)
-constant (symbol s) = None
-constant (list (val q (val d no_vals))) = quoted_by q d
-constant (list _) = None
-
--- the kind of cell that a maker of this name makes of a datum, and what it begins with
-abbrev pub made_by : Val → Val → Option (CellKind × Val)
-made_by m d = on (kind_made m) (λ kind. on (constant d) (λ v. Some (kind, v)))
-
--- the kind of cell that `(make-web-cell d)` and `(make-instance-cell d)` make, and what it begins with
-abbrev pub maker_of : Val → Option (CellKind × Val)
-maker_of (list (val m (val d no_vals))) = made_by m d
-maker_of _ = None
-
--- a cell of this name that a maker makes
-abbrev pub defined_by : Val → Val → Option Definition
-defined_by c m = on (symbol_in c) (λ name. on (maker_of m) (λ p. Some (record { kind = p.0; name = name; value = p.1 })))
-
--- `(define c MAKER)`
-abbrev pub definition_of : Val → Option Definition
-definition_of (list (val w (val c (val m no_vals)))) = defined_by c m
-definition_of _ = None
-
--- the names of the cells so far, and what they begin with
+-- the names of the cells and tasks so far, what the cells begin with, and the bodies of the tasks
 pub record Defined : Type 0 where
   pub names : CellNames
   pub web : List Val
   pub cells : List Val
+  pub tasks : List Core
 
 abbrev pub with_value : CellKind → Val → Defined → Defined
 with_value Web v d = record d { web = d.web ++ v ∷ [] }
 with_value Instance v d = record d { cells = d.cells ++ v ∷ [] }
 
 abbrev pub nothing_defined : Defined
-nothing_defined = record { names = record { web = []; instance = [] }; web = []; cells = [] }
+nothing_defined = record { names = record { web = []; instance = []; tasks = []; later = [] }; web = []; cells = []; tasks = [] }
 
 abbrev pub with_cell : Definition → Defined → Defined
 with_cell x d = with_value x.kind x.value (record d { names = with_name x.kind x.name d.names })
 
--- a cell that may stand behind these
+-- a cell that may be defined after what is defined, or the fault
 abbrev pub definable : Option Definition → Defined → Result Definition SyntaxKind
 definable None d = Err Shape
 definable (Some x) d =
     if is_taken d.names x.name then Err Duplicate else
     if nat_le most_cells (length d.names.web + length d.names.instance) then Err TooMany else Ok x
 
--- one more cell, where there is room for it
+-- what is defined with one more cell, where there is room for it, or the fault
 abbrev pub defined : Option Definition → Defined → Result Defined SyntaxKind
 defined o d = definable o d >>= (λ x. Ok (with_cell x d))
 
--- too many nodes, or one that is nested too deep
-abbrev pub is_too_many : Core → Bool
-is_too_many c = nat_lt most_nodes (count c) || nat_lt most_levels (height c)
+-- the names of cells and tasks, with those that are defined from here on
+abbrev pub with_later : List (List ℕ) → CellNames → CellNames
+with_later later names = record names { later = later }
 
--- a fault of the form of this number
+-- whether one of these parameters has the name of a form, an operation, a cell or a task
+abbrev pub parameters_taken : CellNames → Vals → Bool
+parameters_taken names no_vals = false
+parameters_taken names (val v vs) = is_taken_name names (symbol_in v) || parameters_taken names vs
+
+-- a task whose names are free, where the later names are defined from it on, or the fault
+abbrev pub task_definable : Option TaskForm → (later : List (List ℕ)) → Defined → Result TaskForm SyntaxKind
+task_definable None later d = Err Shape
+task_definable (Some t) later d = if is_taken d.names t.name || parameters_taken (with_later later d.names) t.parameters then Err Duplicate else Ok t
+
+-- what is defined with one more task of so many parameters, and its body
+abbrev pub with_task : List ℕ → (parameters : ℕ) → Core → Defined → Defined
+with_task f n c d = record d { names = with_task_name f n d.names; tasks = d.tasks ++ c ∷ [] }
+
+-- what is defined with a task of these parameters, the innermost first, which are all of its body's variables;
+-- the body calls the tasks before it
+abbrev pub task_within : (later scope : List (List ℕ)) → Defined → TaskForm → Result Defined SyntaxKind
+task_within later scope d t =
+    if repeats scope then Err Duplicate else
+    if nat_le most_tasks (length d.names.tasks) || nat_lt most_parameters (length scope) then Err TooMany else
+    body_of (with_later later d.names) scope false t.body >>= (λ c. Ok (with_task t.name (length scope) c d))
+
+-- what is defined with a task of the parameters that its form gives, or the fault
+abbrev pub task_read : (later : List (List ℕ)) → Defined → TaskForm → Result Defined SyntaxKind
+task_read later d t = task_within later (symbols_in t.parameters []) d t
+
+-- what is defined with one more task, where its names are free, or the fault
+abbrev pub task_defined : Option TaskForm → (later : List (List ℕ)) → Defined → Result Defined SyntaxKind
+task_defined o later d = task_definable o later d >>= task_read later d
+
+-- what is defined with the definition that this form is, in front of these forms, or the fault
+abbrev pub form_defined : Val → List Val → Defined → Result Defined SyntaxKind
+form_defined v vs d =
+    if is_headed (codes "define") v then defined (definition_of v) d else task_defined (task_of v) (names_defined (v ∷ vs)) d
+
+-- whether trees have too many nodes, or one that is nested too deep
+abbrev pub are_too_many : Cores → Bool
+are_too_many cs = nat_lt most_nodes (count_all cs) || nat_lt most_levels (height_all cs)
+
+-- a result whose fault is told with the number of its form
 abbrev pub at_form : {A : Type 0} → ℕ → Result A SyntaxKind → Result A (SyntaxKind × ℕ)
 at_form n (Ok x) = Ok x
 at_form n (Err k) = Err (k, n)
 
--- the script of these cells and this tree
+-- the script of these cells and tasks and of this tree, or the fault where its nodes are too many or nest too deep
 abbrev pub limited : Defined → Result Core SyntaxKind → Result Script SyntaxKind
 limited d (Err k) = Err k
-limited d (Ok c) = if is_too_many c then Err TooMany else Ok (record { web = d.web; cells = d.cells; body = c })
+limited d (Ok c) =
+    if are_too_many (core c (cores_of d.tasks)) then Err TooMany else Ok (record { web = d.web; cells = d.cells; tasks = cores_of d.tasks; body = c })
 
 abbrev pub and_then : {A B : Type 0} → Result A (SyntaxKind × ℕ) → (A → Result B (SyntaxKind × ℕ)) → Result B (SyntaxKind × ℕ)
 and_then (Ok x) f = f x
@@ -104,18 +105,18 @@ abbrev pub expression_at : ℕ → Defined → Val → List Val → Result Scrip
 expression_at n d v [] = at_form n (limited d (core_of d.names [] false v))
 expression_at n d v (w ∷ vs) = Err (Shape, n)
 
--- the forms from the one of this number on, behind what is defined
+-- the script of the forms from the one of this number on, after what is defined, or the first fault
 abbrev pub expanded_from : ℕ → Defined → List Val → Result Script (SyntaxKind × ℕ)
 expanded_from n d [] = Err (Shape, n)
 expanded_from n d (v ∷ vs) =
-    if is_headed (codes "define") v then and_then (at_form n (defined (definition_of v) d)) (λ d. expanded_from (n + 1) d vs) else
+    if is_definition v then and_then (at_form n (form_defined v vs d)) (λ d. expanded_from (n + 1) d vs) else
     expression_at n d v vs
 
 -- a script, or its first fault with the number of the form in which it stands
 unfoldable pub expanded : List Val → Result Script (SyntaxKind × ℕ)
 expanded vs = expanded_from 0 nothing_defined vs
 
-abbrev is_none_left : List Val → Bool
+abbrev pub is_none_left : List Val → Bool
 is_none_left [] = true
 is_none_left (v ∷ vs) = false
 
@@ -123,13 +124,18 @@ abbrev pub told : {A : Type 0} → Result A SyntaxKind → Result ⊤ SyntaxKind
 told (Ok x) = Ok tt
 told (Err k) = Err k
 
--- what the first form tells before memory is taken: a cell, or a row where it is the last
-abbrev pub first_seen : Val → (is_last : Bool) → Result ⊤ SyntaxKind
-first_seen v is_last =
-    if is_headed (codes "define") v then told (definable (definition_of v) nothing_defined) else
-    if is_last then told (row_of nothing_defined.names [] false v) else Err Shape
+-- what a definition tells before memory is taken
+abbrev pub definition_seen : Val → List Val → Defined → Result ⊤ SyntaxKind
+definition_seen v vs d =
+    if is_headed (codes "define") v then told (definable (definition_of v) d) else told (task_definable (task_of v) (names_defined (v ∷ vs)) d)
 
--- whether there is a form, and what the first tells
+-- what the first form tells before memory is taken: a cell, a task, or a row where it is the last
+abbrev pub first_seen : Val → List Val → Result ⊤ SyntaxKind
+first_seen v vs =
+    if is_definition v then definition_seen v vs nothing_defined else
+    if is_none_left vs then told (row_of nothing_defined.names [] false v) else Err Shape
+
+-- what the first form tells before memory is taken, or the fault where there is no form
 abbrev pub begins_well : List Val → Result ⊤ SyntaxKind
 begins_well [] = Err Shape
-begins_well (v ∷ vs) = first_seen v (is_none_left vs)
+begins_well (v ∷ vs) = first_seen v vs

@@ -16,7 +16,7 @@ use Rattle.core_syntax.specs.Forms.{of_op, made, filled, all_filled, spliced, bo
 abbrev pub literals : List (Bor Value) → List Core
 literals values = map (λ v. lit (meaning v.now)) values
 
--- a literal where there is no tree
+-- the tree of a part, or a literal where there is no tree
 abbrev pub or_literal : Option Core → Value → Core
 or_literal tree v = unwrap_or tree (lit (meaning v))
 
@@ -27,35 +27,35 @@ trees_of items = items.trees.items ++ literals items.plain.items
 abbrev pub has_no_tree : FilledItems → Bool
 has_no_tree items = nat_eq (length items.trees.items) 0
 
--- nothing where no item has a tree, unless trees are wanted then too
+-- the trees of items; none where no item has a tree, unless trees are wanted then too
 abbrev pub trees_or_none : Bool → FilledItems → Option (List Core)
 trees_or_none is_wanted items = if has_no_tree items && not is_wanted then None else Some (trees_of items)
 
 abbrev pub in_some : {A : Type 0} → Result A SyntaxKind → Result (Option A) SyntaxKind
 in_some r = r >>= (λ x. Ok (Some x))
 
--- nothing for what is plain
+-- no tree for what is plain, or else the result
 abbrev pub unless_plain : {A : Type 0} → Bool → Result A SyntaxKind → Result (Option A) SyntaxKind
 unless_plain true r = Ok None
 unless_plain false r = in_some r
 
--- a part of a template
+-- the tree of a part of a template, or none where the part is plain
 abbrev pub part_filled : CellNames → List (List ℕ) → Bool → Val → Result (Option Core) SyntaxKind
 part_filled cells scope in_page v = unless_plain (is_plain v) (filled cells scope in_page v)
 
--- the items of a list without an unquote at its head
+-- the trees of the items of a list without an unquote at its head, or none where all are plain
 abbrev pub items_filled : CellNames → List (List ℕ) → Bool → Vals → Result (Option (List Core)) SyntaxKind
 items_filled cells scope in_page vs =
     unless_plain (are_plain vs && not (begins (codes "unquote-splicing") vs)) (all_filled cells scope in_page [] vs)
 
--- the list of these items
+-- the tree of a list of these items, or none where all are plain
 abbrev pub list_filled : CellNames → List (List ℕ) → Bool → Vals → Result (Option Core) SyntaxKind
 list_filled cells scope in_page vs = items_filled cells scope in_page vs >>= (λ o. Ok (option_map (of_op op.List) o))
 
--- what the parts of a list give, joined
+-- the tree of a list that joins what its parts give
 abbrev pub joined : CellNames → List (List ℕ) → Bool → Vals → Result (Option Core) SyntaxKind
 joined cells scope in_page vs = in_some (made (of_op op.Append) (spliced cells scope in_page [] vs))
 
--- `(unquote e)`
+-- the tree of `(unquote e)`
 abbrev pub unquote_filled : CellNames → List (List ℕ) → Bool → Vals → Result (Option Core) SyntaxKind
 unquote_filled cells scope in_page vs = in_some (bound_value cells scope in_page (list vs))

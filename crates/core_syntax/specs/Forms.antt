@@ -4,7 +4,7 @@ use Rattle.std.specs.Prelude.{ℕ, Bool, true, false, not, List, [], ◌∷◌, 
 use Rattle.script_value.specs.Val.{Val, Vals, number, truth, text, symbol, list, no_vals, val}
 use Rattle.script_value.specs.declared.outcome.Op.{Op}
 use Rattle.script_value.specs.declared.outcome.Op.TheVariants as op
-use Rattle.prim_ops.specs.Table.{takes}
+use Rattle.prim_spec.specs.Table.{takes}
 use Rattle.core_syntax.specs.declared.faults.SyntaxKind.{SyntaxKind}
 use Rattle.core_syntax.specs.declared.faults.SyntaxKind.TheVariants.{Shape, Unbound, Arity, NoElse, NestedSend, Effect}
 use Rattle.core_syntax.specs.declared.heads.CellKind.{CellKind}
@@ -16,13 +16,13 @@ use Rattle.core_syntax.specs.declared.heads.LastPage.TheVariants.{Finish, Back}
 use Rattle.core_syntax.specs.declared.heads.Head.{Head}
 use Rattle.core_syntax.specs.declared.heads.Head.TheVariants as head
 use Rattle.script_nodes.specs.declared.script.SendKind.{SendKind}
-use Rattle.script_nodes.specs.Core.{Core, lit, var, bind, branch, repeat, prim, seq, and_all, or_any, send, finish, back, isolate, cell_ref, cell_shadow, inst_ref, inst_set, inst_add, cores_of}
+use Rattle.script_nodes.specs.Core.{Core, lit, var, bind, branch, repeat, prim, call, seq, and_all, or_any, send, finish, back, isolate, cell_ref, cell_shadow, inst_ref, inst_set, inst_add, cores_of}
 use Rattle.core_syntax.specs.Heads.{head_of}
-use Rattle.core_syntax.specs.Names.{◌>>=◌, or_fault, place_of, CellNames, cell_number, free_at_once, free_in_turn}
+use Rattle.core_syntax.specs.Names.{◌>>=◌, or_fault, place_of, CellNames, cell_number, called, free_at_once, free_in_turn}
 use Rattle.core_syntax.specs.Shapes.{count_of, is_empty, is_word, begins, bound_name, names_of, single_name, parameter, names_before, are_clauses, ends_in_else}
 use Rattle.core_syntax.specs.Templates.{is_splice, has_splice, is_template, is_plain}
 
--- parts in order; a body of one is that one
+-- the tree of a body: its parts in order, or its one part
 abbrev pub sequence : List Core → Core
 sequence (c ∷ []) = c
 sequence cs = seq (cores_of cs)
@@ -51,12 +51,13 @@ abbrev pub ref : CellKind → ℕ → Core
 ref Web c = cell_ref c
 ref Instance c = inst_ref c
 
--- the kind of cell that is written, and the node that writes it
+-- the kind of cell that a store writes
 abbrev pub written : Store → CellKind
 written Shadow = Web
 written Set = Instance
 written Add = Instance
 
+-- the node that writes a cell
 abbrev pub store : Store → ℕ → Core → Core
 store Shadow c e = cell_shadow c e
 store Set c e = inst_set c e
@@ -70,14 +71,18 @@ last_page Back b = back b
 abbrev pub made : {A : Type 0} → (A → Core) → Result A SyntaxKind → Result Core SyntaxKind
 made f r = r >>= (λ x. Ok (f x))
 
--- a test and a body
+-- a test and a body, or the first fault of the two
 abbrev pub pair : Result Core SyntaxKind → Result Core SyntaxKind → Result (Core × Core) SyntaxKind
 pair t b = t >>= (λ t. b >>= (λ b. Ok (t, b)))
 
 abbrev pub of_op : Op → List Core → Core
 of_op o cs = prim o (cores_of cs)
 
--- one item of a joined list
+-- the call of a task over its operands
+abbrev pub of_task : ℕ → List Core → Core
+of_task k cs = call k (cores_of cs)
+
+-- one item of a joined list, as a list of one
 abbrev pub alone : Core → Core
 alone c = of_op op.List (c ∷ [])
 
@@ -88,12 +93,13 @@ quoted _ = Err Shape
 abbrev pub variable : List (List ℕ) → List ℕ → Result Core SyntaxKind
 variable scope x = or_fault Unbound (place_of x scope) >>= (λ k. Ok (var k))
 
--- the value of a cell
+-- the tree of a form that reads a cell
 abbrev pub ref_form : CellNames → CellKind → Vals → Result Core SyntaxKind
 ref_form cells kind (val (symbol c) no_vals) = cell_number kind cells c >>= (λ k. Ok (ref kind k))
 ref_form cells kind _ = Err Shape
 
--- an expression within these variables, the innermost first, and with these cells; a page body sends nothing and writes nothing
+-- an expression within these variables, the innermost first, and with these cells and tasks; a page body sends nothing, writes nothing
+-- and calls nothing
 abbrev mutual
   pub core_of : CellNames → List (List ℕ) → (in_page : Bool) → Val → Result Core SyntaxKind
   core_of cells scope in_page (number n) = Ok (lit (number n))
@@ -104,18 +110,19 @@ abbrev mutual
   core_of cells scope in_page (list (val (symbol s) vs)) = form_of cells scope in_page (head_of s) (val (symbol s) vs)
   core_of cells scope in_page (list _) = Err Shape
 
-  -- expressions from left to right, behind those that are done
+  -- expressions from left to right, after those that are done
   pub cores_from : CellNames → List (List ℕ) → Bool → List Core → Vals → Result (List Core) SyntaxKind
   cores_from cells scope in_page done no_vals = Ok done
   cores_from cells scope in_page done (val v vs) = do
     c ← core_of cells scope in_page v
     cores_from cells scope in_page (done ++ c ∷ []) vs
 
-  -- a form by its head: one line a row of the table
+  -- the tree of a form by its head: one line a row of the table
   pub form_of : CellNames → List (List ℕ) → Bool → Option Head → Vals → Result Core SyntaxKind
   form_of cells scope in_page h no_vals = Err Shape
   form_of cells scope in_page None (val w vs) = Err Shape
   form_of cells scope in_page (Some head.Define) (val w vs) = Err Shape
+  form_of cells scope in_page (Some head.DefineTask) (val w vs) = Err Shape
   form_of cells scope in_page (Some head.Quote) (val w vs) = quoted vs
   form_of cells scope in_page (Some head.Quasiquote) (val w vs) = quasiquote_form cells scope in_page vs
   form_of cells scope in_page (Some head.Let) (val w vs) = let_form cells scope in_page vs
@@ -134,10 +141,11 @@ abbrev mutual
   form_of cells scope in_page (Some (head.Last kind)) (val w vs) =
       if in_page then Err NestedSend else made (last_page kind) (only cells scope true vs)
   form_of cells scope in_page (Some head.Isolate) (val w vs) = if in_page then Err NestedSend else made isolate (only cells scope false vs)
+  form_of cells scope in_page (Some head.Call) (val w vs) = if in_page then Err NestedSend else call_form cells scope vs
   form_of cells scope in_page (Some (head.Apply o)) (val w vs) =
       if takes o (count_of vs) then made (of_op o) (cores_from cells scope in_page [] vs) else Err Arity
 
-  -- `((x e) ..) b ..`, the names bound at once
+  -- the parts `((x e) ..) b ..` of a `let`, whose names are bound at once
   pub let_form : CellNames → List (List ℕ) → Bool → Vals → Result Core SyntaxKind
   let_form cells scope in_page (val (list bindings) body) = do
     names ← names_before body (names_of bindings [])
@@ -147,7 +155,7 @@ abbrev mutual
     Ok (bind (cores_of es) b)
   let_form cells scope in_page _ = Err Shape
 
-  -- the expressions of bindings, behind those that are done
+  -- the expressions of bindings, after those that are done
   pub bound_values : CellNames → List (List ℕ) → Bool → List Core → Vals → Result (List Core) SyntaxKind
   bound_values cells scope in_page done no_vals = Ok done
   bound_values cells scope in_page done (val v vs) = do
@@ -159,7 +167,7 @@ abbrev mutual
   bound_value cells scope in_page (list (val x (val e no_vals))) = core_of cells scope in_page e
   bound_value cells scope in_page _ = Err Shape
 
-  -- `((x e) ..) b ..`, each expression within the names before it
+  -- the parts `((x e) ..) b ..` of a `let*`, in which each expression is within the names before it
   pub let_in_turn_form : CellNames → List (List ℕ) → Bool → Vals → Result Core SyntaxKind
   let_in_turn_form cells scope in_page (val (list bindings) body) = do
     names ← names_before body (names_of bindings [])
@@ -184,7 +192,7 @@ abbrev mutual
     Ok (branch t a b)
   if_form cells scope in_page _ = Err Shape
 
-  -- the clauses of a `cond`, the last of which is its `else`, behind the choices that are done
+  -- the clauses of a `cond`, the last of which is its `else`, after the choices that are done
   pub choices : CellNames → List (List ℕ) → Bool → List (Core × Core) → Vals → Result Core SyntaxKind
   choices cells scope in_page done no_vals = Err NoElse
   choices cells scope in_page done (val c cs) =
@@ -200,7 +208,7 @@ abbrev mutual
   choice_body cells scope in_page (list (val t body)) = made sequence (cores_from cells scope in_page [] body)
   choice_body cells scope in_page _ = Err Shape
 
-  -- `((x e)) b ..`
+  -- the parts `((x e)) b ..` of a `for/list`
   pub for_form : CellNames → List (List ℕ) → Bool → Vals → Result Core SyntaxKind
   for_form cells scope in_page (val (list bindings) body) = do
     names ← names_before body (single_name bindings)
@@ -210,12 +218,12 @@ abbrev mutual
     Ok (repeat n b)
   for_form cells scope in_page _ = Err Shape
 
-  -- the expression of the one binding
+  -- the expression of the one binding of a list
   pub single_value : CellNames → List (List ℕ) → Bool → Vals → Result Core SyntaxKind
   single_value cells scope in_page (val v no_vals) = bound_value cells scope in_page v
   single_value cells scope in_page _ = Err Shape
 
-  -- `(lambda (u) b ..)`, whose body is that of a page
+  -- the function `(lambda (u) b ..)` of a send, whose body is that of a page
   pub send_form : CellNames → List (List ℕ) → SendKind → Vals → Result Core SyntaxKind
   send_form cells scope kind (val (list (val l (val p body))) no_vals) =
       if is_word (codes "lambda") l then (do
@@ -225,12 +233,12 @@ abbrev mutual
         Ok (send kind b)) else Err Shape
   send_form cells scope kind _ = Err Shape
 
-  -- the only expression
+  -- the only expression of a form
   pub only : CellNames → List (List ℕ) → Bool → Vals → Result Core SyntaxKind
   only cells scope in_page (val e no_vals) = core_of cells scope in_page e
   only cells scope in_page _ = Err Shape
 
-  -- `c e`
+  -- the parts `c e` of a form that writes a cell
   pub store_form : CellNames → List (List ℕ) → Store → Vals → Result Core SyntaxKind
   store_form cells scope kind (val (symbol c) (val e no_vals)) = do
     k ← cell_number (written kind) cells c
@@ -238,7 +246,15 @@ abbrev mutual
     Ok (store kind k e)
   store_form cells scope kind _ = Err Shape
 
-  -- one template
+  -- the parts `f e ..` of a call
+  pub call_form : CellNames → List (List ℕ) → Vals → Result Core SyntaxKind
+  call_form cells scope (val (symbol f) vs) = do
+    k ← called cells f (count_of vs)
+    es ← cores_from cells scope false [] vs
+    Ok (of_task k es)
+  call_form cells scope _ = Err Shape
+
+  -- the one template of a quasiquote
   pub quasiquote_form : CellNames → List (List ℕ) → Bool → Vals → Result Core SyntaxKind
   quasiquote_form cells scope in_page (val t no_vals) = if is_template t then filled cells scope in_page t else Err Shape
   quasiquote_form cells scope in_page _ = Err Shape
@@ -252,14 +268,14 @@ abbrev mutual
       made (of_op op.List) (all_filled cells scope in_page [] vs)
   filled cells scope in_page v = Ok (lit v)
 
-  -- the items of a list, behind those that are done
+  -- the items of a list, after those that are done
   pub all_filled : CellNames → List (List ℕ) → Bool → List Core → Vals → Result (List Core) SyntaxKind
   all_filled cells scope in_page done no_vals = Ok done
   all_filled cells scope in_page done (val v vs) = do
     c ← filled cells scope in_page v
     all_filled cells scope in_page (done ++ c ∷ []) vs
 
-  -- the parts of a list that is joined, behind those that are done: what an unquote-splicing gives, and each other item alone
+  -- the parts of a list that is joined, after those that are done: what an unquote-splicing gives, and each other item alone
   pub spliced : CellNames → List (List ℕ) → Bool → List Core → Vals → Result (List Core) SyntaxKind
   spliced cells scope in_page done no_vals = Ok done
   spliced cells scope in_page done (val v vs) = do
@@ -279,7 +295,7 @@ abbrev mutual
 abbrev pub choice : CellNames → List (List ℕ) → Bool → Val → Result (Core × Core) SyntaxKind
 choice cells scope in_page c = pair (choice_test cells scope in_page c) (choice_body cells scope in_page c)
 
--- a body
+-- the tree of a body
 abbrev pub body_of : CellNames → List (List ℕ) → Bool → Vals → Result Core SyntaxKind
 body_of cells scope in_page body = made sequence (cores_from cells scope in_page [] body)
 

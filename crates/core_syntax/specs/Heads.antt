@@ -23,9 +23,10 @@ syntax_of s =
     if bytes_eq s (codes "and") then Some head.And else
     if bytes_eq s (codes "or") then Some head.Or else
     if bytes_eq s (codes "for/list") then Some head.For else
-    if bytes_eq s (codes "define") then Some head.Define else None
+    if bytes_eq s (codes "define") then Some head.Define else
+    if bytes_eq s (codes "define-task") then Some head.DefineTask else None
 
--- the forms that read or change cells, or send pages
+-- the forms that read or change cells, send pages, or call tasks
 unfoldable pub page_form_of : List ℕ → Option Head
 page_form_of s =
     if bytes_eq s (codes "web-cell-ref") then Some (head.Ref Web) else
@@ -37,7 +38,8 @@ page_form_of s =
     if bytes_eq s (codes "send/forward") then Some (head.Send Forward) else
     if bytes_eq s (codes "send/finish") then Some (head.Last Finish) else
     if bytes_eq s (codes "send/back") then Some (head.Last Back) else
-    if bytes_eq s (codes "isolate") then Some head.Isolate else None
+    if bytes_eq s (codes "isolate") then Some head.Isolate else
+    if bytes_eq s (codes "call") then Some head.Call else None
 
 -- the operations on numbers, and the tests of what a value is
 unfoldable pub number_operation_of : List ℕ → Option Head

@@ -1,5 +1,5 @@
 -- Nodes that were put behind others.
-use Rattle.std.specs.Prelude.{◌≡◌, ℕ, ◌+◌, ◌<◌, ◌≤◌, List, ◌++◌, length, Result, Ok, Err, ⊤}
+use Rattle.std.specs.Prelude.{◌≡◌, ℕ, suc, ◌+◌, ◌<◌, ◌≤◌, List, ◌∷◌, ◌++◌, length, Result, Ok, Err, ⊤}
 use Rattle.script_nodes.specs.declared.script.Node.{Node}
 use Rattle.script_nodes.specs.declared.script.Node.TheVariants as node
 use Rattle.core_syntax.specs.declared.heads.LastPage.{LastPage}
@@ -8,8 +8,8 @@ use Rattle.core_syntax.specs.declared.heads.Store.{Store}
 use Rattle.core_syntax.specs.declared.heads.Store.TheVariants.{Shadow, Set, Add}
 use Rattle.core_syntax.specs.declared.nodes.LayFault.{LayFault}
 use Rattle.core_syntax.specs.declared.nodes.LayFault.TheVariants.{Memory, TooMany}
-use Rattle.core_syntax.specs.Limits.{most_nodes}
-use Rattle.script_nodes.specs.Core.{Core, Cores, count, count_all, height, height_all}
+use Rattle.core_syntax.specs.Limits.{most_nodes, most_levels}
+use Rattle.script_nodes.specs.Core.{Core, Cores, core, count, count_all, height, height_all}
 use Rattle.script_nodes.specs.Layout.{layout, layout_all, starts}
 
 -- so many more nodes are too many behind these, or they nest deeper than `left`
@@ -29,11 +29,11 @@ Puts (Ok number) old new left nodes more high = Stands old new left number nodes
 Puts (Err Memory) old new left nodes more high = ⊤
 Puts (Err TooMany) old new left nodes more high = Lacks (length old) left more high
 
--- the nodes of a tree
+-- the nodes of a tree were put behind the old ones, or the fault is answered
 abbrev pub Lays : Result ℕ LayFault → (old new : List Node) → (left : ℕ) → Core → Type 0
 Lays result old new left c = Puts result old new left (layout (length old) c) (count c) (height c)
 
--- the nodes of trees, whose numbers these are
+-- the nodes of trees were put behind the old ones; these are the numbers of the trees
 pub record StandAll (old new : List Node) (left : ℕ) (numbers : List ℕ) (cs : Cores) : Type 0 where
   pub first : numbers ≡ starts (length old) cs
   pub behind : new ≡ old ++ layout_all (length old) cs
@@ -46,11 +46,30 @@ LaysAll (Ok numbers) old new left cs = StandAll old new left numbers cs
 LaysAll (Err Memory) old new left cs = ⊤
 LaysAll (Err TooMany) old new left cs = Lacks (length old) left (count_all cs) (height_all cs)
 
--- the nodes that send a last page, and that write a cell
+-- a node over these trees, which this function makes of their numbers, and their nodes were put behind the old ones
+abbrev pub LaysGroup : Result ℕ LayFault → (old new : List Node) → (left : ℕ) → (List ℕ → Node) → Cores → Type 0
+LaysGroup result old new left f cs =
+    Puts result old new left (f (starts (length old + 1) cs) ∷ layout_all (length old + 1) cs) (suc (count_all cs)) (suc (height_all cs))
+
+-- the nodes of an expression, and then those of bodies, were put behind the old ones; these are the numbers of the bodies
+pub record StandScript (old new : List Node) (numbers : List ℕ) (c : Core) (cs : Cores) : Type 0 where
+  pub first : numbers ≡ starts (length old + count c) cs
+  pub behind : new ≡ old ++ layout_all (length old) (core c cs)
+  pub room : length old + count_all (core c cs) ≤ most_nodes
+  pub low : height_all (core c cs) ≤ most_levels
+
+-- the nodes of an expression and of bodies were put behind the old ones, or there are too many of them
+abbrev pub LaysScript : Result (List ℕ) LayFault → (old new : List Node) → Core → Cores → Type 0
+LaysScript (Ok numbers) old new c cs = StandScript old new numbers c cs
+LaysScript (Err Memory) old new c cs = ⊤
+LaysScript (Err TooMany) old new c cs = Lacks (length old) most_levels (count_all (core c cs)) (height_all (core c cs))
+
+-- the node that sends a last page
 abbrev pub last_node : LastPage → ℕ → Node
 last_node Finish b = node.Finish b
 last_node Back b = node.Back b
 
+-- the node that writes a cell
 abbrev pub store_node : Store → ℕ → ℕ → Node
 store_node Shadow c e = node.CellShadow c e
 store_node Set c e = node.InstSet c e

@@ -10,6 +10,8 @@ pub mod Rows
 pub mod RowCores
 pub mod RowsSeen
 pub mod ReaderSeen
+pub mod Headings
+pub mod TaskNames
 pub mod Definitions
 pub mod DefinitionsSeen
 pub mod Trees
@@ -17,7 +19,9 @@ pub mod CoreCode
 pub mod TreeFalls
 pub mod Vectors
 pub mod VectorsOfScripts
+pub mod VectorsOfTasks
 pub mod Gives
 pub mod Views
 pub mod Laid
+pub mod Groups
 pub mod Expands

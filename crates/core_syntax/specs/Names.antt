@@ -1,20 +1,20 @@
--- Names of variables and cells.
-use Rattle.std.specs.Prelude.{ℕ, ◌||◌, ◌++◌, refl, Bool, false, List, [], ◌∷◌, length, Option, Some, None, Result, Ok, Err, is_some, position, if◌then◌else◌}
+-- Names of variables, cells and tasks.
+use Rattle.std.specs.Prelude.{ℕ, ◌||◌, ◌==◌, ◌++◌, refl, map, slice_get, unwrap_or, Bool, false, List, [], ◌∷◌, length, Option, Some, None, Result, Ok, Err, is_some, position, if◌then◌else◌}
 use Rattle.std.specs.Str.{bytes_eq}
 use Rattle.std.specs.Coded.{Coded, code_by, coded×, coded_list, coded_ℕ}
 use Rattle.core_syntax.specs.declared.faults.SyntaxKind.{SyntaxKind}
-use Rattle.core_syntax.specs.declared.faults.SyntaxKind.TheVariants.{Unbound, Duplicate}
+use Rattle.core_syntax.specs.declared.faults.SyntaxKind.TheVariants.{Unbound, Arity, Duplicate}
 use Rattle.core_syntax.specs.declared.heads.CellKind.{CellKind}
 use Rattle.core_syntax.specs.declared.heads.CellKind.TheVariants.{Web, Instance}
 use Rattle.core_syntax.specs.Heads.{head_of}
 
--- a value or the first fault
+-- what comes after a result: a fault goes through
 infixl 10 ◌>>=◌
 abbrev pub ◌>>=◌ : {A B : Type 0} → Result A SyntaxKind → (A → Result B SyntaxKind) → Result B SyntaxKind
 Ok x >>= f = f x
 Err k >>= f = Err k
 
--- what is there, or a fault
+-- a value, or this fault where there is none
 abbrev pub or_fault : {A : Type 0} → SyntaxKind → Option A → Result A SyntaxKind
 or_fault k None = Err k
 or_fault k (Some x) = Ok x
@@ -27,34 +27,68 @@ place_of x (y ∷ ys) = if bytes_eq x y then Some (length ys) else place_of x ys
 abbrev pub has_name : List ℕ → List (List ℕ) → Bool
 has_name x xs = is_some (place_of x xs)
 
--- a name stands twice among these
+-- whether a name stands twice among these
 abbrev pub repeats : List (List ℕ) → Bool
 repeats [] = false
 repeats (x ∷ xs) = has_name x xs || repeats xs
 
--- the names of a script's web cells and of its instance cells, each in the order of definition
+-- a task, and how many parameters it has
+pub record Task : Type 0 where
+  pub name : List ℕ
+  pub parameters : ℕ
+
+-- the names of a script's web cells, of its instance cells and of its tasks, each in the order of definition; and, where the body of a
+-- task is read, the names that are defined from that task on
 pub record CellNames : Type 0 where
   pub web : List (List ℕ)
   pub instance : List (List ℕ)
+  pub tasks : List Task
+  pub later : List (List ℕ)
 
 abbrev pub of_kind : CellKind → CellNames → List (List ℕ)
 of_kind Web cells = cells.web
 of_kind Instance cells = cells.instance
 
--- one more name behind those of its kind
+-- the names of cells with one more, behind those of its kind
 abbrev pub with_name : CellKind → List ℕ → CellNames → CellNames
-with_name Web x cells = record { web = cells.web ++ x ∷ []; instance = cells.instance }
-with_name Instance x cells = record { web = cells.web; instance = cells.instance ++ x ∷ [] }
+with_name Web x cells = record cells { web = cells.web ++ x ∷ [] }
+with_name Instance x cells = record cells { instance = cells.instance ++ x ∷ [] }
 
-abbrev parted : CellNames → List (List ℕ) × List (List ℕ)
-parted cells = (cells.web, cells.instance)
+-- the names of tasks with one more, of so many parameters, behind the others
+abbrev pub with_task_name : List ℕ → ℕ → CellNames → CellNames
+with_task_name x n cells = record cells { tasks = cells.tasks ++ record { name = x; parameters = n } ∷ [] }
 
-abbrev joined : List (List ℕ) × List (List ℕ) → CellNames
-joined p = record { web = p.0; instance = p.1 }
+-- the names of the tasks
+abbrev pub names_of_tasks : CellNames → List (List ℕ)
+names_of_tasks cells = map (λ t. t.name) cells.tasks
+
+-- how many parameters each task has
+abbrev pub parameters_in : CellNames → List ℕ
+parameters_in cells = map (λ t. t.parameters) cells.tasks
+
+abbrev split : Task → List ℕ × ℕ
+split t = (t.name, t.parameters)
+
+abbrev united : List ℕ × ℕ → Task
+united p = record { name = p.0; parameters = p.1 }
+
+abbrev task_code : Coded Task
+task_code = code_by (List ℕ × ℕ) (coded× (coded_list coded_ℕ) coded_ℕ) split united (λ _. refl)
+
+abbrev Parts : Type 0
+Parts = List (List ℕ) × (List (List ℕ) × (List Task × List (List ℕ)))
+
+abbrev parted : CellNames → Parts
+parted cells = (cells.web, (cells.instance, (cells.tasks, cells.later)))
+
+abbrev joined : Parts → CellNames
+joined p = record { web = p.0; instance = p.1.0; tasks = p.1.1.0; later = p.1.1.1 }
+
+abbrev names_code : Coded (List (List ℕ))
+names_code = coded_list (coded_list coded_ℕ)
 
 abbrev pub cell_names_code : Coded CellNames
-cell_names_code =
-    code_by (List (List ℕ) × List (List ℕ)) (coded× (coded_list (coded_list coded_ℕ)) (coded_list (coded_list coded_ℕ))) parted joined (λ _. refl)
+cell_names_code = code_by Parts (coded× names_code (coded× names_code (coded× (coded_list task_code) names_code))) parted joined (λ _. refl)
 
 -- the place of a name, the first being 0
 abbrev pub place_in : List (List ℕ) → List ℕ → Option ℕ
@@ -64,9 +98,21 @@ place_in names x = position (bytes_eq x) names
 abbrev pub cell_number : CellKind → CellNames → List ℕ → Result ℕ SyntaxKind
 cell_number kind cells x = or_fault Unbound (place_in (of_kind kind cells) x)
 
--- a name that no variable may have: that of a form, an operation or a cell
+-- whether a name stands among these
+abbrev pub is_among : List ℕ → List (List ℕ) → Bool
+is_among x [] = false
+is_among x (y ∷ ys) = bytes_eq x y || is_among x ys
+
+-- the task of a name that is called with so many operands
+abbrev pub called : CellNames → List ℕ → (given : ℕ) → Result ℕ SyntaxKind
+called cells f given =
+    or_fault Unbound (place_in (names_of_tasks cells) f) >>= (λ k. if given == unwrap_or (slice_get (parameters_in cells) k) 0 then Ok k else Err Arity)
+
+-- whether a name is one that no variable may have: that of a form, an operation, a cell or a task
 abbrev pub is_taken : CellNames → List ℕ → Bool
-is_taken cells x = is_some (head_of x) || is_some (place_in cells.web x) || is_some (place_in cells.instance x)
+is_taken cells x =
+    is_some (head_of x) || is_some (place_in cells.web x) || is_some (place_in cells.instance x) || is_some (place_in (names_of_tasks cells) x)
+    || is_among x cells.later
 
 abbrev pub are_taken : CellNames → List (List ℕ) → Bool
 are_taken cells [] = false

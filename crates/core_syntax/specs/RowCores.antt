@@ -9,7 +9,7 @@ use Rattle.script_nodes.specs.declared.script.SendKind.{SendKind}
 use Rattle.script_nodes.specs.Core.{Core, lit, var, bind, repeat, send, isolate, cores_of}
 use Rattle.core_syntax.specs.Names.{◌>>=◌, CellNames, repeats}
 use Rattle.core_syntax.specs.Shapes.{bound_name}
-use Rattle.core_syntax.specs.Forms.{core_of, cores_from, body_of, bound_values, values_in_turn, if_form, choices, filled, nest, ref, store, last_page, of_op, conjunction, disjunction, made}
+use Rattle.core_syntax.specs.Forms.{core_of, cores_from, body_of, bound_values, values_in_turn, if_form, choices, filled, nest, ref, store, last_page, of_op, of_task, conjunction, disjunction, made}
 use Rattle.core_syntax.specs.Rows.{Row}
 use Rattle.core_syntax.specs.Rows as row
 
@@ -26,7 +26,7 @@ names_in (val v vs) names = names_in vs (with_name (bound_name v) names)
 abbrev pub distinct : List (List ℕ) → Result (List (List ℕ)) SyntaxKind
 distinct names = if repeats names then Err Duplicate else Ok names
 
--- bindings at once, and their body
+-- the tree of bindings at once and their body
 abbrev pub bind_core : CellNames → List (List ℕ) → Bool → Vals → Vals → Result Core SyntaxKind
 bind_core cells scope in_page bs body = do
   names ← distinct (names_in bs [])
@@ -34,32 +34,39 @@ bind_core cells scope in_page bs body = do
   b ← body_of cells (names ++ scope) in_page body
   Ok (bind (cores_of es) b)
 
--- bindings one inside the other, and their body
+-- the tree of bindings one inside the other and their body
 abbrev pub bind_in_turn_core : CellNames → List (List ℕ) → Bool → Vals → Vals → Result Core SyntaxKind
 bind_in_turn_core cells scope in_page bs body = do
   es ← values_in_turn cells scope in_page [] bs
   b ← body_of cells (names_in bs [] ++ scope) in_page body
   Ok (nest es b)
 
--- turns of a body with one variable
+-- the tree of turns of a body with one variable
 abbrev pub turns_core : CellNames → List (List ℕ) → Bool → List ℕ → Val → Vals → Result Core SyntaxKind
 turns_core cells scope in_page x e body = do
   n ← core_of cells scope in_page e
   b ← body_of cells (x ∷ scope) in_page body
   Ok (repeat n b)
 
--- a cell that is written, a page that is sent, a last page and a transaction
+-- the tree of a cell that is written
 abbrev pub store_core : CellNames → List (List ℕ) → Store → ℕ → Val → Result Core SyntaxKind
 store_core cells scope kind k e = made (store kind k) (core_of cells scope false e)
 
+-- the tree of a page that is sent
 abbrev pub send_core : CellNames → List (List ℕ) → SendKind → List ℕ → Vals → Result Core SyntaxKind
 send_core cells scope kind x body = made (send kind) (body_of cells (x ∷ scope) true body)
 
+-- the tree of a last page
 abbrev pub last_core : CellNames → List (List ℕ) → LastPage → Val → Result Core SyntaxKind
 last_core cells scope kind e = made (last_page kind) (core_of cells scope true e)
 
+-- the tree of a transaction
 abbrev pub isolate_core : CellNames → List (List ℕ) → Val → Result Core SyntaxKind
 isolate_core cells scope e = made isolate (core_of cells scope false e)
+
+-- the tree of a task over its operands
+abbrev pub call_core : CellNames → List (List ℕ) → ℕ → Vals → Result Core SyntaxKind
+call_core cells scope k vs = made (of_task k) (cores_from cells scope false [] vs)
 
 abbrev pub core_in_row : CellNames → List (List ℕ) → Bool → Row → Result Core SyntaxKind
 core_in_row cells scope in_page (row.literal v) = Ok (lit v)
@@ -78,4 +85,5 @@ core_in_row cells scope in_page (row.store kind k e) = store_core cells scope ki
 core_in_row cells scope in_page (row.send kind x body) = send_core cells scope kind x body
 core_in_row cells scope in_page (row.last kind e) = last_core cells scope kind e
 core_in_row cells scope in_page (row.isolate e) = isolate_core cells scope e
+core_in_row cells scope in_page (row.call k vs) = call_core cells scope k vs
 core_in_row cells scope in_page (row.apply o vs) = made (of_op o) (cores_from cells scope in_page [] vs)

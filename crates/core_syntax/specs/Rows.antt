@@ -2,7 +2,7 @@
 use Rattle.std.specs.Prelude.{ℕ, ◌+◌, Bool, true, false, not, ◌&&◌, ◌||◌, List, Option, Some, None, is_some, Result, Ok, Err, codes, ⊤, if◌then◌else◌}
 use Rattle.script_value.specs.Val.{Val, Vals, symbol, list, no_vals, val, weight, weight_all}
 use Rattle.script_value.specs.declared.outcome.Op.{Op}
-use Rattle.prim_ops.specs.Table.{takes}
+use Rattle.prim_spec.specs.Table.{takes}
 use Rattle.script_nodes.specs.declared.script.SendKind.{SendKind}
 use Rattle.core_syntax.specs.declared.faults.SyntaxKind.{SyntaxKind}
 use Rattle.core_syntax.specs.declared.faults.SyntaxKind.TheVariants.{Shape, Unbound, Duplicate, Arity, NoElse, NestedSend, Effect}
@@ -12,7 +12,7 @@ use Rattle.core_syntax.specs.declared.heads.LastPage.{LastPage}
 use Rattle.core_syntax.specs.declared.heads.Head.{Head}
 use Rattle.core_syntax.specs.declared.heads.Head.TheVariants as head
 use Rattle.core_syntax.specs.Heads.{head_of}
-use Rattle.core_syntax.specs.Names.{◌>>=◌, or_fault, place_of, CellNames, cell_number, is_taken}
+use Rattle.core_syntax.specs.Names.{◌>>=◌, or_fault, place_of, CellNames, cell_number, called, is_taken}
 use Rattle.core_syntax.specs.Shapes.{count_of, is_empty, is_word, bound_name, symbol_in, are_clauses, ends_in_else}
 use Rattle.core_syntax.specs.Templates.{is_template}
 use Rattle.core_syntax.specs.Forms.{written}
@@ -37,13 +37,15 @@ pub data Row : Type 0 where
   last : LastPage → Val → Row
   isolate : Val → Row
   apply : Op → Vals → Row
+  -- a task and its operands
+  call : ℕ → Vals → Row
 
--- the head of a list
+-- the form or the operation that a symbol at the head of a list names
 abbrev pub head_in : Val → Option Head
 head_in (symbol s) = head_of s
 head_in _ = None
 
--- the only part
+-- the only part of a form, or the fault
 abbrev pub only_part : Vals → Result Val SyntaxKind
 only_part (val v no_vals) = Ok v
 only_part _ = Err Shape
@@ -52,7 +54,7 @@ abbrev pub are_bindings : Vals → Bool
 are_bindings no_vals = true
 are_bindings (val v vs) = is_some (bound_name v) && are_bindings vs
 
--- a name that no variable may have
+-- whether a name, if there is one, is one that no variable may have
 abbrev pub is_taken_name : CellNames → Option (List ℕ) → Bool
 is_taken_name cells None = false
 is_taken_name cells (Some x) = is_taken cells x
@@ -61,7 +63,7 @@ abbrev pub bind_taken : CellNames → Vals → Bool
 bind_taken cells no_vals = false
 bind_taken cells (val v vs) = is_taken_name cells (bound_name v) || bind_taken cells vs
 
--- bindings of names that may be bound, and a body behind them
+-- bindings of names that may be bound, and the body behind them, or the fault
 abbrev pub bind_with : CellNames → Vals → Vals → Result (Vals × Vals) SyntaxKind
 bind_with cells bs body =
     if is_empty body || not (are_bindings bs) then Err Shape else
@@ -101,7 +103,7 @@ choice_in _ = Err Shape
 abbrev pub clauses_in : Vals → Result Row SyntaxKind
 clauses_in vs = if not (are_clauses vs) then Err Shape else if not (ends_in_else vs) then Err NoElse else Ok (clauses vs)
 
--- `((x e)) b ..`
+-- the row of `((x e)) b ..`, the parts of a `for/list`
 abbrev pub turns_by : CellNames → Val → Vals → Result Row SyntaxKind
 turns_by cells bindings body = do
   b ← only_in bindings
@@ -134,7 +136,7 @@ abbrev pub store_in : CellNames → Store → Vals → Result Row SyntaxKind
 store_in cells kind (val c (val e no_vals)) = store_by cells kind c e
 store_in cells kind _ = Err Shape
 
--- `(lambda (u) b ..)`
+-- the row of a page that is sent by `(lambda (u) b ..)`
 abbrev pub function_by : CellNames → SendKind → Val → Val → Vals → Result Row SyntaxKind
 function_by cells kind word parameters body = if not (is_word (codes "lambda") word) then Err Shape else (do
   u ← only_in parameters
@@ -155,7 +157,7 @@ send_in cells kind vs = only_part vs >>= (λ f. function_in cells kind f)
 abbrev pub template_in : Vals → Result Row SyntaxKind
 template_in vs = only_part vs >>= (λ t. if is_template t then Ok (template t) else Err Shape)
 
--- what a page may not do
+-- a fault in a page, for what a page may not do
 abbrev pub outside_page : (in_page : Bool) → SyntaxKind → Result ⊤ SyntaxKind
 outside_page true k = Err k
 outside_page false k = Ok tt
@@ -169,10 +171,21 @@ begin_in vs = if is_empty vs then Err Shape else Ok (begin vs)
 abbrev pub apply_in : Op → Vals → Result Row SyntaxKind
 apply_in o vs = if takes o (count_of vs) then Ok (apply o vs) else Err Arity
 
+-- the row of a call of the task of a name, with these operands
+abbrev pub call_by : CellNames → Option (List ℕ) → Vals → Result Row SyntaxKind
+call_by cells None vs = Err Shape
+call_by cells (Some f) vs = called cells f (count_of vs) >>= (λ k. Ok (call k vs))
+
+-- the row of `(call f e ..)`, of which the parts `f e ..` are given
+abbrev pub call_in : CellNames → Vals → Result Row SyntaxKind
+call_in cells no_vals = Err Shape
+call_in cells (val f vs) = call_by cells (symbol_in f) vs
+
 -- the row of a head, with these parts; in a page or not
 abbrev pub row_by : CellNames → (in_page : Bool) → Option Head → Vals → Result Row SyntaxKind
 row_by cells in_page None vs = Err Shape
 row_by cells in_page (Some head.Define) vs = Err Shape
+row_by cells in_page (Some head.DefineTask) vs = Err Shape
 row_by cells in_page (Some head.Quote) vs = only_part vs >>= (λ v. Ok (literal v))
 row_by cells in_page (Some head.Quasiquote) vs = template_in vs
 row_by cells in_page (Some head.Let) vs = bound_in cells vs >>= (λ p. Ok (bind p.0 p.1))
@@ -188,6 +201,7 @@ row_by cells in_page (Some (head.Store kind)) vs = outside_page in_page Effect >
 row_by cells in_page (Some (head.Send kind)) vs = outside_page in_page NestedSend >>= (λ _. send_in cells kind vs)
 row_by cells in_page (Some (head.Last kind)) vs = outside_page in_page NestedSend >>= (λ _. only_part vs >>= (λ e. Ok (last kind e)))
 row_by cells in_page (Some head.Isolate) vs = outside_page in_page NestedSend >>= (λ _. only_part vs >>= (λ e. Ok (isolate e)))
+row_by cells in_page (Some head.Call) vs = outside_page in_page NestedSend >>= (λ _. call_in cells vs)
 row_by cells in_page (Some (head.Apply o)) vs = apply_in o vs
 
 abbrev pub row_in : CellNames → Bool → Vals → Result Row SyntaxKind
@@ -200,7 +214,7 @@ row_of cells scope in_page (symbol x) = variable_in scope x
 row_of cells scope in_page (list vs) = row_in cells in_page vs
 row_of cells scope in_page v = Ok (literal v)
 
--- what its parts weigh: less than the form
+-- what the parts of a row weigh: less than its form
 abbrev pub row_weight : Row → ℕ
 row_weight (literal v) = 0
 row_weight (variable k) = 0
@@ -219,3 +233,4 @@ row_weight (send kind x body) = weight_all body
 row_weight (last kind e) = weight e
 row_weight (isolate e) = weight e
 row_weight (apply o vs) = weight_all vs
+row_weight (call k vs) = weight_all vs

@@ -29,9 +29,10 @@ row_seen (variant.Store kind k e) = row.store kind k (meaning e.now)
 row_seen (variant.Send kind x body) = row.send kind x.now (meanings body.now)
 row_seen (variant.Last kind e) = row.last kind (meaning e.now)
 row_seen (variant.Isolate e) = row.isolate (meaning e.now)
+row_seen (variant.Call k parts) = row.call k (meanings parts.now)
 row_seen (variant.Apply o parts) = row.apply o (meanings parts.now)
 
--- what is answered, as it is seen, or the fault
+-- an answer as it is seen, or its fault
 abbrev pub seen : {A B : Type 0} → (A → B) → Result A SyntaxKind → Result B SyntaxKind
 seen view (Ok x) = Ok (view x)
 seen view (Err k) = Err k

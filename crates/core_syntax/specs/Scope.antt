@@ -9,16 +9,16 @@ use Rattle.std.specs.Cmp.Lexicographic.{slice_cmp}
 use Rattle.core_syntax.specs.declared.names.Named.{Named}
 use Rattle.core_syntax.specs.Names.{place_of}
 
--- the names
+-- the names of variables, as texts
 abbrev pub texts : List Named → List (List ℕ)
 texts names = map (λ n. n.name.now) names
 
--- each has the place of the next outer variable of its name
+-- each variable has the place of the next outer variable of its name
 abbrev pub IsLinked : List Named → Type 0
 IsLinked [] = ⊤
 IsLinked (n ∷ outer) = (n.earlier ≡ place_of n.name.now (texts outer)) × IsLinked outer
 
--- the place at a name
+-- the place that these places have at a name
 abbrev pub place_at : BTreeMap (Bor (List ℕ)) ℕ → List ℕ → Option ℕ
 place_at places x = get_by (λ k. slice_cmp nat_cmp x k.now) places
 

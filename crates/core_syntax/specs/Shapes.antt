@@ -46,7 +46,7 @@ abbrev pub names_of : Vals → List (List ℕ) → Option (List (List ℕ))
 names_of no_vals names = Some names
 names_of (val v vs) names = on (bound_name v) (λ x. names_of vs (x ∷ names))
 
--- the name of the one binding
+-- the name of the one binding of a list
 abbrev pub single_name : Vals → Option (List (List ℕ))
 single_name (val v no_vals) = on (bound_name v) (λ x. Some (x ∷ []))
 single_name _ = None
@@ -56,12 +56,12 @@ abbrev pub parameter : Val → Option (List (List ℕ))
 parameter (list (val u no_vals)) = on (symbol_in u) (λ x. Some (x ∷ []))
 parameter _ = None
 
--- the names in front of a body, which has one expression or more
+-- the names in front of a body, which has one expression or more, or the fault
 abbrev pub names_before : Vals → Option (List (List ℕ)) → Result (List (List ℕ)) SyntaxKind
 names_before no_vals names = Err Shape
 names_before (val b bs) names = or_fault Shape names
 
--- each clause of a `cond` is a list of a test and a body
+-- whether a value is a clause of a `cond`: a list of a test and a body
 abbrev pub is_clause : Val → Bool
 is_clause (list (val t (val b bs))) = true
 is_clause _ = false
@@ -70,7 +70,7 @@ abbrev pub are_clauses : Vals → Bool
 are_clauses no_vals = true
 are_clauses (val v vs) = is_clause v && are_clauses vs
 
--- the last clause of a `cond` is headed by `else`
+-- whether the last clause of a `cond` is headed by `else`
 abbrev pub ends_in_else : Vals → Bool
 ends_in_else no_vals = false
 ends_in_else (val v vs) = if is_empty vs then is_headed (codes "else") v else ends_in_else vs

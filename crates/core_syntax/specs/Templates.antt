@@ -11,7 +11,7 @@ abbrev pub has_splice : Vals → Bool
 has_splice no_vals = false
 has_splice (val v vs) = is_splice v || has_splice vs
 
--- what `(unquote-splicing e)` has behind its head: one expression
+-- whether a list has one expression behind its head, as `(unquote-splicing e)` has
 abbrev pub is_mark_of_one : Val → Bool
 is_mark_of_one (list vs) = count_of vs == 2
 is_mark_of_one _ = false
@@ -32,7 +32,7 @@ abbrev mutual
 abbrev pub is_item : Val → Bool
 is_item v = if is_splice v then is_mark_of_one v else is_template v
 
--- a template without unquote and unquote-splicing
+-- whether a template has no unquote and no unquote-splicing in it
 abbrev mutual
   pub is_plain : Val → Bool
   is_plain (list vs) = not (begins (codes "unquote") vs || begins (codes "unquote-splicing") vs) && are_plain vs

@@ -37,7 +37,7 @@ chosen_falls : (cs : List Choice) (o : Core) → max (most deep-Choice cs) (weig
 chosen_falls [] o = omega arith
 chosen_falls (c ∷ cs) o = omega (arith, choose_falls cs o)
 
--- no part is as high as the whole
+-- no part of a tree is as high as the whole tree
 pub form_falls : (f : Form) → max (deep-Form f) 0 ≤ height (core_in f)
 form_falls (form.Lit v) = omega arith
 form_falls (form.Var k) = omega arith
@@ -49,6 +49,7 @@ form_falls (form.Seq es) = omega (arith, most_falls es.items)
 form_falls (form.And es) = omega (arith, most_falls es.items)
 form_falls (form.Or es) = omega (arith, most_falls es.items)
 form_falls (form.Prim o es) = omega (arith, most_falls es.items)
+form_falls (form.Call k es) = omega (arith, most_falls es.items)
 form_falls (form.Cond cs o) = omega (arith, chosen_falls cs.items o.value)
 form_falls (form.For n b) = omega arith
 form_falls (form.Send kind b) = omega arith

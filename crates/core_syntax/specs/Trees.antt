@@ -5,7 +5,7 @@ use Rattle.core_syntax.specs.declared.tree.Form.{Form}
 use Rattle.core_syntax.specs.declared.tree.Form.TheVariants as form
 use Rattle.core_syntax.specs.declared.tree.Choice.{Choice}
 use Rattle.script_nodes.specs.Core.{Core, no_cores, lit, var, bind, repeat, prim, seq, and_all, or_any, send, isolate, cores_of}
-use Rattle.core_syntax.specs.Forms.{ref, nest, choose, store, last_page}
+use Rattle.core_syntax.specs.Forms.{ref, of_task, nest, choose, store, last_page}
 
 abbrev pub pair_of : Choice → Core × Core
 pair_of c = (c.test, c.body)
@@ -30,6 +30,7 @@ core_in (form.Seq es) = seq (cores_of es.items)
 core_in (form.And es) = and_all (cores_of es.items)
 core_in (form.Or es) = or_any (cores_of es.items)
 core_in (form.Prim o es) = prim o (cores_of es.items)
+core_in (form.Call k es) = of_task k es.items
 core_in (form.Cond cs o) = chosen (map pair_of cs.items) o.value
 core_in (form.For n b) = repeat n.value b.value
 core_in (form.Send kind b) = send kind b.value

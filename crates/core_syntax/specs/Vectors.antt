@@ -16,7 +16,7 @@ form vs = list (vals_of vs)
 
 -- two web cells `w` and `v`, and an instance cell `i`
 abbrev cells : CellNames
-cells = record { web = codes "w" ∷ codes "v" ∷ []; instance = codes "i" ∷ [] }
+cells = record { web = codes "w" ∷ codes "v" ∷ []; instance = codes "i" ∷ []; tasks = []; later = [] }
 
 -- an expression with these cells and no variables
 abbrev tree : Val → Result Core SyntaxKind
@@ -187,7 +187,7 @@ pub faults_of_conds : map fault (
 unfolding syntax_of page_form_of number_operation_of data_operation_of
 faults_of_conds = refl
 
--- and and or: any number
+-- `and` and `or`: any number of parts
 --   (and 1 x)  Unbound
 --   (or (quote))  Shape
 --   (or x (quote))  Unbound
@@ -497,7 +497,7 @@ pub choices : map tree (
 unfolding syntax_of page_form_of number_operation_of data_operation_of
 choices = refl
 
--- and and or
+-- `and` and `or`
 --   (and)
 --   (or)
 --   (and 1)

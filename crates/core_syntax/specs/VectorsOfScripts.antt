@@ -5,10 +5,10 @@ use Rattle.script_value.specs.declared.outcome.Op.TheVariants as op
 use Rattle.core_syntax.specs.declared.faults.SyntaxKind.{SyntaxKind}
 use Rattle.core_syntax.specs.declared.faults.SyntaxKind.TheVariants.{Shape, Unbound, Duplicate, TooMany}
 use Rattle.script_nodes.specs.declared.script.SendKind.TheVariants.{Suspend}
-use Rattle.script_nodes.specs.Core.{Core, lit, var, bind, branch, repeat, prim, seq, send, cell_ref, cell_shadow, inst_ref, inst_add, cores_of}
+use Rattle.script_nodes.specs.Core.{Core, lit, var, bind, branch, repeat, prim, seq, send, cell_ref, cell_shadow, inst_ref, inst_add, no_cores, cores_of}
 use Rattle.script_nodes.specs.Setup.{Script}
 use Rattle.core_syntax.specs.Heads.{syntax_of, page_form_of, number_operation_of, data_operation_of}
-use Rattle.core_syntax.specs.Definitions.{expanded, is_too_many}
+use Rattle.core_syntax.specs.Definitions.{expanded, are_too_many}
 use Rattle.core_syntax.specs.Vectors.{form}
 
 abbrev fault_in : Result Script (SyntaxKind × ℕ) → Option (SyntaxKind × ℕ)
@@ -101,20 +101,20 @@ faults_of_expressions_behind = refl
 -- cells are numbered by kind, and begin with what their definitions say
 --   (define a (make-instance-cell 1)) (define b (make-web-cell "t")) (define c (make-web-cell '(x 2))) (define d (make-instance-cell #f)) (list (web-cell-ref b) (web-cell-ref c) (instance-cell-ref a) (instance-cell-ref d))
 pub cells_of_each_kind : expanded (form (symbol (codes "define") ∷ symbol (codes "a") ∷ form (symbol (codes "make-instance-cell") ∷ number (pos 1) ∷ []) ∷ []) ∷ form (symbol (codes "define") ∷ symbol (codes "b") ∷ form (symbol (codes "make-web-cell") ∷ text (codes "t") ∷ []) ∷ []) ∷ form (symbol (codes "define") ∷ symbol (codes "c") ∷ form (symbol (codes "make-web-cell") ∷ form (symbol (codes "quote") ∷ form (symbol (codes "x") ∷ number (pos 2) ∷ []) ∷ []) ∷ []) ∷ []) ∷ form (symbol (codes "define") ∷ symbol (codes "d") ∷ form (symbol (codes "make-instance-cell") ∷ truth false ∷ []) ∷ []) ∷ form (symbol (codes "list") ∷ form (symbol (codes "web-cell-ref") ∷ symbol (codes "b") ∷ []) ∷ form (symbol (codes "web-cell-ref") ∷ symbol (codes "c") ∷ []) ∷ form (symbol (codes "instance-cell-ref") ∷ symbol (codes "a") ∷ []) ∷ form (symbol (codes "instance-cell-ref") ∷ symbol (codes "d") ∷ []) ∷ []) ∷ [])
-    ≡ Ok (record { web = (text (codes "t") ∷ form (symbol (codes "x") ∷ number (pos 2) ∷ []) ∷ []); cells = (number (pos 1) ∷ truth false ∷ []); body = prim op.List (cores_of (cell_ref 0 ∷ cell_ref 1 ∷ inst_ref 0 ∷ inst_ref 1 ∷ [])) })
+    ≡ Ok (record { web = (text (codes "t") ∷ form (symbol (codes "x") ∷ number (pos 2) ∷ []) ∷ []); cells = (number (pos 1) ∷ truth false ∷ []); tasks = no_cores; body = prim op.List (cores_of (cell_ref 0 ∷ cell_ref 1 ∷ inst_ref 0 ∷ inst_ref 1 ∷ [])) })
 unfolding expanded syntax_of page_form_of number_operation_of data_operation_of
 cells_of_each_kind = refl
 
 -- a cell may have the name of what is no form
 --   (define lambda (make-web-cell 1)) (web-cell-ref lambda)
 pub names_that_are_free : expanded (form (symbol (codes "define") ∷ symbol (codes "lambda") ∷ form (symbol (codes "make-web-cell") ∷ number (pos 1) ∷ []) ∷ []) ∷ form (symbol (codes "web-cell-ref") ∷ symbol (codes "lambda") ∷ []) ∷ [])
-    ≡ Ok (record { web = (number (pos 1) ∷ []); cells = []; body = cell_ref 0 })
+    ≡ Ok (record { web = (number (pos 1) ∷ []); cells = []; tasks = no_cores; body = cell_ref 0 })
 unfolding expanded syntax_of page_form_of number_operation_of data_operation_of
 names_that_are_free = refl
 
 --   (let ((a (string->number (extract-binding/single 'n (send/suspend (lambda (u) (list 'a (list (list 'href u)) "1")))))) (b (string->number (extract-binding/single 'n (send/suspend (lambda (u) (list 'a (list (list 'href u)) "2"))))))) (list 'p (number->string (+ a b))))
 pub sum : expanded (form (symbol (codes "let") ∷ form (form (symbol (codes "a") ∷ form (symbol (codes "string->number") ∷ form (symbol (codes "extract-binding/single") ∷ form (symbol (codes "quote") ∷ symbol (codes "n") ∷ []) ∷ form (symbol (codes "send/suspend") ∷ form (symbol (codes "lambda") ∷ form (symbol (codes "u") ∷ []) ∷ form (symbol (codes "list") ∷ form (symbol (codes "quote") ∷ symbol (codes "a") ∷ []) ∷ form (symbol (codes "list") ∷ form (symbol (codes "list") ∷ form (symbol (codes "quote") ∷ symbol (codes "href") ∷ []) ∷ symbol (codes "u") ∷ []) ∷ []) ∷ text (codes "1") ∷ []) ∷ []) ∷ []) ∷ []) ∷ []) ∷ []) ∷ form (symbol (codes "b") ∷ form (symbol (codes "string->number") ∷ form (symbol (codes "extract-binding/single") ∷ form (symbol (codes "quote") ∷ symbol (codes "n") ∷ []) ∷ form (symbol (codes "send/suspend") ∷ form (symbol (codes "lambda") ∷ form (symbol (codes "u") ∷ []) ∷ form (symbol (codes "list") ∷ form (symbol (codes "quote") ∷ symbol (codes "a") ∷ []) ∷ form (symbol (codes "list") ∷ form (symbol (codes "list") ∷ form (symbol (codes "quote") ∷ symbol (codes "href") ∷ []) ∷ symbol (codes "u") ∷ []) ∷ []) ∷ text (codes "2") ∷ []) ∷ []) ∷ []) ∷ []) ∷ []) ∷ []) ∷ []) ∷ form (symbol (codes "list") ∷ form (symbol (codes "quote") ∷ symbol (codes "p") ∷ []) ∷ form (symbol (codes "number->string") ∷ form (symbol (codes "+") ∷ symbol (codes "a") ∷ symbol (codes "b") ∷ []) ∷ []) ∷ []) ∷ []) ∷ [])
-    ≡ Ok (record { web = []; cells = []; body = bind (cores_of (prim op.StringToNumber (cores_of (prim op.ExtractBindingSingle (cores_of (lit (symbol (codes "n")) ∷ send Suspend (prim op.List (cores_of (lit (symbol (codes "a")) ∷ prim op.List (cores_of (prim op.List (cores_of (lit (symbol (codes "href")) ∷ var 0 ∷ [])) ∷ [])) ∷ lit (text (codes "1")) ∷ []))) ∷ [])) ∷ [])) ∷ prim op.StringToNumber (cores_of (prim op.ExtractBindingSingle (cores_of (lit (symbol (codes "n")) ∷ send Suspend (prim op.List (cores_of (lit (symbol (codes "a")) ∷ prim op.List (cores_of (prim op.List (cores_of (lit (symbol (codes "href")) ∷ var 0 ∷ [])) ∷ [])) ∷ lit (text (codes "2")) ∷ []))) ∷ [])) ∷ [])) ∷ [])) (prim op.List (cores_of (lit (symbol (codes "p")) ∷ prim op.NumberToString (cores_of (prim op.Add (cores_of (var 0 ∷ var 1 ∷ [])) ∷ [])) ∷ []))) })
+    ≡ Ok (record { web = []; cells = []; tasks = no_cores; body = bind (cores_of (prim op.StringToNumber (cores_of (prim op.ExtractBindingSingle (cores_of (lit (symbol (codes "n")) ∷ send Suspend (prim op.List (cores_of (lit (symbol (codes "a")) ∷ prim op.List (cores_of (prim op.List (cores_of (lit (symbol (codes "href")) ∷ var 0 ∷ [])) ∷ [])) ∷ lit (text (codes "1")) ∷ []))) ∷ [])) ∷ [])) ∷ prim op.StringToNumber (cores_of (prim op.ExtractBindingSingle (cores_of (lit (symbol (codes "n")) ∷ send Suspend (prim op.List (cores_of (lit (symbol (codes "a")) ∷ prim op.List (cores_of (prim op.List (cores_of (lit (symbol (codes "href")) ∷ var 0 ∷ [])) ∷ [])) ∷ lit (text (codes "2")) ∷ []))) ∷ [])) ∷ [])) ∷ [])) (prim op.List (cores_of (lit (symbol (codes "p")) ∷ prim op.NumberToString (cores_of (prim op.Add (cores_of (var 0 ∷ var 1 ∷ [])) ∷ [])) ∷ []))) })
 unfolding expanded syntax_of page_form_of number_operation_of data_operation_of
 sum = refl
 
@@ -124,7 +124,7 @@ sum = refl
 --     (send/suspend (lambda (u) `(a ((href ,u)) "confirm")))
 --     `(p ,(web-cell-ref picked)))
 pub hotel : expanded (form (symbol (codes "define") ∷ symbol (codes "picked") ∷ form (symbol (codes "make-web-cell") ∷ text (codes "none") ∷ []) ∷ []) ∷ form (symbol (codes "let") ∷ form (form (symbol (codes "b") ∷ form (symbol (codes "send/suspend") ∷ form (symbol (codes "lambda") ∷ form (symbol (codes "u") ∷ []) ∷ form (symbol (codes "quasiquote") ∷ form (symbol (codes "a") ∷ form (form (symbol (codes "href") ∷ form (symbol (codes "unquote") ∷ symbol (codes "u") ∷ []) ∷ []) ∷ []) ∷ text (codes "list") ∷ []) ∷ []) ∷ []) ∷ []) ∷ []) ∷ []) ∷ form (symbol (codes "web-cell-shadow") ∷ symbol (codes "picked") ∷ form (symbol (codes "extract-binding/single") ∷ form (symbol (codes "quote") ∷ symbol (codes "h") ∷ []) ∷ symbol (codes "b") ∷ []) ∷ []) ∷ form (symbol (codes "send/suspend") ∷ form (symbol (codes "lambda") ∷ form (symbol (codes "u") ∷ []) ∷ form (symbol (codes "quasiquote") ∷ form (symbol (codes "a") ∷ form (form (symbol (codes "href") ∷ form (symbol (codes "unquote") ∷ symbol (codes "u") ∷ []) ∷ []) ∷ []) ∷ text (codes "confirm") ∷ []) ∷ []) ∷ []) ∷ []) ∷ form (symbol (codes "quasiquote") ∷ form (symbol (codes "p") ∷ form (symbol (codes "unquote") ∷ form (symbol (codes "web-cell-ref") ∷ symbol (codes "picked") ∷ []) ∷ []) ∷ []) ∷ []) ∷ []) ∷ [])
-    ≡ Ok (record { web = (text (codes "none") ∷ []); cells = []; body = bind (cores_of (send Suspend (prim op.List (cores_of (lit (symbol (codes "a")) ∷ prim op.List (cores_of (prim op.List (cores_of (lit (symbol (codes "href")) ∷ var 0 ∷ [])) ∷ [])) ∷ lit (text (codes "list")) ∷ []))) ∷ [])) (seq (cores_of (cell_shadow 0 (prim op.ExtractBindingSingle (cores_of (lit (symbol (codes "h")) ∷ var 0 ∷ []))) ∷ send Suspend (prim op.List (cores_of (lit (symbol (codes "a")) ∷ prim op.List (cores_of (prim op.List (cores_of (lit (symbol (codes "href")) ∷ var 1 ∷ [])) ∷ [])) ∷ lit (text (codes "confirm")) ∷ []))) ∷ prim op.List (cores_of (lit (symbol (codes "p")) ∷ cell_ref 0 ∷ [])) ∷ []))) })
+    ≡ Ok (record { web = (text (codes "none") ∷ []); cells = []; tasks = no_cores; body = bind (cores_of (send Suspend (prim op.List (cores_of (lit (symbol (codes "a")) ∷ prim op.List (cores_of (prim op.List (cores_of (lit (symbol (codes "href")) ∷ var 0 ∷ [])) ∷ [])) ∷ lit (text (codes "list")) ∷ []))) ∷ [])) (seq (cores_of (cell_shadow 0 (prim op.ExtractBindingSingle (cores_of (lit (symbol (codes "h")) ∷ var 0 ∷ []))) ∷ send Suspend (prim op.List (cores_of (lit (symbol (codes "a")) ∷ prim op.List (cores_of (prim op.List (cores_of (lit (symbol (codes "href")) ∷ var 1 ∷ [])) ∷ [])) ∷ lit (text (codes "confirm")) ∷ []))) ∷ prim op.List (cores_of (lit (symbol (codes "p")) ∷ cell_ref 0 ∷ [])) ∷ []))) })
 unfolding expanded syntax_of page_form_of number_operation_of data_operation_of
 hotel = refl
 
@@ -135,7 +135,7 @@ hotel = refl
 --         '(p "sold out")
 --         (begin (instance-cell-add! stock -1) '(p "bought"))))
 pub shop : expanded (form (symbol (codes "define") ∷ symbol (codes "stock") ∷ form (symbol (codes "make-instance-cell") ∷ number (pos 1) ∷ []) ∷ []) ∷ form (symbol (codes "begin") ∷ form (symbol (codes "send/suspend") ∷ form (symbol (codes "lambda") ∷ form (symbol (codes "u") ∷ []) ∷ form (symbol (codes "quasiquote") ∷ form (symbol (codes "a") ∷ form (form (symbol (codes "href") ∷ form (symbol (codes "unquote") ∷ symbol (codes "u") ∷ []) ∷ []) ∷ []) ∷ text (codes "buy") ∷ []) ∷ []) ∷ []) ∷ []) ∷ form (symbol (codes "if") ∷ form (symbol (codes "<") ∷ form (symbol (codes "instance-cell-ref") ∷ symbol (codes "stock") ∷ []) ∷ number (pos 1) ∷ []) ∷ form (symbol (codes "quote") ∷ form (symbol (codes "p") ∷ text (codes "sold out") ∷ []) ∷ []) ∷ form (symbol (codes "begin") ∷ form (symbol (codes "instance-cell-add!") ∷ symbol (codes "stock") ∷ number (negsuc 0) ∷ []) ∷ form (symbol (codes "quote") ∷ form (symbol (codes "p") ∷ text (codes "bought") ∷ []) ∷ []) ∷ []) ∷ []) ∷ []) ∷ [])
-    ≡ Ok (record { web = []; cells = (number (pos 1) ∷ []); body = seq (cores_of (send Suspend (prim op.List (cores_of (lit (symbol (codes "a")) ∷ prim op.List (cores_of (prim op.List (cores_of (lit (symbol (codes "href")) ∷ var 0 ∷ [])) ∷ [])) ∷ lit (text (codes "buy")) ∷ []))) ∷ branch (prim op.Less (cores_of (inst_ref 0 ∷ lit (number (pos 1)) ∷ []))) (lit (form (symbol (codes "p") ∷ text (codes "sold out") ∷ []))) (seq (cores_of (inst_add 0 (lit (number (negsuc 0))) ∷ lit (form (symbol (codes "p") ∷ text (codes "bought") ∷ [])) ∷ []))) ∷ [])) })
+    ≡ Ok (record { web = []; cells = (number (pos 1) ∷ []); tasks = no_cores; body = seq (cores_of (send Suspend (prim op.List (cores_of (lit (symbol (codes "a")) ∷ prim op.List (cores_of (prim op.List (cores_of (lit (symbol (codes "href")) ∷ var 0 ∷ [])) ∷ [])) ∷ lit (text (codes "buy")) ∷ []))) ∷ branch (prim op.Less (cores_of (inst_ref 0 ∷ lit (number (pos 1)) ∷ []))) (lit (form (symbol (codes "p") ∷ text (codes "sold out") ∷ []))) (seq (cores_of (inst_add 0 (lit (number (negsuc 0))) ∷ lit (form (symbol (codes "p") ∷ text (codes "bought") ∷ [])) ∷ []))) ∷ [])) })
 unfolding expanded syntax_of page_form_of number_operation_of data_operation_of
 shop = refl
 
@@ -145,7 +145,7 @@ shop = refl
 --         (extract-binding/single 'a
 --           (send/suspend (lambda (u) `(a ((href ,u)) ,(number->string i))))))))
 pub quiz : expanded (form (symbol (codes "let") ∷ form (form (symbol (codes "b") ∷ form (symbol (codes "send/suspend") ∷ form (symbol (codes "lambda") ∷ form (symbol (codes "u") ∷ []) ∷ form (symbol (codes "quasiquote") ∷ form (symbol (codes "a") ∷ form (form (symbol (codes "href") ∷ form (symbol (codes "unquote") ∷ symbol (codes "u") ∷ []) ∷ []) ∷ []) ∷ text (codes "k") ∷ []) ∷ []) ∷ []) ∷ []) ∷ []) ∷ []) ∷ form (symbol (codes "cons") ∷ form (symbol (codes "quote") ∷ symbol (codes "p") ∷ []) ∷ form (symbol (codes "for/list") ∷ form (form (symbol (codes "i") ∷ form (symbol (codes "string->number") ∷ form (symbol (codes "extract-binding/single") ∷ form (symbol (codes "quote") ∷ symbol (codes "k") ∷ []) ∷ symbol (codes "b") ∷ []) ∷ []) ∷ []) ∷ []) ∷ form (symbol (codes "extract-binding/single") ∷ form (symbol (codes "quote") ∷ symbol (codes "a") ∷ []) ∷ form (symbol (codes "send/suspend") ∷ form (symbol (codes "lambda") ∷ form (symbol (codes "u") ∷ []) ∷ form (symbol (codes "quasiquote") ∷ form (symbol (codes "a") ∷ form (form (symbol (codes "href") ∷ form (symbol (codes "unquote") ∷ symbol (codes "u") ∷ []) ∷ []) ∷ []) ∷ form (symbol (codes "unquote") ∷ form (symbol (codes "number->string") ∷ symbol (codes "i") ∷ []) ∷ []) ∷ []) ∷ []) ∷ []) ∷ []) ∷ []) ∷ []) ∷ []) ∷ []) ∷ [])
-    ≡ Ok (record { web = []; cells = []; body = bind (cores_of (send Suspend (prim op.List (cores_of (lit (symbol (codes "a")) ∷ prim op.List (cores_of (prim op.List (cores_of (lit (symbol (codes "href")) ∷ var 0 ∷ [])) ∷ [])) ∷ lit (text (codes "k")) ∷ []))) ∷ [])) (prim op.Cons (cores_of (lit (symbol (codes "p")) ∷ repeat (prim op.StringToNumber (cores_of (prim op.ExtractBindingSingle (cores_of (lit (symbol (codes "k")) ∷ var 0 ∷ [])) ∷ []))) (prim op.ExtractBindingSingle (cores_of (lit (symbol (codes "a")) ∷ send Suspend (prim op.List (cores_of (lit (symbol (codes "a")) ∷ prim op.List (cores_of (prim op.List (cores_of (lit (symbol (codes "href")) ∷ var 2 ∷ [])) ∷ [])) ∷ prim op.NumberToString (cores_of (var 1 ∷ [])) ∷ []))) ∷ []))) ∷ []))) })
+    ≡ Ok (record { web = []; cells = []; tasks = no_cores; body = bind (cores_of (send Suspend (prim op.List (cores_of (lit (symbol (codes "a")) ∷ prim op.List (cores_of (prim op.List (cores_of (lit (symbol (codes "href")) ∷ var 0 ∷ [])) ∷ [])) ∷ lit (text (codes "k")) ∷ []))) ∷ [])) (prim op.Cons (cores_of (lit (symbol (codes "p")) ∷ repeat (prim op.StringToNumber (cores_of (prim op.ExtractBindingSingle (cores_of (lit (symbol (codes "k")) ∷ var 0 ∷ [])) ∷ []))) (prim op.ExtractBindingSingle (cores_of (lit (symbol (codes "a")) ∷ send Suspend (prim op.List (cores_of (lit (symbol (codes "a")) ∷ prim op.List (cores_of (prim op.List (cores_of (lit (symbol (codes "href")) ∷ var 2 ∷ [])) ∷ [])) ∷ prim op.NumberToString (cores_of (var 1 ∷ [])) ∷ []))) ∷ []))) ∷ []))) })
 unfolding expanded syntax_of page_form_of number_operation_of data_operation_of
 quiz = refl
 
@@ -231,8 +231,8 @@ abbrev ones : ℕ → List Core
 ones zero = []
 ones (suc n) = lit (number (pos 1)) ∷ ones n
 
-pub nodes_16384 : is_too_many (prim op.List (cores_of (ones 16383))) ≡ false
+pub nodes_16384 : are_too_many (cores_of ((prim op.List (cores_of (ones 16383))) ∷ [])) ≡ false
 nodes_16384 = refl
 
-pub nodes_16385 : is_too_many (prim op.List (cores_of (ones 16384))) ≡ true
+pub nodes_16385 : are_too_many (cores_of ((prim op.List (cores_of (ones 16384))) ∷ [])) ≡ true
 nodes_16385 = refl

@@ -8,7 +8,7 @@ use Rattle.script_value.specs.declared.value.Value.{Value}
 abbrev pub bound_parts : (bindings body : List Value) → Vals
 bound_parts bindings body = val (list (meanings bindings)) (meanings body)
 
--- two parts, of which the first is given as it is read
+-- the parts of a form of two, of which the first is given as it is read
 abbrev pub two_parts : Val → Value → Vals
 two_parts first second = val first (val (meaning second) no_vals)
 

@@ -3,7 +3,7 @@
 ghost use Rattle.std.specs.Prelude.{◌≡◌, option_map};
 ghost use Rattle.script_value.specs.Val.{list};
 ghost use Rattle.script_value.specs.Views.{meaning, meanings};
-ghost use Rattle.core_syntax.specs.Definitions as spec;
+ghost use Rattle.core_syntax.specs.Headings as spec;
 ghost use Rattle.core_syntax.specs.DefinitionsSeen.{definition, maker};
 
 use crate::heads::CellKind;

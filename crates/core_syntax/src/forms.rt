@@ -1,18 +1,23 @@
-ghost use Rattle.std.specs.Prelude.{◌≡◌, [], Err, IsOk, map};
+ghost use Rattle.std.specs.Prelude.{◌≡◌, ◌∷◌, [], Err, IsOk, map};
+ghost use Rattle.script_nodes.specs.Core.{cores_of};
 ghost use Rattle.script_value.specs.Views.{meaning};
 ghost use Rattle.core_syntax.specs.Definitions.{begins_well, expanded, expression_at, first_seen};
 ghost use Rattle.core_syntax.specs.DefinitionsSeen.{cells_of};
 ghost use Rattle.core_syntax.specs.Expands.{Expands, ExpandsFault, IsLevel};
+ghost use Rattle.core_syntax.specs.Headings.{is_definition};
+ghost use Rattle.core_syntax.specs.Laid.{LaysScript};
+ghost use Rattle.core_syntax.specs.TaskNames.{names_in};
 
 use crate::defined::Defined;
 use crate::faults::{ExpandFault, ReadFault, SyntaxError, SyntaxKind};
-use crate::layout::lay;
+use crate::layout::{lay, lay_all};
 use crate::names::Names;
 use crate::nodes::{LayFault, Nodes};
 use crate::read::Reader;
 use crate::rows::row_of;
 use crate::shapes::is_headed;
-use script_nodes::Script;
+use crate::tree::Tree;
+use script_nodes::{Numbers, Script};
 use script_value::Value;
 use std::alloc::Global;
 
@@ -36,49 +41,61 @@ fn begins_well(alloc: Global, forms: &[Value]) -> Result<(), SyntaxKind>
 {
     match forms {
         [] => Err(SyntaxKind::Shape),
-        [first] => first_seen(alloc, first, true),
-        [first, _second, ..] => first_seen(alloc, first, false),
+        [first, others @ ..] => first_seen(alloc, first, others, forms),
     }
 }
 
-/// What the first form tells: a cell, or a row where it is the last.
-fn first_seen(alloc: Global, first: &Value, is_last: bool) -> Result<(), SyntaxKind>
-    ensures { result ≡ first_seen (meaning first.now) is_last }
+/// What the first form tells: a cell, a task, or a row where it is the last.
+fn first_seen<'a>(
+    alloc: Global,
+    first: &'a Value,
+    others: &'a [Value],
+    forms: &'a [Value],
+) -> Result<(), SyntaxKind>
+    requires { names_in forms.now ≡ names_in (first.now ∷ others.now) }
+    ensures { result ≡ first_seen (meaning first.now) (map meaning others.now) }
 {
     let defined = Defined::new(alloc);
-    if is_headed("define", first) {
-        defined.checked(first)?;
-        return Ok(());
+    if is_definition(first) {
+        return defined.seen(first, others, forms);
     }
-    if !is_last {
+    if !others.is_empty() {
         return Err(SyntaxKind::Shape);
     }
     row_of(&defined.names, &Names::new(alloc), false, first)?;
     Ok(())
 }
 
+/// Whether a form is a definition.
+fn is_definition(form: &Value) -> bool
+    ensures { result ≡ is_definition (meaning form.now) }
+{
+    is_headed("define", form) || is_headed("define-task", form)
+}
+
 fn expand_forms(alloc: Global, forms: &[Value]) -> Result<Script, ExpandFault>
     ensures { Expands result (expanded (map meaning forms.now)) }
 {
     let mut defined = Defined::new(alloc);
-    for place in 0..forms.len() {
-        let form = &forms[place];
-        let number = defined.names.len() as u32;
-        if !is_headed("define", form) {
-            if place + 1 < forms.len() {
+    let mut left = forms;
+    while let [form, others @ ..] = left {
+        let number = defined.count();
+        if !is_definition(form) {
+            if !others.is_empty() {
                 return Err(at(number, SyntaxKind::Shape));
             }
             return expand_expression(alloc, defined, number, form);
         }
-        match defined.define(alloc, form) {
+        match defined.define_form(alloc, form, others, left) {
             Ok(()) => {}
             Err(fault) => return Err(at_number(number, fault)),
         }
+        left = others;
     }
-    Err(at(defined.names.len() as u32, SyntaxKind::Shape))
+    Err(at(defined.count(), SyntaxKind::Shape))
 }
 
-/// The script of these cells and this expression, which is the form of this number.
+/// The script of these cells and tasks and of this expression, which is the form of this number.
 fn expand_expression<'a>(
     alloc: Global,
     defined: Defined<'a>,
@@ -92,6 +109,7 @@ fn expand_expression<'a>(
         names,
         web,
         instance,
+        tasks,
     } = defined;
     let mut reader = Reader::new(alloc, &names);
     let tree = match reader.read(false, form) {
@@ -99,11 +117,26 @@ fn expand_expression<'a>(
         Err(fault) => return Err(at_number(number, fault)),
     };
     let mut nodes = Nodes::new(alloc);
-    match lay(alloc, &mut nodes, DEPTH_LIMIT, &tree) {
+    match lay_script(alloc, &mut nodes, &tree, tasks.as_slice()) {
         Err(LayFault::Memory) => Err(ExpandFault::Memory),
         Err(LayFault::TooMany) => Err(at(number, SyntaxKind::TooMany)),
-        Ok(_) => Ok(Script::from_parts(nodes.into_vec(), web, instance)),
+        Ok(starts) => Ok(Script::from_parts(nodes.into_vec(), web, instance, starts)),
     }
+}
+
+/// Puts the nodes of an expression and behind them those of tasks' bodies, and gives the numbers of the first nodes of
+/// these.
+#[tactic(auto, using(crate::proofs::Lays::script_stands, crate::proofs::Lays::expression_lacks, crate::proofs::Lays::bodies_lack))]
+fn lay_script(
+    alloc: Global,
+    nodes: &mut Nodes,
+    expression: &Tree,
+    tasks: &[Tree],
+) -> Result<Numbers, LayFault>
+    ensures { LaysScript result nodes.old nodes.new expression.now (cores_of tasks.now) }
+{
+    lay(alloc, nodes, DEPTH_LIMIT, expression)?;
+    lay_all(alloc, nodes, DEPTH_LIMIT, tasks)
 }
 
 /// A fault of the form of this number.

@@ -55,7 +55,10 @@ pub enum Head {
     Send(SendKind),
     Last(LastPage),
     Isolate,
+    Call,
     Define,
+    /// `define-task`
+    DefineTask,
     Apply(Op),
 }
 
@@ -76,11 +79,12 @@ fn syntax_of(name: &str) -> Option<Head>
         "or" => Some(Head::Or),
         "for/list" => Some(Head::For),
         "define" => Some(Head::Define),
+        "define-task" => Some(Head::DefineTask),
         _ => None,
     }
 }
 
-// The form of a name that reads or changes cells, or sends a page.
+// The form of a name that reads or changes cells, sends a page, or calls a task.
 #[tactic(auto, unfolding(crate::specs::Heads::page_form_of))]
 fn page_form_of(name: &str) -> Option<Head>
     ensures { result ≡ page_form_of name.now }
@@ -96,6 +100,7 @@ fn page_form_of(name: &str) -> Option<Head>
         "send/finish" => Some(Head::Last(LastPage::Finish)),
         "send/back" => Some(Head::Last(LastPage::Back)),
         "isolate" => Some(Head::Isolate),
+        "call" => Some(Head::Call),
         _ => None,
     }
 }

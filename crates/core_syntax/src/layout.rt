@@ -6,7 +6,8 @@ ghost use Rattle.script_nodes.specs.Core.{lit, bind, seq, cores_of};
 ghost use Rattle.script_nodes.specs.Core as core;
 ghost use Rattle.core_syntax.specs.Forms as spec;
 ghost use Rattle.core_syntax.specs.Trees.{nested, chosen, pair_of};
-ghost use Rattle.core_syntax.specs.Laid.{Puts, Lays, LaysAll, last_node, store_node};
+ghost use Rattle.core_syntax.specs.Laid.{Puts, Lays, LaysAll, LaysGroup, last_node, store_node};
+ghost use Rattle.core_syntax.specs.Groups.{group_node};
 ghost use Rattle.script_nodes.specs.declared.script.Node.TheVariants as node;
 
 use crate::heads::{CellKind, LastPage, Store};
@@ -15,6 +16,17 @@ use crate::tree::{Choice, Form, Tree};
 use script_nodes::{Node, Numbers, SendKind};
 use script_value::{Op, Value};
 use std::alloc::{AllocError, Global};
+
+/// What stands over parts in a row.
+#[derive(Clone, Copy)]
+enum Group {
+    Seq,
+    And,
+    Or,
+    Prim(Op),
+    /// A task, by its number.
+    Call(u8),
+}
 
 /// Puts the nodes of a tree behind the others, where `left` levels may still nest, and gives the number of the first.
 #[cycle(lay)]
@@ -27,10 +39,17 @@ pub fn lay(alloc: Global, nodes: &mut Nodes, left: u32, tree: &Tree) -> Result<u
         Form::Ref(kind, cell) => lay_ref(nodes, left, *kind, *cell),
         Form::Let(values, body) => lay_let(alloc, nodes, left, values.as_slice(), body),
         Form::Nest(values, body) => lay_nested(alloc, nodes, left, values.as_slice(), body),
-        Form::Seq(parts) => lay_seq(alloc, nodes, left, parts.as_slice()),
-        Form::And(parts) => lay_and(alloc, nodes, left, parts.as_slice()),
-        Form::Or(parts) => lay_or(alloc, nodes, left, parts.as_slice()),
-        Form::Prim(op, parts) => lay_prim(alloc, nodes, left, *op, parts.as_slice()),
+        Form::Seq(parts) => lay_group(alloc, nodes, left, Group::Seq, parts.as_slice()),
+        Form::And(parts) => lay_group(alloc, nodes, left, Group::And, parts.as_slice()),
+        Form::Or(parts) => lay_group(alloc, nodes, left, Group::Or, parts.as_slice()),
+        Form::Prim(op, parts) => lay_group(alloc, nodes, left, Group::Prim(*op), parts.as_slice()),
+        Form::Call(task, operands) => lay_group(
+            alloc,
+            nodes,
+            left,
+            Group::Call(*task),
+            operands.as_slice(),
+        ),
         Form::Cond(choices, otherwise) => lay_chosen(
             alloc,
             nodes,
@@ -63,7 +82,12 @@ fn lay_ref(nodes: &mut Nodes, left: u32, kind: CellKind, cell: u8) -> Result<u32
 
 /// Puts the nodes of trees behind the others, and gives the numbers of their first.
 #[cycle(lay)]
-fn lay_all(alloc: Global, nodes: &mut Nodes, left: u32, trees: &[Tree]) -> Result<Numbers, LayFault>
+pub fn lay_all(
+    alloc: Global,
+    nodes: &mut Nodes,
+    left: u32,
+    trees: &[Tree],
+) -> Result<Numbers, LayFault>
     ensures { LaysAll result nodes.old nodes.new left (cores_of trees.now) }
 {
     let mut numbers = Vec::new(alloc);
@@ -74,49 +98,20 @@ fn lay_all(alloc: Global, nodes: &mut Nodes, left: u32, trees: &[Tree]) -> Resul
     Ok(Numbers::from_vec(numbers))
 }
 
+/// A node over parts in a row.
 #[cycle(lay)]
-fn lay_seq(alloc: Global, nodes: &mut Nodes, left: u32, parts: &[Tree]) -> Result<u32, LayFault>
-    ensures { Lays result nodes.old nodes.new left (core.seq (cores_of parts.now)) }
-{
-    let number = open(nodes, left)?;
-    let parts = lay_all(alloc, nodes, left - 1, parts)?;
-    nodes.write(number, Node::Seq { parts });
-    Ok(number)
-}
-
-#[cycle(lay)]
-fn lay_and(alloc: Global, nodes: &mut Nodes, left: u32, parts: &[Tree]) -> Result<u32, LayFault>
-    ensures { Lays result nodes.old nodes.new left (core.and_all (cores_of parts.now)) }
-{
-    let number = open(nodes, left)?;
-    let parts = lay_all(alloc, nodes, left - 1, parts)?;
-    nodes.write(number, Node::And { parts });
-    Ok(number)
-}
-
-#[cycle(lay)]
-fn lay_or(alloc: Global, nodes: &mut Nodes, left: u32, parts: &[Tree]) -> Result<u32, LayFault>
-    ensures { Lays result nodes.old nodes.new left (core.or_any (cores_of parts.now)) }
-{
-    let number = open(nodes, left)?;
-    let parts = lay_all(alloc, nodes, left - 1, parts)?;
-    nodes.write(number, Node::Or { parts });
-    Ok(number)
-}
-
-#[cycle(lay)]
-fn lay_prim(
+fn lay_group(
     alloc: Global,
     nodes: &mut Nodes,
     left: u32,
-    op: Op,
+    group: Group,
     parts: &[Tree],
 ) -> Result<u32, LayFault>
-    ensures { Lays result nodes.old nodes.new left (core.prim op (cores_of parts.now)) }
+    ensures { LaysGroup result nodes.old nodes.new left (group_node group) (cores_of parts.now) }
 {
     let number = open(nodes, left)?;
-    let operands = lay_all(alloc, nodes, left - 1, parts)?;
-    nodes.write(number, Node::Prim { op, operands });
+    let parts = lay_all(alloc, nodes, left - 1, parts)?;
+    nodes.write(number, group_of(group, parts));
     Ok(number)
 }
 
@@ -375,6 +370,25 @@ fn store(kind: Store, cell: u8, value: u32) -> Node
         Store::Shadow => Node::CellShadow { cell, value },
         Store::Set => Node::InstSet { cell, value },
         Store::Add => Node::InstAdd { cell, value },
+    }
+}
+
+/// The node over these parts.
+fn group_of(group: Group, parts: Numbers) -> Node
+    ensures { result ≡ group_node group parts }
+{
+    match group {
+        Group::Seq => Node::Seq { parts },
+        Group::And => Node::And { parts },
+        Group::Or => Node::Or { parts },
+        Group::Prim(op) => Node::Prim {
+            op,
+            operands: parts,
+        },
+        Group::Call(task) => Node::Call {
+            task,
+            operands: parts,
+        },
     }
 }
 

@@ -1,4 +1,4 @@
-//! The core language: its nodes, and the table of forms that makes them of data.
+//! The table of forms, which makes a script of data: for the reader of setups.
 #![tactic(auto)]
 
 mod cell_names;
@@ -14,6 +14,7 @@ mod nodes;
 mod read;
 mod rows;
 mod shapes;
+mod task_forms;
 mod templates;
 mod tree;
 

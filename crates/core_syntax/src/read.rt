@@ -5,7 +5,7 @@ ghost use Rattle.script_value.specs.Val.{list};
 ghost use Rattle.script_value.specs.Views.{meaning, meanings};
 ghost use Rattle.script_nodes.specs.Core.{lit};
 ghost use Rattle.core_syntax.specs.Forms as spec;
-ghost use Rattle.core_syntax.specs.RowCores.{core_in_row, store_core, send_core, last_core, isolate_core};
+ghost use Rattle.core_syntax.specs.RowCores.{core_in_row, store_core, send_core, last_core, isolate_core, call_core};
 ghost use Rattle.core_syntax.specs.Rows.{row_of as spec_row_of};
 ghost use Rattle.core_syntax.specs.RowsSeen.{row_seen};
 ghost use Rattle.core_syntax.specs.ReaderSeen.{here};
@@ -79,6 +79,7 @@ impl<'a, 'c> Reader<'a, 'c> {
             Row::Send(kind, name, body) => self.read_send(kind, name, body),
             Row::Last(kind, body) => self.read_last(kind, body),
             Row::Isolate(body) => self.read_isolate(body),
+            Row::Call(task, operands) => self.read_call(task, operands),
             Row::Apply(op, parts) => Ok(Tree::new(Form::Prim(op, self.read_all(in_page, parts)?))),
         }
     }
@@ -170,6 +171,14 @@ impl<'a, 'c> Reader<'a, 'c> {
     {
         let body = self.read(false, body)?;
         Ok(Tree::new(Form::Isolate(Box::new(self.alloc, body)?)))
+    }
+
+    #[cycle(read)]
+    fn read_call(&mut self, task: u8, operands: &'a [Value]) -> Result<Tree, ReadFault>
+        ensures tree { Reads result (here self.old call_core task (meanings operands.now)) }
+        ensures kept { OnOk result (self.new ≡ self.old) }
+    {
+        Ok(Tree::new(Form::Call(task, self.read_all(false, operands)?)))
     }
 }
 

@@ -40,6 +40,8 @@ pub enum Row<'a> {
     Last(LastPage, &'a Value),
     Isolate(&'a Value),
     Apply(Op, &'a [Value]),
+    /// A task, by its number, and its operands.
+    Call(u8, &'a [Value]),
 }
 
 /// Bindings, and the body behind them.
@@ -110,6 +112,7 @@ fn row_by<'a>(
     match head {
         None => Err(SyntaxKind::Shape),
         Some(Head::Define) => Err(SyntaxKind::Shape),
+        Some(Head::DefineTask) => Err(SyntaxKind::Shape),
         Some(Head::Quote) => Ok(Row::Literal(only_part(parts)?)),
         Some(Head::Quasiquote) => template_in(parts),
         Some(Head::Let) => Ok(Row::Let(bound_in(cells, parts)?)),
@@ -136,6 +139,10 @@ fn row_by<'a>(
         Some(Head::Isolate) => {
             outside_page(in_page, SyntaxKind::NestedSend)?;
             Ok(Row::Isolate(only_part(parts)?))
+        }
+        Some(Head::Call) => {
+            outside_page(in_page, SyntaxKind::NestedSend)?;
+            call_in(cells, parts)
         }
         Some(Head::Apply(op)) => apply_in(op, parts),
     }
@@ -207,7 +214,7 @@ fn bind<'a>(
     Ok(Bound { bindings, body })
 }
 
-fn is_empty(parts: &[Value]) -> bool
+pub fn is_empty(parts: &[Value]) -> bool
     ensures { result ≡ spec_is_empty (meanings parts.now) }
 {
     match parts {
@@ -470,5 +477,30 @@ fn apply_in(op: Op, parts: &[Value]) -> Result<Row<'_>, SyntaxKind>
         Ok(Row::Apply(op, parts))
     } else {
         Err(SyntaxKind::Arity)
+    }
+}
+
+/// A task of the script over these operands.
+fn call_in<'a>(cells: &CellNames<'_>, parts: &'a [Value]) -> Result<Row<'a>, SyntaxKind>
+    ensures { seen_row result ≡ spec.call_in cells.now (meanings parts.now) }
+{
+    match parts {
+        [] => Err(SyntaxKind::Shape),
+        [name, operands @ ..] => call_by(cells, symbol_in(name), operands),
+    }
+}
+
+#[tactic(auto, using(crate::proofs::Parts::count_of_items))]
+fn call_by<'a>(
+    cells: &CellNames<'_>,
+    name: Option<&Str>,
+    operands: &'a [Value],
+) -> Result<Row<'a>, SyntaxKind>
+    ensures { seen_row result ≡ spec.call_by cells.now (option_map (λ x. x.now) name.entry)
+        (meanings operands.now) }
+{
+    match name {
+        None => Err(SyntaxKind::Shape),
+        Some(name) => Ok(Row::Call(cells.called(name, operands.len())?, operands)),
     }
 }

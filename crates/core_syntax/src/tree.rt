@@ -32,6 +32,8 @@ pub enum Form {
     And(Vec<Tree>),
     Or(Vec<Tree>),
     Prim(Op, Vec<Tree>),
+    /// A task and its operands.
+    Call(u8, Vec<Tree>),
     /// The choices, and what is taken where each test is false.
     Cond(Vec<Choice>, Box<Tree>),
     /// The count and the body.

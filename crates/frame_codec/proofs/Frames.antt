@@ -1,5 +1,5 @@
 -- Frames and bindings of web cells are spelled exactly.
-use Rattle.std.proofs.Common.{◌≡◌, ℕ, ◌<◌, ◌^◌, ◌==◌, Bool, true, false, cond, if◌then◌else◌, List, [], ◌∷◌, ◌++◌, length, get_or, Option, Some, None, refl, sym, ap, subst, ◌∙◌, arith, append_assoc, ◌⊎◌, inl, inr, lit<}
+use Rattle.std.proofs.Common.{◌≡◌, ℕ, ◌<◌, ◌^◌, ◌==◌, true, false, if◌then◌else◌, List, [], ◌∷◌, ◌++◌, length, get_or, Option, Some, None, refl, sym, ap, subst, ◌∙◌, arith, append_assoc, inl, inr, lit<}
 use Rattle.std.specs.Prelude.{⊤}
 use Rattle.std.proofs.lemmas.Bool.Decides.{nat_tests}
 use Rattle.std.proofs.lemmas.Option.{some_pair_parts, none-some}
@@ -16,10 +16,11 @@ use Rattle.value_bytes.specs.Laws.{AreBytes, Spells, IsExact}
 use Rattle.value_bytes.proofs.Numbers.{bind_some, seen_some, rest_are_bytes, tail_are_bytes, byte_exact, u32_exact, u64_exact}
 use Rattle.value_bytes.proofs.Lists.{list_exact}
 use Rattle.value_bytes.proofs.Trees.{value_exact, chosen}
-use Rattle.machine_spec.specs.Machine.{Frame, in_binding, in_operand, in_body, in_seq, in_and, in_or, in_if, in_count, in_store, in_turn, in_isolate, in_page, in_finish, in_back, bindings_in, node_at}
+use Rattle.machine_spec.specs.Machine.{Frame, in_binding, in_operand, in_body, in_seq, in_and, in_or, in_if, in_count, in_store, in_turn, in_isolate, in_call, in_task, in_page, in_finish, in_back, bindings_in, node_at}
 use Rattle.machine_spec.specs.Fits.{node_of}
 use Rattle.frame_codec.specs.Spelling.{frame_bytes, let_bytes, shadow_bytes, IsShort, FrameHasBytes, ShadowHasBytes}
-use Rattle.frame_codec.specs.Reading.{read_both, bindings_of, body_frame, let_frame, read_let, read_part, read_for_kind, read_for, name_of, read_kind, read_frame, read_shadow}
+use Rattle.frame_codec.specs.Walk.{operands_in}
+use Rattle.frame_codec.specs.Reading.{read_both, bindings_of, operands_of, body_frame, let_frame, call_frame, read_let, read_call, read_part, read_for_kind, read_for, name_of, read_kind, read_frame, read_shadow}
 
 -- ---- one behind the other
 
@@ -102,10 +103,12 @@ shadow_exact = both_exact one_byte (λ b. b < 256) read_u8 value_bytes HasBytes 
 
 -- ---- which frames are read of a script
 
--- which part of a Let is worked on is told by how many bindings it has
+-- which part of a Let is worked on is told by how many bindings it has, and of a call by how many operands
 abbrev pub LetFits : Frame → Node → Type 0
 LetFits (in_binding n done) x = ¬ (length done ≡ length (bindings_in x))
 LetFits (in_body n bound) x = bound ≡ length (bindings_in x)
+LetFits (in_call n done) x = ¬ (length done ≡ length (operands_in x))
+LetFits (in_task n k outer) x = k ≡ length (operands_in x)
 LetFits _ x = ⊤
 
 abbrev pub IsRead : Arena → Frame → Type 0
@@ -133,6 +136,23 @@ let_back a n k done f rest fit e =
     ap (λ o. o >>= λ x. framed x.1 (let_frame (bindings_of a x.0.0) x.0.0 x.0.1.0 x.0.1.1)) (let_exact.back (n, (k, done)) rest fit)
     ∙ ap (λ o. framed rest o) e
 
+given_known : (count n : ℕ) (done : List Val) → ¬ (length done ≡ count) → call_frame count n (length done) done ≡ Some (in_call n done)
+given_known count n done other =
+    let first : (length done == count) ≡ false = grind (arith, nat_tests, other) in
+    let second : (length done == length done) ≡ true = grind (arith, nat_tests) in
+    cond-false (length done == count) _ _ first ∙ cond-true (length done == length done) _ _ second
+
+task_known : (count n k : ℕ) (outer : List Val) → k ≡ count → call_frame count n k outer ≡ Some (in_task n k outer)
+task_known count n k outer same =
+    let first : (k == count) ≡ true = grind (arith, nat_tests, same) in
+    cond-true (k == count) _ _ first
+
+call_back : (a : Arena) (n k : ℕ) (values : List Val) (f : Frame) (rest : List ℕ) → BothFit IsShort (BothFit IsShort HaveBytes) (n, (k, values))
+    → call_frame (operands_of a n) n k values ≡ Some f → read_call a (let_bytes n k values ++ rest) ≡ Some (f, rest)
+call_back a n k values f rest fit e =
+    ap (λ o. o >>= λ x. framed x.1 (call_frame (operands_of a x.0.0) x.0.0 x.0.1.0 x.0.1.1)) (let_exact.back (n, (k, values)) rest fit)
+    ∙ ap (λ o. framed rest o) e
+
 turn_back : (n turns : ℕ) (done : List Val) (rest : List ℕ) → IsShort n × (IsLong turns × HaveBytes done)
     → read_for ((u32_bytes n ++ 1 ∷ (u64_bytes turns ++ values_bytes done)) ++ rest) ≡ Some (in_turn n turns done, rest)
 turn_back n turns done rest fit =
@@ -157,6 +177,10 @@ frame_back a (in_turn n turns done) rest fit = turn_back n turns done rest fit.0
 frame_back a (in_store n) rest fit = ap (λ o. seen_as (λ m. in_store m) o) (u32_exact.back n rest fit.0)
 frame_back a (in_isolate n name) rest fit =
     ap (λ o. seen_as (λ x. in_isolate x.0 (name_of x.1)) o) (isolate_exact.back (n, (name.ticket, name.entry)) rest fit.0)
+frame_back a (in_call n done) rest fit =
+    call_back a n (length done) done (in_call n done) rest (fit.0.0, (fit.0.1.0, fit.0.1)) (given_known (operands_of a n) n done fit.1)
+frame_back a (in_task n k outer) rest fit =
+    call_back a n k outer (in_task n k outer) rest (fit.0.0, (fit.0.1.0, fit.0.1.1)) (task_known (operands_of a n) n k outer fit.1)
 frame_back a (in_page n kind) rest fit = absurd fit.0
 frame_back a (in_finish n) rest fit = absurd fit.0
 frame_back a (in_back n) rest fit = absurd fit.0
@@ -222,6 +246,47 @@ let_spells a kind bytes f rest small k e =
       fit = l.fit x.fit;
     })
 
+-- what a frame of a call is
+record CallFrame (a : Arena) (n k : ℕ) (values : List Val) (f : Frame) : Type 0 where
+  spelled : frame_bytes f ≡ 10 ∷ let_bytes n k values
+  fit : BothFit IsShort (BothFit IsShort HaveBytes) (n, (k, values)) → IsRead a f
+
+task_spelled : (a : Arena) (n k : ℕ) (values : List Val) (f : Frame) → k ≡ operands_of a n → in_task n k values ≡ f → CallFrame a n k values f
+task_spelled a n k values f same g = subst (λ h. CallFrame a n k values h) g (record { spelled = refl; fit = λ fit. (fit, same) })
+
+given_spelled : (a : Arena) (n k : ℕ) (values : List Val) (f : Frame) → ¬ (k ≡ operands_of a n) → k ≡ length values
+    → in_call n values ≡ f → CallFrame a n k values f
+given_spelled a n k values f other same g =
+    subst (λ h. CallFrame a n k values h) g (record {
+      spelled = ap (λ (m : ℕ). 10 ∷ let_bytes n m values) (sym same);
+      fit = λ fit. ((fit.0, fit.1.1), λ e. other (same ∙ e));
+    })
+
+call_spelled : (a : Arena) (n k : ℕ) (values : List Val) (f : Frame) → call_frame (operands_of a n) n k values ≡ Some f → CallFrame a n k values f
+call_spelled a n k values f e =
+    elim (chosen (k == operands_of a n) _ _ _ e) [
+      | inl t ↦ task_spelled a n k values f (grind (arith, nat_tests, t.0)) cc
+      | inr t ↦ elim (chosen (k == length values) _ _ _ t.1) [
+        | inl u ↦ given_spelled a n k values f (grind (arith, nat_tests, t.0)) (grind (arith, nat_tests, u.0)) cc
+        | inr u ↦ absurd (none-some f u.1)
+      ]
+    ]
+
+call_spells : (a : Arena) (kind : ℕ) (bytes : List ℕ) (f : Frame) (rest : List ℕ) → AreBytes bytes → kind ≡ 10 → read_call a bytes ≡ Some (f, rest)
+    → SpellsFrame a kind bytes f rest
+call_spells a kind bytes f rest small k e =
+    let b = bind_some (read_both read_u32 (read_both read_u32 read_values) bytes)
+    (λ x. framed x.1 (call_frame (operands_of a x.0.0) x.0.0 x.0.1.0 x.0.1.1)) (f, rest) e in
+    let c = bind_some (call_frame (operands_of a b.0.0.0) b.0.0.0 b.0.0.1.0 b.0.0.1.1) (λ g. Some (g, b.0.1)) (f, rest) b.2 in
+    let x = let_exact.exact bytes b.0.0 b.0.1 small b.1 in
+    let l = call_spelled a b.0.0.0 b.0.0.1.0 b.0.0.1.1 c.0 c.1 in
+    let parts = some_pair_parts c.0 f b.0.1 rest c.2 in
+    let front : kind ∷ bytes ≡ 10 ∷ (let_bytes b.0.0.0 b.0.0.1.0 b.0.0.1.1 ++ b.0.1) = λ i. k i ∷ x.whole i in
+    subst (λ g. SpellsFrame a kind bytes g rest) parts.0 (record {
+      whole = front ∙ (λ i. sym l.spelled i ++ parts.1 i);
+      fit = l.fit x.fit;
+    })
+
 turn_spells : (a : Arena) (kind n part : ℕ) (bytes left : List ℕ) (f : Frame) (rest : List ℕ) → AreBytes left → kind ≡ 7 → part ≡ 1 → IsShort n
     → bytes ≡ both_bytes u32_bytes one_byte (n, part) ++ left → seen_as (λ x. in_turn n x.0 x.1) (read_both read_u64 read_values left) ≡ Some (f, rest)
     → SpellsFrame a kind bytes f rest
@@ -263,14 +328,15 @@ for_spells a kind bytes f rest small k e =
     ]
 
 -- the kinds from 6 on
-abbrev read_late_kind : ℕ → Reader Frame
-read_late_kind kind rest =
+abbrev read_late_kind : Arena → ℕ → Reader Frame
+read_late_kind a kind rest =
     if kind == 6 then seen_as (λ x. in_operand x.0 x.1) (read_both read_u32 read_values rest) else
     (if kind == 7 then read_for rest else
     (if kind == 8 then seen_as (λ n. in_store n) (read_u32 rest) else
-    (if kind == 9 then seen_as (λ x. in_isolate x.0 (name_of x.1)) (read_both read_u32 (read_both read_u64 read_u32) rest) else None)))
+    (if kind == 9 then seen_as (λ x. in_isolate x.0 (name_of x.1)) (read_both read_u32 (read_both read_u64 read_u32) rest) else
+    (if kind == 10 then read_call a rest else None))))
 
-late_kind_spells : (a : Arena) (kind : ℕ) (bytes : List ℕ) (f : Frame) (rest : List ℕ) → AreBytes bytes → read_late_kind kind bytes ≡ Some (f, rest)
+late_kind_spells : (a : Arena) (kind : ℕ) (bytes : List ℕ) (f : Frame) (rest : List ℕ) → AreBytes bytes → read_late_kind a kind bytes ≡ Some (f, rest)
     → SpellsFrame a kind bytes f rest
 late_kind_spells a kind bytes f rest small e =
     elim (chosen (kind == 6) _ _ _ e) [
@@ -285,7 +351,10 @@ late_kind_spells a kind bytes f rest small e =
             | inl t ↦ seen_frame (both_bytes u32_bytes (both_bytes u64_bytes u32_bytes)) (BothFit IsShort (BothFit IsLong IsShort))
                 (read_both read_u32 (read_both read_u64 read_u32)) isolate_exact (λ x. in_isolate x.0 (name_of x.1)) a 9
                 (λ x. refl) (λ x fit. (fit, tt)) kind bytes f rest small (grind (arith, nat_tests, t.0)) t.1
-            | inr g ↦ absurd (none-some (f, rest) g.1)
+            | inr g ↦ elim (chosen (kind == 10) _ _ _ g.1) [
+              | inl t ↦ call_spells a kind bytes f rest small (grind (arith, nat_tests, t.0)) t.1
+              | inr g ↦ absurd (none-some (f, rest) g.1)
+            ]
           ]
         ]
       ]

@@ -8,7 +8,7 @@ use Rattle.script_value.specs.declared.value.Value.TheVariants.{Truth}
 use Rattle.script_value.specs.declared.outcome.Op.{Op}
 use Rattle.script_value.specs.declared.outcome.Fault.{Fault}
 use Rattle.script_value.specs.declared.outcome.TxName.{TxName}
-use Rattle.prim_ops.specs.Table.{is_false}
+use Rattle.prim_spec.specs.Table.{is_false}
 use Rattle.instance_cells.specs.Cells.{commit, cell_at}
 use Rattle.web_cells.specs.Shadows.{bound_to}
 use Rattle.web_cells.proofs.Shadowed.{rise}
@@ -19,7 +19,7 @@ use Rattle.script_nodes.specs.Arena.{Arena, IsScript, IsOnCells}
 use Rattle.script_nodes.proofs.Scripts.{node_on_cells}
 use Rattle.replay_spec.specs.Tape.{Reads, recorded, present, Answer, Tape, State, End, got, stop, Run, after, ◌>>=◌, give, answer, choose, bound, is_over, charged, charge, url, sent, send_page, named, enter, lookup, read_from, read_cell, set_in, added, add_to, add_in, as_number}
 use Rattle.replay_spec.specs.Eval.{value_at, copied, is_not_false}
-use Rattle.machine_spec.specs.Machine.{Control, visit, value, Frame, in_binding, in_operand, in_body, in_seq, in_and, in_or, in_if, in_count, in_store, in_turn, in_isolate, in_page, in_finish, in_back, Point, inside_of, visits, gives, given, cut, node_at, part_at, parts_from, bindings_from, body_at, store_by, next_binding, next_part, next_operand, next_turn, first_turn, visited, taken, next, Suspended, Machine, Step, goes, stopped, stepped, step, then, steps}
+use Rattle.machine_spec.specs.Machine.{Control, visit, value, Frame, in_binding, in_operand, in_body, in_seq, in_and, in_or, in_if, in_count, in_store, in_turn, in_isolate, in_call, in_task, in_page, in_finish, in_back, Point, inside_of, visits, gives, given, cut, node_at, part_at, parts_from, bindings_from, body_at, store_by, next_binding, next_part, next_operand, next_argument, next_turn, first_turn, visited, taken, next, Suspended, Machine, Step, goes, stopped, stepped, step, then, steps}
 use Rattle.machine_spec.specs.Laws.{started, IsStateOf}
 use Rattle.machine_spec.proofs.Fitting.{each_fits}
 use Rattle.frame_codec.specs.Stored.{ShadowsFit}
@@ -118,6 +118,7 @@ stores a (node.And _) inside v k s h = h
 stores a (node.Or _) inside v k s h = h
 stores a (node.For _ _) inside v k s h = h
 stores a (node.Prim _ _) inside v k s h = h
+stores a (node.Call _ _) inside v k s h = h
 stores a (node.Send _ _) inside v k s h = h
 stores a (node.Finish _) inside v k s h = h
 stores a (node.Back _) inside v k s h = h
@@ -139,6 +140,10 @@ operand : (a : Arena) (n : ℕ) (o : Op) (ps : List ℕ) (done env : List Val) (
 operand a n o [] done env fs = any_given a _ env fs (answers a (inside_of fs) _)
 operand a n o (p ∷ ps) done env fs = λ s h. h
 
+argument : (a : Arena) (n b : ℕ) (ps : List ℕ) (done env : List Val) (fs : List Frame) → Keeps a (next_argument n b ps done env fs)
+argument a n b [] done env fs s h = h
+argument a n b (p ∷ ps) done env fs s h = h
+
 turn : (a : Arena) (n turns b left : ℕ) (done env : List Val) (fs : List Frame) → Keeps a (next_turn n turns b left done env fs)
 turn a n turns b zero done env fs = any_given a _ env fs (answers a (inside_of fs) _)
 turn a n turns b (suc k) done env fs = λ s h. h
@@ -148,7 +153,7 @@ first a n b (Ok (pos k)) env fs = turn a n k b k [] env fs
 first a n b (Ok (negsuc k)) env fs = λ s h. h
 first a n b (Err k) env fs = λ s h. h
 
-visits_keep : (a : Arena) (n : ℕ) (x : Node) (env : List Val) (fs : List Frame) → Keeps a (visited n x env fs)
+visits_keep : (a : Arena) (n : ℕ) (x : Node) (env : List Val) (fs : List Frame) → Keeps a (visited a n x env fs)
 visits_keep a n (node.Lit v) env fs = any_given a _ env fs (copies a (inside_of fs) (meaning v))
 visits_keep a n (node.Var k) env fs = any_given a _ env fs (copies a (inside_of fs) (value_at env k))
 visits_keep a n (node.Let ps b) env fs = paid a (inside_of fs) _ (binding a n ps b [] env fs)
@@ -158,6 +163,7 @@ visits_keep a n (node.And ps) env fs = paid a (inside_of fs) _ (part a (in_and n
 visits_keep a n (node.Or ps) env fs = paid a (inside_of fs) _ (part a (in_or n 0) ps (truth false) env fs)
 visits_keep a n (node.For c b) env fs = paid a (inside_of fs) (visits c env (in_count n ∷ fs)) (λ s h. h)
 visits_keep a n (node.Prim o ps) env fs = paid a (inside_of fs) _ (operand a n o ps [] env fs)
+visits_keep a n (node.Call k ps) env fs = paid a (inside_of fs) _ (argument a n _ ps [] env fs)
 visits_keep a n (node.Send kind b) env fs = paid a (inside_of fs) (url >>= λ u. visits b (env ++ u ∷ []) (in_page n kind ∷ fs)) (λ s h. h)
 visits_keep a n (node.Finish b) env fs = paid a (inside_of fs) (visits b env (in_finish n ∷ fs)) (λ s h. h)
 visits_keep a n (node.Back b) env fs = paid a (inside_of fs) (visits b env (in_back n ∷ fs)) (λ s h. h)
@@ -183,6 +189,8 @@ on_cells a i n = by_option (slice_get a.nodes n) refl
 takes_keep : (a : Arena) → IsScript a → (f : Frame) (v : Val) (env : List Val) (fs : List Frame) → Keeps a (taken a f v env fs)
 takes_keep a i (in_binding n done) v env fs = binding a n (bindings_from a n (suc (length done))) (body_at a n) (done ++ v ∷ []) env fs
 takes_keep a i (in_operand n done) v env fs = operand a n _ (parts_from a n (suc (length done))) (done ++ v ∷ []) env fs
+takes_keep a i (in_call n done) v env fs = argument a n _ (parts_from a n (suc (length done))) (done ++ v ∷ []) env fs
+takes_keep a i (in_task n k outer) v env fs = λ s h. h
 takes_keep a i (in_body n bound) v env fs = λ s h. h
 takes_keep a i (in_seq n k) v env fs = part a (in_seq n (suc k)) (parts_from a n (suc k)) v env fs
 takes_keep a i (in_and n k) v env fs = chooses a (is_not_false v) _ (gives v env fs) (part a (in_and n (suc k)) (parts_from a n (suc k)) v env fs) (λ s h. h)

@@ -8,6 +8,7 @@ pub mod Shades
 pub mod Lengths
 pub mod Written
 pub mod Turns
+pub mod Counts
 pub mod Kept
 pub mod Fronts
 pub mod Differences

@@ -1,5 +1,5 @@
 -- Nodes of the program, and the variable of a turn.
-use Rattle.std.proofs.Common.{◌≡◌, ℕ, ◌+◌, ◌≤◌, ◌==◌, Bool, true, false, cond, length, Option, Some, None, refl, sym, ap, ◌∙◌, arith}
+use Rattle.std.proofs.Common.{◌≡◌, ℕ, ◌+◌, ◌≤◌, ◌==◌, true, false, length, Option, Some, None, refl, sym, ap, ◌∙◌, arith}
 use Rattle.std.specs.Prelude.{pos, negsuc, slice_get, unwrap_or}
 use Rattle.std.proofs.lemmas.Bool.Decides.{nat_tests}
 use Rattle.std.proofs.lemmas.Option.{slice_get_past}
@@ -9,7 +9,7 @@ use Rattle.script_value.specs.declared.value.Value.TheVariants.{Truth}
 use Rattle.script_nodes.specs.declared.script.Node.{Node}
 use Rattle.script_nodes.specs.declared.script.Node.TheVariants as node
 use Rattle.script_nodes.specs.Arena.{Arena}
-use Rattle.machine_spec.specs.Machine.{node_at}
+use Rattle.machine_spec.specs.Machine.{node_at, first_of}
 use Rattle.frame_codec.specs.Walk.{numbered}
 
 pub node_there : (a : Arena) (n : ℕ) (x : Node) → slice_get a.nodes n ≡ Some x → x ≡ node_at a n
@@ -41,3 +41,7 @@ not_numbered turn k o v e other = ap (λ p. numbered turn k p) e ∙ another tur
 -- or there is none
 pub none_numbered : (turn k : ℕ) (o : Option Val) → o ≡ None → numbered turn k o ≡ None
 none_numbered turn k o e = ap (λ p. numbered turn k p) e
+
+-- the body of a task that is there
+pub task_there : (a : Arena) (t n : ℕ) → slice_get a.tasks t ≡ Some n → first_of a t ≡ n
+task_there a t n e = ap (λ (o : Option ℕ). unwrap_or o 0) e

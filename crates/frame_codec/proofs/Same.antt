@@ -1,5 +1,5 @@
 -- What the tests of values and of frames say.
-use Rattle.std.proofs.Common.{◌≡◌, ◌==◌, ◌&&◌, ℕ, Bool, true, false, List, Option, Some, None, refl, ap, subst}
+use Rattle.std.proofs.Common.{◌≡◌, ◌==◌, ◌&&◌, ℕ, Bool, true, List, Option, Some, None, refl, ap, subst}
 use Rattle.std.specs.Bool.{Decides}
 use Rattle.std.specs.Cmp.{unsigned_Decides}
 use Rattle.std.specs.Cmp.Lexicographic.{pointwise}
@@ -7,14 +7,14 @@ use Rattle.std.proofs.lemmas.Bool.{and_parts, and_from}
 use Rattle.std.proofs.lemmas.Slice.Eq.{slice_eq-Decides}
 use Rattle.script_value.specs.Val.{Val}
 use Rattle.script_value.specs.declared.outcome.TxName.{TxName}
-use Rattle.prim_ops.specs.Same.{same}
-use Rattle.prim_ops.proofs.Tests.{same_decides}
+use Rattle.prim_spec.specs.Same.{same}
+use Rattle.prim_spec.proofs.Tests.{same_decides}
 use Rattle.script_nodes.specs.declared.script.SendKind.{SendKind}
 use Rattle.script_nodes.specs.declared.script.SendKind.TheVariants.{Suspend, Forward}
 use Rattle.replay_spec.specs.Names.{is_name}
 use Rattle.replay_spec.specs.Recovery.{is_kind}
 use Rattle.replay_spec.proofs.Tests.{equal_self, kind_self}
-use Rattle.machine_spec.specs.Machine.{Frame, in_binding, in_operand, in_body, in_seq, in_and, in_or, in_if, in_count, in_store, in_turn, in_isolate, in_page, in_finish, in_back}
+use Rattle.machine_spec.specs.Machine.{Frame, in_binding, in_operand, in_body, in_seq, in_and, in_or, in_if, in_count, in_store, in_turn, in_isolate, in_call, in_task, in_page, in_finish, in_back}
 use Rattle.frame_codec.specs.Difference.{same_frame, is_value}
 
 values_mean : (vs ws : List Val) → pointwise same vs ws ≡ true → vs ≡ ws
@@ -64,6 +64,14 @@ frame_means (in_turn m k vs) (in_turn n l ws) h =
     let done = values_mean vs ws more.1 in
     λ i. in_turn (node i) (turns i) (done i)
 frame_means (in_isolate m s) (in_isolate n t) h = by_node in_isolate m n s t (is_name s t) (name_means s t) h
+frame_means (in_call m vs) (in_call n ws) h = by_node in_call m n vs ws (pointwise same vs ws) (values_mean vs ws) h
+frame_means (in_task m k vs) (in_task n l ws) h =
+    let two = and_parts (m == n) ((k == l) && pointwise same vs ws) h in
+    let more = and_parts (k == l) (pointwise same vs ws) two.1 in
+    let node = number_means m n two.0 in
+    let part = number_means k l more.0 in
+    let outer = values_mean vs ws more.1 in
+    λ i. in_task (node i) (part i) (outer i)
 frame_means (in_page m k) (in_page n l) h = by_node in_page m n k l (is_kind k l) (kind_means k l) h
 frame_means (in_finish m) (in_finish n) h = ap in_finish (number_means m n h)
 frame_means (in_back m) (in_back n) h = ap in_back (number_means m n h)
@@ -81,6 +89,8 @@ frame_self (in_count n) = equal_self n
 frame_self (in_store n) = equal_self n
 frame_self (in_turn n k vs) = and_from _ _ (equal_self n) (and_from _ _ (equal_self k) (values_self vs))
 frame_self (in_isolate n t) = and_from _ _ (equal_self n) (and_from _ _ (equal_self t.ticket) (equal_self t.entry))
+frame_self (in_call n vs) = and_from _ _ (equal_self n) (values_self vs)
+frame_self (in_task n k vs) = and_from _ _ (equal_self n) (and_from _ _ (equal_self k) (values_self vs))
 frame_self (in_page n k) = and_from _ _ (equal_self n) (kind_self k)
 frame_self (in_finish n) = equal_self n
 frame_self (in_back n) = equal_self n

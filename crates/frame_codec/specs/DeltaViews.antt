@@ -16,7 +16,7 @@ delta_of d = record {
   shadows = d.shadows;
 }
 
--- how many variables and frames are shared, and the others, and the bindings
+-- the parts of a difference: how many variables and frames are shared, the others, and the bindings of web cells
 abbrev pub parts_of_delta : Delta → spec.DeltaParts
 parts_of_delta d = (d.env_shared, (d.env, (d.frames_shared, (map frame_of d.frames.items, d.shadows))))
 
@@ -24,11 +24,11 @@ parts_of_delta d = (d.env_shared, (d.env, (d.frames_shared, (map frame_of d.fram
 abbrev pub Differs : (parent state : stored.Suspended) → Delta → Type 0
 Differs p s d = spec.IsDelta (suspended_of p) (suspended_of s) (delta_of d)
 
--- the difference that is computed
+-- a difference is the one that is computed of a state and its parent's
 abbrev pub IsComputed : (parent state : stored.Suspended) → Delta → Type 0
 IsComputed p s d = delta_of d ≡ difference (suspended_of p) (suspended_of s)
 
--- with it the parent's state is the state again, where this goes on from it
+-- the parent's state with this difference is the state again, where the state goes on from the parent's
 abbrev pub JoinsBack : (parent state : stored.Suspended) → Delta → Type 0
 JoinsBack p s d =
     spec.GoesOnFrom (suspended_of p) (suspended_of s) → spec.joined (suspended_of p) (delta_of d) ≡ suspended_of s
@@ -41,14 +41,14 @@ IsJoined p d s = suspended_of s ≡ spec.joined (suspended_of p) (delta_of d)
 abbrev pub SaysDelta : Arena → List ℕ → Option Delta → Type 0
 SaysDelta a bytes found = option_map delta_of found ≡ spec.read_delta a bytes
 
--- what is found is spelled by the bytes, and is the difference of a state that fits the script and has a spelling
+-- a difference that is found is spelled by the bytes, and is that of a state that fits the script and has a spelling
 abbrev pub FindsDelta : Arena → (parent : stored.Suspended) → List ℕ → Option Delta → Type 0
 FindsDelta a p bytes found = IfSome found (λ d. spec.SpellsDelta a (suspended_of p) bytes (delta_of d))
 
--- nothing is found only where the bytes spell no such difference
+-- no difference is found only where the bytes spell that of no state that fits, has a spelling and binds what its parent binds
 abbrev pub MissesNoDelta : Arena → (parent : stored.Suspended) → List ℕ → Option Delta → Type 0
 MissesNoDelta a p bytes found = IsNone found → spec.HasNoDelta a (suspended_of p) bytes
 
--- both
+-- a difference is found just where the bytes spell that of a state that fits, has a spelling and binds what its parent binds
 abbrev pub DecidesDelta : Arena → (parent : stored.Suspended) → List ℕ → Option Delta → Type 0
 DecidesDelta a p bytes found = FindsDelta a p bytes found × MissesNoDelta a p bytes found

@@ -13,8 +13,8 @@ use Rattle.frame_codec.specs.Spelling.{frame_bytes, shadow_bytes, IsShort, Frame
 use Rattle.frame_codec.specs.Stored.{IsStored}
 use Rattle.frame_codec.specs.Reading.{read_both, read_frame, read_shadow}
 
--- How many variables and frames are the parent's, and the others, the outermost first; and the bindings of web cells that the
--- parent has not or has with another value.
+-- A difference: how many variables and frames are the parent's, and the others, the outermost first; and the bindings of web cells
+-- that the parent has not or has with another value.
 pub record Delta : Type 0 where
   pub env_shared : ℕ
   pub env : List Val
@@ -22,24 +22,24 @@ pub record Delta : Type 0 where
   pub frames : List Frame
   pub shadows : List (ℕ × Val)
 
--- the first two are different, or one list is at its end
+-- two lists differ in their first items, or one of them is empty
 abbrev pub Part : {A : Type 0} → List A → List A → Type 0
 Part [] ys = ⊤
 Part (x ∷ xs) [] = ⊤
 Part (x ∷ xs) (y ∷ ys) = ¬ (x ≡ y)
 
--- the longest front that the lists share has this length, and this is the rest of the second
+-- the longest front that two lists share has this length, and this is the rest of the second
 abbrev pub Shares : {A : Type 0} → (xs ys : List A) → (count : ℕ) → (rest : List A) → Type 0
 Shares xs ys zero rest = (ys ≡ rest) × Part xs ys
 Shares [] ys (suc n) rest = ⊥
 Shares (x ∷ xs) [] (suc n) rest = ⊥
 Shares (x ∷ xs) (y ∷ ys) (suc n) rest = (x ≡ y) × Shares xs ys n rest
 
--- the longest front of items that mean the same has this length
+-- the longest front of two lists whose items mean the same has this length
 abbrev pub SharesFirst : {A B : Type 0} → (meaning : A → B) → (xs ys : List A) → (count : ℕ) → Type 0
 SharesFirst meaning xs ys count = Shares (map meaning xs) (map meaning ys) count (map meaning (drop count ys))
 
--- at this place stands what means the same
+-- at this place of a list stands what means the same as this item
 abbrev pub StandsAt : {A B : Type 0} → (meaning : A → B) → List A → (place : ℕ) → A → Type 0
 StandsAt meaning xs place x = slice_get (map meaning xs) place ≡ Some (meaning x)
 
@@ -49,7 +49,7 @@ pub record IsDelta (p s : Suspended) (d : Delta) : Type 0 where
   pub frames : Shares (reverse p.frames) (reverse s.frames) d.frames_shared d.frames
   pub shadows : IsOwn p.shadows s.shadows d.shadows
 
--- The cells of both rise, and what the parent binds is bound.
+-- A state goes on from its parent's: the web cells that each binds rise, and what the parent's binds is bound.
 pub record GoesOnFrom (p s : Suspended) : Type 0 where
   pub rises : Rise p.shadows
   pub rise : Rise s.shadows
@@ -89,14 +89,14 @@ abbrev pub read_delta_parts : Arena → Reader DeltaParts
 read_delta_parts a bytes =
     read_both read_u32 (read_both read_values (read_both read_u32 (read_both (read_list (read_frame a)) (read_list read_shadow)))) bytes
 
--- the difference of these parts, where nothing stands behind it
+-- the difference of these parts, where no bytes stand behind them
 abbrev pub as_delta : Option (DeltaParts × List ℕ) → Option Delta
 as_delta None = None
 as_delta (Some (x, [])) =
     Some (record { env_shared = x.0; env = x.1.0; frames_shared = x.1.1.0; frames = x.1.1.1.0; shadows = x.1.1.1.1 })
 as_delta (Some (x, b ∷ rest)) = None
 
--- what these bytes say, whether a state has it or not
+-- the difference that these bytes say, whether a state has it or not
 abbrev pub read_delta : Arena → List ℕ → Option Delta
 read_delta a bytes = as_delta (read_delta_parts a bytes)
 
@@ -107,7 +107,7 @@ pub record SpellsDelta (a : Arena) (p : Suspended) (bytes : List ℕ) (d : Delta
   pub is : IsDelta p (joined p d) d
   pub stored : IsStored a (joined p d)
 
--- no state that fits the script, has a spelling and binds what its parent binds differs so from its parent
+-- no state that fits the script, has a spelling and binds what its parent binds differs from its parent as these bytes spell
 abbrev pub HasNoDelta : Arena → Suspended → List ℕ → Type 0
 HasNoDelta a p bytes =
     (s : Suspended) (d : Delta) → IsStored a s → BindsAllOf p.shadows s.shadows → IsDelta p s d → DeltaHasBytes d → ¬ (bytes ≡ delta_bytes d)

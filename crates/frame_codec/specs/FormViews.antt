@@ -12,7 +12,7 @@ use Rattle.frame_codec.specs.Difference.{read_difference}
 use Rattle.frame_codec.specs.Forms.{form_bytes, read_form}
 use Rattle.frame_codec.specs.declared.difference.Delta.{Delta}
 
--- the state that another one is written behind, if it is
+-- the state that another one is written behind, if there is one
 abbrev pub before_of : Option (Bor stored.Suspended) → Option Suspended
 before_of before = option_map (λ p. suspended_of p.now) before
 
@@ -24,7 +24,7 @@ IsFormOf before d bytes = bytes ≡ form_bytes (before_of before) (suspended_of 
 abbrev pub ReadsForm : Arena → Option (Bor stored.Suspended) → List ℕ → Option stored.Suspended → Type 0
 ReadsForm a before bytes found = option_map suspended_of found ≡ read_form a (before_of before) bytes
 
--- behind a state
+-- this is the state that bytes spell behind its parent's
 abbrev pub ReadsBehind : Arena → (parent : stored.Suspended) → List ℕ → Option stored.Suspended → Type 0
 ReadsBehind a p bytes found =
     option_map suspended_of found ≡ option_map (joined (suspended_of p)) (read_difference a (suspended_of p) bytes)

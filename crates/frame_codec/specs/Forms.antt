@@ -11,7 +11,7 @@ use Rattle.frame_codec.specs.Reading.{read_state}
 use Rattle.frame_codec.specs.Deltas.{joined, delta_bytes}
 use Rattle.frame_codec.specs.Difference.{difference, read_difference}
 
--- 0, and the bytes of the state; or 1, and those of what differs from the state that it is written behind
+-- how a state is written: 0 and its bytes; or 1 and those of what differs from the state that it is written behind
 abbrev pub form_bytes : (before : Option Suspended) → Suspended → List ℕ
 form_bytes None d = 0 ∷ state_bytes d
 form_bytes (Some p) d = 1 ∷ delta_bytes (difference p d)
@@ -22,17 +22,17 @@ read_form a before [] = None
 read_form a None (form ∷ bytes) = if form == 0 then read_state a bytes else None
 read_form a (Some p) (form ∷ bytes) = if form == 1 then option_map (joined p) (read_difference a p bytes) else None
 
--- the state that it is written behind fits the script and has a spelling
+-- the state that another is written behind, if there is one, fits the script and has a spelling
 abbrev pub IsStoredBefore : Arena → (before : Option Suspended) → Type 0
 IsStoredBefore a None = ⊤
 IsStoredBefore a (Some p) = IsStored a p
 
--- its web cells rise
+-- the web cells of the state that another is written behind, if there is one, rise
 abbrev pub RisesBefore : (before : Option Suspended) → Type 0
 RisesBefore None = ⊤
 RisesBefore (Some p) = Rise p.shadows
 
--- each web cell that is bound before is bound
+-- each web cell that the state before binds, if there is one, is bound
 abbrev pub BindsBefore : (before : Option Suspended) → Suspended → Type 0
 BindsBefore None d = ⊤
 BindsBefore (Some p) d = BindsAllOf p.shadows d.shadows
@@ -52,7 +52,7 @@ pub record AreFormsExact (a : Arena) (before : Option Suspended) : Type 0 where
       (d e : Suspended) (rest : List ℕ) → IsStored a d → IsStored a e → BindsBefore before d → BindsBefore before e
       → form_bytes before d ++ rest ≡ form_bytes before e → (d ≡ e) × (rest ≡ [])
 
--- What is written is read back, where the state binds what is bound before.
+-- What is written of a state is read back, where the state binds what is bound before; and what is read is exact.
 pub record FormsAreExact : Type 0 where
   pub back :
       (a : Arena) (before : Option Suspended) (d : Suspended) → RisesBefore before → IsStored a d → BindsBefore before d

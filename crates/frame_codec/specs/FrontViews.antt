@@ -13,11 +13,11 @@ use Rattle.frame_codec.specs.declared.difference.Delta.{Delta}
 use Rattle.frame_codec.specs.declared.need.Need.{Need}
 use Rattle.frame_codec.specs.declared.parted.Parted.{Parted}
 
--- how many frames are shared, and the others
+-- how many frames are shared with the parent's state, and the others
 abbrev pub shared_and_own : ℕ × Vec Frame → ℕ × List machine.Frame
 shared_and_own x = (x.0, map frame_of x.1.items)
 
--- this is so much of a state
+-- this copy is so much of a state as is needed
 abbrev pub IsFrontOf : Need → Suspended → (copy : Suspended) → Type 0
 IsFrontOf need d copy = suspended_of copy ≡ front need (suspended_of d)
 

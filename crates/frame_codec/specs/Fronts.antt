@@ -14,7 +14,7 @@ use Rattle.frame_codec.specs.Deltas.{Delta, IsDelta, GoesOnFrom, DeltaHasBytes, 
 use Rattle.frame_codec.specs.Parted.{Parted, state_parts, delta_parts}
 use Rattle.frame_codec.specs.declared.need.Need.{Need}
 
--- so many of its variables and frames
+-- the front of a state: so many of its variables and frames, and all its bindings of web cells
 abbrev pub front : Need → Suspended → Suspended
 front n d = record {
   env = take n.variables d.env;
@@ -22,7 +22,7 @@ front n d = record {
   shadows = d.shadows;
 }
 
--- what a difference has of such a front, and of how much of the parent's state
+-- what a difference has of the front of its state, and how much of the parent's state that shares
 abbrev pub delta_front : Need → Delta → Delta
 delta_front n x = record {
   env_shared = min n.variables x.env_shared;
@@ -44,17 +44,17 @@ FrontsJoin =
 
 -- ---- how they are read
 
--- of a list the first so many, or all where there are fewer
+-- reads the first so many items of a list, or all where there are fewer
 abbrev pub read_first : {A : Type 0} → Reader A → (most : ℕ) → Reader (List A)
 read_first read most bytes = do
   count ← read_u32 bytes
   read_several read (min most count.0) count.1
 
--- of a list of frames
+-- reads the first so many frames of a list, or all where there are fewer
 abbrev pub read_first_frames : Arena → (most : ℕ) → Reader (List Frame)
 read_first_frames a most bytes = read_first (read_frame a) most bytes
 
--- a shared count, and of the list behind it what of the first so many is not shared
+-- reads a shared count, and of the list behind it what of the first so many is not shared
 abbrev pub read_behind : {A : Type 0} → Reader A → (most : ℕ) → Reader (ℕ × List A)
 read_behind read most bytes = do
   shared ← read_u32 bytes

@@ -18,7 +18,7 @@ pub record SpellsState (a : Arena) (bytes : List ℕ) (d : Suspended) : Type 0 w
 abbrev pub HasNone : Arena → List ℕ → Type 0
 HasNone a bytes = (d : Suspended) → IsStored a d → ¬ (bytes ≡ state_bytes d)
 
--- What is written is read back; what is read is spelled so, and fits; no spelling is the front of another one.
+-- What is written of a state is read back; what is read is spelled so, and fits; no spelling is the front of another one.
 pub record AreStatesExact : Type 0 where
   pub back : (a : Arena) (d : Suspended) → IsStored a d → read_state a (state_bytes d) ≡ Some d
   pub exact : (a : Arena) (bytes : List ℕ) (d : Suspended) → AreBytes bytes → read_state a bytes ≡ Some d → SpellsState a bytes d

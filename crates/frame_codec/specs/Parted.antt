@@ -12,7 +12,7 @@ pub record Parted : Type 0 where
   pub frames : List ℕ
   pub shadows : List ℕ
 
--- one behind the other
+-- the bytes of the three parts, one behind the other
 abbrev pub whole_of : Parted → List ℕ
 whole_of x = x.env ++ (x.frames ++ x.shadows)
 

@@ -3,7 +3,7 @@ use Rattle.std.specs.Prelude.{◌≡◌, ℕ, List, take, drop}
 use Rattle.frame_codec.specs.Parted as spec
 use Rattle.frame_codec.specs.declared.parted.Parted.{Parted}
 
--- the bindings stand at one place, and before it the frames at another
+-- the three parts of bytes: from one place on stand the bindings, from an earlier one the frames, and at first the variables
 abbrev pub parted_of : Parted → spec.Parted
 parted_of p = record {
   env = take p.frames_at (take p.shadows_at p.bytes);
@@ -11,6 +11,6 @@ parted_of p = record {
   shadows = drop p.shadows_at p.bytes;
 }
 
--- it is made of these
+-- bytes in parts are made of these three
 abbrev pub IsMadeOf : (env frames shadows : List ℕ) → Parted → Type 0
 IsMadeOf env frames shadows p = parted_of p ≡ record { env = env; frames = frames; shadows = shadows }

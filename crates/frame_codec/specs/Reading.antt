@@ -6,10 +6,10 @@ use Rattle.script_value.specs.declared.outcome.TxName.{TxName}
 use Rattle.script_nodes.specs.Arena.{Arena}
 use Rattle.wire_bytes.specs.Reading.{read_u8, read_u32, read_u64}
 use Rattle.value_bytes.specs.Reading.{Reader, seen_as, read_several, read_list, read_value, read_values}
-use Rattle.machine_spec.specs.Machine.{Frame, in_binding, in_operand, in_body, in_seq, in_and, in_or, in_if, in_count, in_store, in_turn, in_isolate, bindings_in, node_at, Suspended}
-use Rattle.frame_codec.specs.Walk.{frames_fit, shadows_fit}
+use Rattle.machine_spec.specs.Machine.{Frame, in_binding, in_operand, in_body, in_seq, in_and, in_or, in_if, in_count, in_store, in_turn, in_isolate, in_call, in_task, bindings_in, node_at, Suspended}
+use Rattle.frame_codec.specs.Walk.{operands_in, frames_fit, shadows_fit}
 
--- one behind the other
+-- reads two things, one behind the other
 abbrev pub read_both : {A B : Type 0} → Reader A → Reader B → Reader (A × B)
 read_both first second bytes = do
   x ← first bytes
@@ -20,7 +20,7 @@ read_both first second bytes = do
 abbrev pub bindings_of : Arena → ℕ → ℕ
 bindings_of a n = length (bindings_in (node_at a n))
 
--- the body of a Let, behind whose bindings none is done
+-- the frame of a Let's body, where no value is given for a binding that is done
 abbrev pub body_frame : (node bound : ℕ) → (done : List Val) → Option Frame
 body_frame n bound [] = Some (in_body n bound)
 body_frame n bound (v ∷ vs) = None
@@ -39,7 +39,7 @@ read_let a bytes = do
 abbrev pub read_part : Reader (ℕ × ℕ)
 read_part bytes = read_both read_u32 read_u32 bytes
 
--- a For's node, and whether a turn is worked on or the count
+-- the frame of a For, by whether a turn is worked on or the count
 abbrev pub read_for_kind : (node kind : ℕ) → Reader Frame
 read_for_kind n kind rest =
     if kind == 0 then Some (in_count n, rest) else
@@ -56,6 +56,22 @@ name_of x = record { ticket = x.0; entry = x.1 }
 abbrev pub read_isolate : Reader Frame
 read_isolate bytes = seen_as (λ x. in_isolate x.0 (name_of x.1)) (read_both read_u32 (read_both read_u64 read_u32) bytes)
 
+-- how many operands a call has; 0 where a node is none
+abbrev pub operands_of : Arena → ℕ → ℕ
+operands_of a n = length (operands_in (node_at a n))
+
+-- the frame of a call of so many operands
+abbrev pub call_frame : (operands node part : ℕ) → List Val → Option Frame
+call_frame count n k values =
+    if k == count then Some (in_task n k values) else (if k == length values then Some (in_call n values) else None)
+
+-- a frame of a call
+abbrev pub read_call : Arena → Reader Frame
+read_call a bytes = do
+  x ← read_both read_u32 (read_both read_u32 read_values) bytes
+  f ← call_frame (operands_of a x.0.0) x.0.0 x.0.1.0 x.0.1.1
+  Some (f, x.1)
+
 -- a frame of this kind
 abbrev pub read_kind : Arena → ℕ → Reader Frame
 read_kind a kind rest =
@@ -67,7 +83,8 @@ read_kind a kind rest =
     (if kind == 6 then seen_as (λ x. in_operand x.0 x.1) (read_both read_u32 read_values rest) else
     (if kind == 7 then read_for rest else
     (if kind == 8 then seen_as (λ n. in_store n) (read_u32 rest) else
-    (if kind == 9 then read_isolate rest else None))))))))
+    (if kind == 9 then read_isolate rest else
+    (if kind == 10 then read_call a rest else None)))))))))
 
 -- a frame
 abbrev pub read_frame : Arena → Reader Frame
@@ -94,7 +111,7 @@ read_shadows bytes = read_list read_shadow bytes
 abbrev pub read_parts : Arena → Reader (List Val × (List Frame × List (ℕ × Val)))
 read_parts a bytes = read_both read_values (read_both (read_list (read_frame a)) (read_list read_shadow)) bytes
 
--- the state of these parts, where it fits and nothing stands behind it
+-- the state of these parts, where it fits the script and no bytes stand behind them
 abbrev pub fitting : Arena → Option ((List Val × (List Frame × List (ℕ × Val))) × List ℕ) → Option Suspended
 fitting a None = None
 fitting a (Some (x, [])) =

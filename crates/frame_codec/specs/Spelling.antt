@@ -4,17 +4,18 @@ use Rattle.script_value.specs.Val.{Val}
 use Rattle.script_value.specs.declared.outcome.TxName.{TxName}
 use Rattle.wire_bytes.specs.Spelling.{u32_bytes, u64_bytes}
 use Rattle.value_bytes.specs.Spelling.{value_bytes, values_bytes, list_bytes, HasBytes, HaveBytes, FitsList}
-use Rattle.machine_spec.specs.Machine.{Frame, in_binding, in_operand, in_body, in_seq, in_and, in_or, in_if, in_count, in_store, in_turn, in_isolate, in_page, in_finish, in_back, Suspended}
+use Rattle.machine_spec.specs.Machine.{Frame, in_binding, in_operand, in_body, in_seq, in_and, in_or, in_if, in_count, in_store, in_turn, in_isolate, in_call, in_task, in_page, in_finish, in_back, Suspended}
 
 -- a part of a node: the node, and its number
 abbrev pub part_bytes : (node part : ℕ) → List ℕ
 part_bytes n k = u32_bytes n ++ u32_bytes k
 
--- which part of a Let is worked on, behind the values of the bindings that are done
+-- which part of a Let is worked on, with the values of the bindings that are done; and which part of a call, with the values of the
+-- operands that are done, or the variables of the caller
 abbrev pub let_bytes : (node part : ℕ) → (done : List Val) → List ℕ
 let_bytes n k done = u32_bytes n ++ (u32_bytes k ++ values_bytes done)
 
--- a turn of so many, behind the values of those that are done
+-- a turn of so many, with the values of those that are done
 abbrev pub turn_bytes : (node turns : ℕ) → (done : List Val) → List ℕ
 turn_bytes n turns done = u32_bytes n ++ 1 ∷ (u64_bytes turns ++ values_bytes done)
 
@@ -22,7 +23,7 @@ abbrev pub name_bytes : TxName → List ℕ
 name_bytes name = u64_bytes name.ticket ++ u32_bytes name.entry
 
 -- A frame: a byte for its kind, its node, and which part of the node is worked on; the body of a Let is the part behind its
--- bindings, with none of them done. The body of a page has no spelling.
+-- bindings, with none of them done, and that of a task the part behind the operands of the call. The body of a page has no spelling.
 abbrev pub frame_bytes : Frame → List ℕ
 frame_bytes (in_binding n done) = 1 ∷ let_bytes n (length done) done
 frame_bytes (in_body n bound) = 1 ∷ let_bytes n bound []
@@ -35,6 +36,8 @@ frame_bytes (in_count n) = 7 ∷ (u32_bytes n ++ 0 ∷ [])
 frame_bytes (in_turn n turns done) = 7 ∷ turn_bytes n turns done
 frame_bytes (in_store n) = 8 ∷ u32_bytes n
 frame_bytes (in_isolate n name) = 9 ∷ (u32_bytes n ++ name_bytes name)
+frame_bytes (in_call n done) = 10 ∷ let_bytes n (length done) done
+frame_bytes (in_task n k outer) = 10 ∷ let_bytes n k outer
 frame_bytes (in_page n kind) = []
 frame_bytes (in_finish n) = []
 frame_bytes (in_back n) = []
@@ -51,7 +54,7 @@ state_bytes d = values_bytes d.env ++ (list_bytes frame_bytes (reverse d.frames)
 abbrev pub IsShort : ℕ → Type 0
 IsShort n = n < 2 ^ 32
 
--- each number of a frame has its width, and each value a spelling; it is not the body of a page
+-- a frame has a spelling: each number has its width, and each value a spelling; it is not the body of a page
 abbrev pub FrameHasBytes : Frame → Type 0
 FrameHasBytes (in_binding n done) = IsShort n × HaveBytes done
 FrameHasBytes (in_body n bound) = IsShort n × IsShort bound
@@ -64,11 +67,13 @@ FrameHasBytes (in_count n) = IsShort n
 FrameHasBytes (in_turn n turns done) = IsShort n × ((turns < 2 ^ 64) × HaveBytes done)
 FrameHasBytes (in_store n) = IsShort n
 FrameHasBytes (in_isolate n name) = IsShort n × ((name.ticket < 2 ^ 64) × IsShort name.entry)
+FrameHasBytes (in_call n done) = IsShort n × HaveBytes done
+FrameHasBytes (in_task n k outer) = IsShort n × (IsShort k × HaveBytes outer)
 FrameHasBytes (in_page n kind) = ⊥
 FrameHasBytes (in_finish n) = ⊥
 FrameHasBytes (in_back n) = ⊥
 
--- the cell's number is a byte, and the value has a spelling
+-- a binding of a web cell has a spelling: the cell's number is a byte, and the value has a spelling
 abbrev pub ShadowHasBytes : ℕ × Val → Type 0
 ShadowHasBytes s = (s.0 < 256) × HasBytes s.1
 

@@ -8,7 +8,8 @@ use Rattle.script_value.specs.declared.outcome.Op.TheVariants as op
 use Rattle.script_nodes.specs.declared.script.Node.TheVariants as node
 use Rattle.script_nodes.specs.declared.script.SendKind.TheVariants.{Suspend}
 use Rattle.script_nodes.specs.Arena.{Arena}
-use Rattle.machine_spec.specs.Machine.{Suspended, in_binding, in_operand, in_turn, in_seq, in_count, in_isolate}
+use Rattle.machine_spec.specs.Machine.{Frame, Suspended, in_binding, in_operand, in_turn, in_seq, in_count, in_isolate, in_task}
+use Rattle.machine_spec.specs.VectorsTasks as tasks
 use Rattle.value_bytes.specs.Reading.{read_within}
 use Rattle.frame_codec.specs.Spelling.{state_bytes, frame_bytes}
 use Rattle.frame_codec.specs.Walk.{frames_fit, shadows_fit}
@@ -24,9 +25,10 @@ asks = record {
       ∷ node.Send Suspend 5 ∷ node.Lit (Truth true) ∷ node.Var 0 ∷ [];
   web = truth false ∷ truth false ∷ [];
   cells = [];
+  tasks = [];
 }
 
--- its first page
+-- the state at the first page of the script `asks`
 abbrev pub first_page : Suspended
 first_page = record {
   env = [];
@@ -119,7 +121,7 @@ its_bytes : delta_bytes its_difference
     ≡ 0 ∷ 0 ∷ 0 ∷ 0 ∷ 0 ∷ 0 ∷ 0 ∷ 0 ∷ 2 ∷ 0 ∷ 0 ∷ 0 ∷ 1 ∷ 0 ∷ 0 ∷ 0 ∷ 2 ∷ 10 ∷ 0 ∷ 0 ∷ 0 ∷ 1 ∷ 0 ∷ 0 ∷ 0 ∷ 0 ∷ 0 ∷ 0 ∷ 0 ∷ []
 its_bytes = refl
 
--- with the byte of its form it takes 30 bytes, and by itself the state takes 48
+-- with the byte of its form a difference takes 30 bytes, where the state by itself takes 48
 thirty_bytes : length (form_bytes (Some (in_a_transaction 0)) (in_a_transaction 1)) ≡ 30
 thirty_bytes = refl
 
@@ -137,7 +139,7 @@ the_same_is_read : read_form asks (Some first_page) nothing_differs ≡ Some fir
 unfolding read_within
 the_same_is_read = refl
 
--- the form that is not due
+-- a form that is not due is not read
 not_by_itself : read_form asks None nothing_differs ≡ None
 not_by_itself = refl
 
@@ -150,3 +152,51 @@ told_too_short : read_form asks (Some first_page)
     ∷ 6 ∷ 2 ∷ 0 ∷ 0 ∷ 0 ∷ 1 ∷ 0 ∷ 0 ∷ 0 ∷ 4 ∷ 1 ∷ 0 ∷ 0 ∷ 0 ∷ 110 ∷ 0 ∷ 0 ∷ 0 ∷ 0 ∷ []) ≡ None
 unfolding read_within is_utf8 chars encode
 told_too_short = refl
+
+-- the state at the first page of a task: its fourth frame is that of the call, whose caller has no variable
+abbrev asking_state : List ℕ
+asking_state =
+    1 ∷ 0 ∷ 0 ∷ 0 ∷ 3 ∷ 1 ∷ 0 ∷ 0 ∷ 0 ∷ 49
+    ∷ 6 ∷ 0 ∷ 0 ∷ 0 ∷ 6 ∷ 0 ∷ 0 ∷ 0 ∷ 0 ∷ 1 ∷ 0 ∷ 0 ∷ 0 ∷ 4 ∷ 1 ∷ 0 ∷ 0 ∷ 0 ∷ 112
+    ∷ 6 ∷ 2 ∷ 0 ∷ 0 ∷ 0 ∷ 0 ∷ 0 ∷ 0 ∷ 0
+    ∷ 6 ∷ 3 ∷ 0 ∷ 0 ∷ 0 ∷ 0 ∷ 0 ∷ 0 ∷ 0
+    ∷ 10 ∷ 4 ∷ 0 ∷ 0 ∷ 0 ∷ 1 ∷ 0 ∷ 0 ∷ 0 ∷ 0 ∷ 0 ∷ 0 ∷ 0
+    ∷ 6 ∷ 8 ∷ 0 ∷ 0 ∷ 0 ∷ 0 ∷ 0 ∷ 0 ∷ 0
+    ∷ 6 ∷ 9 ∷ 0 ∷ 0 ∷ 0 ∷ 1 ∷ 0 ∷ 0 ∷ 0 ∷ 4 ∷ 1 ∷ 0 ∷ 0 ∷ 0 ∷ 110
+    ∷ 0 ∷ 0 ∷ 0 ∷ 0 ∷ []
+
+asked : state_bytes tasks.first_page ≡ asking_state
+asked = refl
+
+eighty_eight_bytes : length asking_state ≡ 88
+eighty_eight_bytes = refl
+
+asked_is_read : read_state tasks.ask asking_state ≡ Some tasks.first_page
+unfolding read_within is_utf8 chars encode
+asked_is_read = refl
+
+-- the frames at the first page of a task, where these are the sum's and the call's
+abbrev asking : Frame → Frame → List Frame
+asking sum call = in_operand 0 (truth true ∷ []) ∷ in_operand 2 [] ∷ sum ∷ call ∷ in_operand 8 [] ∷ in_operand 9 (truth true ∷ []) ∷ []
+
+-- the caller's variables are as many as it has, and the body's as many as the task has parameters
+the_callers : frames_fit tasks.ask (truth true ∷ []) (asking (in_operand 3 []) (in_task 4 1 [])) ≡ true
+the_callers = refl
+
+one_too_many : frames_fit tasks.ask (truth true ∷ []) (asking (in_operand 3 []) (in_task 4 1 (truth true ∷ []))) ≡ false
+one_too_many = refl
+
+none_given : frames_fit tasks.ask [] (asking (in_operand 3 []) (in_task 4 1 [])) ≡ false
+none_given = refl
+
+-- the body is that of the call that is worked on, and of no other call of the same task
+the_other_call : frames_fit tasks.ask (truth true ∷ []) (asking (in_operand 3 []) (in_task 6 1 [])) ≡ false
+the_other_call = refl
+
+the_second_call : frames_fit tasks.ask (truth true ∷ []) (asking (in_operand 3 (truth true ∷ [])) (in_task 6 1 [])) ≡ true
+the_second_call = refl
+
+-- a part that is the number of no operand and not the body's
+another_part : read_frame tasks.ask (10 ∷ 4 ∷ 0 ∷ 0 ∷ 0 ∷ 2 ∷ 0 ∷ 0 ∷ 0 ∷ 0 ∷ 0 ∷ 0 ∷ 0 ∷ []) ≡ None
+unfolding read_within
+another_part = refl

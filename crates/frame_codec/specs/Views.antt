@@ -29,31 +29,41 @@ frames_of fs = map frame_of fs.items
 abbrev pub shadows_of : Vec Shadow → List (ℕ × Val)
 shadows_of ss = map pair_of ss.items
 
--- the variables, the frames and the bindings of web cells
+-- the parts of a state: the variables, the frames and the bindings of web cells
 abbrev pub parts_of : Parts → List Val × (List machine.Frame × List (ℕ × Val))
 parts_of x = (x.env, (map frame_of x.frames.items, map pair_of x.shadows.items))
 
 -- ---- how it is written
 
--- a part of a Let, behind the values of the bindings that are done
+-- the bytes of a part of a Let, with the values of the bindings that are done
 abbrev pub let_with : (node part : ℕ) → (done : List Value) → List ℕ
 let_with n k done = 1 ∷ let_bytes n k (map meaning done)
 
--- the frames one behind the other, and behind how many there are
+-- the bytes of a part of a call, with the values of the operands that are done, or the variables of the caller
+abbrev pub call_with : (node part : ℕ) → List Value → List ℕ
+call_with n k values = 10 ∷ let_bytes n k (map meaning values)
+
+-- the bytes of frames, one behind the other
 abbrev pub each_frame : List Frame → List ℕ
 each_frame fs = flat_map frame_bytes (map frame_of fs)
 
+-- the bytes of a list of frames: how many, and each of them
 abbrev pub frames_bytes : List Frame → List ℕ
 frames_bytes fs = list_bytes frame_bytes (map frame_of fs)
 
--- the bindings one behind the other, and behind how many there are
+-- the bytes of bindings of web cells, one behind the other
 abbrev pub each_shadow : List Shadow → List ℕ
 each_shadow ss = flat_map shadow_bytes (map pair_of ss)
 
+-- the bytes of a list of bindings of web cells: how many, and each of them
 abbrev pub shadows_bytes : List Shadow → List ℕ
 shadows_bytes ss = list_bytes shadow_bytes (map pair_of ss)
 
 -- ---- whether it fits
+
+-- the variables of what frames stand in, the outermost frame first
+abbrev pub IsAround : (env : List Value) → List Frame → (around : List Value) → Type 0
+IsAround env fs around = map meaning around ≡ spec.env_of (map meaning env) (map frame_of fs)
 
 -- the place that is left to what stands in a frame, if there is one
 abbrev pub Enters : Arena → (env : List Value) → Place → Frame → Option Place → Type 0
@@ -77,6 +87,6 @@ IsOfParts a parts found = option_map suspended_of found ≡ fitting a (Some (par
 abbrev pub ReadsState : Arena → List ℕ → Option Suspended → Type 0
 ReadsState a bytes found = option_map suspended_of found ≡ read_state a bytes
 
--- what is found is spelled by the bytes, and fits the script
+-- a state that is found is spelled by the bytes, and fits the script
 abbrev pub FindsSpelled : Arena → List ℕ → Option Suspended → Type 0
 FindsSpelled a bytes found = IfSome found (λ d. SpellsState a bytes (suspended_of d))

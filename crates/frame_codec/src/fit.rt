@@ -1,15 +1,16 @@
-ghost use Rattle.std.specs.Prelude.{◌≡◌, ◌↔◌, ◌<◌, IsTrue, IfSome, IsNone, option_map, map, pos, length, false, slice_get};
+ghost use Rattle.std.specs.Prelude.{◌≡◌, ◌↔◌, ◌<◌, ◌∷◌, IsTrue, IfSome, IsNone, option_map, map, pos, length, false, slice_get};
 ghost use Rattle.script_value.specs.Val.{number};
 ghost use Rattle.script_value.specs.Views.{meaning};
 ghost use Rattle.script_value.specs.declared.value.Value.TheVariants as value;
 ghost use Rattle.web_cells.specs.Views.{pair_of};
+ghost use Rattle.script_nodes.specs.Arena.{IsOnTasks};
 ghost use Rattle.script_nodes.specs.declared.script.Node.TheVariants as node;
 ghost use Rattle.machine_spec.specs.Machine.{node_at, bindings_in};
 ghost use Rattle.machine_spec.specs.Fits as fits;
 ghost use Rattle.stored_states.specs.Views.{frame_of};
-ghost use Rattle.frame_codec.specs.Reading.{bindings_of};
+ghost use Rattle.frame_codec.specs.Reading.{bindings_of, operands_of};
 ghost use Rattle.frame_codec.specs.Walk as spec;
-ghost use Rattle.frame_codec.specs.Views.{place_of, Enters, WalksTo, TellsFit};
+ghost use Rattle.frame_codec.specs.Views.{place_of, IsAround, Enters, WalksTo, TellsFit};
 
 use script_nodes::{Node, Script};
 use script_value::Value;
@@ -27,6 +28,7 @@ struct Place {
 #[tactic(auto, using(crate::proofs::Nodes::node_there, crate::proofs::Nodes::no_node))]
 fn node_at(script: &Script, number: u32) -> Option<&Node>
     ensures some { IfSome result (λ x. x.now ≡ node_at script.now number) }
+    ensures tasks { IfSome result (λ x. IsOnTasks (length script.now.tasks) x.now) }
     ensures none { IsNone result → node_at script.now number ≡ node.Lit (value.Truth false) }
 {
     if (number as usize) < script.count() {
@@ -42,6 +44,17 @@ pub fn bindings_of(script: &Script, number: u32) -> usize
 {
     match node_at(script, number) {
         Some(Node::Let { bindings, .. }) => bindings.as_slice().len(),
+        Some(_) => 0,
+        None => 0,
+    }
+}
+
+/// How many operands a call has; 0 where a node is none.
+pub fn operands_of(script: &Script, number: u32) -> usize
+    ensures { result ≡ operands_of script.now number }
+{
+    match node_at(script, number) {
+        Some(Node::Call { operands, .. }) => operands.as_slice().len(),
         Some(_) => 0,
         None => 0,
     }
@@ -63,6 +76,8 @@ fn node_of(frame: &Frame) -> u32
         Frame::Store { node } => *node,
         Frame::Turn { node, .. } => *node,
         Frame::Isolate { node, .. } => *node,
+        Frame::Call { node, .. } => *node,
+        Frame::Task { node, .. } => *node,
         Frame::Page { node, .. } => *node,
         Frame::Finish { node } => *node,
         Frame::Back { node } => *node,
@@ -70,8 +85,10 @@ fn node_of(frame: &Frame) -> u32
 }
 
 // The part of a node that a frame works on; none where the frame is not of the node's kind.
-fn part_worked(node: &Node, frame: &Frame) -> Option<u32>
-    ensures { result ≡ spec.part_worked node.now (frame_of frame.now) }
+#[tactic(auto, using(crate::proofs::Nodes::task_there))]
+fn part_worked(script: &Script, node: &Node, frame: &Frame) -> Option<u32>
+    requires { IsOnTasks (length script.now.tasks) node.now }
+    ensures { result ≡ spec.part_worked script.now node.now (frame_of frame.now) }
 {
     match node {
         Node::Let { bindings, body } => match frame {
@@ -101,6 +118,14 @@ fn part_worked(node: &Node, frame: &Frame) -> Option<u32>
         },
         Node::Prim { operands, .. } => match frame {
             Frame::Operand { done, .. } => operands.as_slice().get(done.len()).copied(),
+            _ => None,
+        },
+        Node::Call { task, operands } => match frame {
+            Frame::Call { done, .. } => operands.as_slice().get(done.len()).copied(),
+            Frame::Task { part, .. } => {
+                let first = script.task(*task);
+                (*part == operands.as_slice().len()).then_some(first)
+            }
             _ => None,
         },
         Node::For { count, body } => match frame {
@@ -167,6 +192,13 @@ fn scope_in(frame: &Frame, env: &[Value], scope: usize) -> Option<usize>
             }
         }
         Frame::Turn { done, .. } => numbered(done.len(), scope, env),
+        Frame::Task { part, outer, .. } => {
+            if scope == outer.len() && *part <= env.len() {
+                Some(*part)
+            } else {
+                None
+            }
+        }
         _ => Some(scope),
     }
 }
@@ -179,9 +211,38 @@ fn enters(script: &Script, env: &[Value], place: &Place, frame: &Frame) -> Optio
         return None;
     }
     let node = node_at(script, place.node)?;
-    let part = part_worked(node, frame)?;
+    let part = part_worked(script, node, frame)?;
     let scope = scope_in(frame, env, place.scope)?;
     Some(Place { node: part, scope })
+}
+
+// The variables of what frames stand in, the outermost frame first.
+fn env_of<'a>(env: &'a [Value], frames: &'a [Frame]) -> &'a [Value]
+    ensures { IsAround env.now frames.now result.now }
+{
+    for frame in frames {
+        if let Frame::Task { outer, .. } = frame {
+            return outer.as_slice();
+        }
+    }
+    env
+}
+
+// The variables of what the frames behind this one stand in, where those of this one and the others are given. Only behind a
+// task are they looked for again, so a walk looks at each frame once.
+fn env_behind<'a>(
+    env: &'a [Value],
+    around: &'a [Value],
+    frame: &Frame,
+    others: &'a [Frame],
+) -> &'a [Value]
+    requires { IsAround env.now (frame.now ∷ others.now) around.now }
+    ensures { IsAround env.now others.now result.now }
+{
+    match frame {
+        Frame::Task { .. } => env_of(env, others),
+        _ => around,
+    }
 }
 
 // The node and the scope behind frames, the outermost first.
@@ -189,8 +250,12 @@ fn walk(script: &Script, env: &[Value], frames: &[Frame]) -> Option<Place>
     ensures { WalksTo script.now env.now frames.now result }
 {
     let mut place = Place { node: 0, scope: 0 };
-    for frame in frames {
-        place = enters(script, env, &place, frame)?;
+    let mut around = env_of(env, frames);
+    let mut left = frames;
+    while let [frame, others @ ..] = left {
+        around = env_behind(env, around, frame, others);
+        place = enters(script, around, &place, frame)?;
+        left = others;
     }
     Some(place)
 }

@@ -1,4 +1,4 @@
-//! What is kept of a script at a page, as bytes: each state has one spelling, and what is read fits the script.
+//! What is kept of a script at a page as bytes, by itself or as a delta: for the book and for records.
 #![tactic(auto)]
 
 ghost use Rattle.frame_codec.specs.Laws.{AreStatesExact, EachKeptIsStored};

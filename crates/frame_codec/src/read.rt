@@ -1,16 +1,16 @@
 ghost use Rattle.std.specs.Prelude.{◌≡◌, option_map};
 ghost use Rattle.web_cells.specs.Views.{pair_of};
-ghost use Rattle.value_bytes.specs.Views.{Reads};
+ghost use Rattle.value_bytes.specs.Views.{Reads, GrowsWithin};
 ghost use Rattle.stored_states.specs.Views.{frame_of};
 ghost use Rattle.frame_codec.specs.Reading as spec;
 ghost use Rattle.frame_codec.specs.Views.{frames_of, shadows_of, parts_of};
 
-use crate::fit::bindings_of;
+use crate::fit::{bindings_of, operands_of};
 use script_nodes::Script;
 use script_value::{Items, TxName};
 use std::alloc::Global;
 use stored_states::Frame;
-use value_bytes::fields::{byte, number_32, number_64};
+use value_bytes::fields::{byte, count, number_32, number_64};
 use value_bytes::{Unread, value, values};
 use web_cells::Shadow;
 use wire_bytes::Cursor;
@@ -56,6 +56,35 @@ fn read_let(alloc: Global, script: &Script, cursor: &mut Cursor<'_>) -> Result<F
     }
 }
 
+// The frame of a call of so many operands.
+fn call_frame(operands: usize, node: u32, part: u32, values: Items) -> Option<Frame>
+    ensures { option_map frame_of result ≡ spec.call_frame operands node part values }
+{
+    if part as usize == operands {
+        Some(Frame::Task {
+            node,
+            part: part as usize,
+            outer: values,
+        })
+    } else if part as usize == values.len() {
+        Some(Frame::Call { node, done: values })
+    } else {
+        None
+    }
+}
+
+fn read_call(alloc: Global, script: &Script, cursor: &mut Cursor<'_>) -> Result<Frame, Unread>
+    ensures { Reads frame_of result cursor.new (spec.read_call script.now cursor.old) }
+{
+    let node = number_32(cursor)?;
+    let part = number_32(cursor)?;
+    let values = values(alloc, cursor)?;
+    match call_frame(operands_of(script, node), node, part, values) {
+        Some(frame) => Ok(frame),
+        None => Err(Unread::Misspelled),
+    }
+}
+
 // A For's turn or its count.
 fn read_for(alloc: Global, cursor: &mut Cursor<'_>) -> Result<Frame, Unread>
     ensures { Reads frame_of result cursor.new (spec.read_for cursor.old) }
@@ -84,7 +113,7 @@ fn read_isolate(cursor: &mut Cursor<'_>) -> Result<Frame, Unread>
     })
 }
 
-// A frame. Its node is not looked for, unless it is a Let.
+// A frame. Its node is not looked for, unless it is a Let or a call.
 fn read_frame(alloc: Global, script: &Script, cursor: &mut Cursor<'_>) -> Result<Frame, Unread>
     ensures { Reads frame_of result cursor.new (spec.read_frame script.now cursor.old) }
 {
@@ -115,6 +144,7 @@ fn read_frame(alloc: Global, script: &Script, cursor: &mut Cursor<'_>) -> Result
             node: number_32(cursor)?,
         }),
         9 => read_isolate(cursor),
+        10 => read_call(alloc, script, cursor),
         _ => Err(Unread::Misspelled),
     }
 }
@@ -138,14 +168,16 @@ pub fn read_frames_of(
 }
 
 // A list of frames.
+#[tactic(auto, using(value_bytes::proofs::Counts::has_count, value_bytes::proofs::Counts::list_from))]
 pub fn read_frames(
     alloc: Global,
     script: &Script,
     cursor: &mut Cursor<'_>,
 ) -> Result<Vec<Frame>, Unread>
-    ensures { Reads frames_of result cursor.new (spec.read_frames script.now cursor.old) }
+    ensures read { Reads frames_of result cursor.new (spec.read_frames script.now cursor.old) }
+    ensures memory { GrowsWithin result cursor.old }
 {
-    let count = number_32(cursor)?;
+    let count = count(cursor)?;
     read_frames_of(alloc, script, cursor, count as usize)
 }
 
@@ -157,12 +189,13 @@ fn read_shadow(alloc: Global, cursor: &mut Cursor<'_>) -> Result<Shadow, Unread>
     Ok(Shadow { cell, value })
 }
 
-// A list of bindings. They are kept one by one, so that no count is trusted.
-#[tactic(auto, using(value_bytes::proofs::Turns::one_more, value_bytes::proofs::Turns::no_more, value_bytes::proofs::Turns::at_end))]
+// A list of bindings. They are kept one by one, and no count is trusted.
+#[tactic(auto, using(value_bytes::proofs::Turns::one_more, value_bytes::proofs::Turns::no_more, value_bytes::proofs::Turns::at_end, value_bytes::proofs::Counts::has_count, value_bytes::proofs::Counts::list_from))]
 pub fn read_shadows(alloc: Global, cursor: &mut Cursor<'_>) -> Result<Vec<Shadow>, Unread>
-    ensures { Reads shadows_of result cursor.new (spec.read_shadows cursor.old) }
+    ensures read { Reads shadows_of result cursor.new (spec.read_shadows cursor.old) }
+    ensures memory { GrowsWithin result cursor.old }
 {
-    let count = number_32(cursor)?;
+    let count = count(cursor)?;
     let mut shadows = Vec::new(alloc);
     for turn in 0..count {
         let shadow = read_shadow(alloc, cursor)?;

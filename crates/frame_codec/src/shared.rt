@@ -73,6 +73,21 @@ fn same_frame(frame: &Frame, other: &Frame) -> bool
         (Frame::Isolate { node: n, name: x }, Frame::Isolate { node: m, name: y }) => {
             *n == *m && x.ticket == y.ticket && x.entry == y.entry
         }
+        (Frame::Call { node: n, done: x }, Frame::Call { node: m, done: y }) => {
+            *n == *m && same_values(x, y)
+        }
+        (
+            Frame::Task {
+                node: n,
+                part: k,
+                outer: x,
+            },
+            Frame::Task {
+                node: m,
+                part: l,
+                outer: y,
+            },
+        ) => *n == *m && *k == *l && same_values(x, y),
         (Frame::Page { node: n, kind: x }, Frame::Page { node: m, kind: y }) => {
             *n == *m && *x == *y
         }

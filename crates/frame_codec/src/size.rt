@@ -37,6 +37,8 @@ fn frame_length(frame: &Frame) -> u64
         Frame::Turn { done, .. } => with_done(14, done),
         Frame::Store { .. } => 5,
         Frame::Isolate { .. } => 17,
+        Frame::Call { done, .. } => with_done(9, done),
+        Frame::Task { outer, .. } => with_done(9, outer),
         Frame::Page { .. } => 0,
         Frame::Finish { .. } => 0,
         Frame::Back { .. } => 0,

@@ -64,6 +64,14 @@ fn frame_has_bytes(frame: &Frame) -> bool
             let _entry = name.entry;
             true
         }
+        Frame::Call { node, done } => {
+            let _node = *node;
+            have_bytes(done.as_slice())
+        }
+        Frame::Task { node, part, outer } => {
+            let _node = *node;
+            *part <= MOST && have_bytes(outer.as_slice())
+        }
         Frame::Page { .. } => false,
         Frame::Finish { .. } => false,
         Frame::Back { .. } => false,

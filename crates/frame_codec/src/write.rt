@@ -4,12 +4,12 @@ ghost use Rattle.script_value.specs.Views.{meaning};
 ghost use Rattle.web_cells.specs.Views.{pair_of};
 ghost use Rattle.wire_bytes.specs.Spelling.{u32_bytes};
 ghost use Rattle.value_bytes.specs.Spelling.{HaveBytes, FitsList};
-ghost use Rattle.machine_spec.specs.Machine.{in_binding, in_operand, in_turn, in_isolate};
+ghost use Rattle.machine_spec.specs.Machine.{in_binding, in_operand, in_turn, in_isolate, in_call, in_task};
 ghost use Rattle.stored_states.specs.Views.{frame_of, suspended_of};
 ghost use Rattle.frame_codec.specs.Spelling.{frame_bytes, part_bytes, shadow_bytes, state_bytes, FrameHasBytes, ShadowHasBytes, StateHasBytes};
 ghost use Rattle.frame_codec.specs.Parted.{state_parts};
 ghost use Rattle.frame_codec.specs.PartedViews.{parted_of};
-ghost use Rattle.frame_codec.specs.Views.{let_with, each_frame, frames_bytes, each_shadow, shadows_bytes};
+ghost use Rattle.frame_codec.specs.Views.{let_with, call_with, each_frame, frames_bytes, each_shadow, shadows_bytes};
 
 use crate::parted::Parted;
 use script_value::{Bytes, Items, TxName, Value};
@@ -79,6 +79,36 @@ fn write_isolate(writer: &mut Writer, node: u32, name: TxName) -> Result<(), All
     writer.u32(name.entry)
 }
 
+// A part of a call, with the values of the operands that are done, or the variables of the caller.
+fn write_call(
+    writer: &mut Writer,
+    node: u32,
+    part: usize,
+    values: &[Value],
+) -> Result<(), AllocError>
+    requires part { part < 2 ^ 32 }
+    requires values { HaveBytes (map meaning values.now) }
+    ensures { OnOk result (writer.new ≡ writer.old ++ call_with node part values.now) }
+{
+    write_part(writer, 10, node, part)?;
+    write_values(writer, values)
+}
+
+fn write_argument(writer: &mut Writer, node: u32, done: &Items) -> Result<(), AllocError>
+    requires { HaveBytes done.now }
+    ensures { OnOk result (writer.new ≡ writer.old ++ frame_bytes (in_call node done.now)) }
+{
+    write_call(writer, node, done.len(), done.as_slice())
+}
+
+fn write_task(writer: &mut Writer, node: u32, part: usize, outer: &Items) -> Result<(), AllocError>
+    requires part { part < 2 ^ 32 }
+    requires outer { HaveBytes outer.now }
+    ensures { OnOk result (writer.new ≡ writer.old ++ frame_bytes (in_task node part outer.now)) }
+{
+    write_call(writer, node, part, outer.as_slice())
+}
+
 fn write_frame(writer: &mut Writer, frame: &Frame) -> Result<(), AllocError>
     requires { FrameHasBytes (frame_of frame.now) }
     ensures { OnOk result (writer.new ≡ writer.old ++ frame_bytes (frame_of frame.now)) }
@@ -101,6 +131,8 @@ fn write_frame(writer: &mut Writer, frame: &Frame) -> Result<(), AllocError>
         Frame::Turn { node, turns, done } => write_turn(writer, *node, *turns, done),
         Frame::Store { node } => write_node(writer, 8, *node),
         Frame::Isolate { node, name } => write_isolate(writer, *node, *name),
+        Frame::Call { node, done } => write_argument(writer, *node, done),
+        Frame::Task { node, part, outer } => write_task(writer, *node, *part, outer),
         Frame::Page { .. } => unreachable!(),
         Frame::Finish { .. } => unreachable!(),
         Frame::Back { .. } => unreachable!(),

@@ -6,8 +6,8 @@ use Rattle.std.proofs.lemmas.Option.{same_Some}
 use Rattle.script_value.specs.Val.{Val}
 use Rattle.instance_cells.specs.Cells.{reads_of}
 use Rattle.script_nodes.specs.Arena.{Arena, IsScript, script_of}
-use Rattle.script_nodes.specs.Core.{OnCells}
-use Rattle.script_nodes.specs.Setup.{Script, Named}
+use Rattle.script_nodes.specs.Core.{AllOnCells}
+use Rattle.script_nodes.specs.Setup.{Script, Named, trees_of}
 use Rattle.script_nodes.specs.declared.script.SendKind.{SendKind}
 use Rattle.script_nodes.proofs.Scripts.{script_on_cells}
 use Rattle.replay_spec.specs.Tape.{recorded, present, Answer, Tape, shows, finishes, ends, Outcome, paged, faulted, out_of_fuel}
@@ -94,7 +94,7 @@ visit_state v fuel cs kind bytes w e =
 pub names_cells : (s : Named) → IsWhole s → NamesItsCells s
 names_cells s w =
     let a = arena_of s.script in
-    subst (λ (z : Script). OnCells (length s.script.web) (length s.script.cells) z.body) (sym w.means) (script_on_cells a w.script)
+    subst (λ (z : Script). AllOnCells (length s.script.web) (length s.script.cells) (trees_of z)) (sym w.means) (script_on_cells a w.script)
 
 -- ---- what a page's state is written behind
 

@@ -7,14 +7,15 @@ use Rattle.script_value.specs.Numbers.{is_in_range}
 use Rattle.script_value.specs.declared.outcome.Fault.{Fault}
 use Rattle.script_value.specs.declared.outcome.Fault.TheVariants.{Overflow}
 use Rattle.script_value.specs.declared.outcome.TxName.{TxName}
-use Rattle.prim_ops.specs.Table.{value_of, is_false}
-use Rattle.prim_ops.specs.Lists.{list_of}
+use Rattle.prim_spec.specs.Table.{value_of, is_false}
+use Rattle.prim_spec.specs.Lists.{list_of}
 use Rattle.web_cells.specs.Shadows.{bound_to, binding}
 use Rattle.instance_cells.specs.Cells.{Effect, read, set, add, cell_of, cell_at, sum, value_or, left_by, landed, commit}
 use Rattle.script_nodes.specs.declared.script.SendKind.{SendKind}
-use Rattle.script_nodes.specs.Core.{Core, Cores, lit, var, bind, seq, branch, and_all, or_any, repeat, prim, send, finish, back, isolate, cell_ref, cell_shadow, inst_ref, inst_set, inst_add, no_cores, core}
+use Rattle.script_nodes.specs.Core.{Core, Cores, lit, var, bind, seq, branch, and_all, or_any, repeat, prim, call, send, finish, back, isolate, cell_ref, cell_shadow, inst_ref, inst_set, inst_add, no_cores, core}
+use Rattle.script_nodes.specs.Setup.{Script, trees_of}
 use Rattle.replay_spec.specs.Tape.{Reads, recorded, present, bound, is_over, Answer, State, begin, finishes, ends, End, got, stop, Run, after, ◌>>=◌, give, answer, choose, charged, charge, url, halt, sent, send_page, named, enter, leave, lookup, shadow, note, read_from, read_cell, set_in, set_cell, as_number, added, add_to, add_in, add_cell}
-use Rattle.replay_spec.specs.Eval.{eval, eval_into, eval_while, turns, for_each, copied, value_at, is_not_false, is_any, segment_at_end}
+use Rattle.replay_spec.specs.Eval.{Calls, with_task, calls_from, no_calls, calls_of, evaluated, eval, eval_into, eval_while, turns, for_each, copied, value_at, is_not_false, is_any, segment_at_end}
 use Rattle.journal_books.specs.Depths.{IsShallow, AreShallow, HasShallow, HaveShallow, AreShallowReads, AreShallowAnswers, IsShallowEffect, RunsStayShallow}
 use Rattle.journal_books.proofs.Shallow.{GivesShallow, listed, operation}
 use Rattle.frame_codec.proofs.Reread.{all_append}
@@ -173,59 +174,71 @@ each inside (Ok (pos n)) body env g p =
 each inside (Ok (negsuc n)) body env g p = λ s fine. fine
 each inside (Err k) body env g p = λ s fine. fine
 
+-- a call with shallow operands gives a shallow value
+abbrev AreFine : Calls → Type 0
+AreFine calls = (k : ℕ) (vs : List Val) (inside : List TxName) → AreShallow vs → StaysFine IsShallow (calls k vs inside)
+
 mutual
-  every : (c : Core) (env : List Val) (inside : List TxName) → HasShallow c → AreShallow env → StaysFine IsShallow (eval c env inside)
-  every (lit v) env inside h g = copies inside v h
-  every (var k) env inside h g = copies inside (value_at env k) (value_there env k g)
-  every (bind es b) env inside h g =
-      paid inside _ (goes_on AreShallow IsShallow (eval_into [] es env inside) (λ vs. eval b (env ++ vs) inside) (every_into [] es env inside h.0 tt g)
-      (λ vs low. every b (env ++ vs) inside h.1 (all_append IsShallow env vs g low)))
-  every (branch t a b) env inside h g =
-      paid inside _ (goes_on IsShallow IsShallow (eval t env inside) (λ v. choose (is_false v) (eval b env inside) (eval a env inside)) (every t env inside h.0 g)
-      (λ v _. chooses IsShallow (is_false v) (eval b env inside) (eval a env inside) (every b env inside h.2 g) (every a env inside h.1 g)))
-  every (repeat n b) env inside h g =
-      paid inside _ (goes_on IsShallow IsShallow (eval n env inside) (λ v. for_each inside (as_number v) (λ e. eval b e inside) env) (every n env inside h.0 g)
-      (λ v _. each inside (as_number v) (λ e. eval b e inside) env g (λ e low. every b e inside h.1 low)))
-  every (prim o es) env inside h g =
-      paid inside _ (goes_on AreShallow IsShallow (eval_into [] es env inside) (λ vs. answer inside (value_of o vs)) (every_into [] es env inside h tt g)
+  every : (calls : Calls) → AreFine calls → (c : Core) (env : List Val) (inside : List TxName) → HasShallow c → AreShallow env → StaysFine IsShallow (eval calls c env inside)
+  every calls runs (lit v) env inside h g = copies inside v h
+  every calls runs (var k) env inside h g = copies inside (value_at env k) (value_there env k g)
+  every calls runs (bind es b) env inside h g =
+      paid inside _ (goes_on AreShallow IsShallow (eval_into calls [] es env inside) (λ vs. eval calls b (env ++ vs) inside) (every_into calls runs [] es env inside h.0 tt g)
+      (λ vs low. every calls runs b (env ++ vs) inside h.1 (all_append IsShallow env vs g low)))
+  every calls runs (branch t a b) env inside h g =
+      paid inside _ (goes_on IsShallow IsShallow (eval calls t env inside) (λ v. choose (is_false v) (eval calls b env inside) (eval calls a env inside)) (every calls runs t env inside h.0 g)
+      (λ v _. chooses IsShallow (is_false v) (eval calls b env inside) (eval calls a env inside) (every calls runs b env inside h.2 g) (every calls runs a env inside h.1 g)))
+  every calls runs (repeat n b) env inside h g =
+      paid inside _ (goes_on IsShallow IsShallow (eval calls n env inside) (λ v. for_each inside (as_number v) (λ e. eval calls b e inside) env) (every calls runs n env inside h.0 g)
+      (λ v _. each inside (as_number v) (λ e. eval calls b e inside) env g (λ e low. every calls runs b e inside h.1 low)))
+  every calls runs (prim o es) env inside h g =
+      paid inside _ (goes_on AreShallow IsShallow (eval_into calls [] es env inside) (λ vs. answer inside (value_of o vs)) (every_into calls runs [] es env inside h tt g)
       (λ vs _. answers inside (value_of o vs) (operation o vs)))
-  every (seq es) env inside h g = paid inside _ (every_while is_any (truth false) es env inside h (omega arith) g)
-  every (and_all es) env inside h g = paid inside _ (every_while is_not_false (truth true) es env inside h (omega arith) g)
-  every (or_any es) env inside h g = paid inside _ (every_while is_false (truth false) es env inside h (omega arith) g)
-  every (send kind b) env inside h g =
-      paid inside _ (goes_on IsShallow IsShallow url (λ u. eval b (env ++ u ∷ []) inside >>= send_page inside kind) (λ s fine. (omega arith, fine)) (λ u low.
-      goes_on IsShallow IsShallow (eval b (env ++ u ∷ []) inside) (send_page inside kind) (every b (env ++ u ∷ []) inside h (one_more IsShallow env u g low))
+  every calls runs (call k es) env inside h g =
+      paid inside _ (goes_on AreShallow IsShallow (eval_into calls [] es env inside) (λ vs. calls k vs inside) (every_into calls runs [] es env inside h tt g)
+      (λ vs low. runs k vs inside low))
+  every calls runs (seq es) env inside h g = paid inside _ (every_while calls runs is_any (truth false) es env inside h (omega arith) g)
+  every calls runs (and_all es) env inside h g = paid inside _ (every_while calls runs is_not_false (truth true) es env inside h (omega arith) g)
+  every calls runs (or_any es) env inside h g = paid inside _ (every_while calls runs is_false (truth false) es env inside h (omega arith) g)
+  every calls runs (send kind b) env inside h g =
+      paid inside _ (goes_on IsShallow IsShallow url (λ u. eval calls b (env ++ u ∷ []) inside >>= send_page inside kind) (λ s fine. (omega arith, fine)) (λ u low.
+      goes_on IsShallow IsShallow (eval calls b (env ++ u ∷ []) inside) (send_page inside kind) (every calls runs b (env ++ u ∷ []) inside h (one_more IsShallow env u g low))
       (λ page _ s fine. sends inside kind page s.later s fine.later fine)))
-  every (finish b) env inside h g = paid inside _ (goes_on IsShallow IsShallow (eval b env inside) (halt inside finishes) (every b env inside h g) (λ page _ s fine. fine))
-  every (back b) env inside h g = paid inside _ (goes_on IsShallow IsShallow (eval b env inside) (halt inside ends) (every b env inside h g) (λ page _ s fine. fine))
-  every (isolate b) env inside h g =
-      goes_on Any IsShallow (enter inside) (λ name. eval b env (inside ++ name ∷ []) >>= leave name)
+  every calls runs (finish b) env inside h g = paid inside _ (goes_on IsShallow IsShallow (eval calls b env inside) (halt inside finishes) (every calls runs b env inside h g) (λ page _ s fine. fine))
+  every calls runs (back b) env inside h g = paid inside _ (goes_on IsShallow IsShallow (eval calls b env inside) (halt inside ends) (every calls runs b env inside h g) (λ page _ s fine. fine))
+  every calls runs (isolate b) env inside h g =
+      goes_on Any IsShallow (enter inside) (λ name. eval calls b env (inside ++ name ∷ []) >>= leave name)
       (goes_on Any Any (charge inside 1) (λ _. named) (charges inside 1) (λ _ _ s fine. (tt, record { reads = fine.reads; later = fine.later; effects = fine.effects; shadows = fine.shadows; defaults = fine.defaults })))
-      (λ name _. goes_on IsShallow IsShallow (eval b env (inside ++ name ∷ [])) (leave name) (every b env (inside ++ name ∷ []) h g)
+      (λ name _. goes_on IsShallow IsShallow (eval calls b env (inside ++ name ∷ [])) (leave name) (every calls runs b env (inside ++ name ∷ []) h g)
       (λ v low s fine. (low, record { reads = fine.reads; later = fine.later; effects = fine.effects; shadows = fine.shadows; defaults = fine.defaults })))
-  every (cell_ref c) env inside h g =
+  every calls runs (cell_ref c) env inside h g =
       goes_on IsShallow IsShallow (lookup c) (copied inside) (λ s fine. (looked_up c s.shadows (cell_at s.defaults c) fine.shadows (value_there s.defaults c fine.defaults), fine)) (λ v low. copies inside v low)
-  every (cell_shadow c e) env inside h g =
-      paid inside _ (goes_on IsShallow IsShallow (eval e env inside) (shadow c) (every e env inside h g)
+  every calls runs (cell_shadow c e) env inside h g =
+      paid inside _ (goes_on IsShallow IsShallow (eval calls e env inside) (shadow c) (every calls runs e env inside h g)
       (λ v low s fine. (omega arith, record { reads = fine.reads; later = fine.later; effects = fine.effects; shadows = bound_there c v s.shadows low fine.shadows; defaults = fine.defaults })))
-  every (inst_ref c) env inside h g =
+  every calls runs (inst_ref c) env inside h g =
       goes_on IsShallow IsShallow (read_cell c) (copied inside) (λ s fine. reads_from s.segment.reads c s fine.reads fine) (λ v low. copies inside v low)
-  every (inst_set c e) env inside h g =
-      paid inside _ (goes_on IsShallow IsShallow (eval e env inside) (set_cell c) (every e env inside h g) (λ v low s fine. sets_in s.segment.reads c v s low fine))
-  every (inst_add c e) env inside h g =
-      paid inside _ (goes_on IsShallow IsShallow (eval e env inside) (add_cell inside c) (every e env inside h g) (λ v low s fine. adds_in inside s.segment.reads c v s fine.reads fine))
+  every calls runs (inst_set c e) env inside h g =
+      paid inside _ (goes_on IsShallow IsShallow (eval calls e env inside) (set_cell c) (every calls runs e env inside h g) (λ v low s fine. sets_in s.segment.reads c v s low fine))
+  every calls runs (inst_add c e) env inside h g =
+      paid inside _ (goes_on IsShallow IsShallow (eval calls e env inside) (add_cell inside c) (every calls runs e env inside h g) (λ v low s fine. adds_in inside s.segment.reads c v s fine.reads fine))
 
-  every_into : (done : List Val) (es : Cores) (env : List Val) (inside : List TxName) → HaveShallow es → AreShallow done → AreShallow env → StaysFine AreShallow (eval_into done es env inside)
-  every_into done no_cores env inside h d g = λ s fine. (d, fine)
-  every_into done (core c cs) env inside h d g =
-      goes_on IsShallow AreShallow (eval c env inside) (λ v. eval_into (done ++ v ∷ []) cs env inside) (every c env inside h.0 g)
-      (λ v low. every_into (done ++ v ∷ []) cs env inside h.1 (one_more IsShallow done v d low) g)
+  every_into : (calls : Calls) → AreFine calls → (done : List Val) (es : Cores) (env : List Val) (inside : List TxName) → HaveShallow es → AreShallow done → AreShallow env → StaysFine AreShallow (eval_into calls done es env inside)
+  every_into calls runs done no_cores env inside h d g = λ s fine. (d, fine)
+  every_into calls runs done (core c cs) env inside h d g =
+      goes_on IsShallow AreShallow (eval calls c env inside) (λ v. eval_into calls (done ++ v ∷ []) cs env inside) (every calls runs c env inside h.0 g)
+      (λ v low. every_into calls runs (done ++ v ∷ []) cs env inside h.1 (one_more IsShallow done v d low) g)
 
-  every_while : (goes_on : Val → Bool) (v : Val) (es : Cores) (env : List Val) (inside : List TxName) → HaveShallow es → IsShallow v → AreShallow env → StaysFine IsShallow (eval_while goes_on v es env inside)
-  every_while test v no_cores env inside h low g = λ s fine. (low, fine)
-  every_while test v (core c cs) env inside h low g =
-      goes_on IsShallow IsShallow (eval c env inside) (λ w. choose (test w) (eval_while test w cs env inside) (give w)) (every c env inside h.0 g)
-      (λ w w_low. chooses IsShallow (test w) (eval_while test w cs env inside) (give w) (every_while test w cs env inside h.1 w_low g) (λ s fine. (w_low, fine)))
+  every_while : (calls : Calls) → AreFine calls → (goes_on : Val → Bool) (v : Val) (es : Cores) (env : List Val) (inside : List TxName) → HaveShallow es → IsShallow v → AreShallow env → StaysFine IsShallow (eval_while calls goes_on v es env inside)
+  every_while calls runs test v no_cores env inside h low g = λ s fine. (low, fine)
+  every_while calls runs test v (core c cs) env inside h low g =
+      goes_on IsShallow IsShallow (eval calls c env inside) (λ w. choose (test w) (eval_while calls test w cs env inside) (give w)) (every calls runs c env inside h.0 g)
+      (λ w w_low. chooses IsShallow (test w) (eval_while calls test w cs env inside) (give w) (every_while calls runs test w cs env inside h.1 w_low g) (λ s fine. (w_low, fine)))
+
+bodies : (calls : Calls) → AreFine calls → (n : ℕ) (cs : Cores) → HaveShallow cs → AreFine (calls_from calls n cs)
+bodies calls runs n no_cores h = runs
+bodies calls runs n (core c cs) h =
+    bodies (with_task n (eval calls c) calls) (λ k vs inside low. chooses IsShallow (k == n) (eval calls c vs inside) (calls k vs inside) (every calls runs c vs inside h.0 low) (runs k vs inside low)) (suc n) cs h.1
 
 at_end : (e : End Val) → EndsFine IsShallow e → AllByRecursion IsShallowEffect (segment_at_end e).effects
 at_end (got v t) h = h.1.effects
@@ -234,4 +247,5 @@ at_end (stop o names t) h = h.effects
 pub stay_shallow : RunsStayShallow
 stay_shallow s t script reads later =
     let start = begin s.web t in
-    at_end (eval s.body [] [] start) (every s.body [] [] script.body tt start (record { reads = reads; later = later; effects = tt; shadows = tt; defaults = script.web }))
+    let runs = bodies no_calls (λ k vs inside low state fine. (omega arith, fine)) 0 s.tasks script.trees.1 in
+    at_end (evaluated s start) (every (calls_of s.tasks) runs s.body [] [] script.trees.0 tt start (record { reads = reads; later = later; effects = tt; shadows = tt; defaults = script.web }))

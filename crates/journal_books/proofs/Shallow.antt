@@ -10,11 +10,11 @@ use Rattle.script_value.specs.declared.outcome.Op.{Op}
 use Rattle.script_value.specs.declared.outcome.Op.TheVariants as op
 use Rattle.script_value.specs.declared.outcome.Fault.{Fault}
 use Rattle.script_value.specs.declared.outcome.Fault.TheVariants.{WrongType, Overflow, Deep, Zero}
-use Rattle.prim_ops.specs.Numbers as numbers
-use Rattle.prim_ops.specs.Lists as lists
-use Rattle.prim_ops.specs.Texts as texts
-use Rattle.prim_ops.specs.Bindings as bindings
-use Rattle.prim_ops.specs.Table.{asks, are_equal, value_of}
+use Rattle.prim_spec.specs.Numbers as numbers
+use Rattle.prim_spec.specs.Lists as lists
+use Rattle.prim_spec.specs.Texts as texts
+use Rattle.prim_spec.specs.Bindings as bindings
+use Rattle.prim_spec.specs.Table.{asks, are_equal, value_of}
 use Rattle.journal_books.specs.Depths.{IsShallow}
 
 abbrev pub GivesShallow : Result Val Fault → Type 0

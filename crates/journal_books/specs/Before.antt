@@ -30,18 +30,18 @@ pub record Made : Type 0 where
   pub book : Book
   pub earlier : Earlier
 
--- the book as after a crash
+-- a book as after a crash, with what records told
 abbrev pub made_of : Book → Earlier → Made
 made_of b earlier = record { book = reopened b; earlier = earlier }
 
 abbrev pub nothing_made : Rules → List Named → (shelf : ℕ) → Made
 nothing_made rules scripts shelf = record { book = empty_book rules scripts shelf; earlier = nothing_told }
 
--- without the states
+-- the book that records made, and the numbers that they told, without the states
 abbrev pub plain : Made → recovery.Made
 plain m = record { book = m.book; seen = m.earlier.seen }
 
--- the links of a page that answers this one: it has all pages of this one's chain behind it
+-- the links of a page that answers this one: its ancestors are the pages of this one's chain
 abbrev pub links_behind : Place → ℕ
 links_behind at = links_at (length (chain at.instance.pages at.page))
 
@@ -53,6 +53,6 @@ before_by state b (extends x) = do
   behind_at (links_behind at) (state at)
 before_by state b _ = None
 
--- as records told it
+-- the state that a record's page is written behind, as records told it earlier
 abbrev pub before_told : Earlier → Book → Change → Option Suspended
 before_told earlier b c = before_by (λ at. state_at at.page.number earlier.states) b c

@@ -3,20 +3,21 @@ use Rattle.std.specs.Prelude.{◌≤◌, List, [], ◌∷◌, ⊤}
 use Rattle.std.specs.List.{AllByRecursion}
 use Rattle.script_value.specs.Val.{Val, depth}
 use Rattle.instance_cells.specs.Cells.{Effect, read, set, add}
-use Rattle.script_nodes.specs.Core.{Core, Cores, lit, var, bind, seq, branch, and_all, or_any, repeat, prim, send, finish, back, isolate, cell_ref, cell_shadow, inst_ref, inst_set, inst_add, no_cores, core}
-use Rattle.script_nodes.specs.Setup.{Script}
+use Rattle.script_nodes.specs.Core.{Core, Cores, lit, var, bind, seq, branch, and_all, or_any, repeat, prim, call, send, finish, back, isolate, cell_ref, cell_shadow, inst_ref, inst_set, inst_add, no_cores, core}
+use Rattle.script_nodes.specs.Setup.{Script, trees_of}
 use Rattle.value_bytes.specs.Spelling.{most_levels}
 use Rattle.replay_spec.specs.Tape.{Reads, recorded, present, Answer, Tape}
 use Rattle.replay_spec.specs.Eval.{run}
 
--- a value nests no deeper than one may that is written; so do all of these
+-- a value is shallow: it nests no deeper than one may that is written
 abbrev pub IsShallow : Val → Type 0
 IsShallow v = depth v ≤ most_levels
 
+-- all of these values are shallow
 abbrev pub AreShallow : List Val → Type 0
 AreShallow vs = AllByRecursion IsShallow vs
 
--- the literals of an expression do
+-- the literals of an expression are shallow
 abbrev mutual
   pub HasShallow : Core → Type 0
   HasShallow (lit v) = IsShallow v
@@ -25,6 +26,7 @@ abbrev mutual
   HasShallow (branch t a b) = HasShallow t × HasShallow a × HasShallow b
   HasShallow (repeat n b) = HasShallow n × HasShallow b
   HasShallow (prim o es) = HaveShallow es
+  HasShallow (call k es) = HaveShallow es
   HasShallow (seq es) = HaveShallow es
   HasShallow (and_all es) = HaveShallow es
   HasShallow (or_any es) = HaveShallow es
@@ -42,21 +44,22 @@ abbrev mutual
   HaveShallow no_cores = ⊤
   HaveShallow (core c cs) = HasShallow c × HaveShallow cs
 
--- so do a script's web cells and its literals
+-- a script's web cells and the literals of its trees are shallow
 pub record IsShallowScript (s : Script) : Type 0 where
   pub web : AreShallow s.web
-  pub body : HasShallow s.body
+  pub trees : HaveShallow (trees_of s)
 
--- what a segment reads; answers, and what the segments behind them read
+-- what a segment reads is shallow
 abbrev pub AreShallowReads : Reads → Type 0
 AreShallowReads (recorded vs) = AreShallow vs
 AreShallowReads (present cells fuel) = AreShallow cells
 
+-- answers, and what the segments after them read, are shallow
 abbrev pub AreShallowAnswers : List Answer → Type 0
 AreShallowAnswers [] = ⊤
 AreShallowAnswers (a ∷ later) = IsShallow a.value × AreShallowReads a.segment.reads × AreShallowAnswers later
 
--- what effects read and wrote
+-- the value that an effect read or set is shallow
 abbrev pub IsShallowEffect : Effect → Type 0
 IsShallowEffect (read c v) = IsShallow v
 IsShallowEffect (set c v) = IsShallow v

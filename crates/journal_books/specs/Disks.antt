@@ -18,7 +18,7 @@ RecoveriesStay {D} view =
     → MayHoldNowAndThroughout (view old) (view new) → ClosedNowAndThroughout (view old) (view new)
     → StaysThroughout scripts shelf (view old) (view new)
 
--- And the book that is made of what is read there is one of the two.
+-- The book that a recovery makes of what it reads is one of the two that the disk stood between.
 abbrev pub RecoveriesFindOne : {D : Type 0} → (D → View) → Type 0
 RecoveriesFindOne {D} view =
     (scripts : List Named) (shelf : ℕ) (disk : D) (m : Made)
@@ -40,7 +40,7 @@ QuietCallsStand {D} view =
     → Throughout scripts shelf b (if_kept s.0 b) (view old) (view new)
     × ((t : Stands scripts shelf (view new) b) × (t.0 ≡ s.0))
 
--- A settled journal that makes room for a record and then adds it stands between the book before and the one behind it, at
+-- A settled journal that makes room for a record and then adds it stands between the book before and the one after it, at
 -- each moment, whatever the answer was.
 abbrev pub AppendsStandBetween : {D : Type 0} → (D → View) → Type 0
 AppendsStandBetween {D} view =
@@ -51,7 +51,7 @@ AppendsStandBetween {D} view =
     → LeavesOnly (view_of view mid) (view_of view new) (MayHold (bodies_in view old) body)
     → Throughout scripts shelf before after (view_of view old) (view_of view new)
 
--- A call that stood between the book before and the one behind it leaves the disk standing for the book that it left, also
+-- A call that stood between the book before and the one after it leaves the disk standing for the book that it left, also
 -- where it failed, with what is in doubt as long as it was there.
 abbrev pub CallsLeaveStanding : {D : Type 0} → (D → View) → Type 0
 CallsLeaveStanding {D} view =

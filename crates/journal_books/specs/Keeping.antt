@@ -27,15 +27,16 @@ abbrev pub AreAllBytes : List (List ℕ) → Type 0
 AreAllBytes [] = ⊤
 AreAllBytes (body ∷ bodies) = AreBytes body × AreAllBytes bodies
 
--- A script can be run: it is what its nodes in pre-order mean, and they are a script. So can those of a setup, and of the setup and
--- the instances of a book.
+-- a script can be run: it is what its nodes in pre-order mean, and they are a script
 pub record IsWhole (s : Named) : Type 0 where
   pub script : IsScript (arena_of s.script)
   pub means : s.script ≡ script_of (arena_of s.script)
 
+-- each script of a setup can be run
 abbrev pub AreWhole : List Named → Type 0
 AreWhole scripts = (k : ℕ) (s : Named) → slice_get scripts k ≡ Some s → IsWhole s
 
+-- each script of the setup and of the instances of a book can be run
 pub record HasWholeScripts (b : Book) : Type 0 where
   pub setup : AreWhole b.scripts
   pub instances : (k : ℕ) (i : Instance) → instance_at k b.instances ≡ Some i → IsWhole i.script
@@ -47,7 +48,7 @@ IsTakenAs b c inside unread = (held b c [] ≡ Some []) × (instances_by b.scrip
 IsTakenAs b c inside misread = ⊥
 IsTakenAs b c inside (told d) = (held b c inside ≡ Some inside) × (inside_of d.frames ≡ inside)
 
--- where its state has these bytes, behind what records told earlier
+-- the record of a change lands as the change itself, where its state has these bytes, after what records told earlier
 abbrev pub IsTaken : Earlier → Book → Change → (state : Option (List ℕ)) → (inside : List TxName) → Type 0
 IsTaken earlier b c state inside = IsTakenAs b c inside (told_in earlier b c state)
 
@@ -56,16 +57,17 @@ abbrev pub IsTakenDoubt : Book → Option Doubt → Told → Type 0
 IsTakenDoubt b None x = ⊤
 IsTakenDoubt b (Some doubt) x = IsTakenAs b doubt.change doubt.inside x
 
--- a number that a change uses is out; and is spent with it
+-- a number that a change uses, if it uses one, is out
 abbrev pub IsOut : Book → Option ℕ → Type 0
 IsOut b None = ⊤
 IsOut b (Some n) = Contains b.out n
 
+-- a book where the number that a change uses, if it uses one, is spent
 abbrev pub without_number : Option ℕ → Book → Book
 without_number None b = b
 without_number (Some n) b = spend n b
 
--- a change lands, whose record's body is this long
+-- the book where a change has landed whose record's body is this long
 abbrev pub landed_in : (length : ℕ) → Change → (inside : List TxName) → Book → Book
 landed_in n c inside b = land (rules_for n) c inside (without_number (number_in c) b)
 
@@ -84,45 +86,49 @@ pub record Keeps (scripts : List Named) (shelf : ℕ) (bodies : List (List ℕ))
   pub makes : book_of scripts shelf bodies ≡ made (made_of b earlier)
   pub recoverable : IsRecoverable b earlier.seen
 
--- the body that a change leaves, whose new page's state has these bytes; that of a journal's first record
+-- the body of the record that a change leaves, whose new page's state has these bytes
 abbrev pub body_by : Change → (state : Option (List ℕ)) → List ℕ
 body_by c state = body_of (changes c state)
 
+-- the body of a journal's first record
 abbrev pub first_body : List Named → (shelf : ℕ) → List ℕ
 first_body scripts shelf = body_of (begin_of shelf scripts)
 
--- that of what an event landed in the book, with the state that its script leaves; and those that a run leaves
+-- the body of the record of what an event landed in the book, with the state that its script leaves; none where it landed nothing
 abbrev pub landed_bodies : Book → Option Change → List (List ℕ)
 landed_bodies b None = []
 landed_bodies b (Some c) = own_body b c ∷ []
 
+-- the bodies of the records that a run leaves, with the states that its scripts leave
 abbrev pub bodies_of : List Moment → Book → List (List ℕ)
 bodies_of [] b = []
 bodies_of (m ∷ ms) b = landed_bodies b (lands m.rules b m.event m.fate) ++ bodies_of ms (then_book m b)
 
--- a state has a spelling
+-- a state, if there is one, has a spelling
 abbrev pub IsSpelledState : Option Suspended → Type 0
 IsSpelledState None = ⊤
 IsSpelledState (Some d) = StateHasBytes d
 
--- a change can be written with the state that its script leaves; so can each of these
+-- a change can be written with the state that its script leaves
 pub record CanBeWritten (b : Book) (c : Change) : Type 0 where
   pub body : IsInGrammar (changes c (state_told b c))
   pub state : IsSpelledState (state_by b c)
 
+-- what an event lands, if it lands anything, can be written with the state that its script leaves
 abbrev pub IsSpelled : Book → Option Change → Type 0
 IsSpelled b None = ⊤
 IsSpelled b (Some c) = CanBeWritten b c
 
+-- each change that a run lands can be written with the state that its script leaves
 abbrev pub AreSpelled : List Moment → Book → Type 0
 AreSpelled [] b = ⊤
 AreSpelled (m ∷ ms) b = IsSpelled b (lands m.rules b m.event m.fate) × AreSpelled ms (then_book m b)
 
--- the change's record is measured by its body
+-- a change's record, with the state that its script leaves, is measured by its body
 abbrev pub IsMeasured : Book → Change → Type 0
 IsMeasured b c = record_length c (state_told b c) ≡ length (own_body b c)
 
--- what is told of the state in doubt is the one that its script leaves, and its record is measured so
+-- what is told of the state in doubt is the one that its script leaves, and its record is measured by its body
 abbrev pub IsOwnDoubt : Book → Option Doubt → Told → Type 0
 IsOwnDoubt b None x = ⊤
 IsOwnDoubt b (Some doubt) x = (x ≡ own_told b doubt.change) × IsMeasured b doubt.change
@@ -132,16 +138,17 @@ pub record KeepsDoubt (scripts : List Named) (shelf : ℕ) (bodies : List (List 
   pub keeps : Keeps scripts shelf bodies b
   pub doubt : IsOwnDoubt b b.down keeps.recoverable.doubted
 
--- with more bodies, which have own states and are none that is passed over
+-- the bodies with more make the book; where the first have own states so have all, and where none of them is passed over none is at all
 pub record KeepsWith (scripts : List Named) (shelf : ℕ) (bodies more : List (List ℕ)) (b : Book) : Type 0 where
   pub keeps : KeepsDoubt scripts shelf (bodies ++ more) b
   pub own : AreOwn scripts shelf bodies → AreOwn scripts shelf (bodies ++ more)
   pub landed : AreLanded scripts shelf bodies → AreLanded scripts shelf (bodies ++ more)
 
--- the change whose record may be in flight in an event, or behind it: what it lands, or what is in doubt then
+-- the change that an event landed, or what is in doubt in the book after it
 abbrev pub at_stake : Option Change → Book → Option Change
 at_stake None d = doubted d.down
 at_stake (Some c) d = Some c
 
+-- the change whose record may be in flight in an event, or after it: what it lands, or what is in doubt then
 abbrev pub stake_of : Rules → Book → (nonce : ℕ) → Event → Fate → Option Change
 stake_of rules b nonce event fate = at_stake (lands rules b event fate) (step rules b nonce event fate).1

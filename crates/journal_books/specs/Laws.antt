@@ -40,7 +40,7 @@ ImagesMakeBooks =
     → Held k image
     → MakesIn scripts shelf image before ⊎ MakesIn scripts shelf image after
 
--- Of a book records tell what is left of it after a crash: what is out on it, and which number is next, makes no difference.
+-- Records tell of a book what is left of it after a crash: what is out on it, and which number is next, makes no difference.
 abbrev pub BooksStandAlike : Type 0
 BooksStandAlike =
     (scripts : List Named) (shelf : ℕ)
@@ -52,11 +52,11 @@ BooksStandAlike =
 abbrev pub AreOver : Rules → List Named → (shelf : ℕ) → Type 0
 AreOver rules scripts shelf = rules.journal ≡ Some (journal_rules shelf scripts)
 
--- the rules measure what is in doubt as its record is
+-- the rules measure what is in doubt as a record of this length
 abbrev pub MeasuresDoubt : Rules → (length : ℕ) → Book → Type 0
 MeasuresDoubt rules n b = reopened (recovered rules kept b.down b) ≡ reopened (if_kept n b)
 
--- So what a disk that stands for a book may hold after a crash makes the book of the event crash, what is in doubt lost or
+-- What a disk that stands for a book may hold after a crash makes the book of the event crash, what is in doubt lost or
 -- kept.
 abbrev pub ACrashIsLostOrKept : Type 0
 ACrashIsLostOrKept =
@@ -81,7 +81,7 @@ BodiesMakeFittingBooks =
     → IsFitting scripts shelf bodies m
 
 -- A change that would be taken, and whose number is out, can be landed, whatever its page's state is: the body of its record makes the
--- book behind it.
+-- book after it.
 abbrev pub LandingsAreKept : Type 0
 LandingsAreKept =
     (scripts : List Named) (shelf : ℕ) (bodies : List (List ℕ)) (b : Book) (c : Change) (state : Option (List ℕ)) (inside : List TxName)
@@ -89,7 +89,8 @@ LandingsAreKept =
     → IsTaken k.earlier b c state inside → IsOut b (number_in c)
     → Keeps scripts shelf (bodies ++ body_by c state ∷ []) (landed_in (length (body_by c state)) c inside b)
 
--- So with that body in flight a disk stands between the two; and where the change stays in doubt it stands for the book.
+-- Where the body of the record of a change that can be landed is in flight, a disk stands between the book before the change and the
+-- one after it.
 abbrev pub LandingsStandBetween : Type 0
 LandingsStandBetween =
     (scripts : List Named) (shelf : ℕ) (bodies : List (List ℕ)) (b : Book) (c : Change) (state : Option (List ℕ)) (inside : List TxName)
@@ -99,7 +100,7 @@ LandingsStandBetween =
     → (l : Between scripts shelf b (landed_in (length (body_by c state)) c inside b))
     × (l.bodies ≡ bodies) × (l.more ≡ Some (body_by c state))
 
--- The body of the record that an event leaves, with the state that its script leaves, makes of the journal's book the book behind
+-- The body of the record that an event leaves, with the state that its script leaves, makes of the journal's book the book after
 -- the event, also where what was in doubt is kept at a crash; where it leaves none, the same bodies make it. The book can go on.
 -- Where the states of the journal are own ones, they go on to be; and the record is none that is passed over. What a change's page is
 -- written behind has to be an own state; a change that answers no page is written behind none.
@@ -112,8 +113,8 @@ EventsAreKept =
     → IsSpelled b (lands rules b event fate)
     → KeepsWith scripts shelf bodies (landed_bodies b (lands rules b event fate)) (step rules b nonce event fate).1
 
--- So with that body in flight a disk stands between the book before the event and the book behind it, where what is in doubt
--- then is kept, which the rules measure as its body is long.
+-- Where the body of the record that an event leaves is in flight, a disk stands between the book before the event and the book after
+-- it with what is in doubt then kept, which the rules measure as its body is long.
 abbrev pub EventsStandBetween : Type 0
 EventsStandBetween =
     (scripts : List Named) (shelf : ℕ) (bodies : List (List ℕ)) (rules : Rules) (b : Book) (nonce : ℕ) (event : Event)
@@ -133,7 +134,7 @@ OwnStatesAreTold =
     (scripts : List Named) (shelf : ℕ) (bodies : List (List ℕ)) (m : Made) → book_of scripts shelf bodies ≡ made m
     → AreOwn scripts shelf bodies → HasOwnStates m.earlier m.book
 
--- The bodies that a run leaves behind those of a journal with own states make the run's last book, over crashes and under rules that
+-- The bodies that a run adds to those of a journal with own states make the run's last book, over crashes and under rules that
 -- change.
 abbrev pub RunsAreKept : Type 0
 RunsAreKept =

@@ -11,7 +11,7 @@ use Rattle.replay_spec.specs.Rules.{Journal}
 use Rattle.replay_spec.specs.Admission.{◌>>=◌, Place}
 use Rattle.replay_spec.specs.Next.{Home, home, past, answered, tape_for}
 use Rattle.replay_spec.specs.Recovery.{page_of_numbers, opening_visit, extension_visit}
-use Rattle.machine_spec.specs.Machine.{Frame, in_binding, in_operand, in_turn, Suspended}
+use Rattle.machine_spec.specs.Machine.{Frame, in_binding, in_operand, in_turn, in_call, in_task, Suspended}
 use Rattle.machine_spec.specs.Laws.{started, Stops}
 use Rattle.machine_spec.proofs.Halting.{stop_over}
 use Rattle.frame_codec.specs.Forms.{form_bytes}
@@ -20,11 +20,12 @@ use Rattle.journal_records.specs.Records.{changes, body_of, record_length, begun
 use Rattle.journal_books.specs.Before.{before_by}
 use Rattle.journal_books.specs.Retaking.{arena_of, Told, unread, told}
 
--- what is kept where a page waits for an answer
+-- the state that is kept where a page waits for an answer; none elsewhere
 abbrev pub kept_at : Outcome → Suspended → Option Suspended
 kept_at (paged (shows kind) bytes) d = Some d
 kept_at _ d = None
 
+-- the state that is kept where a script's run stops with a page that waits for an answer; none elsewhere
 abbrev pub kept_by : {a : Arena} {t : Tape} → Stops a (started a t) → Option Suspended
 kept_by s = kept_at s.outcome s.kept
 
@@ -47,7 +48,7 @@ abbrev pub chain_tape : Home → List Page → Option Tape
 chain_tape h [] = None
 chain_tape h (p ∷ ps) = Some (record { first = past h p; later = map (answered h) ps })
 
--- the state that its script left at a page
+-- the state that a page's script left there
 abbrev pub own_state : (shelf : ℕ) → Place → Option Suspended
 own_state shelf at = do
   t ← chain_tape (home at.instance.script shelf at.instance.number) (chain at.instance.pages at.page)
@@ -57,30 +58,34 @@ own_state shelf at = do
 abbrev pub own_before : Book → Change → Option Suspended
 own_before b c = before_by (own_state b.shelf) b c
 
--- whether the values of a state nest no deeper than one may that is written
+-- whether the values of a frame nest no deeper than one may that is written
 abbrev pub is_shallow_frame : Frame → Bool
 is_shallow_frame (in_binding n done) = list_all is_shallow done
 is_shallow_frame (in_operand n done) = list_all is_shallow done
 is_shallow_frame (in_turn n turns done) = list_all is_shallow done
+is_shallow_frame (in_call n done) = list_all is_shallow done
+is_shallow_frame (in_task n k outer) = list_all is_shallow outer
 is_shallow_frame _ = true
 
+-- whether the values of a state nest no deeper than one may that is written
 abbrev pub is_shallow_state : Suspended → Bool
 is_shallow_state d =
     list_all is_shallow d.env && (list_all is_shallow_frame d.frames && list_all (λ (s : ℕ × Val). is_shallow s.1) d.shadows)
 
--- its bytes behind another one; where a value nests deeper, a record can't tell it
+-- the bytes of a state behind another one; none where a value nests too deep for a record to tell it
 abbrev pub told_bytes : (before : Option Suspended) → Suspended → Option (List ℕ)
 told_bytes before d = if is_shallow_state d then Some (form_bytes before d) else None
 
+-- the bytes of the state of the page that a change shows; none where a record can't tell it
 abbrev pub state_told : Book → Change → Option (List ℕ)
 state_told b c = state_by b c >>= told_bytes (own_before b c)
 
--- what is told of a page whose state is this
+-- what is told of a page that has this state, or none
 abbrev pub told_own : Option Suspended → Told
 told_own None = unread
 told_own (Some d) = told d
 
--- and of the change's page, where it is told the state that its script leaves
+-- what is told of a change's page, where that is the state that its script leaves
 abbrev pub own_told : Book → Change → Told
 own_told b c = told_own (state_by b c)
 

@@ -14,8 +14,8 @@ use Rattle.journal_books.specs.Retaking.{Told, unread, misread, told, told_in, l
 use Rattle.journal_books.specs.Lengths.{journal_rules}
 use Rattle.journal_records.specs.Reading.{read_record}
 
--- There is no record; or they make a book, as after a crash, of a shelf of these scripts; or what stands at this place is no
--- record that a shelf writes there; or the journal is of another shelf, or of other scripts.
+-- What records make: nothing, where there are none; a book, as after a crash, of a shelf of these scripts; damage, where at this
+-- place stands no record that a shelf writes there; or the journal is of another shelf, or of other scripts.
 pub data Making : Type 0 where
   nothing : Making
   made : Made → Making
@@ -38,32 +38,34 @@ abbrev pub has_script : (count : ℕ) → Change → Bool
 has_script count (opens o) = nat_lt o.script count
 has_script count _ = true
 
--- the first record, whose gate is at this place, and a later one
+-- what the first record makes, whose gate is at this place
 abbrev pub first_by : List Named → (shelf place : ℕ) → Option Record → Making
 first_by scripts shelf place None = damaged place
 first_by scripts shelf place (Some (changes c state)) = damaged place
 first_by scripts shelf place (Some (begins s named)) =
     if s == shelf && are_told named scripts then made (nothing_made (rules_over scripts shelf) scripts shelf) else other place
 
--- a record of this length, whose page's state is told so
+-- what a later record of this length makes, whose page's state is told so
 abbrev pub told_next : (place length : ℕ) → Made → Change → Told → Making
 told_next place n m c unread = made (retaken n c (landing m c []) unread m)
 told_next place n m c misread = damaged place
 told_next place n m c (told d) = made (retaken n c (landing m c (inside_of d.frames)) (told d) m)
 
+-- what a later record of this length makes, whose gate is at this place
 abbrev pub next_by : List Named → (place length : ℕ) → Made → Option Record → Making
 next_by scripts place n m None = damaged place
 next_by scripts place n m (Some (begins s named)) = damaged place
 next_by scripts place n m (Some (changes c state)) =
     if has_script (length scripts) c then told_next place n m c (told_in m.earlier m.book c state) else damaged place
 
--- with one body more, behind the gate at this place
+-- what records make with one body more, behind the gate at this place
 abbrev pub with_body : List Named → (shelf place : ℕ) → List ℕ → Making → Making
 with_body scripts shelf place body nothing = first_by scripts shelf place (read_record body)
 with_body scripts shelf place body (made m) = next_by scripts place (length body) m (read_record body)
 with_body scripts shelf place body (damaged p) = damaged p
 with_body scripts shelf place body (other p) = other p
 
+-- what records make with these bodies more, the first behind the gate at this place
 abbrev pub with_bodies : List Named → (shelf place : ℕ) → List (List ℕ) → Making → Making
 with_bodies scripts shelf place [] m = m
 with_bodies scripts shelf place (body ∷ bodies) m =
@@ -73,11 +75,12 @@ with_bodies scripts shelf place (body ∷ bodies) m =
 abbrev pub book_of : List Named → (shelf : ℕ) → List (List ℕ) → Making
 book_of scripts shelf bodies = with_bodies scripts shelf 8 bodies nothing
 
--- and what its bytes make
+-- what the records that a journal holds make
 abbrev pub by_log : List Named → (shelf : ℕ) → Log → Making
 by_log scripts shelf (journal.Damaged place) = damaged place
 by_log scripts shelf (journal.Intact bodies) = book_of scripts shelf bodies
 
+-- what the bytes of a journal make; nothing where there are none
 abbrev pub book_in_bytes : List Named → (shelf : ℕ) → List ℕ → Making
 book_in_bytes scripts shelf [] = nothing
 book_in_bytes scripts shelf (b ∷ bytes) = by_log scripts shelf (records (b ∷ bytes))

@@ -20,18 +20,21 @@ abbrev pub IsOwnState : Book → Change → Told → Type 0
 IsOwnState b c (told d) = state_by b c ≡ Some d
 IsOwnState b c _ = ⊤
 
+-- the state that a record tells of its page, on what the records before it make, is the one that its script leaves
 abbrev pub IsOwnRecord : Made → Option Record → Type 0
 IsOwnRecord m (Some (changes c state)) = IsOwnState m.book c (told_in m.earlier m.book c state)
 IsOwnRecord m _ = ⊤
 
+-- the state that each of these records tells of its page is the one that its script leaves
 abbrev pub AreOwn : List Named → (shelf : ℕ) → List (List ℕ) → Type 0
 AreOwn scripts shelf bodies = OfEach IsOwnRecord scripts shelf bodies
 
--- the record of a change is none that is passed over; so is each of these
+-- the record of a change, on what the records before it make, is none that is passed over
 abbrev pub IsLandedRecord : Made → Option Record → Type 0
 IsLandedRecord m (Some (changes c state)) = IsLanded m c (told_in m.earlier m.book c state)
 IsLandedRecord m _ = ⊤
 
+-- each record of these bodies that tells of a change is none that is passed over
 abbrev pub AreLanded : List Named → (shelf : ℕ) → List (List ℕ) → Type 0
 AreLanded scripts shelf bodies = OfEach IsLandedRecord scripts shelf bodies
 
@@ -41,7 +44,7 @@ HasOwnStates earlier b =
     (k n : ℕ) (i : Instance) (p : Page) → instance_at k b.instances ≡ Some i → page_at n i.pages ≡ Some p
     → state_at n earlier.states ≡ own_state b.shelf (record { instance = i; page = p })
 
--- so is the one that a change's page is written behind
+-- the state that a change's page is written behind, as records told it, is the one that the script left there
 abbrev pub IsOwnBefore : Earlier → Book → Option Change → Type 0
 IsOwnBefore earlier b None = ⊤
 IsOwnBefore earlier b (Some c) = before_told earlier b c ≡ own_before b c

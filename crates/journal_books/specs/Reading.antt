@@ -7,12 +7,12 @@ use Rattle.value_bytes.specs.Laws.{AreBytes}
 use Rattle.journal_books.specs.Making.{Making, nothing, with_body, book_of}
 use Rattle.journal_books.specs.Keeping.{AreAllBytes}
 
--- it is this, if there was memory
+-- what was made is this, if there was memory
 abbrev pub IsIf : Option Making → Making → Type 0
 IsIf None m = ⊤
 IsIf (Some l) m = l ≡ m
 
--- One body more, behind the gate at this place. Once there was no memory, nothing is told.
+-- A reader takes one body more, behind the gate at this place. Once there was no memory, nothing is told.
 abbrev pub IsTakenAs : List Named → (shelf place : ℕ) → List ℕ → Option Making → Option Making → Type 0
 IsTakenAs scripts shelf place body None new = new ≡ None
 IsTakenAs scripts shelf place body (Some m) new = IsIf new (with_body scripts shelf place body m)
@@ -26,7 +26,7 @@ pub record IsTaken {R : Type 0} (making : View R) (scripts : List Named) (shelf 
   pub bytes : AreBytes body
   pub taken : IsTakenAs scripts shelf place body (making (place + 1) old) (making (place + 5 + length body + 1) new)
 
--- A taker that takes records so, and had made nothing at first, has made what all of them make; and these are bytes.
+-- A taker that takes records as a reader does, and had made nothing at first, has made what all of them make; their bodies are bytes.
 abbrev pub ReadersMakeTheBook : {R : Type 0} → (R → ℕ → List ℕ → R → Type 0) → Type 0
 ReadersMakeTheBook {R} takes =
     (making : View R) (scripts : List Named) (shelf : ℕ)

@@ -4,6 +4,7 @@ use Rattle.script_value.specs.Val.{Val}
 use Rattle.script_value.specs.declared.outcome.TxName.{TxName}
 use Rattle.instance_cells.specs.Cells.{Effect}
 use Rattle.script_nodes.specs.Arena.{Arena}
+pub use Rattle.script_nodes.specs.Arena.{arena_of}
 use Rattle.script_nodes.specs.Layout.{layout}
 use Rattle.script_nodes.specs.Setup.{Script, Named}
 use Rattle.replay_spec.specs.Book.{Change, opens, extends, ends, finishes, sweeps, Book, reopened}
@@ -14,10 +15,6 @@ use Rattle.machine_spec.specs.Machine.{Suspended, inside_of}
 use Rattle.frame_codec.specs.Forms.{read_form}
 use Rattle.server_limits.specs.Limits.{most_fuel}
 use Rattle.journal_books.specs.Before.{States, Earlier, Made, before_told}
-
--- a script as its nodes in pre-order
-abbrev pub arena_of : Script → Arena
-arena_of s = record { nodes = layout 0 s.body; web = s.web; cells = s.cells }
 
 -- the script of the page that a record tells of: of a start's place, or of the instance whose page was answered; none where there
 -- is none, or where no page is shown
@@ -37,17 +34,17 @@ abbrev pub told_as : Option Suspended → Told
 told_as None = misread
 told_as (Some d) = told d
 
--- of the state of a page of this script, which is written behind that one, by these bytes
+-- what these bytes tell of the state of a page of this script, which is written behind that state
 abbrev pub told_by : (before : Option Suspended) → Option Named → Option (List ℕ) → Told
 told_by before None state = unread
 told_by before (Some s) None = misread
 told_by before (Some s) (Some bytes) = told_as (read_form (arena_of s.script) before bytes)
 
--- of the state of a record's page, where records told this earlier
+-- what a record tells of the state of its page, where records told this earlier
 abbrev pub told_in : Earlier → Book → Change → Option (List ℕ) → Told
 told_in earlier b c state = told_by (before_told earlier b c) (script_for b c) state
 
--- the effects are on cells and hold over them
+-- these names, where the effects are on the cells and hold over them; else none
 abbrev pub if_held : List Effect → (cells : List Val) → List TxName → Option (List TxName)
 if_held effects cells inside = when (are_on (length cells) effects && hold_over effects cells) inside
 
@@ -82,23 +79,24 @@ IsLanded m c (told d) = landing m c (inside_of d.frames) ≡ Some (inside_of d.f
 abbrev pub rules_for : (length : ℕ) → Rules
 rules_for n = record { fuel = most_fuel; life = 0; instances = 0; pages = 0; journal = Some (record { begun = 0; length_of = λ b c. n }) }
 
--- the state of a page that was shown is told from then on
+-- the states that records told, with that of a page that was shown
 abbrev pub with_state : Option ℕ → Told → States → States
 with_state (Some n) (told d) ss = (n, d) ∷ ss
 with_state _ _ ss = ss
 
--- what is told with one record more, which lands with these names or is passed over, where this is told of its page's state
+-- the states that are told with one record more, which lands with these names or is passed over, where this is told of its page's state
 abbrev pub states_with : Option (List TxName) → Option ℕ → Told → States → States
 states_with None number x ss = ss
 states_with (Some names) number x ss = with_state number x ss
 
+-- what is told with one record more, which lands with these names or is passed over, where this is told of its page's state
 abbrev pub then_told : Change → Option (List TxName) → Told → Earlier → Earlier
 then_told c names x earlier = record {
   seen = with_number (number_in c) earlier.seen;
   states = states_with names (number_in c) x earlier.states;
 }
 
--- what one record more makes, of this length
+-- what records make with one more of this length, which lands with these names or is passed over
 abbrev pub retaken : (length : ℕ) → Change → Option (List TxName) → Told → Made → Made
 retaken n c names x m =
     record { book = reopened (redone (rules_for n) c names m.book); earlier = then_told c names x m.earlier }

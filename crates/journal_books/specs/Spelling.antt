@@ -9,11 +9,12 @@ use Rattle.server_limits.specs.Limits.{most_life}
 use Rattle.journal_records.specs.Fields.{numbers_end}
 pub use Rattle.journal_records.specs.Records.{PartsFit}
 
--- a tick that is in doubt is such as records tell
+-- the tick of a change, if it has one, is such as records tell
 abbrev pub IsTickInRange : Change → Type 0
 IsTickInRange (sweeps tick) = tick < numbers_end
 IsTickInRange _ = ⊤
 
+-- a tick that is in doubt is such as records tell
 abbrev pub IsDoubtInRange : Option Doubt → Type 0
 IsDoubtInRange None = ⊤
 IsDoubtInRange (Some doubt) = IsTickInRange doubt.change
@@ -29,7 +30,7 @@ pub record AreLimits (rules : Rules) (scripts : List Named) : Type 0 where
   pub life : rules.life ≤ most_life
   pub few : length scripts ≤ 256
 
--- an event's tick is such
+-- an event's tick is such as records tell
 abbrev pub GivesTick : Event → Type 0
 GivesTick (sweep tick) = tick < numbers_end
 GivesTick _ = ⊤

@@ -10,14 +10,15 @@ use Rattle.journal_books.specs.Before.{Earlier, made_of}
 use Rattle.journal_books.specs.Retaking.{rules_for}
 use Rattle.journal_books.specs.Making.{Making, made, book_of, book_in_bytes}
 
--- it is this book, as after a crash, whatever numbers and states the records told
+-- what records make is this book, as after a crash, whatever numbers and states they told
 abbrev pub IsBook : Making → Book → Type 0
 IsBook making b = (earlier : Earlier) × (making ≡ made (made_of b earlier))
 
--- these bodies make the book; so do the bytes of a disk
+-- these bodies make the book
 abbrev pub Makes : List Named → (shelf : ℕ) → List (List ℕ) → Book → Type 0
 Makes scripts shelf bodies b = IsBook (book_of scripts shelf bodies) b
 
+-- these bytes of a disk make the book
 abbrev pub MakesIn : List Named → (shelf : ℕ) → List ℕ → Book → Type 0
 MakesIn scripts shelf bytes b = IsBook (book_in_bytes scripts shelf bytes) b
 
@@ -38,16 +39,17 @@ pub record Between (scripts : List Named) (shelf : ℕ) (before after : Book) : 
   pub first : Makes scripts shelf bodies before
   pub second : Makes scripts shelf (bodies ++ flight more) after
 
--- bytes that hold these bodies, whatever becomes of them in a recovery that crashes, too
+-- bytes may hold these bodies, with the one in flight, if there is one, or without it
 abbrev pub Hold : List (List ℕ) → Option (List ℕ) → List ℕ → Type 0
 Hold bodies None bytes = IsClosed bodies bytes
 Hold bodies (Some body) bytes = MayHold bodies body bytes
 
+-- bytes may hold what makes one of two books
 abbrev pub Held : {scripts : List Named} {shelf : ℕ} {before after : Book} → Between scripts shelf before after
     → List ℕ → Type 0
 Held k bytes = Hold k.bodies k.more bytes
 
--- each of these images does
+-- each of these images may hold what makes one of two books
 abbrev pub HoldIn : {scripts : List Named} {shelf : ℕ} {before after : Book} → Between scripts shelf before after
     → (List ℕ → Type 0) → Type 0
 HoldIn k images = (image : List ℕ) → images image → Held k image
@@ -68,17 +70,18 @@ Stands scripts shelf view b = (n : ℕ) × ((k : Between scripts shelf b (if_kep
 abbrev pub Throughout : List Named → (shelf : ℕ) → (before after : Book) → View → View → Type 0
 Throughout scripts shelf before after old new = (k : Between scripts shelf before after) × LeavesOnly old new (Held k)
 
--- the same, where these bodies stood there at first: what is private to a shelf says this, so that calls can be joined
+-- a crash at any moment of a call leaves what makes the one book or the other, of these bodies and one in flight; what is private to
+-- a shelf says this, so that calls can be joined
 abbrev pub ThroughoutFrom : List (List ℕ) → List Named → (shelf : ℕ) → (before after : Book) → View → View → Type 0
 ThroughoutFrom bodies scripts shelf before after old new =
     (k : Between scripts shelf before after) × (k.bodies ≡ bodies) × LeavesOnly old new (Held k)
 
--- of a recovery: whatever two books the disk stood between, a crash at any moment leaves it there
+-- whatever two books the disk stood between, a crash at any moment of a recovery leaves it there
 abbrev pub StaysThroughout : List Named → (shelf : ℕ) → View → View → Type 0
 StaysThroughout scripts shelf old new =
     (before after : Book) (k : Between scripts shelf before after) → HoldIn k old.images → LeavesOnly old new (Held k)
 
--- and what is found there is one of the two
+-- whatever two books the disk stood between, the book that is found there is one of the two, as after a crash
 abbrev pub IsOneOf : List Named → (shelf : ℕ) → View → Book → Type 0
 IsOneOf scripts shelf old b =
     (before after : Book) (k : Between scripts shelf before after) → HoldIn k old.images

@@ -2,7 +2,7 @@
 use Rattle.std.specs.Prelude.{◌≡◌, ℕ, ◌+◌, ◌-◌, ◌^◌, List, [], ◌∷◌, ◌++◌, length, Some, None, codes, refl}
 use Rattle.script_value.specs.Val.{text, symbol, list, vals_of, no_vals}
 use Rattle.script_nodes.specs.declared.script.SendKind.TheVariants.{Suspend}
-use Rattle.script_nodes.specs.Core.{lit, send}
+use Rattle.script_nodes.specs.Core.{lit, send, no_cores}
 use Rattle.script_nodes.specs.Setup.{Named}
 use Rattle.page_journal.specs.Records.{header, frames, at_rest}
 use Rattle.replay_spec.specs.Book.{Page, Change, Book, opens, extends, ends, sweeps}
@@ -21,7 +21,7 @@ abbrev ten : Named
 ten = record {
   name = codes "ten";
   text = codes "'(p \"12345\")";
-  script = record { web = []; cells = []; body = lit (list (vals_of (symbol (codes "p") ∷ text (codes "12345") ∷ []))) };
+  script = record { web = []; cells = []; tasks = no_cores; body = lit (list (vals_of (symbol (codes "p") ∷ text (codes "12345") ∷ []))) };
 }
 
 -- a script that shows a page and waits
@@ -29,7 +29,7 @@ abbrev waiting : Named
 waiting = record {
   name = codes "waiting";
   text = codes "(send/suspend (lambda (k) \"go\"))";
-  script = record { web = []; cells = []; body = send Suspend (lit (text (codes "go"))) };
+  script = record { web = []; cells = []; tasks = no_cores; body = send Suspend (lit (text (codes "go"))) };
 }
 
 abbrev begin_ten : List ℕ
@@ -90,7 +90,7 @@ one_more = refl
 abbrev opening : (number script : ℕ) → Change
 opening n k = opens (record { number = n; nonce = 5; script = k; effects = []; left = []; kind = Suspend; deadline = 3600 })
 
--- the state of that page: no variable, no frame and no binding
+-- the state of a page with no variable, no frame and no binding
 abbrev bare : Suspended
 bare = record { env = []; frames = []; shadows = [] }
 
@@ -100,10 +100,11 @@ bare_bytes = 0 ∷ 0 ∷ 0 ∷ 0 ∷ 0 ∷ 0 ∷ 0 ∷ 0 ∷ 0 ∷ 0 ∷ 0 ∷ 0
 bare_is_spelled : state_bytes bare ≡ bare_bytes
 bare_is_spelled = refl
 
--- by itself, and behind the same
+-- the bare state, written by itself
 abbrev flat : List ℕ
 flat = 0 ∷ bare_bytes
 
+-- the bare state, written behind the same state
 abbrev as_before : List ℕ
 as_before = 1 ∷ 0 ∷ 0 ∷ 0 ∷ 0 ∷ 0 ∷ 0 ∷ 0 ∷ 0 ∷ 0 ∷ 0 ∷ 0 ∷ 0 ∷ 0 ∷ 0 ∷ 0 ∷ 0 ∷ 0 ∷ 0 ∷ 0 ∷ 0 ∷ []
 
@@ -171,13 +172,13 @@ no_state_is_read :
 unfolding read_record read_within
 no_state_is_read = refl
 
--- one to the page that stands there has to have a state of its script
+-- an answer to a page that stands has to have a state of its script
 no_state_of_a_page :
     book_of (waiting ∷ []) 3 (begin_waiting ∷ start_body 0 0 flat ∷ body_by (lost_answer 0 0) (Some (9 ∷ [])) ∷ []) ≡ damaged 132
 unfolding read_record read_within
 no_state_of_a_page = refl
 
--- it is written behind that page's, and not by itself
+-- the state of an answer's page is written behind that of the page before, and not by itself
 abbrev second : Page
 second = record { number = 1; nonce = 6; parent = Some 0; answer = list no_vals; reads = []; inside = []; deadline = 3600 }
 
@@ -199,7 +200,7 @@ not_by_itself :
 unfolding read_record read_within
 not_by_itself = refl
 
--- a start's is written by itself
+-- the state of a start's page is written by itself
 not_behind : book_of (waiting ∷ []) 3 (begin_waiting ∷ start_body 0 0 as_before ∷ []) ≡ damaged 69
 unfolding read_record read_within
 not_behind = refl

@@ -1,4 +1,4 @@
-//! What the records of a journal make of a shelf, what a disk stands for, and laws of both.
+//! What records make of a shelf, and what a crash leaves of both, without code: for recovery and the shelf.
 #![tactic(auto)]
 
 ghost use Rattle.std.specs.Prelude.{IsTrue};

@@ -24,7 +24,7 @@ pub record FitsScript (a : Arena) (d : Suspended) : Type 0 where
 abbrev pub GivesAlone : Arena → Need → Form → Option stored.Suspended → Type 0
 GivesAlone a n f o = (d : Suspended) → FitsScript a d → IsAlone d f → option_map suspended_of o ≡ Some (front n d)
 
--- it is the front, or makes it of the front of the parent's state that is shared
+-- what is found is the front of a state, or makes it of the front of the parent's state that is shared
 abbrev pub Makes : Need → (parent d : Suspended) → Option Found → Type 0
 Makes n p d None = ⊥
 Makes n p d (Some (found.Front e)) = suspended_of e ≡ front n d

@@ -15,17 +15,17 @@ use Rattle.kept_states.specs.declared.form.Form as declared
 use Rattle.kept_states.specs.declared.form.Form.TheVariants.{Spelled, Whole}
 use Rattle.kept_states.specs.declared.state.KeptState.{KeptState}
 
--- bytes, in parts of which each can be read without the others, or the state itself
+-- how a state is kept: as bytes, in parts of which each can be read without the others, or as the state itself
 pub data Form : Type 0 where
   spelled : Parted → Form
   whole : Suspended → Form
 
--- the bytes, where it is kept so
+-- the bytes of a state that is kept as bytes
 abbrev pub bytes_of : Form → Option (List ℕ)
 bytes_of (spelled parts) = Some (whole_of parts)
 bytes_of (whole d) = None
 
--- the links to a page whose state is kept by itself, and how it is kept
+-- what is kept of a page's state: its links to a page whose state is kept by itself, and its form
 pub record Kept : Type 0 where
   pub links : ℕ
   pub form : Form
@@ -35,7 +35,7 @@ abbrev pub IsAlone : Suspended → Form → Type 0
 IsAlone d (spelled parts) = StateHasBytes d × (parts ≡ state_parts d)
 IsAlone d (whole e) = ¬ StateHasBytes d × (e ≡ d)
 
--- the state has a spelling, and binds what its parent binds
+-- a state can be kept as what differs from its parent's: it has a spelling, and binds what its parent binds
 abbrev pub CanDiffer : (parent d : Suspended) → Type 0
 CanDiffer p d = StateHasBytes d × BindsAllOf p.shadows d.shadows
 
@@ -50,12 +50,12 @@ IsKeptBy None links d f = IsAlone d f
 IsKeptBy (Some p) zero d f = IsAlone d f
 IsKeptBy (Some p) (suc n) d f = IsBehind p d f
 
--- so is the state of a page that is so many links from one that is kept by itself
+-- what is kept of the state of a page that is so many links from one kept by itself: these links, and the form for them
 pub record IsKeptFrom (parent : Option Suspended) (links : ℕ) (d : Suspended) (k : Kept) : Type 0 where
   pub links_are : k.links ≡ links
   pub form : IsKeptBy parent links d k.form
 
--- as the program keeps them
+-- what a form of the program stands for
 abbrev pub form_of : declared.Form → Form
 form_of (Spelled parts) = spelled (parted_of parts)
 form_of (Whole d) = whole (suspended_of d)
@@ -63,14 +63,15 @@ form_of (Whole d) = whole (suspended_of d)
 abbrev pub kept_of : KeptState → Kept
 kept_of k = record { links = k.links; form = form_of k.form }
 
--- so it is kept behind an origin, which a start has none of
+-- what the program keeps of the state of a page that is so many links from one kept by itself, by the origin of its segment
 abbrev pub IsKeptAfter : Origin → (links : ℕ) → Suspended → KeptState → Type 0
 IsKeptAfter before links d k = IsKeptFrom (origin_of before) links d (kept_of k)
 
--- by itself, and behind a state, as the program keeps them
+-- this form of the program keeps the state by itself
 abbrev pub IsFormAlone : stored.Suspended → declared.Form → Type 0
 IsFormAlone d form = IsAlone (suspended_of d) (form_of form)
 
+-- this form of the program keeps the state as what differs from its parent's, where it can be
 abbrev pub IsFormBehind : (parent d : stored.Suspended) → declared.Form → Type 0
 IsFormBehind p d form = IsBehind (suspended_of p) (suspended_of d) (form_of form)
 

@@ -1,4 +1,4 @@
-//! The states of pages as a book keeps them: as bytes, most of them as what differs from the state of the page before.
+//! The states of pages as a book keeps them, most as a delta from the page before: for the book.
 #![tactic(auto)]
 
 ghost use Rattle.kept_states.specs.Kept.{KeptAreWritten};

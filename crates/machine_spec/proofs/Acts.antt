@@ -7,15 +7,15 @@ use Rattle.script_value.specs.declared.outcome.Op.{Op}
 use Rattle.script_value.specs.declared.outcome.Fault.{Fault}
 use Rattle.script_value.specs.declared.outcome.Fault.TheVariants.{WrongType}
 use Rattle.script_value.specs.declared.outcome.TxName.{TxName}
-use Rattle.prim_ops.specs.Table.{value_of, is_false}
-use Rattle.prim_ops.specs.Lists.{list_of}
+use Rattle.prim_spec.specs.Table.{value_of, is_false}
+use Rattle.prim_spec.specs.Lists.{list_of}
 use Rattle.script_nodes.specs.declared.script.Node.{Node}
 use Rattle.script_nodes.specs.declared.script.Node.TheVariants as node
 use Rattle.script_nodes.specs.declared.script.SendKind.{SendKind}
 use Rattle.script_nodes.specs.Arena.{Arena}
 use Rattle.replay_spec.specs.Tape.{finishes, ends, Run, ◌>>=◌, give, fail, answer, choose, charge, url, halt, send_page, named, enter, leave, lookup, shadow, read_cell, set_cell, add_cell, as_number}
 use Rattle.replay_spec.specs.Eval.{value_at, copied, is_not_false}
-use Rattle.machine_spec.specs.Machine.{Frame, in_binding, in_operand, in_body, in_seq, in_and, in_or, in_if, in_count, in_store, in_turn, in_isolate, in_page, in_finish, in_back, Point, inside_of, visits, gives, given, node_at, parts_from, bindings_from, body_at, op_at, store_by, next_binding, next_part, next_operand, next_turn, first_turn, visited, taken}
+use Rattle.machine_spec.specs.Machine.{Frame, in_binding, in_operand, in_body, in_seq, in_and, in_or, in_if, in_count, in_store, in_turn, in_isolate, in_call, in_task, in_page, in_finish, in_back, Point, inside_of, visits, gives, given, node_at, parts_from, bindings_from, body_at, op_at, first_of, task_at, store_by, next_binding, next_part, next_operand, next_argument, next_turn, first_turn, visited, taken}
 
 -- a law of actions inside transactions; `Paid`: of those that are charged
 pub record IsActLaw (P Paid : List TxName → (A : Type 0) → Run A → Type 0) : Type 1 where
@@ -80,6 +80,10 @@ module _ (P Paid : List TxName → (A : Type 0) → Run A → Type 0) (law : IsA
   operand n o [] done env fs = any_given (inside_of fs) _ env fs (answers (inside_of fs) (value_of o done))
   operand n o (p ∷ ps) done env fs = visit p _ (inside_of fs) _
 
+  argument : (n b : ℕ) (ps : List ℕ) (done env : List Val) (inside : List TxName) (fs : List Frame) → P inside Point (next_argument n b ps done env fs)
+  argument n b [] done env inside fs = visit b _ inside _
+  argument n b (p ∷ ps) done env inside fs = visit p _ inside _
+
   turn : (n times b left : ℕ) (done env : List Val) (fs : List Frame) → P (inside_of fs) Point (next_turn n times b left done env fs)
   turn n times b zero done env fs = any_given (inside_of fs) _ env fs (answers (inside_of fs) (list_of done))
   turn n times b (suc k) done env fs = visit b _ (inside_of fs) _
@@ -102,6 +106,7 @@ module _ (P Paid : List TxName → (A : Type 0) → Run A → Type 0) (law : IsA
   stores (node.Or _) inside v = law.gives inside Val v
   stores (node.For _ _) inside v = law.gives inside Val v
   stores (node.Prim _ _) inside v = law.gives inside Val v
+  stores (node.Call _ _) inside v = law.gives inside Val v
   stores (node.Send _ _) inside v = law.gives inside Val v
   stores (node.Finish _) inside v = law.gives inside Val v
   stores (node.Back _) inside v = law.gives inside Val v
@@ -109,33 +114,36 @@ module _ (P Paid : List TxName → (A : Type 0) → Run A → Type 0) (law : IsA
   stores (node.CellRef _) inside v = law.gives inside Val v
   stores (node.InstRef _) inside v = law.gives inside Val v
 
-  pub visited_paid : (n : ℕ) (x : Node) (env : List Val) (fs : List Frame) → Paid (inside_of fs) Point (visited n x env fs)
-  visited_paid n (node.Lit v) env fs = paid_given (inside_of fs) _ env fs (copies (inside_of fs) (meaning v))
-  visited_paid n (node.Var k) env fs = paid_given (inside_of fs) _ env fs (copies (inside_of fs) (value_at env k))
-  visited_paid n (node.Let ps b) env fs = paid (inside_of fs) _ (binding n ps b [] env (inside_of fs) fs)
-  visited_paid n (node.Seq ps) env fs = paid (inside_of fs) _ (part (in_seq n 0) ps (truth false) env (inside_of fs) fs)
-  visited_paid n (node.If t x y) env fs = paid (inside_of fs) _ (visit t _ (inside_of fs) _)
-  visited_paid n (node.And ps) env fs = paid (inside_of fs) _ (part (in_and n 0) ps (truth true) env (inside_of fs) fs)
-  visited_paid n (node.Or ps) env fs = paid (inside_of fs) _ (part (in_or n 0) ps (truth false) env (inside_of fs) fs)
-  visited_paid n (node.For c b) env fs = paid (inside_of fs) _ (visit c _ (inside_of fs) _)
-  visited_paid n (node.Prim o ps) env fs = paid (inside_of fs) _ (operand n o ps [] env fs)
-  visited_paid n (node.Send kind b) env fs =
+  pub visited_paid : (a : Arena) (n : ℕ) (x : Node) (env : List Val) (fs : List Frame) → Paid (inside_of fs) Point (visited a n x env fs)
+  visited_paid a n (node.Lit v) env fs = paid_given (inside_of fs) _ env fs (copies (inside_of fs) (meaning v))
+  visited_paid a n (node.Var k) env fs = paid_given (inside_of fs) _ env fs (copies (inside_of fs) (value_at env k))
+  visited_paid a n (node.Let ps b) env fs = paid (inside_of fs) _ (binding n ps b [] env (inside_of fs) fs)
+  visited_paid a n (node.Seq ps) env fs = paid (inside_of fs) _ (part (in_seq n 0) ps (truth false) env (inside_of fs) fs)
+  visited_paid a n (node.If t x y) env fs = paid (inside_of fs) _ (visit t _ (inside_of fs) _)
+  visited_paid a n (node.And ps) env fs = paid (inside_of fs) _ (part (in_and n 0) ps (truth true) env (inside_of fs) fs)
+  visited_paid a n (node.Or ps) env fs = paid (inside_of fs) _ (part (in_or n 0) ps (truth false) env (inside_of fs) fs)
+  visited_paid a n (node.For c b) env fs = paid (inside_of fs) _ (visit c _ (inside_of fs) _)
+  visited_paid a n (node.Prim o ps) env fs = paid (inside_of fs) _ (operand n o ps [] env fs)
+  visited_paid a n (node.Call k ps) env fs = paid (inside_of fs) _ (argument n (first_of a k) ps [] env (inside_of fs) fs)
+  visited_paid a n (node.Send kind b) env fs =
       paid (inside_of fs) _ (law.goes_on (inside_of fs) Val Point url (λ u. visits b (env ++ u ∷ []) (in_page n kind ∷ fs)) (law.urls (inside_of fs)) (λ u. visit b _ (inside_of fs) _))
-  visited_paid n (node.Finish b) env fs = paid (inside_of fs) _ (visit b _ (inside_of fs) _)
-  visited_paid n (node.Back b) env fs = paid (inside_of fs) _ (visit b _ (inside_of fs) _)
-  visited_paid n (node.Isolate b) env fs =
+  visited_paid a n (node.Finish b) env fs = paid (inside_of fs) _ (visit b _ (inside_of fs) _)
+  visited_paid a n (node.Back b) env fs = paid (inside_of fs) _ (visit b _ (inside_of fs) _)
+  visited_paid a n (node.Isolate b) env fs =
       law.paid_first (inside_of fs) TxName Point (enter (inside_of fs)) (λ name. visits b env (in_isolate n name ∷ fs)) (enters (inside_of fs)) (λ name. visit b _ (inside_of fs) _)
-  visited_paid n (node.CellRef c) env fs =
+  visited_paid a n (node.CellRef c) env fs =
       paid_given (inside_of fs) _ env fs (law.paid_then (inside_of fs) Val Val (lookup c) (copied (inside_of fs)) (law.looks_up (inside_of fs) c) (copies (inside_of fs)))
-  visited_paid n (node.CellShadow c e) env fs = paid (inside_of fs) _ (visit e _ (inside_of fs) _)
-  visited_paid n (node.InstRef c) env fs =
+  visited_paid a n (node.CellShadow c e) env fs = paid (inside_of fs) _ (visit e _ (inside_of fs) _)
+  visited_paid a n (node.InstRef c) env fs =
       paid_given (inside_of fs) _ env fs (law.paid_then (inside_of fs) Val Val (read_cell c) (copied (inside_of fs)) (law.reads (inside_of fs) c) (copies (inside_of fs)))
-  visited_paid n (node.InstSet c e) env fs = paid (inside_of fs) _ (visit e _ (inside_of fs) _)
-  visited_paid n (node.InstAdd c e) env fs = paid (inside_of fs) _ (visit e _ (inside_of fs) _)
+  visited_paid a n (node.InstSet c e) env fs = paid (inside_of fs) _ (visit e _ (inside_of fs) _)
+  visited_paid a n (node.InstAdd c e) env fs = paid (inside_of fs) _ (visit e _ (inside_of fs) _)
 
   pub taken_any : (a : Arena) (f : Frame) → IsPlain f → (v : Val) (env : List Val) (fs : List Frame) → P (inside_of fs) Point (taken a f v env fs)
   taken_any a (in_binding n done) h v env fs = binding n (bindings_from a n (suc (length done))) (body_at a n) (done ++ v ∷ []) env (inside_of fs) fs
   taken_any a (in_operand n done) h v env fs = operand n (op_at a n) (parts_from a n (suc (length done))) (done ++ v ∷ []) env fs
+  taken_any a (in_call n done) h v env fs = argument n (task_at a n) (parts_from a n (suc (length done))) (done ++ v ∷ []) env (inside_of fs) fs
+  taken_any a (in_task n k outer) h v env fs = law.gives (inside_of fs) Point _
   taken_any a (in_body n bound) h v env fs = law.gives (inside_of fs) Point _
   taken_any a (in_seq n k) h v env fs = part _ _ v env (inside_of fs) fs
   taken_any a (in_and n k) h v env fs = chooses (inside_of fs) (is_not_false v) _ _ (part _ _ v env (inside_of fs) fs) (law.gives (inside_of fs) Point _)
@@ -156,6 +164,8 @@ module _ (P Paid : List TxName → (A : Type 0) → Run A → Type 0) (law : IsA
   taken_all sends a (in_page n kind) v env fs = any_given (inside_of fs) _ env fs (sends (inside_of fs) kind v)
   taken_all sends a (in_binding n done) v env fs = taken_any a (in_binding n done) tt v env fs
   taken_all sends a (in_operand n done) v env fs = taken_any a (in_operand n done) tt v env fs
+  taken_all sends a (in_call n done) v env fs = taken_any a (in_call n done) tt v env fs
+  taken_all sends a (in_task n k outer) v env fs = taken_any a (in_task n k outer) tt v env fs
   taken_all sends a (in_body n bound) v env fs = taken_any a (in_body n bound) tt v env fs
   taken_all sends a (in_seq n k) v env fs = taken_any a (in_seq n k) tt v env fs
   taken_all sends a (in_and n k) v env fs = taken_any a (in_and n k) tt v env fs
@@ -173,6 +183,8 @@ pub plain_or_page : (f : Frame) → IsPlain f ⊎ ((n : ℕ) × ((kind : SendKin
 plain_or_page (in_page n kind) = inr (n, (kind, refl))
 plain_or_page (in_binding n done) = inl tt
 plain_or_page (in_operand n done) = inl tt
+plain_or_page (in_call n done) = inl tt
+plain_or_page (in_task n k outer) = inl tt
 plain_or_page (in_body n bound) = inl tt
 plain_or_page (in_seq n k) = inl tt
 plain_or_page (in_and n k) = inl tt

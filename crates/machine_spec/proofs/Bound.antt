@@ -8,15 +8,15 @@ use Rattle.instance_cells.specs.Cells.{cell_at, sum, commit}
 use Rattle.script_value.specs.declared.outcome.Op.{Op}
 use Rattle.script_value.specs.declared.outcome.Fault.{Fault}
 use Rattle.script_value.specs.declared.outcome.TxName.{TxName}
-use Rattle.prim_ops.specs.Table.{value_of, is_false}
-use Rattle.prim_ops.specs.Lists.{list_of}
+use Rattle.prim_spec.specs.Table.{value_of, is_false}
+use Rattle.prim_spec.specs.Lists.{list_of}
 use Rattle.script_nodes.specs.declared.script.Node.{Node}
 use Rattle.script_nodes.specs.declared.script.Node.TheVariants as node
 use Rattle.script_nodes.specs.declared.script.SendKind.{SendKind}
 use Rattle.script_nodes.specs.Arena.{Arena}
 use Rattle.replay_spec.specs.Tape.{send_page, Reads, recorded, present, bound, Answer, State, End, got, stop, Run, ◌>>=◌, after, choose, charged, is_over, charge, url, enter, lookup, read_cell, answer, sent, read_from, set_in, added, add_to, add_in, as_number}
 use Rattle.replay_spec.specs.Eval.{value_at, copied, is_not_false}
-use Rattle.machine_spec.specs.Machine.{Frame, in_binding, in_operand, in_body, in_seq, in_and, in_or, in_if, in_count, in_store, in_turn, in_isolate, in_page, in_finish, in_back, Control, visit, value, Point, inside_of, visits, gives, node_at, part_at, parts_from, bindings_from, body_at, op_at, store_by, next_binding, next_part, next_operand, next_turn, first_turn, visited, cut, taken, Machine, Step, goes, stopped, stepped, step_at, step, then, steps}
+use Rattle.machine_spec.specs.Machine.{Frame, in_binding, in_operand, in_body, in_seq, in_and, in_or, in_if, in_count, in_store, in_turn, in_isolate, in_call, in_task, in_page, in_finish, in_back, Control, visit, value, Point, inside_of, visits, gives, node_at, part_at, parts_from, bindings_from, body_at, op_at, first_of, task_at, store_by, next_binding, next_part, next_operand, next_argument, next_turn, first_turn, visited, cut, taken, Machine, Step, goes, stopped, stepped, step_at, step, then, steps}
 use Rattle.machine_spec.specs.Laws.{Stops}
 use Rattle.machine_spec.specs.Dues.{InSegment, owed_by, owed}
 use Rattle.machine_spec.proofs.Acts.{IsActLaw, visited_paid, taken_all}
@@ -136,6 +136,10 @@ owes_operand : (n : ℕ) (o : Op) (ps : List ℕ) (done env : List Val) (fs : Li
 owes_operand n o [] done env fs s = owes_given fs (answer (inside_of fs) (value_of o done) s) env
 owes_operand n o (p ∷ ps) done env fs s = refl
 
+owes_argument : (n b : ℕ) (ps : List ℕ) (done env : List Val) (fs : List Frame) (s : State) → Owes fs (next_argument n b ps done env fs s)
+owes_argument n b [] done env fs s = refl
+owes_argument n b (p ∷ ps) done env fs s = refl
+
 owes_turn : (n times b left : ℕ) (done env : List Val) (fs : List Frame) (s : State) → Owes fs (next_turn n times b left done env fs s)
 owes_turn n times b zero done env fs s = owes_given fs (answer (inside_of fs) (list_of done) s) env
 owes_turn n times b (suc k) done env fs s = refl
@@ -154,30 +158,33 @@ owes_visit : {A : Type 0} (fs : List Frame) (e : End A) (n : A → ℕ) (env : A
 owes_visit fs (got x s) n env f = refl
 owes_visit fs (stop o names s) n env f = tt
 
-visited_owes : (n : ℕ) (x : Node) (env : List Val) (fs : List Frame) (s : State) → Owes fs (visited n x env fs s)
-visited_owes n (node.Lit v) env fs s = owes_given fs (copied (inside_of fs) (meaning v) s) env
-visited_owes n (node.Var k) env fs s = owes_given fs (copied (inside_of fs) (value_at env k) s) env
-visited_owes n (node.Let ps b) env fs s = owes_after fs (charge (inside_of fs) 1 s) (λ _. next_binding n ps b [] env fs) (λ _ t. owes_binding n ps b [] env fs t)
-visited_owes n (node.Seq ps) env fs s = owes_after fs (charge (inside_of fs) 1 s) (λ _. next_part (in_seq n 0) ps (truth false) env fs) (λ _ t. owes_part (in_seq n 0) ps (truth false) env fs t)
-visited_owes n (node.If t x y) env fs s = owes_visit fs (charge (inside_of fs) 1 s) (λ _. t) (λ _. env) (λ _. in_if n 0)
-visited_owes n (node.And ps) env fs s = owes_after fs (charge (inside_of fs) 1 s) (λ _. next_part (in_and n 0) ps (truth true) env fs) (λ _ t. owes_part (in_and n 0) ps (truth true) env fs t)
-visited_owes n (node.Or ps) env fs s = owes_after fs (charge (inside_of fs) 1 s) (λ _. next_part (in_or n 0) ps (truth false) env fs) (λ _ t. owes_part (in_or n 0) ps (truth false) env fs t)
-visited_owes n (node.For c b) env fs s = owes_visit fs (charge (inside_of fs) 1 s) (λ _. c) (λ _. env) (λ _. in_count n)
-visited_owes n (node.Prim o ps) env fs s = owes_after fs (charge (inside_of fs) 1 s) (λ _. next_operand n o ps [] env fs) (λ _ t. owes_operand n o ps [] env fs t)
-visited_owes n (node.Send kind b) env fs s =
+visited_owes : (a : Arena) (n : ℕ) (x : Node) (env : List Val) (fs : List Frame) (s : State) → Owes fs (visited a n x env fs s)
+visited_owes a n (node.Lit v) env fs s = owes_given fs (copied (inside_of fs) (meaning v) s) env
+visited_owes a n (node.Var k) env fs s = owes_given fs (copied (inside_of fs) (value_at env k) s) env
+visited_owes a n (node.Let ps b) env fs s = owes_after fs (charge (inside_of fs) 1 s) (λ _. next_binding n ps b [] env fs) (λ _ t. owes_binding n ps b [] env fs t)
+visited_owes a n (node.Seq ps) env fs s = owes_after fs (charge (inside_of fs) 1 s) (λ _. next_part (in_seq n 0) ps (truth false) env fs) (λ _ t. owes_part (in_seq n 0) ps (truth false) env fs t)
+visited_owes a n (node.If t x y) env fs s = owes_visit fs (charge (inside_of fs) 1 s) (λ _. t) (λ _. env) (λ _. in_if n 0)
+visited_owes a n (node.And ps) env fs s = owes_after fs (charge (inside_of fs) 1 s) (λ _. next_part (in_and n 0) ps (truth true) env fs) (λ _ t. owes_part (in_and n 0) ps (truth true) env fs t)
+visited_owes a n (node.Or ps) env fs s = owes_after fs (charge (inside_of fs) 1 s) (λ _. next_part (in_or n 0) ps (truth false) env fs) (λ _ t. owes_part (in_or n 0) ps (truth false) env fs t)
+visited_owes a n (node.For c b) env fs s = owes_visit fs (charge (inside_of fs) 1 s) (λ _. c) (λ _. env) (λ _. in_count n)
+visited_owes a n (node.Prim o ps) env fs s = owes_after fs (charge (inside_of fs) 1 s) (λ _. next_operand n o ps [] env fs) (λ _ t. owes_operand n o ps [] env fs t)
+visited_owes a n (node.Call k ps) env fs s = owes_after fs (charge (inside_of fs) 1 s) (λ _. next_argument n (first_of a k) ps [] env fs) (λ _ t. owes_argument n (first_of a k) ps [] env fs t)
+visited_owes a n (node.Send kind b) env fs s =
     owes_after fs (charge (inside_of fs) 1 s) (λ _. url >>= λ u. visits b (env ++ u ∷ []) (in_page n kind ∷ fs)) (λ _ t. owes_visit fs (url t) (λ _. b) (λ u. env ++ u ∷ []) (λ _. in_page n kind))
-visited_owes n (node.Finish b) env fs s = owes_visit fs (charge (inside_of fs) 1 s) (λ _. b) (λ _. env) (λ _. in_finish n)
-visited_owes n (node.Back b) env fs s = owes_visit fs (charge (inside_of fs) 1 s) (λ _. b) (λ _. env) (λ _. in_back n)
-visited_owes n (node.Isolate b) env fs s = owes_visit fs (enter (inside_of fs) s) (λ _. b) (λ _. env) (λ name. in_isolate n name)
-visited_owes n (node.CellRef c) env fs s = owes_given fs ((lookup c >>= copied (inside_of fs)) s) env
-visited_owes n (node.CellShadow c e) env fs s = owes_visit fs (charge (inside_of fs) 1 s) (λ _. e) (λ _. env) (λ _. in_store n)
-visited_owes n (node.InstRef c) env fs s = owes_given fs ((read_cell c >>= copied (inside_of fs)) s) env
-visited_owes n (node.InstSet c e) env fs s = owes_visit fs (charge (inside_of fs) 1 s) (λ _. e) (λ _. env) (λ _. in_store n)
-visited_owes n (node.InstAdd c e) env fs s = owes_visit fs (charge (inside_of fs) 1 s) (λ _. e) (λ _. env) (λ _. in_store n)
+visited_owes a n (node.Finish b) env fs s = owes_visit fs (charge (inside_of fs) 1 s) (λ _. b) (λ _. env) (λ _. in_finish n)
+visited_owes a n (node.Back b) env fs s = owes_visit fs (charge (inside_of fs) 1 s) (λ _. b) (λ _. env) (λ _. in_back n)
+visited_owes a n (node.Isolate b) env fs s = owes_visit fs (enter (inside_of fs) s) (λ _. b) (λ _. env) (λ name. in_isolate n name)
+visited_owes a n (node.CellRef c) env fs s = owes_given fs ((lookup c >>= copied (inside_of fs)) s) env
+visited_owes a n (node.CellShadow c e) env fs s = owes_visit fs (charge (inside_of fs) 1 s) (λ _. e) (λ _. env) (λ _. in_store n)
+visited_owes a n (node.InstRef c) env fs s = owes_given fs ((read_cell c >>= copied (inside_of fs)) s) env
+visited_owes a n (node.InstSet c e) env fs s = owes_visit fs (charge (inside_of fs) 1 s) (λ _. e) (λ _. env) (λ _. in_store n)
+visited_owes a n (node.InstAdd c e) env fs s = owes_visit fs (charge (inside_of fs) 1 s) (λ _. e) (λ _. env) (λ _. in_store n)
 
 taken_owes : (a : Arena) (f : Frame) (v : Val) (env : List Val) (fs : List Frame) (s : State) → Owes fs (taken a f v env fs s)
 taken_owes a (in_binding n done) v env fs s = owes_binding n (bindings_from a n (suc (length done))) (body_at a n) (done ++ v ∷ []) env fs s
 taken_owes a (in_operand n done) v env fs s = owes_operand n (op_at a n) (parts_from a n (suc (length done))) (done ++ v ∷ []) env fs s
+taken_owes a (in_call n done) v env fs s = owes_argument n (task_at a n) (parts_from a n (suc (length done))) (done ++ v ∷ []) env fs s
+taken_owes a (in_task n k outer) v env fs s = refl
 taken_owes a (in_body n k) v env fs s = refl
 taken_owes a (in_seq n k) v env fs s = owes_part (in_seq n (suc k)) (parts_from a n (suc k)) v env fs s
 taken_owes a (in_and n k) v env fs s =
@@ -208,8 +215,8 @@ paid_by fuel before cost least env fs (stop n names s) c o h = c
 
 pub step_pays : (fuel : ℕ) → fuel < 2 ^ 63 → (a : Arena) (c : Control) (env : List Val) (fs : List Frame) (s : State) → InSegment fuel s → Pays fuel (owed_by c (length fs)) s.cost (step_at a c env fs s)
 step_pays fuel h a (visit n) env fs s f =
-    paid_by fuel (length fs) s.cost (suc s.cost) env fs (visited n (node_at a n) env fs s)
-    (visited_paid (λ inside A r. Stays fuel A r) (λ inside A r. Raises fuel A r) (law fuel h) n (node_at a n) env fs s f) (visited_owes n (node_at a n) env fs s) (omega arith)
+    paid_by fuel (length fs) s.cost (suc s.cost) env fs (visited a n (node_at a n) env fs s)
+    (visited_paid (λ inside A r. Stays fuel A r) (λ inside A r. Raises fuel A r) (law fuel h) a n (node_at a n) env fs s f) (visited_owes a n (node_at a n) env fs s) (omega arith)
 step_pays fuel h a (value v) env [] s f = omega arith
 step_pays fuel h a (value v) env (g ∷ fs) s f =
     paid_by fuel (suc (length (g ∷ fs))) s.cost s.cost (cut g env) fs (taken a g v (cut g env) fs s)

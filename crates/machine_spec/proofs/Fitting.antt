@@ -8,8 +8,8 @@ use Rattle.script_value.specs.declared.value.Value.TheVariants.{Truth}
 use Rattle.script_value.specs.declared.outcome.Op.{Op}
 use Rattle.script_value.specs.declared.outcome.Fault.{Fault}
 use Rattle.script_value.specs.declared.outcome.TxName.{TxName}
-use Rattle.prim_ops.specs.Table.{value_of, is_false}
-use Rattle.prim_ops.specs.Lists.{list_of}
+use Rattle.prim_spec.specs.Table.{value_of, is_false}
+use Rattle.prim_spec.specs.Lists.{list_of}
 use Rattle.script_nodes.specs.declared.script.Node.{Node}
 use Rattle.script_nodes.specs.declared.script.Node.TheVariants as node
 use Rattle.script_nodes.specs.declared.script.SendKind.{SendKind}
@@ -17,9 +17,9 @@ use Rattle.script_nodes.specs.Arena.{Arena, parts}
 use Rattle.replay_spec.specs.Tape.{recorded, Answer, sent, State, Outcome, End, got, stop, Run, ◌>>=◌, after, answer, choose, charge, url, halt, ends, send_page, enter, leave, lookup, read_cell, as_number}
 use Rattle.replay_spec.specs.Eval.{value_at, copied, is_not_false}
 use Rattle.replay_spec.specs.Laws.{Waits}
-use Rattle.machine_spec.specs.Machine.{Frame, in_binding, in_operand, in_body, in_seq, in_and, in_or, in_if, in_count, in_store, in_turn, in_isolate, in_page, in_finish, in_back, Control, visit, value, Point, inside_of, visits, gives, given, node_at, part_in, part_at, parts_from, bindings_from, bindings_in, body_at, body_in, op_at, op_in, store_by, next_binding, next_part, next_operand, next_turn, first_turn, visited, cut, taken, next, Machine, Suspended, Step, goes, stopped, stepped, step_at, step, then, steps}
+use Rattle.machine_spec.specs.Machine.{Frame, in_binding, in_operand, in_body, in_seq, in_and, in_or, in_if, in_count, in_store, in_turn, in_isolate, in_call, in_task, in_page, in_finish, in_back, Control, visit, value, Point, inside_of, visits, gives, given, node_at, part_in, part_at, parts_from, bindings_from, bindings_in, body_at, body_in, op_at, op_in, first_of, task_in, task_at, store_by, next_binding, next_part, next_operand, next_argument, next_turn, first_turn, visited, cut, taken, next, Machine, Suspended, Step, goes, stopped, stepped, step_at, step, then, steps}
 use Rattle.machine_spec.specs.Laws.{started}
-use Rattle.machine_spec.specs.Fits.{node_of, place_of, IsKind, Binds, Works, FitsAt, IsSend, Fits, EachStateFits}
+use Rattle.machine_spec.specs.Fits.{node_of, IsKind, IsPart, Binds, Works, FitsAt, IsSend, Fits, EachStateFits}
 use Rattle.machine_spec.proofs.Meaning.{cut_back, length_more, drop_all}
 use Rattle.machine_spec.proofs.Acts.{IsPlain, visited_paid, taken_any, any_given, plain_or_page}
 use Rattle.machine_spec.proofs.Grow.{more, Grows, Grown, law}
@@ -40,6 +40,12 @@ is_count n x h = grind (arith, h)
 
 is_prim : (n : ℕ) (done : List Val) (x : Node) → IsKind (in_operand n done) x → x ≡ node.Prim (op_in x) (parts x)
 is_prim n done x h = grind (arith, h)
+
+is_call : (n : ℕ) (done : List Val) (x : Node) → IsKind (in_call n done) x → x ≡ node.Call (task_in x) (parts x)
+is_call n done x h = grind (arith, h)
+
+pub few_given : (n : ℕ) (done : List Val) (x : Node) → IsKind (in_call n done) x → length done < length (parts x)
+few_given n done x h = grind (arith, h)
 
 is_if : (n k : ℕ) (x : Node) → IsKind (in_if n k) x → x ≡ node.If (part_in x 0) (part_in x 1) (part_in x 2)
 is_if n k x h = grind (arith, h)
@@ -89,6 +95,8 @@ cut_outer (in_turn n turns done) outer env b = rw b (cut_back outer (number (pos
 cut_outer (in_page n kind) outer env b = rw b.1 (cut_back outer (b.0 ∷ []))
 cut_outer (in_binding n done) outer env b = b
 cut_outer (in_operand n done) outer env b = b
+cut_outer (in_call n done) outer env b = b
+cut_outer (in_task n k saved) outer env b = sym b.0
 cut_outer (in_seq n k) outer env b = b
 cut_outer (in_and n k) outer env b = b
 cut_outer (in_or n k) outer env b = b
@@ -100,10 +108,10 @@ cut_outer (in_finish n) outer env b = b
 cut_outer (in_back n) outer env b = b
 
 -- one more frame, on a node that is known
-push : (a : Arena) (f : Frame) (fs : List Frame) (x : Node) (p : ℕ) (outer env : List Val) → node_at a (node_of f) ≡ x → IsKind f x → slice_get (parts x) (place_of f) ≡ Some p
+push : (a : Arena) (f : Frame) (fs : List Frame) (x : Node) (p : ℕ) (outer env : List Val) → node_at a (node_of f) ≡ x → IsKind f x → IsPart a f x p
     → Binds f outer env → Works a fs (node_of f) outer → Works a (f ∷ fs) p env
 push a f fs x p outer env e kind place binds w =
-    (subst (λ (z : Node). IsKind f z) (sym e) kind, (subst (λ (z : Node). slice_get (parts z) (place_of f) ≡ Some p) (sym e) place, (outer, (binds, w))))
+    (subst (λ (z : Node). IsKind f z) (sym e) kind, (subst (λ (z : Node). IsPart a f z p) (sym e) place, (outer, (binds, w))))
 
 -- ## What is next
 
@@ -153,6 +161,16 @@ operand : (a : Arena) (n : ℕ) (o : Op) (ps : List ℕ) (done env : List Val) (
 operand a n o [] done env fs s kind e w = leaf a n env fs w (answer (inside_of fs) (value_of o done) s)
 operand a n o (p ∷ ps) done env fs s kind e w = push a (in_operand n done) fs (node_at a n) p env env refl kind (get_of_drop (length done) (parts (node_at a n)) p ps e) refl w
 
+argument : (a : Arena) (n : ℕ) (ps : List ℕ) (done env : List Val) (fs : List Frame) (s : State) → node_at a n ≡ node.Call (task_in (node_at a n)) (parts (node_at a n))
+    → length done ≤ length (parts (node_at a n)) → parts_from a n (length done) ≡ ps → Works a fs n env → Suits a (next_argument n (task_at a n) ps done env fs s)
+argument a n [] done env fs s is few e w =
+    let all = parts (node_at a n) in
+    let long = long_drop (length done) all e in
+    push a (in_task n (length done) env) fs (node.Call (task_in (node_at a n)) all) (task_at a n) env done is (omega arith) refl (refl, refl) w
+argument a n (p ∷ ps) done env fs s is few e w =
+    let all = parts (node_at a n) in
+    push a (in_call n done) fs (node.Call (task_in (node_at a n)) all) p env env is (short_drop (length done) all p ps e) (get_of_drop (length done) all p ps e) refl w
+
 turn : (a : Arena) (n times left : ℕ) (done env : List Val) (fs : List Frame) (s : State) → node_at a n ≡ node.For (part_in (node_at a n) 0) (body_at a n) → times - length done ≡ left → Works a fs n env
     → Suits a (next_turn n times (body_at a n) left done env fs s)
 turn a n times zero done env fs s is e w = leaf a n env fs w (answer (inside_of fs) (list_of done) s)
@@ -165,7 +183,7 @@ first a n (Ok (pos k)) env fs s is w = turn a n k k [] env fs s is (omega arith)
 first a n (Ok (negsuc k)) env fs s is w = tt
 first a n (Err k) env fs s is w = tt
 
-node_suits : (a : Arena) (n : ℕ) (x : Node) → node_at a n ≡ x → (env : List Val) (fs : List Frame) (s : State) → Works a fs n env → Suits a (visited n x env fs s)
+node_suits : (a : Arena) (n : ℕ) (x : Node) → node_at a n ≡ x → (env : List Val) (fs : List Frame) (s : State) → Works a fs n env → Suits a (visited a n x env fs s)
 node_suits a n (node.Lit v) e env fs s w = leaf a n env fs w (copied (inside_of fs) (meaning v) s)
 node_suits a n (node.Var k) e env fs s w = leaf a n env fs w (copied (inside_of fs) (value_at env k) s)
 node_suits a n (node.Let ps b) e env fs s w =
@@ -190,6 +208,11 @@ node_suits a n (node.For c b) e env fs s w =
 node_suits a n (node.Prim o ps) e env fs s w =
     acts a (charge (inside_of fs) 1 s) (λ _. next_operand n o ps [] env fs) (λ _ t.
     operand a n o ps [] env fs t (subst (λ (z : Node). IsKind (in_operand n []) z) (sym e) tt) (ap (λ (y : Node). drop 0 (parts y)) e ∙ drop_all ps) w)
+node_suits a n (node.Call k ps) e env fs s w =
+    let same : task_at a n ≡ first_of a k = ap (λ (y : Node). first_of a (task_in y)) e in
+    acts a (charge (inside_of fs) 1 s) (λ _. next_argument n (first_of a k) ps [] env fs) (λ _ t.
+    subst (λ (c : ℕ). Suits a (next_argument n c ps [] env fs t)) same
+    (argument a n ps [] env fs t (e ∙ sym (ap (λ (y : Node). node.Call (task_in y) (parts y)) e)) (omega arith) (ap (λ (y : Node). drop 0 (parts y)) e ∙ drop_all ps) w))
 node_suits a n (node.Send kind b) e env fs s w =
     acts a (charge (inside_of fs) 1 s) (λ _. url >>= λ u. visits b (env ++ u ∷ []) (in_page n kind ∷ fs)) (λ _ t.
     acts a (url t) (λ u. visits b (env ++ u ∷ []) (in_page n kind ∷ fs)) (λ u z. push a (in_page n kind) fs (node.Send kind b) b env (env ++ u ∷ []) e refl refl (u, refl) w))
@@ -216,6 +239,11 @@ frame_suits a (in_binding n done) v env fs s kind w =
     binding a n (bindings_from a n (suc (length done))) (done ++ v ∷ []) env fs s (is_let n done (node_at a n) kind) (omega arith) (ap (λ (k : ℕ). bindings_from a n k) l) w
 frame_suits a (in_operand n done) v env fs s kind w =
     operand a n (op_at a n) (parts_from a n (suc (length done))) (done ++ v ∷ []) env fs s kind (ap (λ (k : ℕ). parts_from a n k) (length_more done v)) w
+frame_suits a (in_call n done) v env fs s kind w =
+    let few = few_given n done (node_at a n) kind in
+    let l = length_more done v in
+    argument a n (parts_from a n (suc (length done))) (done ++ v ∷ []) env fs s (is_call n done (node_at a n) kind) (omega arith) (ap (λ (k : ℕ). parts_from a n k) l) w
+frame_suits a (in_task n k outer) v env fs s kind w = (n, w)
 frame_suits a (in_body n bound) v env fs s kind w = (n, w)
 frame_suits a (in_seq n k) v env fs s kind w = seq_part a n (suc k) (parts_from a n (suc k)) v env fs s kind refl w
 frame_suits a (in_and n k) v env fs s kind w =
@@ -284,6 +312,8 @@ frame_fits a f v env fs s kind w (inr is) = by_page f kind w is.1.1
     by_page (in_page n sent) k w e = page_fits a (inside_of fs) n sent v env fs s.later s (is_page n sent (node_at a n) k) w
     by_page (in_binding n done) k w e = absurd (cc)
     by_page (in_operand n done) k w e = absurd (cc)
+    by_page (in_call n done) k w e = absurd (cc)
+    by_page (in_task n j outer) k w e = absurd (cc)
     by_page (in_body n bound) k w e = absurd (cc)
     by_page (in_seq n j) k w e = absurd (cc)
     by_page (in_and n j) k w e = absurd (cc)
@@ -298,8 +328,8 @@ frame_fits a f v env fs s kind w (inr is) = by_page f kind w is.1.1
 
 pub step_fits : (a : Arena) (c : Control) (env : List Val) (fs : List Frame) (s : State) → FitsAt a c env fs → FitsStep a (step_at a c env fs s)
 step_fits a (visit n) env fs s w =
-    stepped_fits a env fs (visited n (node_at a n) env fs s) (node_suits a n (node_at a n) refl env fs s w)
-    (plain_by nothing (visited n (node_at a n) env fs s) (visited n (node_at a n) env fs (more nothing s)) (visited_paid (λ inside A r. Grown nothing A r) (λ inside A r. Grown nothing A r) (law nothing) n (node_at a n) env fs s))
+    stepped_fits a env fs (visited a n (node_at a n) env fs s) (node_suits a n (node_at a n) refl env fs s w)
+    (plain_by nothing (visited a n (node_at a n) env fs s) (visited a n (node_at a n) env fs (more nothing s)) (visited_paid (λ inside A r. Grown nothing A r) (λ inside A r. Grown nothing A r) (law nothing) a n (node_at a n) env fs s))
 step_fits a (value v) env [] s w =
     stepped_fits a env [] (given (halt [] ends v) env [] s) tt
     (plain_by nothing (given (halt [] ends v) env [] s) (given (halt [] ends v) env [] (more nothing s)) (any_given (λ inside A r. Grown nothing A r) (λ inside A r. Grown nothing A r) (law nothing) [] (halt [] ends v) env [] ((law nothing).ends [] v) s))

@@ -2,7 +2,7 @@
 use Rattle.std.proofs.Common.{◌≡◌, ◌⊎◌, inl, inr, ℕ, zero, suc, ◌+◌, ◌^◌, min, Bool, true, false, List, [], ◌∷◌, ◌++◌, Option, Some, None, refl, ap, ◌∙◌, arith}
 use Rattle.script_value.specs.Val.{Val}
 use Rattle.script_value.specs.declared.outcome.TxName.{TxName}
-use Rattle.xexpr_page.specs.Page.{page_of}
+use Rattle.page_spec.specs.Page.{page_of}
 use Rattle.script_nodes.specs.declared.script.SendKind.{SendKind}
 use Rattle.script_nodes.specs.Arena.{Arena}
 use Rattle.replay_spec.specs.Tape.{finishes, ends, halt, Reads, recorded, present, bound, Answer, State, begins, How, page_stop, Outcome, End, got, stop, Run, after, charged, is_over, sent, read_from, set_in, add_in}
@@ -92,7 +92,7 @@ by_frame x a f v env fs s (inl h) = by_end x env fs _ _ (taken_any (λ inside A 
 by_frame x a f v env fs s (inr h) = rw h.1.1 (by_page x (inside_of fs) h.1.0 v env fs s.later s)
 
 step_grows : (x : Answer) (a : Arena) (c : Control) (env : List Val) (fs : List Frame) (s : State) → GrowsStep x (step_at a c env fs s) (step_at a c env fs (more x s))
-step_grows x a (visit n) env fs s = by_end x env fs _ _ (visited_paid (λ inside A r. Grown x A r) (λ inside A r. Grown x A r) (law x) n (node_at a n) env fs s)
+step_grows x a (visit n) env fs s = by_end x env fs _ _ (visited_paid (λ inside A r. Grown x A r) (λ inside A r. Grown x A r) (law x) a n (node_at a n) env fs s)
 step_grows x a (value v) env [] s = by_end x env [] (given (halt [] ends v) env [] s) (given (halt [] ends v) env [] (more x s)) (any_given (λ inside A r. Grown x A r) (λ inside A r. Grown x A r) (law x) [] (halt [] ends v) env [] ((law x).ends [] v) s)
 step_grows x a (value v) env (f ∷ fs) s = by_frame x a f v (cut f env) fs s (plain_or_page f)
 

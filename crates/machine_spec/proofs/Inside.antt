@@ -61,7 +61,7 @@ law = record {
 }
 
 next_within : (a : Arena) (c : Control) (env : List Val) (fs : List Frame) (s : State) → StopsIn (inside_of (outer_frames c fs)) s.defaults (next a c env fs s)
-next_within a (visit n) env fs s = visited_paid (λ inside A r. Within inside A r) (λ inside A r. Within inside A r) law n (node_at a n) env fs s
+next_within a (visit n) env fs s = visited_paid (λ inside A r. Within inside A r) (λ inside A r. Within inside A r) law a n (node_at a n) env fs s
 next_within a (value v) env [] s = any_given (λ inside A r. Within inside A r) (λ inside A r. Within inside A r) law [] (halt [] ends v) env [] (law.ends [] v) s
 next_within a (value v) env (f ∷ fs) s =
     taken_all (λ inside A r. Within inside A r) (λ inside A r. Within inside A r) law (λ inside kind page s. sends inside kind page s.later s) a f v (cut f env) fs s

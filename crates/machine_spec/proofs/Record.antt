@@ -42,7 +42,7 @@ module _ (vs : List Val) where
   }
 
   next_mirrored : (a : Arena) (c : Control) (env : List Val) (fs : List Frame) → Mirrored (over vs) Point (next a c env fs)
-  next_mirrored a (visit n) env fs = visited_paid Beside Beside law n (node_at a n) env fs
+  next_mirrored a (visit n) env fs = visited_paid Beside Beside law a n (node_at a n) env fs
   next_mirrored a (value v) env [] = any_given Beside Beside law [] (halt [] ends v) env [] (base.ends [] v)
   next_mirrored a (value v) env (f ∷ fs) = taken_all Beside Beside law base.sends a f v (cut f env) fs
 

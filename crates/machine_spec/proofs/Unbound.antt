@@ -76,7 +76,7 @@ module _ (before : List (ℕ × Val)) where
   }
 
   next_keeps : (a : Arena) (c : Control) (env : List Val) (fs : List Frame) (s : State) → BindsAllOf before s.shadows → EndBinds (next a c env fs s)
-  next_keeps a (visit n) env fs s h = visited_paid Keeps Keeps law n (node_at a n) env fs s h
+  next_keeps a (visit n) env fs s h = visited_paid Keeps Keeps law a n (node_at a n) env fs s h
   next_keeps a (value v) env [] s h = any_given Keeps Keeps law [] (halt [] ends v) env [] (law.ends [] v) s h
   next_keeps a (value v) env (f ∷ fs) s h =
       taken_all Keeps Keeps law (λ inside kind page s. sends inside kind page s.later s) a f v (cut f env) fs s h

@@ -5,7 +5,7 @@ use Rattle.script_nodes.specs.declared.script.Node.{Node}
 use Rattle.script_nodes.specs.declared.script.Node.TheVariants as node
 use Rattle.script_nodes.specs.Arena.{Arena, parts}
 use Rattle.replay_spec.specs.Tape.{Tape}
-use Rattle.machine_spec.specs.Machine.{Control, visit, value, Frame, in_binding, in_operand, in_body, in_seq, in_and, in_or, in_if, in_count, in_store, in_turn, in_isolate, in_page, in_finish, in_back, node_at, Suspended}
+use Rattle.machine_spec.specs.Machine.{Control, visit, value, Frame, in_binding, in_operand, in_body, in_seq, in_and, in_or, in_if, in_count, in_store, in_turn, in_isolate, in_call, in_task, in_page, in_finish, in_back, node_at, first_of, task_in, Suspended}
 use Rattle.machine_spec.specs.Laws.{IsStateOf}
 
 abbrev pub node_of : Frame → ℕ
@@ -20,14 +20,18 @@ node_of (in_count n) = n
 node_of (in_store n) = n
 node_of (in_turn n turns done) = n
 node_of (in_isolate n name) = n
+node_of (in_call n done) = n
+node_of (in_task n k outer) = n
 node_of (in_page n kind) = n
 node_of (in_finish n) = n
 node_of (in_back n) = n
 
--- the number of the part that is worked on
+-- the number of the part that a frame works on
 abbrev pub place_of : Frame → ℕ
 place_of (in_binding n done) = length done
 place_of (in_operand n done) = length done
+place_of (in_call n done) = length done
+place_of (in_task n k outer) = k
 place_of (in_body n bound) = bound
 place_of (in_seq n k) = k
 place_of (in_and n k) = k
@@ -51,15 +55,23 @@ IsKind (in_store n) (node.CellShadow c e) = ⊤
 IsKind (in_store n) (node.InstSet c e) = ⊤
 IsKind (in_store n) (node.InstAdd c e) = ⊤
 IsKind (in_isolate n name) (node.Isolate body) = ⊤
+IsKind (in_call n done) (node.Call k ps) = length done < length ps
+IsKind (in_task n j outer) (node.Call k ps) = j ≡ length ps
 IsKind (in_page n kind) (node.Send sent body) = sent ≡ kind
 IsKind (in_finish n) (node.Finish body) = ⊤
 IsKind (in_back n) (node.Back body) = ⊤
 IsKind _ _ = ⊥
 
--- the variables of a frame's part, and those outside
+-- the part that a frame works on; after the operands of a call it is the body of the task
+abbrev pub IsPart : Arena → Frame → Node → ℕ → Type 0
+IsPart a (in_task n k outer) x p = p ≡ first_of a (task_in x)
+IsPart a f x p = slice_get (parts x) (place_of f) ≡ Some p
+
+-- the variables of a frame's part, and those outside: a body has the parameters of its task alone
 abbrev pub Binds : Frame → (outer env : List Val) → Type 0
 Binds (in_body n bound) outer env = (vs : List Val) × ((length vs ≡ bound) × (env ≡ outer ++ vs))
 Binds (in_turn n turns done) outer env = env ≡ outer ++ number (pos (length done)) ∷ []
+Binds (in_task n k saved) outer env = (outer ≡ saved) × (length env ≡ k)
 Binds (in_page n kind) outer env = (url : Val) × (env ≡ outer ++ url ∷ [])
 Binds _ outer env = env ≡ outer
 
@@ -68,7 +80,7 @@ Binds _ outer env = env ≡ outer
 abbrev pub Works : Arena → List Frame → (node : ℕ) → (env : List Val) → Type 0
 Works a [] p env = (p ≡ 0) × (env ≡ [])
 Works a (f ∷ fs) p env =
-    IsKind f (node_at a (node_of f)) × ((slice_get (parts (node_at a (node_of f))) (place_of f) ≡ Some p)
+    IsKind f (node_at a (node_of f)) × (IsPart a f (node_at a (node_of f)) p
     × ((outer : List Val) × (Binds f outer env × Works a fs (node_of f) outer)))
 
 -- the variables and the frames of a machine are those of the node that it visits, or whose value it gives
@@ -76,12 +88,12 @@ abbrev pub FitsAt : Arena → Control → List Val → List Frame → Type 0
 FitsAt a (visit p) env fs = Works a fs p env
 FitsAt a (value v) env fs = (p : ℕ) × Works a fs p env
 
--- it sends a page that waits for an answer
+-- a node sends a page that waits for an answer
 abbrev pub IsSend : Node → Type 0
 IsSend (node.Send kind body) = ⊤
 IsSend _ = ⊥
 
--- the frames work on a node that sends a page
+-- the frames that were kept work on a node that sends a page
 pub record Fits (a : Arena) (d : Suspended) : Type 0 where
   pub node : ℕ
   pub sends : IsSend (node_at a node)

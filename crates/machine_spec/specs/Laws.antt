@@ -14,14 +14,14 @@ use Rattle.machine_spec.specs.Machine.{visit, value, inside_of, Machine, Suspend
 abbrev pub started : Arena → Tape → Machine
 started a t = record { point = record { control = visit 0; env = []; frames = [] }; state = begin a.web t }
 
--- a machine that goes on with an answer, in the segment behind it
+-- a machine that goes on with an answer, in the segment after it
 abbrev pub resumed : Arena → Suspended → Answer → Machine
 resumed a d x = record {
   point = record { control = value x.value; env = d.env; frames = d.frames };
   state = begins x.segment [] d.shadows a.web;
 }
 
--- in so many steps the machine stops so
+-- in so many steps the machine stops with this outcome, inside these transactions, and this is kept of it
 pub record Stops (a : Arena) (m : Machine) : Type 0 where
   pub count : ℕ
   pub outcome : Outcome
@@ -30,11 +30,11 @@ pub record Stops (a : Arena) (m : Machine) : Type 0 where
   pub state : State
   pub are : steps a count m ≡ stopped outcome entered kept state
 
--- what its last segment comes to
+-- what the last segment of a machine that stops comes to
 abbrev pub segment_of : {a : Arena} {m : Machine} → Stops a m → Segment
 segment_of s = segment_at s.outcome s.entered s.state
 
--- this is kept of the machine that shows a page over the tape, and waits for an answer
+-- the machine that begins a script over the tape shows a page that waits for an answer, and this is kept of it
 pub record IsStateOf (a : Arena) (t : Tape) (d : Suspended) : Type 0 where
   pub stops : Stops a (started a t)
   pub waits : Waits stops.outcome
@@ -61,11 +61,11 @@ ResumeEqualsReplay =
     → let over = λ (reads : Reads). longer (reading reads x) t in
     ComesTo a fuel (resumed a d (reading (present cells fuel) x)) (over (present cells fuel)) (λ vs. over (recorded vs))
 
--- a tape of one segment that reads from there
+-- a tape of one segment, which has these reads
 abbrev pub alone : Now → Reads → Tape
 alone now reads = record { first = record now { reads = reads }; later = [] }
 
--- A start comes to what its script comes to over the one segment.
+-- A start comes to what its script comes to over a tape of its one segment.
 abbrev pub AStartIsARun : Type 0
 AStartIsARun =
     (a : Arena) → IsScript a → (now : Now) (cells : List Val) (fuel : ℕ) → fuel < 2 ^ 63
@@ -91,7 +91,7 @@ TheFirstStopIsTheStop =
     → steps a k m ≡ goes mid → step a mid ≡ stopped o entered d state
     → (k + 1 ≤ s.count) × (stopped o entered d state ≡ stopped s.outcome s.entered s.kept s.state)
 
--- No web cell is unbound: where a page is answered, the state of each page behind it binds the cells that the page's binds.
+-- No web cell is unbound: where a page is answered, the state of each page after it binds the cells that the page's binds.
 pub record NoCellIsUnbound : Type 0 where
   pub resumed : (a : Arena) (d : Suspended) (x : Answer) (s : Stops a (resumed a d x)) → BindsAllOf d.shadows s.kept.shadows
   pub replayed : (a : Arena) (t : Tape) (d e : Suspended) (x : Answer) → IsStateOf a t d → IsStateOf a (longer x t) e → BindsAllOf d.shadows e.shadows

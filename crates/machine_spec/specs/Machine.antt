@@ -8,8 +8,8 @@ use Rattle.script_value.specs.declared.outcome.Op.TheVariants as op
 use Rattle.script_value.specs.declared.outcome.Fault.{Fault}
 use Rattle.script_value.specs.declared.outcome.Fault.TheVariants.{WrongType}
 use Rattle.script_value.specs.declared.outcome.TxName.{TxName}
-use Rattle.prim_ops.specs.Table.{value_of, is_false}
-use Rattle.prim_ops.specs.Lists.{list_of}
+use Rattle.prim_spec.specs.Table.{value_of, is_false}
+use Rattle.prim_spec.specs.Lists.{list_of}
 use Rattle.script_nodes.specs.declared.script.Node.{Node}
 use Rattle.script_nodes.specs.declared.script.Node.TheVariants as node
 use Rattle.script_nodes.specs.declared.script.SendKind.{SendKind}
@@ -17,9 +17,10 @@ use Rattle.script_nodes.specs.Arena.{Arena, parts}
 use Rattle.replay_spec.specs.Tape.{State, finishes, ends, Outcome, End, got, stop, Run, ◌>>=◌, ◌>>◌, give, fail, answer, choose, charge, url, halt, send_page, enter, leave, lookup, shadow, read_cell, set_cell, add_cell, as_number}
 use Rattle.replay_spec.specs.Eval.{value_at, copied, is_not_false}
 
--- Which part of a node is worked on: a binding or an operand behind the values of those that are done; a body under so many
--- variables; the part of this number; the count of turns; a turn of so many, behind the values of those that are done; what a
--- cell is given; what stands in a transaction. The body of a page that is sent, or of a last page, is never kept.
+-- Which part of a node is worked on: a binding or an operand after the values of those that are done; a body under so many
+-- variables; the part of this number; the count of turns; a turn of so many, after the values of those that are done; what a
+-- cell is given; what stands in a transaction; an operand of a call; the body of the task that is called, as the part of this number,
+-- and the variables of the caller. The body of a page that is sent, or of a last page, is never kept.
 pub data Frame : Type 0 where
   in_binding in_operand : (node : ℕ) → (done : List Val) → Frame
   in_body : (node bound : ℕ) → Frame
@@ -27,6 +28,8 @@ pub data Frame : Type 0 where
   in_count in_store : (node : ℕ) → Frame
   in_turn : (node turns : ℕ) → (done : List Val) → Frame
   in_isolate : (node : ℕ) → TxName → Frame
+  in_call : (node : ℕ) → (done : List Val) → Frame
+  in_task : (node part : ℕ) → (outer : List Val) → Frame
   in_page : (node : ℕ) → SendKind → Frame
   in_finish in_back : (node : ℕ) → Frame
 
@@ -53,7 +56,7 @@ visits n env fs = give (record { control = visit n; env = env; frames = fs })
 abbrev pub gives : Val → List Val → List Frame → Run Point
 gives v env fs = give (record { control = value v; env = env; frames = fs })
 
--- the value of an action is given
+-- the value that a run gives is given to the innermost frame
 abbrev pub given : Run Val → List Val → List Frame → Run Point
 given r env fs = do
   v ← r
@@ -95,6 +98,19 @@ op_in _ = op.List
 abbrev pub op_at : Arena → ℕ → Op
 op_at a n = op_in (node_at a n)
 
+-- the first node of a task's body
+abbrev pub first_of : Arena → (task : ℕ) → ℕ
+first_of a k = unwrap_or (slice_get a.tasks k) 0
+
+-- the task that a node calls
+abbrev pub task_in : Node → ℕ
+task_in (node.Call k ps) = k
+task_in _ = 0
+
+-- the first node of the body of the task that a node calls
+abbrev pub task_at : Arena → ℕ → ℕ
+task_at a n = first_of a (task_in (node_at a n))
+
 -- what a node does with the value that it stores
 abbrev pub store_by : Node → List TxName → Val → Run Val
 store_by (node.CellShadow c e) inside v = shadow c v
@@ -102,57 +118,64 @@ store_by (node.InstSet c e) inside v = set_cell c v
 store_by (node.InstAdd c e) inside v = add_cell inside c v
 store_by _ inside v = give v
 
--- the first of the bindings that are left, and behind them the body
+-- a visit of the first of the bindings that are left; where none is left, of the body
 abbrev pub next_binding : (node : ℕ) → (left : List ℕ) → (body : ℕ) → (done env : List Val) → List Frame → Run Point
 next_binding n [] b done env fs = visits b (env ++ done) (in_body n (length done) ∷ fs)
 next_binding n (p ∷ ps) b done env fs = visits p env (in_binding n done ∷ fs)
 
--- the first of the parts that are left, in this frame; behind them the value of the last
+-- a visit of the first of the parts that are left, in this frame; where none is left, the value of the last is given
 abbrev pub next_part : Frame → (left : List ℕ) → Val → List Val → List Frame → Run Point
 next_part f [] v env fs = gives v env fs
 next_part f (p ∷ ps) v env fs = visits p env (f ∷ fs)
 
--- the first of the operands that are left, and behind them the operation
+-- a visit of the first of the operands that are left; where none is left, the operation is done
 abbrev pub next_operand : (node : ℕ) → Op → (left : List ℕ) → (done env : List Val) → List Frame → Run Point
 next_operand n o [] done env fs = given (answer (inside_of fs) (value_of o done)) env fs
 next_operand n o (p ∷ ps) done env fs = visits p env (in_operand n done ∷ fs)
 
--- the next of the turns, and behind them the list of their values
+-- a visit of the first of the operands that are left; where none is left, of the task's body, whose variables are their values alone
+abbrev pub next_argument : (node body : ℕ) → (left : List ℕ) → (done env : List Val) → List Frame → Run Point
+next_argument n b [] done env fs = visits b done (in_task n (length done) env ∷ fs)
+next_argument n b (p ∷ ps) done env fs = visits p env (in_call n done ∷ fs)
+
+-- a visit of the body for the next of the turns; where none is left, the list of their values is given
 abbrev pub next_turn : (node turns body left : ℕ) → (done env : List Val) → List Frame → Run Point
 next_turn n turns b zero done env fs = given (answer (inside_of fs) (list_of done)) env fs
 next_turn n turns b (suc k) done env fs = visits b (env ++ number (pos (length done)) ∷ []) (in_turn n turns done ∷ fs)
 
--- as many turns as this number says
+-- the first of as many turns as this number says; the fault where it is negative or none
 abbrev pub first_turn : (node body : ℕ) → Result ℤ Fault → List Val → List Frame → Run Point
 first_turn n b (Ok (pos k)) env fs = next_turn n k b k [] env fs
 first_turn n b (Ok (negsuc k)) env fs = given (fail (inside_of fs) WrongType) env fs
 first_turn n b (Err k) env fs = given (fail (inside_of fs) k) env fs
 
 -- a visit of a node, which is charged
-abbrev pub visited : (node : ℕ) → Node → List Val → List Frame → Run Point
-visited n (node.Lit v) env fs = given (copied (inside_of fs) (meaning v)) env fs
-visited n (node.Var k) env fs = given (copied (inside_of fs) (value_at env k)) env fs
-visited n (node.Let ps b) env fs = charge (inside_of fs) 1 >> next_binding n ps b [] env fs
-visited n (node.Seq ps) env fs = charge (inside_of fs) 1 >> next_part (in_seq n 0) ps (truth false) env fs
-visited n (node.If t x y) env fs = charge (inside_of fs) 1 >> visits t env (in_if n 0 ∷ fs)
-visited n (node.And ps) env fs = charge (inside_of fs) 1 >> next_part (in_and n 0) ps (truth true) env fs
-visited n (node.Or ps) env fs = charge (inside_of fs) 1 >> next_part (in_or n 0) ps (truth false) env fs
-visited n (node.For c b) env fs = charge (inside_of fs) 1 >> visits c env (in_count n ∷ fs)
-visited n (node.Prim o ps) env fs = charge (inside_of fs) 1 >> next_operand n o ps [] env fs
-visited n (node.Send kind b) env fs = charge (inside_of fs) 1 >> (url >>= λ u. visits b (env ++ u ∷ []) (in_page n kind ∷ fs))
-visited n (node.Finish b) env fs = charge (inside_of fs) 1 >> visits b env (in_finish n ∷ fs)
-visited n (node.Back b) env fs = charge (inside_of fs) 1 >> visits b env (in_back n ∷ fs)
-visited n (node.Isolate b) env fs = enter (inside_of fs) >>= λ name. visits b env (in_isolate n name ∷ fs)
-visited n (node.CellRef c) env fs = given (lookup c >>= copied (inside_of fs)) env fs
-visited n (node.CellShadow c e) env fs = charge (inside_of fs) 1 >> visits e env (in_store n ∷ fs)
-visited n (node.InstRef c) env fs = given (read_cell c >>= copied (inside_of fs)) env fs
-visited n (node.InstSet c e) env fs = charge (inside_of fs) 1 >> visits e env (in_store n ∷ fs)
-visited n (node.InstAdd c e) env fs = charge (inside_of fs) 1 >> visits e env (in_store n ∷ fs)
+abbrev pub visited : Arena → (node : ℕ) → Node → List Val → List Frame → Run Point
+visited a n (node.Lit v) env fs = given (copied (inside_of fs) (meaning v)) env fs
+visited a n (node.Var k) env fs = given (copied (inside_of fs) (value_at env k)) env fs
+visited a n (node.Let ps b) env fs = charge (inside_of fs) 1 >> next_binding n ps b [] env fs
+visited a n (node.Seq ps) env fs = charge (inside_of fs) 1 >> next_part (in_seq n 0) ps (truth false) env fs
+visited a n (node.If t x y) env fs = charge (inside_of fs) 1 >> visits t env (in_if n 0 ∷ fs)
+visited a n (node.And ps) env fs = charge (inside_of fs) 1 >> next_part (in_and n 0) ps (truth true) env fs
+visited a n (node.Or ps) env fs = charge (inside_of fs) 1 >> next_part (in_or n 0) ps (truth false) env fs
+visited a n (node.For c b) env fs = charge (inside_of fs) 1 >> visits c env (in_count n ∷ fs)
+visited a n (node.Prim o ps) env fs = charge (inside_of fs) 1 >> next_operand n o ps [] env fs
+visited a n (node.Call k ps) env fs = charge (inside_of fs) 1 >> next_argument n (first_of a k) ps [] env fs
+visited a n (node.Send kind b) env fs = charge (inside_of fs) 1 >> (url >>= λ u. visits b (env ++ u ∷ []) (in_page n kind ∷ fs))
+visited a n (node.Finish b) env fs = charge (inside_of fs) 1 >> visits b env (in_finish n ∷ fs)
+visited a n (node.Back b) env fs = charge (inside_of fs) 1 >> visits b env (in_back n ∷ fs)
+visited a n (node.Isolate b) env fs = enter (inside_of fs) >>= λ name. visits b env (in_isolate n name ∷ fs)
+visited a n (node.CellRef c) env fs = given (lookup c >>= copied (inside_of fs)) env fs
+visited a n (node.CellShadow c e) env fs = charge (inside_of fs) 1 >> visits e env (in_store n ∷ fs)
+visited a n (node.InstRef c) env fs = given (read_cell c >>= copied (inside_of fs)) env fs
+visited a n (node.InstSet c e) env fs = charge (inside_of fs) 1 >> visits e env (in_store n ∷ fs)
+visited a n (node.InstAdd c e) env fs = charge (inside_of fs) 1 >> visits e env (in_store n ∷ fs)
 
 -- the variables outside a frame's part
 abbrev pub cut : Frame → List Val → List Val
 cut (in_body n bound) env = take (length env - bound) env
 cut (in_turn n turns done) env = take (length env - 1) env
+cut (in_task n k outer) env = outer
 cut (in_page n kind) env = take (length env - 1) env
 cut _ env = env
 
@@ -160,6 +183,8 @@ cut _ env = env
 abbrev pub taken : Arena → Frame → Val → List Val → List Frame → Run Point
 taken a (in_binding n done) v env fs = next_binding n (bindings_from a n (suc (length done))) (body_at a n) (done ++ v ∷ []) env fs
 taken a (in_operand n done) v env fs = next_operand n (op_at a n) (parts_from a n (suc (length done))) (done ++ v ∷ []) env fs
+taken a (in_call n done) v env fs = next_argument n (task_at a n) (parts_from a n (suc (length done))) (done ++ v ∷ []) env fs
+taken a (in_task n k outer) v env fs = gives v env fs
 taken a (in_body n bound) v env fs = gives v env fs
 taken a (in_seq n k) v env fs = next_part (in_seq n (suc k)) (parts_from a n (suc k)) v env fs
 taken a (in_and n k) v env fs = choose (is_not_false v) (next_part (in_and n (suc k)) (parts_from a n (suc k)) v env fs) (gives v env fs)
@@ -174,17 +199,18 @@ taken a (in_page n kind) v env fs = given (send_page (inside_of fs) kind v) env 
 taken a (in_finish n) v env fs = given (halt (inside_of fs) finishes v) env fs
 taken a (in_back n) v env fs = given (halt (inside_of fs) ends v) env fs
 
--- what is next; where no frame is left the value ends the script
+-- what a machine does next; where no frame is left the value ends the script
 abbrev pub next : Arena → Control → List Val → List Frame → Run Point
-next a (visit n) env fs = visited n (node_at a n) env fs
+next a (visit n) env fs = visited a n (node_at a n) env fs
 next a (value v) env [] = given (halt [] ends v) env []
 next a (value v) env (f ∷ fs) = taken a f v (cut f env) fs
 
--- the variables and the frames behind what is next
+-- the variables that are left of a step: those outside the part of the frame that takes a value, or else all
 abbrev pub outer_env : Control → List Val → List Frame → List Val
 outer_env (value v) env (f ∷ fs) = cut f env
 outer_env _ env fs = env
 
+-- the frames that are left of a step: those outside the frame that takes a value, or else all
 abbrev pub outer_frames : Control → List Frame → List Frame
 outer_frames (value v) (f ∷ fs) = fs
 outer_frames _ fs = fs
@@ -218,7 +244,7 @@ abbrev pub then : (Machine → Step) → Step → Step
 then f (goes m) = f m
 then f (stopped o entered kept state) = stopped o entered kept state
 
--- so many steps, or fewer to a stop
+-- a machine after so many steps, or fewer to a stop
 abbrev pub steps : Arena → ℕ → Machine → Step
 steps a zero m = goes m
 steps a (suc k) m = then (steps a k) (step a m)

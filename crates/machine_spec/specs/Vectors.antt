@@ -3,14 +3,13 @@ use Rattle.std.specs.Prelude.{◌≡◌, ℕ, pos, List, [], ◌∷◌, refl, co
 use Rattle.script_value.specs.Val.{Val, number, text, symbol, list, no_vals, val}
 use Rattle.script_value.specs.declared.outcome.Op.TheVariants as op
 use Rattle.script_nodes.specs.declared.script.SendKind.TheVariants.{Suspend}
-use Rattle.script_nodes.specs.Core.{Core, lit, var, bind, prim, seq, send, isolate, cell_shadow, cores_of}
-use Rattle.script_nodes.specs.Layout.{layout}
-use Rattle.script_nodes.specs.Arena.{Arena}
+use Rattle.script_nodes.specs.Core.{Core, lit, var, bind, prim, seq, send, isolate, cell_shadow, no_cores, cores_of}
+use Rattle.script_nodes.specs.Arena.{Arena, arena_of}
 use Rattle.replay_spec.specs.Tape.{present, Now, recorded, shows, ends, Outcome, paged}
 use Rattle.machine_spec.specs.Machine.{in_binding, in_operand, in_seq, in_isolate, Suspended, Step, goes, stopped, steps}
 use Rattle.machine_spec.specs.Laws.{started, resumed, alone}
 
-abbrev sym : List ℕ → Core
+abbrev pub sym : List ℕ → Core
 sym s = lit (symbol s)
 
 -- a link to the next page, and the number that the visitor answered
@@ -21,14 +20,14 @@ asked words =
     ∷ []))
 
 abbrev script : Core → Arena
-script c = record { nodes = layout 0 c; web = number (pos 5) ∷ []; cells = [] }
+script c = arena_of (record { web = number (pos 5) ∷ []; cells = []; tasks = no_cores; body = c })
 
 -- two numbers are asked for and added
 abbrev sum : Arena
 sum = script (bind (cores_of (asked (codes "1") ∷ asked (codes "2") ∷ []))
     (prim op.List (cores_of (sym (codes "p") ∷ prim op.NumberToString (cores_of (prim op.Add (cores_of (var 0 ∷ var 1 ∷ [])) ∷ [])) ∷ []))))
 
-abbrev now : ℕ → Now
+abbrev pub now : ℕ → Now
 now n = record { number = n; url = codes "/servlets/sum;0*0*0*0000000000000000"; reads = recorded [] }
 
 pub record Seen : Type 0 where
@@ -36,7 +35,7 @@ pub record Seen : Type 0 where
   pub kept : Suspended
   pub cost : ℕ
 
-abbrev seen : Step → Seen
+abbrev pub seen : Step → Seen
 seen (stopped o names d s) = record { outcome = o; kept = d; cost = s.cost }
 seen (goes m) = record { outcome = paged ends []; kept = record { env = m.point.env; frames = m.point.frames; shadows = [] }; cost = 0 }
 
@@ -49,10 +48,10 @@ sum_first : seen (steps sum 20 (started sum (alone (now 0) (present [] 60))))
 sum_first = refl
 
 -- the bindings of a query with this one pair
-abbrev pair : List ℕ → Val
+abbrev pub pair : List ℕ → Val
 pair v = list (val (list (val (symbol (codes "n")) (val (text v) no_vals))) no_vals)
 
--- behind the answer 3 the second binding is worked on
+-- after the answer 3 the second binding is worked on
 abbrev second_page : Suspended
 second_page = record { env = []; frames = in_operand 13 (symbol (codes "n") ∷ []) ∷ in_operand 12 [] ∷ in_binding 0 (number (pos 3) ∷ []) ∷ []; shadows = [] }
 
@@ -63,7 +62,7 @@ sum_second = refl
 abbrev page : List ℕ → Core
 page words = send Suspend (lit (text words))
 
--- a page, and behind it a page in a transaction, behind a shadow
+-- a page, and after it a page in a transaction, after a shadow
 abbrev pay : Arena
 pay = script (seq (cores_of (page (codes "cart") ∷ isolate (seq (cores_of (cell_shadow 0 (lit (number (pos 7))) ∷ page (codes "card") ∷ []))) ∷ [])))
 

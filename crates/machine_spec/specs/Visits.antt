@@ -18,7 +18,7 @@ pub record IsShownBy (v : Visit) (read : List Val) (p : Page) : Type 0 where
   pub reads : p.reads ≡ read
 
 -- From the state of a page the visit comes to what it comes to by the definitions, in no more steps than its own cost and the
--- page's frames allow; and of a page that it shows this state is kept.
+-- page's frames allow; and of a page that it shows the state where it stops is kept.
 pub record GoesOn (a : Arena) (v : Visit) (d : Suspended) (cells : List Val) (fuel : ℕ) : Type 0 where
   pub stops : Stops a (resumed a d (newest v (present cells fuel)))
   pub comes : segment_of stops ≡ comes_to v (present cells fuel)

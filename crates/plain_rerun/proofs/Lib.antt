@@ -1,1 +1,4 @@
+pub mod Goes
+pub mod Rounds
 pub mod Turns
+pub mod Under

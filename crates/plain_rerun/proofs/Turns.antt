@@ -4,10 +4,11 @@ use Rattle.std.specs.Prelude.{negsuc}
 use Rattle.script_value.specs.Val.{Val, number}
 use Rattle.script_value.specs.declared.outcome.TxName.{TxName}
 use Rattle.script_value.specs.declared.outcome.Fault.{Fault}
-use Rattle.prim_ops.specs.Lists.{list_of}
+use Rattle.prim_spec.specs.Lists.{list_of}
 use Rattle.script_nodes.specs.Core.{Core, repeat}
+use Rattle.script_nodes.specs.Arena.{Arena}
 use Rattle.replay_spec.specs.Tape.{Run, State, Outcome, faulted, got, stop, answer, charge}
-use Rattle.replay_spec.specs.Eval.{eval, turns, for_each}
+use Rattle.replay_spec.specs.Eval.{calls_in, eval, turns, for_each}
 use Rattle.plain_rerun.specs.Parts.{turns_at}
 use Rattle.segment_progress.specs.Counts.{count_of}
 
@@ -39,19 +40,19 @@ turns_stop count i done body env s t o entered h e =
     rw left (one_stop (count - (i + 1)) i done body env s t o entered e)
 
 -- what stands before and behind one turn of a loop
-pub turn_kept : (count i : ℕ) (b : Core) (env env1 : List Val) (inside inside1 : List TxName) (done : List Val) (first s t : State) (v : Val)
-    → i < count → env1 ≡ env ++ number (pos i) ∷ [] → inside1 ≡ inside → eval b env1 inside1 s ≡ got v t
-    → turns count 0 [] (λ e. eval b e inside) env first ≡ turns (count - i) i done (λ e. eval b e inside) env s
-    → turns count 0 [] (λ e. eval b e inside) env first ≡ turns (count - (i + 1)) (i + 1) (done ++ v ∷ []) (λ e. eval b e inside) env t
-turn_kept count i b env env1 inside inside1 done first s t v h n o e before =
+pub turn_kept : (a : Arena) (count i : ℕ) (b : Core) (env env1 : List Val) (inside inside1 : List TxName) (done : List Val) (first s t : State) (v : Val)
+    → i < count → env1 ≡ env ++ number (pos i) ∷ [] → inside1 ≡ inside → eval (calls_in a) b env1 inside1 s ≡ got v t
+    → turns count 0 [] (λ e. eval (calls_in a) b e inside) env first ≡ turns (count - i) i done (λ e. eval (calls_in a) b e inside) env s
+    → turns count 0 [] (λ e. eval (calls_in a) b e inside) env first ≡ turns (count - (i + 1)) (i + 1) (done ++ v ∷ []) (λ e. eval (calls_in a) b e inside) env t
+turn_kept a count i b env env1 inside inside1 done first s t v h n o e before =
     let here = rw (n, o) at e in
-    before ∙ turns_next count i done (λ e. eval b e inside) env s t v h here
+    before ∙ turns_next count i done (λ e. eval (calls_in a) b e inside) env s t v h here
 
 -- the count of a loop, and then its turns
-pub repeat_goes : (n b : Core) (env env1 : List Val) (inside inside1 inside2 : List TxName) (s s1 s2 : State) (v : Val)
-    → charge inside 1 s ≡ got tt s1 → inside1 ≡ inside → eval n env inside1 s1 ≡ got v s2 → env1 ≡ env → inside2 ≡ inside1
-    → eval (repeat n b) env inside s ≡ turns_at v b env1 inside2 s2
-repeat_goes n b env env1 inside inside1 inside2 s s1 s2 v e i f k j =
+pub repeat_goes : (a : Arena) (n b : Core) (env env1 : List Val) (inside inside1 inside2 : List TxName) (s s1 s2 : State) (v : Val)
+    → charge inside 1 s ≡ got tt s1 → inside1 ≡ inside → eval (calls_in a) n env inside1 s1 ≡ got v s2 → env1 ≡ env → inside2 ≡ inside1
+    → eval (calls_in a) (repeat n b) env inside s ≡ turns_at a v b env1 inside2 s2
+repeat_goes a n b env env1 inside inside1 inside2 s s1 s2 v e i f k j =
     let g = rw i at f in
     rw (j, i, k, e, g) refl
 

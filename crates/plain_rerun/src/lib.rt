@@ -1,8 +1,9 @@
-//! The slow engine: a script is run again from its start over the answers of a tape.
+//! The slow twin of the engine, which runs a script again from its start: for tests alone.
 #![tactic(auto)]
 
 mod engine;
 mod goes_on;
+mod nodes;
 
 pub use engine::rerun;
 pub use segments::{Answer, Now, PlainEnd, Reads, Rerun, Tape};

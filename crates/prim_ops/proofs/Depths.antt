@@ -3,7 +3,7 @@ use Rattle.std.proofs.Common.{◌≡◌, true, List, [], ◌∷◌, ◌++◌, ma
 use Rattle.std.specs.Prelude.{nat_lt}
 use Rattle.std.proofs.lemmas.Bool.Decides.{nat_tests}
 use Rattle.script_value.specs.Val.{Val, Vals, list, no_vals, val, vals_of, items_of, depth, depth_all}
-use Rattle.prim_ops.specs.Lists.{are_lists, joined, is_any_too_deep}
+use Rattle.prim_spec.specs.Lists.{are_lists, joined, is_any_too_deep}
 
 depth_of_two : (vs ws : List Val) → depth_all (vals_of (vs ++ ws)) ≡ max (depth_all (vals_of vs)) (depth_all (vals_of ws))
 depth_of_two [] ws = omega arith

@@ -3,7 +3,7 @@ use Rattle.std.proofs.Common.{◌≡◌, List, [], ◌∷◌, map, length, None,
 use Rattle.script_value.specs.Val.{vals_of}
 use Rattle.script_value.specs.Views.{meaning}
 use Rattle.script_value.specs.declared.value.Value.{Value}
-use Rattle.prim_ops.specs.Bindings.{pair_in}
+use Rattle.prim_spec.specs.Bindings.{pair_in}
 
 pub no_pair : (xs : List Value) → (length xs ≡ 2 → ⊥) → None ≡ pair_in (vals_of (map meaning xs))
 no_pair [] h = refl

@@ -1,9 +1,1 @@
-pub mod Bindings
-pub mod Lists
-pub mod Numbers
-pub mod Same
-pub mod Table
-pub mod Texts
-pub mod Vectors
-pub mod VectorsOfLists
-pub mod VectorsOfTexts
+pub mod Applied

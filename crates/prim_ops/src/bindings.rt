@@ -3,8 +3,9 @@ ghost use Rattle.std.specs.Str.{bytes_eq};
 ghost use Rattle.script_value.specs.Val.{text, truth, vals_of};
 ghost use Rattle.script_value.specs.Views.{meaning};
 ghost use Rattle.script_value.specs.declared.outcome.Op.TheVariants as op;
-ghost use Rattle.prim_ops.specs.Bindings as spec;
-ghost use Rattle.prim_ops.specs.Table.{Answers, Applies, Finds, value_of};
+ghost use Rattle.prim_spec.specs.Bindings as spec;
+ghost use Rattle.prim_spec.specs.Table.{value_of};
+ghost use Rattle.prim_ops.specs.Applied.{Answers, Applies, Finds};
 
 use crate::fault::ApplyFault;
 use script_value::{Fault, Items, Str, Value};

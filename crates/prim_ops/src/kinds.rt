@@ -2,8 +2,9 @@ ghost use Rattle.std.specs.Prelude.{◌≡◌, map};
 ghost use Rattle.script_value.specs.Views.{meaning};
 ghost use Rattle.script_value.specs.declared.outcome.Op.TheVariants as op;
 ghost use Rattle.script_value.specs.Val.{list, vals_of};
-ghost use Rattle.prim_ops.specs.Same.{same};
-ghost use Rattle.prim_ops.specs.Table.{Answers, is_empty_list, value_of};
+ghost use Rattle.prim_spec.specs.Same.{same};
+ghost use Rattle.prim_spec.specs.Table.{is_empty_list, value_of};
+ghost use Rattle.prim_ops.specs.Applied.{Answers};
 
 use script_value::{Fault, Items, Value, equal};
 

@@ -1,4 +1,4 @@
-//! What an operation gives for its operands.
+//! What an operation gives for its operands, in code: for the engine and the table of forms.
 #![tactic(auto)]
 
 mod bindings;

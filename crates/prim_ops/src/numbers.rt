@@ -1,8 +1,9 @@
 ghost use Rattle.std.specs.Prelude.{◌≡◌, [], map, pos};
 ghost use Rattle.script_value.specs.Views.{meaning};
 ghost use Rattle.script_value.specs.declared.outcome.Op.TheVariants as op;
-ghost use Rattle.prim_ops.specs.Numbers as spec;
-ghost use Rattle.prim_ops.specs.Table.{Answers, value_of};
+ghost use Rattle.prim_spec.specs.Numbers as spec;
+ghost use Rattle.prim_spec.specs.Table.{value_of};
+ghost use Rattle.prim_ops.specs.Applied.{Answers};
 
 use script_value::{Fault, Value};
 

@@ -1,6 +1,6 @@
 ghost use Rattle.std.specs.Prelude.{◌≡◌, option_map};
 ghost use Rattle.script_value.specs.Views.{meaning};
-ghost use Rattle.prim_ops.specs.Table as spec;
+ghost use Rattle.prim_spec.specs.Table as spec;
 
 use script_value::{Items, Value};
 

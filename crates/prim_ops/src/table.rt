@@ -1,6 +1,7 @@
 ghost use Rattle.std.specs.Prelude.{◌≡◌, length, IsTrue};
-ghost use Rattle.prim_ops.specs.Table as spec;
-ghost use Rattle.prim_ops.specs.Table.{Applies, value_of};
+ghost use Rattle.prim_spec.specs.Table as spec;
+ghost use Rattle.prim_spec.specs.Table.{value_of};
+ghost use Rattle.prim_ops.specs.Applied.{Applies};
 
 use crate::bindings::{all_bindings, exists_binding, single_binding};
 use crate::fault::ApplyFault;

@@ -2,8 +2,9 @@ ghost use Rattle.std.specs.Prelude.{◌≡◌, IfOk, length, map, string_bytes};
 ghost use Rattle.std.specs.Str.{chars};
 ghost use Rattle.script_value.specs.Views.{meaning};
 ghost use Rattle.script_value.specs.declared.outcome.Op.TheVariants as op;
-ghost use Rattle.prim_ops.specs.Texts as spec;
-ghost use Rattle.prim_ops.specs.Table.{Answers, Applies, value_of};
+ghost use Rattle.prim_spec.specs.Texts as spec;
+ghost use Rattle.prim_spec.specs.Table.{value_of};
+ghost use Rattle.prim_ops.specs.Applied.{Answers, Applies};
 
 use crate::fault::ApplyFault;
 use crate::numbers::count;

@@ -1,4 +1,5 @@
 pub mod Every
+pub mod Calling
 pub mod OnCells
 pub mod Mirror
 pub mod Second

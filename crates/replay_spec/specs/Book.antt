@@ -95,7 +95,7 @@ pub record Book : Type 0 where
   pub down : Option Doubt
   pub instances : List Instance
 
--- the first of a number
+-- the first in a list that has this number
 abbrev pub at_number : {A : Type 0} → (A → ℕ) → ℕ → List A → Option A
 at_number number n [] = None
 at_number number n (x ∷ xs) = if number x == n then Some x else at_number number n xs
@@ -127,10 +127,11 @@ is_expired clock p = nat_le p.deadline clock
 abbrev pub is_live : ℕ → Instance → Bool
 is_live clock i = not (list_all (is_expired clock) i.pages)
 
--- a number is taken; it is published
+-- the book after a number is taken
 abbrev pub draw : Book → Book
 draw b = record b { drawn = b.drawn + 1; out = b.out ++ b.drawn ∷ [] }
 
+-- the book after a number is published
 abbrev pub spend : ℕ → Book → Book
 spend n b = record b { out = filter (λ m. not (m == n)) b.out }
 
@@ -138,6 +139,6 @@ spend n b = record b { out = filter (λ m. not (m == n)) b.out }
 abbrev pub reopened : Book → Book
 reopened b = record b { drawn = b.logged; out = []; down = None }
 
--- and has this setup from then on
+-- the shelf is opened again with this setup: numbers that no record has are drawn again
 abbrev pub reopened_with : List Named → Book → Book
 reopened_with scripts b = record (reopened b) { scripts = scripts }

@@ -9,12 +9,12 @@ use Rattle.script_nodes.specs.declared.script.SendKind.TheVariants.{Suspend, For
 use Rattle.replay_spec.specs.Book.{Page, Instance, Opening, Extension, Change, opens, extends, ends, finishes, sweeps, Book, is_live, reopened}
 use Rattle.replay_spec.specs.Rules.{Journal, Rules}
 
--- the first instance of this number, changed
+-- the instances with the first of this number changed
 abbrev pub mend : ℕ → (Instance → Instance) → List Instance → List Instance
 mend n f [] = []
 mend n f (i ∷ is) = if i.number == n then f i ∷ is else i ∷ mend n f is
 
--- one more among others in the order of their numbers, in the place of the one of its number
+-- a list in the order of its numbers with one more, in the place of the one of its number, if there is one
 abbrev pub put_in_order : {A : Type 0} → (A → ℕ) → A → List A → List A
 put_in_order number x [] = x ∷ []
 put_in_order number x (y ∷ ys) =
@@ -26,7 +26,7 @@ put_page p ps = put_in_order (λ q. q.number) p ps
 abbrev pub put_instance : Instance → List Instance → List Instance
 put_instance i is = put_in_order (λ j. j.number) i is
 
--- the page that a start showed inside these transactions, and the one that an answer showed
+-- the page that a start showed inside these transactions
 abbrev pub root_by : Opening → List TxName → Page
 root_by o inside = record {
   number = o.number;
@@ -38,6 +38,7 @@ root_by o inside = record {
   deadline = o.deadline;
 }
 
+-- the page that an answer showed inside these transactions
 abbrev pub page_by : Extension → List TxName → Page
 page_by x inside = record {
   number = x.number;
@@ -49,15 +50,16 @@ page_by x inside = record {
   deadline = x.deadline;
 }
 
--- a page that forwards revokes all that are there
+-- the numbers of revoked pages after a page is shown: one that forwards revokes all that are there
 abbrev pub revoked_by : SendKind → List Page → List ℕ → List ℕ
 revoked_by Suspend ps revoked = revoked
 revoked_by Forward ps revoked = map (λ p. p.number) ps
 
--- an instance after a segment that did this to its cells and left these transactions; and after one that showed a page
+-- an instance after a segment that did this to its cells and left these transactions
 abbrev pub done : List Effect → List TxName → Instance → Instance
 done effects left i = record i { cells = commit effects i.cells; closed = i.closed ++ left }
 
+-- an instance after a segment that did this to its cells, left these transactions and showed a page
 abbrev pub shown_by : List Effect → List TxName → SendKind → Page → Instance → Instance
 shown_by effects left kind p i =
     record (done effects left i) { revoked = revoked_by kind i.pages i.revoked; pages = put_page p i.pages }
@@ -66,7 +68,7 @@ shown_by effects left kind p i =
 abbrev pub fresh : Named → (number : ℕ) → Instance
 fresh s n = record { number = n; script = s; cells = s.script.cells; closed = []; revoked = []; pages = [] }
 
--- the instance that a start of this script opens, if there is one
+-- the instances with the one that a start of this script opens, if there is a script
 abbrev pub opened_by : Option Named → Opening → List TxName → List Instance → List Instance
 opened_by None o inside is = is
 opened_by (Some s) o inside is = put_instance (shown_by o.effects o.left o.kind (root_by o inside) (fresh s o.number)) is
@@ -84,7 +86,7 @@ instances_by scripts (ends e) inside is = mend e.instance (done e.effects e.left
 instances_by scripts (finishes f) inside is = without f.instance is
 instances_by scripts (sweeps tick) inside is = filter (is_live tick) is
 
--- one more than the number of the segment that did it
+-- one more than the number of the segment that made a change, and 0 for a tick
 abbrev pub logged_by : Change → ℕ
 logged_by (opens o) = o.number + 1
 logged_by (extends x) = x.number + 1
@@ -100,7 +102,7 @@ clock_by _ clock = clock
 abbrev pub record_length : Journal → Book → Change → ℕ
 record_length j b c = j.length_of (reopened b) c
 
--- how long a journal is with one more record: behind its gate stand the length, the body and the next gate
+-- how long a journal is with one more record: after its gate stand the length, the body and the next gate
 abbrev pub longer_by : Option Journal → Book → Change → ℕ
 longer_by None b c = b.length
 longer_by (Some j) b c = b.length + (record_length j b c + 5)

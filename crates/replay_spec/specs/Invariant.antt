@@ -12,11 +12,12 @@ use Rattle.replay_spec.specs.Change.{root_by, page_by}
 use Rattle.replay_spec.specs.Admission.{is_one}
 use Rattle.replay_spec.specs.Next.{home, page_tape}
 
--- a number is among these; all are different
+-- a number is among these
 abbrev pub Among : ℕ → List ℕ → Type 0
 Among n [] = ⊥
 Among n (m ∷ ms) = (m ≡ n) ⊎ Among n ms
 
+-- these numbers are all different
 abbrev pub AreDifferent : List ℕ → Type 0
 AreDifferent [] = ⊤
 AreDifferent (n ∷ ns) = (Among n ns → ⊥) × AreDifferent ns
@@ -26,7 +27,7 @@ abbrev pub Apart : List Instance → Type 0
 Apart [] = ⊤
 Apart (i ∷ is) = (instance_at i.number is ≡ None) × Apart is
 
--- and those of pages
+-- the numbers of pages are all different
 abbrev pub PagesApart : List Page → Type 0
 PagesApart [] = ⊤
 PagesApart (p ∷ ps) = (page_at p.number ps ≡ None) × PagesApart ps
@@ -42,12 +43,13 @@ pub record Lineage (ps : List Page) (p : Page) : Type 0 where
   pub are : AreAncestors ps p ancestors
   pub few : suc (length ancestors) ≤ length ps
 
--- the page stands under this number in the instance of this number; some page does
+-- the page stands under this number in the instance of this number
 pub record PageAt (is : List Instance) (k m : ℕ) (p : Page) : Type 0 where
   pub instance : Instance
   pub found : instance_at k is ≡ Some instance
   pub shown : page_at m instance.pages ≡ Some p
 
+-- some page stands under this number in the instance of this number
 abbrev pub HasPage : List Instance → (k m : ℕ) → Type 0
 HasPage is k m = (p : Page) × PageAt is k m p
 
@@ -63,7 +65,7 @@ abbrev pub IsDoubted : ℕ → Option Doubt → Type 0
 IsDoubted n None = ⊥
 IsDoubted n (Some doubt) = IsOf n doubt.change
 
--- a number of a segment to come, or in doubt
+-- a number that is out, in doubt, or above those in records
 abbrev pub Unused : Book → ℕ → Type 0
 Unused b n = Among n b.out ⊎ (IsDoubted n b.down ⊎ (b.logged ≤ n))
 
@@ -114,18 +116,20 @@ pub record Replays (s : Named) (shelf instance : ℕ) (ancestors : List Page) (p
   pub inside : (more : List Val) → (run s.script (page_tape (home s shelf instance) (reverse ancestors) (with_more more p))).entered ≡ p.inside
   pub read : (more : List Val) → unread (end_of s.script (page_tape (home s shelf instance) (reverse ancestors) (with_more more p))) ≡ more
 
--- the instance of this number has a page inside the transaction; it has closed it; it has to do with it so or so
+-- the instance of this number has a page inside the transaction
 pub record NamedIn (is : List Instance) (k : ℕ) (t : TxName) : Type 0 where
   pub number : ℕ
   pub page : Page
   pub stands : PageAt is k number page
   pub within : Has page.inside t
 
+-- the instance of this number has closed the transaction
 pub record ClosedIn (is : List Instance) (k : ℕ) (t : TxName) : Type 0 where
   pub instance : Instance
   pub found : instance_at k is ≡ Some instance
   pub closed : Has instance.closed t
 
+-- the instance of this number has a page inside the transaction, or has closed it
 abbrev pub Knows : List Instance → (k : ℕ) → TxName → Type 0
 Knows is k t = NamedIn is k t ⊎ ClosedIn is k t
 
@@ -148,14 +152,15 @@ pub record Leaving (is : List Instance) (k n : ℕ) (left : List TxName) : Type 
   pub is_open : (t : TxName) → Has page.inside t → Has instance.closed t → ⊥
   pub among : (t : TxName) → Has left t → Has page.inside t
 
--- and shows a page, which is inside some of these and of its own
+-- an answer to the page of this number, in the instance of this number, that leaves these transactions and shows a page,
+-- which is inside some of the answered page's transactions and of its own
 pub record Child (shelf : ℕ) (is : List Instance) (k n : ℕ) (left : List TxName) (p : Page) : Type 0 where
   pub from : Leaving is k n left
   pub parent : p.parent ≡ Some n
   pub own : (t : TxName) → Has p.inside t → Has from.page.inside t ⊎ (t.ticket ≡ p.number)
   pub replays : (h : Lineage from.instance.pages from.page) → Replays from.instance.script shelf from.instance.number (from.page ∷ h.ancestors) p
 
--- a start of the script of this place, which leaves none, and its page
+-- a start of the script of this place, which leaves no transaction, and the page that it shows
 pub record Root (scripts : List Named) (shelf k : ℕ) (left : List TxName) (p : Page) : Type 0 where
   pub parent : p.parent ≡ None
   pub nothing : (t : TxName) → Has left t → ⊥
@@ -176,7 +181,8 @@ abbrev pub IsSoundDoubt : List Named → (shelf : ℕ) → List Instance → Opt
 IsSoundDoubt scripts shelf is None = ⊤
 IsSoundDoubt scripts shelf is (Some doubt) = IsSoundChange scripts shelf is doubt.change doubt.inside
 
--- Orderly, its instances are sound, and what is in doubt can still land. Each book of a run from the empty one is such a one.
+-- A book is orderly, its instances are sound, and what is in doubt can still land. Each book of a run from the empty one is such
+-- a one.
 pub record IsSound (b : Book) : Type 0 where
   pub orderly : IsOrderly b
   pub instances : AreSound (Unused b) b.shelf b.instances

@@ -6,9 +6,9 @@ use Rattle.script_value.specs.declared.outcome.Refusal.TheVariants.{Unknown, Rev
 use Rattle.page_names.specs.Names.{Destination, start, page}
 use Rattle.page_names.specs.declared.names.PageName.{PageName}
 use Rattle.instance_cells.specs.Cells.{Holds, AreOn, reads_of}
-use Rattle.script_nodes.specs.Core.{OnCells}
+use Rattle.script_nodes.specs.Core.{AllOnCells}
 use Rattle.script_nodes.specs.declared.script.SendKind.TheVariants.{Forward}
-use Rattle.script_nodes.specs.Setup.{Script, Named}
+use Rattle.script_nodes.specs.Setup.{Script, Named, trees_of}
 use Rattle.replay_spec.specs.Names.{Has, first_closed}
 use Rattle.replay_spec.specs.Tape.{Reads, recorded, present, bound, Now, Answer, Tape, tape_behind, shows, Outcome, paged, out_of_fuel, End, got, stop}
 use Rattle.replay_spec.specs.Eval.{Segment, end_of, run, unread}
@@ -21,23 +21,25 @@ use Rattle.replay_spec.specs.Step.{Event, take, publish, sweep, crash, Fate, Rep
 use Rattle.replay_spec.specs.Runs.{Shelf, shelf_step, after, lands, with_change}
 use Rattle.replay_spec.specs.Invariant.{Among, AreDifferent, AreAncestors, Replays, PageAt, Unused, IsOrderly, IsSound}
 
--- each of these segments is past: its reads were recorded
+-- a segment is past: its reads were recorded
 abbrev pub IsRecorded : Reads → Type 0
 IsRecorded (recorded vs) = ⊤
 IsRecorded (present cells fuel) = ⊥
 
+-- each of the segments of these answers is past
 abbrev pub ArePast : List Answer → Type 0
 ArePast [] = ⊤
 ArePast (a ∷ later) = IsRecorded a.segment.reads × ArePast later
 
--- an answer whose segment reads from there
+-- an answer whose segment has these reads
 abbrev pub reading : Reads → Answer → Answer
 reading reads a = record a { segment = record a.segment { reads = reads } }
 
--- the end of a script behind past segments, the newest of which reads from there, and what it comes to
+-- the end of a script over past segments and then the one of this answer, which has these reads
 abbrev pub end_behind : Script → (past : List Answer) → Answer → Reads → End Val
 end_behind s past a reads = end_of s (tape_behind past (reading reads a))
 
+-- what a script comes to over past segments and then the one of this answer, which has these reads
 abbrev pub run_behind : Script → (past : List Answer) → Answer → Reads → Segment
 run_behind s past a reads = run s (tape_behind past (reading reads a))
 
@@ -48,7 +50,7 @@ EffectsHoldRunSame =
     → Holds (run_behind s past a (present before fuel)).effects now
     → run_behind s past a (present now fuel) ≡ run_behind s past a (present before fuel)
 
--- So a publish may take what the first run came to, over whatever cells, where its effects hold over the cells of now.
+-- A publish may take what the first run came to, over whatever cells, where its effects hold over the cells of now.
 abbrev pub AHeldRunIsNext : Type 0
 AHeldRunIsNext =
     (rules : Rules) (b : Book) (t : Ticket) (at : Place) (before : List Val)
@@ -58,17 +60,19 @@ AHeldRunIsNext =
 
 -- The effects of a run are on the cells that its script names.
 abbrev pub EffectsAreOnCells : Type 0
-EffectsAreOnCells = (s : Script) (t : Tape) (web cells : ℕ) → OnCells web cells s.body → AreOn cells (run s t).effects
+EffectsAreOnCells = (s : Script) (t : Tape) (web cells : ℕ) → AllOnCells web cells (trees_of s) → AreOn cells (run s t).effects
 
--- a run stops with a page; with one that waits for an answer; with a page or a fault
+-- a run stops with a page
 abbrev pub Pages : Outcome → Type 0
 Pages (paged how bytes) = ⊤
 Pages _ = ⊥
 
+-- a run stops with a page that waits for an answer
 abbrev pub Waits : Outcome → Type 0
 Waits (paged (shows kind) bytes) = ⊤
 Waits _ = ⊥
 
+-- a run stops with a page or a fault, and not for want of fuel
 abbrev pub IsInFuel : Outcome → Type 0
 IsInFuel (out_of_fuel cost) = ⊥
 IsInFuel _ = ⊤
@@ -90,12 +94,12 @@ MoreFuelIsTheSame =
     → IsInFuel (run_behind s past a (present cells fuel)).outcome
     → run_behind s past a (present cells more) ≡ run_behind s past a (present cells fuel)
 
--- each of these was entered by the segment of this number
+-- each of these transactions was entered by the segment of this number
 abbrev pub AreOf : ℕ → List TxName → Type 0
 AreOf n [] = ⊤
 AreOf n (t ∷ ts) = (t.ticket ≡ n) × AreOf n ts
 
--- all different
+-- these transactions are all different
 abbrev pub Distinct : List TxName → Type 0
 Distinct [] = ⊤
 Distinct (t ∷ ts) = (Has ts t → ⊥) × Distinct ts
@@ -136,7 +140,7 @@ abbrev pub IsLawful : Event → Book → Type 0
 IsLawful (publish t) b = Contains b.out t.number
 IsLawful _ b = ⊤
 
--- what an event meets: the rules that the shelf was opened under, the next nonce, and its fate
+-- what an event meets: the rules that the shelf was opened under, the next nonce, the event itself and its fate
 pub record Moment : Type 0 where
   pub rules : Rules
   pub nonce : ℕ
@@ -172,24 +176,25 @@ moments_of source (x ∷ xs) s =
 abbrev pub IsLawfulRun : (source : ℕ → ℕ) → List (Event × Fate) → Shelf → Type 0
 IsLawfulRun source xs s = AreLawful (moments_of source xs s) s.book
 
--- lawful events lead to it from an empty book of this shelf
+-- lawful events lead to a book from an empty one of this shelf
 pub record IsReached (shelf : ℕ) (b : Book) : Type 0 where
   pub rules : Rules
   pub scripts : List Named
   pub from : Leads (empty_book rules scripts shelf) b
 
--- Each lawful event keeps a book orderly, of its shelf, with fewer unused numbers, and a sound one sound.
+-- An empty book is orderly; each lawful event keeps a book orderly, of its shelf, with fewer unused numbers.
 abbrev pub OrderlyBooksStay : Type 0
 OrderlyBooksStay =
     ((rules : Rules) (scripts : List Named) (shelf : ℕ) → IsOrderly (empty_book rules scripts shelf))
     × ((b c : Book) → IsOrderly b → Leads b c → IsOrderly c × (c.shelf ≡ b.shelf) × ((n : ℕ) → Unused c n → Unused b n))
 
+-- An empty book is sound, and each lawful event keeps a sound book sound.
 abbrev pub SoundBooksStay : Type 0
 SoundBooksStay =
     ((rules : Rules) (scripts : List Named) (shelf : ℕ) → IsSound (empty_book rules scripts shelf))
     × ((b c : Book) → IsSound b → Leads b c → IsSound c)
 
--- So each book that is reached is sound, and of its shelf; what is reached from it has fewer unused numbers, and each run
+-- Each book that is reached is sound, and of its shelf; what is reached from it has fewer unused numbers, and each run
 -- of a shelf reaches its last book.
 abbrev pub ReachedBooksAreSound : Type 0
 ReachedBooksAreSound =
@@ -211,31 +216,31 @@ EachChainReplays =
     → (k n : ℕ) (i : Instance) (p : Page) → instance_at k b.instances ≡ Some i → page_at n i.pages ≡ Some p
     → (ancestors : List Page) × (AreAncestors i.pages p ancestors × (chain i.pages p ≡ reverse (p ∷ ancestors)) × Replays i.script b.shelf i.number ancestors p)
 
--- the same page, behind the same pages, whatever is the answer to it
+-- two places are of the same page, after the same pages, whatever is the answer to it
 pub record IsSame (b c : Book) (x y : Place) : Type 0 where
   pub page : y.page ≡ x.page
   pub visit : (t : Ticket) → page_visit b t x ≡ page_visit c t y
 
--- A page that was shown stands as long as its instance does, behind the pages that it had behind it, whatever was visited
+-- A page that was shown stands as long as its instance does, after the pages that it came after, whatever was visited
 -- since, also in crashes: what may end it is why it can't be answered, or that its instance is freed.
 abbrev pub PagesStay : Type 0
 PagesStay =
     (b c : Book) → IsOrderly b → Leads b c → (name : List ℕ) (n : PageName) (x : Place) → place_at b name n ≡ Some x
     → (instance_at n.instance c.instances ≡ None) ⊎ ((y : Place) × ((place_at c name n ≡ Some y) × IsSame b c x y))
 
--- what is answered `taken` draws the next number and the next nonce, and what is not leaves the book
+-- a take that is answered `taken` draws the next number and the next nonce, and one that is not leaves the book
 abbrev pub Takes : Book → (nonce : ℕ) → Reply → Book → Type 0
 Takes b nonce (taken n m) c = (n ≡ b.drawn) × (m ≡ nonce) × (c ≡ draw b)
 Takes b nonce _ c = c ≡ b
 
--- a decision's change landed
+-- the change that was decided landed in the book
 pub record Lands (rules : Rules) (b : Book) (d : Decision) (r : Reply) (c : Book) : Type 0 where
   pub change : Change
   pub inside : List TxName
   pub decided : d ≡ records r change inside
   pub landed : c ≡ land rules change inside b
 
--- or is in doubt, with this count
+-- the change that was decided is in doubt in the book, with this count
 pub record Doubts (b : Book) (d : Decision) (count : ℕ) (c : Book) : Type 0 where
   pub reply : Reply
   pub change : Change
@@ -243,9 +248,8 @@ pub record Doubts (b : Book) (d : Decision) (count : ℕ) (c : Book) : Type 0 wh
   pub decided : d ≡ records reply change inside
   pub left : c ≡ record b { down = Some (record { count = count; change = change; inside = inside }) }
 
--- What shows a page lands what was decided, and so does a sweep. What ends or finishes lands it, or leaves the book where
--- nothing was to be recorded. The disk's fault leaves in doubt just what was decided, with the count that it tells. All
--- else leaves the book.
+-- What shows a page lands what was decided, and so does a sweep; what ends or finishes lands it, if it was to be recorded.
+-- The disk's fault leaves in doubt what was decided, with the count that it tells. All else leaves the book.
 abbrev pub Spares : Rules → Book → Decision → Reply → Book → Type 0
 Spares rules b d (shown bytes url) c = Lands rules b d (shown bytes url) c
 Spares rules b d (swept n) c = Lands rules b d (swept n) c
@@ -280,6 +284,7 @@ abbrev pub names_of : Option Page → List TxName
 names_of None = []
 names_of (Some p) = p.inside
 
+-- the transactions that the page of this number is inside, if it is in this instance
 abbrev pub names_in : ℕ → Option Instance → List TxName
 names_in n None = []
 names_in n (Some i) = names_of (page_at n i.pages)
@@ -298,11 +303,12 @@ closes is (ends e) = e.left
 closes is (finishes f) = names_in f.page (instance_at f.instance is)
 closes is (sweeps tick) = []
 
+-- the transactions that a change closes, if there is one
 abbrev pub closed_by : List Instance → Option Change → List TxName
 closed_by is None = []
 closed_by is (Some c) = closes is c
 
--- by the event a change takes effect that closes the transaction
+-- the event lands a change that closes the transaction
 abbrev pub Leaves : TxName → Book → Moment → Type 0
 Leaves name b m = Has (closed_by b.instances (lands m.rules b m.event m.fate)) name
 
@@ -312,7 +318,7 @@ IsOn name b (take target answer) = Has (names_at b target) name
 IsOn name b (publish t) = Has (names_at b t.target) name
 IsOn name b _ = ⊥
 
--- what an event on a page inside a closed transaction is answered
+-- a reply that an event on a page inside a closed transaction may have
 abbrev pub IsRefusal : Reply → Type 0
 IsRefusal (refusal Unknown) = ⊤
 IsRefusal (refusal Revoked) = ⊤
@@ -327,8 +333,8 @@ abbrev pub without_effect : Event → Book → Book
 without_effect (publish t) b = spend t.number b
 without_effect _ b = b
 
--- After an event that left a transaction none leaves it, and each on a page that is inside it, or was in any book before, is
--- refused without effect.
+-- After an event that left a transaction no event leaves it, and each on a page that is inside it, or was in any book before,
+-- is refused without effect.
 abbrev pub ClosedIsClosed : Type 0
 ClosedIsClosed =
     (b c : Book) (leaving next : Moment) (name : TxName) → IsSound b → IsLawful leaving.event b → Leaves name b leaving
@@ -342,18 +348,19 @@ pub record NamesDiffer (b : Book) : Type 0 where
   pub pages : (k n : ℕ) (i : Instance) (p : Page) → instance_at k b.instances ≡ Some i → page_at n i.pages ≡ Some p → Distinct p.inside
   pub doubt : (d : Doubt) → b.down ≡ Some d → Distinct d.inside
 
--- fuel that is too little for the count of a segment's transactions to stand still
+-- each of these moments has fuel that is too little for the count of a segment's transactions to stand still
 abbrev pub AreShort : List Moment → Type 0
 AreShort [] = ⊤
 AreShort (m ∷ ms) = (m.rules.fuel < 2 ^ 32 - 1) × AreShort ms
 
--- Under such fuel the names in a book go on to differ.
+-- Where fuel is too little for the count of a segment's transactions to stand still, the names in a book go on to differ.
 abbrev pub NamesStayDifferent : Type 0
 NamesStayDifferent =
     ((rules : Rules) (scripts : List Named) (shelf : ℕ) → NamesDiffer (empty_book rules scripts shelf))
     × ((b : Book) (ms : List Moment) → IsSound b → NamesDiffer b → AreLawful ms b → AreShort ms → NamesDiffer (book_after ms b))
 
--- Then a page is inside no closed transaction when it is shown, those included that its own segment left.
+-- Where the names in a book differ, a page is inside no closed transaction when it is shown, those included that its own segment
+-- left.
 abbrev pub ShownIsOpen : Type 0
 ShownIsOpen =
     (rules : Rules) (b : Book) (t : Ticket) (at : Place) → IsSound b → NamesDiffer b → IsLawful (publish t) b → admit b t.target ≡ resumes at
@@ -366,7 +373,7 @@ pub record RevokedIn (is : List Instance) (k n : ℕ) : Type 0 where
   pub found : instance_at k is ≡ Some instance
   pub revoked : is_one n instance.revoked ≡ true
 
--- by the event a page of this instance was answered with one that forwards
+-- the event lands an answer to a page of this instance with a page that forwards
 pub record Forwards (rules : Rules) (b : Book) (event : Event) (fate : Fate) (k : ℕ) : Type 0 where
   pub extension : Extension
   pub lands : lands rules b event fate ≡ Some (extends extension)
@@ -417,7 +424,7 @@ abbrev pub tickets_over : List Moment → Book → List Ticket → List Ticket
 tickets_over [] b ts = ts
 tickets_over (m ∷ ms) b ts = tickets_over ms (then_book m b) (tickets_by m.event (step m.rules b m.nonce m.event m.fate).0 ts)
 
--- The numbers that are out are those of these tickets, and are all different.
+-- The numbers of the tickets that are out are those that are out in the book, and are all different.
 abbrev pub TicketsAreOut : Type 0
 TicketsAreOut =
     (ms : List Moment) (b : Book) (ts : List Ticket) → IsOrderly b → AreLawful ms b

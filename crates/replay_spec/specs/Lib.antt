@@ -12,6 +12,7 @@ pub mod Recovery
 pub mod Samples
 pub mod Vectors
 pub mod VectorsTape
+pub mod VectorsTasks
 pub mod VectorsOrder
 pub mod VectorsRecovery
 pub mod Invariant

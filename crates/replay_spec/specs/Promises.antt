@@ -44,30 +44,31 @@ AShownPageIsAdmitted =
     → (bytes url : List ℕ) → (step rules b nonce (publish t) fate).0 ≡ shown bytes url
     → IsAdmitted (step rules b nonce (publish t) fate).1 url t
 
--- Nothing else closes a transaction in an instance than a segment that left it.
+-- Nothing closes a transaction in an instance but an event that leaves it.
 abbrev pub NothingElseCloses : Type 0
 NothingElseCloses =
     (b : Book) (m : Moment) → IsSound b → (k : ℕ) (t : TxName)
     → ClosedIn (then_book m b).instances k t → ClosedIn b.instances k t ⊎ Leaves t b m
 
--- by the event this instance finishes; or time goes on to a tick at which all its pages are expired
+-- the event finishes this instance
 pub record Finishes (b : Book) (m : Moment) (k : ℕ) : Type 0 where
   pub finish : Finish
   pub lands : lands m.rules b m.event m.fate ≡ Some (finishes finish)
   pub here : finish.instance ≡ k
 
+-- with the event time goes on to a tick at which all pages of this instance are expired
 pub record Expires (b : Book) (m : Moment) (i : Instance) : Type 0 where
   pub tick : ℕ
   pub lands : lands m.rules b m.event m.fate ≡ Some (sweeps tick)
   pub over : list_all (is_expired tick) i.pages ≡ true
 
--- Nothing else frees an instance.
+-- Nothing frees an instance but an event by which it finishes, or a tick at which all its pages are expired.
 abbrev pub NothingElseFrees : Type 0
 NothingElseFrees =
     (b : Book) (m : Moment) → IsOrderly b → (k : ℕ) (i : Instance) → instance_at k b.instances ≡ Some i
     → instance_at k (then_book m b).instances ≡ None → Finishes b m k ⊎ Expires b m i
 
--- what a visit is answered that stops so
+-- what a visit is answered that stops with this outcome
 abbrev pub reply_to : Visit → Outcome → Reply
 reply_to v (paged how bytes) = reply_by how bytes (url_for v)
 reply_to v (faulted f) = fault f
@@ -81,7 +82,7 @@ Stops rules b t (resumes at) r =
     let v = page_visit b t at in r ≡ reply_to v (comes_to v (present at.instance.cells rules.fuel)).outcome
 Stops rules b t (refused refusal) r = ⊥
 
--- an answer for a limit, or for a fault of the disk
+-- an answer for a limit
 abbrev pub IsLimit : Reply → Type 0
 IsLimit (shelf_full count) = ⊤
 IsLimit (instance_full count) = ⊤
@@ -90,6 +91,7 @@ IsLimit (journal_full length) = ⊤
 IsLimit worn = ⊤
 IsLimit _ = ⊥
 
+-- an answer for a fault of the disk
 abbrev pub IsDiskFault : Reply → Type 0
 IsDiskFault (disk_failed count) = ⊤
 IsDiskFault (down count) = ⊤

@@ -3,7 +3,7 @@ use Rattle.std.specs.Prelude.{ℕ, max, ◌==◌, ◌&&◌, Bool, true, false, R
 use Rattle.std.specs.Ordering.{int_eq}
 use Rattle.script_value.specs.Val.{Val, list, no_vals}
 use Rattle.script_value.specs.declared.outcome.TxName.{TxName}
-use Rattle.prim_ops.specs.Same.{same}
+use Rattle.prim_spec.specs.Same.{same}
 use Rattle.page_names.specs.Names.{start}
 use Rattle.instance_cells.specs.Cells.{Effect, read, set, add, cell_of, cell_at, sum, landed}
 use Rattle.script_nodes.specs.declared.script.SendKind.{SendKind}
@@ -19,42 +19,48 @@ use Rattle.replay_spec.specs.Admission.{◌>>=◌, when, is_one, Place}
 use Rattle.replay_spec.specs.Next.{Visit, comes_to, start_visit, page_visit}
 use Rattle.server_limits.specs.Limits.{most_fuel}
 
--- the same effects, names and kind, as tests
+-- whether two effects are the same
 abbrev pub is_effect : Effect → Effect → Bool
 is_effect (read c v) (read d w) = c == d && same v w
 is_effect (set c v) (set d w) = c == d && same v w
 is_effect (add c m) (add d n) = c == d && int_eq m n
 is_effect _ _ = false
 
+-- whether two lists of effects are the same
 abbrev pub are_effects : List Effect → List Effect → Bool
 are_effects [] [] = true
 are_effects (d ∷ ds) (e ∷ es) = is_effect d e && are_effects ds es
 are_effects _ _ = false
 
+-- whether two lists of transactions are the same
 abbrev pub are_names : List TxName → List TxName → Bool
 are_names [] [] = true
 are_names (s ∷ ss) (t ∷ ts) = is_name s t && are_names ss ts
 are_names _ _ = false
 
+-- whether two kinds of sent pages are the same
 abbrev pub is_kind : SendKind → SendKind → Bool
 is_kind Suspend Suspend = true
 is_kind Forward Forward = true
 is_kind _ _ = false
 
--- an effect stands over its cell's value; all are on so many cells; and each stands over these, the earlier writes applied
+-- whether a result is no fault
 abbrev pub is_ok : {A E : Type 0} → Result A E → Bool
 is_ok (Ok x) = true
 is_ok (Err e) = false
 
+-- whether an effect stands over its cell's value
 abbrev pub stands_over : Effect → Val → Bool
 stands_over (read c v) w = same w v
 stands_over (set c v) w = true
 stands_over (add c n) w = is_ok (sum w n)
 
+-- whether each effect is on one of so many cells
 abbrev pub are_on : (cells : ℕ) → List Effect → Bool
 are_on n [] = true
 are_on n (e ∷ es) = nat_lt (cell_of e) n && are_on n es
 
+-- whether each effect stands over these cells, the earlier writes applied
 abbrev pub hold_over : List Effect → (cells : List Val) → Bool
 hold_over [] cells = true
 hold_over (e ∷ es) cells = stands_over e (cell_at cells (cell_of e)) && hold_over es (landed e cells)
@@ -66,11 +72,12 @@ page_of_numbers b instance page = do
   p ← page_at page i.pages
   Some (record { instance = i; page = p })
 
--- the visits that records tell of, which do not look at a target
+-- the visit that the record of a start tells of, which does not look at a target
 abbrev pub opening_visit : Book → Opening → Named → Visit
 opening_visit b o s =
     start_visit b (record { target = start s.name; answer = list no_vals; number = o.number; nonce = o.nonce }) o.script s
 
+-- the visit that the record of an answer tells of, which does not look at a target
 abbrev pub extension_visit : Book → Extension → Place → Visit
 extension_visit b x at =
     page_visit b (record { target = start at.instance.script.name; answer = x.answer; number = x.number; nonce = x.nonce }) at
@@ -84,14 +91,14 @@ shows_so _ kind effects left m = None
 abbrev pub again : SendKind → List Effect → (left : List TxName) → Segment → Option (List TxName)
 again kind effects left m = shows_so m.outcome kind effects left m
 
--- what ended or finished is on cells of the instance, and holds over them
+-- the empty list of names, where the effects of what ended or finished are on cells of the instance and hold over them
 abbrev pub ended_so : List Effect → (cells : List Val) → Option (List TxName)
 ended_so effects cells = when (are_on (length cells) effects && hold_over effects cells) []
 
 -- The names that the page of a record is inside, as its script tells, which is run again over the cells that stand there, with the
 -- most fuel that a shelf may have, whatever the fuel was when the record was written.
--- None where the record can't be of this book: there is no such script, instance or page; the script does not show a page
--- so; the effects do not hold; or the tick is over.
+-- None where the record can't be of this book: there is no such script, instance or page; the script shows no such
+-- page; the effects do not hold; or the tick is over.
 abbrev pub remade : Book → Change → Option (List TxName)
 remade b (opens o) = do
   s ← slice_get b.scripts o.script
@@ -131,19 +138,20 @@ abbrev pub with_number : Option ℕ → List ℕ → List ℕ
 with_number None seen = seen
 with_number (Some n) seen = n ∷ seen
 
--- what a record would land with: none where it is passed over, since it repeats a number or can't be of this book
+-- the names that a record would land with: none where it is passed over, since it repeats a number or can't be of this book
 abbrev pub taken_in : Made → Change → Option (List TxName)
 taken_in m c = if is_repeated (number_in c) m.seen then None else remade m.book c
 
--- a record that is passed over counts all the same
+-- the book after a record that is passed over, which counts all the same
 abbrev pub counted : Rules → Change → Book → Book
 counted rules c b = record b { logged = max b.logged (logged_by c); length = longer_by rules.journal b c }
 
+-- the book after a record that lands with these names, or is passed over
 abbrev pub redone : Rules → Change → Option (List TxName) → Book → Book
 redone rules c None b = counted rules c b
 redone rules c (Some inside) b = land rules c inside b
 
--- one record more
+-- what is made with one record more
 abbrev pub redo : Rules → Change → Made → Made
 redo rules c m =
     record { book = reopened (redone rules c (taken_in m c) m.book); seen = with_number (number_in c) m.seen }

@@ -3,8 +3,8 @@ use Rattle.std.specs.Prelude.{◌≡◌, ◌≤◌, ◌<◌, ℕ, List, [], ◌�
 use Rattle.script_value.specs.Val.{Val}
 use Rattle.script_value.specs.declared.outcome.TxName.{TxName}
 use Rattle.instance_cells.specs.Cells.{Holds}
-use Rattle.script_nodes.specs.Core.{OnCells}
-use Rattle.script_nodes.specs.Setup.{Script, Named}
+use Rattle.script_nodes.specs.Core.{AllOnCells}
+use Rattle.script_nodes.specs.Setup.{Script, Named, trees_of}
 use Rattle.replay_spec.specs.Tape.{present, Answer}
 use Rattle.replay_spec.specs.Book.{Instance, Change, Doubt, Book, instance_at, reopened, reopened_with}
 use Rattle.replay_spec.specs.Rules.{Journal, Rules, empty_book}
@@ -41,20 +41,21 @@ abbrev pub IsRemade : Book → Change → (inside : List TxName) → Type 0
 IsRemade b c inside =
     (names : List TxName) × ((remade b c ≡ Some names) × (instances_by b.scripts c names b.instances ≡ instances_by b.scripts c inside b.instances))
 
--- what is in doubt would be made again
+-- what is in doubt would be made again from its record
 abbrev pub IsRemadeDoubt : Book → Option Doubt → Type 0
 IsRemadeDoubt b None = ⊤
 IsRemadeDoubt b (Some doubt) = IsRemade b doubt.change doubt.inside
 
--- a script names cells that it has; so do those of the setup and of the instances
+-- a script names cells that it has
 abbrev pub NamesItsCells : Named → Type 0
-NamesItsCells s = OnCells (length s.script.web) (length s.script.cells) s.script.body
+NamesItsCells s = AllOnCells (length s.script.web) (length s.script.cells) (trees_of s.script)
 
+-- the scripts of the setup and of the instances name cells that they have
 pub record NameTheirCells (b : Book) : Type 0 where
   pub setup : (k : ℕ) (s : Named) → slice_get b.scripts k ≡ Some s → NamesItsCells s
   pub instances : (k : ℕ) (i : Instance) → instance_at k b.instances ≡ Some i → NamesItsCells i.script
 
--- a setup that is given at a crash does so
+-- the scripts of a setup that is given at a crash name cells that they have
 abbrev pub GivesNamed : Event → Type 0
 GivesNamed (crash scripts) = (k : ℕ) (s : Named) → slice_get scripts k ≡ Some s → NamesItsCells s
 GivesNamed _ = ⊤
@@ -72,10 +73,11 @@ DecisionsAreRemade =
     (rules : Rules) (b : Book) (t : Ticket) → rules.fuel ≤ most_fuel → IsOrderly b → NameTheirCells b
     → (r : Reply) (c : Change) (inside : List TxName) → publish_comes rules b t ≡ records r c inside → IsRemade b c inside
 
--- the numbers that were seen are used; the book as after a crash, with these
+-- the numbers that were seen are used
 abbrev pub AreUsed : List ℕ → Book → Type 0
 AreUsed seen b = (n : ℕ) → Among n seen → Unused b n → ⊥
 
+-- the book as after a crash, with the numbers that were seen
 abbrev pub made_of : Book → (seen : List ℕ) → Made
 made_of b seen = record { book = reopened b; seen = seen }
 
@@ -83,12 +85,12 @@ made_of b seen = record { book = reopened b; seen = seen }
 abbrev pub IsTakenIn : Made → Change → Type 0
 IsTakenIn m c = (inside : List TxName) × (taken_in m c ≡ Some inside)
 
--- the record of an event is not passed over, and makes of the one book the other; and where there is none, they are the same
+-- the record of an event is not passed over, and makes of the one book the other; without a record the two are the same
 abbrev pub IsRemadeBy : Rules → Made → Option Change → Book → Type 0
 IsRemadeBy rules m None d = d ≡ m.book
 IsRemadeBy rules m (Some c) d = IsTakenIn m c × (d ≡ (redo rules c m).book)
 
--- An event leaves a record, or none, of which recovery makes the book behind the event, but for a setup that is given at
+-- An event leaves a record, or none, of which recovery makes the book after the event, but for a setup that is given at
 -- a crash; and what is in doubt then would be made again.
 abbrev pub EventsAreRemade : Type 0
 EventsAreRemade =
@@ -130,7 +132,7 @@ pub record IsOrderlyMade (m : Made) : Type 0 where
   pub counted : (n : ℕ) → Among n m.seen → n < m.book.logged
   pub again : m.book ≡ reopened m.book
 
--- So the book that any records make of an empty one is orderly.
+-- The book that any records make of an empty one is orderly.
 abbrev pub RecordsMakeOrderlyBooks : Type 0
 RecordsMakeOrderlyBooks =
     (rules : Rules)

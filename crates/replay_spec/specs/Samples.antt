@@ -5,7 +5,7 @@ use Rattle.script_value.specs.declared.outcome.Op.TheVariants as op
 use Rattle.script_value.specs.declared.outcome.TxName.{TxName}
 use Rattle.page_names.specs.Names.{Destination, page}
 use Rattle.script_nodes.specs.declared.script.SendKind.TheVariants.{Suspend, Forward}
-use Rattle.script_nodes.specs.Core.{Core, lit, var, bind, seq, branch, prim, send, finish, isolate, cell_ref, cell_shadow, inst_ref, inst_set, inst_add, cores_of}
+use Rattle.script_nodes.specs.Core.{Core, lit, var, bind, seq, branch, prim, send, finish, isolate, cell_ref, cell_shadow, inst_ref, inst_set, inst_add, no_cores, cores_of}
 use Rattle.script_nodes.specs.Setup.{Named}
 use Rattle.replay_spec.specs.Rules.{Rules, Journal}
 use Rattle.replay_spec.specs.Next.{url_of}
@@ -17,7 +17,7 @@ name = codes "s"
 
 -- a script of these web cells, instance cells and parts
 abbrev pub script : List Val → List Val → List Core → Named
-script web cells parts = record { name = name; text = []; script = record { web = web; cells = cells; body = seq (cores_of parts) } }
+script web cells parts = record { name = name; text = []; script = record { web = web; cells = cells; tasks = no_cores; body = seq (cores_of parts) } }
 
 -- a journal whose records are of one length
 abbrev pub journal : (begun length : ℕ) → Journal
@@ -71,20 +71,20 @@ says words = lit (text words)
 abbrev pub link : List ℕ → Core
 link words = send Suspend (says words)
 
--- what a guest picked is a web cell
+-- a hotel, where what a guest picked is a web cell
 abbrev pub hotel : Named
 hotel = script (text (codes "none") ∷ []) []
     (bind (cores_of (link (codes "list") ∷ [])) (seq (cores_of (cell_shadow 0 (var 0) ∷ link (codes "confirm") ∷ cell_ref 0 ∷ []))) ∷ [])
 
--- a page that forwards revokes the older
+-- a script whose second page forwards, and revokes the older
 abbrev pub fwd : Named
 fwd = script [] [] (link (codes "1") ∷ send Forward (says (codes "2")) ∷ says (codes "done") ∷ [])
 
--- an instance that is finished is gone
+-- a script that finishes its instance, which is then gone
 abbrev pub fin : Named
 fin = script [] [] (link (codes "1") ∷ finish (says (codes "bye")) ∷ [])
 
--- one item is there to be sold
+-- a shop where one item is there to be sold
 abbrev pub shop : Named
 shop = script [] (number (pos 1) ∷ []) (
     link (codes "buy")
@@ -103,7 +103,7 @@ pay = script [] (number (pos 0) ∷ []) (
 abbrev pub transaction : ℕ → TxName
 transaction n = record { ticket = n; entry = 0 }
 
--- what is said is an instance cell
+-- a script where what is said is an instance cell
 abbrev pub note : Named
 note = script [] (text (codes "none") ∷ [])
     (bind (cores_of (link (codes "say") ∷ [])) (branch (var 0) (seq (cores_of (inst_set 0 (var 0) ∷ says (codes "ok") ∷ []))) (inst_ref 0)) ∷ [])

@@ -49,12 +49,12 @@ pub data Decision : Type 0 where
   replies : Reply → Decision
   records : Reply → Change → (inside : List TxName) → Decision
 
--- a refusal comes first
+-- a refusal, if there is one, or else the decision
 abbrev pub unless : Option Reply → Decision → Decision
 unless None d = d
 unless (Some r) d = replies r
 
--- what is down answers so
+-- what a shelf that is down answers
 abbrev pub down_by : Option Doubt → Option Reply
 down_by None = None
 down_by (Some doubt) = Some (down doubt.count)
@@ -72,7 +72,7 @@ abbrev pub take_unless : Option Reply → Book → (nonce : ℕ) → Reply × Bo
 take_unless (Some r) b nonce = (r, b)
 take_unless None b nonce = (taken b.drawn nonce, draw b)
 
--- what a visit changes that stopped with a page; a start changes nothing unless it shows one
+-- the change of a start that showed a page
 abbrev pub opening : (deadline : ℕ) → Visit → Segment → (script : ℕ) → SendKind → Change
 opening deadline v s script kind = opens (record {
   number = v.ticket.number;
@@ -84,6 +84,7 @@ opening deadline v s script kind = opens (record {
   deadline = deadline;
 })
 
+-- the change of an answer that showed a page
 abbrev pub extension : (deadline : ℕ) → Visit → Segment → (instance page : ℕ) → SendKind → Change
 extension deadline v s instance page kind = extends (record {
   number = v.ticket.number;
@@ -97,6 +98,7 @@ extension deadline v s instance page kind = extends (record {
   deadline = deadline;
 })
 
+-- the change of an answer that ended with a last page
 abbrev pub ending : Visit → Segment → (instance page : ℕ) → Change
 ending v s instance page = ends (record {
   number = v.ticket.number;
@@ -107,6 +109,7 @@ ending v s instance page = ends (record {
   left = s.left;
 })
 
+-- the change of an answer that freed the instance
 abbrev pub finish : Visit → Segment → (instance page : ℕ) → Change
 finish v s instance page = finishes (record {
   number = v.ticket.number;
@@ -116,6 +119,7 @@ finish v s instance page = finishes (record {
   effects = s.effects;
 })
 
+-- what a visit changes that stopped with a page; a start changes nothing unless it shows one
 abbrev pub change_by : (deadline : ℕ) → Visit → Segment → Origin → How → Option Change
 change_by deadline v s (starts k) (shows kind) = Some (opening deadline v s k kind)
 change_by deadline v s (starts k) _ = None
@@ -123,32 +127,36 @@ change_by deadline v s (answers i p) (shows kind) = Some (extension deadline v s
 change_by deadline v s (answers i p) tape.ends = Some (ending v s i p)
 change_by deadline v s (answers i p) tape.finishes = Some (finish v s i p)
 
--- what it is answered, with this page
+-- what a visit is answered that stopped with this page
 abbrev pub reply_by : How → (page url : List ℕ) → Reply
 reply_by (shows kind) page url = shown page url
 reply_by tape.finishes page url = finished page
 reply_by tape.ends page url = ended page
 
--- no room for one more instance of the shelf, or for one more page of the instance
+-- the refusal where there is no room for one more instance of the shelf, or for one more page of the instance
 abbrev pub no_room : Rules → Origin → (count : ℕ) → Option Reply
 no_room rules (starts k) count = when (nat_le rules.instances count) (shelf_full count)
 no_room rules (answers i p) count = when (nat_le rules.pages count) (instance_full count)
 
+-- the refusal where there is no room for a page that is shown
 abbrev pub full : Rules → How → Origin → (count : ℕ) → Option Reply
 full rules (shows kind) origin count = no_room rules origin count
 full rules _ origin count = None
 
--- the body of a record is too long; the journal would be
+-- how long the body of a record may be
 abbrev pub most_of_record : ℕ
 most_of_record = 1048576
 
+-- how long the journal may be
 abbrev pub most_of_journal : ℕ
 most_of_journal = 2 ^ 30
 
+-- the refusal where the body of a record is too long
 abbrev pub too_long : Option Journal → Book → Change → Option Reply
 too_long None b c = None
 too_long (Some j) b c = when (nat_lt most_of_record (record_length j b c)) (oversize (record_length j b c))
 
+-- the refusal where the journal would be too long
 abbrev pub full_journal : Option Journal → Book → Change → Option Reply
 full_journal None b c = None
 full_journal (Some j) b c = when (nat_lt most_of_journal (longer_by (Some j) b c)) (journal_full (longer_by (Some j) b c))
@@ -158,7 +166,7 @@ abbrev pub with_room : Rules → Book → Reply → (inside : List TxName) → O
 with_room rules b r inside None = replies r
 with_room rules b r inside (Some c) = unless (or_else (too_long rules.journal b c) (full_journal rules.journal b c)) (records r c inside)
 
--- a visit has stopped so, beside so many instances or pages
+-- what is decided of a visit that stopped with this outcome, beside so many instances or pages
 abbrev pub stopped : Rules → Book → (count : ℕ) → Visit → Segment → Outcome → Decision
 stopped rules b count v s (paged how bytes) =
     unless (full rules how v.origin count)
@@ -186,10 +194,11 @@ abbrev pub decide_sweep : Rules → (tick : ℕ) → Book → Decision
 decide_sweep rules tick b =
     unless (full_journal rules.journal b (sweeps tick)) (records (swept (freed tick b)) (sweeps tick) [])
 
--- what a publish and a sweep come to on the book of now
+-- what a publish comes to on the book of now
 abbrev pub publish_comes : Rules → Book → Ticket → Decision
 publish_comes rules b t = unless (down_by b.down) (decide rules b t (admit b t.target))
 
+-- what a sweep comes to on the book of now
 abbrev pub sweep_comes : Rules → Book → (tick : ℕ) → Decision
 sweep_comes rules b tick = unless (down_by b.down) (decide_sweep rules tick b)
 
@@ -198,11 +207,12 @@ abbrev pub fate_of : Option Journal → Fate → Fate
 fate_of None (disk_fault count) = plain
 fate_of journal fate = fate
 
--- a change lands, or is in doubt
+-- the reply and the book after a decision whose change lands
 abbrev pub carried_out : Rules → Book → Decision → Reply × Book
 carried_out rules b (replies r) = (r, b)
 carried_out rules b (records r c inside) = (r, land rules c inside b)
 
+-- the reply and the book after a decision whose change is in doubt
 abbrev pub in_doubt : (count : ℕ) → Book → Decision → Reply × Book
 in_doubt count b (replies r) = (r, b)
 in_doubt count b (records r c inside) =
@@ -214,7 +224,7 @@ settle rules b no_memory d = (memory, b)
 settle rules b (disk_fault count) d = in_doubt count b d
 settle rules b _ d = carried_out rules b d
 
--- what is in doubt is kept or lost
+-- the book after what is in doubt is kept or lost
 abbrev pub recovered : Rules → Fate → Option Doubt → Book → Book
 recovered rules kept (Some doubt) b = land rules doubt.change doubt.inside b
 recovered rules _ _ b = b
@@ -227,7 +237,7 @@ take_by b target nonce no_memory = (memory, b)
 take_by b target nonce _ = take_unless (no_take b target) b nonce
 
 -- A take draws this nonce, which the shelf's source gives next. A publish spends its number, whatever its reply. A tick at or
--- below the clock does nothing. Behind what is kept of a doubt the setup is the one given at the crash.
+-- below the clock does nothing. After what is kept of a doubt the setup is the one given at the crash.
 unfoldable pub step : Rules → Book → (nonce : ℕ) → Event → Fate → Reply × Book
 step rules b nonce (take target answer) fate = take_by b target nonce fate
 step rules b nonce (publish t) fate = settle rules (spend t.number b) (fate_of rules.journal fate) (publish_comes rules b t)

@@ -113,7 +113,7 @@ unfolding step
 said_to_all = refl
 
 -- a page is answered until its deadline; an instance is freed by the sweep at which all of its pages are over; both hold
--- behind a crash
+-- after a crash
 pub expired :
     Answers (opened (record rules { life = 100 }) hotel)
     (get (start name) nothing 0 ++ (sweep 50, plain) ∷ get (at 0 0 0) nothing 1 ++ (sweep 100, plain) ∷ takes (at 0 0 0) nothing ∷ (crash (hotel ∷ []), lost) ∷ takes (at 0 0 0) nothing

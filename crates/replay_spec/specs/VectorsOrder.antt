@@ -9,7 +9,7 @@ use Rattle.script_value.specs.declared.outcome.TxName.{TxName}
 use Rattle.page_names.specs.Names.{Destination, start, page}
 use Rattle.page_names.specs.Hex.{hex16}
 use Rattle.script_nodes.specs.declared.script.SendKind.TheVariants.{Suspend}
-use Rattle.script_nodes.specs.Core.{lit, var, bind, prim, send, cores_of}
+use Rattle.script_nodes.specs.Core.{lit, var, bind, prim, send, no_cores, cores_of}
 use Rattle.script_nodes.specs.Setup.{Named}
 use Rattle.replay_spec.specs.Book.{Page, Instance, sweeps, Doubt, Book}
 use Rattle.replay_spec.specs.Rules.{Rules}
@@ -142,6 +142,7 @@ two_pages = record {
   script = record {
     web = [];
     cells = [];
+    tasks = no_cores;
     body =
         bind (cores_of (link (codes "a") ∷ []))
         (bind (cores_of (send Suspend (prim op.List (cores_of (lit (symbol (codes "p")) ∷ var 0 ∷ []))) ∷ []))
@@ -151,7 +152,7 @@ two_pages = record {
 
 abbrev two_scripts : List Named
 two_scripts =
-    record { name = codes "t"; text = []; script = record { web = []; cells = []; body = lit (number (pos 1)) } } ∷ two_pages ∷ []
+    record { name = codes "t"; text = []; script = record { web = []; cells = []; tasks = no_cores; body = lit (number (pos 1)) } } ∷ two_pages ∷ []
 
 abbrev small : Rules
 small = record { fuel = 1000; life = 60; instances = 4; pages = 4; journal = None }

@@ -1,4 +1,4 @@
-//! What a page script means, what a shelf answers, and laws of both.
+//! What a page script means and what a shelf answers, with laws of both, without code: for every crate that carries it out.
 #![tactic(auto)]
 
 ghost use Rattle.replay_spec.specs.Laws.{EffectsHoldRunSame, AHeldRunIsNext, EffectsAreOnCells, RecordedIsPresent, MoreFuelIsTheSame, NamesFollow, OrderlyBooksStay, SoundBooksStay, ReachedBooksAreSound, EachHasItsCells, EachChainReplays, PagesStay, RefusedIsUnchanged, AStartOpensOrLeaves, ClosedIsClosed, NamesStayDifferent, ShownIsOpen, AForwardRevokes, NoNumberTwice, TicketsAreOut, ShadowsRise};

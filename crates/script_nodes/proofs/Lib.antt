@@ -1,3 +1,4 @@
 pub mod Scripts
 pub mod Trees
 pub mod Places
+pub mod Below

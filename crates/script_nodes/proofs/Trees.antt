@@ -39,6 +39,7 @@ shape_same f g (node.And ps) h = let a = map_same f g ps h in cc
 shape_same f g (node.Or ps) h = let a = map_same f g ps h in cc
 shape_same f g (node.For n b) h = let x : f n ≡ g n = h.0 in let y : f b ≡ g b = h.1.0 in cc
 shape_same f g (node.Prim o ps) h = let a = map_same f g ps h in cc
+shape_same f g (node.Call k ps) h = let a = map_same f g ps h in cc
 shape_same f g (node.Send kind b) h = let a : f b ≡ g b = h.0 in cc
 shape_same f g (node.Finish b) h = let a : f b ≡ g b = h.0 in cc
 shape_same f g (node.Back b) h = let a : f b ≡ g b = h.0 in cc

@@ -1,33 +1,36 @@
--- A script as a list of nodes, each before its parts, and the tree that it stands for.
+-- A script as a list of nodes, each before its parts, and the trees that it stands for.
 use Rattle.std.specs.Prelude.{◌≡◌, ℕ, zero, suc, ◌<◌, List, [], ◌∷◌, ◌++◌, map, length, take, drop, Option, Some, None, slice_get, false, IsTrue, ⊤, refl}
-use Rattle.std.specs.Coded.{Coded, coded_list, coded×, code_by}
+use Rattle.std.specs.Coded.{Coded, coded_list, coded×, coded_ℕ, code_by}
 use Rattle.script_value.specs.Val.{Val, truth}
 use Rattle.script_value.specs.ValCode.{val_code}
 use Rattle.script_value.specs.Views.{meaning}
-use Rattle.prim_ops.specs.Table.{takes}
+use Rattle.prim_spec.specs.Table.{takes}
 use Rattle.script_nodes.specs.declared.script.Node.{Node}
 use Rattle.script_nodes.specs.declared.script.Node.TheVariants as node
-use Rattle.script_nodes.specs.Core.{Core, lit, var, bind, branch, repeat, prim, seq, and_all, or_any, send, finish, back, isolate, cell_ref, cell_shadow, inst_ref, inst_set, inst_add, cores_of, count}
-use Rattle.script_nodes.specs.Closed.{IsClosed}
-use Rattle.script_nodes.specs.Layout.{layout}
-use Rattle.script_nodes.specs.Setup.{Script}
+use Rattle.script_nodes.specs.Core.{Core, lit, var, bind, branch, repeat, prim, call, seq, and_all, or_any, send, finish, back, isolate, cell_ref, cell_shadow, inst_ref, inst_set, inst_add, cores_of, count, Cores}
+use Rattle.script_nodes.specs.Closed.{IsClosed, AreBodies}
+use Rattle.script_nodes.specs.Layout.{layout, layout_all, starts}
+use Rattle.script_nodes.specs.Setup.{Script, trees_of}
 
--- the nodes in pre-order, and what the web cells and the instance cells begin with
+-- the nodes in pre-order, what the web cells and the instance cells begin with, and the first nodes of the bodies of tasks
 pub record Arena : Type 0 where
   pub nodes : List Node
   pub web : List Val
   pub cells : List Val
+  pub tasks : List ℕ
 
-abbrev parted : Arena → List Node × (List Val × List Val)
-parted a = (a.nodes, (a.web, a.cells))
+abbrev parted : Arena → List Node × (List Val × (List Val × List ℕ))
+parted a = (a.nodes, (a.web, (a.cells, a.tasks)))
 
-abbrev joined : List Node × (List Val × List Val) → Arena
-joined p = record { nodes = p.0; web = p.1.0; cells = p.1.1 }
+abbrev joined : List Node × (List Val × (List Val × List ℕ)) → Arena
+joined p = record { nodes = p.0; web = p.1.0; cells = p.1.1.0; tasks = p.1.1.1 }
 
 abbrev pub arena_code : Coded Node → Coded Arena
-arena_code c = code_by (List Node × (List Val × List Val)) (coded× (coded_list c) (coded× (coded_list val_code) (coded_list val_code))) parted joined (λ _. refl)
+arena_code c =
+    code_by (List Node × (List Val × (List Val × List ℕ))) (coded× (coded_list c) (coded× (coded_list val_code) (coded× (coded_list val_code) (coded_list coded_ℕ))))
+    parted joined (λ _. refl)
 
--- the parts of a node
+-- the parts of a node; the body of a task that it calls is none of them
 abbrev pub parts : Node → List ℕ
 parts (node.Lit v) = []
 parts (node.Var k) = []
@@ -38,6 +41,7 @@ parts (node.And ps) = ps
 parts (node.Or ps) = ps
 parts (node.For count body) = count ∷ body ∷ []
 parts (node.Prim o ps) = ps
+parts (node.Call k ps) = ps
 parts (node.Send kind body) = body ∷ []
 parts (node.Finish body) = body ∷ []
 parts (node.Back body) = body ∷ []
@@ -62,6 +66,11 @@ IsOnCells web cells (node.InstSet c value) = c < cells
 IsOnCells web cells (node.InstAdd c value) = c < cells
 IsOnCells web cells _ = ⊤
 
+-- the task that a node calls is one of so many
+abbrev pub IsOnTasks : (tasks : ℕ) → Node → Type 0
+IsOnTasks tasks (node.Call k ps) = k < tasks
+IsOnTasks tasks _ = ⊤
+
 -- a part stands behind its node and in the script
 abbrev pub IsBehind : ℕ → ℕ → ℕ → Type 0
 IsBehind n end p = (n < p) × (p < end)
@@ -77,6 +86,7 @@ shape part (node.And ps) = and_all (cores_of (map part ps))
 shape part (node.Or ps) = or_any (cores_of (map part ps))
 shape part (node.For count body) = repeat (part count) (part body)
 shape part (node.Prim o ps) = prim o (cores_of (map part ps))
+shape part (node.Call k ps) = call k (cores_of (map part ps))
 shape part (node.Send kind body) = send kind (part body)
 shape part (node.Finish body) = finish (part body)
 shape part (node.Back body) = back (part body)
@@ -100,15 +110,27 @@ tree_within (suc bound) nodes n = shape_at (tree_within bound nodes) (slice_get 
 unfoldable pub tree_at : List Node → ℕ → Core
 tree_at nodes n = tree_within (length nodes) nodes n
 
--- what a script means: its cells, and the tree of its first node
+-- the trees at these numbers
+abbrev pub trees_at : List Node → List ℕ → Cores
+trees_at nodes ns = cores_of (map (tree_at nodes) ns)
+
+-- what a script means: its cells, the tree of its first node, and those of its tasks
 abbrev pub script_of : Arena → Script
-script_of a = record { web = a.web; cells = a.cells; body = tree_at a.nodes 0 }
+script_of a = record { web = a.web; cells = a.cells; tasks = trees_at a.nodes a.tasks; body = tree_at a.nodes 0 }
+
+-- a script as its nodes in pre-order, those of the bodies of tasks behind those of the expression
+abbrev pub arena_of : Script → Arena
+arena_of s = record { nodes = layout_all 0 (trees_of s); web = s.web; cells = s.cells; tasks = starts (count s.body) s.tasks }
 
 -- the nodes from a number on are those of the tree there, in pre-order
 abbrev pub IsLaidAt : List Node → ℕ → Type 0
 IsLaidAt nodes n = take (count (tree_at nodes n)) (drop n nodes) ≡ layout n (tree_at nodes n)
 
--- the nodes are their tree's in pre-order; the tree is closed over no variable, with these cells
+-- the nodes are those of the trees in pre-order; the trees are closed with these cells, the expression over no variable, and each body
+-- over its task's parameters and with the tasks before it
 pub record IsScript (a : Arena) : Type 0 where
-  pub numbered : a.nodes ≡ layout 0 (tree_at a.nodes 0)
-  pub closed : IsClosed (length a.web) (length a.cells) 0 false (tree_at a.nodes 0)
+  pub numbered : a.nodes ≡ layout_all 0 (trees_of (script_of a))
+  pub placed : a.tasks ≡ starts (count (tree_at a.nodes 0)) (trees_at a.nodes a.tasks)
+  pub parameters : List ℕ
+  pub closed : IsClosed (length a.web) (length a.cells) parameters 0 false (tree_at a.nodes 0)
+  pub bodies : AreBodies (length a.web) (length a.cells) [] parameters (trees_at a.nodes a.tasks)

@@ -13,6 +13,8 @@ mutual
     branch : Core → Core → Core → Core
     repeat : Core → Core → Core
     prim : Op → Cores → Core
+    -- a task that is called, by its number, and the operands
+    call : ℕ → Cores → Core
     -- parts in order: all of them; up to the first that is false; up to the first that is not
     seq and_all or_any : Cores → Core
     -- a page that is sent; a page that frees the instance; a last page; a transaction
@@ -42,6 +44,7 @@ abbrev mutual
   count (branch t a b) = suc (count t + count a + count b)
   count (repeat n b) = suc (count n + count b)
   count (prim o es) = suc (count_all es)
+  count (call k es) = suc (count_all es)
   count (seq es) = suc (count_all es)
   count (and_all es) = suc (count_all es)
   count (or_any es) = suc (count_all es)
@@ -68,6 +71,7 @@ abbrev mutual
   height (branch t a b) = suc (max (height t) (max (height a) (height b)))
   height (repeat n b) = suc (max (height n) (height b))
   height (prim o es) = suc (height_all es)
+  height (call k es) = suc (height_all es)
   height (seq es) = suc (height_all es)
   height (and_all es) = suc (height_all es)
   height (or_any es) = suc (height_all es)
@@ -94,6 +98,7 @@ abbrev mutual
   OnCells web cells (branch t a b) = OnCells web cells t × OnCells web cells a × OnCells web cells b
   OnCells web cells (repeat n b) = OnCells web cells n × OnCells web cells b
   OnCells web cells (prim o es) = AllOnCells web cells es
+  OnCells web cells (call k es) = AllOnCells web cells es
   OnCells web cells (seq es) = AllOnCells web cells es
   OnCells web cells (and_all es) = AllOnCells web cells es
   OnCells web cells (or_any es) = AllOnCells web cells es

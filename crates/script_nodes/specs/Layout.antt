@@ -5,7 +5,7 @@ use Rattle.script_value.specs.declared.value.Value.{Value}
 use Rattle.script_value.specs.declared.value.Value.TheVariants as value
 use Rattle.script_nodes.specs.declared.script.Node.{Node}
 use Rattle.script_nodes.specs.declared.script.Node.TheVariants as node
-use Rattle.script_nodes.specs.Core.{Core, Cores, lit, var, bind, branch, repeat, prim, seq, and_all, or_any, send, finish, back, isolate, cell_ref, cell_shadow, inst_ref, inst_set, inst_add, no_cores, core, count, count_all}
+use Rattle.script_nodes.specs.Core.{Core, Cores, lit, var, bind, branch, repeat, prim, call, seq, and_all, or_any, send, finish, back, isolate, cell_ref, cell_shadow, inst_ref, inst_set, inst_add, no_cores, core, count, count_all}
 
 -- the value that a tree of values is
 abbrev pub value_from : Val → Value
@@ -32,6 +32,7 @@ abbrev mutual
       ∷ (layout (n + 1) t ++ (layout (n + 1 + count t) a ++ layout (n + 1 + count t + count a) b))
   layout n (repeat e b) = node.For (n + 1) (n + 1 + count e) ∷ (layout (n + 1) e ++ layout (n + 1 + count e) b)
   layout n (prim o es) = node.Prim o (starts (n + 1) es) ∷ layout_all (n + 1) es
+  layout n (call k es) = node.Call k (starts (n + 1) es) ∷ layout_all (n + 1) es
   layout n (seq es) = node.Seq (starts (n + 1) es) ∷ layout_all (n + 1) es
   layout n (and_all es) = node.And (starts (n + 1) es) ∷ layout_all (n + 1) es
   layout n (or_any es) = node.Or (starts (n + 1) es) ∷ layout_all (n + 1) es

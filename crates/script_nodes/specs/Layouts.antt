@@ -1,6 +1,6 @@
 -- Lengths of layouts.
 use Rattle.std.proofs.Common.{◌≡◌, ℕ, ◌+◌, ◌<◌, length, refl, arith, length-append}
-use Rattle.script_nodes.specs.Core.{Core, Cores, lit, var, bind, branch, repeat, prim, seq, and_all, or_any, send, finish, back, isolate, cell_ref, cell_shadow, inst_ref, inst_set, inst_add, no_cores, core, count, count_all}
+use Rattle.script_nodes.specs.Core.{Core, Cores, lit, var, bind, branch, repeat, prim, call, seq, and_all, or_any, send, finish, back, isolate, cell_ref, cell_shadow, inst_ref, inst_set, inst_add, no_cores, core, count, count_all}
 use Rattle.script_nodes.specs.Layout.{layout, layout_all}
 
 mutual
@@ -12,6 +12,7 @@ mutual
       simp length-append (omega (arith, length-layout (n + 1) t, length-layout (n + 1 + count t) a, length-layout (n + 1 + count t + count a) b))
   length-layout n (repeat e b) = simp length-append (omega (arith, length-layout (n + 1) e, length-layout (n + 1 + count e) b))
   length-layout n (prim o es) = omega (arith, length-layout_all (n + 1) es)
+  length-layout n (call k es) = omega (arith, length-layout_all (n + 1) es)
   length-layout n (seq es) = omega (arith, length-layout_all (n + 1) es)
   length-layout n (and_all es) = omega (arith, length-layout_all (n + 1) es)
   length-layout n (or_any es) = omega (arith, length-layout_all (n + 1) es)
@@ -36,6 +37,7 @@ count_pos (bind es b) = omega arith
 count_pos (branch t a b) = omega arith
 count_pos (repeat e b) = omega arith
 count_pos (prim o es) = omega arith
+count_pos (call k es) = omega arith
 count_pos (seq es) = omega arith
 count_pos (and_all es) = omega arith
 count_pos (or_any es) = omega arith

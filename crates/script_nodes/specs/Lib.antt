@@ -1,5 +1,6 @@
 pub mod Core
 pub mod Closed
+pub mod Calls
 pub mod Layout
 pub mod Layouts
 pub mod Arena

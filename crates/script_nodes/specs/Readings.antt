@@ -1,11 +1,11 @@
 -- The tree that stands at the place of its layout.
 use Rattle.std.proofs.Common.{◌≡◌, ℕ, zero, suc, ◌+◌, ◌≤◌, List, [], ◌∷◌, ◌++◌, length, map, Some, slice_get, refl, sym, ap, ◌∙◌, arith, append_assoc, length-append}
 use Rattle.std.specs.Bool.{⊤}
-use Rattle.script_value.specs.Val.{Val, Vals, number, truth, text, symbol, list, no_vals, val, vals_of, items_of}
+use Rattle.script_value.specs.Val.{Val, number, truth, text, symbol, list}
 use Rattle.script_value.specs.Views.{meaning}
 use Rattle.script_nodes.specs.declared.script.Node.{Node}
-use Rattle.script_nodes.specs.Core.{Core, Cores, lit, var, bind, branch, repeat, prim, seq, and_all, or_any, send, finish, back, isolate, cell_ref, cell_shadow, inst_ref, inst_set, inst_add, no_cores, core, cores_of, count, count_all}
-use Rattle.script_nodes.specs.Arena.{tree_within, tree_at}
+use Rattle.script_nodes.specs.Core.{Core, Cores, lit, var, bind, branch, repeat, prim, call, seq, and_all, or_any, send, finish, back, isolate, cell_ref, cell_shadow, inst_ref, inst_set, inst_add, no_cores, core, cores_of, count, count_all}
+use Rattle.script_nodes.specs.Arena.{tree_within, tree_at, trees_at}
 use Rattle.script_nodes.specs.Layout.{layout, layout_all, starts, value_from}
 use Rattle.script_nodes.specs.Layouts.{length-layout, length-layout_all, count_pos}
 use Rattle.script_value.proofs.Folds.{vals_of-items_of}
@@ -57,6 +57,7 @@ mutual
       let last = reads nodes b (n + 1 + count e) x (behind nodes (n + 1) _ (layout (n + 1) e) _ (omega (arith, length-layout (n + 1) e)) s.1) (omega arith) in
       rw s.0 (cc)
   reads nodes (suc b) n (prim o es) s h = rw s.0 (ap (prim o) (reads_all nodes b (n + 1) es s.1 (omega arith)))
+  reads nodes (suc b) n (call k es) s h = rw s.0 (ap (call k) (reads_all nodes b (n + 1) es s.1 (omega arith)))
   reads nodes (suc b) n (seq es) s h = rw s.0 (ap seq (reads_all nodes b (n + 1) es s.1 (omega arith)))
   reads nodes (suc b) n (and_all es) s h = rw s.0 (ap and_all (reads_all nodes b (n + 1) es s.1 (omega arith)))
   reads nodes (suc b) n (or_any es) s h = rw s.0 (ap or_any (reads_all nodes b (n + 1) es s.1 (omega arith)))
@@ -70,7 +71,7 @@ mutual
   reads nodes (suc b) n (inst_set c e) s h = let part = reads nodes b (n + 1) e s.1 (omega arith) in rw s.0 (cc)
   reads nodes (suc b) n (inst_add c e) s h = let part = reads nodes b (n + 1) e s.1 (omega arith) in rw s.0 (cc)
 
-  reads_all : (nodes : List Node) (bound n : ℕ) (cs : Cores) → StandAt nodes n (layout_all n cs) → count_all cs ≤ bound
+  pub reads_all : (nodes : List Node) (bound n : ℕ) (cs : Cores) → StandAt nodes n (layout_all n cs) → count_all cs ≤ bound
       → cores_of (map (tree_within bound nodes) (starts n cs)) ≡ cs
   reads_all nodes b n no_cores s h = refl
   reads_all nodes b n (core c cs) s h =
@@ -90,3 +91,8 @@ at_end before (x ∷ xs) nodes e =
 pub tree_at-layout : (c : Core) → tree_at (layout 0 c) 0 ≡ c
 unfolding tree_at
 tree_at-layout c = reads (layout 0 c) (length (layout 0 c)) 0 c (at_end [] (layout 0 c) (layout 0 c) refl) (omega (arith, length-layout 0 c))
+
+-- trees that were laid out one behind the other are read again
+pub trees_at-layout : (cs : Cores) → trees_at (layout_all 0 cs) (starts 0 cs) ≡ cs
+unfolding tree_at
+trees_at-layout cs = reads_all (layout_all 0 cs) (length (layout_all 0 cs)) 0 cs (at_end [] (layout_all 0 cs) (layout_all 0 cs) refl) (omega (arith, length-layout_all 0 cs))

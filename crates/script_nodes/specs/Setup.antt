@@ -2,13 +2,18 @@
 use Rattle.std.specs.Prelude.{ℕ, List, Bool, Option, Some, None, option_map, position, slice_get}
 use Rattle.std.specs.Str.{bytes_eq}
 use Rattle.script_value.specs.Val.{Val}
-use Rattle.script_nodes.specs.Core.{Core}
+use Rattle.script_nodes.specs.Core.{Core, Cores, core}
 
--- what a script means: what its web cells and its instance cells begin with, and its expression
+-- what a script means: what its web cells and its instance cells begin with, the bodies of its tasks, and its expression
 pub record Script : Type 0 where
   pub web : List Val
   pub cells : List Val
+  pub tasks : Cores
   pub body : Core
+
+-- the trees of a script in the order of their nodes: the expression, and behind it the bodies of tasks
+abbrev pub trees_of : Script → Cores
+trees_of s = core s.body s.tasks
 
 -- a script's name, its text, and what the text means
 pub record Named : Type 0 where
@@ -16,7 +21,7 @@ pub record Named : Type 0 where
   pub text : List ℕ
   pub script : Script
 
--- has this name
+-- whether a script has this name
 abbrev pub has_name : List ℕ → Named → Bool
 has_name name s = bytes_eq s.name name
 

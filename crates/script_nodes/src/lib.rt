@@ -1,4 +1,4 @@
-//! Scripts as nodes and as trees, and setups of named scripts.
+//! Scripts as nodes and as trees, and setups of named scripts: for the engine, the book and the readers of texts.
 #![tactic(auto)]
 
 mod script;

@@ -1,9 +1,9 @@
 ghost use Rattle.std.specs.Prelude.{◌≡◌, ◌<◌, ◌+◌, ℕ, List, [], ◌∷◌, ◌++◌, length, OnOk, IfOk, Some, slice_get, IfSome, option_map, option_copied, false};
 ghost use Rattle.script_value.specs.Views.{meaning};
-ghost use Rattle.script_nodes.specs.Arena.{IsScript, IsBehind, IsFull, IsLaidAt, IsOnCells, parts, script_of, shape, tree_at};
-ghost use Rattle.script_nodes.specs.Closed.{IsClosed};
-ghost use Rattle.script_nodes.specs.Core.{OnCells};
-ghost use Rattle.script_nodes.specs.Layout.{layout};
+ghost use Rattle.script_nodes.specs.Arena.{IsScript, IsBehind, IsFull, IsLaidAt, IsOnCells, IsOnTasks, parts, script_of, shape, tree_at};
+ghost use Rattle.script_nodes.specs.Core.{AllOnCells};
+ghost use Rattle.script_nodes.specs.Layout.{layout_all};
+ghost use Rattle.script_nodes.specs.Setup.{trees_of};
 ghost use Rattle.std.specs.List.{AllByRecursion};
 
 use script_value::{Items, Op, Value};
@@ -98,6 +98,11 @@ pub enum Node {
         op: Op,
         operands: Numbers,
     },
+    /// A task over its operands, left to right; the body of the task has their values as its only variables.
+    Call {
+        task: u8,
+        operands: Numbers,
+    },
     /// Sends the page that the body gives, and waits for an answer; the body has the page's URL as its last variable.
     Send {
         kind: SendKind,
@@ -178,6 +183,10 @@ impl Node {
                 op: *op,
                 operands: operands.try_clone(alloc)?,
             },
+            Node::Call { task, operands } => Node::Call {
+                task: *task,
+                operands: operands.try_clone(alloc)?,
+            },
             Node::Send { kind, body } => Node::Send {
                 kind: *kind,
                 body: *body,
@@ -214,12 +223,14 @@ fn clone_nodes(alloc: Global, nodes: &[Node]) -> Result<Vec<Node>, AllocError>
     Ok(copies)
 }
 
-/// A script: its nodes in pre-order, the first being the whole, and what its cells begin with.
+/// A script: its nodes in pre-order, those of its expression first, what its cells begin with, and where the bodies of
+/// its tasks begin.
 #[derive(Drop)]
 pub struct Script {
     nodes: Vec<Node>,
     web: Items,
     cells: Items,
+    tasks: Numbers,
 }
 
 impl Model for Script {
@@ -230,18 +241,24 @@ impl Model for Script {
 
     ghost coded = { arena_code node_type.the_row.coded };
 
-    ghost view = { λ s. record { nodes = s.nodes.items; web = s.web; cells = s.cells } };
+    ghost view = { λ s. record { nodes = s.nodes.items; web = s.web; cells = s.cells; tasks = s.tasks } };
 
-    ghost invariant = { λ s. IsScript record { nodes = s.nodes.items; web = s.web; cells = s.cells } };
+    ghost invariant = { λ s. IsScript record { nodes = s.nodes.items; web = s.web; cells = s.cells; tasks = s.tasks } };
 }
 
 impl Script {
-    /// The script of these nodes, and of web cells and instance cells that begin with these values.
-    pub fn from_parts(nodes: Vec<Node>, web: Items, cells: Items) -> Script
-        requires { IsScript record { nodes = nodes.items; web = web; cells = cells } }
-        ensures { result ≡ record { nodes = nodes.items; web = web; cells = cells } }
+    /// The script of these nodes, of web cells and instance cells that begin with these values, and of tasks whose bodies
+    /// begin there.
+    pub fn from_parts(nodes: Vec<Node>, web: Items, cells: Items, tasks: Numbers) -> Script
+        requires { IsScript record { nodes = nodes.items; web = web; cells = cells; tasks = tasks } }
+        ensures { result ≡ record { nodes = nodes.items; web = web; cells = cells; tasks = tasks } }
     {
-        Script { nodes, web, cells }
+        Script {
+            nodes,
+            web,
+            cells,
+            tasks,
+        }
     }
 
     /// A copy, equal to its source.
@@ -252,6 +269,7 @@ impl Script {
             nodes: clone_nodes(alloc, &self.nodes)?,
             web: self.web.try_clone(alloc)?,
             cells: self.cells.try_clone(alloc)?,
+            tasks: self.tasks.try_clone(alloc)?,
         })
     }
 
@@ -263,15 +281,14 @@ impl Script {
         self.nodes.len()
     }
 
-    /// The number of the node that a run begins with: all nodes are those of its tree, which is closed.
-    #[tactic(auto, using(crate::proofs::Scripts::has_nodes, crate::proofs::Scripts::script_on_cells))]
+    /// The number of the node that a run begins with: all nodes are those of the script's trees.
+    #[tactic(auto, using(crate::proofs::Scripts::has_nodes))]
     pub fn root(&self) -> u32
         ensures root { result ≡ 0 }
         ensures within { 0 < length self.now.nodes }
         ensures script { IsScript self.now }
-        ensures numbered { self.now.nodes ≡ layout 0 (script_of self.now).body }
-        ensures closed { IsClosed (length self.now.web) (length self.now.cells) 0 false (script_of self.now).body }
-        ensures cells { OnCells (length self.now.web) (length self.now.cells) (script_of self.now).body }
+        ensures numbered { self.now.nodes ≡ layout_all 0 (trees_of (script_of self.now)) }
+        ensures cells { AllOnCells (length self.now.web) (length self.now.cells) (trees_of (script_of self.now)) }
     {
         let _nodes = &self.nodes;
         0
@@ -284,10 +301,20 @@ impl Script {
         ensures behind { AllByRecursion (IsBehind number (length self.now.nodes)) (parts result.now) }
         ensures full { IsFull result.now }
         ensures cells { IsOnCells (length self.now.web) (length self.now.cells) result.now }
+        ensures tasks { IsOnTasks (length self.now.tasks) result.now }
         ensures laid { IsLaidAt self.now.nodes number }
         ensures tree { tree_at self.now.nodes number ≡ shape (tree_at self.now.nodes) result.now }
     {
         &self.nodes[number as usize]
+    }
+
+    /// The number of the first node of a task's body.
+    pub fn task(&self, task: u8) -> u32
+        requires { task < length self.now.tasks }
+        ensures first { slice_get self.now.tasks task ≡ Some result }
+        ensures within { result < length self.now.nodes }
+    {
+        self.tasks.as_slice()[task as usize]
     }
 
     /// What a web cell begins with.

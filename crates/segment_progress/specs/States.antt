@@ -20,17 +20,17 @@ use Rattle.segment_progress.specs.declared.progress.Rest.{Rest}
 use Rattle.segment_progress.specs.declared.progress.Progress.{Progress}
 use Rattle.replay_spec.specs.Tape as spec
 
--- what is left to read
+-- the reads that a source still has
 abbrev pub reads_left : Source → spec.Reads
 reads_left (source.Recorded vs) = spec.recorded (map meaning vs.now)
 reads_left (source.Present trail fuel) = spec.present (start_of trail) fuel
 
--- what was done to the cells
+-- the effects on cells that a source has noted; none where its reads are recorded
 abbrev pub effects_left : Source → List Effect
 effects_left (source.Recorded vs) = []
 effects_left (source.Present trail fuel) = effects_of trail
 
--- the answer, and the segment that it begins
+-- an answer, and the segment that it begins
 abbrev pub next_of : Next → spec.Answer
 next_of n = record { value = meaning n.answer.now; segment = now_of n.segment }
 
@@ -38,16 +38,16 @@ abbrev pub listed : Option Next → List spec.Answer
 listed None = []
 listed (Some n) = next_of n ∷ []
 
--- what is left of a tape
+-- the answers of a tape that are still to be taken
 abbrev pub left_in : Rest → List spec.Answer
 left_in r = map answer_of r.past.now ++ listed r.newest
 
--- the first of these is taken, where there is one
+-- the first of the answers that are left is taken, where there is one
 abbrev pub Pops : Option Next → (old new : List spec.Answer) → Type 0
 Pops None old new = (old ≡ []) × (new ≡ [])
 Pops (Some n) old new = old ≡ next_of n ∷ new
 
--- how far the tape was used
+-- how far a run has used its tape
 abbrev pub state_of : Progress → spec.State
 state_of p = record {
   segment = record { number = p.segment.number; url = p.segment.url.now; reads = reads_left p.source };
@@ -60,7 +60,7 @@ state_of p = record {
   defaults = p.defaults.now;
 }
 
--- the transactions that are open
+-- the transactions that are open in a run
 abbrev pub inside_of : Progress → List TxName
 inside_of p = p.inside.items
 
@@ -78,12 +78,12 @@ Gives view (Err (Stopped o)) p end = end ≡ spec.stop (outcome_of o) (inside_of
 abbrev pub Acts : {X Y : Type 0} → (X → Y) → Result X Halt → (old new : Progress) → (List TxName → spec.Run Y) → Type 0
 Acts view r old new action = Gives view r new (action (inside_of old) (state_of old))
 
--- the same of an action that never stops
+-- a call took the progress as this action takes its state, and the action gives a value; or memory ran out
 abbrev pub Does : {X Y : Type 0} → (X → Y) → Result X AllocError → (old new : Progress) → (List TxName → spec.Run Y) → Type 0
 Does view (Ok x) old new action = action (inside_of old) (state_of old) ≡ spec.got (view x) (state_of new)
 Does view (Err e) old new action = ⊤
 
--- the same where no memory is taken
+-- what a call that takes no memory gave is how the run ends
 abbrev pub Ends : {X Y : Type 0} → (X → Y) → Result X PlainEnd → Progress → spec.End Y → Type 0
 Ends view (Ok x) p end = end ≡ spec.got (view x) (state_of p)
 Ends view (Err o) p end = end ≡ spec.stop (outcome_of o) (inside_of p) (state_of p)

@@ -1,4 +1,4 @@
-//! How far a run has used its tape, what its segment did so far, and why it halts.
+//! How far a run has used its tape, what its segment did, and why it halts: for both engines.
 #![tactic(auto)]
 
 mod halt;

@@ -8,7 +8,7 @@ ghost use Rattle.script_nodes.specs.Core.{cell_ref, inst_ref};
 ghost use Rattle.segments.specs.Views.{source_of, now_of, tape_of, outcome_of, segment_of};
 ghost use Rattle.replay_spec.specs.Tape as tape;
 ghost use Rattle.replay_spec.specs.Tape.{begin, begins, charge, send_page, enter, leave, shadow, read_cell, set_cell, add_cell};
-ghost use Rattle.replay_spec.specs.Eval.{copied, eval, segment_at};
+ghost use Rattle.replay_spec.specs.Eval.{copied, eval, no_calls, segment_at};
 ghost use Rattle.segment_progress.specs.States.{reads_left, effects_left, left_in, state_of, inside_of, found, Pops, Acts, Does, Ends, TellsStop, TellsNoPage};
 
 use crate::halt::{Halt, How, halt_at};
@@ -256,8 +256,8 @@ impl<'t> Progress<'t> {
 
     /// The value of a web cell: its nearest binding, or else its default.
     pub fn web_cell(&mut self, alloc: Global, cell: u8) -> Result<Value, Halt>
-        ensures gives { Acts meaning result self.old self.new (eval (cell_ref cell) []) }
-        ensures told { TellsStop result (eval (cell_ref cell) [] (inside_of self.old) (state_of self.old)) }
+        ensures gives { Acts meaning result self.old self.new (eval no_calls (cell_ref cell) []) }
+        ensures told { TellsStop result (eval no_calls (cell_ref cell) [] (inside_of self.old) (state_of self.old)) }
         ensures inside { inside_of self.new ≡ inside_of self.old }
     {
         let size = size_found(self.web_value(cell));
@@ -341,7 +341,7 @@ impl<'t> Progress<'t> {
 
     /// The value of an instance cell: the read is recorded before it is charged.
     pub fn instance_cell(&mut self, alloc: Global, cell: u8) -> Result<Value, Halt>
-        ensures gives { Acts meaning result self.old self.new (eval (inst_ref cell) []) }
+        ensures gives { Acts meaning result self.old self.new (eval no_calls (inst_ref cell) []) }
         ensures inside { inside_of self.new ≡ inside_of self.old }
     {
         let value = self.read_cell(alloc, cell)?;

@@ -28,7 +28,7 @@ ran_of a = record { number = a.number; url = a.url; reads = spec.recorded a.read
 abbrev pub answer_of : Answer → spec.Answer
 answer_of a = record { value = meaning a.value; segment = ran_of a }
 
--- the newest segment of a tape, behind its answer
+-- the newest segment of a tape, with the answer that begins it
 abbrev pub newest_of : Tape → spec.Answer
 newest_of t = record { value = meaning t.answer.now; segment = now_of t.newest }
 

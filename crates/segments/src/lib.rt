@@ -1,4 +1,4 @@
-//! The segments of a run: the tape that one runs over, how it stopped, and what it did.
+//! The tape that a run from the start goes over, how it stopped and what it did: for the slow twin and what both engines share.
 #![tactic(auto)]
 
 mod ends;

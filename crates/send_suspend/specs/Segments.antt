@@ -24,11 +24,11 @@ use Rattle.stored_states.specs.declared.segment.Segment.{Segment}
 abbrev pub Ends : Outcome → PlainEnd → Suspended → Type 0
 Ends o end state = (outcome_of o ≡ plain.outcome_of end) × Keeps o (λ d. d ≡ suspended_of state)
 
--- the answer behind which a segment over present cells runs
+-- an answer, and the segment over present cells that runs after it
 abbrev pub newest : (value : Val) → (number : ℕ) → (url : List ℕ) → (cells : List Val) → (fuel : ℕ) → Answer
 newest value number url cells fuel = record { value = value; segment = record { number = number; url = url; reads = present cells fuel } }
 
--- the state of a page fits its script
+-- the state that a segment goes on from, where it begins at a page, fits the script
 abbrev pub FitsFrom : Arena → Origin → Type 0
 FitsFrom a Start = ⊤
 FitsFrom a (Page d) = Fits a (suspended_of d)
@@ -37,16 +37,16 @@ abbrev pub frames_in : Origin → ℕ
 frames_in Start = 0
 frames_in (Page d) = length d.frames.items
 
--- the machine that begins there
+-- the machine that begins at an origin
 abbrev pub begun : Origin → Arena → Answer → machine.Machine
 begun Start a x = started a (alone x.segment x.segment.reads)
 begun (Page d) a x = resumed a (suspended_of d) x
 
--- It is what the last segment of a run comes to; a page is inside the transactions of its state's frames.
+-- A segment is what the last segment of a run comes to; a page that it shows is inside the transactions of its state's frames.
 abbrev pub IsLast : Segment → eval.Segment → Type 0
 IsLast r s = (segment_of r ≡ s) × Keeps r.outcome (λ d. inside_of d.frames ≡ s.entered)
 
--- It is the last segment of the script, run from its start over this tape. Where it waits for an answer, its state is that of
+-- A segment is the last one of the script, run from its start over this tape. Where it waits for an answer, its state is that of
 -- this tape, and of the tape with what was read recorded.
 abbrev pub IsLastOver : Arena → Segment → (tape : Reads → Tape) → (now : Reads) → Type 0
 IsLastOver a r tape now =
@@ -54,8 +54,8 @@ IsLastOver a r tape now =
     × (Keeps r.outcome (λ d. IsStateOf a (tape now) d)
     × Keeps r.outcome (λ d. IsStateOf a (tape (recorded (reads_of (map effect_of r.effects.items)))) d))
 
--- From the start it is the script over the one segment. From the state of a tape it is the script over the tape with this answer
--- and segment behind it.
+-- A segment from the start is the script over the one segment. One from the state of a tape is the script over the tape with this
+-- answer and segment after it.
 abbrev pub Replays : Origin → Arena → Answer → Segment → Type 0
 Replays Start a x r = IsLastOver a r (λ reads. alone x.segment reads) x.segment.reads
 Replays (Page d) a x r = (t : Tape) → IsStateOf a t (suspended_of d) → IsLastOver a r (λ reads. longer (reading reads x) t) x.segment.reads

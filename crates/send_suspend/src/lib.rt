@@ -1,4 +1,4 @@
-//! A segment of a script, from its start or from what was kept of a page, up to the next stop.
+//! A segment of a script, from its start or from what was kept of a page, up to the next stop: for the run of a ticket.
 #![tactic(auto)]
 
 mod run;

@@ -25,11 +25,13 @@ frame_of (frame.Count n) = machine.in_count n
 frame_of (frame.Store n) = machine.in_store n
 frame_of (frame.Turn n turns done) = machine.in_turn n turns done
 frame_of (frame.Isolate n name) = machine.in_isolate n name
+frame_of (frame.Call n done) = machine.in_call n done
+frame_of (frame.Task n k outer) = machine.in_task n k outer
 frame_of (frame.Page n kind) = machine.in_page n kind
 frame_of (frame.Finish n) = machine.in_finish n
 frame_of (frame.Back n) = machine.in_back n
 
--- the innermost frame first
+-- the frames of a state, the innermost first
 abbrev pub stack : List Frame → List machine.Frame
 stack fs = reverse (map frame_of fs)
 
@@ -48,12 +50,12 @@ outcome_of (Ended page) = spec.paged spec.ends page
 outcome_of (Faulted k) = spec.faulted k
 outcome_of (Fuel cost) = spec.out_of_fuel cost
 
--- what is kept, where it waits for an answer
+-- the state that is kept where a segment ended with a page that waits for an answer
 abbrev pub state_of : Outcome → Option machine.Suspended
 state_of (Shown page kind state) = Some (suspended_of state)
 state_of _ = None
 
--- this holds of what is kept, where it waits for an answer
+-- this holds of the state that is kept where a segment ended with a page that waits for an answer
 abbrev pub Keeps : Outcome → (machine.Suspended → Type 0) → Type 0
 Keeps (Shown page kind state) P = P (suspended_of state)
 Keeps _ P = ⊤

@@ -11,33 +11,83 @@ use web_cells::Shades;
 #[derive(Drop)]
 pub enum Frame {
     /// A binding, behind the values of those that are done.
-    Binding { node: u32, done: Items },
+    Binding {
+        node: u32,
+        done: Items,
+    },
     /// An operand, behind the values of those that are done.
-    Operand { node: u32, done: Items },
+    Operand {
+        node: u32,
+        done: Items,
+    },
     /// The body of a Let, under so many variables.
-    Body { node: u32, bound: usize },
+    Body {
+        node: u32,
+        bound: usize,
+    },
     /// A part of a sequence.
-    Seq { node: u32, part: usize },
+    Seq {
+        node: u32,
+        part: usize,
+    },
     /// A part of a conjunction.
-    And { node: u32, part: usize },
+    And {
+        node: u32,
+        part: usize,
+    },
     /// A part of a disjunction.
-    Or { node: u32, part: usize },
+    Or {
+        node: u32,
+        part: usize,
+    },
     /// The test of a choice, or what was chosen.
-    If { node: u32, part: usize },
+    If {
+        node: u32,
+        part: usize,
+    },
     /// The count of turns.
-    Count { node: u32 },
+    Count {
+        node: u32,
+    },
     /// What a cell is given.
-    Store { node: u32 },
+    Store {
+        node: u32,
+    },
     /// A turn of so many, behind the values of those that are done.
-    Turn { node: u32, turns: u64, done: Items },
+    Turn {
+        node: u32,
+        turns: u64,
+        done: Items,
+    },
     /// What stands in a transaction.
-    Isolate { node: u32, name: TxName },
+    Isolate {
+        node: u32,
+        name: TxName,
+    },
+    /// An operand of a call, behind the values of those that are done.
+    Call {
+        node: u32,
+        done: Items,
+    },
+    /// The body of a task: the number of the call's part that it is, and the variables of the caller.
+    Task {
+        node: u32,
+        part: usize,
+        outer: Items,
+    },
     /// The body of a page that waits for an answer.
-    Page { node: u32, kind: SendKind },
+    Page {
+        node: u32,
+        kind: SendKind,
+    },
     /// The body of a page that frees the instance.
-    Finish { node: u32 },
+    Finish {
+        node: u32,
+    },
     /// The body of a last page.
-    Back { node: u32 },
+    Back {
+        node: u32,
+    },
 }
 
 /// What is kept of a machine at a page: its variables, its frames, the outermost first, and the bindings of web cells.
@@ -92,6 +142,15 @@ impl Frame {
             Frame::Isolate { node, name } => Frame::Isolate {
                 node: *node,
                 name: *name,
+            },
+            Frame::Call { node, done } => Frame::Call {
+                node: *node,
+                done: done.try_clone(alloc)?,
+            },
+            Frame::Task { node, part, outer } => Frame::Task {
+                node: *node,
+                part: *part,
+                outer: outer.try_clone(alloc)?,
             },
             Frame::Page { node, kind } => Frame::Page {
                 node: *node,

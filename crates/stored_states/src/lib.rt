@@ -1,4 +1,4 @@
-//! What is kept of a script at a page: its frames, variables and bindings; and what a segment that went on from there came to.
+//! What is kept of a script at a page, and what a segment from there came to: for the engine, the book and the codec.
 #![tactic(auto)]
 
 mod frame;

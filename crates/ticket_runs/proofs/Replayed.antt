@@ -3,9 +3,9 @@ use Rattle.std.proofs.Common.{◌≡◌, ◌∙◌, ap, sym, subst, ℕ, List, [
 use Rattle.std.proofs.lemmas.Option.{same_Some}
 use Rattle.script_value.specs.Val.{Val}
 use Rattle.script_value.specs.Views.{meaning}
-use Rattle.script_nodes.specs.Core.{OnCells}
+use Rattle.script_nodes.specs.Core.{AllOnCells}
 use Rattle.script_nodes.specs.Arena.{Arena, IsScript, script_of}
-use Rattle.script_nodes.specs.Setup.{Named, Script}
+use Rattle.script_nodes.specs.Setup.{Named, Script, trees_of}
 use Rattle.script_nodes.specs.declared.script.Node.{Node}
 use Rattle.instance_cells.specs.Cells.{AreOn, reads_of}
 use Rattle.instance_cells.specs.Views.{effect_of}
@@ -26,6 +26,7 @@ use Rattle.stored_states.specs.declared.segment.Segment.{Segment}
 use Rattle.send_suspend.specs.Segments.{newest, FitsFrom, IsLastOver, Replays}
 use Rattle.instance_book.specs.declared.ticket.Ticket.{Ticket}
 use Rattle.instance_book.specs.Views.{ticket_of}
+use Rattle.script_nodes.proofs.Scripts.{arena_again}
 use Rattle.instance_book.specs.Places.{arena_of}
 use Rattle.instance_book.specs.Fits.{GoesOnFrom, IsFor, FitsScript}
 use Rattle.instance_book.specs.Laws.{KeepsStateOver}
@@ -33,7 +34,7 @@ use Rattle.ticket_runs.specs.Runs.{IsRunOver, IsRunAs}
 
 -- a script is its nodes in pre-order
 pub arena_is : (a : Arena) → IsScript a → a ≡ arena_of (script_of a)
-arena_is a i = ap (λ (ns : List Node). record a { nodes = ns }) i.numbered
+arena_is a i = arena_again a i
 
 -- what fits the script can be gone on from
 pub fits_from : (a : Arena) (o : Origin) → FitsScript a (origin_of o) → FitsFrom a o
@@ -98,14 +99,14 @@ run_like scripts t a i named its found fuel over r is v e fits =
 -- and its effects are on the cells of its script
 pub run_as : (scripts : List Named) (t : Ticket) (a : Arena) → IsScript a → (named : Named) → named.script ≡ script_of a
     → slice_get scripts t.script ≡ Some named → EffectsAreOnCells
-    → OnCells (length a.web) (length a.cells) (script_of a).body
+    → AllOnCells (length a.web) (length a.cells) (trees_of (script_of a))
     → (fuel : ℕ) (over : List Val) (r : Segment) → IsRunOver scripts fuel t over r
     → (v : Visit) → v.ticket ≡ ticket_of t → IsFor scripts t v → IsRunAs v over fuel r
 run_as scripts t a i named its found law whole fuel over r is v e fits =
     let script : v.script.script ≡ script_of a = ap (λ (s : Named). s.script) (same_Some v.script named (sym fits.script ∙ found)) ∙ its in
     let like = run_like scripts t a i named its found fuel over r is v e fits in
-    let here : OnCells (length v.script.script.web) (length v.script.script.cells) v.script.script.body =
-    subst (λ (s : Script). OnCells (length s.web) (length s.cells) s.body) (sym script) whole in
+    let here : AllOnCells (length v.script.script.web) (length v.script.script.cells) (trees_of v.script.script) =
+    subst (λ (s : Script). AllOnCells (length s.web) (length s.cells) (trees_of s)) (sym script) whole in
     let on = law v.script.script (tape_for v (present over fuel)) (length v.script.script.web) (length v.script.script.cells) here in
     record {
       comes = like.comes;

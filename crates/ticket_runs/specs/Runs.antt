@@ -31,7 +31,7 @@ pub record IsRunAs (v : Visit) (cells : List Val) (fuel : ℕ) (r : Segment) : T
   pub inside : Keeps r.outcome (λ d. inside_of d.frames ≡ r.entered.items)
   pub on : AreOn (length v.script.script.cells) (map effect_of r.effects.items)
 
--- the same of each visit that the ticket is for
+-- the segment is what each visit that the ticket is for comes to over these cells
 abbrev pub IsRunOfItsVisit : List Named → (fuel : ℕ) → Ticket → (cells : List Val) → Segment → Type 0
 IsRunOfItsVisit scripts fuel t cells r =
     (v : Visit) → v.ticket ≡ ticket_of t → IsFor scripts t v → IsRunAs v cells fuel r

@@ -1,4 +1,4 @@
-//! The run of a ticket's segment.
+//! The run of a ticket's segment: for the shelf and for who holds a ticket.
 #![tactic(auto)]
 
 ghost use Rattle.std.specs.Prelude.{◌≡◌, ◌<◌, ◌^◌, IfOk};

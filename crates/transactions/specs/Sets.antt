@@ -6,7 +6,7 @@ use Rattle.std.specs.Ordering.{ordering_then, nat_cmp}
 use Rattle.script_value.specs.declared.outcome.TxName.{TxName}
 use Rattle.replay_spec.specs.Names.{has}
 
--- how a name compares to a pair of its two numbers
+-- how a name compares to a pair of numbers: by its ticket, and then by its entry
 abbrev pub compared : TxName → ℕ × ℕ → Ordering
 compared t pair = ordering_then (nat_cmp t.ticket pair.0) (nat_cmp t.entry pair.1)
 

@@ -1,4 +1,4 @@
-//! The transactions that a page is inside, and those that an instance has closed.
+//! The transactions that a page is inside, and those that an instance has closed: for the book.
 #![tactic(auto)]
 
 mod closed;

@@ -8,9 +8,9 @@ use Rattle.std.proofs.lemmas.List.Sums.{take_while-cons}
 use Rattle.std.proofs.lemmas.Slice.Eq.{bytes_eq-Decides}
 use Rattle.script_value.specs.Texts.{lacks}
 use Rattle.script_value.proofs.Texts.{lacks-append}
-use Rattle.xexpr_page.specs.Markup.{is_lower, is_element_byte, is_raw_text, is_attribute_byte, is_void, void_names, is_element, is_attribute, is_entity_name, is_letter, is_letter_or_digit, named_entity, start_tag, end_tag}
-use Rattle.xexpr_page.specs.Nesting.{AreAttributes, no_more, one_more, IsMarkup, empty, characters, an_entity, a_void_tag, an_element}
-use Rattle.xexpr_page.specs.Tags.{opened_by, name_of, open_behind, fits, fits_in_tag, MarkupCloses}
+use Rattle.page_spec.specs.Markup.{is_lower, is_element_byte, is_raw_text, is_attribute_byte, is_void, void_names, is_element, is_attribute, is_entity_name, is_letter, is_letter_or_digit, named_entity, start_tag, end_tag}
+use Rattle.page_spec.specs.Nesting.{AreAttributes, no_more, one_more, IsMarkup, empty, characters, an_entity, a_void_tag, an_element}
+use Rattle.page_spec.specs.Tags.{opened_by, name_of, open_behind, fits, fits_in_tag, MarkupCloses}
 use Rattle.xexpr_page.proofs.Grammar.{element_not_void}
 
 -- bytes that pass a test lack a byte that fails it

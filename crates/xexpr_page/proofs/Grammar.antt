@@ -8,9 +8,10 @@ use Rattle.script_value.specs.Val.{Val, Vals, text, symbol, list, no_vals, val}
 use Rattle.script_value.proofs.Options.{allowed, mapped}
 use Rattle.xexpr_page.specs.declared.fault.RenderFault.{RenderFault}
 use Rattle.xexpr_page.specs.declared.fault.RenderFault.TheVariants.{Memory, NotPage}
-use Rattle.xexpr_page.specs.Markup.{is_lower, is_element_byte, is_void, is_raw_text, is_element, is_attribute, is_entity_name, named_entity, escaped_text, one_attribute, start_tag, end_tag}
-use Rattle.xexpr_page.specs.Page.{join, pair_text, attribute_of, attributes_of, element, attributes_in, element_with, void_with, void_of, entity_of, page_of, element_of, children_of, Gives}
-use Rattle.xexpr_page.specs.Renders.{Attributes, no_attributes, attribute, Renders, a_text, an_entity, a_void, a_void_with, an_element, with_attributes, Children, no_children, a_child}
+use Rattle.page_spec.specs.Markup.{is_lower, is_element_byte, is_void, is_raw_text, is_element, is_attribute, is_entity_name, named_entity, escaped_text, one_attribute, start_tag, end_tag}
+use Rattle.page_spec.specs.Page.{join, pair_text, attribute_of, attributes_of, element, attributes_in, element_with, void_with, void_of, entity_of, page_of, element_of, children_of}
+use Rattle.xexpr_page.specs.Answers.{Gives}
+use Rattle.page_spec.specs.Renders.{Attributes, no_attributes, attribute, Renders, a_text, an_entity, a_void, a_void_with, an_element, with_attributes, Children, no_children, a_child}
 
 -- from the grammar to the function
 

@@ -4,8 +4,8 @@ use Rattle.std.specs.Prelude.{◌==◌, codes}
 use Rattle.std.proofs.lemmas.Bool.{eqb-false}
 use Rattle.script_value.specs.Texts.{lacks}
 use Rattle.script_value.proofs.Texts.{lacks-append}
-use Rattle.xexpr_page.specs.Markup.{text_byte, attribute_byte, escaped_text, escaped_attribute}
-use Rattle.xexpr_page.specs.Laws.{is_entity, nothing, entity, other, Inside}
+use Rattle.page_spec.specs.Markup.{text_byte, attribute_byte, escaped_text, escaped_attribute}
+use Rattle.page_spec.specs.Laws.{is_entity, nothing, entity, other, Inside}
 
 lacks_one : (c b : ℕ) → (b == c) ≡ false → lacks c (b ∷ []) ≡ true
 lacks_one c b h = rw h refl

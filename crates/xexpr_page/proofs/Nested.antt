@@ -1,11 +1,11 @@
 -- What the grammar gives is well formed.
 use Rattle.std.proofs.Common.{◌≡◌, ℕ, true, List, [], ◌++◌, sym, subst, append_assoc, append-nil, Some}
 use Rattle.script_value.specs.Val.{Val, Vals}
-use Rattle.xexpr_page.specs.Markup.{is_void, is_element, named_entity, escaped_text, escaped_attribute, start_tag, end_tag}
-use Rattle.xexpr_page.specs.Page.{page_of}
-use Rattle.xexpr_page.specs.Renders.{Attributes, no_attributes, attribute, Renders, Children, no_children, a_child}
-use Rattle.xexpr_page.specs.Renders as shape
-use Rattle.xexpr_page.specs.Nesting.{AreAttributes, no_more, one_more, IsMarkup, empty, characters, an_entity, a_void_tag, an_element}
+use Rattle.page_spec.specs.Markup.{is_void, is_element, named_entity, escaped_text, escaped_attribute, start_tag, end_tag}
+use Rattle.page_spec.specs.Page.{page_of}
+use Rattle.page_spec.specs.Renders.{Attributes, no_attributes, attribute, Renders, Children, no_children, a_child}
+use Rattle.page_spec.specs.Renders as shape
+use Rattle.page_spec.specs.Nesting.{AreAttributes, no_more, one_more, IsMarkup, empty, characters, an_entity, a_void_tag, an_element}
 use Rattle.xexpr_page.proofs.Inside.{texts_inside, attributes_inside}
 use Rattle.xexpr_page.proofs.Grammar.{page_renders}
 

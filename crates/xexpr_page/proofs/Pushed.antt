@@ -10,8 +10,9 @@ use Rattle.script_value.specs.declared.value.Value.{Value}
 use Rattle.std.specs.Prelude.{Result, Err}
 use Rattle.xexpr_page.specs.declared.fault.RenderFault.{RenderFault}
 use Rattle.xexpr_page.specs.declared.fault.RenderFault.TheVariants.{Memory, NotPage}
-use Rattle.xexpr_page.specs.Markup.{start_tag, end_tag, is_void, is_element}
-use Rattle.xexpr_page.specs.Page.{Pushes, join, appended, element, pair_in, void_of, element_of, page_of, children_of, attribute_of, attributes_of}
+use Rattle.page_spec.specs.Markup.{start_tag, end_tag, is_void, is_element}
+use Rattle.page_spec.specs.Page.{join, appended, element, pair_in, void_of, element_of, page_of, children_of, attribute_of, attributes_of}
+use Rattle.xexpr_page.specs.Answers.{Pushes}
 use Rattle.script_value.proofs.Folds.{item_depth}
 
 -- one piece more, and what is left

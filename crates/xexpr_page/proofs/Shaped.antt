@@ -5,8 +5,8 @@ use Rattle.std.specs.Prelude.{is_some}
 use Rattle.script_value.specs.Val.{Vals, symbol, list, val, vals_of}
 use Rattle.script_value.specs.Views.{meaning}
 use Rattle.script_value.specs.declared.value.Value.{Value}
-use Rattle.xexpr_page.specs.Markup.{is_void, is_element}
-use Rattle.xexpr_page.specs.Page.{join, element, void_of, element_of, page_of, children_of}
+use Rattle.page_spec.specs.Markup.{is_void, is_element}
+use Rattle.page_spec.specs.Page.{join, element, void_of, element_of, page_of, children_of}
 use Rattle.xexpr_page.proofs.Pushed.{children_here}
 
 pub not_there : (p : Option (List ℕ)) → is_some p ≡ false → p ≡ None

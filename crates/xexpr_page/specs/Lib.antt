@@ -1,8 +1,2 @@
-pub mod Markup
-pub mod Page
-pub mod Renders
-pub mod Laws
-pub mod Nesting
-pub mod Tags
-pub mod Vectors
+pub mod Answers
 pub mod Told

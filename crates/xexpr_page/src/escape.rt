@@ -1,5 +1,5 @@
 ghost use Rattle.std.specs.Prelude.{◌≡◌, ◌++◌, OnOk};
-ghost use Rattle.xexpr_page.specs.Markup as spec;
+ghost use Rattle.page_spec.specs.Markup as spec;
 
 use std::alloc::AllocError;
 

@@ -1,5 +1,5 @@
-ghost use Rattle.xexpr_page.specs.Laws.{TextsStayInside, AttributesStayInside};
-ghost use Rattle.xexpr_page.specs.Tags.{MarkupCloses};
+ghost use Rattle.page_spec.specs.Laws.{TextsStayInside, AttributesStayInside};
+ghost use Rattle.page_spec.specs.Tags.{MarkupCloses};
 
 /// Whatever a text is, what it gives holds no `<` and no `>`, and each `&` in it begins an entity: no text of a script
 /// opens or closes a tag.

@@ -1,4 +1,4 @@
-//! Values as pages: texts, entities and elements with attributes, escaped.
+//! A value as the bytes of a page, escaped: for the engine, which renders a page where a script stops.
 #![tactic(auto)]
 
 mod escape;

@@ -1,6 +1,6 @@
 ghost use Rattle.std.specs.Prelude.{◌≡◌};
 ghost use Rattle.std.specs.List.{list_all};
-ghost use Rattle.xexpr_page.specs.Markup as spec;
+ghost use Rattle.page_spec.specs.Markup as spec;
 
 fn is_element_byte(byte: u8) -> bool
     ensures { result ≡ spec.is_element_byte byte }

@@ -1,11 +1,12 @@
 ghost use Rattle.std.specs.Prelude.{◌≡◌, ◌++◌, List, ℕ, Some, OnOk, IfOk};
 ghost use Rattle.script_value.specs.Val.{list};
 ghost use Rattle.script_value.specs.Views.{meaning, meanings};
-ghost use Rattle.xexpr_page.specs.Page as spec;
-ghost use Rattle.xexpr_page.specs.Markup.{start_tag, end_tag};
-ghost use Rattle.xexpr_page.specs.Page.{page_of, element_of, children_of, Gives, Pushes};
-ghost use Rattle.xexpr_page.specs.Renders.{Renders};
-ghost use Rattle.xexpr_page.specs.Nesting.{IsMarkup};
+ghost use Rattle.page_spec.specs.Page as spec;
+ghost use Rattle.page_spec.specs.Markup.{start_tag, end_tag};
+ghost use Rattle.page_spec.specs.Page.{page_of, element_of, children_of};
+ghost use Rattle.xexpr_page.specs.Answers.{Gives, Pushes};
+ghost use Rattle.page_spec.specs.Renders.{Renders};
+ghost use Rattle.page_spec.specs.Nesting.{IsMarkup};
 ghost use Rattle.xexpr_page.specs.Told.{TellsNoPage};
 
 use crate::escape::{push_attribute_text, push_text};

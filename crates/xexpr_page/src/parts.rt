@@ -1,7 +1,7 @@
 ghost use Rattle.std.specs.Prelude.{◌≡◌, ◌≤◌, option_map};
 ghost use Rattle.script_value.specs.Val.{depth_all};
 ghost use Rattle.script_value.specs.Views.{meaning, meanings};
-ghost use Rattle.xexpr_page.specs.Page as spec;
+ghost use Rattle.page_spec.specs.Page as spec;
 
 use script_value::Value;
 

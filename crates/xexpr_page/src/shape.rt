@@ -1,8 +1,8 @@
 ghost use Rattle.std.specs.Prelude.{◌≡◌, is_some};
 ghost use Rattle.script_value.specs.Val.{list};
 ghost use Rattle.script_value.specs.Views.{meaning, meanings};
-ghost use Rattle.xexpr_page.specs.Page as spec;
-ghost use Rattle.xexpr_page.specs.Page.{page_of, element_of, children_of, attribute_of, attributes_of, pair_in};
+ghost use Rattle.page_spec.specs.Page as spec;
+ghost use Rattle.page_spec.specs.Page.{page_of, element_of, children_of, attribute_of, attributes_of, pair_in};
 
 use crate::names::{is_attribute, is_element, is_entity, is_void};
 use crate::parts::{attributes_in, split_attributes};

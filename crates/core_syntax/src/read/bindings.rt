@@ -18,7 +18,7 @@ use std::alloc::Global;
 impl<'a, 'c> Reader<'a, 'c> {
     /// A body in whose scope these names are innermost.
     #[cycle(read)]
-    fn read_within(
+    pub fn read_within(
         &mut self,
         in_page: bool,
         names: &Names<'a>,

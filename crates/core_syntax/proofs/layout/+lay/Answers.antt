@@ -5,21 +5,14 @@ use Rattle.std.proofs.lemmas.Result.{err_from_is_err_and}
 use Rattle.core_syntax.specs.Forms.{nest, choose}
 use Rattle.core_syntax.specs.Trees.{pair_of}
 use Rattle.script_nodes.specs.declared.script.Node.TheVariants as node
+use Rattle.core_syntax.specs.Groups.{group_node}
 use Rattle.core_syntax.proofs.Lays.{group_of, let_of, two_parts, nest_of, alone_of, choice_of, all_none, all_more, all_stops}
 use Rattle.core_syntax.proofs.layout.+lay.Goals as goal
 
-pub lay_seq-returns : goal.lay_seq-returns
-lay_seq-returns t c = group_of node.Seq c.in_ok-number.ensures c.in_ok-parts.ensures c.write.ensures.written c.write.ensures.count
-
-pub lay_and-returns : goal.lay_and-returns
-lay_and-returns t c = group_of node.And c.in_ok-number.ensures c.in_ok-parts.ensures c.write.ensures.written c.write.ensures.count
-
-pub lay_or-returns : goal.lay_or-returns
-lay_or-returns t c = group_of node.Or c.in_ok-number.ensures c.in_ok-parts.ensures c.write.ensures.written c.write.ensures.count
-
-pub lay_prim-returns : goal.lay_prim-returns
-lay_prim-returns t c =
-    group_of (node.Prim c.args.op) c.in_ok-number.ensures c.in_ok-operands.ensures c.write.ensures.written c.write.ensures.count
+pub lay_group-returns : goal.lay_group-returns
+lay_group-returns t c =
+    group_of (group_node c.args.group) c.in_ok-number.ensures c.in_ok-parts.ensures
+    (c.write.ensures.written ∙ ap (λ x. slice_set c.lay_all.new.nodes c.in_ok-number.number x) c.group_of.ensures) c.write.ensures.count
 
 pub lay_let-returns : goal.lay_let-returns
 lay_let-returns t c =

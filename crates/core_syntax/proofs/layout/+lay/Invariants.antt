@@ -6,17 +6,8 @@ use Rattle.core_syntax.proofs.layout.+lay.Given as goal
 abbrev pub decreases-lay : goal.decreases-lay
 decreases-lay l = 4 * l.left + 3
 
-abbrev pub decreases-lay_seq : goal.decreases-lay_seq
-decreases-lay_seq l = 4 * l.left + 2
-
-abbrev pub decreases-lay_and : goal.decreases-lay_and
-decreases-lay_and l = 4 * l.left + 2
-
-abbrev pub decreases-lay_or : goal.decreases-lay_or
-decreases-lay_or l = 4 * l.left + 2
-
-abbrev pub decreases-lay_prim : goal.decreases-lay_prim
-decreases-lay_prim l = 4 * l.left + 2
+abbrev pub decreases-lay_group : goal.decreases-lay_group
+decreases-lay_group l = 4 * l.left + 2
 
 abbrev pub decreases-lay_let : goal.decreases-lay_let
 decreases-lay_let l = 4 * l.left + 1

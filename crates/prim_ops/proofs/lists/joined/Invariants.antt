@@ -1,6 +1,6 @@
 use Rattle.std.proofs.Common.{◌≡◌, ◌++◌, map}
 use Rattle.script_value.specs.Views.{meaning}
-use Rattle.prim_ops.specs.Lists.{joined}
+use Rattle.prim_spec.specs.Lists.{joined}
 use Rattle.prim_ops.proofs.lists.joined.Given as goal
 
 abbrev pub invariant-loop-value : goal.invariant-loop-value

@@ -1,6 +1,6 @@
 use Rattle.std.proofs.Common.{◌≡◌, map, drop}
 use Rattle.script_value.specs.Views.{meaning}
-use Rattle.prim_ops.specs.Numbers.{difference_from}
+use Rattle.prim_spec.specs.Numbers.{difference_from}
 use Rattle.prim_ops.proofs.numbers.difference.Given as goal
 
 abbrev pub invariant-loop-value : goal.invariant-loop-value

@@ -1,6 +1,6 @@
 use Rattle.std.proofs.Common.{◌≡◌, map, drop, pos}
 use Rattle.script_value.specs.Views.{meaning}
-use Rattle.prim_ops.specs.Numbers.{product_from}
+use Rattle.prim_spec.specs.Numbers.{product_from}
 use Rattle.prim_ops.proofs.numbers.product.Given as goal
 
 abbrev pub invariant-loop-value : goal.invariant-loop-value

@@ -1,6 +1,6 @@
 use Rattle.std.proofs.Common.{◌≡◌, map, drop}
 use Rattle.script_value.specs.Views.{meaning}
-use Rattle.prim_ops.specs.Texts.{are_texts}
+use Rattle.prim_spec.specs.Texts.{are_texts}
 use Rattle.prim_ops.proofs.texts.are_texts.Given as goal
 
 abbrev pub invariant-loop-value : goal.invariant-loop-value

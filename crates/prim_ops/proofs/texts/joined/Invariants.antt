@@ -1,7 +1,7 @@
 use Rattle.std.proofs.Common.{◌≡◌, ◌++◌, map, drop}
 use Rattle.std.specs.Prelude.{string_bytes}
 use Rattle.script_value.specs.Views.{meaning}
-use Rattle.prim_ops.specs.Texts.{joined}
+use Rattle.prim_spec.specs.Texts.{joined}
 use Rattle.prim_ops.proofs.texts.joined.Given as goal
 
 abbrev pub invariant-loop-value : goal.invariant-loop-value

@@ -1,6 +1,6 @@
 use Rattle.std.proofs.Common.{◌≡◌, ◌++◌, take}
 use Rattle.std.specs.List.{flat_map}
-use Rattle.xexpr_page.specs.Markup.{text_byte}
+use Rattle.page_spec.specs.Markup.{text_byte}
 use Rattle.xexpr_page.proofs.escape.push_text.Given as goal
 
 abbrev pub invariant-loop-byte : goal.invariant-loop-byte

@@ -2,8 +2,8 @@ use Rattle.std.proofs.Common.{◌≡◌, rules, arith, true, map}
 use Rattle.std.proofs.lemmas.Result.{err_from_is_err_and}
 use Rattle.script_value.specs.Val.{vals_of}
 use Rattle.script_value.specs.Views.{meaning}
-use Rattle.xexpr_page.specs.Markup.{is_element}
-use Rattle.xexpr_page.specs.Page as spec
+use Rattle.page_spec.specs.Markup.{is_element}
+use Rattle.page_spec.specs.Page as spec
 use Rattle.xexpr_page.proofs.Pushed.{child_more, child_none, child_depth, element_written, void_pushed, element_pushed, handed_on, first_item}
 use Rattle.xexpr_page.proofs.page.+page.Goals as goal
 

@@ -1,7 +1,7 @@
 use Rattle.std.proofs.Common.{◌≡◌, ◌+◌, ◌*◌, map, drop}
 use Rattle.script_value.specs.Val.{vals_of, depth, depth_all}
 use Rattle.script_value.specs.Views.{meaning}
-use Rattle.xexpr_page.specs.Page.{children_of, appended}
+use Rattle.page_spec.specs.Page.{children_of, appended}
 use Rattle.xexpr_page.proofs.page.+page.Given as goal
 
 abbrev pub decreases-push_page : goal.decreases-push_page

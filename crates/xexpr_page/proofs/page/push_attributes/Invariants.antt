@@ -1,7 +1,7 @@
 use Rattle.std.proofs.Common.{◌≡◌, map, drop}
 use Rattle.script_value.specs.Val.{vals_of}
 use Rattle.script_value.specs.Views.{meaning}
-use Rattle.xexpr_page.specs.Page.{attributes_of, appended}
+use Rattle.page_spec.specs.Page.{attributes_of, appended}
 use Rattle.xexpr_page.proofs.page.push_attributes.Given as goal
 
 abbrev pub invariant-loop-attribute : goal.invariant-loop-attribute

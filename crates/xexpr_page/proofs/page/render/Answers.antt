@@ -1,7 +1,8 @@
 use Rattle.std.proofs.Common.{◌≡◌, Some, rules}
 use Rattle.std.specs.Prelude.{Ok, Err, is_some, false}
 use Rattle.script_value.specs.Views.{meaning}
-use Rattle.xexpr_page.specs.Page.{page_of, Gives}
+use Rattle.page_spec.specs.Page.{page_of}
+use Rattle.xexpr_page.specs.Answers.{Gives}
 use Rattle.xexpr_page.proofs.Grammar.{page_renders, answer_found}
 use Rattle.xexpr_page.specs.declared.fault.RenderFault.TheVariants.{NotPage}
 use Rattle.xexpr_page.proofs.Nested.{page_markup}

@@ -2,8 +2,8 @@ use Rattle.std.proofs.Common.{◌≡◌, rules, arith, true, false, map, ◌∙�
 use Rattle.std.specs.Prelude.{is_some}
 use Rattle.script_value.specs.Val.{vals_of}
 use Rattle.script_value.specs.Views.{meaning}
-use Rattle.xexpr_page.specs.Markup.{is_element, is_void}
-use Rattle.xexpr_page.specs.Page as spec
+use Rattle.page_spec.specs.Markup.{is_element, is_void}
+use Rattle.page_spec.specs.Page as spec
 use Rattle.xexpr_page.proofs.Pushed.{child_depth, first_item}
 use Rattle.xexpr_page.proofs.Shaped.{child_is_page, no_element, some_element, named_element}
 use Rattle.xexpr_page.proofs.shape.+is_page.Goals as goal

@@ -2,7 +2,7 @@ use Rattle.std.proofs.Common.{◌≡◌, ◌+◌, ◌*◌, map, drop}
 use Rattle.std.specs.Prelude.{is_some}
 use Rattle.script_value.specs.Val.{vals_of, depth, depth_all}
 use Rattle.script_value.specs.Views.{meaning}
-use Rattle.xexpr_page.specs.Page.{children_of}
+use Rattle.page_spec.specs.Page.{children_of}
 use Rattle.xexpr_page.proofs.shape.+is_page.Given as goal
 
 abbrev pub decreases-is_page : goal.decreases-is_page

@@ -79,6 +79,9 @@ decreases-read_send l = 8 * weight_all (meanings l.body.now) + 8
 abbrev pub decreases-read_last : goal.decreases-read_last
 decreases-read_last l = 8 * weight (meaning l.body.now) + 4
 
+abbrev pub decreases-read_call : goal.decreases-read_call
+decreases-read_call l = 8 * weight_all (meanings l.operands.now) + 6
+
 abbrev pub decreases-read_isolate : goal.decreases-read_isolate
 decreases-read_isolate l = 8 * weight (meaning l.body.now) + 4
 

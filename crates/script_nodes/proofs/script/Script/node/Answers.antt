@@ -1,6 +1,6 @@
 use Rattle.std.proofs.Common.{refl}
 use Rattle.std.proofs.lemmas.Option.{slice_get_read}
-use Rattle.script_nodes.proofs.Scripts.{parts_behind, node_full, node_on_cells, node_laid}
+use Rattle.script_nodes.proofs.Scripts.{parts_behind, node_full, node_on_cells, node_on_tasks, node_laid}
 use Rattle.script_nodes.proofs.Trees.{tree_at_node}
 use Rattle.script_nodes.proofs.script.Script.node.Goals as goal
 
@@ -21,6 +21,12 @@ returns-clause-cells c =
     let within = rw (← c.self.view_is) at c.requires in
     let here = slice_get_read _ _ c.args.number c.index.result.now refl within c.index.ensures in
     rw (← c.self.view_is) (node_on_cells _ c.self.invariant _ _ here)
+
+pub returns-clause-tasks : goal.returns-clause-tasks
+returns-clause-tasks c =
+    let within = rw (← c.self.view_is) at c.requires in
+    let here = slice_get_read _ _ c.args.number c.index.result.now refl within c.index.ensures in
+    rw (← c.self.view_is) (node_on_tasks _ c.self.invariant _ _ here)
 
 pub returns-clause-laid : goal.returns-clause-laid
 returns-clause-laid c =

@@ -1,0 +1,9 @@
+pub mod Bindings
+pub mod Lists
+pub mod Numbers
+pub mod Same
+pub mod Table
+pub mod Texts
+pub mod Vectors
+pub mod VectorsOfLists
+pub mod VectorsOfTexts
