@@ -37,13 +37,13 @@ short_codec = record { spelled = u32_bytes; fits = λ n. n < 2 ^ 32; read = read
 abbrev long_codec : Codec ℕ
 long_codec = record { spelled = u64_bytes; fits = λ n. n < 2 ^ 64; read = read_u64; law = u64_exact }
 
-abbrev string_codec : Codec (List ℕ)
+abbrev pub string_codec : Codec (List ℕ)
 string_codec = record { spelled = byte_string; fits = λ t. length t < 2 ^ 32; read = read_bytes; law = string_exact }
 
 abbrev value_codec : Codec Val
 value_codec = record { spelled = value_bytes; fits = HasBytes; read = read_value; law = value_exact most_levels }
 
-name_seen : IsSeen (both long_codec short_codec) name_from name_bytes NameFits
+pub name_seen : IsSeen (both long_codec short_codec) name_from name_bytes NameFits
 unfolding name_bytes
 name_seen = record {
   from = λ t. (t.ticket, t.entry);
@@ -54,7 +54,7 @@ name_seen = record {
   fitted = λ x f. record { ticket = f.0; entry = f.1 };
 }
 
-abbrev name_codec : Codec TxName
+abbrev pub name_codec : Codec TxName
 name_codec = record {
   spelled = name_bytes;
   fits = NameFits;
@@ -64,7 +64,7 @@ name_codec = record {
 
 -- ---- effects
 
-effect_back : (e : Effect) (rest : List ℕ) → EffectFits e → read_effect (effect_bytes e ++ rest) ≡ Some (e, rest)
+pub effect_back : (e : Effect) (rest : List ℕ) → EffectFits e → read_effect (effect_bytes e ++ rest) ≡ Some (e, rest)
 effect_back (read c v) rest fits = ap (seen_as (read c)) (value_codec.law.back v rest fits.1)
 effect_back (set c v) rest fits = ap (seen_as (set c)) (value_codec.law.back v rest fits.1)
 effect_back (add c n) rest fits = ap (seen_as (add c)) (i64_exact.back n rest fits.1)
@@ -99,7 +99,7 @@ effect_spells kind c bytes e rest small below h =
       ]
     ]
 
-effect_exact : (bytes : List ℕ) (e : Effect) (rest : List ℕ) → AreBytes bytes → read_effect bytes ≡ Some (e, rest)
+pub effect_exact : (bytes : List ℕ) (e : Effect) (rest : List ℕ) → AreBytes bytes → read_effect bytes ≡ Some (e, rest)
     → Spells effect_bytes EffectFits bytes e rest
 effect_exact bytes e rest small h =
     let kind = bind_some (read_u8 bytes) (λ k. (read_u8 k.1 >>= λ c. read_effect_of k.0 c.0 c.1)) (e, rest) h in
@@ -110,7 +110,7 @@ effect_exact bytes e rest small h =
     let s = effect_spells kind.0.0 cell.0.0 cell.0.1 e rest (rest_are_bytes kind.0.1 (cell.0.0 ∷ []) cell.0.1 c.whole behind) c.fit cell.2 in
     record { whole = k.whole ∙ ap (λ (r : List ℕ). kind.0.0 ∷ r) c.whole ∙ s.whole; fit = s.fit }
 
-abbrev effect_codec : Codec Effect
+abbrev pub effect_codec : Codec Effect
 effect_codec = record {
   spelled = effect_bytes;
   fits = EffectFits;

@@ -51,10 +51,11 @@ extension_page e state = record {
   state = state;
 }
 
--- effects, one behind the other, behind their count; likewise the names of transactions that were left
+-- effects, one behind the other, behind their count
 abbrev pub effects_bytes : List Effect → List ℕ
 effects_bytes es = list_bytes effect_bytes es
 
+-- the names of transactions that were left, one behind the other, behind their count
 abbrev pub names_bytes : List TxName → List ℕ
 names_bytes ts = list_bytes name_bytes ts
 
@@ -84,7 +85,7 @@ pub record EndingFits (e : Ending) : Type 0 where
   pub effects : FitsList EffectFits e.effects
   pub left : FitsList NameFits e.left
 
--- a last page with which the instance went: the same, but nothing was left
+-- a last page with which the instance went: its ticket, the page that was answered, and with what; and what its segment did
 abbrev pub finish_bytes : Finish → List ℕ
 finish_bytes f =
     u64_bytes f.number ++ (u64_bytes f.instance ++ (u64_bytes f.page ++ (value_bytes f.answer ++ effects_bytes f.effects)))
@@ -107,7 +108,7 @@ change_bytes (ends e) state = 3 ∷ ending_bytes e
 change_bytes (finishes f) state = 4 ∷ finish_bytes f
 change_bytes (sweeps tick) state = 5 ∷ u64_bytes tick
 
--- just the changes that show a page have a state
+-- a change can be written: each field fits, and just where it shows a page it has a state
 abbrev pub ChangeFits : Change → Option (List ℕ) → Type 0
 ChangeFits (opens o) (Some state) = PageFits (opening_page o state)
 ChangeFits (opens o) None = ⊥
@@ -148,7 +149,7 @@ has_state (opens o) None = false
 has_state (extends x) None = false
 has_state _ state = true
 
--- the length of a change's record; where a value nests deeper, or the new page's state has no spelling, the record has no body,
+-- the length of a change's record; where a value nests too deep, or the new page's state has no spelling, the record has no body,
 -- and counts as 2^63
 abbrev pub record_length : Change → (state : Option (List ℕ)) → ℕ
 record_length c state = if are_shallow c && has_state c state then body_length (changes c state) else 2 ^ 63
@@ -166,7 +167,7 @@ abbrev pub IfChanges : Record → (Change → Type 0) → Type 0
 IfChanges (begins shelf scripts) P = ⊤
 IfChanges (changes c state) P = P c
 
--- and of the bytes of its state
+-- a fact of the change that a record tells of, and of the bytes of its state
 abbrev pub IfChangesWith : Record → (Change → Option (List ℕ) → Type 0) → Type 0
 IfChangesWith (begins shelf scripts) P = ⊤
 IfChangesWith (changes c state) P = P c state
@@ -179,7 +180,7 @@ IsRecordLength r n = IfChangesWith r (λ c state. n ≡ record_length c state)
 abbrev pub texts_of : List Named → List (List ℕ × List ℕ)
 texts_of scripts = map (λ s. (s.name, s.text)) scripts
 
--- the name and the text of one
+-- the name and the text of a script
 abbrev pub text_of : Named → List ℕ × List ℕ
 text_of s = (s.name, s.text)
 
@@ -191,10 +192,11 @@ HasTextAt scripts place text = slice_get (texts_of scripts) place ≡ Some text
 abbrev pub FitFrom : (place : ℕ) → List Named → Type 0
 FitFrom place scripts = AllByRecursion ScriptFits (drop place (texts_of scripts))
 
--- the names and the texts, one behind the other; and those from a place on
+-- the bytes of the names and the texts of scripts, one behind the other
 abbrev pub each_text : List Named → List ℕ
 each_text scripts = flat_map script_bytes (texts_of scripts)
 
+-- the bytes of the names and the texts of scripts from a place on, one behind the other
 abbrev pub each_text_from : (place : ℕ) → List Named → List ℕ
 each_text_from place scripts = flat_map script_bytes (drop place (texts_of scripts))
 
@@ -202,6 +204,6 @@ each_text_from place scripts = flat_map script_bytes (drop place (texts_of scrip
 abbrev pub begin_of : (shelf : ℕ) → List Named → Record
 begin_of shelf scripts = begins shelf (texts_of scripts)
 
--- how long a journal is that has no more: 8 bytes before it, a gate, four bytes of length, the body, and a gate
+-- how long a journal of its first record alone is: 8 bytes before it, a gate, four bytes of length, the body, and a gate
 abbrev pub begun_length : (shelf : ℕ) → List Named → ℕ
 begun_length shelf scripts = 14 + length (body_of (begin_of shelf scripts))

@@ -52,7 +52,7 @@ last_sweep = refl
 begin : length (body_of (begins 0 ((codes "ten", codes "'(p \"12345\")") ∷ []))) ≡ 32
 begin = refl
 
--- so a journal that has no more is 46 bytes long
+-- a journal that has no more than the record of the script `ten` is 46 bytes long
 begun : (s : Script) → begun_length 0 (record { name = codes "ten"; text = codes "'(p \"12345\")"; script = s } ∷ []) ≡ 46
 begun s = refl
 
@@ -209,17 +209,18 @@ no_state = refl
 a_state : record_length (opens (record { number = 3; nonce = 7; script = 1; effects = []; left = []; kind = Suspend; deadline = 1 })) (Some (8 ∷ 9 ∷ [])) ≡ 47
 a_state = refl
 
--- a value that is one level too deep has none
+-- a value that nests so many levels deep
 abbrev nested : ℕ → Val
 nested zero = truth true
 nested (suc n) = list (val (nested n) no_vals)
 
+-- a record of a value that is one level too deep has no length of its own
 deep_finish : record_length (finishes (record { number = 5; instance = 3; page = 4; answer = nested 201; effects = [] })) None ≡ 2 ^ 63
 deep_finish = refl
 
 deep_effect : record_length (finishes (record { number = 5; instance = 3; page = 4; answer = truth true; effects = set 1 (nested 201) ∷ [] })) None ≡ 2 ^ 63
 deep_effect = refl
 
--- and one that nests as deep as it may has 5 bytes a level
+-- a value that nests as deep as it may has 5 bytes a level
 deepest_finish : record_length (finishes (record { number = 5; instance = 3; page = 4; answer = nested 200; effects = [] })) None ≡ 1030
 deepest_finish = refl

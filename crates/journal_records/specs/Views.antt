@@ -83,7 +83,7 @@ ReadsRecord bytes found = option_map logged_of found ≡ read_record bytes
 abbrev pub FindsItsBody : List ℕ → Option Logged → Type 0
 FindsItsBody bytes found = IfSome found (λ l. IsBodyOf bytes (logged_of l))
 
--- the same of what is lent to be written
+-- ---- what records stand for that are lent to be written
 
 abbrev pub lent_origin : RecordedOrigin → spec.Origin
 lent_origin (lent.Start script) = spec.start script
@@ -134,12 +134,14 @@ recorded_of (recorded.Sweep clock) = changes (sweeps clock) None
 abbrev pub scripts_bytes : List LoggedScript → List ℕ
 scripts_bytes scripts = list_bytes spec.script_bytes (map script_of scripts)
 
--- the bodies of their records
+-- the body of the record of a page that is lent
 abbrev pub page_body : RecordedPage → List ℕ
 page_body p = 2 ∷ page_bytes (lent_page p)
 
+-- the body of the record of a last page without a name that is lent
 abbrev pub ended_body : RecordedEnded → List ℕ
 ended_body e = 3 ∷ ending_bytes (lent_ending e)
 
+-- the body of the record of a last page that is lent, with which the instance went
 abbrev pub finish_body : RecordedFinish → List ℕ
 finish_body f = 4 ∷ finish_bytes (lent_finish f)

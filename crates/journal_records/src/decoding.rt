@@ -2,7 +2,7 @@ ghost use Rattle.std.specs.Prelude.{◌≡◌, ◌↔◌, ◌≤◌, ◌^◌, Li
 ghost use Rattle.script_value.specs.Views.{meaning};
 ghost use Rattle.instance_cells.specs.Views.{effect_of};
 ghost use Rattle.value_bytes.specs.Reading.{read_list};
-ghost use Rattle.value_bytes.specs.Views.{Reads};
+ghost use Rattle.value_bytes.specs.Views.{Reads, GrowsWithin};
 ghost use Rattle.journal_records.specs.Reading as spec;
 ghost use Rattle.journal_records.specs.Reading.{is_nothing, read_below};
 ghost use Rattle.journal_records.specs.Views.{script_of, origin_of, page_of, ending_of, finish_of, logged_of, texts_in, ReadsRecord, FindsItsBody};
@@ -13,11 +13,12 @@ use instance_cells::Effect;
 use script_nodes::SendKind;
 use script_value::{Bytes, TxName, Value};
 use std::alloc::{AllocError, Global};
-use value_bytes::fields::{byte, number_32, number_64, signed_64, string};
+use value_bytes::fields::{byte, count, number_32, number_64, signed_64, string};
 use value_bytes::{Unread, value};
 use wire_bytes::Cursor;
 
-/// The record whose body this is; none where it is the body of no record.
+/// The record whose body this is; none where it is the body of no record. No count in it makes anything grow beyond the bytes behind
+/// it.
 pub fn decode(alloc: Global, body: &[u8]) -> Result<Option<Logged>, AllocError>
     ensures read { IfOk result (ReadsRecord body.now) }
     ensures spelled { IfOk result (FindsItsBody body.now) }
@@ -62,11 +63,12 @@ fn begin(alloc: Global, cursor: &mut Cursor<'_>) -> Result<Logged, Unread>
     Ok(Logged::Begin { shelf, scripts })
 }
 
-#[tactic(auto, using(value_bytes::proofs::Turns::at_start, value_bytes::proofs::Turns::one_more, value_bytes::proofs::Turns::no_more, value_bytes::proofs::Turns::at_end))]
+#[tactic(auto, using(value_bytes::proofs::Turns::at_start, value_bytes::proofs::Turns::one_more, value_bytes::proofs::Turns::no_more, value_bytes::proofs::Turns::at_end, value_bytes::proofs::Counts::has_count, value_bytes::proofs::Counts::list_from))]
 fn scripts(alloc: Global, cursor: &mut Cursor<'_>) -> Result<Vec<LoggedScript>, Unread>
-    ensures { Reads texts_in result cursor.new (read_list spec.read_script cursor.old) }
+    ensures read { Reads texts_in result cursor.new (read_list spec.read_script cursor.old) }
+    ensures memory { GrowsWithin result cursor.old }
 {
-    let count = number_32(cursor)?;
+    let count = count(cursor)?;
     let mut scripts = Vec::new(alloc);
     for turn in 0..count {
         let script = script(alloc, cursor)?;
@@ -193,11 +195,12 @@ fn answered(alloc: Global, cursor: &mut Cursor<'_>) -> Result<Origin, Unread>
     })
 }
 
-#[tactic(auto, using(value_bytes::proofs::Turns::at_start, value_bytes::proofs::Turns::one_more, value_bytes::proofs::Turns::no_more, value_bytes::proofs::Turns::at_end))]
+#[tactic(auto, using(value_bytes::proofs::Turns::at_start, value_bytes::proofs::Turns::one_more, value_bytes::proofs::Turns::no_more, value_bytes::proofs::Turns::at_end, value_bytes::proofs::Counts::has_count, value_bytes::proofs::Counts::list_from))]
 fn effects(alloc: Global, cursor: &mut Cursor<'_>) -> Result<Vec<Effect>, Unread>
-    ensures { Reads (λ v. map effect_of v.items) result cursor.new (spec.read_effects cursor.old) }
+    ensures read { Reads (λ v. map effect_of v.items) result cursor.new (spec.read_effects cursor.old) }
+    ensures memory { GrowsWithin result cursor.old }
 {
-    let count = number_32(cursor)?;
+    let count = count(cursor)?;
     let mut effects = Vec::new(alloc);
     for turn in 0..count {
         let effect = effect(alloc, cursor)?;
@@ -219,11 +222,12 @@ fn effect(alloc: Global, cursor: &mut Cursor<'_>) -> Result<Effect, Unread>
     }
 }
 
-#[tactic(auto, using(value_bytes::proofs::Turns::at_start, value_bytes::proofs::Turns::one_more, value_bytes::proofs::Turns::no_more, value_bytes::proofs::Turns::at_end))]
+#[tactic(auto, using(value_bytes::proofs::Turns::at_start, value_bytes::proofs::Turns::one_more, value_bytes::proofs::Turns::no_more, value_bytes::proofs::Turns::at_end, value_bytes::proofs::Counts::has_count, value_bytes::proofs::Counts::list_from))]
 fn names(alloc: Global, cursor: &mut Cursor<'_>) -> Result<Vec<TxName>, Unread>
-    ensures { Reads (λ v. v.items) result cursor.new (spec.read_names cursor.old) }
+    ensures read { Reads (λ v. v.items) result cursor.new (spec.read_names cursor.old) }
+    ensures memory { GrowsWithin result cursor.old }
 {
-    let count = number_32(cursor)?;
+    let count = count(cursor)?;
     let mut names = Vec::new(alloc);
     for turn in 0..count {
         let name = name(cursor)?;

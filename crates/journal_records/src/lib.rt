@@ -1,4 +1,4 @@
-//! The records of a journal: each has one body, and what is read is what was written.
+//! What a record of a shelf's journal says, as bytes, each in one way: for the shelf and for recovery.
 #![tactic(auto)]
 
 mod decoding;

@@ -1,4 +1,4 @@
-//! The names of scripts and of the pages that they send, and the URLs that spell them.
+//! The names of scripts and pages, and the URLs that spell them: for scripts, admission and requests.
 #![tactic(auto)]
 
 mod escapes;

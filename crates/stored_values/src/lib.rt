@@ -1,4 +1,4 @@
-//! Values as they are kept in memory for long: in their spelling, which is a few bytes; what has none is kept as it is.
+//! Values as they are kept in memory for long, in their spelling: for the book.
 #![tactic(auto)]
 
 mod list;

@@ -20,12 +20,12 @@ several_back spelled fits read law (x ∷ xs) rest fit =
     ∙ ap (λ o. o >>= λ ys. Some (x ∷ ys.0, ys.1)) (several_back spelled fits read law xs rest fit.1)
 
 -- what so many that were read are spelled by
-record Several {A : Type 0} (spelled : A → List ℕ) (fits : A → Type 0) (n : ℕ) (bytes : List ℕ) (xs : List A) (rest : List ℕ) : Type 0 where
-  whole : bytes ≡ flat_map spelled xs ++ rest
-  fit : AllByRecursion fits xs
-  count : length xs ≡ n
+pub record Several {A : Type 0} (spelled : A → List ℕ) (fits : A → Type 0) (n : ℕ) (bytes : List ℕ) (xs : List A) (rest : List ℕ) : Type 0 where
+  pub whole : bytes ≡ flat_map spelled xs ++ rest
+  pub fit : AllByRecursion fits xs
+  pub count : length xs ≡ n
 
-several_exact : {A : Type 0} (spelled : A → List ℕ) (fits : A → Type 0) (read : Reader A) → IsExact spelled fits read
+pub several_exact : {A : Type 0} (spelled : A → List ℕ) (fits : A → Type 0) (read : Reader A) → IsExact spelled fits read
     → (n : ℕ) (bytes : List ℕ) (xs : List A) (rest : List ℕ) → AreBytes bytes → read_several read n bytes ≡ Some (xs, rest)
     → Several spelled fits n bytes xs rest
 several_exact spelled fits read law zero bytes xs rest small e =

@@ -7,7 +7,7 @@ use Rattle.script_value.specs.Pieces.{◌>>=◌}
 use Rattle.wire_bytes.specs.Reading.{read_u32, read_u64, read_bytes}
 use Rattle.value_bytes.specs.Spelling.{most_levels}
 
--- what is read of an A: the first, and what is left behind it; none where none stands there
+-- a reader of an A: the one in front, and the bytes that are left behind it; none where none stands there
 abbrev pub Reader : Type 0 → Type 0
 Reader A = List ℕ → Option (A × List ℕ)
 
@@ -15,7 +15,7 @@ Reader A = List ℕ → Option (A × List ℕ)
 abbrev pub seen_as : {A B : Type 0} → (A → B) → Option (A × List ℕ) → Option (B × List ℕ)
 seen_as view outcome = option_map (λ read. (view read.0, read.1)) outcome
 
--- so many, one behind the other
+-- reads so many items, one behind the other
 abbrev pub read_several : {A : Type 0} → Reader A → ℕ → Reader (List A)
 read_several read zero bytes = Some ([], bytes)
 read_several read (suc n) bytes = do
@@ -23,7 +23,7 @@ read_several read (suc n) bytes = do
   xs ← read_several read n x.1
   Some (x.0 ∷ xs.0, xs.1)
 
--- a count, and as many
+-- reads a list: a count, and as many items
 abbrev pub read_list : {A : Type 0} → Reader A → Reader (List A)
 read_list read bytes = do
   count ← read_u32 bytes
@@ -54,7 +54,7 @@ abbrev pub read_front : Reader (List Val) → Reader Val
 read_front read_items [] = None
 read_front read_items (kind ∷ rest) = read_kind read_items kind rest
 
--- nothing
+-- a reader that finds nothing in any bytes
 abbrev pub read_none : {A : Type 0} → Reader A
 read_none bytes = None
 

@@ -10,7 +10,7 @@ use Rattle.wire_bytes.specs.Spelling.{u32_bytes, u64_bytes, byte_string}
 abbrev pub i64_bytes : ℤ → List ℕ
 i64_bytes n = u64_bytes (cast_unsigned w64 n)
 
--- how many there are
+-- how many values there are
 abbrev pub count_of : Vals → ℕ
 count_of vs = length (items_of vs)
 
@@ -64,7 +64,7 @@ most_levels = 200
 abbrev pub HasBytes : Val → Type 0
 HasBytes v = HasBytesWithin most_levels v
 
--- a list has a spelling, where each item has one that fits so
+-- a list has a spelling: it can be counted, and this holds of each item
 abbrev pub FitsList : {A : Type 0} → (A → Type 0) → List A → Type 0
 FitsList P xs = (length xs < 2 ^ 32) × AllByRecursion P xs
 

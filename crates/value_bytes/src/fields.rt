@@ -1,7 +1,8 @@
 //! The fields of a format, read one behind the other: each leaves what stands behind it. Behind an `Err` the cursor may stand anywhere.
 
-ghost use Rattle.std.specs.Prelude.{◌≡◌, ◌<◌, ◌^◌, List, option_map};
-ghost use Rattle.wire_bytes.specs.Reading.{read_u8, read_u32, read_u64, read_bytes};
+ghost use Rattle.std.specs.Prelude.{◌≡◌, ◌<◌, ◌^◌, List, option_map, IfErr};
+ghost use Rattle.wire_bytes.specs.Reading.{AreBytes, read_u8, read_u32, read_u64, read_bytes, read_count};
+ghost use Rattle.value_bytes.specs.declared.unread.Unread.TheVariants.{Misspelled};
 ghost use Rattle.value_bytes.specs.Reading.{read_i64, read_utf8};
 ghost use Rattle.value_bytes.specs.Views.{Reads};
 
@@ -26,6 +27,26 @@ pub fn number_32(cursor: &mut Cursor<'_>) -> Result<u32, Unread>
 {
     match cursor.u32() {
         Some(number) => Ok(number),
+        None => Err(Unread::Misspelled),
+    }
+}
+
+/// How many there are of a list, each of which has a byte at least. One that fewer bytes stand behind is none, so that no count
+/// makes anything grow beyond what is left. It takes no memory.
+pub fn count(cursor: &mut Cursor<'_>) -> Result<u32, Unread>
+    ensures read { Reads (λ n. n) result cursor.new (read_count cursor.old) }
+    ensures fault { IfErr result (λ e. e ≡ Misspelled) }
+    ensures bytes { AreBytes cursor.old }
+{
+    let _bytes = cursor.left();
+    match cursor.u32() {
+        Some(count) => {
+            if count as usize <= cursor.left() {
+                Ok(count)
+            } else {
+                Err(Unread::Misspelled)
+            }
+        }
         None => Err(Unread::Misspelled),
     }
 }

@@ -1,4 +1,4 @@
-//! Values of scripts as bytes: each has one spelling, and what is read is what was written.
+//! Values of scripts as bytes, each in one way: for records, states and what the book keeps.
 #![tactic(auto)]
 
 ghost use Rattle.value_bytes.specs.Laws.{AreValuesExact};

@@ -1,11 +1,11 @@
-ghost use Rattle.std.specs.Prelude.{◌≡◌, ◌≤◌, List, option_map, IfOk, IfSome, Some};
+ghost use Rattle.std.specs.Prelude.{◌≡◌, ◌≤◌, List, option_map, IfOk, IfSome, OnErr, Some};
 ghost use Rattle.script_value.specs.Views.{meaning};
 ghost use Rattle.wire_bytes.specs.Reading.{value_of};
 ghost use Rattle.value_bytes.specs.Reading as spec;
 ghost use Rattle.value_bytes.specs.Reading.{read_within, read_items_within, read_list};
-ghost use Rattle.value_bytes.specs.Views.{Reads};
+ghost use Rattle.value_bytes.specs.Views.{Reads, HasCount, GrowsWithin};
 
-use crate::fields::{byte, number_32, signed_64, text};
+use crate::fields::{byte, count, signed_64, text};
 use crate::unread::Unread;
 use script_value::{Items, Value};
 use std::alloc::{AllocError, Global};
@@ -30,10 +30,12 @@ pub fn read_value(alloc: Global, cursor: &mut Cursor<'_>) -> Result<Option<Value
 
 /// Reads the list of values that stands at the cursor, its count first; none where no spelling of one stands there.
 ///
-/// The cursor is then behind the list; where none is read, it may stand anywhere.
+/// The cursor is then behind the list; where none is read, it may stand anywhere. Memory runs out only where no more values are
+/// told than bytes are left.
 pub fn read_values(alloc: Global, cursor: &mut Cursor<'_>) -> Result<Option<Items>, AllocError>
     ensures value { IfOk result (λ found. option_map (λ vs. vs) found ≡ value_of (spec.read_values cursor.old)) }
     ensures rest { IfOk result (λ found. IfSome found (λ vs. spec.read_values cursor.old ≡ Some (vs, cursor.new))) }
+    ensures memory { OnErr result (HasCount cursor.old) }
 {
     match values(alloc, cursor) {
         Ok(items) => Ok(Some(items)),
@@ -51,7 +53,8 @@ pub fn value(alloc: Global, cursor: &mut Cursor<'_>) -> Result<Value, Unread>
 
 /// A list of values, as a field among others.
 pub fn values(alloc: Global, cursor: &mut Cursor<'_>) -> Result<Items, Unread>
-    ensures { Reads (λ vs. vs) result cursor.new (spec.read_values cursor.old) }
+    ensures read { Reads (λ vs. vs) result cursor.new (spec.read_values cursor.old) }
+    ensures memory { GrowsWithin result cursor.old }
 {
     list_within(alloc, cursor, MOST_LEVELS)
 }
@@ -76,7 +79,8 @@ fn value_within(alloc: Global, cursor: &mut Cursor<'_>, levels: u32) -> Result<V
 // The items of a list that nests at most so many levels deep.
 #[cycle(values)]
 fn items_within(alloc: Global, cursor: &mut Cursor<'_>, levels: u32) -> Result<Items, Unread>
-    ensures { Reads (λ vs. vs) result cursor.new (read_items_within levels cursor.old) }
+    ensures read { Reads (λ vs. vs) result cursor.new (read_items_within levels cursor.old) }
+    ensures memory { GrowsWithin result cursor.old }
 {
     if levels == 0 {
         Err(Unread::Misspelled)
@@ -85,13 +89,14 @@ fn items_within(alloc: Global, cursor: &mut Cursor<'_>, levels: u32) -> Result<I
     }
 }
 
-// A list of values that each nest at most so many levels deep. Its items are kept one by one, so that no count is trusted.
+// A list of values that each nest at most so many levels deep. Its items are kept one by one, and no count is trusted.
 #[cycle(values)]
-#[tactic(auto, using(crate::proofs::Turns::one_more, crate::proofs::Turns::no_more, crate::proofs::Turns::at_end))]
+#[tactic(auto, using(crate::proofs::Turns::one_more, crate::proofs::Turns::no_more, crate::proofs::Turns::at_end, crate::proofs::Counts::has_count))]
 fn list_within(alloc: Global, cursor: &mut Cursor<'_>, levels: u32) -> Result<Items, Unread>
-    ensures { Reads (λ vs. vs) result cursor.new (read_list (read_within levels) cursor.old) }
+    ensures read { Reads (λ vs. vs) result cursor.new (read_list (read_within levels) cursor.old) }
+    ensures memory { GrowsWithin result cursor.old }
 {
-    let count = number_32(cursor)?;
+    let count = count(cursor)?;
     let mut items = Items::new(alloc);
     for turn in 0..count {
         let item = value_within(alloc, cursor, levels)?;

@@ -1,7 +1,7 @@
 -- Worked rows.
 use Rattle.std.specs.Prelude.{◌≡◌, [], ◌∷◌, ◌-◌, ◌^◌, Some, None, refl}
 use Rattle.wire_bytes.specs.Spelling.{u32_bytes, u64_bytes, byte_string}
-use Rattle.wire_bytes.specs.Reading.{read_u8, read_u32, read_u64, read_bytes}
+use Rattle.wire_bytes.specs.Reading.{read_u8, read_u32, read_u64, read_bytes, read_count}
 
 -- the least byte comes first
 least_first : u32_bytes 1027 ≡ 3 ∷ 4 ∷ 0 ∷ 0 ∷ []
@@ -37,3 +37,9 @@ a_string_is_read = refl
 
 a_string_is_cut_short : read_bytes (2 ∷ 0 ∷ 0 ∷ 0 ∷ 104 ∷ []) ≡ None
 a_string_is_cut_short = refl
+
+a_count_is_read : read_count (2 ∷ 0 ∷ 0 ∷ 0 ∷ 9 ∷ 9 ∷ []) ≡ Some (2, 9 ∷ 9 ∷ [])
+a_count_is_read = refl
+
+a_count_is_too_large : read_count (3 ∷ 0 ∷ 0 ∷ 0 ∷ 9 ∷ 9 ∷ []) ≡ None
+a_count_is_too_large = refl

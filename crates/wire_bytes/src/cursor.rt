@@ -1,6 +1,6 @@
 ghost use Rattle.std.specs.Prelude.{◌≡◌, ◌<◌, ◌≤◌, ◌+◌, ◌++◌, [], ◌∷◌, ◌↔◌, length, IfSome, IsTrue, None, IsNone, option_map};
 ghost use Rattle.wire_bytes.specs.Spelling.{u32_bytes, u64_bytes, byte_string};
-ghost use Rattle.wire_bytes.specs.Reading.{read_u8, read_u32, read_u64, read_bytes, value_of, rest_of};
+ghost use Rattle.wire_bytes.specs.Reading.{AreBytes, read_u8, read_u32, read_u64, read_bytes, value_of, rest_of};
 
 use crate::{u32_from_wire, u64_from_wire};
 use std::marker::Model;
@@ -17,6 +17,14 @@ impl<'a> Model for Cursor<'a> {
     ghost Value = { List ℕ };
 
     ghost view = { λ cursor. cursor.rest.now };
+}
+
+// How many bytes there are, each below 256.
+fn len(bytes: &[u8]) -> usize
+    ensures len { result ≡ length bytes.now }
+    ensures bytes { AreBytes bytes.now }
+{
+    bytes.len()
 }
 
 impl<'a> Cursor<'a> {
@@ -81,6 +89,14 @@ impl<'a> Cursor<'a> {
         let (bytes, rest) = self.rest.split_at(size);
         self.rest = rest;
         Some(bytes)
+    }
+
+    /// How many bytes are left.
+    pub fn left(&self) -> usize
+        ensures left { result ≡ length self.now }
+        ensures bytes { AreBytes self.now }
+    {
+        len(self.rest)
     }
 
     /// Whether no byte is left.

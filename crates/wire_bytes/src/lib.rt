@@ -1,4 +1,4 @@
-//! Numbers and byte strings as they are written: least byte first, a byte string behind its length.
+//! Numbers and byte strings as they are written: for every format on the disk.
 #![tactic(auto)]
 
 ghost use Rattle.wire_bytes.specs.Laws.{IsReadBack};
