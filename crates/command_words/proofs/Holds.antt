@@ -22,7 +22,7 @@ use Rattle.clap.proofs.OnLiterals.{clap_on_literals}
 use Rattle.clap.proofs.ValueTestLemmas.{accepts-Accepts}
 use Rattle.command_words.specs.App.{app, check_shape, load_shape, play_shape, serve_shape}
 use Rattle.server_limits.specs.Limits.{most_connections, most_fuel, most_instances, most_life, most_pages, most_shelves}
-use Rattle.command_words.specs.Options.{Item, Kind, bare, directory, flag, load_items, most_run, number, play_items, serve_items, most_workers}
+use Rattle.command_words.specs.Options.{Item, Kind, bare, directory, flag, load_items, most_run, number, play_items, serve_items, most_requests, most_workers}
 use Rattle.command_words.specs.Plain.{AreInRange, CanLoad, CanServe, IsInRange}
 use Rattle.command_words.specs.Reads.{Holds, HoldsAs, HoldsAsked, HoldsFor, HoldsNumber, HoldsText, asked_as, asked_from, for_check, for_load, for_play, for_serve, load_at, number_at, options_at, service_at, text_at}
 use Rattle.command_words.specs.declared.Command.{Command}
@@ -131,7 +131,7 @@ play_holds words fine =
 
 serve_known : AllKnown (built_sub serve_shape).rules
 unfolding clap_on_literals
-serve_known = (record { does = sets_value refl refl; by_id = refl }, (record { does = sets_value refl refl; by_id = refl }, (record { does = sets_value refl refl; by_id = refl }, (record { does = sets_value refl refl; by_id = refl }, (record { does = sets_value refl refl; by_id = refl }, (record { does = sets_value refl refl; by_id = refl }, (record { does = sets_value refl refl; by_id = refl }, (record { does = sets_value refl refl; by_id = refl }, (record { does = sets_value refl refl; by_id = refl }, (record { does = shows_help refl; by_id = refl }, tt))))))))))
+serve_known = (record { does = sets_value refl refl; by_id = refl }, (record { does = sets_value refl refl; by_id = refl }, (record { does = sets_value refl refl; by_id = refl }, (record { does = sets_value refl refl; by_id = refl }, (record { does = sets_value refl refl; by_id = refl }, (record { does = sets_value refl refl; by_id = refl }, (record { does = sets_value refl refl; by_id = refl }, (record { does = sets_value refl refl; by_id = refl }, (record { does = sets_value refl refl; by_id = refl }, (record { does = sets_value refl refl; by_id = refl }, (record { does = shows_help refl; by_id = refl }, tt)))))))))))
 
 no_port : (rows : List Row) → is_given (codes "port") rows ≡ false → check_fault (built_sub serve_shape) rows false ≡ MissingRequiredArgument ∷ []
 unfolding clap_on_literals
@@ -159,7 +159,7 @@ serve_holds words fine =
     let port = port_row (rows_after (built_sub serve_shape).rules [] words) l.checked in
     for_serve refl
     (holds_each (built_sub serve_shape) serve_items serve_items words l serve_in
-    (λ e. cc, (λ e. cc, (λ e. cc, (λ e. cc, (λ e. cc, (λ e. cc, (λ e. port, (λ e. cc, (λ e. cc, tt))))))))))
+    (λ e. cc, (λ e. cc, (λ e. cc, (λ e. cc, (λ e. cc, (λ e. cc, (λ e. port, (λ e. cc, (λ e. cc, (λ e. cc, tt)))))))))))
 
 -- ---- `load`
 
@@ -259,6 +259,7 @@ service_range rows h = record {
   port = (number_range 0 65535 rows (codes "port") h.1.1.1.1.1.1.0).1;
   connections = number_range 1 most_connections rows (codes "connections") h.1.1.1.1.1.1.1.0;
   workers = number_range 1 most_workers rows (codes "workers") h.1.1.1.1.1.1.1.1.0;
+  requests = number_range 1 most_requests rows (codes "requests") h.1.1.1.1.1.1.1.1.1.0;
 }
 
 load_range : (rows : List Row) → Holds load_items rows → CanLoad (load_at rows)

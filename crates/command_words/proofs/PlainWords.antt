@@ -13,7 +13,7 @@ use Rattle.clap.specs.Walk.{Row, Rule, Text, is_empty, nothing_held, with_defaul
 use Rattle.clap.proofs.OnLiterals.{clap_on_literals}
 use Rattle.command_words.specs.App.{app, load_shape, play_shape, serve_shape}
 use Rattle.command_words.specs.Options.{ArePlain, IsOneOf, IsPlainNumber, IsPlainText, Item, Kind, Setting, bare, directory, flag, given, load_items, most_run, number, number_of, play_items, run_number, serve_items, spelled, text_of}
-use Rattle.command_words.specs.Options.{connections, fuel, instances, journal, life, pages, port, shelves, workers}
+use Rattle.command_words.specs.Options.{connections, fuel, instances, journal, life, pages, port, requests, shelves, workers}
 use Rattle.command_words.specs.Plain.{ArePlainFor, IsPlain, chosen, load_chosen, service_chosen}
 use Rattle.command_words.specs.Reads.{asked_from, load_at, number_at, options_at, service_at, text_at, value_number}
 use Rattle.command_words.specs.declared.Command.{Command}
@@ -176,7 +176,7 @@ play_means name set p =
 
 serve_defaults : Each (λ a. default_kinds (is_empty a.defaults) a ≡ []) (built_sub serve_shape).rules
 unfolding clap_on_literals
-serve_defaults = (refl, (refl, (refl, (refl, (refl, (refl, (refl, (refl, (refl, (refl, tt))))))))))
+serve_defaults = (refl, (refl, (refl, (refl, (refl, (refl, (refl, (refl, (refl, (refl, (refl, tt)))))))))))
 
 -- the port is what is required
 serve_checked : (rows : List Row) → is_given (codes "port") rows ≡ true → check_fault (built_sub serve_shape) rows false ≡ []
@@ -190,21 +190,22 @@ port_given set named p = by_given (given (codes "port") set) refl (p.there.1.1.1
     by_given None e some = cc
     by_given (Some t) e some = let told = given_tells (built_sub serve_shape).rules [] (codes "port") t set refl named e in rw (told.tells.is, told.source) refl
 
-service_same : (a b : Service) → a.options ≡ b.options → a.port ≡ b.port → a.connections ≡ b.connections → a.workers ≡ b.workers → a ≡ b
-service_same a b o p n w = λ at. record { options = o at; port = p at; connections = n at; workers = w at }
+service_same : (a b : Service) → a.options ≡ b.options → a.port ≡ b.port → a.connections ≡ b.connections → a.workers ≡ b.workers → a.requests ≡ b.requests → a ≡ b
+service_same a b o p n w r = λ at. record { options = o at; port = p at; connections = n at; workers = w at; requests = r at }
 
 serve_means : (name : Text) (set : List Setting) → ArePlain serve_items set
     → (fault_of app (name ∷ codes "serve" ∷ spelled set) ≡ []) × (asked_from (subcommand_of app (name ∷ codes "serve" ∷ spelled set)) ≡ Some (Serve (service_chosen set)))
 serve_means name set p =
     let rules = (built_sub serve_shape).rules in
     let named = each_named rules serve_items set serve_in p in
-    let goes = command_goes name (codes "serve") serve_shape serve_items set (refl, (refl, (refl, (refl, (refl, (refl, (refl, (refl, (refl, tt))))))))) enters_serve serve_in p serve_defaults (record { fine = refl; got = refl })
+    let goes = command_goes name (codes "serve") serve_shape serve_items set (refl, (refl, (refl, (refl, (refl, (refl, (refl, (refl, (refl, (refl, tt)))))))))) enters_serve serve_in p serve_defaults (record { fine = refl; got = refl })
     (serve_checked (ends_with rules set) (port_given set named p)) in
     let shared : Each (IsIn rules serve_items) play_items = (serve_in.0, (serve_in.1.0, (serve_in.1.1.0, (serve_in.1.1.1.0, (serve_in.1.1.1.1.0, (serve_in.1.1.1.1.1.0, tt)))))) in
     let told = service_same (service_at (ends_with rules set)) (service_chosen set) (options_told rules serve_items set shared p named)
     (number_told rules serve_items port set serve_in.1.1.1.1.1.1.0 refl p named p.there.1.1.1.1.1.1.0)
     (number_told rules serve_items connections set serve_in.1.1.1.1.1.1.1.0 refl p named (λ e. cc))
-    (number_told rules serve_items workers set serve_in.1.1.1.1.1.1.1.1.0 refl p named (λ e. cc)) in
+    (number_told rules serve_items workers set serve_in.1.1.1.1.1.1.1.1.0 refl p named (λ e. cc))
+    (number_told rules serve_items requests set serve_in.1.1.1.1.1.1.1.1.1.0 refl p named (λ e. cc)) in
     (goes.0, ap asked_from goes.1 ∙ ap (λ v. Some (Serve v)) told)
 
 -- ---- `load`

@@ -22,14 +22,14 @@ value_rule name parser = record (new_rule name) {
   parser = Some parser;
 }
 
--- a value that stands without a name
+-- the rule of a value that stands without a name
 abbrev pub bare_rule : Text → ValueParser → Rule
 bare_rule name parser = record (new_rule name) { action = Some Set; parser = Some parser }
 
 abbrev pub flag_rule : Text → Rule
 flag_rule name = record (new_rule name) { long = Some name; action = Some SetTrue }
 
--- the value has a default, or else the option is required
+-- the rule of an option that has this default; where it has none the option is required
 abbrev pub or_default : Option Text → Rule → Rule
 or_default None r = record r { required = true }
 or_default (Some text) r = record r { defaults = text ∷ [] }
@@ -43,7 +43,7 @@ rule_by flag name default = flag_rule name
 abbrev pub rule_for : Item → Rule
 rule_for i = rule_by i.kind i.name i.default
 
--- a command's options are its own, and no other command has them
+-- the options of a command are its own, and no other command has them
 abbrev pub IsLocal : Command → Type 0
 IsLocal c = (fields_of c).has_globals ≡ false
 
@@ -86,6 +86,6 @@ app = record {
 abbrev pub faults_in : List (Bor (List ℕ)) → List ErrorKind
 faults_in words = fault_of app (texts words)
 
--- the command's name that clap finds in them, and the rows of its options
+-- the command's name that clap finds in the words, and the rows of its options
 abbrev pub rows_of_words : List (Bor (List ℕ)) → Option (Text × List Row)
 rows_of_words words = subcommand_of app (texts words)

@@ -9,8 +9,8 @@ use Rattle.server_limits.specs.Limits.{most_connections, most_fuel, most_instanc
 abbrev pub Text : Type 0
 Text = List ℕ
 
--- what stands behind an option: a number from the first to the second, a directory, or nothing; or such a number that stands without
--- a name, behind the command's
+-- what stands after an option: a number from the first to the second, a directory, or nothing; or such a number that stands without
+-- a name, after the command's
 pub data Kind : Type 0 where
   number : ℕ → ℕ → Kind
   bare : ℕ → ℕ → Kind
@@ -52,6 +52,13 @@ most_workers = 16
 abbrev pub workers : Item
 workers = record { name = codes "workers"; kind = number 1 most_workers; default = Some (codes "4") }
 
+-- the most requests that a link may carry
+abbrev pub most_requests : ℕ
+most_requests = 1000
+
+abbrev pub requests : Item
+requests = record { name = codes "requests"; kind = number 1 most_requests; default = Some (codes "100") }
+
 abbrev pub connections : Item
 connections = record { name = codes "connections"; kind = number 1 most_connections; default = Some (codes "10000") }
 
@@ -67,9 +74,9 @@ run_number = record { name = codes "number"; kind = bare 1 most_run; default = N
 abbrev pub play_items : List Item
 play_items = fuel ∷ life ∷ instances ∷ pages ∷ journal ∷ shelves ∷ []
 
--- the options of `serve`: those of `play`, and three of its own
+-- the options of `serve`: those of `play`, and four of its own
 abbrev pub serve_items : List Item
-serve_items = fuel ∷ life ∷ instances ∷ pages ∷ journal ∷ shelves ∷ port ∷ connections ∷ workers ∷ []
+serve_items = fuel ∷ life ∷ instances ∷ pages ∷ journal ∷ shelves ∷ port ∷ connections ∷ workers ∷ requests ∷ []
 
 -- what `load` takes: its number, and the options of `play`
 abbrev pub load_items : List Item
@@ -77,12 +84,12 @@ load_items = run_number ∷ fuel ∷ life ∷ instances ∷ pages ∷ journal �
 
 -- ---- options as they are written
 
--- an option, with the text behind it
+-- an option as it is written, with the text after it
 pub record Setting : Type 0 where
   pub item : Item
   pub text : Text
 
--- the number is written in decimal, without leading zeros
+-- the text is a number of this range, in decimal and without leading zeros
 abbrev pub IsPlainNumber : ℕ → ℕ → Text → Type 0
 IsPlainNumber low high text = (n : ℕ) × (text ≡ decimal n) × (low ≤ n) × (n ≤ high)
 
@@ -97,7 +104,7 @@ IsPlainText directory [] = ⊥
 IsPlainText directory (x ∷ xs) = (x == 45) ≡ false
 IsPlainText flag text = text ≡ codes "true"
 
--- `--name TEXT`, a flag as `--name`, and a number without a name as it is
+-- the words of an option: `--name TEXT`, a flag as `--name`, and a number without a name as it is
 abbrev pub words_for : Kind → Text → Text → List Text
 words_for flag name text = (45 ∷ 45 ∷ name) ∷ []
 words_for (bare low high) name text = text ∷ []
@@ -118,7 +125,7 @@ text_of i settings = unwrap_or (given i.name settings) (unwrap_or i.default [])
 abbrev pub number_of : Item → List Setting → ℕ
 number_of i settings = digits_value 10 (text_of i settings)
 
--- each option at most once
+-- each option is written at most once
 abbrev pub IsDistinct : List Setting → Type 0
 IsDistinct [] = ⊤
 IsDistinct (s ∷ rest) =

@@ -2,8 +2,8 @@
 use Rattle.std.specs.Prelude.{⊤, ◌≡◌, ◌≢◌, ◌<◌, ◌≤◌, ◌∷◌, List, [], codes, length, Result, Err, IfOk}
 use Rattle.std.specs.Str.Parse.{digits_value}
 use Rattle.server_limits.specs.Limits.{AreConnections, AreInstances, ArePages, AreShelves, IsFuel, IsLife, IsWithin}
-use Rattle.command_words.specs.Options.{ArePlain, IsPlainNumber, Setting, Text, most_run, number_of, play_items, serve_items, spelled, text_of, most_workers}
-use Rattle.command_words.specs.Options.{connections, fuel, instances, journal, life, pages, port, shelves, workers}
+use Rattle.command_words.specs.Options.{ArePlain, IsPlainNumber, Setting, Text, most_run, number_of, play_items, serve_items, spelled, text_of, most_requests, most_workers}
+use Rattle.command_words.specs.Options.{connections, fuel, instances, journal, life, pages, port, requests, shelves, workers}
 use Rattle.command_words.specs.declared.Command.{Command}
 use Rattle.command_words.specs.declared.Command.TheVariants.{Check, Play, Serve, Load}
 use Rattle.command_words.specs.declared.Options.{Options}
@@ -29,13 +29,14 @@ service_chosen s = record {
   port = number_of port s;
   connections = number_of connections s;
   workers = number_of workers s;
+  requests = number_of requests s;
 }
 
 -- what the text of a number and settings ask for
 abbrev pub load_chosen : Text → List Setting → LoadOptions
 load_chosen text s = record { number = digits_value 10 text; options = chosen s }
 
--- the words behind the program's name
+-- the words after the program's name are plain ones for this command
 abbrev pub ArePlainFor : List Text → Command → Type 0
 ArePlainFor words Check = words ≡ codes "check" ∷ []
 ArePlainFor words (Play o) =
@@ -74,6 +75,7 @@ pub record CanServe (s : Service) : Type 0 where
   pub port : s.port ≤ 65535
   pub connections : AreConnections s.connections
   pub workers : IsWithin 1 most_workers s.workers
+  pub requests : IsWithin 1 most_requests s.requests
 
 pub record CanLoad (l : LoadOptions) : Type 0 where
   pub options : AreInRange l.options

@@ -43,6 +43,7 @@ service_at rows = record {
   port = number_at rows (codes "port");
   connections = number_at rows (codes "connections");
   workers = number_at rows (codes "workers");
+  requests = number_at rows (codes "requests");
 }
 
 abbrev pub load_at : List Row → LoadOptions
@@ -62,22 +63,22 @@ asked_from = option_and_then (λ p. asked_as p.0 p.1)
 
 -- ---- what the rows hold
 
--- a number in the range
+-- the rows hold a number in this range under this name
 abbrev pub HoldsNumber : ℕ → ℕ → List Row → Text → Type 0
 HoldsNumber low high rows id = (t : Text) × (one_of id rows ≡ Some t) × IsUnsignedIn low high t
 
--- a text of one byte or more
+-- the rows hold a text of one byte or more under this name
 abbrev pub HoldsText : List Row → Text → Type 0
 HoldsText rows id = (t : Text) × (first_of id rows ≡ Some t) × (0 < length t)
 
--- a value that the option takes
+-- the rows hold a value under this name that an option of this kind takes
 abbrev pub HoldsAs : Kind → List Row → Text → Type 0
 HoldsAs (number low high) rows id = HoldsNumber low high rows id
 HoldsAs (bare low high) rows id = HoldsNumber low high rows id
 HoldsAs directory rows id = HoldsText rows id
 HoldsAs flag rows id = (t : Text) × (one_of id rows ≡ Some t)
 
--- a value for each option of the table
+-- the rows hold a value for each option of the table
 abbrev pub Holds : List Item → List Row → Type 0
 Holds table rows = Each (λ i. HoldsAs i.kind rows i.name) table
 
@@ -92,7 +93,7 @@ abbrev pub HoldsAsked : Option (Text × List Row) → Type 0
 HoldsAsked None = ⊥
 HoldsAsked (Some p) = HoldsFor p.0 p.1
 
--- they lack some value
+-- the rows are of no command, or lack some value that it needs
 abbrev pub LacksAsked : Option (Text × List Row) → Type 0
 LacksAsked rows = HoldsAsked rows → ⊥
 

@@ -1,4 +1,4 @@
-//! The words of the program's command line, read by `clap`: a command, and its options in any order.
+//! The words of the command line, read by `clap`: for the command.
 #![tactic(auto)]
 
 ghost use Rattle.std.specs.Prelude.{◌≡◌, ◌≢◌, ◌++◌, ◌∷◌, ◌<◌, ◌≤◌, ◌^◌, ℕ, List, [], Some, Err, true, false, codes, map, IfOk, IfErr, is_err};
@@ -6,7 +6,7 @@ ghost use Rattle.std.specs.String.{string_bytes};
 ghost use Rattle.clap.specs.Simple.{app_of, subcommand_rows_of};
 ghost use Rattle.clap.specs.Walk.{rule_of};
 ghost use Rattle.command_words.specs.App.{IsLocal, app, bare_top, faults_in, load_shape, play_shape, rows_of_words, rule_for, serve_shape, texts, value_rule, with_items};
-ghost use Rattle.command_words.specs.Options.{connections, fuel, instances, journal, life, load_items, most_run, pages, play_items, port, run_number, serve_items, shelves, workers};
+ghost use Rattle.command_words.specs.Options.{connections, fuel, instances, journal, life, load_items, most_run, pages, play_items, port, requests, run_number, serve_items, shelves, workers};
 ghost use Rattle.command_words.specs.Plain.{AcceptsPlain, IsInRange, ReadsPlain};
 ghost use Rattle.command_words.specs.Reads.{AsksFor, Holds, HoldsNoNumber, LacksAsked, HoldsText, asked_from, options_at, load_at, number_at, rows_in, service_at, text_at};
 ghost use Rattle.command_words.specs.declared.Command.{Command};
@@ -26,6 +26,9 @@ pub const MOST_RUN: u64 = 9_223_372_036_854_775_807;
 
 /// The most workers that serve at once.
 pub const MOST_WORKERS: u32 = 16;
+
+/// The most requests that a link may carry.
+pub const MOST_REQUESTS: u32 = 1000;
 
 /// What the options that `play`, `serve` and `load` share say, each in its range.
 #[derive(Drop)]
@@ -55,6 +58,8 @@ pub struct Service {
     pub connections: u64,
     /// How many workers serve at once, 1 to `MOST_WORKERS`.
     pub workers: u32,
+    /// The most requests that a link carries, 1 to `MOST_REQUESTS`.
+    pub requests: u32,
 }
 
 /// What the words of `load` say, each in its range.
@@ -229,6 +234,19 @@ fn workers_arg<'a>(alloc: Global) -> Arg<'a>
     .default_value("4")
 }
 
+/// `--requests N`
+fn requests_arg<'a>(alloc: Global) -> Arg<'a>
+    ensures rule { rule_of result ≡ rule_for requests }
+    ensures local { result.global ≡ false }
+{
+    value_arg(
+        alloc,
+        "requests",
+        value_parser!(u64).range(1..=MOST_REQUESTS as i64),
+    )
+    .default_value("100")
+}
+
 /// The command with the options that `play`, `serve` and `load` share.
 fn with_options<'a>(
     alloc: Global,
@@ -260,7 +278,8 @@ fn serve_command<'a>(alloc: Global) -> Result<clap::Command<'a>, AllocError>
     with_options(alloc, clap::Command::new(alloc, "serve"))?
         .arg(port_arg(alloc))?
         .arg(connections_arg(alloc))?
-        .arg(workers_arg(alloc))
+        .arg(workers_arg(alloc))?
+        .arg(requests_arg(alloc))
 }
 
 fn load_command<'a>(alloc: Global) -> Result<clap::Command<'a>, AllocError>
@@ -361,6 +380,7 @@ fn service_of(alloc: Global, matches: &ArgMatches<'_>) -> Result<Service, WordsF
         port: port_number(matches, "port")?,
         connections: number(matches, "connections")?,
         workers: short_number(matches, "workers")?,
+        requests: short_number(matches, "requests")?,
     })
 }
 

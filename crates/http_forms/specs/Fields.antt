@@ -23,7 +23,7 @@ abbrev pub is_none : List (List ℕ) → Bool
 is_none [] = true
 is_none (value ∷ values) = false
 
--- the number of one digit or more, of whatever size
+-- the number that one digit or more spell, of whatever size; other bytes are a bad request
 abbrev pub length_in : List ℕ → Result (Option ℕ) Refused
 length_in digits =
     if nat_lt 0 (length digits) && list_all is_ascii_digit digits then Ok (Some (digits_value 10 digits))

@@ -4,7 +4,7 @@ use Rattle.http_forms.specs.declared.refused.Refused.{Refused}
 use Rattle.http_forms.specs.declared.fields.Found.{Found}
 use Rattle.http_forms.specs.declared.fields.Found.TheVariants as code
 
--- what was found of these values
+-- what was found of the values of a field: none, one or more
 abbrev pub IsFound : List (List ℕ) → Found → Type 0
 IsFound values code.Absent = values ≡ []
 IsFound values (code.Once value) = values ≡ value.now ∷ []

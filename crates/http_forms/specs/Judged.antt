@@ -9,7 +9,7 @@ use Rattle.http_forms.specs.Rows.{Judges}
 use Rattle.http_forms.specs.declared.refused.Refused.{Refused}
 use Rattle.http_forms.specs.declared.rows.Asked.{Asked}
 
--- what is asked for; the target stands in these lines
+-- what a head asks for, where its target stands in these lines
 abbrev pub asked_of : (lines : List ℕ) → Asked → spec.Asked
 asked_of lines a = record { target = span_bytes lines a.target; posts = a.posts; length = a.length; closes = a.closes }
 
@@ -27,7 +27,7 @@ pub record Measures (head : List ℕ) (result : Result ℕ Refused) : Type 0 whe
   pub judges : Judges head verdict
   pub is : result ≡ length_of verdict
 
--- the rows on the body, whatever values were found of Content-Type, and whatever lines the target stands in
+-- the answer is that of the rows on the body, whatever values were found of Content-Type, and whatever lines the target stands in
 abbrev pub JudgesBody : (method : List ℕ) → Span → Found → (closes : Bool) → Option ℕ → Result Asked Refused → Type 0
 JudgesBody method target types closes announced result =
     (lines : List ℕ) (values : List (List ℕ)) → IsFound values types

@@ -12,4 +12,6 @@ pub mod Outcomes
 pub mod Laws
 pub mod Progress
 pub mod Passes
+pub mod Reader
+pub mod Stream
 pub mod Vectors

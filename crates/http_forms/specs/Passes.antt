@@ -10,14 +10,14 @@ use Rattle.page_names.specs.Names.{Destination}
 abbrev pub Swept : Type 0
 Swept = Result (List (Result ℕ Reply)) AllocError
 
--- Which passes are its own. Of a visit: the pass before it, the destination and the answer, the reply, and the pass behind it.
--- Of a tick: the pass before it, the tick, what the shelves answer, and the pass behind it.
+-- What a service does to its passes: which are its own; a visit, by the pass before it, the destination, the answer, the reply and the
+-- pass after it; and a tick, by the pass before it, the tick, what the shelves answer and the pass after it.
 pub record PassRules (Pass : Type 0) : Type 1 where
   pub IsOwn : Pass → Type 0
   pub Visits : Pass → Destination → Val → Reply → Pass → Type 0
   pub Ticks : Pass → ℕ → Swept → Pass → Type 0
 
--- the answers as a list
+-- what the shelves answer to a tick, where a vector has the answers
 abbrev pub swept : Result (Vec (Result ℕ Reply) Global) AllocError → Swept
 swept (Ok answers) = Ok answers.items
 swept (Err e) = Err e

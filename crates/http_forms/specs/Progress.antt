@@ -17,12 +17,12 @@ pub record IsDecided (bytes : List ℕ) : Type 0 where
   pub decides : Decides bytes false outcome
   pub finished : outcome ≡ unfinished → ⊥
 
--- these bytes with others behind them are decided where they are so many, and unfinished where they are fewer
+-- these bytes with others after them are decided where they are so many, and unfinished where they are fewer
 pub record IsDecidedAt (total : ℕ) (bytes : List ℕ) : Type 0 where
   pub whole : (more : List ℕ) → total ≤ length (bytes ++ more) → IsDecided (bytes ++ more)
   pub short : (more : List ℕ) → length (bytes ++ more) < total → Decides (bytes ++ more) false unfinished
 
--- the lines of the head that ends there
+-- the lines of the head that ends at this place of the bytes
 abbrev pub lines_in : (end : ℕ) → List ℕ → List ℕ
 lines_in end bytes = without_blank (take end bytes)
 
@@ -39,13 +39,13 @@ FollowsBy (progress.Head scanner) bytes = StandsIn scanner bytes
 FollowsBy (progress.Body head) bytes = HasHead head bytes
 FollowsBy (progress.Refused reason) bytes = Decides bytes false (refused reason)
 
--- the same, and where no head was found, there is none and may be one yet
+-- no head ends in the bytes and one may end yet, or they begin with the head that was found, or they are refused
 abbrev pub KnowsBy : Progress → List ℕ → Type 0
 KnowsBy (progress.Head scanner) bytes = (head_end bytes ≡ None) × (length bytes < 16384)
 KnowsBy (progress.Body head) bytes = HasHead head bytes
 KnowsBy (progress.Refused reason) bytes = Decides bytes false (refused reason)
 
--- the scanner has followed these bytes, with others behind them or none
+-- the scanner has followed these bytes, with others after them or none
 abbrev pub Follows : RequestScanner → List ℕ → Type 0
 Follows s bytes = FollowsBy s.progress bytes
 
@@ -53,6 +53,6 @@ Follows s bytes = FollowsBy s.progress bytes
 abbrev pub Knows : RequestScanner → List ℕ → Type 0
 Knows s bytes = KnowsBy s.progress bytes
 
--- so many bytes behind these decide, where these hold the end of a head
+-- so many bytes after these decide them, where these hold the end of a head
 abbrev pub Suffices : (count : ℕ) → (bytes : List ℕ) → Type 0
 Suffices count bytes = (more : List ℕ) → IsSome (head_end bytes) → count ≤ length more → IsDecided (bytes ++ more)

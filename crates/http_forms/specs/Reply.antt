@@ -33,7 +33,7 @@ status_of replies.Gone = status.Gone
 status_of replies.InternalServerError = status.InternalServerError
 status_of replies.ServiceUnavailable = status.ServiceUnavailable
 
--- the status and the word of a request that is refused
+-- the status of a request that is refused
 abbrev pub refused_status : Refused → Status
 refused_status reasons.BadRequest = status.BadRequest
 refused_status reasons.Head = status.HeaderFieldsTooLarge
@@ -43,6 +43,7 @@ refused_status reasons.Length = status.LengthRequired
 refused_status reasons.TooLarge = status.ContentTooLarge
 refused_status reasons.MediaType = status.UnsupportedMediaType
 
+-- the word of a request that is refused
 abbrev pub refused_word : Refused → List ℕ
 refused_word reasons.BadRequest = codes "bad-request"
 refused_word reasons.Head = codes "head"
@@ -57,13 +58,15 @@ abbrev pub allow : Status → List ℕ
 allow status.MethodNotAllowed = codes "Allow: GET, POST\r\n"
 allow _ = []
 
--- the lines of a message, each ended by CR LF
+-- the first line of a message, ended by CR LF
 abbrev pub status_line : Status → List ℕ
 status_line code = codes "HTTP/1.1 " ++ (status_text code ++ codes "\r\n")
 
+-- the line of a message that tells the media type of its body
 abbrev pub type_line : (media_type : List ℕ) → List ℕ
 type_line media_type = codes "Content-Type: " ++ (media_type ++ codes "; charset=utf-8\r\n")
 
+-- the line of a message that tells the length of its body
 abbrev pub length_line : (count : ℕ) → List ℕ
 length_line count = codes "Content-Length: " ++ (decimal count ++ codes "\r\n")
 
@@ -71,7 +74,7 @@ length_line count = codes "Content-Length: " ++ (decimal count ++ codes "\r\n")
 abbrev pub first_lines : Status → (media_type : List ℕ) → List ℕ
 first_lines code media_type = status_line code ++ (type_line media_type ++ allow code)
 
--- the last line and the empty one: whether the connection is closed behind the body
+-- the last line of a head and the empty one: whether the connection is closed after the body
 abbrev pub last_lines : (closes : Bool) → List ℕ
 last_lines true = codes "Connection: close\r\n\r\n"
 last_lines false = codes "Connection: keep-alive\r\n\r\n"
@@ -97,7 +100,7 @@ abbrev pub told_message : (closes : Bool) → Told → List ℕ
 told_message closes (page bytes) = page_message closes bytes
 told_message closes (word code bytes) = word_message (status_of code) closes bytes
 
--- the bytes of an answer, which say whether the connection is closed behind them
+-- the bytes of an answer, which say whether the connection is closed after them
 unfoldable pub reply_text : Answer → (closes : Bool) → List ℕ
 reply_text (answer.Reply reply) closes = told_message closes (told reply)
 reply_text (answer.Refused reason) closes = word_message (refused_status reason) closes (refused_word reason)

@@ -9,26 +9,26 @@ use Rattle.http_forms.specs.declared.refused.Refused.{Refused}
 use Rattle.http_forms.specs.declared.refused.Refused.TheVariants.{BadRequest, Head}
 
 -- a visit that is asked for: of a destination, unless the path names none; how many bytes ask for it; and whether the connection
--- closes behind it
+-- closes after it
 pub record Visit : Type 0 where
   pub destination : Option Destination
   pub answer : Val
   pub length : ℕ
   pub closes : Bool
 
--- more bytes are needed; or the bytes are refused; or they ask for a visit
+-- what bytes come to: more bytes are needed; or the bytes are refused; or they ask for a visit
 pub data Outcome : Type 0 where
   unfinished : Outcome
   refused : Refused → Outcome
   visits : Visit → Outcome
 
--- so many bytes without the end of a head: too many, or the last ones
+-- what so many bytes without the end of a head come to: refused where they are too many, or some and the last, and else unfinished
 abbrev pub without_head : (count : ℕ) → (ended : Bool) → Outcome
 without_head count ended =
     if nat_le 16384 count then refused Head
     else (if ended && nat_lt 0 count then refused BadRequest else unfinished)
 
--- the visit that so many bytes ask for, with those of the body; those of a GET are no answer
+-- the visit that so many bytes ask for, with those of the body; the body of a GET is no answer
 abbrev pub visit_of : (count : ℕ) → Asked → (body : List ℕ) → Outcome
 visit_of count asked body =
     let parts = path_and_query asked.target in
@@ -39,7 +39,7 @@ visit_of count asked body =
       closes = asked.closes;
     })
 
--- a head of so many bytes, and the bytes behind it, of which the body may need more
+-- what a head of so many bytes and the bytes after it come to, of which the body may need more
 abbrev pub with_head : (head : ℕ) → Result Asked Refused → (behind : List ℕ) → (ended : Bool) → Outcome
 with_head head (Err r) behind ended = refused r
 with_head head (Ok asked) behind ended =

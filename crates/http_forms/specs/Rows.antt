@@ -8,7 +8,7 @@ use Rattle.http_forms.specs.declared.refused.Refused.{Refused}
 use Rattle.http_forms.specs.declared.refused.Refused.TheVariants.{BadRequest, Head, Chunked, Method, Length, TooLarge, MediaType}
 
 -- what a head asks for that is not refused: its target, whether its method is POST, the length of its body, and whether the
--- connection closes behind it
+-- connection closes after it
 pub record Asked : Type 0 where
   pub target : List ℕ
   pub posts : Bool
@@ -30,16 +30,16 @@ body_verdict method target types closes announced =
     else (if is_post method && nat_lt 0 (unwrap_or announced 0) && not (is_form types) then Err MediaType
     else Ok (record { target = target; posts = is_post method; length = unwrap_or announced 0; closes = closes }))))
 
--- the same where a length was announced well, or not at all
+-- the rows on the method, the length and the media type, where a length was announced well, or not at all
 abbrev pub length_verdict : (method target : List ℕ) → (types : List (List ℕ)) → (closes : Bool) → Result (Option ℕ) Refused → Result Asked Refused
 length_verdict method target types closes (Ok announced) = body_verdict method target types closes announced
 length_verdict method target types closes (Err refused) = Err refused
 
--- the connection closes behind a request of version 1.0, and behind one that says so
+-- the connection closes after a request of version 1.0, and after one that says so
 abbrev pub closes_by : (minor : ℕ) → (fields : List (List ℕ × List ℕ)) → Bool
 closes_by minor fields = minor == 0 || say_close (values_of (codes "Connection") fields)
 
--- a head of version 1.1 has exactly one Host
+-- a head of version 1.1 lacks a Host: it has none, or more than one
 abbrev pub lacks_host : (minor : ℕ) → (fields : List (List ℕ × List ℕ)) → Bool
 lacks_host minor fields = minor == 1 && not (is_one (values_of (codes "Host") fields))
 
@@ -51,7 +51,7 @@ fields_verdict minor method target fields =
     else length_verdict method target (values_of (codes "Content-Type") fields) (closes_by minor fields)
     (announced (values_of (codes "Content-Length") fields)))
 
--- the same of a head in the grammar of `httparse`; what is none is a bad request
+-- the rows on the fields of a head in the grammar of `httparse`; what is no such head is a bad request
 abbrev pub head_verdict : Option RequestHead → Result Asked Refused
 head_verdict None = Err BadRequest
 head_verdict (Some h) = fields_verdict h.minor h.method h.target (map name_and_value h.fields)

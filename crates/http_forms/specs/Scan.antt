@@ -14,7 +14,7 @@ end_from phases.Line bytes = lines_end bytes
 end_from phases.LineFeed bytes = option_or (empty_line bytes) (lines_end bytes)
 end_from phases.LineReturn bytes = if slice_index bytes 0 == 10 then Some 1 else lines_end bytes
 
--- the same where one byte more was taken, which may have been the last of the head
+-- how many bytes, with one that was taken before these, belong to the head, which may have ended with that one
 abbrev pub end_behind : Option Phase → List ℕ → Option ℕ
 end_behind None bytes = Some 1
 end_behind (Some phase) bytes = option_map suc (end_from phase bytes)

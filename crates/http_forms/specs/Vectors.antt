@@ -1,7 +1,13 @@
 -- Heads, requests and replies, computed.
-use Rattle.std.specs.Prelude.{◌≡◌, ℕ, List, [], ◌∷◌, true, false, Some, None, Ok, Err, codes, map, refl}
+use Rattle.std.specs.Prelude.{◌≡◌, ℕ, Bool, List, [], ◌∷◌, true, false, Some, None, Ok, Err, codes, map, refl}
 use Rattle.std.specs.Fmt.{digits}
-use Rattle.httparse.specs.Grammar.{crlf, Field, RequestHead, print_request}
+use Rattle.std.proofs.Common.{zero, suc, arith}
+use Rattle.std.proofs.lemmas.List.Elements.{All-cons, All-nil}
+use Rattle.std.proofs.lemmas.List.Sums.{AllPass-from_list_all}
+use Rattle.std.proofs.lemmas.Str.{IsUtf8-from_ascii}
+use Rattle.std.proofs.lemmas.Str.Ascii.{IsAscii-nil}
+use Rattle.std.specs.Str.{IsAscii}
+use Rattle.httparse.specs.Grammar.{crlf, Field, IsField, IsRequestHead, RequestHead, is_token_byte, is_uri_byte, is_value_byte, print_request}
 use Rattle.httparse.proofs.OnLiterals.{httparse_on_literals}
 use Rattle.form_urlencoded.proofs.OnLiterals.{form_urlencoded_on_literals}
 use Rattle.script_value.specs.Val.{list, vals_of}
@@ -11,8 +17,9 @@ use Rattle.script_value.specs.declared.outcome.Refusal.TheVariants.{Expired}
 use Rattle.page_names.specs.Names.{page, named_by, destination_of}
 use Rattle.http_forms.specs.Head.{head_end, field_lines, without_blank}
 use Rattle.http_forms.specs.Answers.{answer_of, binding_of}
-use Rattle.http_forms.specs.Rows.{Asked, closes_by, head_verdict}
-use Rattle.http_forms.specs.Request.{unfinished, refused, visits, without_head, with_head}
+use Rattle.http_forms.specs.Rows.{Asked, Judges, closes_by, head_verdict}
+use Rattle.http_forms.specs.Request.{Visit, Decides, unfinished, refused, visits, without_head, with_head}
+use Rattle.http_forms.specs.Stream.{Streams, closed, pending, refusal}
 use Rattle.http_forms.specs.Reply.{reply_text}
 use Rattle.http_forms.specs.declared.refused.Refused.TheVariants.{BadRequest, Head, Chunked, Method, Length, TooLarge, MediaType}
 use Rattle.http_forms.specs.declared.reply.Answer.TheVariants.{Reply, Refused}
@@ -194,3 +201,56 @@ pub a_method : reply_text (Refused Method) true
     ≡ codes "HTTP/1.1 405 Method Not Allowed\r\nContent-Type: text/plain; charset=utf-8\r\nAllow: GET, POST\r\nContent-Length: 7\r\nConnection: close\r\n\r\nmethod\n"
 unfolding reply_text digits
 a_method = refl
+
+-- ---- a link of two requests
+
+abbrev plain_head : RequestHead
+plain_head = head (codes "GET") (codes "/") 1 (host ∷ [])
+
+slash : IsAscii (codes "/")
+slash zero = omega arith
+slash (suc i) = IsAscii-nil i
+
+is_head : IsRequestHead plain_head
+unfolding httparse_on_literals is_token_byte
+is_head = record {
+  method = (omega arith, AllPass-from_list_all is_token_byte (codes "GET") refl);
+  target = (omega arith, AllPass-from_list_all is_uri_byte (codes "/") refl);
+  target_text = IsUtf8-from_ascii (codes "/") slash;
+  minor = omega arith;
+  fields = All-cons IsField host [] (record {
+    name = (omega arith, AllPass-from_list_all is_token_byte (codes "Host") refl);
+    raw = AllPass-from_list_all is_value_byte (32 ∷ codes "h") refl;
+  }) (All-nil IsField);
+}
+
+abbrev plain : Visit
+plain = record { destination = destination_of (codes "/"); answer = answer_of [] []; length = 27; closes = false }
+
+abbrev asked_of_it : Asked
+asked_of_it = record { target = codes "/"; posts = false; length = 0; closes = false }
+
+judged : Judges (codes "GET / HTTP/1.1\r\nHost: h\r\n\r\n") (Ok asked_of_it)
+unfolding httparse_on_literals
+judged = record { parsed = Some plain_head; grammar = (is_head, refl); is = refl }
+
+abbrev link : List ℕ
+link = codes "GET / HTTP/1.1\r\nHost: h\r\n\r\nGET / HTTP/1.1\r\nHost: h\r\n\r\nGET"
+
+first_of_two : (ended : Bool) → Decides link ended (visits plain)
+first_of_two ended = (Ok asked_of_it, judged, refl)
+
+second_of_two : (ended : Bool) → Decides (codes "GET / HTTP/1.1\r\nHost: h\r\n\r\nGET") ended (visits plain)
+second_of_two ended = (Ok asked_of_it, judged, refl)
+
+-- the second request is the last one that may come
+pub two_of_two : Streams 2 link false (plain ∷ plain ∷ []) closed
+two_of_two = (first_of_two false, (second_of_two false, (refl, refl)))
+
+-- a third request may come, and has begun
+pub two_of_three : Streams 3 link false (plain ∷ plain ∷ []) pending
+two_of_three = (first_of_two false, (second_of_two false, refl))
+
+-- the link ends inside the third request
+pub two_and_a_front : Streams 3 link true (plain ∷ plain ∷ []) (refusal BadRequest)
+two_and_a_front = (first_of_two true, (second_of_two true, refl))

@@ -13,6 +13,6 @@ pub record WritesText (old new : Option (List ℕ)) (before after : ℕ) (text :
   pub part : AppendsPart old new text
   pub cause : HasCause before after result
 
--- the same of a sink
+-- what writing a text to a sink came to
 abbrev pub Writes : (old new : SinkView) → List ℕ → Result (Unit {0}) Failed → Type 0
 Writes old new text result = WritesText old.written new.written old.faults new.faults text result

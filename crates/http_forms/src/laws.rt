@@ -1,4 +1,4 @@
-ghost use Rattle.http_forms.specs.Laws.{OutcomesAreOne, RequestsStandAlone, RequestsAreFronts, EndedLinksAreDecided};
+ghost use Rattle.http_forms.specs.Laws.{OutcomesAreOne, RequestsStandAlone, RequestsAreFronts, EndedLinksAreDecided, StreamsAreOne, CutStreamsAreFronts, StreamsStandAlone};
 
 /// Whatever bytes a link gives, they come to one thing.
 pub fn outcomes_are_one()
@@ -19,4 +19,15 @@ pub fn requests_are_fronts()
 /// Bytes behind which a link ended are a request or refused.
 pub fn ended_links_are_decided()
     ensures { EndedLinksAreDecided }
+{}
+
+/// The requests of a link's bytes are one list, and stop in one way.
+pub fn streams_are_one()
+    ensures one { StreamsAreOne }
+    ensures front { CutStreamsAreFronts }
+{}
+
+/// The requests of the first bytes of a link stay the same, whatever follows and wherever the link ends.
+pub fn streams_stand_alone()
+    ensures { StreamsStandAlone }
 {}

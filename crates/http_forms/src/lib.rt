@@ -1,4 +1,4 @@
-//! Requests as a browser sends them and replies as it gets them, byte for byte.
+//! Requests as a browser sends them and replies as it gets them, byte for byte: for workers, and for the targets of `play`.
 #![tactic(auto)]
 
 mod answer;
@@ -7,6 +7,7 @@ mod fields;
 mod head;
 mod laws;
 mod progress;
+mod reader;
 mod refused;
 mod reply;
 mod request;
@@ -18,8 +19,10 @@ pub use answering::Answering;
 pub use head::{HeadScanner, head_end};
 pub use laws::{
     ended_links_are_decided, outcomes_are_one, requests_are_fronts, requests_stand_alone,
+    streams_are_one, streams_stand_alone,
 };
 pub use progress::RequestScanner;
+pub use reader::{Incoming, ReadStop, RequestReader};
 pub use refused::{Refused, RequestFault};
 pub use reply::{Answer, write_reply};
 pub use request::{Request, request_of};

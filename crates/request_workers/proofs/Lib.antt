@@ -1,3 +1,5 @@
 pub mod Reading
 pub mod Told
-pub mod Links
+pub mod Rounds
+pub mod Turns
+pub mod Chains

@@ -12,8 +12,8 @@ use Rattle.http_forms.specs.declared.request.Request.{Request}
 use Rattle.http_forms.specs.Reply.{reply_text}
 use Rattle.http_forms.specs.declared.reply.Answer.{Answer}
 use Rattle.http_forms.specs.declared.reply.Answer.TheVariants as answers
-use Rattle.request_workers.specs.declared.request.Incoming.{Incoming}
-use Rattle.request_workers.specs.declared.request.Incoming.TheVariants as incoming
+use Rattle.http_forms.specs.declared.reader.Incoming.{Incoming}
+use Rattle.http_forms.specs.declared.reader.Incoming.TheVariants as incoming
 use Rattle.request_workers.specs.Requests.{Comes, Asks}
 use Rattle.request_workers.specs.Serving.{Answers, Serves, served_by}
 

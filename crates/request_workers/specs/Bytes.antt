@@ -2,19 +2,19 @@
 use Rattle.std.specs.Prelude.{◌≡◌, ◌≤◌, ◌<◌, ◌++◌, ℕ, Bool, true, false, List, [], length, Option, Result, Ok, Err}
 use Rattle.std.specs.Io.KnownBytes.{Consumes, Keeps, IsAtEnd}
 use Rattle.http_forms.specs.Request.{unfinished, Decides}
-use Rattle.request_workers.specs.declared.read.ReadStop.{ReadStop}
-use Rattle.request_workers.specs.declared.read.ReadStop.TheVariants.{Failed, Memory}
+use Rattle.http_forms.specs.declared.reader.ReadStop.{ReadStop}
+use Rattle.http_forms.specs.declared.reader.ReadStop.TheVariants.{Failed, Memory}
 
 -- no byte of these is too many: each shorter front asks for more
 abbrev pub NeedsAll : List ℕ → Type 0
 NeedsAll bytes = (front rest : List ℕ) → bytes ≡ front ++ rest → 0 < length rest → Decides front false unfinished
 
--- bytes were read, and none too many
+-- bytes were read, and none of them was too many
 pub record Takes (old new : Option (List ℕ)) (bytes : List ℕ) : Type 0 where
   pub consumed : Consumes old new bytes
   pub needed : NeedsAll bytes
 
--- a piece of at most so many bytes was read behind others, by how the reading ended
+-- what came of reading a piece of at most so many bytes after the bytes before, by how the reading ended
 abbrev pub ReadsPiece : (old new : Option (List ℕ)) (before after : List ℕ) (wanted : ℕ) → Result ℕ ReadStop → Type 0
 ReadsPiece old new before after wanted (Ok count) =
     (piece : List ℕ) × Consumes old new piece × (after ≡ before ++ piece) × (length piece ≡ count) × (count ≤ wanted)
@@ -22,7 +22,7 @@ ReadsPiece old new before after wanted (Ok count) =
 ReadsPiece old new before after wanted (Err Failed) = Keeps old new × (after ≡ before)
 ReadsPiece old new before after wanted (Err Memory) = (piece : List ℕ) × Consumes old new piece × (length piece ≤ wanted)
 
--- only no bytes at all, where the link ended, ask for more
+-- the bytes are decided, unless there are none and the link has ended
 abbrev pub IsEnough : List ℕ → (ended : Bool) → Type 0
 IsEnough bytes ended = Decides bytes ended unfinished → (bytes ≡ []) × (ended ≡ true)
 

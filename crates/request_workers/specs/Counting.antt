@@ -1,12 +1,10 @@
 -- What a worker counts.
-use Rattle.std.specs.Prelude.{ℕ, ◌+◌, Some, None, Result, Ok, Err}
-use Rattle.std.specs.declared.alloc.AllocError.{AllocError}
-use Rattle.script_value.specs.declared.outcome.Reply.{Reply}
-use Rattle.reply_words.specs.Words.{Told, page, word, told}
-use Rattle.request_workers.specs.declared.serve.Served.{Served}
-use Rattle.request_workers.specs.declared.serve.Served.TheVariants as served
+use Rattle.std.specs.Prelude.{ℕ, ◌+◌}
+use Rattle.request_workers.specs.Linking.{Visited}
+use Rattle.request_workers.specs.declared.link.LinkEnd.{LinkEnd}
+use Rattle.request_workers.specs.declared.link.LinkEnd.TheVariants as ends
 
--- visits that were answered with a page, and others; links on which reading or writing failed; and links that were dropped
+-- what is counted: visits that were answered with a page, and others; links on which reading or writing failed; and dropped links
 pub record Count : Type 0 where
   pub pages : ℕ
   pub refused : ℕ
@@ -30,25 +28,15 @@ both a b = record {
   dropped = a.dropped + b.dropped;
 }
 
--- a visit, by what its reply says
-abbrev pub visit_told : Told → Count
-visit_told (page bytes) = record nothing { pages = 1 }
-visit_told (word status bytes) = record nothing { refused = 1 }
+-- what the end of a link adds to its visits
+abbrev pub end_count : LinkEnd → Count
+end_count ends.Closed = nothing
+end_count (ends.Refused reason) = nothing
+end_count ends.Idle = nothing
+end_count ends.ReadFault = one_failed
+end_count ends.WriteFault = one_failed
+end_count ends.Memory = one_dropped
 
--- a visit, whether its reply was written or not
-abbrev pub visit_count : Reply → Count
-visit_count reply = visit_told (told reply)
-
--- one link, by how it was served
-abbrev pub served_count : Served → Count
-served_count (served.Answered reply) = visit_count reply
-served_count (served.Refused reason) = nothing
-served_count served.Idle = nothing
-served_count served.ReadFault = one_failed
-served_count (served.WriteFault None) = one_failed
-served_count (served.WriteFault (Some reply)) = both one_failed (visit_count reply)
-
--- one link, which may have been dropped for want of memory
-abbrev pub link_count : Result Served AllocError → Count
-link_count (Ok how) = served_count how
-link_count (Err e) = one_dropped
+-- what one link counts, by its visits and its end
+abbrev pub link_count : Visited → LinkEnd → Count
+link_count visited end = both (record nothing { pages = visited.pages; refused = visited.refused }) (end_count end)

@@ -1,15 +1,15 @@
 -- What a link asks for.
-use Rattle.std.specs.Prelude.{◌≡◌, ℕ, Bool, true, List, [], Option, Result, Ok, Err, ⊤}
+use Rattle.std.specs.Prelude.{◌≡◌, ℕ, Bool, true, List, [], Option, Result, Ok, Err}
 use Rattle.std.specs.Io.KnownBytes.{Consumes, IsAtEnd}
 use Rattle.http_forms.specs.Outcomes.{visit_in}
 use Rattle.http_forms.specs.Request.{Outcome, unfinished, refused, Decides}
 use Rattle.request_workers.specs.Bytes.{Takes}
-use Rattle.request_workers.specs.declared.read.ReadStop.{ReadStop}
-use Rattle.request_workers.specs.declared.read.ReadStop.TheVariants.{Failed, Memory}
-use Rattle.request_workers.specs.declared.request.Incoming.{Incoming}
-use Rattle.request_workers.specs.declared.request.Incoming.TheVariants.{Visit, Refused, Nothing}
+use Rattle.http_forms.specs.declared.reader.ReadStop.{ReadStop}
+use Rattle.http_forms.specs.declared.reader.ReadStop.TheVariants.{Failed, Memory}
+use Rattle.http_forms.specs.declared.reader.Incoming.{Incoming}
+use Rattle.http_forms.specs.declared.reader.Incoming.TheVariants.{Visit, Refused, Nothing}
 
--- Bytes were read, none too many, and come to this. Where the link had ended behind them, they are its last ones.
+-- Bytes were read, none too many, and come to this. Where the link had ended after them, they are its last ones.
 pub record Asks (old new : Option (List ℕ)) (outcome : Outcome) : Type 0 where
   pub bytes : List ℕ
   pub taken : Takes old new bytes
@@ -29,11 +29,3 @@ Comes old new (Ok (Refused reason)) = Asks old new (refused reason)
 Comes old new (Ok Nothing) = IsOver old new
 Comes old new (Err Failed) = Asks old new unfinished
 Comes old new (Err Memory) = (read : List ℕ) × Takes old new read
-
--- what came is an outcome of this kind, unless memory ran out
-abbrev pub Gives : Result Incoming ReadStop → (Outcome → Type 0) → Type 0
-Gives (Ok (Visit request)) P = P (visit_in request)
-Gives (Ok (Refused reason)) P = P (refused reason)
-Gives (Ok Nothing) P = P unfinished
-Gives (Err Failed) P = ⊥
-Gives (Err Memory) P = ⊤

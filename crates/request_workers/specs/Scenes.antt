@@ -11,17 +11,17 @@ use Rattle.http_forms.specs.declared.reply.Answer.{Answer}
 abbrev pub IsSilent : (old new : LinkView) → Type 0
 IsSilent old new = new.output ≡ old.output
 
--- the bytes of the answer, behind which the link closes, were written and handed on
+-- the bytes of the answer, after which the link closes, were written and handed on
 pub record Tells (answer : Answer) (old new : LinkView) : Type 0 where
   pub written : Appends old.output.written new.output.written (reply_text answer true)
   pub handed : HandsOn new.output.written new.output.handed
 
--- a front of them was written, and writing failed
+-- a front of the bytes of the answer was written, and writing failed
 pub record TellsPart (answer : Answer) (old new : LinkView) : Type 0 where
   pub written : AppendsPart old.output.written new.output.written (reply_text answer true)
   pub failed : Rose old.output.faults new.output.faults
 
--- no count fell
+-- neither count of faults of a link fell
 pub record IsLater (old new : LinkView) : Type 0 where
   pub reads : old.input.faults ≤ new.input.faults
   pub writes : old.output.faults ≤ new.output.faults

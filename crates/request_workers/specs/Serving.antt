@@ -15,8 +15,8 @@ use Rattle.http_forms.specs.Request.{Visit, unfinished, refused, visits}
 use Rattle.http_forms.specs.declared.refused.Refused.{Refused as Reason}
 use Rattle.http_forms.specs.declared.reply.Answer.{Answer}
 use Rattle.http_forms.specs.declared.reply.Answer.TheVariants as answers
-use Rattle.request_workers.specs.declared.request.Incoming.{Incoming}
-use Rattle.request_workers.specs.declared.request.Incoming.TheVariants as incoming
+use Rattle.http_forms.specs.declared.reader.Incoming.{Incoming}
+use Rattle.http_forms.specs.declared.reader.Incoming.TheVariants as incoming
 use Rattle.request_workers.specs.declared.serve.Served.{Served}
 use Rattle.request_workers.specs.declared.serve.Served.TheVariants as served
 use Rattle.request_workers.specs.Bytes.{Takes}
@@ -57,7 +57,7 @@ Serves rules before after old new (served.WriteFault None) =
 abbrev pub Drops : {P : Type 0} → (before after : P) (old new : LinkView) → Type 0
 Drops before after old new = (after ≡ before) × IsSilent old new × ((read : List ℕ) × Takes old.input.left new.input.left read)
 
--- the same, or that there was no memory
+-- the link and the pass by how the link was served, or by there being no memory for it
 abbrev pub ServesOrDrops : {P : Type 0} → PassRules P → (before after : P) (old new : LinkView) → Result Served AllocError → Type 0
 ServesOrDrops rules before after old new (Ok how) = Serves rules before after old new how
 ServesOrDrops rules before after old new (Err e) = Drops before after old new

@@ -6,7 +6,7 @@ use Rattle.request_workers.specs.declared.tally.Tally.{Tally}
 abbrev pub count_of : Tally → Count
 count_of tally = record { pages = tally.pages; refused = tally.refused; failed = tally.failed; dropped = tally.dropped }
 
--- each count is below this
+-- each count is below this limit
 pub record IsBelow (count : Count) (limit : ℕ) : Type 0 where
   pub pages : count.pages < limit
   pub refused : count.refused < limit

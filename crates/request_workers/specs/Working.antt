@@ -1,46 +1,34 @@
 -- What a worker does with the links of its porch.
-use Rattle.std.specs.Prelude.{◌≡◌, ◌+◌, ◌-◌, ◌^◌, ◌++◌, ◌⊎◌, ◌∷◌, [], ⊤, ℕ, List, length, min, Option, Some, None, IfSome, Result, Ok, Err}
-use Rattle.std.specs.declared.alloc.AllocError.{AllocError}
+use Rattle.std.specs.Prelude.{◌≡◌, ◌+◌, ◌++◌, ◌⊎◌, ◌∷◌, [], ⊤, ℕ, List, length, Option, Some, None, ◌≤◌}
 use Rattle.web_outside.specs.Causes.{Rose}
 use Rattle.web_outside.specs.View.{LinkView, PorchView}
-use Rattle.http_forms.specs.Passes.{PassRules, Swept}
-use Rattle.request_workers.specs.Serving.{ServesOrDrops}
-use Rattle.request_workers.specs.Counting.{Count, nothing, one_dropped, both, link_count}
-use Rattle.request_workers.specs.declared.serve.Served.{Served}
+use Rattle.http_forms.specs.Passes.{PassRules}
+use Rattle.request_workers.specs.Linking.{Visited, Linked}
+use Rattle.request_workers.specs.declared.link.LinkEnd.{LinkEnd}
+use Rattle.request_workers.specs.Counting.{Count, nothing, both, link_count}
 use Rattle.web_outside.specs.Porches.{LosesFirst, GainsLast}
 use Rattle.request_workers.specs.declared.worker.Turn.{Turn}
 use Rattle.request_workers.specs.declared.worker.Turn.TheVariants as turns
 use Rattle.request_workers.specs.declared.tally.WorkEnd.{WorkEnd}
 use Rattle.request_workers.specs.declared.tally.WorkEnd.TheVariants as ends
 
--- the tick is what the clock shows, where it tells it, and at most 2^62 - 1
-abbrev pub IsTick : (shown : Option ℕ) → (tick : ℕ) → Type 0
-IsTick shown tick = IfSome shown (λ seconds. tick ≡ min seconds (2 ^ 62 - 1))
-
--- behind a tick that gave its list the link is served; behind another it is dropped as it is
-abbrev pub AfterTick : {P L : Type 0} → PassRules P → (L → LinkView) → Swept → (before after : P) (given back : L) → Count → Type 0
-AfterTick rules view (Ok answers) before after given back count =
-    (how : Result Served AllocError) × ServesOrDrops rules before after (view given) (view back) how × (count ≡ link_count how)
-AfterTick rules view (Err e) before after given back count = (after ≡ before) × (back ≡ given) × (count ≡ one_dropped)
-
--- one link: a tick of the clock, and then the link is served or dropped
-pub record Turns {P L : Type 0} (rules : PassRules P) (view : L → LinkView) (shown : Option ℕ)
+-- one link: its requests were visited, so many at most, each after a tick, and are counted
+pub record Turns {P L : Type 0} (rules : PassRules P) (view : L → LinkView) (shown : Option ℕ) (requests : ℕ)
     (before after : P) (given back : L) (count : Count) : Type 0 where
-  pub tick : ℕ
-  pub told : IsTick shown tick
-  pub swept : Swept
-  pub middle : P
-  pub ticked : rules.Ticks before tick swept middle
-  pub served : AfterTick rules view swept middle after given back count
+  pub visited : Visited
+  pub end : LinkEnd
+  pub linked : Linked rules shown requests before after [] (view given) (view back) visited end
+  pub few : visited.pages + visited.refused ≤ 1000
+  pub number : count ≡ link_count visited end
 
 -- the links in their order, as they were given and as they were handed back, and what they count together
-abbrev pub Works : {P L : Type 0} → PassRules P → (L → LinkView) → (shown : Option ℕ)
+abbrev pub Works : {P L : Type 0} → PassRules P → (L → LinkView) → (shown : Option ℕ) → (requests : ℕ)
     → (before after : P) (given back : List L) → Count → Type 0
-Works rules view shown before after [] [] count = (after ≡ before) × (count ≡ nothing)
-Works {P} rules view shown before after (link ∷ given) (returned ∷ back) count =
-    (middle : P) × (first : Count) × (rest : Count) × Turns rules view shown before middle link returned first
-    × Works rules view shown middle after given back rest × (count ≡ both first rest)
-Works rules view shown before after given back count = ⊥
+Works rules view shown requests before after [] [] count = (after ≡ before) × (count ≡ nothing)
+Works {P} rules view shown requests before after (link ∷ given) (returned ∷ back) count =
+    (middle : P) × (first : Count) × (rest : Count) × Turns rules view shown requests before middle link returned first
+    × Works rules view shown requests middle after given back rest × (count ≡ both first rest)
+Works rules view shown requests before after given back count = ⊥
 
 -- known links begin with these, and lose them
 abbrev pub LosesAll : {L : Type 0} → Option (List L) → Option (List L) → List L → Type 0
@@ -56,14 +44,14 @@ GainsAll (Some old) (Some more) links = more ≡ old ++ links
 
 -- what a worker did: which links its porch gave and which it took back, how many, what became of them and of the pass, and
 -- what was counted
-pub record Worked {P L : Type 0} (rules : PassRules P) (view : L → LinkView) (shown : Option ℕ)
+pub record Worked {P L : Type 0} (rules : PassRules P) (view : L → LinkView) (shown : Option ℕ) (requests : ℕ)
     (before after : P) (old new : PorchView L) (count : Count) : Type 0 where
   pub given : List L
   pub back : List L
   pub number : new.given ≡ old.given + length given
   pub came : LosesAll old.coming new.coming given
   pub went : GainsAll old.served new.served back
-  pub works : Works rules view shown before after given back count
+  pub works : Works rules view shown requests before after given back count
 
 -- the end is told by its cause: no more links come, or the porch failed
 abbrev pub EndsBy : {L : Type 0} → WorkEnd → (old new : PorchView L) → Type 0
@@ -71,17 +59,17 @@ EndsBy ends.Done old new = (new.given ≡ new.most) ⊎ (new.coming ≡ Some [])
 EndsBy ends.Failed old new = Rose old.faults new.faults
 
 -- one turn of a worker: a link came, was served or dropped and handed back; or none came, and nothing was done
-abbrev pub Takes : {P L : Type 0} → PassRules P → (L → LinkView) → (shown : Option ℕ) → Turn
+abbrev pub Takes : {P L : Type 0} → PassRules P → (L → LinkView) → (shown : Option ℕ) → (requests : ℕ) → Turn
     → (before after : P) (porch left : PorchView L) (old new : Count) → Type 0
-Takes {P} {L} rules view shown turns.Served before after porch left old new =
+Takes {P} {L} rules view shown requests turns.Served before after porch left old new =
     (link : L) × (back : L) × (count : Count) × LosesFirst porch.coming left.coming link × GainsLast porch.served left.served back
-    × Turns rules view shown before after link back count × (new ≡ both old count)
-Takes rules view shown turns.Done before after porch left old new =
+    × Turns rules view shown requests before after link back count × (new ≡ both old count)
+Takes rules view shown requests turns.Done before after porch left old new =
     (after ≡ before) × (left.coming ≡ porch.coming) × (left.served ≡ porch.served) × (new ≡ old)
-Takes rules view shown turns.Failed before after porch left old new =
+Takes rules view shown requests turns.Failed before after porch left old new =
     (after ≡ before) × (left.coming ≡ porch.coming) × (left.served ≡ porch.served) × (new ≡ old)
 
--- how many links were given by then
+-- how many links were given by the end of a turn
 abbrev pub given_by : Turn → ℕ → ℕ
 given_by turns.Served given = given + 1
 given_by turns.Done given = given

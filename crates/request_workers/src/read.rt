@@ -2,42 +2,9 @@ ghost use Rattle.std.specs.Prelude.{◌≡◌, ◌≤◌, ◌<◌, [], ℕ, List
 ghost use Rattle.web_outside.specs.Causes.{Rose};
 ghost use Rattle.http_forms.specs.Progress.{Follows, Knows};
 ghost use Rattle.request_workers.specs.Bytes.{ReadsPiece, ReadsAll};
-ghost use Rattle.request_workers.specs.declared.read.ReadStop.TheVariants.{Failed as ReadFailed, Memory as ReadMemory};
 
-use http_forms::RequestScanner;
-use std::alloc::{AllocError, AllocFailed};
-use web_outside::{Failed, Source};
-
-/// Why a request was not read.
-#[derive(Clone, Copy, Debug, PartialEq, Eq)]
-pub(crate) enum ReadStop {
-    Failed,
-    Memory,
-}
-
-impl From<Failed> for ReadStop {
-    ghost from_gives = { λ _ stop. stop ≡ ReadFailed };
-
-    fn from(_: Failed) -> Self {
-        ReadStop::Failed
-    }
-}
-
-impl From<AllocError> for ReadStop {
-    ghost from_gives = { λ _ stop. stop ≡ ReadMemory };
-
-    fn from(_: AllocError) -> Self {
-        ReadStop::Memory
-    }
-}
-
-impl<T: Drop> From<AllocFailed<T>> for ReadStop {
-    ghost from_gives = { λ _ stop. stop ≡ ReadMemory };
-
-    fn from(_: AllocFailed<T>) -> Self {
-        ReadStop::Memory
-    }
-}
+use http_forms::{ReadStop, RequestScanner};
+use web_outside::Source;
 
 // Reads at most as many bytes as the piece holds behind those that are there, none only at the end. Gives how many.
 fn read_into<S: Source>(

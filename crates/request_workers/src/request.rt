@@ -1,24 +1,14 @@
 ghost use Rattle.std.specs.Prelude.{◌≡◌, ◌≤◌, IsErrOf};
 ghost use Rattle.web_outside.specs.Causes.{Rose};
 ghost use Rattle.http_forms.specs.Progress.{Knows};
+ghost use Rattle.http_forms.specs.Reader.{Gives};
 ghost use Rattle.http_forms.specs.Request.{Decides};
-ghost use Rattle.request_workers.specs.Requests.{Comes, Gives};
+ghost use Rattle.request_workers.specs.Requests.{Comes};
 
-use crate::read::{ReadStop, read_bytes};
-use http_forms::{Refused, Request, RequestFault, RequestScanner};
+use crate::read::read_bytes;
+use http_forms::{Incoming, ReadStop, RequestFault, RequestScanner};
 use std::alloc::Global;
 use web_outside::Source;
-
-/// What came over a link.
-#[derive(Drop)]
-pub(crate) enum Incoming {
-    /// A request.
-    Visit(Request),
-    /// Bytes that are refused.
-    Refused(Refused),
-    /// Nothing: the link had ended.
-    Nothing,
-}
 
 // What the bytes of a link are.
 fn judge(

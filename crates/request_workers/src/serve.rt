@@ -4,9 +4,8 @@ ghost use Rattle.page_names.specs.Views.{target_of};
 ghost use Rattle.request_workers.specs.Scenes.{IsLater};
 ghost use Rattle.request_workers.specs.Serving.{Replies, Answers, ServesOrDrops, served_by};
 
-use crate::read::ReadStop;
-use crate::request::{Incoming, read_request};
-use http_forms::{Answer, Answering, Refused, Request, write_reply};
+use crate::request::read_request;
+use http_forms::{Answer, Answering, Incoming, ReadStop, Refused, Request, write_reply};
 use page_names::Target;
 use script_value::{Refusal, Reply, Value};
 use std::alloc::{AllocError, Global};
@@ -44,7 +43,7 @@ impl Served {
 }
 
 // The reply of the visit that is asked for. What names nothing is unknown, and then nothing is visited.
-fn visit<A: Answering, G: Gate>(
+pub(crate) fn visit<A: Answering, G: Gate>(
     alloc: Global,
     answering: &A,
     pass: &mut A::Pass,

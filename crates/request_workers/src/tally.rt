@@ -1,11 +1,9 @@
 ghost use Rattle.std.specs.Prelude.{◌≡◌, ◌≤◌, ◌<◌, ◌+◌, ◌^◌, ℕ};
 ghost use Rattle.request_workers.specs.Counting as spec;
+ghost use Rattle.request_workers.specs.Linking.{links_count};
 ghost use Rattle.request_workers.specs.Tallies.{count_of, IsBelow};
 
-use crate::serve::Served;
-use reply_words::Told;
-use script_value::Reply;
-use std::alloc::AllocError;
+use crate::link::{LinkEnd, Links};
 
 // More than all links of a porch can come to.
 const COUNT_LIMIT: u64 = 1 << 62;
@@ -49,47 +47,20 @@ impl Tally {
         }
     }
 
-    // One visit more, which had this reply.
-    fn count_visit(&mut self, reply: &Reply)
-        requires { IsBelow (count_of self.old) COUNT_LIMIT }
-        ensures count { count_of self.new ≡ spec.both (count_of self.old)
-            (spec.visit_count reply.now) }
-        ensures end { self.new.end ≡ self.old.end }
-    {
-        match Told::of(reply) {
-            Told::Page(_) => self.pages += 1,
-            Told::Word(..) => self.refused += 1,
-        }
-    }
-
     // One link more, which was served so.
-    fn count_served(&mut self, how: &Served)
-        requires { IsBelow (count_of self.old) COUNT_LIMIT }
+    pub(crate) fn count(&mut self, links: &Links)
+        requires below { IsBelow (count_of self.old) COUNT_LIMIT }
+        requires few { links.now.pages + links.now.refused ≤ 1000 }
         ensures count { count_of self.new ≡ spec.both (count_of self.old)
-            (spec.served_count how.now) }
+            (spec.link_count (links_count links.now) links.now.end) }
         ensures end { self.new.end ≡ self.old.end }
     {
-        match how {
-            Served::Answered(reply) => self.count_visit(reply),
-            Served::Refused(_) | Served::Idle => {}
-            Served::ReadFault | Served::WriteFault(None) => self.failed += 1,
-            Served::WriteFault(Some(reply)) => {
-                self.count_visit(reply);
-                self.failed += 1;
-            }
-        }
-    }
-
-    // One link more, which was served so, or dropped.
-    pub(crate) fn count(&mut self, how: &Result<Served, AllocError>)
-        requires { IsBelow (count_of self.old) COUNT_LIMIT }
-        ensures count { count_of self.new ≡ spec.both (count_of self.old)
-            (spec.link_count how.now) }
-        ensures end { self.new.end ≡ self.old.end }
-    {
-        match how {
-            Ok(how) => self.count_served(how),
-            Err(_) => self.dropped += 1,
+        self.pages += links.pages;
+        self.refused += links.refused;
+        match links.end {
+            LinkEnd::Closed | LinkEnd::Refused(_) | LinkEnd::Idle => {}
+            LinkEnd::ReadFault | LinkEnd::WriteFault => self.failed += 1,
+            LinkEnd::Memory => self.dropped += 1,
         }
     }
 

@@ -8,6 +8,8 @@ mod links;
 #[cfg(test)]
 mod servings;
 #[cfg(test)]
+mod streams;
+#[cfg(test)]
 mod streets;
 #[cfg(test)]
 mod workers;

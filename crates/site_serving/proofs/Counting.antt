@@ -1,7 +1,6 @@
 -- The pages that a worker counts are the publishes of its caller that were answered with a page.
 use Rattle.std.proofs.Common.{◌≡◌, ◌⊎◌, ℕ, zero, suc, ◌+◌, ◌≤◌, List, [], ◌∷◌, ◌++◌, length, Option, Some, None, slice_get, set, Result, Ok, Err, refl, ap, sym, ◌∙◌, subst, inl, inr, arith}
 use Rattle.std.specs.Prelude.{Bool}
-use Rattle.std.specs.declared.alloc.AllocError.{AllocError}
 use Rattle.std.proofs.lemmas.Option.{slice_get_within}
 use Rattle.web_disk.specs.View.{View}
 use Rattle.web_outside.specs.View.{LinkView}
@@ -17,11 +16,13 @@ use Rattle.shelf_history.specs.Histories.{Entry, own_of}
 use Rattle.shelf_history.specs.Laws.{take_of}
 use Rattle.shelf_history.specs.Passes.{publish_of}
 use Rattle.http_forms.specs.Passes as passes
-use Rattle.request_workers.specs.Counting.{Count, visit_count, link_count, served_count}
-use Rattle.request_workers.specs.Serving.{ServesOrDrops, Serves, Replies, Visits}
-use Rattle.request_workers.specs.declared.serve.Served.{Served}
-use Rattle.request_workers.specs.declared.serve.Served.TheVariants as served
-use Rattle.request_workers.specs.Working.{AfterTick, Turns, Works}
+use Rattle.http_forms.specs.Stream.{Stop, closed, refusal, pending, cut}
+use Rattle.request_workers.specs.Counting.{Count, end_count}
+use Rattle.request_workers.specs.Linking.{Exchange, IsUnserved, LastSweep, Linked, Passes, SweepsAll, SweepsBefore, Turned, Visited, counted, visited}
+use Rattle.request_workers.specs.Serving.{Replies}
+use Rattle.request_workers.specs.declared.link.LinkEnd.{LinkEnd}
+use Rattle.request_workers.specs.declared.link.LinkEnd.TheVariants as ends
+use Rattle.request_workers.specs.Working.{Turns, Works}
 use Rattle.lock_row.specs.Spots.{Spot, spot, At, caller_at}
 use Rattle.lock_row.proofs.Places.{get_there, one_of}
 use Rattle.site.specs.declared.entry.KeptEntry.{KeptEntry}
@@ -39,7 +40,7 @@ pages_append [] ys = omega arith
 pages_append (x ∷ xs) ys = let more = pages_append xs ys in omega arith
 
 -- a reply counts as it is told
-counts_as_told : (r : Reply) → (visit_count r).pages ≡ page_count (reply_of r)
+counts_as_told : (r : Reply) → (visited r).pages ≡ page_count (reply_of r)
 counts_as_told (replies.Page bytes url) = refl
 counts_as_told (replies.Finished bytes) = refl
 counts_as_told (replies.Ended bytes) = refl
@@ -58,7 +59,7 @@ counts_as_told (replies.Down count) = refl
 counts_as_told replies.Worn = refl
 counts_as_told replies.Memory = refl
 
-no_ticket_counts : (r : Reply) → IsNoTicket r → (visit_count r).pages ≡ 0
+no_ticket_counts : (r : Reply) → IsNoTicket r → (visited r).pages ≡ 0
 no_ticket_counts (replies.Page bytes url) h = absurd h
 no_ticket_counts (replies.Finished bytes) h = absurd h
 no_ticket_counts (replies.Ended bytes) h = absurd h
@@ -143,14 +144,14 @@ module _ {D N : Type 0} (view : D → View) (tells : Bool) (coming : N → ℕ �
   took_adds v w target answer (Err r) (told, inr worn) = goes_adds v w [] worn.1
 
   -- a take that gave no ticket was answered with no page
-  took_counts : (v w : Known D N) (target : Destination) (answer : Val) (r : Reply) → Took view tells coming v target answer (Err r) w → (visit_count r).pages ≡ 0
+  took_counts : (v w : Known D N) (target : Destination) (answer : Val) (r : Reply) → Took view tells coming v target answer (Err r) w → (visited r).pages ≡ 0
   took_counts v w target answer r took = no_ticket_counts r took.0
 
-  published_adds : (v w : Known D N) (t : Ticket) (r : Reply) → Published view tells coming v t r w → AddsAt (visit_count r).pages v w
+  published_adds : (v w : Known D N) (t : Ticket) (r : Reply) → Published view tells coming v t r w → AddsAt (visited r).pages v w
   published_adds v w t r (inl g) =
-      subst (λ n. AddsAt n v w) (let told = counts_as_told r in let sum : page_count (reply_of r) + 0 ≡ (visit_count r).pages = omega arith in sum)
+      subst (λ n. AddsAt n v w) (let told = counts_as_told r in let sum : page_count (reply_of r) + 0 ≡ (visited r).pages = omega arith in sum)
       (goes_adds v w (publish_of v.caller (ticket_of t) (reply_of r) ∷ []) g)
-  published_adds v w t r (inr worn) = subst (λ x. AddsAt (visit_count x).pages v w) (sym worn.0) (goes_adds v w [] worn.1)
+  published_adds v w t r (inr worn) = subst (λ x. AddsAt (visited x).pages v w) (sym worn.0) (goes_adds v w [] worn.1)
 
   swept_adds : (v w : Known D N) (tick : ℕ) (r : Result ℕ Reply) → Swept view tells coming v tick r w → AddsAt 0 v w
   swept_adds v w tick (Ok n) s = by_cases s.0
@@ -168,17 +169,17 @@ module _ {D N : Type 0} (view : D → View) (tells : Bool) (coming : N → ℕ �
       at_adds k 0 (λ v w. Took view tells coming v target answer r w) old new at (λ v w t. took_adds v w target answer r t)
 
   takes_counts : (place : Option ℕ) (old new : Spots D N) (target : Destination) (answer : Val) (r : Reply)
-      → TakesOn view tells coming place old target answer (Err r) new → (visit_count r).pages ≡ 0
+      → TakesOn view tells coming place old target answer (Err r) new → (visited r).pages ≡ 0
   takes_counts None old new target answer r t =
-      let is : r ≡ replies.Refused refusals.Unknown = (let e = t.0 in cc) in ap (λ x. (visit_count x).pages) is
+      let is : r ≡ replies.Refused refusals.Unknown = (let e = t.0 in cc) in ap (λ x. (visited x).pages) is
   takes_counts (Some k) old new target answer r at = took_counts at.0.known at.1 target answer r at.4
 
   visits_adds : (old new : Spots D N) (target : Destination) (answer : Val) (reply : Reply) → VisitsAt view tells coming old target answer reply new
-      → Adds old new (visit_count reply).pages
+      → Adds old new (visited reply).pages
   visits_adds old new target answer reply (inl (t, middle, took, published)) =
-      adds_both old middle new 0 (visit_count reply).pages (visit_count reply).pages
+      adds_both old middle new 0 (visited reply).pages (visited reply).pages
       (takes_adds (shelf_for (length old) (caller_at old) target) old middle target answer (Ok t) took)
-      (at_adds published.0 (visit_count reply).pages (λ v w. Published view tells coming v t reply w) middle new published.2
+      (at_adds published.0 (visited reply).pages (λ v w. Published view tells coming v t reply w) middle new published.2
       (λ v w p. published_adds v w t reply p))
       (omega arith)
   visits_adds old new target answer reply (inr took) =
@@ -196,43 +197,68 @@ module _ {D N : Type 0} (view : D → View) (tells : Bool) (coming : N → ℕ �
   as_adds old new tick (Ok answers) t = ticks_adds old new tick answers t
   as_adds old new tick (Err e) t = adds_none old new t
 
-  module _ (site : Site D N) {L : Type 0} (link : L → LinkView) (shown : Option ℕ) where
+  module _ (site : Site D N) {L : Type 0} (link : L → LinkView) (shown : Option ℕ) (requests : ℕ) where
     replies_adds : (old new : Spots D N) (target : Option Destination) (answer : Val) (reply : Reply) → Replies (site_rules view tells coming site) old target answer reply new
-        → Adds old new (visit_count reply).pages
-    replies_adds old new None answer reply r = subst (λ x. Adds old new (visit_count x).pages) (sym r.0) (adds_none old new r.1)
+        → Adds old new (visited reply).pages
+    replies_adds old new None answer reply r = subst (λ x. Adds old new (visited x).pages) (sym r.0) (adds_none old new r.1)
     replies_adds old new (Some target) answer reply v = visits_adds old new target answer reply v
 
-    visit_adds : (old new : Spots D N) (before after : LinkView) (reply : Reply) → Visits (site_rules view tells coming site) old new before after reply
-        → Adds old new (visit_count reply).pages
-    visit_adds old new before after reply v = replies_adds old new v.visit.destination v.visit.answer reply v.replied
+    -- a tick, and the visit behind it
+    turned_adds : (old new : Spots D N) (e : Exchange) → Turned (site_rules view tells coming site) shown old e new → Adds old new (visited e.reply).pages
+    turned_adds old new e t =
+        adds_both old t.middle new 0 (visited e.reply).pages (visited e.reply).pages (as_adds old t.middle t.swept.1.tick (Ok t.swept.0) t.swept.1.ticked)
+        (replies_adds t.middle new e.visit.destination e.visit.answer e.reply t.replied) (omega arith)
 
-    serves_adds : (old new : Spots D N) (before after : LinkView) (how : Served) → Serves (site_rules view tells coming site) old new before after how
-        → Adds old new (served_count how).pages
-    serves_adds old new before after (served.Answered reply) s = visit_adds old new before after reply s.0
-    serves_adds old new before after (served.Refused reason) s = adds_none old new s.0.same
-    serves_adds old new before after served.Idle s = adds_none old new s.1
-    serves_adds old new before after served.ReadFault s = adds_none old new s.2
-    serves_adds old new before after (served.WriteFault (Some reply)) s =
-        let v = visit_adds old new before after reply s.0 in record { pages = (let p = v.pages in omega arith); caller = v.caller }
-    serves_adds old new before after (served.WriteFault None) s = adds_none old new s.1.same
+    -- the visits of a link
+    passes_adds : (old new : Spots D N) (es : List Exchange) → Passes (site_rules view tells coming site) shown old new es → Adds old new (counted es).pages
+    passes_adds old new [] same = adds_none old new same
+    passes_adds old new (e ∷ es) p =
+        adds_both old p.0 new (visited e.reply).pages (counted es).pages (counted (e ∷ es)).pages (turned_adds old p.0 e p.1) (passes_adds p.0 new es p.2) refl
 
-    drops_adds : (old new : Spots D N) (before after : LinkView) (how : Result Served AllocError) → ServesOrDrops (site_rules view tells coming site) old new before after how
-        → Adds old new (link_count how).pages
-    drops_adds old new before after (Ok how) s = serves_adds old new before after how s
-    drops_adds old new before after (Err e) s = adds_none old new s.0
+    -- ticks behind which no visit was made
+    all_adds : (old new : Spots D N) → SweepsAll (site_rules view tells coming site) shown old new → Adds old new 0
+    all_adds old new s = as_adds old new s.1.tick (Ok s.0) s.1.ticked
 
-    behind_adds : (swept : passes.Swept) (old new : Spots D N) (given back : L) (count : Count) → AfterTick (site_rules view tells coming site) link swept old new given back count
+    before_adds : (stop : Stop) (old new : Spots D N) → SweepsBefore (site_rules view tells coming site) shown stop old new → Adds old new 0
+    before_adds closed old new same = adds_none old new same
+    before_adds (refusal reason) old new s = all_adds old new s
+    before_adds pending old new same = adds_none old new same
+    before_adds cut old new same = adds_none old new same
+
+    last_adds : (end : LinkEnd) (stop : Stop) (unserved : Type 0) (old new : Spots D N)
+        → LastSweep (site_rules view tells coming site) shown end stop unserved old new → Adds old new 0
+    last_adds ends.Closed stop unserved old new same = adds_none old new same
+    last_adds (ends.Refused reason) stop unserved old new s = all_adds old new s
+    last_adds ends.Idle stop unserved old new s = all_adds old new s
+    last_adds ends.ReadFault stop unserved old new s = all_adds old new s
+    last_adds ends.WriteFault stop unserved old new s = before_adds stop old new s
+    last_adds ends.Memory stop unserved old new (inl s) = all_adds old new s
+    last_adds ends.Memory stop unserved old new (inr (s, as_given)) = as_adds old new s.1.tick (Err s.0) s.1.ticked
+
+    linked_adds : (old new : Spots D N) (before after : LinkView) (count : Visited) (end : LinkEnd)
+        → Linked (site_rules view tells coming site) shown requests old new [] before after count end → Adds old new count.pages
+    linked_adds old new before after count end l =
+        adds_both old l.middle new (counted l.exchanges).pages 0 count.pages (passes_adds old l.middle l.exchanges l.passed) (last_adds end l.stop (IsUnserved l.exchanges before after) l.middle new l.last)
+        (let same = ap (λ (v : Visited). v.pages) l.number in omega arith)
+
+    -- the end of a link is no page
+    no_page : (end : LinkEnd) → (end_count end).pages ≡ 0
+    no_page ends.Closed = refl
+    no_page (ends.Refused reason) = refl
+    no_page ends.Idle = refl
+    no_page ends.ReadFault = refl
+    no_page ends.WriteFault = refl
+    no_page ends.Memory = refl
+
+    turns_adds : (old new : Spots D N) (given back : L) (count : Count) → Turns (site_rules view tells coming site) link shown requests old new given back count
         → Adds old new count.pages
-    behind_adds (Ok answers) old new given back count s =
-        subst (λ (c : Count). Adds old new c.pages) (sym s.2) (drops_adds old new (link given) (link back) s.0 s.1)
-    behind_adds (Err e) old new given back count s = subst (λ (c : Count). Adds old new c.pages) (sym s.2) (adds_none old new s.0)
-
-    turns_adds : (old new : Spots D N) (given back : L) (count : Count) → Turns (site_rules view tells coming site) link shown old new given back count → Adds old new count.pages
     turns_adds old new given back count t =
-        adds_both old t.middle new 0 count.pages count.pages (as_adds old t.middle t.tick t.swept t.ticked) (behind_adds t.swept t.middle new given back count t.served) (omega arith)
+        let same = ap (λ (c : Count). c.pages) t.number in
+        let none = no_page t.end in
+        subst (Adds old new) (let sum : t.visited.pages ≡ count.pages = omega arith in sum) (linked_adds old new (link given) (link back) t.visited t.end t.linked)
 
     -- what a worker counts as pages its caller has published, and the caller stays the same
-    pub works_adds : (old new : Spots D N) (given back : List L) (count : Count) → Works (site_rules view tells coming site) link shown old new given back count
+    pub works_adds : (old new : Spots D N) (given back : List L) (count : Count) → Works (site_rules view tells coming site) link shown requests old new given back count
         → Adds old new count.pages
     works_adds old new [] [] count w = subst (λ (c : Count). Adds old new c.pages) (sym w.1) (adds_none old new w.0)
     works_adds old new [] (b ∷ back) count w = absurd w

@@ -28,7 +28,7 @@ failed_by P listening.Memory h is = absurd (let no : ⊥ = cc is in no)
 
 -- what was kept of a serving by so many workers
 pub kept_by : {D P L N : Type 0} (v : Views D P L N) (site : Site D N) (openings : List (Opening D N)) (porches : List P) (door left : DoorView P L) (past : Pasts)
-    (w : Watch) (workers : ℕ) (disks : List D) (tally : Tally) (end : WorkEnd) → EndsAs v site porches left past workers disks tally
+    (w : Watch) (workers : ℕ) (disks : List D) (tally : Tally) (end : WorkEnd) → EndsAs v site w.requests porches left past workers disks tally
     → openings_of site.row.homes ≡ openings → workers ≡ w.workers → length porches ≡ workers → GiveLists v.porch porches (door.links w.port) → HaveNone v.porch porches
     → All (λ p. (v.porch p).given ≡ 0) porches → All (λ p. (v.porch p).most ≡ w.connections) porches → tally.end ≡ end
     → (kept : Kept) × Leaves v openings door left past w disks end kept × (count_of tally ≡ total kept.tallies)
@@ -38,6 +38,7 @@ kept_by {D = D} {N = N} v site openings porches door left past w workers disks t
     told = e.told;
     served = record {
       site = site;
+      homes = same;
       links = record { porches = porches; many = many ∙ count; came = came; fresh = fresh; none = none; most = most; works = e.leaves.works };
       shelves = subst (λ (os : List (Opening D N)). AreEnded v.disk v.told v.nonce w.workers os disks e.kept.histories) same
           (subst (λ n. AreEnded v.disk v.told v.nonce n (openings_of site.row.homes) disks e.kept.histories) count e.leaves.shelves);

@@ -107,11 +107,11 @@ module _ {D N : Type 0} (view : D → View) (tells : Bool) (coming : N → ℕ �
       let n = get_there nonces k (omega (arith, low, es, ns)) in
       (each k h.0 d.0 n.0 e h.1 d.1 n.1 e_is).callers
 
-module _ {D P L N : Type 0} (v : Views D P L N) (site : Site D N) where
+module _ {D P L N : Type 0} (v : Views D P L N) (site : Site D N) (requests : ℕ) where
   -- what is known of the passes and porches of workers, and of the histories, when all is over
   pub record Facts (passes : List (Spots D N)) (porches : List P) (passes' : List (Spots D N)) (porches' : List P) (tallies : List Tally)
       (histories : List (List KeptEntry)) : Type 0 where
-    pub served : AreServed (site_rules v.disk v.told v.nonce site) v.link v.porch v.shown passes porches passes' porches' tallies
+    pub served : AreServed (site_rules v.disk v.told v.nonce site) v.link v.porch v.shown requests passes porches passes' porches' tallies
     pub own : (k : ℕ) (p : Spots D N) → slice_get passes' k ≡ Some p → IsOwn site p
     pub first : (k : ℕ) (p : Spots D N) → slice_get passes k ≡ Some p → IsFirstPass site k p
     pub many : length histories ≡ length site.row.homes
@@ -125,8 +125,8 @@ module _ {D P L N : Type 0} (v : Views D P L N) (site : Site D N) where
       (histories : List (List KeptEntry)) (f : Facts passes porches passes' porches' tallies histories) where
     -- the worker of a place
     module _ (number : ℕ) (a b : Worker (Spots D N) P) (a_is : slice_get f.served.before number ≡ Some a) (b_is : slice_get f.served.after number ≡ Some b) where
-      works : WorksAs (site_rules v.disk v.told v.nonce site) v.link v.porch v.shown a b
-      works = zip_at (WorksAs (site_rules v.disk v.told v.nonce site) v.link v.porch v.shown) f.served.before f.served.after number a b f.served.works a_is b_is
+      works : WorksAs (site_rules v.disk v.told v.nonce site) v.link v.porch v.shown requests a b
+      works = zip_at (WorksAs (site_rules v.disk v.told v.nonce site) v.link v.porch v.shown requests) f.served.before f.served.after number a b f.served.works a_is b_is
 
       was : IsFirstPass site number a.pass
       was = f.first number a.pass (ap (λ ps. slice_get ps number) (sym f.served.had_passes) ∙ get_map (λ (w : Worker (Spots D N) P). w.pass) f.served.before number a a_is)
@@ -140,18 +140,18 @@ module _ {D P L N : Type 0} (v : Views D P L N) (site : Site D N) where
       seen : (k : ℕ) (s : Spot (Opening D N) KeptEntry) (h : List KeptEntry) → slice_get b.pass k ≡ Some s → slice_get histories k ≡ Some h
           → (s.known.caller ≡ number) × IsSeenBy number (seen_by s.known) (entries_of h)
       seen k s h s_is h_is =
-          let adds = works_adds v.disk v.told v.nonce site v.link v.shown a.pass b.pass works.worked.given works.worked.back (count_of b.tally) works.worked.works in
+          let adds = works_adds v.disk v.told v.nonce site v.link v.shown requests a.pass b.pass works.worked.given works.worked.back (count_of b.tally) works.worked.works in
           let low = slice_get_within b.pass k s s_is in
           let caller : s.known.caller ≡ number =
           (is.seats k s s_is).caller_is ∙ (adds.caller ∙ new_caller number a.pass was.fresh (omega (arith, low, as_long b.pass is, as_long a.pass was.own))) in
           (caller, subst (λ c. IsSeenBy c (seen_by s.known) (entries_of h)) caller (f.told k h h_is number b.pass there s s_is))
 
-      has_served : HasServed v site histories number a b
-      has_served = record { new = was.fresh; works = works; seen = λ k s h s_is h_is. (seen k s h s_is h_is).1 }
+      has_served : HasServed v site requests histories number a b
+      has_served = record { first = was; works = works; seen = λ k s h s_is h_is. (seen k s h s_is h_is).1 }
 
       counted : b.tally.pages ≡ caller_pages number histories
       counted =
-          let adds = works_adds v.disk v.told v.nonce site v.link v.shown a.pass b.pass works.worked.given works.worked.back (count_of b.tally) works.worked.works in
+          let adds = works_adds v.disk v.told v.nonce site v.link v.shown requests a.pass b.pass works.worked.given works.worked.back (count_of b.tally) works.worked.works in
           let none = new_none number a.pass was.fresh in
           let all = caller_all number b.pass histories (f.many ∙ sym (as_long b.pass is)) seen in
           let sum = adds.pages in
@@ -159,16 +159,16 @@ module _ {D P L N : Type 0} (v : Views D P L N) (site : Site D N) where
 
     one_before : (number : ℕ) (b : Worker (Spots D N) P) → slice_get f.served.after number ≡ Some b → (a : Worker (Spots D N) P) × (slice_get f.served.before number ≡ Some a)
     one_before number b b_is =
-        let long = zip_length (WorksAs (site_rules v.disk v.told v.nonce site) v.link v.porch v.shown) f.served.before f.served.after f.served.works in
+        let long = zip_length (WorksAs (site_rules v.disk v.told v.nonce site) v.link v.porch v.shown requests) f.served.before f.served.after f.served.works in
         get_there f.served.before number (let low = slice_get_within f.served.after number b b_is in omega (arith, low, long))
 
     -- each worker served its porch
-    pub porches_served : (left : DoorView P L) → IfSome left.closed (λ kept. kept ≡ porches') → ServesPorches v site porches left (kept_of histories tallies)
+    pub porches_served : (left : DoorView P L) → IfSome left.closed (λ kept. kept ≡ porches') → ServesPorches v site requests porches left (kept_of histories tallies)
     porches_served left closed = record {
       before = f.served.before;
       after = f.served.after;
       had = f.served.had_porches;
-      many = zip_length (WorksAs (site_rules v.disk v.told v.nonce site) v.link v.porch v.shown) f.served.before f.served.after f.served.works;
+      many = zip_length (WorksAs (site_rules v.disk v.told v.nonce site) v.link v.porch v.shown requests) f.served.before f.served.after f.served.works;
       served = has_served;
       counted = f.served.counted;
       closed = subst (λ ps. IfSome left.closed (λ kept. kept ≡ ps)) (sym f.served.has_porches) closed;
@@ -185,25 +185,25 @@ module _ {D P L N : Type 0} (v : Views D P L N) (site : Site D N) where
         ∙ (ap (λ n. sum_below n (λ k. caller_pages k histories)) many ∙ callers_sum workers histories none)
 
 -- what is left of porches and shelves, by what the calls say
-pub leaves_all : {D P L N : Type 0} (v : Views D P L N) (site : Site D N) (passes : List (Spots D N)) (porches : List P) (passes' : List (Spots D N)) (porches' : List P)
+pub leaves_all : {D P L N : Type 0} (v : Views D P L N) (site : Site D N) (requests : ℕ) (passes : List (Spots D N)) (porches : List P) (passes' : List (Spots D N)) (porches' : List P)
     (tallies : List Tally) (disks : List D) (nonces : List N) (histories : List (List KeptEntry)) (left : DoorView P L) (workers : ℕ)
-    → Facts v site passes porches passes' porches' tallies histories → length passes ≡ workers → site.row.seats ≡ workers
+    → Facts v site requests passes porches passes' porches' tallies histories → length passes ≡ workers → site.row.seats ≡ workers
     → length disks ≡ length site.row.homes → length nonces ≡ length site.row.homes
     → ((k : ℕ) (h : Home (Opening D N)) (d : D) (n : N) (es : List KeptEntry) → slice_get site.row.homes k ≡ Some h → slice_get disks k ≡ Some d → slice_get nonces k ≡ Some n
     → slice_get histories k ≡ Some es → IsBack v.disk v.told v.nonce h.opening site.row.seats d n (entries_of es))
-    → IfSome left.closed (λ kept. kept ≡ porches') → LeavesAll v site porches left workers disks (kept_of histories tallies)
-leaves_all {D = D} {P = P} {L = L} {N = N} v site passes porches passes' porches' tallies disks nonces histories left workers f many seats ds ns back closed =
-    let long = zip_length (WorksAs (site_rules v.disk v.told v.nonce site) v.link v.porch v.shown) f.served.before f.served.after f.served.works in
+    → IfSome left.closed (λ kept. kept ≡ porches') → LeavesAll v site requests porches left workers disks (kept_of histories tallies)
+leaves_all {D = D} {P = P} {L = L} {N = N} v site requests passes porches passes' porches' tallies disks nonces histories left workers f many seats ds ns back closed =
+    let long = zip_length (WorksAs (site_rules v.disk v.told v.nonce site) v.link v.porch v.shown requests) f.served.before f.served.after f.served.works in
     let first = ap length f.served.had_passes in
     let one = map_length (λ (w : Worker (Spots D N) P). w.pass) f.served.before in
     let two = map_length (λ (w : Worker (Spots D N) P). w.tally) f.served.after in
     let last = ap length f.served.counted in
     let count : length tallies ≡ workers = omega arith in
     record {
-      works = porches_served v site passes porches passes' porches' tallies histories f left closed;
+      works = porches_served v site requests passes porches passes' porches' tallies histories f left closed;
       shelves = subst (λ n. AreEnded v.disk v.told v.nonce n (openings_of site.row.homes) disks histories) seats
           (ended_from v.disk v.told v.nonce site.row.homes site.row.seats disks nonces histories ds ns f.many back);
-      pages = pages_are v site passes porches passes' porches' tallies histories f workers count
+      pages = pages_are v site requests passes porches passes' porches' tallies histories f workers count
           (subst (λ n. NoneFrom n histories) seats (none_from v.disk v.told v.nonce site.row.homes site.row.seats disks nonces histories ds ns f.many back));
     }
 
@@ -217,8 +217,8 @@ fails_or_not : (e : WorkEnd) → (e ≡ ends.Failed) ⊎ (e ≢ ends.Failed)
 fails_or_not ends.Done = inr (λ e. let no : ⊥ = cc e in no)
 fails_or_not ends.Failed = inl refl
 
-module _ {S P L : Type 0} (rules : PassRules S) (link : L → LinkView) (porch : P → PorchView L) (shown : Option ℕ) where
-  some_fault : (before after : List (Worker S P)) → AllZip (WorksAs rules link porch shown) before after → end_of (tallies_of after) ≡ ends.Failed
+module _ {S P L : Type 0} (rules : PassRules S) (link : L → LinkView) (porch : P → PorchView L) (shown : Option ℕ) (requests : ℕ) where
+  some_fault : (before after : List (Worker S P)) → AllZip (WorksAs rules link porch shown requests) before after → end_of (tallies_of after) ≡ ends.Failed
       → 1 ≤ sum_by (λ p. (porch p).faults) (porches_of after)
   some_fault [] [] all failed = absurd (let no : ⊥ = cc failed in no)
   some_fault [] (b ∷ after) all failed = absurd all
@@ -234,19 +234,19 @@ module _ {S P L : Type 0} (rules : PassRules S) (link : L → LinkView) (porch :
             omega (arith, rest, sum)
       ]
 
-  -- each porch has its tally, and each count in it is at most a million
+  -- each porch has its tally, and each count in it is at most a thousand million
   pub as_many : (passes : List S) (porches : List P) (passes' : List S) (porches' : List P) (tallies : List Tally)
-      → AreServed rules link porch shown passes porches passes' porches' tallies → length tallies ≡ length passes
+      → AreServed rules link porch shown requests passes porches passes' porches' tallies → length tallies ≡ length passes
   as_many passes porches passes' porches' tallies s =
-      let long = zip_length (WorksAs rules link porch shown) s.before s.after s.works in
+      let long = zip_length (WorksAs rules link porch shown requests) s.before s.after s.works in
       let first = ap length s.had_passes in
       let one = map_length (λ (w : Worker S P). w.pass) s.before in
       let two = map_length (λ (w : Worker S P). w.tally) s.after in
       let last = ap length s.counted in
       omega arith
 
-  small_from : (before after : List (Worker S P)) → AllZip (WorksAs rules link porch shown) before after
-      → (k : ℕ) (d : Tally) → k < length (tallies_of after) → IsBelow (count_of (get_or (tallies_of after) k d)) 1000001
+  small_from : (before after : List (Worker S P)) → AllZip (WorksAs rules link porch shown requests) before after
+      → (k : ℕ) (d : Tally) → k < length (tallies_of after) → IsBelow (count_of (get_or (tallies_of after) k d)) 1000000001
   small_from [] [] all k d lt = absurd (omega (arith, lt))
   small_from [] (b ∷ after) all k d lt = absurd all
   small_from (a ∷ before) [] all k d lt = absurd all
@@ -254,14 +254,14 @@ module _ {S P L : Type 0} (rules : PassRules S) (link : L → LinkView) (porch :
   small_from (a ∷ before) (b ∷ after) all (suc k) d lt = small_from before after all.1 k d (omega (arith, lt))
 
   pub all_small : (passes : List S) (porches : List P) (passes' : List S) (porches' : List P) (tallies : List Tally)
-      → AreServed rules link porch shown passes porches passes' porches' tallies
-      → (k : ℕ) (d : Tally) → k < length tallies → IsBelow (count_of (get_or tallies k d)) 1000001
+      → AreServed rules link porch shown requests passes porches passes' porches' tallies
+      → (k : ℕ) (d : Tally) → k < length tallies → IsBelow (count_of (get_or tallies k d)) 1000000001
   all_small passes porches passes' porches' tallies s =
-      subst (λ ts. (k : ℕ) (d : Tally) → k < length ts → IsBelow (count_of (get_or ts k d)) 1000001) s.counted (small_from s.before s.after s.works)
+      subst (λ ts. (k : ℕ) (d : Tally) → k < length ts → IsBelow (count_of (get_or ts k d)) 1000000001) s.counted (small_from s.before s.after s.works)
 
   -- a porch that failed is a fault of the door that closed it
   pub door_rose : (passes : List S) (porches : List P) (passes' : List S) (porches' : List P) (tallies : List Tally) (first count rose : ℕ)
-      → AreServed rules link porch shown passes porches passes' porches' tallies → end_of tallies ≡ ends.Failed → first ≤ count
+      → AreServed rules link porch shown requests passes porches passes' porches' tallies → end_of tallies ≡ ends.Failed → first ≤ count
       → rose ≡ counts_with porch porches' count → Rose first rose
   door_rose passes porches passes' porches' tallies first count rose s failed le is =
       let some = some_fault s.before s.after s.works (ap end_of s.counted ∙ failed) in

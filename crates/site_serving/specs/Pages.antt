@@ -6,29 +6,29 @@ use Rattle.site.specs.declared.entry.KeptEntry.{KeptEntry}
 use Rattle.site.specs.Entries.{entries_of}
 use Rattle.site.specs.Passes.{Spots, seen_by}
 
--- a reply that is a page, which was shown, or with which an instance finished or a visit ended
+-- how many pages a reply is: one where a page was shown, or an instance finished or a visit ended with it, and else none
 abbrev pub page_count : Reply → ℕ
 page_count (shown page url) = 1
 page_count (finished page) = 1
 page_count (ended page) = 1
 page_count _ = 0
 
--- a publish that was answered with a page
+-- how many pages an event was answered with: one where it is a publish whose reply is a page, and else none
 abbrev pub pages_by : Event → Reply → ℕ
 pages_by (publish t) reply = page_count reply
 pages_by _ reply = 0
 
--- how many of these there are
+-- how many publishes of a history were answered with a page
 abbrev pub pages_in : List Entry → ℕ
 pages_in [] = 0
 pages_in (e ∷ es) = pages_by e.event e.reply + pages_in es
 
--- and in the histories of all shelves
+-- how many publishes in the histories of all shelves were answered with a page
 abbrev pub pages_of : List (List KeptEntry) → ℕ
 pages_of [] = 0
 pages_of (h ∷ histories) = pages_in (entries_of h) + pages_of histories
 
--- how many of its own a pass has seen, at all shelves
+-- how many publishes of its own caller, of those answered with a page, a pass has seen at all shelves
 abbrev pub own_pages : {D N : Type 0} → Spots D N → ℕ
 own_pages [] = 0
 own_pages (a ∷ pass) = pages_in (own_of a.known.caller (seen_by a.known)) + own_pages pass

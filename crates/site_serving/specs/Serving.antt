@@ -11,7 +11,6 @@ use Rattle.request_workers.specs.Tallies.{count_of}
 use Rattle.request_workers.specs.declared.tally.Tally.{Tally}
 use Rattle.request_workers.specs.declared.tally.WorkEnd.{WorkEnd}
 use Rattle.request_workers.specs.declared.tally.WorkEnd.TheVariants as ends
-use Rattle.lock_row.specs.Rows.{IsNewPass}
 use Rattle.lock_row.specs.Spots.{Spot, Home}
 use Rattle.shelf_history.specs.Histories.{own_of}
 use Rattle.shelf_history.specs.Passes.{IsSeenBy}
@@ -42,12 +41,16 @@ pub record Views (D P L N : Type 0) : Type 1 where
   pub nonce : N → ℕ → ℕ
   pub shown : Option ℕ
 
+-- the most requests that a link may carry
+abbrev pub most_requests : ℕ
+most_requests = 1000
+
 abbrev pub views : {D P L N : Type 0} → (disk : D → View) → (told : Bool) → (link : L → LinkView) → (porch : P → PorchView L)
     → (nonce : N → ℕ → ℕ) → (shown : Option ℕ) → Views D P L N
 views disk told link porch nonce shown =
     record { disk = disk; told = told; link = link; porch = porch; nonce = nonce; shown = shown }
 
--- what a past told before a serving and tells behind it
+-- what a past told before a serving, and what it tells after it
 pub record Pasts : Type 0 where
   pub before : Option (List Kept)
   pub after : Option (List Kept)
@@ -55,24 +58,25 @@ pub record Pasts : Type 0 where
 abbrev pub pasts_of : (before after : Option (List Kept)) → Pasts
 pasts_of before after = record { before = before; after = after }
 
--- The worker of this number served the links of its porch, from a pass that had seen nothing of any shelf. What the pass has seen
--- at the end begins each shelf's history, and has all entries of the worker.
-pub record HasServed {D P L N : Type 0} (v : Views D P L N) (site : Site D N) (histories : List (List KeptEntry)) (number : ℕ)
+-- The worker of this number served the links of its porch, from a pass of the site, with a seat at each shelf, that had seen nothing
+-- of any. What the pass has seen at the end begins each shelf's history, and has all entries of the worker. A link carried so many
+-- requests at most: each has the entries and counts of one visit, and on the link stand their replies.
+pub record HasServed {D P L N : Type 0} (v : Views D P L N) (site : Site D N) (requests : ℕ) (histories : List (List KeptEntry)) (number : ℕ)
     (before after : Worker (Spots D N) P) : Type 0 where
-  pub new : IsNewPass number before.pass
-  pub works : WorksAs (site_rules v.disk v.told v.nonce site) v.link v.porch v.shown before after
+  pub first : IsFirstPass site number before.pass
+  pub works : WorksAs (site_rules v.disk v.told v.nonce site) v.link v.porch v.shown requests before after
   pub seen : (k : ℕ) (a : Spot (Opening D N) KeptEntry) (h : List KeptEntry) → slice_get after.pass k ≡ Some a → slice_get histories k ≡ Some h
       → IsSeenBy number (seen_by a.known) (entries_of h)
 
 -- Each worker served the links of the porch of its number, and counted this. The door closed the porches as they were left.
-pub record ServesPorches {D P L N : Type 0} (v : Views D P L N) (site : Site D N) (porches : List P) (left : DoorView P L) (kept : Kept)
+pub record ServesPorches {D P L N : Type 0} (v : Views D P L N) (site : Site D N) (requests : ℕ) (porches : List P) (left : DoorView P L) (kept : Kept)
     : Type 0 where
   pub before : List (Worker (Spots D N) P)
   pub after : List (Worker (Spots D N) P)
   pub had : porches_of before ≡ porches
   pub many : length after ≡ length before
   pub served : (number : ℕ) (a b : Worker (Spots D N) P) → slice_get before number ≡ Some a → slice_get after number ≡ Some b
-      → HasServed v site kept.histories number a b
+      → HasServed v site requests kept.histories number a b
   pub counted : tallies_of after ≡ kept.tallies
   pub closed : IfSome left.closed (λ kept. kept ≡ porches_of after)
 
@@ -84,7 +88,7 @@ pub record ServesDoor {D P L N : Type 0} (v : Views D P L N) (site : Site D N) (
   pub fresh : HaveNone v.porch porches
   pub none : All (λ p. (v.porch p).given ≡ 0) porches
   pub most : All (λ p. (v.porch p).most ≡ w.connections) porches
-  pub works : ServesPorches v site porches left kept
+  pub works : ServesPorches v site w.requests porches left kept
 
 -- what the shelves behind these locks were opened as
 abbrev pub openings_of : {O : Type 0} → List (Home O) → List O
@@ -99,7 +103,7 @@ pub record IsEnded {D N : Type 0} (disk : D → View) (told : Bool) (nonce : N �
   pub stands : StandsFor disk told nonce o d nonces (entries_of h)
   pub callers : (who : ℕ) → workers ≤ who → own_of who (entries_of h) ≡ []
 
--- so each of these shelves, in their order
+-- each of these shelves is ended, in their order: its disk stands for a book, and no caller but the workers has an entry
 abbrev pub AreEnded : {D N : Type 0} → (disk : D → View) → (told : Bool) → (nonce : N → ℕ → ℕ) → (workers : ℕ) → List (Opening D N) → List D
     → List (List KeptEntry) → Type 0
 AreEnded disk told nonce workers [] [] [] = ⊤
@@ -115,30 +119,31 @@ pub record IsManned {D N : Type 0} (site : Site D N) (workers : ℕ) (passes : L
 
 -- What is kept of the porches and of the shelves of a site. The pages that were counted are the publishes of the histories that
 -- were answered with a page.
-pub record LeavesAll {D P L N : Type 0} (v : Views D P L N) (site : Site D N) (porches : List P) (left : DoorView P L) (workers : ℕ) (disks : List D)
+pub record LeavesAll {D P L N : Type 0} (v : Views D P L N) (site : Site D N) (requests : ℕ) (porches : List P) (left : DoorView P L) (workers : ℕ) (disks : List D)
     (kept : Kept) : Type 0 where
-  pub works : ServesPorches v site porches left kept
+  pub works : ServesPorches v site requests porches left kept
   pub shelves : AreEnded v.disk v.told v.nonce workers (openings_of site.row.homes) disks kept.histories
   pub pages : (total kept.tallies).pages ≡ pages_of kept.histories
 
--- it was kept, once, and this is what was counted
-pub record EndsAs {D P L N : Type 0} (v : Views D P L N) (site : Site D N) (porches : List P) (left : DoorView P L) (past : Pasts) (workers : ℕ)
+-- what was served was kept in the past, once, and the tally has the counts of all workers and their end
+pub record EndsAs {D P L N : Type 0} (v : Views D P L N) (site : Site D N) (requests : ℕ) (porches : List P) (left : DoorView P L) (past : Pasts) (workers : ℕ)
     (disks : List D) (tally : Tally) : Type 0 where
   pub kept : Kept
   pub told : GainsLast past.before past.after kept
-  pub leaves : LeavesAll v site porches left workers disks kept
+  pub leaves : LeavesAll v site requests porches left workers disks kept
   pub count : count_of tally ≡ total kept.tallies
   pub end : tally.end ≡ end_of kept.tallies
 
--- what was served, and what was kept of it
+-- what was served, from a site of shelves with these openings, and what was kept of it
 pub record IsServed {D P L N : Type 0} (v : Views D P L N) (openings : List (Opening D N)) (door left : DoorView P L) (w : Watch) (disks : List D)
     (kept : Kept) : Type 0 where
   pub site : Site D N
+  pub homes : openings_of site.row.homes ≡ openings
   pub links : ServesDoor v site door left w kept
   pub shelves : AreEnded v.disk v.told v.nonce w.workers openings disks kept.histories
   pub pages : (total kept.tallies).pages ≡ pages_of kept.histories
 
--- it was kept, once; and it ended so
+-- what was served from these openings was kept in the past, once, and ended so
 pub record Leaves {D P L N : Type 0} (v : Views D P L N) (openings : List (Opening D N)) (door left : DoorView P L) (past : Pasts) (w : Watch)
     (disks : List D) (end : WorkEnd) (kept : Kept) : Type 0 where
   pub told : GainsLast past.before past.after kept

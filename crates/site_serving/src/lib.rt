@@ -1,4 +1,4 @@
-//! Links that are served from the shelves of a site by several workers, and the past that is kept of it.
+//! Links served from the shelves of a site by several workers, and what is kept of it: for `serve`.
 #![tactic(auto)]
 
 mod keeping;

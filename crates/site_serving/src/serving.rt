@@ -3,7 +3,7 @@ ghost use Rattle.std.specs.Prelude.{◌≡◌, ◌≤◌, ℕ, Some, length, sli
 ghost use Rattle.worker_threads.specs.Workers.{IsRoomFor};
 ghost use Rattle.site.specs.Beginnings.{IsReady, IsWhole, most_passes};
 ghost use Rattle.site.specs.Sites.{IsOwn};
-ghost use Rattle.site_serving.specs.Serving.{ComesTo, EndsAs, HasFailed, IsManned, fault_of, openings_of, pasts_of, views};
+ghost use Rattle.site_serving.specs.Serving.{ComesTo, EndsAs, HasFailed, IsManned, fault_of, most_requests, openings_of, pasts_of, views};
 
 use crate::keeping::Past;
 use request_workers::{Tally, WorkEnd};
@@ -24,6 +24,8 @@ pub struct Watch {
     pub workers: u32,
     /// The most links that each of them serves.
     pub connections: u64,
+    /// The most requests that each link carries, 1 to `request_workers::MOST_REQUESTS`.
+    pub requests: u32,
 }
 
 /// Why a serving came to no counts.
@@ -107,6 +109,7 @@ fn serve_porches<
     passes: Vec<SitePass<D, N>>,
     porches: Vec<A::Porch>,
     room: Room<SitePass<D, N>, A::Porch>,
+    requests: u32,
     door: &mut A,
     clock: &C,
     gate: &G,
@@ -122,11 +125,12 @@ where
     requires few { vec_len passes ≤ most_passes }
     requires pairs { vec_len porches ≡ vec_len passes }
     requires room { IsRoomFor (vec_len passes) room }
+    requires requests { (1 ≤ requests) × (requests ≤ most_requests) }
     ensures disks { length result.0.items ≡ length site.row.homes }
     ensures ends { EndsAs
         (views D.view D.tells A.Porch.Link.view A.Porch.view N.nonce (C.shows clock.now))
-        site porches.items (A.view door.new) (pasts_of (P.told past.old) (P.told past.new))
-        (vec_len passes) result.0.items result.1 }
+        site requests porches.items (A.view door.new)
+        (pasts_of (P.told past.old) (P.told past.new)) (vec_len passes) result.0.items result.1 }
     ensures failed { result.1.end ≡ WorkEnd.Failed → HasFailed (A.view door.old) (A.view door.new) }
     ensures later { (A.view door.old).faults ≤ (A.view door.new).faults }
 {
@@ -142,6 +146,7 @@ where
         room,
         clock,
         gate,
+        requests,
     );
     let tally = total(&tallies);
     // A count is below 2^64, so it does not fall where those of the porches are added.
@@ -154,7 +159,7 @@ where
 }
 
 /// Serves links of the door from the shelves of a site: each worker those of its own porch, in a thread of its own, until so
-/// many came as it may serve, or no more come. Where a porch fails its worker ends, and the others go on. Behind the last
+/// many came as it may serve, or no more come. A link carries so many requests at most, one behind the other. Where a porch fails its worker ends, and the others go on. Behind the last
 /// worker the site is closed, and its past is kept, once. It gives back the disks, with what was counted; an error is that of
 /// the door or of a porch, or want of memory before any link came.
 pub fn serve_site<
@@ -183,6 +188,7 @@ where
     requires ready { IsReady site }
     requires workers { (1 ≤ watch.now.workers) × (watch.now.workers ≤ most_passes) }
     requires links { watch.now.connections ≤ CONNECTION_LIMIT }
+    requires requests { (1 ≤ watch.now.requests) × (watch.now.requests ≤ most_requests) }
     ensures disks { length result.0.items ≡ length site.row.homes }
     ensures comes { ComesTo
         (views D.view D.tells A.Porch.Link.view A.Porch.view N.nonce (C.shows clock.now))
@@ -203,7 +209,17 @@ where
     match door.listen(alloc, watch.port, watch.workers, watch.connections) {
         Ok(porches) => {
             let (disks, tally) = serve_porches(
-                rt, alloc, site, passes, porches, room, door, clock, gate, past,
+                rt,
+                alloc,
+                site,
+                passes,
+                porches,
+                room,
+                watch.requests,
+                door,
+                clock,
+                gate,
+                past,
             );
             match tally.end {
                 WorkEnd::Done => (disks, Ok(tally)),

@@ -7,3 +7,5 @@ mod counter;
 mod links;
 #[cfg(test)]
 mod porches;
+#[cfg(test)]
+mod streams;

@@ -1,8 +1,8 @@
 use crate::counter::{Asked, Counter};
-use request_workers::{Served, serve_one};
+use request_workers::{Served, serve_link, serve_one};
 use std::alloc::Global;
 use std::test::Fail;
-use web_outside::{OpenGate, Sink, Source, TextLink, TextSink, TextSource, read_all};
+use web_outside::{OpenGate, SetClock, Sink, Source, TextLink, TextSink, TextSource, read_all};
 
 // A link that sends these bytes in pieces of at most so many, and takes so many.
 fn link(
@@ -108,6 +108,25 @@ fn a_link_is_served_whole_and_in_pieces(rt: HostRuntime) -> Result<(), Fail> {
             assert_eq!(rt; link.output.handed(), *written, "by {greatest}");
             let rest = rest(alloc, &mut link.input)?;
             assert_eq!(rt; rest.as_slice(), *behind, "by {greatest}");
+        }
+    }
+    Ok(())
+}
+
+#[test]
+fn a_link_that_may_carry_one_request_is_told_what_one_alone_is(
+    rt: HostRuntime,
+) -> Result<(), Fail> {
+    let alloc = rt.alloc();
+    for (sent, behind, _, written) in LINKS {
+        for greatest in [1, 2, 7, 100_000] {
+            let mut bytes = sent.to_vec(alloc)?;
+            bytes.extend_from_slice(behind)?;
+            let mut link = link(alloc, &bytes, greatest, &[], 1_000, &[])?;
+            let mut asked = Asked::nothing(alloc, 1);
+            let clock = SetClock::new(7);
+            let _links = serve_link(alloc, &Counter, &mut asked, &mut link, &clock, &OpenGate, 1);
+            assert_eq!(rt; link.output.handed(), *written, "by {greatest}");
         }
     }
     Ok(())

@@ -9,8 +9,10 @@ use web_outside::{
 
 const START: &[u8] = b"GET /servlets/ten HTTP/1.0\r\n\r\n";
 
-// What each link sends, which of its reads fails, and how many bytes it takes.
-const LINKS: &[(&[u8], &[u64], usize)] = &[
+// What a link sends, which of its reads fails, and how many bytes it takes.
+type Sending = (&'static [u8], &'static [u64], usize);
+
+const LINKS: &[Sending] = &[
     (START, &[], 1_000),
     (b"", &[], 1_000),
     (b"?", &[], 1_000),
@@ -20,9 +22,16 @@ const LINKS: &[(&[u8], &[u64], usize)] = &[
     (START, &[], 1_000),
 ];
 
-fn links(alloc: Global) -> Result<Vec<TextLink>, Fail> {
+// A link of two requests.
+const TWO: &[Sending] = &[(
+    b"GET /servlets/ten HTTP/1.1\nHost: h\n\nGET /servlets/ten HTTP/1.1\nHost: h\n\n",
+    &[],
+    1_000,
+)];
+
+fn links(alloc: Global, sending: &[Sending]) -> Result<Vec<TextLink>, Fail> {
     let mut links = Vec::new(alloc);
-    for (sent, reads, room) in LINKS {
+    for (sent, reads, room) in sending {
         links.push(TextLink {
             input: TextSource::new(sent.to_vec(alloc)?, reads.to_vec(alloc)?, 5),
             output: TextSink::new(alloc, *room, Vec::new(alloc))?,
@@ -44,14 +53,16 @@ fn tally(pages: u64, refused: u64, failed: u64, dropped: u64, end: WorkEnd) -> T
 #[test]
 fn a_worker_serves_its_links_and_counts(rt: HostRuntime) -> Result<(), Fail> {
     let alloc = rt.alloc();
-    let cases: &[(u64, &[u64], usize, Tally)] = &[
-        (10, &[], 10, tally(3, 1, 2, 0, WorkEnd::Done)),
-        (3, &[], 10, tally(1, 0, 0, 0, WorkEnd::Done)),
-        (10, &[5], 10, tally(2, 0, 2, 0, WorkEnd::Failed)),
-        (10, &[], 4, tally(1, 0, 1, 3, WorkEnd::Done)),
+    let cases: &[(&[Sending], u64, &[u64], usize, usize, Tally)] = &[
+        (LINKS, 10, &[], 10, 7, tally(3, 1, 2, 0, WorkEnd::Done)),
+        (LINKS, 3, &[], 10, 3, tally(1, 0, 0, 0, WorkEnd::Done)),
+        (LINKS, 10, &[5], 10, 5, tally(2, 0, 2, 0, WorkEnd::Failed)),
+        (LINKS, 10, &[], 4, 7, tally(1, 0, 1, 3, WorkEnd::Done)),
+        (TWO, 10, &[], 10, 3, tally(2, 0, 0, 0, WorkEnd::Done)),
+        (TWO, 10, &[], 1, 2, tally(1, 0, 0, 1, WorkEnd::Done)),
     ];
-    for (connections, failing, room, wanted) in cases {
-        let porch = ListPorch::new(alloc, links(alloc)?, failing.to_vec(alloc)?)?;
+    for (sending, connections, failing, room, ticks, wanted) in cases {
+        let porch = ListPorch::new(alloc, links(alloc, sending)?, failing.to_vec(alloc)?)?;
         let mut porches = Vec::new(alloc);
         porches.push(porch)?;
         let mut door = ListDoor::new(alloc, 80, porches, Vec::new(alloc));
@@ -62,10 +73,10 @@ fn a_worker_serves_its_links_and_counts(rt: HostRuntime) -> Result<(), Fail> {
         for porch in porches.iter_mut() {
             let clock = TickingClock::new(7, 3);
             let gate = NotingGate::new(alloc, 10)?;
-            let counted = work(alloc, &Counter, &mut asked, porch, &clock, &gate);
+            let counted = work(alloc, &Counter, &mut asked, porch, &clock, &gate, 100);
             assert_eq!(rt; counted, *wanted);
-            // The clock is read anew for each link, and each visit passes the gate.
-            assert_eq!(rt; asked.ticks.len(), porch.served().len());
+            // The clock is read anew for each request that is looked for, and each visit passes the gate.
+            assert_eq!(rt; asked.ticks.len(), *ticks);
             for (tick, wanted) in asked.ticks.iter().zip((0..10).map(|link| 7 + 3 * link)) {
                 assert_eq!(rt; *tick, wanted);
             }

@@ -19,7 +19,7 @@ abbrev pub end_with : WorkEnd → WorkEnd → WorkEnd
 end_with ends.Done later = later
 end_with ends.Failed later = ends.Failed
 
--- they ended as no more links came, or a porch failed
+-- how workers ended together: no more links came, or a porch failed
 abbrev pub end_of : List Tally → WorkEnd
 end_of [] = ends.Done
 end_of (t ∷ tallies) = end_with t.end (end_of tallies)

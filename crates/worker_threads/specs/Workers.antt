@@ -10,23 +10,25 @@ use Rattle.request_workers.specs.declared.tally.Tally.{Tally}
 use Rattle.worker_threads.specs.declared.worker.Room.{Room}
 use Rattle.worker_threads.specs.declared.worker.Worker.{Worker}
 
--- It served the links of its porch through its pass, to their end or until the porch failed, and has counted what came of them:
--- of each thing one a link at most, and a million links.
-pub record WorksAs {S P L : Type 0} (rules : PassRules S) (link : L → LinkView) (porch : P → PorchView L) (shown : Option ℕ)
+-- A worker served the links of its porch through its pass, to their end or until the porch failed, and has counted what came of them:
+-- of each thing a thousand a link at most, and a million links.
+pub record WorksAs {S P L : Type 0} (rules : PassRules S) (link : L → LinkView) (porch : P → PorchView L) (shown : Option ℕ) (requests : ℕ)
     (old new : Worker S P) : Type 0 where
-  pub worked : Worked rules link shown old.pass new.pass (porch old.porch) (porch new.porch) (count_of new.tally)
+  pub worked : Worked rules link shown requests old.pass new.pass (porch old.porch) (porch new.porch) (count_of new.tally)
   pub ended : EndsBy new.tally.end (porch old.porch) (porch new.porch)
-  pub small : IsBelow (count_of new.tally) 1000001
+  pub small : IsBelow (count_of new.tally) 1000000001
   pub most : (porch new.porch).most ≡ (porch old.porch).most
   pub later : (porch old.porch).faults ≤ (porch new.porch).faults
 
--- the passes of workers, their porches, and what they counted
+-- the passes of workers
 abbrev pub passes_of : {S P : Type 0} → List (Worker S P) → List S
 passes_of workers = map (λ w. w.pass) workers
 
+-- the porches of workers
 abbrev pub porches_of : {S P : Type 0} → List (Worker S P) → List P
 porches_of workers = map (λ w. w.porch) workers
 
+-- what workers counted
 abbrev pub tallies_of : {S P : Type 0} → List (Worker S P) → List Tally
 tallies_of workers = map (λ w. w.tally) workers
 
@@ -47,8 +49,8 @@ abbrev pub KeepRoom : {S P : Type 0} → Vec S → Vec P → Vec S → Vec P →
 KeepRoom passes porches passes_then porches_then =
     (vec_capacity passes_then ≡ vec_capacity passes) × (vec_capacity porches_then ≡ vec_capacity porches)
 
--- Each of the old passes served the links of the porch of its place. These are what the workers were before and behind.
-pub record AreServed {S P L : Type 0} (rules : PassRules S) (link : L → LinkView) (porch : P → PorchView L) (shown : Option ℕ)
+-- Each of the old passes served the links of the porch of its place, by the workers as they were before and after.
+pub record AreServed {S P L : Type 0} (rules : PassRules S) (link : L → LinkView) (porch : P → PorchView L) (shown : Option ℕ) (requests : ℕ)
     (old_passes : List S) (old_porches : List P) (passes : List S) (porches : List P) (tallies : List Tally) : Type 0 where
   pub before : List (Worker S P)
   pub after : List (Worker S P)
@@ -57,7 +59,7 @@ pub record AreServed {S P L : Type 0} (rules : PassRules S) (link : L → LinkVi
   pub has_passes : passes_of after ≡ passes
   pub has_porches : porches_of after ≡ porches
   pub counted : tallies_of after ≡ tallies
-  pub works : AllZip (WorksAs rules link porch shown) before after
+  pub works : AllZip (WorksAs rules link porch shown requests) before after
 
 -- there is room for so many workers and for what they count, and nothing is there yet
 pub record IsRoomFor {S P : Type 0} (count : ℕ) (room : Room S P) : Type 0 where

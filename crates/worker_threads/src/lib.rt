@@ -1,4 +1,4 @@
-//! Workers that serve links, each in a thread of its own, and what they count together.
+//! Workers, each in a thread of its own, and what they count together: for the serving of a site.
 #![tactic(auto)]
 
 mod crew;

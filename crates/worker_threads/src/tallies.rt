@@ -18,10 +18,10 @@ fn end_with(first: WorkEnd, later: WorkEnd) -> WorkEnd
 /// The sums of what was counted. Its end is a failure where one of the ends is.
 pub fn total(tallies: &[Tally]) -> Tally
     requires few { length tallies.now ≤ most_workers }
-    requires small { All (λ t. IsBelow (count_of t) 1000001) tallies.now }
+    requires small { All (λ t. IsBelow (count_of t) 1000000001) tallies.now }
     ensures count { count_of result ≡ total tallies.now }
     ensures end { result.end ≡ end_of tallies.now }
-    ensures bound { IsBelow (count_of result) (1000000 * length tallies.now + 1) }
+    ensures bound { IsBelow (count_of result) (1000000000 * length tallies.now + 1) }
 {
     match tallies {
         [] => Tally::nothing(),

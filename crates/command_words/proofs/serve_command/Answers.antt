@@ -11,10 +11,12 @@ returns-clause-app c =
     let shared = c.in_ok-with_options.ensures.app ∙ ap (λ (a : App). with_rules a (map rule_for play_items)) c.new.ensures.app in
     let one = one_more _ _ _ _ _ c.in_ok-arg.ensures shared c.port_arg.ensures.local c.port_arg.ensures.rule in
     let two = one_more _ _ _ _ _ c.in_ok-arg-2.ensures one c.connections_arg.ensures.local c.connections_arg.ensures.rule in
-    IfOk-weaker c.arg-3.result _ _ (λ r h. ap (λ (a : App). a.top) (one_more _ _ _ _ _ h two c.workers_arg.ensures.local c.workers_arg.ensures.rule)) c.arg-3.ensures
+    let three = one_more _ _ _ _ _ c.in_ok-arg-3.ensures two c.workers_arg.ensures.local c.workers_arg.ensures.rule in
+    IfOk-weaker c.arg-4.result _ _ (λ r h. ap (λ (a : App). a.top) (one_more _ _ _ _ _ h three c.requests_arg.ensures.local c.requests_arg.ensures.rule)) c.arg-4.ensures
 
 pub returns-clause-local : goal.returns-clause-local
 returns-clause-local c =
     let one = stays_local _ _ _ c.in_ok-arg.ensures (c.in_ok-with_options.ensures.local c.new.ensures.local) c.port_arg.ensures.local in
     let two = stays_local _ _ _ c.in_ok-arg-2.ensures one c.connections_arg.ensures.local in
-    IfOk-weaker c.arg-3.result _ _ (λ r h. stays_local _ _ _ h two c.workers_arg.ensures.local) c.arg-3.ensures
+    let three = stays_local _ _ _ c.in_ok-arg-3.ensures two c.workers_arg.ensures.local in
+    IfOk-weaker c.arg-4.result _ _ (λ r h. stays_local _ _ _ h three c.requests_arg.ensures.local) c.arg-4.ensures

@@ -1,6 +1,6 @@
 use Rattle.std.proofs.Common.{rules, ◌≡◌, ap, arith, Err}
 use Rattle.server_limits.specs.Limits.{most_connections}
-use Rattle.command_words.specs.Options.{most_workers}
+use Rattle.command_words.specs.Options.{most_requests, most_workers}
 use Rattle.command_words.proofs.Reading.{same_error}
 use Rattle.command_words.proofs.service_of.Goals as goal
 
@@ -17,3 +17,6 @@ returns-in_err-number-clause-refused c = λ usage held. c.in_err-number.ensures.
 
 pub returns-in_err-short_number-clause-refused : goal.returns-in_err-short_number-clause-refused
 returns-in_err-short_number-clause-refused c = λ usage held. c.in_err-short_number.ensures.refused 1 most_workers (omega arith) held.1.1.1.1.1.1.1.1.0
+
+pub returns-in_err-short_number-2-clause-refused : goal.returns-in_err-short_number-2-clause-refused
+returns-in_err-short_number-2-clause-refused c = λ usage held. c.in_err-short_number-2.ensures.refused 1 most_requests (omega arith) held.1.1.1.1.1.1.1.1.1.0

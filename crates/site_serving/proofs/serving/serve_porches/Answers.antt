@@ -66,15 +66,15 @@ pub total-tally-requires-clause-few : goal.total-tally-requires-clause-few
 total-tally-requires-clause-few g c =
     let tallies = c.serve_all-tallies.result.items in
     let value : length c.deref.result.now ≡ length tallies = ap length c.deref.ensures.value in
-    let many : length tallies ≡ length c.args.passes.items = as_many _ _ _ _ _ _ _ _ _ c.serve_all-tallies.ensures.served in
+    let many : length tallies ≡ length c.args.passes.items = as_many _ _ _ _ _ _ _ _ _ _ c.serve_all-tallies.ensures.served in
     let size : length c.args.passes.items ≡ vec_len c.args.passes = c.requires.manned.many in
     let few = c.requires.few in
     omega (arith, value, many, size, few)
 
 pub total-tally-requires-clause-small : goal.total-tally-requires-clause-small
 total-tally-requires-clause-small g c =
-    subst (λ ts. (k : ℕ) (d : Tally) → k < length ts → IsBelow (count_of (get_or ts k d)) 1000001) (sym c.deref.ensures.value)
-    (all_small _ _ _ _ _ _ _ _ _ c.serve_all-tallies.ensures.served)
+    subst (λ ts. (k : ℕ) (d : Tally) → k < length ts → IsBelow (count_of (get_or ts k d)) 1000000001) (sym c.deref.ensures.value)
+    (all_small _ _ _ _ _ _ _ _ _ _ c.serve_all-tallies.ensures.served)
 
 pub returns-clause-ends : goal.returns-clause-ends
 returns-clause-ends g c =
@@ -85,7 +85,7 @@ returns-clause-ends g c =
     record {
       kept = kept_of histories tallies;
       told = c.keep.ensures;
-      leaves = leaves_all v c.args.site c.args.passes.items c.args.porches.items c.serve_all-tallies.new.passes.items c.serve_all-tallies.new.porches.items tallies
+      leaves = leaves_all v c.args.site c.args.requests c.args.passes.items c.args.porches.items c.serve_all-tallies.new.passes.items c.serve_all-tallies.new.porches.items tallies
           c.close-disks.result.0.items c.close-disks.result.1.items histories (g.A.Door.view c.close.new.self) (vec_len c.args.passes)
           (record {
             served = c.serve_all-tallies.ensures.served;
@@ -103,6 +103,6 @@ pub returns-clause-failed : goal.returns-clause-failed
 returns-clause-failed g c = λ failed.
     let faults = (g.A.Door.view c.args.door.now).faults in
     let value = c.deref.ensures.value in
-    door_rose _ _ _ _ c.args.passes.items c.args.porches.items c.serve_all-tallies.new.passes.items c.serve_all-tallies.new.porches.items
+    door_rose _ _ _ _ _ c.args.passes.items c.args.porches.items c.serve_all-tallies.new.passes.items c.serve_all-tallies.new.porches.items
     c.serve_all-tallies.result.items faults faults (g.A.Door.view c.close.new.self).faults c.serve_all-tallies.ensures.served
     (sym (c.total-tally.ensures.end ∙ ap end_of value) ∙ failed) (omega arith) c.close.ensures.faults
