@@ -4,7 +4,7 @@ use Rattle.web_outside.specs.Causes.{Rose}
 use Rattle.web_disk.specs.View.{View}
 use Rattle.file_disk.specs.declared.file.FileDisk.{FileDisk}
 
--- nothing of bytes: a count of faults, and so much room
+-- a view that tells no bytes: a count of faults, and so much room
 abbrev pub untold : (faults ready end left : ℕ) → View
 untold faults ready end left = record {
   seen = [];
@@ -17,11 +17,11 @@ untold faults ready end left = record {
   left = left;
 }
 
--- a file always has room
+-- the view of a file, which always has room
 abbrev pub file_view : {F : Type 0} → FileDisk F → View
 file_view disk = untold disk.faults 8 (2 ^ 64 - 1) (2 ^ 64 - 1)
 
--- the count behind a call: one more where it failed, up to the type's end
+-- the count of faults after a call: one more where it failed, up to the type's end
 abbrev pub faults_after : {T E : Type 0} → Result T E → ℕ → ℕ
 faults_after (Ok x) faults = faults
 faults_after (Err e) faults = min (faults + 1) (2 ^ 64 - 1)

@@ -5,7 +5,7 @@ use Rattle.web_disk.specs.Disks.{memory_view}
 use Rattle.file_disk.specs.declared.memory_file.MemoryFile.{MemoryFile}
 use Rattle.file_disk.specs.Files.{untold}
 
--- its count of faults, with the calls that were refused
+-- the count of faults of a disk that is called as a file is, with the calls that were refused
 abbrev pub faults_of : MemoryFile → ℕ
 faults_of file = min ((memory_view file.disk).faults + file.refused) (2 ^ 64 - 1)
 

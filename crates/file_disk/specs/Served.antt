@@ -10,11 +10,12 @@ abbrev pub served_view : {R : Type 0} → ServedDisk R → View
 served_view (Memory disk) = memory_file_view disk
 served_view (File file) = file_view file.disk
 
--- it tells no images
+-- a disk that a program is given tells no images
 pub no_image : {R : Type 0} (disk : ServedDisk R) (image : List ℕ) → (served_view disk).images image → ⊥
 no_image (Memory disk) image left = left
 no_image (File file) image left = left
 
+-- a disk that a program is given tells no images of any moment
 pub no_moment : {R : Type 0} (disk : ServedDisk R) (t : ℕ) (image : List ℕ) → (served_view disk).since t image → ⊥
 no_moment (Memory disk) t image left = left
 no_moment (File file) t image left = left

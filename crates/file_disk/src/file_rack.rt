@@ -10,7 +10,7 @@ use std::alloc::Global;
 use std::fs::{File, Files};
 use web_disk::{Disk, Rack, RackFault};
 
-/// Disks that are files: that of number N is the file `shelf-N` of the directory. A file is held by one process alone. Where one is not taken, the reason is told on the standard error.
+/// Disks that are files: that of number N is the file `shelf-N` of the directory. A file is held by one process alone. Where one is not taken, the reason is told on the standard error, and where others than its owner may use a file, that is told too.
 #[derive(Drop)]
 pub struct FileRack<'r, R> {
     rt: &'r R,
@@ -48,9 +48,12 @@ pub fn take_file<R: Files<File = File> + Eprint>(
     lending.reserve()?;
     let path = format!(in alloc; "{directory}/shelf-{number}")?;
     match open_alone(rt, directory, path.as_str()) {
-        Ok(file) => {
+        Ok(opened) => {
+            if opened.shared {
+                let _ = eprintln!(rt; "hovgyelit: {path}: others than its owner may use it");
+            }
             lending.lend(number);
-            Ok(FileDisk::new(file))
+            Ok(FileDisk::new(opened.file))
         }
         Err(Refusal::Memory) => Err(RackFault::Memory),
         Err(refusal) => {

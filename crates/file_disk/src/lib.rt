@@ -1,4 +1,4 @@
-//! Disks that are files, the racks that they are taken from, and which of them a program is given: files of a folder, or disks in memory.
+//! Disks that are files of a folder, and the racks that they are taken from: for the program.
 #![tactic(auto)]
 
 mod file;
@@ -16,6 +16,7 @@ pub use file::FileDisk;
 pub use file_rack::FileRack;
 pub use memory_file::MemoryFile;
 pub use memory_shelves::MOST_MEMORY_DISKS;
+pub use open::Refusal;
 pub use served::ServedDisk;
 pub use served_rack::{MEMORY, ServedRack};
 pub use watched::WatchedFile;

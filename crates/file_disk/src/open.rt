@@ -1,13 +1,19 @@
 // Opening the file of a disk.
 use std::alloc::AllocError;
-use std::fs::{self, File, Files, TryLockError};
+use std::fs::{self, DirBuilder, File, Files, TryLockError};
 use std::io::{self, ErrorKind};
-use std::os::unix::fs::OpenOptionsExt;
+use std::os::unix::fs::{DirBuilderExt, MetadataExt, OpenOptionsExt};
 use std::path::Path;
 use thiserror::Error;
 
 // A file that is made may be read and written by its owner, and by nobody else.
 const OWNER_ALONE: u32 = 0o600;
+
+// Nor may anybody else look into a folder that is made.
+const OWNERS_FOLDER: u32 = 0o700;
+
+// What others than its owner may do with a file.
+const OTHERS: u32 = 0o077;
 
 /// Why a file does not serve as a disk.
 #[derive(Debug, Drop, Error)]
@@ -41,13 +47,22 @@ impl From<AllocError> for Refusal {
     }
 }
 
-// Takes the lock of a file, which is held as long as the file is open.
-fn lock(file: &File) -> Result<(), Refusal> {
-    match file.try_lock() {
-        Ok(()) => Ok(()),
-        Err(TryLockError::WouldBlock) => Err(Refusal::Busy),
-        Err(TryLockError::Error(fault)) => Err(Refusal::from(fault)),
+impl From<TryLockError> for Refusal {
+    fn from(fault: TryLockError) -> Refusal {
+        match fault {
+            TryLockError::WouldBlock => Refusal::Busy,
+            TryLockError::Error(fault) => Refusal::from(fault),
+        }
     }
+}
+
+/// A file that was opened.
+#[derive(Drop)]
+pub struct Opened {
+    /// The file.
+    pub file: File,
+    /// Whether others than its owner may read or write it.
+    pub shared: bool,
 }
 
 // Puts the entries of a folder on the device, where its file system has such a call.
@@ -75,27 +90,37 @@ fn count_missing<R: Files>(rt: &R, folder: Path<'_>) -> io::Result<usize> {
     Ok(count)
 }
 
-/// Opens the file at a path in a folder, for reading and writing, and keeps others from it. The folder, those that it lies in and the file are made where they are not there; a file that is there keeps its bytes. The entries of what was made are on the device.
+// Makes a folder and those that it lies in, where they are not there.
+fn make_folder<R: Files>(rt: &R, folder: Path<'_>) -> io::Result<()> {
+    let mut builder = DirBuilder::new();
+    builder.recursive(true).mode(OWNERS_FOLDER);
+    builder.create(rt, folder)
+}
+
+/// Opens the file at a path in a folder, for reading and writing, and keeps others from it. The folder, those that it lies in and the file are made where they are not there, for their owner alone; a file that is there keeps its bytes. The entries of what was made are on the device.
 pub fn open_alone<R: Files<File = File>>(
     rt: &R,
     folder: &str,
     path: &str,
-) -> Result<File, Refusal> {
+) -> Result<Opened, Refusal> {
     let folder = Path::new(folder);
     let missing = count_missing(rt, folder)?;
-    fs::create_dir_all(rt, folder)?;
+    make_folder(rt, folder)?;
     let file = File::options()
         .read(true)
         .write(true)
         .create(true)
         .mode(OWNER_ALONE)
         .open(rt, path)?;
-    if !file.metadata()?.is_file() {
+    let metadata = file.metadata()?;
+    if !metadata.is_file() {
         return Err(Refusal::NoFile);
     }
-    lock(&file)?;
+    // The lock is held as long as the file is open.
+    file.try_lock()?;
     for place in folder.ancestors().take(missing.saturating_add(1)) {
         sync_folder(rt, place)?;
     }
-    Ok(file)
+    let shared = metadata.mode() & OTHERS != 0;
+    Ok(Opened { file, shared })
 }

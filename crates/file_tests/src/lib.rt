@@ -6,4 +6,6 @@ mod calls;
 #[cfg(test)]
 mod files;
 #[cfg(test)]
+mod folders;
+#[cfg(test)]
 mod served;

@@ -20,7 +20,7 @@ link_view link = record {
   output = together_view (writing_view (λ _. None)) link.output;
 }
 
--- nor are links told
+-- a porch of sockets tells no links
 abbrev pub porch_view : {R L : Type 0} → SocketPorch R → PorchView L
 porch_view porch = record {
   coming = None;

@@ -59,12 +59,14 @@ impl<W: Write> Sink for Writing<W> {
     }
 
     fn flush(&mut self) -> Result<(), Failed> {
-        match self.inner.flush() {
-            Ok(()) => Ok(()),
-            Err(_) => {
-                self.count = self.count.saturating_add(1);
-                Err(Failed)
+        'tries: for _ in 0..u64::MAX {
+            match self.inner.flush() {
+                Ok(()) => return Ok(()),
+                Err(fault) if fault.kind() == ErrorKind::Interrupted => {}
+                Err(_) => break 'tries,
             }
         }
+        self.count = self.count.saturating_add(1);
+        Err(Failed)
     }
 }

@@ -3,10 +3,12 @@ ghost use Rattle.std.specs.Prelude.{◌≡◌, ◌≤◌, ◌+◌, ◌-◌, ◌^
 ghost use Rattle.machine_outside.specs.Sockets.{IsOpened};
 
 use crate::line::Patience;
+use crate::lobby::Lobby;
 use crate::porch::SocketPorch;
-use std::alloc::Global;
+use std::alloc::{AllocError, Global};
 use std::io;
 use std::net::{Ipv4Addr, Net, TcpListener, TcpStream};
+use std::sync::Arc;
 use std::time::Clock;
 use web_outside::{CONNECTION_LIMIT, Door, DoorFault, Porch};
 
@@ -37,34 +39,27 @@ where
     fn porches_of(
         &self,
         alloc: Global,
-        listener: &TcpListener,
+        listener: TcpListener,
         workers: u32,
         connections: u64,
-    ) -> Result<Vec<SocketPorch<'r, R>>, DoorFault>
+    ) -> Result<Vec<SocketPorch<'r, R>>, AllocError>
         requires { connections ≤ CONNECTION_LIMIT }
         ensures count { IfOk result (λ porches. vec_len porches ≡ workers) }
         ensures opened { IfOk result (λ porches. All (IsOpened connections) porches.items) }
     {
+        let lobby = Arc::new(alloc, Lobby::new(listener))?;
         let mut porches = Vec::new(alloc);
         for _ in 0..workers {
-            let listener = match listener.try_clone() {
-                Ok(listener) => listener,
-                Err(fault) => {
-                    let _ = eprintln!(self.rt; "cannot share the listener: {fault}");
-                    return Err(DoorFault::Failed);
-                }
-            };
-            let porch = SocketPorch::new(self.rt, alloc, listener, self.patience, connections);
-            if porches.push(porch).is_err() {
-                return Err(DoorFault::Memory);
-            }
+            let lobby = lobby.clone()?;
+            let porch = SocketPorch::new(self.rt, alloc, lobby, self.patience, connections);
+            porches.push(porch)?;
         }
         Ok(porches)
     }
 }
 
 // The faults of the porches, up to the type's end.
-fn faults_of<R: Clock + Eprint>(porches: &[SocketPorch<'_, R>]) -> u64
+fn faults_of<R: Clock + Eprint + Net>(porches: &[SocketPorch<'_, R>]) -> u64
     ensures { result ≡ min (sum_by (λ porch. porch.faults) porches.now) (2 ^ 64 - 1) }
 {
     match porches {
@@ -92,17 +87,18 @@ where
         workers: u32,
         connections: u64,
     ) -> Result<Vec<SocketPorch<'r, R>>, DoorFault> {
-        let porches = match listener_at(self.rt, port) {
-            Ok(listener) => self.porches_of(alloc, &listener, workers, connections),
+        let listener = match listener_at(self.rt, port) {
+            Ok(listener) => listener,
             Err(fault) => {
                 let _ = eprintln!(self.rt; "cannot listen on port {port}: {fault}");
-                Err(DoorFault::Failed)
+                self.faults = self.faults.saturating_add(1);
+                return Err(DoorFault::Failed);
             }
         };
-        if let Err(DoorFault::Failed) = porches {
-            self.faults = self.faults.saturating_add(1);
+        match self.porches_of(alloc, listener, workers, connections) {
+            Ok(porches) => Ok(porches),
+            Err(_) => Err(DoorFault::Memory),
         }
-        porches
     }
 
     fn close(&mut self, porches: Vec<SocketPorch<'r, R>>)

@@ -1,112 +1,120 @@
-// A connection, which is waited for no longer than it has time.
+// A connection, which is waited for no longer than its requests have time.
+use crate::course::{Course, Stage};
+use crate::lobby::Lobby;
 use std::alloc::Global;
 use std::io::{self, ErrorKind, Read, Write};
-use std::net::{Shutdown, TcpStream};
-use std::sync::{Arc, OnceLock};
+use std::net::{Net, Shutdown, TcpListener, TcpStream};
+use std::sync::Arc;
+use std::sync::atomic::{AtomicBool, Ordering};
 use std::time::{Clock, Duration, Instant};
 
-// What still comes at the end of a line is read and dropped so often, and each time for at most so many milliseconds.
-const LAST_READS: u32 = 10;
+// So many milliseconds a call of the socket waits at most. Then the times are looked at.
+const TICK: u64 = 10;
+
+// What still comes at the end of a line is read and dropped, for so many seconds and bytes at most, and as long as no so
+// many milliseconds pass without a byte.
+const LAST_SECONDS: u64 = 5;
+
+const LAST_BYTES: usize = 16_777_216;
 
 const LAST_WAIT: u64 = 100;
 
-/// How long a line may take, whatever trickles.
+/// How long each part of a request may take, whatever trickles.
 #[derive(Clone, Copy, Debug, PartialEq, Eq)]
 pub struct Patience {
-    /// From its acceptance to the end of its head.
+    /// From its first byte to the end of its head; of the first request from the link's acceptance.
     pub head: Duration,
-    /// From there on, for all that is read and written.
-    pub rest: Duration,
+    /// For its body.
+    pub body: Duration,
+    /// For its reply, from the reply's first byte.
+    pub reply: Duration,
+    /// How long nothing may come between two requests.
+    pub idle: Duration,
 }
 
-/// A socket, and the moment at which it is given up.
+/// A socket of a listener.
 #[derive(Drop)]
 pub struct Line<C> {
-    clock: C,
+    rt: C,
+    alloc: Global,
     socket: TcpStream,
-    rest: Duration,
-    // When the wait for the end of its head is over; and the wait for all behind it, once it has ended.
-    until: Instant,
-    later: OnceLock<Instant>,
+    lobby: Arc<Lobby<TcpListener>>,
+    patience: Patience,
+    // A reply was sent since the last read.
+    replied: AtomicBool,
+    // Nothing comes any more that has to be read before the end.
+    ended: AtomicBool,
 }
 
-// The moment that lies so far ahead.
-fn moment_in<C: Clock>(clock: &C, time: Duration) -> io::Result<Instant> {
-    match Instant::now(clock)?.checked_add(time) {
-        Some(moment) => Ok(moment),
-        None => Err(io::Error::from(ErrorKind::InvalidInput)),
-    }
-}
-
-impl<C: Clock + Drop> Line<C> {
-    /// A line of which nothing was read yet. Its first time begins.
-    pub fn new(clock: C, socket: TcpStream, patience: Patience) -> io::Result<Line<C>> {
+impl<C: Clock + Net + Drop> Line<C> {
+    /// A line of which nothing was read yet.
+    pub fn new(
+        rt: C,
+        alloc: Global,
+        socket: TcpStream,
+        lobby: Arc<Lobby<TcpListener>>,
+        patience: Patience,
+    ) -> io::Result<Line<C>> {
+        let tick = Some(Duration::from_millis(TICK));
         socket.set_nodelay(true)?;
-        let until = moment_in(&clock, patience.head)?;
+        socket.set_read_timeout(tick)?;
+        socket.set_write_timeout(tick)?;
         Ok(Line {
-            clock,
+            rt,
+            alloc,
             socket,
-            rest: patience.rest,
-            until,
-            later: OnceLock::new(),
+            lobby,
+            patience,
+            replied: AtomicBool::new(false),
+            ended: AtomicBool::new(false),
         })
     }
 
-    // The head has ended, or is waited for no more: the second time begins, unless it did before.
-    fn end_head(&self) -> io::Result<()> {
-        if self.later.get().is_none() {
-            let _ = self.later.try_set(moment_in(&self.clock, self.rest)?);
-        }
-        Ok(())
+    /// The moment on its clock.
+    pub fn now(&self) -> io::Result<Instant> {
+        Instant::now(&self.rt)
     }
 
-    // The time that is left, which is not nothing.
-    fn left(&self) -> io::Result<Duration> {
-        let until = self.later.get().copied().unwrap_or(self.until);
-        let left = until.duration_since(Instant::now(&self.clock)?);
-        if left.is_zero() {
+    // Whether so long a time is over that began then.
+    fn is_over(&self, begun: Instant, time: Duration) -> io::Result<bool> {
+        Ok(begun.elapsed(&self.rt)? >= time)
+    }
+
+    // Fails where such a time is over.
+    fn check(&self, begun: Instant, time: Duration) -> io::Result<()> {
+        if self.is_over(begun, time)? {
             return Err(io::Error::from(ErrorKind::TimedOut));
         }
-        Ok(left)
+        Ok(())
     }
 
     /// Ends the line so that what was written reaches the other side even if that is still sending.
     pub fn close_gently(&self) -> io::Result<()> {
+        if self.ended.load(Ordering::SeqCst) {
+            return Ok(());
+        }
         self.socket.shutdown(Shutdown::Write)?;
-        self.socket
-            .set_read_timeout(Some(Duration::from_millis(LAST_WAIT)))?;
+        let wait = Duration::from_millis(LAST_WAIT);
+        self.socket.set_read_timeout(Some(wait))?;
+        let begun = self.now()?;
         let mut rest = [0u8; 16_384];
-        for _ in 0..LAST_READS {
-            if (&mut &self.socket).read(&mut rest)? == 0 {
+        let mut left = LAST_BYTES;
+        while left > 0 {
+            let count = (&mut &self.socket).read(&mut rest)?;
+            if count == 0 || self.is_over(begun, Duration::from_secs(LAST_SECONDS))? {
                 break;
             }
+            left = left.saturating_sub(count);
         }
         Ok(())
     }
 }
 
-/// How far a head has come: it ends with the first empty line behind a line.
-#[derive(Clone, Copy, Debug, PartialEq, Eq)]
-enum Head {
-    /// Nothing but empty lines.
-    Blank,
-    /// A part of a line.
-    InLine,
-    /// The end of a line.
-    LineEnd,
-    /// Its end.
-    Ended,
-}
-
-impl Head {
-    // How far it has come with one more byte.
-    fn with(self, byte: u8) -> Head {
-        match (self, byte) {
-            (Head::Ended, _) | (Head::LineEnd, b'\n') => Head::Ended,
-            (Head::InLine, b'\n') => Head::LineEnd,
-            (Head::Blank | Head::LineEnd, b'\r') | (Head::Blank, b'\n') => self,
-            _ => Head::InLine,
-        }
+// Whether a call of the socket waited for its time, and found nothing.
+fn found_nothing<T>(outcome: &io::Result<T>) -> bool {
+    match outcome {
+        Err(fault) => fault.kind() == ErrorKind::WouldBlock,
+        Ok(_) => false,
     }
 }
 
@@ -114,31 +122,91 @@ impl Head {
 #[derive(Drop)]
 pub struct Heard<C> {
     line: Arc<Line<C>>,
-    head: Head,
+    course: Course,
+    // What is waited for, and since when.
+    stage: Stage,
+    begun: Instant,
 }
 
-impl<C: Clock + Drop> Heard<C> {
-    /// Nothing was read yet.
-    pub fn new(line: Arc<Line<C>>) -> Heard<C> {
-        Heard {
+impl<C: Clock + Net + Drop> Heard<C> {
+    /// Nothing was read yet. The first head is waited for from now on.
+    pub fn new(line: Arc<Line<C>>) -> io::Result<Heard<C>> {
+        let begun = line.now()?;
+        let course = Course::new(line.alloc);
+        Ok(Heard {
             line,
-            head: Head::Blank,
+            course,
+            stage: Stage::Head,
+            begun,
+        })
+    }
+
+    // How long it is waited for.
+    fn time(&self) -> Duration {
+        let patience = self.line.patience;
+        match self.stage {
+            Stage::Between => patience.idle,
+            Stage::Head => patience.head,
+            Stage::Body => patience.body,
         }
+    }
+
+    // Another stage is waited for from now on.
+    fn begin(&mut self) -> io::Result<()> {
+        self.stage = self.course.stage();
+        self.begun = self.line.now()?;
+        Ok(())
+    }
+
+    // Fails where the time of a request is over.
+    fn check(&self) -> io::Result<()> {
+        if self.stage == Stage::Between {
+            return Ok(());
+        }
+        self.line.check(self.begun, self.time())
+    }
+
+    // Whether the line is to end since it is idle.
+    fn yields(&self) -> io::Result<bool> {
+        let line = &*self.line;
+        if self.stage != Stage::Between {
+            return Ok(false);
+        }
+        Ok(line.lobby.is_pressed(&line.rt, line.alloc) || line.is_over(self.begun, self.time())?)
+    }
+
+    // These bytes came.
+    fn pass(&mut self, bytes: &[u8]) -> io::Result<()> {
+        self.course.pass(bytes)?;
+        if bytes.is_empty() {
+            self.line.ended.store(true, Ordering::SeqCst);
+        } else if self.course.stage() != self.stage {
+            self.begin()?;
+        }
+        Ok(())
     }
 }
 
-impl<C: Clock + Drop> Read for Heard<C> {
+impl<C: Clock + Net + Drop> Read for Heard<C> {
+    // Between two requests the end comes also where another connection is pressing, or nothing came for long.
     fn read(&mut self, buf: &mut [u8]) -> io::Result<usize> {
-        let line = &*self.line;
-        line.socket.set_read_timeout(Some(line.left()?))?;
-        let count = (&mut &line.socket).read(buf)?;
-        for byte in &buf[..count] {
-            self.head = self.head.with(*byte);
+        if self.line.replied.swap(false, Ordering::SeqCst) {
+            self.begin()?;
         }
-        if self.head == Head::Ended {
-            line.end_head()?;
+        for _ in 0..u64::MAX {
+            self.check()?;
+            let outcome = (&mut &self.line.socket).read(buf);
+            if !found_nothing(&outcome) {
+                let count = outcome?;
+                self.pass(&buf[..count])?;
+                return Ok(count);
+            }
+            if self.yields()? {
+                self.line.ended.store(true, Ordering::SeqCst);
+                return Ok(0);
+            }
         }
-        Ok(count)
+        Err(io::Error::from(ErrorKind::TimedOut))
     }
 }
 
@@ -146,24 +214,45 @@ impl<C: Clock + Drop> Read for Heard<C> {
 #[derive(Drop)]
 pub struct Told<C> {
     line: Arc<Line<C>>,
+    // When the reply began that is being sent.
+    begun: Option<Instant>,
 }
 
-impl<C: Clock + Drop> Told<C> {
+impl<C: Clock + Net + Drop> Told<C> {
     /// Nothing was written yet.
     pub fn new(line: Arc<Line<C>>) -> Told<C> {
-        Told { line }
+        Told { line, begun: None }
+    }
+
+    // When the reply began, which is now where it did not before.
+    fn beginning(&mut self) -> io::Result<Instant> {
+        let begun = match self.begun {
+            Some(begun) => begun,
+            None => self.line.now()?,
+        };
+        self.begun = Some(begun);
+        Ok(begun)
     }
 }
 
-impl<C: Clock + Drop> Write for Told<C> {
+impl<C: Clock + Net + Drop> Write for Told<C> {
     fn write(&mut self, piece: &[u8]) -> io::Result<usize> {
+        let begun = self.beginning()?;
         let line = &*self.line;
-        line.end_head()?;
-        line.socket.set_write_timeout(Some(line.left()?))?;
-        (&mut &line.socket).write(piece)
+        for _ in 0..u64::MAX {
+            line.check(begun, line.patience.reply)?;
+            let outcome = (&mut &line.socket).write(piece);
+            if !found_nothing(&outcome) {
+                return outcome;
+            }
+        }
+        Err(io::Error::from(ErrorKind::TimedOut))
     }
 
+    // The reply was sent.
     fn flush(&mut self) -> io::Result<()> {
+        self.begun = None;
+        self.line.replied.store(true, Ordering::SeqCst);
         Ok(())
     }
 }

@@ -5,9 +5,10 @@ ghost use Rattle.machine_outside.specs.Sockets.{link_view};
 use crate::adapters::{Reading, Writing};
 use crate::buffers::{ReadAhead, Together};
 use crate::line::{Heard, Line, Patience, Told};
+use crate::lobby::Lobby;
 use std::alloc::Global;
 use std::io;
-use std::net::TcpStream;
+use std::net::{Net, TcpListener, TcpStream};
 use std::sync::Arc;
 use std::time::Clock;
 use web_outside::Link;
@@ -26,7 +27,7 @@ pub struct SocketLink<C> {
     line: Arc<Line<C>>,
 }
 
-impl<C: Clock + Drop> Link for SocketLink<C> {
+impl<C: Clock + Net + Drop> Link for SocketLink<C> {
     type Input = Hearing<C>;
 
     type Output = Telling<C>;
@@ -50,17 +51,19 @@ impl<C: Clock + Drop> Link for SocketLink<C> {
     ghost output_set = { λ _ _. refl };
 }
 
-impl<C: Clock + Drop> SocketLink<C> {
+impl<C: Clock + Net + Drop> SocketLink<C> {
     /// A link over a socket that was accepted just now.
     pub fn new(
-        clock: C,
+        rt: C,
         alloc: Global,
         socket: TcpStream,
+        lobby: Arc<Lobby<TcpListener>>,
         patience: Patience,
     ) -> io::Result<SocketLink<C>> {
-        let line = Arc::new(alloc, Line::new(clock, socket, patience)?)?;
+        let line = Line::new(rt, alloc, socket, lobby, patience)?;
+        let line = Arc::new(alloc, line)?;
         let input = Reading {
-            inner: Heard::new(line.clone()?),
+            inner: Heard::new(line.clone()?)?,
             count: 0,
         };
         let output = Writing {

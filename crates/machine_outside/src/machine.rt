@@ -94,7 +94,7 @@ fn sources_of(alloc: Global, key: [u8; 32], count: u32) -> Result<Vec<StreamNonc
     Ok(sources)
 }
 
-impl<R: Files> Seeds<StreamNonces> for MachineSeeds<'_, R> {
+impl<R: Files + Eprint> Seeds<StreamNonces> for MachineSeeds<'_, R> {
     ghost view = { λ s. record { gives = λ _. None; faults = s.faults } };
 
     fn faults(&self) -> u64 {
@@ -104,7 +104,8 @@ impl<R: Files> Seeds<StreamNonces> for MachineSeeds<'_, R> {
     fn draw(&mut self, alloc: Global, count: u32) -> Result<Vec<StreamNonces>, SeedFault> {
         match fresh_key(self.rt) {
             Ok(key) => sources_of(alloc, key, count),
-            Err(_) => {
+            Err(fault) => {
+                let _ = eprintln!(self.rt; "cannot draw a key: {fault}");
                 self.faults = self.faults.saturating_add(1);
                 Err(SeedFault::Failed)
             }

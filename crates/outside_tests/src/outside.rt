@@ -1,38 +1,15 @@
-use machine_outside::{
-    AcceptFault, MachineClock, MachineSeeds, Patience, ReadAhead, SocketDoor, SocketPorch,
-    StreamNonces, Together,
-};
+use crate::links::{CALM, gives, opened, patience};
+use machine_outside::{MachineClock, MachineSeeds, ReadAhead, SocketDoor, StreamNonces, Together};
 use rand_chacha::ChaCha20Rng;
 use rand_core::SeedableRng;
 use std::alloc::Global;
-use std::io::{ErrorKind, Read, Write};
+use std::io::ErrorKind;
 use std::net::{Ipv4Addr, TcpListener, TcpStream};
 use std::test::Fail;
-use std::thread::sleep;
-use std::time::{Duration, SystemTime};
+use std::time::SystemTime;
 use web_outside::{
-    Clock, Door, DoorFault, Link, Nonces, Porch, Seeds, Sink, Source, TextSink, TextSource,
-    read_all, write_all,
+    Clock, Door, DoorFault, Nonces, Seeds, Sink, Source, TextSink, TextSource, read_all,
 };
-
-// How many milliseconds a link may take for its head, and again for the rest.
-const CALM: u64 = 20_000;
-
-const HASTY: u64 = 400;
-
-// A part of the time that a hasty link has.
-const PART: u64 = 250;
-
-const REPLY: &str = "HTTP/1.1 200 OK\r\nContent-Length: 2\r\n\r\nok";
-
-type Porches<'r> = Vec<SocketPorch<'r, HostRuntime>>;
-
-fn patience(millis: u64) -> Patience {
-    Patience {
-        head: Duration::from_millis(millis),
-        rest: Duration::from_millis(millis),
-    }
-}
 
 // Bytes that differ from each other for long.
 fn many(alloc: Global, count: usize) -> Result<Vec<u8>, Fail> {
@@ -41,37 +18,6 @@ fn many(alloc: Global, count: usize) -> Result<Vec<u8>, Fail> {
         bytes.push((n % 251) as u8)?;
     }
     Ok(bytes)
-}
-
-// A door that listens at a port that the machine chooses, and that port.
-fn opened(rt: &HostRuntime, millis: u64) -> Result<(Porches<'_>, u16), Fail> {
-    let mut door = SocketDoor {
-        rt,
-        patience: patience(millis),
-        faults: 0,
-    };
-    let porches = door.listen(rt.alloc(), 0, 1, 3)?;
-    let port = match porches.first() {
-        Some(porch) => porch.listener().local_addr()?.port(),
-        None => 0,
-    };
-    Ok((porches, port))
-}
-
-// Whether these bytes, and no others, are what a source gives next.
-fn gives<S: Source>(source: &mut S, wanted: &[u8]) -> bool {
-    let mut rest = wanted;
-    for _ in 0..wanted.len() {
-        let mut piece = [0u8; 64];
-        match source.read(&mut piece) {
-            Ok(count) if count > 0 && rest.starts_with(&piece[..count]) => rest = &rest[count..],
-            _ => return false,
-        }
-        if rest.is_empty() {
-            return true;
-        }
-    }
-    false
 }
 
 #[test]
@@ -112,84 +58,8 @@ fn kept_bytes_are_written_once_in_order(rt: HostRuntime) -> Result<(), Fail> {
 }
 
 #[test]
-fn a_request_in_pieces_is_replied_to(rt: HostRuntime) -> Result<(), Fail> {
-    let (mut porches, port) = opened(&rt, CALM)?;
-    let porch = porches.first_mut().ok_or("no porch")?;
-    let mut client = TcpStream::connect(&rt, (Ipv4Addr::LOCALHOST, port))?;
-    let mut link = porch.next()?.ok_or("no link")?;
-    for piece in ["GET / HT", "TP/1.1\r", "\nHost: a\r\n\r\n"] {
-        client.write_all(piece.as_bytes())?;
-        assert!(rt; gives(link.input(), piece.as_bytes()), "{piece}");
-    }
-    write_all(link.output(), REPLY.as_bytes())?;
-    link.output().flush()?;
-    // What still comes, and is not read, does not keep the reply from the other side.
-    client.write_all(&[b'x'; 5_000])?;
-    porch.back(link);
-    let mut reply = String::new(rt.alloc());
-    client.read_to_string(&mut reply)?;
-    assert_eq!(rt; reply.as_str(), REPLY);
-    assert_eq!(rt; porch.faults(), 0);
-    Ok(())
-}
-
-#[test]
-fn a_silent_link_is_given_up(rt: HostRuntime) -> Result<(), Fail> {
-    let (mut porches, port) = opened(&rt, HASTY)?;
-    let porch = porches.first_mut().ok_or("no porch")?;
-    let _client = TcpStream::connect(&rt, (Ipv4Addr::LOCALHOST, port))?;
-    let mut link = porch.next()?.ok_or("no link")?;
-    assert!(rt; link.input().read(&mut [0u8; 9]).is_err());
-    assert_eq!(rt; link.input().faults(), 1);
-    // A refusal has time of its own.
-    write_all(link.output(), REPLY.as_bytes())?;
-    link.output().flush()?;
-    porch.back(link);
-    Ok(())
-}
-
-#[test]
-fn a_head_that_trickles_is_given_up(rt: HostRuntime) -> Result<(), Fail> {
-    let (mut porches, port) = opened(&rt, HASTY)?;
-    let porch = porches.first_mut().ok_or("no porch")?;
-    let mut client = TcpStream::connect(&rt, (Ipv4Addr::LOCALHOST, port))?;
-    let mut link = porch.next()?.ok_or("no link")?;
-    client.write_all(b"G")?;
-    assert!(rt; gives(link.input(), b"G"));
-    sleep(&rt, Duration::from_millis(PART));
-    client.write_all(b"E")?;
-    assert!(rt; gives(link.input(), b"E"));
-    sleep(&rt, Duration::from_millis(PART));
-    client.write_all(b"T")?;
-    assert!(rt; link.input().read(&mut [0u8; 9]).is_err());
-    porch.back(link);
-    Ok(())
-}
-
-#[test]
-fn a_body_has_time_of_its_own(rt: HostRuntime) -> Result<(), Fail> {
-    let (mut porches, port) = opened(&rt, HASTY)?;
-    let porch = porches.first_mut().ok_or("no porch")?;
-    let mut client = TcpStream::connect(&rt, (Ipv4Addr::LOCALHOST, port))?;
-    let mut link = porch.next()?.ok_or("no link")?;
-    sleep(&rt, Duration::from_millis(PART));
-    client.write_all(b"\r\nPOST / HTTP/1.1\r\nHost: a\r\n\r\n")?;
-    assert!(rt; gives(link.input(), b"\r\nPOST / HTTP/1.1\r\nHost: a\r\n\r\n"));
-    sleep(&rt, Duration::from_millis(PART));
-    client.write_all(b"a")?;
-    assert!(rt; gives(link.input(), b"a"));
-    sleep(&rt, Duration::from_millis(PART));
-    client.write_all(b"b")?;
-    assert!(rt; link.input().read(&mut [0u8; 9]).is_err());
-    assert!(rt; write_all(link.output(), REPLY.as_bytes()).is_ok());
-    assert!(rt; link.output().flush().is_err());
-    porch.back(link);
-    Ok(())
-}
-
-#[test]
 fn the_door_is_this_machines_own(rt: HostRuntime) -> Result<(), Fail> {
-    let (porches, port) = opened(&rt, CALM)?;
+    let (porches, port) = opened(&rt, CALM, 1)?;
     assert_eq!(rt; porches.len(), 1);
     assert!(rt; TcpStream::connect(&rt, (Ipv4Addr::LOCALHOST, port)).is_ok());
     match TcpStream::connect(&rt, (Ipv4Addr::new(127, 0, 0, 2), port)) {
@@ -218,24 +88,6 @@ fn the_door_listens_at_the_port_that_was_asked(rt: HostRuntime) -> Result<(), Fa
     }
     door.close(porches);
     assert_eq!(rt; door.faults(), 1);
-    Ok(())
-}
-
-#[test]
-fn faults_of_accepts_are_told_apart(rt: HostRuntime) -> Result<(), Fail> {
-    for code in [71, 100, 103, 113] {
-        assert_eq!(rt;
-            AcceptFault::of(Some(code)),
-            AcceptFault::Connection,
-            "{code}"
-        );
-    }
-    for code in [12, 23, 24, 105] {
-        assert_eq!(rt; AcceptFault::of(Some(code)), AcceptFault::Room, "{code}");
-    }
-    for code in [None, Some(9), Some(22)] {
-        assert_eq!(rt; AcceptFault::of(code), AcceptFault::Listener, "{code:?}");
-    }
     Ok(())
 }
 

@@ -1,4 +1,4 @@
-//! Plays page scripts: reads a setup and steps, and writes the replies.
+//! The program: it hands the machine's words, streams, disks, sockets, clock and randomness to `command`.
 #![tactic(auto)]
 
 ghost use Rattle.std.specs.Prelude.{◌≡◌, codes};
@@ -22,8 +22,11 @@ use web_outside::{OpenGate, Sink, write_or_drop};
 
 const OUT_OF_MEMORY: u8 = 10;
 
-// How long a link may take to the end of its head, and again from there on, in seconds.
+// How long a head, a body and a reply may take each, in seconds.
 const PATIENCE: u64 = 30;
+
+// How long a link may be idle between two requests, in seconds.
+const IDLE: u64 = 5;
 
 // The process's words; none where one of them is no text, since no command has such a word.
 fn words_of<R: Env + AllocGlobal>(rt: &R) -> Result<Vec<String>, AllocError> {
@@ -74,11 +77,14 @@ where
         }
     }
     let mut rack = ServedRack::new(rt, alloc);
+    let patience = Duration::from_secs(PATIENCE);
     let mut door = SocketDoor {
         rt,
         patience: Patience {
-            head: Duration::from_secs(PATIENCE),
-            rest: Duration::from_secs(PATIENCE),
+            head: patience,
+            body: patience,
+            reply: patience,
+            idle: Duration::from_secs(IDLE),
         },
         faults: 0,
     };

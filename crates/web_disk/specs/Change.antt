@@ -26,18 +26,18 @@ is_touched ranges k = list_any (λ range. nat_le range.low k && nat_lt k range.h
 abbrev pub Keeps : List Span → List ℕ → List ℕ → Type 0
 Keeps ranges old new = (k b : ℕ) → is_touched ranges k ≡ false → slice_get old k ≡ Some b → slice_get new k ≡ Some b
 
--- nothing was done yet
+-- the content of a disk of these bytes to which nothing was done yet
 abbrev pub fresh : List ℕ → Content
 fresh bytes = record { seen = bytes; touched = [] }
 
--- after one call
+-- the content after one call
 abbrev pub changed : Change → Content → Content
 changed (Put place piece) c = record { seen = take place c.seen ++ piece ++ drop (place + length piece) c.seen; touched = c.touched ++ span place (place + length piece) ∷ [] }
 changed (Torn range) c = record { seen = c.seen; touched = c.touched ++ range ∷ [] }
 changed (CutTo len) c = record { seen = take len c.seen; touched = c.touched ++ span len (length c.seen) ∷ [] }
 changed Synced c = record { seen = c.seen; touched = [] }
 
--- after these calls, the first of them first
+-- the content after these calls, the first of them first
 abbrev pub replayed : List Change → Content → Content
 replayed [] c = c
 replayed (x ∷ xs) c = replayed xs (changed x c)

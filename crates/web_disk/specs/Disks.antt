@@ -11,11 +11,11 @@ use Rattle.web_disk.specs.declared.trace.Trace.{Trace}
 use Rattle.web_disk.specs.declared.wreck.Wreck.{Wreck}
 use Rattle.web_disk.specs.declared.memory.MemoryDisk.{MemoryDisk}
 
--- its view
+-- the view of a disk in memory
 abbrev pub memory_view : MemoryDisk → View
 memory_view disk = view_of disk.trace disk.plan.faults
 
--- begun anew: its calls are counted on, and no number of them stops it
+-- a disk is begun anew: no fault is counted, its calls are counted on, and no number of them stops it
 pub record IsAnew (old new : MemoryDisk) : Type 0 where
   pub faults : new.plan.faults ≡ 0
   pub stop : new.plan.stop ≡ None
@@ -41,6 +41,6 @@ DoesWrite place piece old new = Does (fate_of old.plan) (Put place piece) (Torn 
 abbrev pub DoesCut : ℕ → MemoryDisk → MemoryDisk → Type 0
 DoesCut len old new = Does (fate_of old.plan) (CutTo len) (Torn (span len (length old.trace.bytes.items))) old.trace new.trace
 
--- what such a crash leaves of a disk
+-- these bytes are what a chosen crash leaves of a disk
 abbrev pub LeftBy : Wreck → MemoryDisk → List ℕ → Type 0
 LeftBy wreck disk bytes = IsLeft wreck disk.trace.touched.items disk.trace.bytes.items bytes

@@ -14,19 +14,19 @@ has_stopped (Some stop) made = nat_le stop made
 abbrev pub fate_of : Plan → Fate
 fate_of plan = if has_stopped plan.stop plan.made then Stopped else (if is_listed plan.made plan.failing.items then Fails else Done)
 
--- whether such a call fails
+-- whether a call of this fate fails
 abbrev pub fails : Fate → Bool
 fails Done = false
 fails Fails = true
 fails Stopped = true
 
--- the count of faults after it
+-- the count of faults after a call of this fate
 abbrev pub faults_after : Fate → ℕ → ℕ
 faults_after Done faults = faults
 faults_after Fails faults = min (faults + 1) (2 ^ 64 - 1)
 faults_after Stopped faults = min (faults + 1) (2 ^ 64 - 1)
 
--- one call more was made, and this became of it
+-- a plan counted one call more, of which this became
 pub record Counts (old new : Plan) (this : Fate) : Type 0 where
   pub fate : this ≡ fate_of old
   pub faults : new.faults ≡ faults_after this old.faults

@@ -15,7 +15,7 @@ changes (Spoil range ∷ calls) pieces = Torn range ∷ changes calls pieces
 changes (Cut len ∷ calls) pieces = CutTo len ∷ changes calls pieces
 changes (Sync ∷ calls) pieces = Synced ∷ changes calls pieces
 
--- how many bytes they wrote
+-- how many bytes the calls wrote
 abbrev pub sizes : List Call → ℕ
 sizes [] = 0
 sizes (Write place size ∷ calls) = size + sizes calls
@@ -27,7 +27,7 @@ sizes (Sync ∷ calls) = sizes calls
 abbrev pub changes_of : Trace → List Change
 changes_of t = changes t.calls.items t.pieces.items
 
--- what became of them
+-- what became of a disk's bytes
 abbrev pub content_of : Trace → Content
 content_of t = replayed (changes_of t) (fresh t.first.items)
 
@@ -37,7 +37,7 @@ pub record IsKept (t : Trace) : Type 0 where
   pub same : t.bytes.items ≡ (content_of t).seen
   pub touched : t.touched.items ≡ (content_of t).touched
 
--- for how many calls there is room
+-- for how many calls a trace has room
 abbrev pub calls_left : Trace → ℕ
 calls_left t = min (vec_capacity t.calls - vec_len t.calls) (vec_capacity t.touched - vec_len t.touched)
 
@@ -62,7 +62,7 @@ pub record IsFresh (given : List ℕ) (t : Trace) : Type 0 where
   pub calls : t.calls.items ≡ []
   pub pieces : t.pieces.items ≡ []
 
--- one call more
+-- a disk's trace has one call more, which did this
 pub record Adds (x : Change) (old new : Trace) : Type 0 where
   pub first : new.first.items ≡ old.first.items
   pub changes : changes_of new ≡ changes_of old ++ x ∷ []
@@ -75,7 +75,7 @@ pub record HasRoom (bytes : ℕ) (old new : Trace) : Type 0 where
   pub ready : calls_left old ≤ calls_left new + 1
   pub left : vec_capacity old.pieces - vec_len old.pieces ≤ vec_capacity new.pieces - vec_len new.pieces + bytes
 
--- nothing was done, and there is no less room
+-- nothing was done to a disk: its trace tells what it told
 pub record Stays (old new : Trace) : Type 0 where
   pub first : new.first.items ≡ old.first.items
   pub calls : new.calls.items ≡ old.calls.items

@@ -13,7 +13,7 @@ use Rattle.web_disk.specs.declared.rack.RackFault.TheVariants.{Failed, Memory}
 abbrev pub place_of : MemoryRack → ℕ → Option (Option MemoryDisk)
 place_of rack number = slice_get rack.disks.items number
 
--- the disk that is there
+-- the disk of a place, if it is there
 abbrev pub disk_in : Option (Option MemoryDisk) → Option MemoryDisk
 disk_in None = None
 disk_in (Some there) = there
@@ -29,13 +29,13 @@ held None image = ⊥
 held (Some None) image = ⊥
 held (Some (Some disk)) image = (memory_view disk).images image
 
--- its disk is out
+-- the disk of a place is out
 abbrev pub is_empty : Option (Option MemoryDisk) → Bool
 is_empty None = false
 is_empty (Some None) = true
 is_empty (Some (Some disk)) = false
 
--- it has a disk
+-- a place has a disk
 abbrev pub has_disk : Option (Option MemoryDisk) → Bool
 has_disk None = false
 has_disk (Some None) = false
@@ -67,7 +67,7 @@ faults_after_take (Ok disk) faults = faults
 faults_after_take (Err Failed) faults = min (faults + 1) (2 ^ 64 - 1)
 faults_after_take (Err Memory) faults = faults
 
--- the disk that is taken where this one was: what such a crash leaves of it, begun anew
+-- the disk that is taken where this one was is what a chosen crash leaves of it, begun anew
 abbrev pub IsTakenFrom : Wreck → Option MemoryDisk → MemoryDisk → Type 0
 IsTakenFrom wreck None disk = ⊥
 IsTakenFrom wreck (Some there) disk = LeftBy wreck there (memory_view disk).seen × IsAnew there disk

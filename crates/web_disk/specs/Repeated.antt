@@ -4,19 +4,19 @@ use Rattle.std.specs.List.{repeat}
 use Rattle.web_disk.specs.View.{View}
 use Rattle.web_disk.specs.declared.repeated.RepeatDisk.{RepeatDisk}
 
--- what stands in front of its last part
+-- the bytes in front of the last part of a disk of a repeated block
 abbrev pub front_of : RepeatDisk → List ℕ
 front_of disk = disk.first.items ++ repeat disk.times disk.block.items
 
--- all its bytes
+-- all the bytes of a disk of a repeated block
 abbrev pub bytes_of : RepeatDisk → List ℕ
 bytes_of disk = front_of disk ++ disk.last.items
 
--- where its last part begins
+-- where the last part of a disk of a repeated block begins
 abbrev pub start_of : RepeatDisk → ℕ
 start_of disk = length disk.first.items + disk.times * length disk.block.items
 
--- what a read gives, and the count of faults; there is always room for calls, up to the room of the last part
+-- what a read gives of a disk of a repeated block, and the count of faults; there is always room for calls, up to the room of the last part
 abbrev pub repeat_view : RepeatDisk → View
 repeat_view disk = record {
   seen = bytes_of disk;
@@ -37,7 +37,7 @@ is_in_last disk place = nat_le (start_of disk) place && nat_le place (start_of d
 abbrev pub is_there : RepeatDisk → ℕ → ℕ → Bool
 is_there disk place size = nat_le (place + size) (start_of disk + length disk.last.items)
 
--- the count behind a call: one more where it failed, up to the type's end
+-- the count of faults after a call: one more where it failed, up to the type's end
 abbrev pub faults_behind : {T E : Type 0} → Result T E → ℕ → ℕ
 faults_behind (Ok x) faults = faults
 faults_behind (Err e) faults = min (faults + 1) (2 ^ 64 - 1)
@@ -46,7 +46,7 @@ faults_behind (Err e) faults = min (faults + 1) (2 ^ 64 - 1)
 abbrev pub OnlyCounts : {T E : Type 0} → RepeatDisk → RepeatDisk → Result T E → Type 0
 OnlyCounts old new result = new ≡ record old { faults = faults_behind result old.faults }
 
--- a call on the last part: it fails exactly where this is not met, and then nothing but the count changes; the last part begins where it did
+-- a call on the last part fails exactly where this is not met, and then nothing but the count changes; the last part begins where it did
 pub record Serves {T E : Type 0} (met : Bool) (old new : RepeatDisk) (result : Result T E) : Type 0 where
   pub fails : is_err result ≡ not met
   pub failed : OnErr result (OnlyCounts old new result)

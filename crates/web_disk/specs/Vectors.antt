@@ -12,7 +12,7 @@ written = refl
 touched : (replayed (Put 2 (7 ∷ 8 ∷ []) ∷ []) (fresh (1 ∷ 2 ∷ 3 ∷ []))).touched ≡ span 2 4 ∷ []
 touched = refl
 
--- a sync puts it on the disk; then a cut touches what it takes away
+-- a sync puts a write on the disk; then a cut touches what it takes away
 synced_and_cut : (replayed (Put 2 (7 ∷ 8 ∷ []) ∷ Synced ∷ CutTo 3 ∷ []) (fresh (1 ∷ 2 ∷ 3 ∷ []))).touched ≡ span 3 4 ∷ []
 synced_and_cut = refl
 
@@ -34,7 +34,7 @@ wreck = record { reached = 3; fill = 0; short = true }
 reached_three : sound_end wreck (span 2 4 ∷ []) 4 ≡ 3
 reached_three = refl
 
--- the third call is the first that fails behind a stop at two
+-- the third call is the first that fails after a stop at two
 stopped : has_stopped (Some 2) 2 ≡ true
 stopped = refl
 

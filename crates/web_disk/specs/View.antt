@@ -10,7 +10,7 @@ pub record View : Type 1 where
   pub images : List ℕ → Type 0
   -- the moment, a number that does not fall
   pub moment : ℕ
-  -- what a crash at some moment from that one on might have left
+  -- what a crash at some moment from this one on might have left
   pub since : ℕ → List ℕ → Type 0
   -- how often a device call has failed
   pub faults : ℕ
@@ -36,7 +36,7 @@ IsSure images place byte = (image : List ℕ) → images image → slice_get ima
 abbrev pub Spoils : ℕ → ℕ → View → View → Type 0
 Spoils low high old new = (place byte : ℕ) → (place < low) ⊎ (high ≤ place) → IsSure old.images place byte → IsSure new.images place byte
 
--- places from `len` on became unsure
+-- nothing but places from `len` on became unsure
 abbrev pub Cuts : ℕ → View → View → Type 0
 Cuts len old new = (place byte : ℕ) → place < len → IsSure old.images place byte → IsSure new.images place byte
 

@@ -14,16 +14,16 @@ pub record IsFilled (wreck : Wreck) (touched : List Span) (old new : List ℕ) :
   pub lost : (k : ℕ) → k < length old → is_lost wreck touched k ≡ true → slice_get new k ≡ Some wreck.fill
   pub kept : (k : ℕ) → is_lost wreck touched k ≡ false → slice_get new k ≡ slice_get old k
 
--- of so many places, those up to the last that is not lost
+-- how many places there are up to the last of so many that is not lost
 abbrev pub sound_end : Wreck → List Span → ℕ → ℕ
 sound_end wreck touched zero = 0
 sound_end wreck touched (suc n) = if is_lost wreck touched n then sound_end wreck touched n else n + 1
 
--- how many of so many places are left
+-- how many of so many places a chosen crash leaves
 abbrev pub end_of : Wreck → List Span → ℕ → ℕ
 end_of wreck touched len = if wreck.short then sound_end wreck touched len else len
 
--- what is left of these bytes
+-- these bytes are what a chosen crash leaves of those
 pub record IsLeft (wreck : Wreck) (touched : List Span) (old new : List ℕ) : Type 0 where
   pub long : length new ≡ end_of wreck touched (length old)
   pub lost : (k : ℕ) → k < length new → is_lost wreck touched k ≡ true → slice_get new k ≡ Some wreck.fill

@@ -1,4 +1,4 @@
-//! A disk, what a read of it gives and what a crash may leave; a rack that disks are taken from; both in memory. A long disk that keeps little.
+//! A disk, what a crash may leave of it, and racks of disks, all of them in memory too: for the journal.
 #![tactic(auto)]
 
 mod disk;

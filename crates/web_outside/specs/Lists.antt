@@ -45,7 +45,7 @@ porch_view porch = record {
   faults = porch.faults;
 }
 
--- its halves are in memory
+-- a link in memory has a source in memory and a sink in memory
 abbrev pub link_view : TextLink → LinkView
 link_view link = record { input = source_view link.input; output = sink_view link.output }
 

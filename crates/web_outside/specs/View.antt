@@ -12,7 +12,7 @@ pub record SourceView : Type 0 where
 pub record SinkView : Type 0 where
   -- the bytes that were written, where the sink tells them
   pub written : Option (List ℕ)
-  -- those of them that a flush handed on, where the sink tells them
+  -- the written bytes that a flush handed on, where the sink tells them
   pub handed : Option (List ℕ)
   -- how often a call failed
   pub faults : ℕ

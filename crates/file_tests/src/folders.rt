@@ -1,0 +1,148 @@
+use file_disk::{FileRack, Refusal};
+use std::alloc::Allocator;
+use std::fs::{File, Files, Metadata, OpenOptions, Permissions, TryLockError};
+use std::io::ErrorKind;
+use std::os::unix::fs::{MetadataExt, PermissionsExt};
+use std::test::Fail;
+use std::{fs, io};
+use web_disk::{Rack, RackFault};
+
+// The machine's files, but for one folder, in whose place another file is opened.
+#[derive(Drop)]
+struct OtherFolder<'r> {
+    rt: &'r HostRuntime,
+    folder: &'static str,
+    instead: &'static str,
+}
+
+impl Files for OtherFolder<'_> {
+    type File = File;
+
+    type Dir = <HostRuntime as Files>::Dir;
+
+    fn open_file(&self, how: &OpenOptions, path: &str) -> io::Result<File> {
+        let path = if path == self.folder {
+            self.instead
+        } else {
+            path
+        };
+        self.rt.open_file(how, path)
+    }
+
+    fn open_dir(&self, path: &str) -> io::Result<<HostRuntime as Files>::Dir> {
+        self.rt.open_dir(path)
+    }
+
+    fn metadata(&self, path: &str) -> io::Result<Metadata> {
+        self.rt.metadata(path)
+    }
+
+    fn symlink_metadata(&self, path: &str) -> io::Result<Metadata> {
+        self.rt.symlink_metadata(path)
+    }
+
+    fn copy(&self, from: &str, to: &str) -> io::Result<u64> {
+        self.rt.copy(from, to)
+    }
+
+    fn rename(&self, from: &str, to: &str) -> io::Result<()> {
+        self.rt.rename(from, to)
+    }
+
+    fn remove_file(&self, path: &str) -> io::Result<()> {
+        self.rt.remove_file(path)
+    }
+
+    fn create_dir(&self, path: &str) -> io::Result<()> {
+        self.rt.create_dir(path)
+    }
+
+    fn create_dir_with_mode(&self, path: &str, mode: u32) -> io::Result<()> {
+        self.rt.create_dir_with_mode(path, mode)
+    }
+
+    fn remove_dir(&self, path: &str) -> io::Result<()> {
+        self.rt.remove_dir(path)
+    }
+
+    fn remove_dir_all<B: Allocator>(&self, alloc: B, path: &str) -> io::Result<()> {
+        self.rt.remove_dir_all(alloc, path)
+    }
+}
+
+impl Eprint for OtherFolder<'_> {
+    fn eprint<D: std::fmt::Display + Drop>(&self, value: D) -> io::Result<()> {
+        self.rt.eprint(value)
+    }
+
+    fn eprintln<D: std::fmt::Display + Drop>(&self, value: D) -> io::Result<()> {
+        self.rt.eprintln(value)
+    }
+}
+
+#[test]
+fn a_folder_that_cannot_be_synced_is_refused(rt: HostRuntime) -> Result<(), Fail> {
+    let alloc = rt.alloc();
+    fs::create_dir_all(&rt, "folders/there")?;
+    // There is no such file; and a device has no such call, as some file systems have none for their folders.
+    for (instead, taken) in [("folders/none", false), ("/dev/null", true)] {
+        let files = OtherFolder {
+            rt: &rt,
+            folder: "folders/there",
+            instead,
+        };
+        let mut rack = FileRack::new(&files, alloc);
+        let outcome = rack.take(alloc, "folders/there", 0);
+        assert_eq!(rt; outcome.is_ok(), taken, "{instead}");
+        match outcome {
+            Ok(disk) => rack.give(0, disk),
+            Err(fault) => assert_eq!(rt; fault, RackFault::Failed),
+        }
+        assert_eq!(rt; rack.faults(), u64::from(!taken));
+    }
+    fs::remove_dir_all(&rt, "folders")?;
+    Ok(())
+}
+
+#[test]
+fn what_is_made_is_its_owners_alone(rt: HostRuntime) -> Result<(), Fail> {
+    let alloc = rt.alloc();
+    if fs::exists(&rt, "owners")? {
+        fs::remove_dir_all(&rt, "owners")?;
+    }
+    let mut rack = FileRack::new(&rt, alloc);
+    let disk = rack.take(alloc, "owners/of/shelves", 0)?;
+    rack.give(0, disk);
+    for (path, mode) in [
+        ("owners", 0o700),
+        ("owners/of", 0o700),
+        ("owners/of/shelves", 0o700),
+        ("owners/of/shelves/shelf-0", 0o600),
+    ] {
+        let found = fs::metadata(&rt, path)?.mode() % 0o1000;
+        assert_eq!(rt; found, mode, "{path}");
+    }
+    // A file that others may read is told, and taken nevertheless.
+    let shared = Permissions::from_mode(0o644);
+    fs::set_permissions(&rt, "owners/of/shelves/shelf-0", shared)?;
+    let disk = rack.take(alloc, "owners/of/shelves", 0)?;
+    rack.give(0, disk);
+    assert_eq!(rt; rack.faults(), 0);
+    fs::remove_dir_all(&rt, "owners")?;
+    Ok(())
+}
+
+#[test]
+fn faults_of_locks_are_told_apart(rt: HostRuntime) -> Result<(), Fail> {
+    assert!(rt; matches!(Refusal::from(TryLockError::WouldBlock), Refusal::Busy));
+    for (kind, memory) in [
+        (ErrorKind::OutOfMemory, true),
+        (ErrorKind::Unsupported, false),
+    ] {
+        let fault = TryLockError::Error(io::Error::from(kind));
+        let refusal = Refusal::from(fault);
+        assert_eq!(rt; matches!(refusal, Refusal::Memory), memory);
+        assert_eq!(rt; matches!(refusal, Refusal::System(_)), !memory);
+    }
+    Ok(())
+}

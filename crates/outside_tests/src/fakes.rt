@@ -1,0 +1,304 @@
+// What the machine can't be made to do: stand-ins for its streams, its listener, its files and its clock.
+ghost use Rattle.std.specs.Prelude.{◌≤◌, IfOk};
+
+use machine_outside::{
+    AcceptFault, Course, Lobby, MachineClock, MachineSeeds, Reading, Stage, Writing,
+};
+use std::alloc::Allocator;
+use std::fmt::Display;
+use std::fs::{File, Files, Metadata, OpenOptions};
+use std::io::{Error, ErrorKind, Read, Write};
+use std::net::{Ipv4Addr, OpenListener, SocketAddr, SocketAddrV4, TcpListener, TcpStream};
+use std::os::fd::{AsRawFd, RawFd};
+use std::sync::atomic::{AtomicU64, Ordering};
+use std::test::Fail;
+use std::time::Duration;
+use std::{io, time};
+use web_outside::{Clock, Failed, SeedFault, Seeds, Sink, Source};
+
+const EINTR: i32 = 4;
+
+// What a call of a stream does: it fails with this number, or takes or gives so many bytes.
+#[derive(Clone, Copy)]
+enum Call {
+    Fails(i32),
+    Moves(usize),
+}
+
+// A stream whose calls are told ahead. Behind them each fails.
+#[derive(Drop)]
+struct Told {
+    calls: &'static [Call],
+    made: usize,
+}
+
+impl Told {
+    fn of(calls: &'static [Call]) -> Told {
+        Told { calls, made: 0 }
+    }
+
+    fn next(&mut self, most: usize) -> io::Result<usize>
+        ensures { IfOk result (λ count. count ≤ most) }
+    {
+        let call = self.calls.get(self.made).copied();
+        self.made = self.made.saturating_add(1);
+        match call {
+            Some(Call::Moves(count)) => Ok(count.min(most)),
+            Some(Call::Fails(code)) => Err(Error::from_raw_os_error(code)),
+            None => Err(Error::from(ErrorKind::BrokenPipe)),
+        }
+    }
+}
+
+impl Read for Told {
+    fn read(&mut self, buf: &mut [u8]) -> io::Result<usize> {
+        self.next(buf.len())
+    }
+}
+
+impl Write for Told {
+    fn write(&mut self, buf: &[u8]) -> io::Result<usize> {
+        self.next(buf.len())
+    }
+
+    fn flush(&mut self) -> io::Result<()> {
+        self.next(0)?;
+        Ok(())
+    }
+}
+
+#[test]
+fn a_signal_ends_no_call(rt: HostRuntime) -> Result<(), Fail> {
+    let calls = &[
+        Call::Fails(EINTR),
+        Call::Fails(EINTR),
+        Call::Moves(3),
+        Call::Fails(5),
+    ];
+    let mut source = Reading {
+        inner: Told::of(calls),
+        count: 0,
+    };
+    assert_eq!(rt; source.read(&mut [0u8; 9]), Ok(3));
+    assert_eq!(rt; source.faults(), 0);
+    assert_eq!(rt; source.read(&mut [0u8; 9]), Err(Failed));
+    assert_eq!(rt; source.faults(), 1);
+    let mut sink = Writing {
+        inner: Told::of(calls),
+        count: 0,
+    };
+    assert_eq!(rt; sink.write(b"abcd"), Ok(3));
+    assert_eq!(rt; sink.faults(), 0);
+    assert_eq!(rt; sink.write(b"d"), Err(Failed));
+    assert_eq!(rt; sink.faults(), 1);
+    let mut sink = Writing {
+        inner: Told::of(calls),
+        count: 0,
+    };
+    assert_eq!(rt; sink.flush(), Ok(()));
+    assert_eq!(rt; sink.faults(), 0);
+    assert_eq!(rt; sink.flush(), Err(Failed));
+    assert_eq!(rt; sink.faults(), 1);
+    Ok(())
+}
+
+#[test]
+fn a_write_of_nothing_is_a_fault(rt: HostRuntime) -> Result<(), Fail> {
+    let mut sink = Writing {
+        inner: Told::of(&[Call::Moves(0), Call::Moves(0)]),
+        count: 0,
+    };
+    assert_eq!(rt; sink.write(b""), Ok(0));
+    assert_eq!(rt; sink.write(b"a"), Err(Failed));
+    assert_eq!(rt; sink.faults(), 1);
+    Ok(())
+}
+
+// A listener that fails with these numbers, one behind the other, and then accepts by another.
+#[derive(Drop)]
+struct FailingListener {
+    codes: &'static [i32],
+    calls: AtomicU64,
+    behind: TcpListener,
+}
+
+impl OpenListener for FailingListener {
+    type Stream = TcpStream;
+
+    fn accept(&self) -> io::Result<(TcpStream, SocketAddr)> {
+        let call = self.calls.fetch_add(1, Ordering::SeqCst);
+        match self.codes.get(call as usize) {
+            Some(code) => Err(Error::from_raw_os_error(*code)),
+            None => self.behind.accept(),
+        }
+    }
+}
+
+impl AsRawFd for FailingListener {
+    fn as_raw_fd(&self) -> RawFd {
+        self.behind.as_raw_fd()
+    }
+}
+
+// A lobby whose listener fails so at first, with a client at its port.
+fn lobby_of(
+    rt: &HostRuntime,
+    codes: &'static [i32],
+) -> Result<(Lobby<FailingListener>, TcpStream), Fail> {
+    let behind = TcpListener::bind(rt, (Ipv4Addr::LOCALHOST, 0))?;
+    let client = TcpStream::connect(rt, behind.local_addr()?)?;
+    let listener = FailingListener {
+        codes,
+        calls: AtomicU64::new(0),
+        behind,
+    };
+    Ok((Lobby::new(listener), client))
+}
+
+#[test]
+fn a_worker_outlasts_faults_of_accepts(rt: HostRuntime) -> Result<(), Fail> {
+    let (lobby, client) = lobby_of(&rt, &[103, 4, 24, 113, 105, 71])?;
+    assert!(rt; lobby.is_pressed(&rt, rt.alloc()));
+    let socket = lobby.next(&rt).ok_or("no connection")?;
+    assert_eq!(rt; socket.peer_addr()?, client.local_addr()?);
+    assert!(rt; !lobby.is_pressed(&rt, rt.alloc()));
+    // EBADF is the listener's own fault, and ends it.
+    let (lobby, _client) = lobby_of(&rt, &[103, 9])?;
+    assert!(rt; lobby.next(&rt).is_none());
+    assert_eq!(rt; lobby.listener().calls.load(Ordering::SeqCst), 2);
+    Ok(())
+}
+
+#[test]
+fn faults_of_accepts_are_told_apart(rt: HostRuntime) -> Result<(), Fail> {
+    for code in [1, 4, 64, 71, 92, 95, 100, 101, 103, 104, 110, 112, 113] {
+        let fault = AcceptFault::of(Some(code));
+        assert_eq!(rt; fault, AcceptFault::Connection, "{code}");
+    }
+    for code in [12, 23, 24, 105] {
+        assert_eq!(rt; AcceptFault::of(Some(code)), AcceptFault::Room, "{code}");
+    }
+    for code in [None, Some(9), Some(14), Some(22), Some(88), Some(-1)] {
+        assert_eq!(rt; AcceptFault::of(code), AcceptFault::Listener, "{code:?}");
+    }
+    Ok(())
+}
+
+// No file can be opened, and the clock was set before 1970.
+struct Nothing;
+
+impl Files for Nothing {
+    type File = File;
+
+    type Dir = <HostRuntime as Files>::Dir;
+
+    fn open_file(&self, _how: &OpenOptions, _path: &str) -> io::Result<File> {
+        Err(Error::from(ErrorKind::NotFound))
+    }
+
+    fn open_dir(&self, _path: &str) -> io::Result<<HostRuntime as Files>::Dir> {
+        Err(Error::from(ErrorKind::NotFound))
+    }
+
+    fn metadata(&self, _path: &str) -> io::Result<Metadata> {
+        Err(Error::from(ErrorKind::NotFound))
+    }
+
+    fn symlink_metadata(&self, _path: &str) -> io::Result<Metadata> {
+        Err(Error::from(ErrorKind::NotFound))
+    }
+
+    fn copy(&self, _from: &str, _to: &str) -> io::Result<u64> {
+        Err(Error::from(ErrorKind::NotFound))
+    }
+
+    fn rename(&self, _from: &str, _to: &str) -> io::Result<()> {
+        Err(Error::from(ErrorKind::NotFound))
+    }
+
+    fn remove_file(&self, _path: &str) -> io::Result<()> {
+        Err(Error::from(ErrorKind::NotFound))
+    }
+
+    fn create_dir(&self, _path: &str) -> io::Result<()> {
+        Err(Error::from(ErrorKind::NotFound))
+    }
+
+    fn remove_dir(&self, _path: &str) -> io::Result<()> {
+        Err(Error::from(ErrorKind::NotFound))
+    }
+
+    fn remove_dir_all<B: Allocator>(&self, _alloc: B, _path: &str) -> io::Result<()> {
+        Err(Error::from(ErrorKind::NotFound))
+    }
+}
+
+impl Eprint for Nothing {
+    fn eprint<D: Display + Drop>(&self, _value: D) -> io::Result<()> {
+        Ok(())
+    }
+
+    fn eprintln<D: Display + Drop>(&self, _value: D) -> io::Result<()> {
+        Ok(())
+    }
+}
+
+impl time::Clock for Nothing {
+    fn monotonic(&self) -> io::Result<Duration> {
+        Ok(Duration::ZERO)
+    }
+
+    fn since_1970(&self) -> io::Result<Duration> {
+        Err(Error::from(ErrorKind::InvalidData))
+    }
+}
+
+#[test]
+fn a_key_that_cannot_be_drawn_is_a_fault(rt: HostRuntime) -> Result<(), Fail> {
+    let mut seeds = MachineSeeds {
+        rt: &Nothing,
+        faults: 0,
+    };
+    for count in 1..3 {
+        let drawn = seeds.draw(rt.alloc(), 2);
+        assert_eq!(rt; drawn.err(), Some(SeedFault::Failed));
+        assert_eq!(rt; seeds.faults(), count);
+    }
+    Ok(())
+}
+
+#[test]
+fn a_clock_before_1970_shows_0(rt: HostRuntime) -> Result<(), Fail> {
+    let clock = MachineClock { rt: &Nothing };
+    assert_eq!(rt; clock.now(), 0);
+    Ok(())
+}
+
+#[test]
+fn a_course_follows_the_requests(rt: HostRuntime) -> Result<(), Fail> {
+    let text = "\r\nGET / HTTP/1.1\r\nHost: a\r\n\r\n\
+        POST / HTTP/1.1\nHost: a\nContent-Type: application/x-www-form-urlencoded\n\
+        Content-Length: 4\n\n\n\nabG\n\r\r\nA\n\n";
+    // Where the two requests and the third head end, and the second head.
+    let ends = [29usize, 124, 132];
+    let bodies = 120..124;
+    for step in [1usize, 2, 3, 7, 100] {
+        let mut course = Course::new(rt.alloc());
+        let mut place = 0usize;
+        assert_eq!(rt; course.stage(), Stage::Between);
+        for piece in text.as_bytes().chunks(step.max(1)) {
+            course.pass(piece)?;
+            place = place.saturating_add(piece.len());
+            let wanted = if ends.contains(&place) {
+                Stage::Between
+            } else if bodies.contains(&place) {
+                Stage::Body
+            } else {
+                Stage::Head
+            };
+            assert_eq!(rt; course.stage(), wanted, "{step} {place}");
+        }
+        assert_eq!(rt; place, 132);
+    }
+    Ok(())
+}
