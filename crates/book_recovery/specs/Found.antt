@@ -15,11 +15,11 @@ use Rattle.book_recovery.specs.Remaking.{HasToldStates}
 use Rattle.book_recovery.specs.declared.found.Found.{Found}
 use Rattle.book_recovery.specs.declared.found.Found.TheVariants.{Nothing, Made, Damaged, Other, Memory}
 
--- the book of these scripts, beside a journal of this length: it is as after a crash
+-- the book of these scripts, beside a journal of this length, with nothing in doubt
 abbrev pub book_with : List Named → (length : ℕ) → Book → spec.Book
 book_with scripts length b = book_of scripts length None b
 
--- as after a crash
+-- the book is as after a crash
 abbrev pub IsReopened : spec.Book → Type 0
 IsReopened b = b ≡ reopened b
 
@@ -48,12 +48,12 @@ pub record IsBookInOrder (scripts : List Named) (shelf : ℕ) (b : Book) : Type 
   pub range : (length : ℕ) → IsInRange (book_with scripts length b)
   pub again : (length : ℕ) → IsReopened (book_with scripts length b)
 
--- so is what was found, where it is a book
+-- what was found, where it is a book, is one that a shelf of this number can go on with
 abbrev pub IsFoundInOrder : List Named → (shelf : ℕ) → Found → Type 0
 IsFoundInOrder scripts shelf (Made b) = IsBookInOrder scripts shelf b
 IsFoundInOrder scripts shelf _ = ⊤
 
--- each page has the state of its chain
+-- where a book was found, each of its pages has the state of its chain
 abbrev pub HasStates : List Named → Found → Type 0
 HasStates scripts (Made b) = HasItsStates scripts b
 HasStates scripts _ = ⊤

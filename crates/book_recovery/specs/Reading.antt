@@ -31,7 +31,7 @@ use Rattle.book_recovery.specs.Remaking.{told_in, HasToldStates, names_told, tol
 abbrev pub seen_by : InOrder (Unit {0}) → List ℕ
 seen_by seen = numbers_of seen.things.items
 
--- what was made, where the journal is this long
+-- the book and the numbers seen, as the definitions have what records made, where the journal is this long
 abbrev pub made_in : List Named → (length : ℕ) → Book → InOrder (Unit {0}) → recovery.Made
 made_in scripts length b seen = record { book = book_beside scripts length b; seen = seen_by seen }
 
@@ -61,21 +61,21 @@ pub record IsRedoneAs (scripts : List Named) (seen : InOrder (Unit {0})) (earlie
       let repeated = is_repeated (number_in c) (seen_by seen) in
       HasToldStates scripts (told_states scripts repeated c (told_in scripts earlier old c state) old earlier.states) new
 
--- where it can't be read there is no book
+-- a record of a change makes the new book of the old one where its state can be read; where it can't be, there is no book
 abbrev pub IsRedoneBy : List Named → InOrder (Unit {0}) → Earlier → Record → (old : Book) → Option Book → Type 0
 IsRedoneBy scripts seen earlier (begins shelf named) old new = ⊤
 IsRedoneBy scripts seen earlier (changes c state) old None = told_in scripts earlier old c state ≡ misread
 IsRedoneBy scripts seen earlier (changes c state) old (Some new) = IsRedoneAs scripts seen earlier c state old new
 
--- whatever records told earlier
+-- whatever records told earlier, the record makes the new book of the old one, or there is none where its state can't be read
 abbrev pub IsRemade : List Named → InOrder (Unit {0}) → Record → (old : Book) → Option Book → Type 0
 IsRemade scripts seen r old new = (earlier : Earlier) → TellsOf scripts seen old earlier → IsRedoneBy scripts seen earlier r old new
 
--- the number is seen from then on
+-- this number, if there is one, is seen from then on, besides those that were
 abbrev pub SeesNumber : Option ℕ → (old new : InOrder (Unit {0})) → Type 0
 SeesNumber number old new = (k : ℕ) → is_one k (seen_by new) ≡ is_one k (with_number number (seen_by old))
 
--- the same of a record that may have no number
+-- the number of a record, if it has one, is seen from then on
 abbrev pub Sees : Record → (old new : InOrder (Unit {0})) → Type 0
 Sees r old new = SeesNumber (number_by r) old new
 
@@ -89,7 +89,7 @@ abbrev pub is_begin : Record → Bool
 is_begin (begins shelf named) = true
 is_begin (changes c state) = false
 
--- it is this, where the journal is this long: the same numbers were seen, and its pages have the states that were told
+-- the records make this book, where the journal is this long: the same numbers were seen, and its pages have the states that were told
 pub record IsMadeAs (scripts : List Named) (length : ℕ) (b : Book) (seen : InOrder (Unit {0})) (m : Making) : Type 0 where
   pub whole : Made
   pub is : m ≡ made whole
@@ -110,23 +110,23 @@ Gives scripts length (found.Damaged place) seen m = m ≡ damaged place
 Gives scripts length (found.Other place) seen m = m ≡ other place
 Gives scripts length found.Memory seen m = ⊤
 
--- with one body more, behind the gate at this place
+-- where what was found before is what the records make, so is what is found with one body more, behind the gate at this place
 abbrev pub GivesWith : List Named → (shelf place : ℕ) → List ℕ → (old new : Found) → (before after : InOrder (Unit {0})) → Type 0
 GivesWith scripts shelf place body old new before after =
     (m : Making) → Gives scripts (place + 1) old before m
     → Gives scripts (place + 5 + length body + 1) new after (with_body scripts shelf place body m)
 
--- what was made goes on to be under way
+-- a book that was found is under way; where nothing was found, no number was seen
 abbrev pub IsKept : List Named → (shelf : ℕ) → InOrder (Unit {0}) → Found → Type 0
 IsKept scripts shelf seen found.Nothing = seen_by seen ≡ []
 IsKept scripts shelf seen (found.Made b) = IsUnderWay scripts shelf seen b
 IsKept scripts shelf seen _ = ⊤
 
--- the scripts of the setup that it reads under
+-- the scripts of the setup that a reader reads under
 abbrev pub scripts_for : Reader → List Named
 scripts_for r = scripts_of r.setup.now
 
--- what it made so far is under way
+-- what a reader made so far is under way
 abbrev pub IsSoundReader : Reader → Type 0
 IsSoundReader r = IsKept (scripts_for r) r.shelf r.seen r.found
 
@@ -135,7 +135,7 @@ pub record IsSameReader (old new : Reader) : Type 0 where
   pub setup : new.setup.now ≡ old.setup.now
   pub shelf : new.shelf ≡ old.shelf
 
--- the record is an own one of the book, behind what records told earlier
+-- the record is an own one of the book, after what records told earlier
 abbrev pub IsOwnBehind : List Named → InOrder (Unit {0}) → Book → Option Record → Type 0
 IsOwnBehind scripts seen b r =
     (earlier : Earlier) × (TellsOf scripts seen b earlier × IsOwnRecord (record { book = book_beside scripts 0 b; earlier = earlier }) r)
@@ -145,14 +145,14 @@ abbrev pub IsOwnFor : List Named → InOrder (Unit {0}) → Found → (body : Li
 IsOwnFor scripts seen (found.Made b) body = IsOwnBehind scripts seen b (read_record body)
 IsOwnFor scripts seen _ body = ⊤
 
--- behind a record that may follow others and is an own one, where each page of the book has the state of its chain, so has each of the
--- book that it makes
+-- after a record that may follow others and is an own one, where each page of the book has the state of its chain, so has each of the book
+-- that it makes
 abbrev pub KeepsOwnStates : List Named → InOrder (Unit {0}) → Book → Record → Result (Option Book) AllocError → Type 0
 KeepsOwnStates scripts seen b r result =
     is_later (length scripts) r ≡ true → IsOwnBehind scripts seen b (Some r) → HasItsStates scripts b
     → IfOk result (λ made. IfSome made (HasItsStates scripts))
 
--- so it is with its body
+-- after a body whose record is an own one, where each page of the book has the state of its chain, so has each of the book that is found
 abbrev pub KeepsOwnWith : List Named → InOrder (Unit {0}) → Book → (body : List ℕ) → Found → Type 0
 KeepsOwnWith scripts seen b body new = IsOwnFor scripts seen (found.Made b) body → HasItsStates scripts b → HasStates scripts new
 

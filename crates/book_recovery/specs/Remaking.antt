@@ -28,7 +28,7 @@ use Rattle.journal_books.specs.Retaking.{Told, unread, misread, told, held, stat
 use Rattle.journal_books.specs.Owning.{IsOwnState}
 use Rattle.book_recovery.specs.declared.remake.Claim.{Claim}
 
--- the change that a claim is of a start
+-- the opening that a claim of a start tells
 abbrev pub opening_told : (script : ℕ) → Claim → Change
 opening_told script c = spec.opens (record {
   number = c.number;
@@ -40,7 +40,7 @@ opening_told script c = spec.opens (record {
   deadline = c.deadline;
 })
 
--- of an answer to a page
+-- the extension that a claim of an answer to a page tells
 abbrev pub extension_told : (instance page : ℕ) → Value → Claim → Change
 extension_told instance page answer c = spec.extends (record {
   number = c.number;
@@ -93,7 +93,7 @@ names_told seen b c (told d) = if seen then None else held b c (inside_of d.fram
 abbrev pub IsFree : List Named → Option ℕ → Book → Type 0
 IsFree scripts number b = AreOrderly (λ n. number ≡ Some n) (book_beside scripts 0 b).instances
 
--- and of its page no state was told
+-- records told no state of the page of this number, if there is a number
 abbrev pub IsUntold : Option ℕ → States → Type 0
 IsUntold number states = (n : ℕ) → number ≡ Some n → state_at n states ≡ None
 
@@ -101,9 +101,8 @@ IsUntold number states = (n : ℕ) → number ≡ Some n → state_at n states �
 abbrev pub told_states : List Named → (seen : Bool) → Change → Told → Book → States → States
 told_states scripts seen c x old states = states_with (names_told seen (book_beside scripts 0 old) c x) (number_in c) x states
 
--- Whether the state could be read, where records told this earlier. The record then lands, or is passed over, as recovery decides; else
--- the book is as it was. Where the number was seen, or names nothing, each page goes on to have the state that was told; and the one of
--- its chain, where the state is the one that the script leaves.
+-- Whether the state could be read; if so, the record lands, or is passed over, as recovery decides. Where its number was seen, or names
+-- nothing, each page goes on to have the state told of it, and that of its chain, where the script leaves the state.
 pub record IsToldBehind (scripts : List Named) (earlier : Earlier) (c : Change) (state : Option (List ℕ)) (seen read : Bool) (old new : Book) : Type 0 where
   pub read_is : read ≡ is_read (told_in scripts earlier old c state)
   pub book : read ≡ true → (length : ℕ)
@@ -114,17 +113,17 @@ pub record IsToldBehind (scripts : List Named) (earlier : Earlier) (c : Change) 
   pub states : (seen ≡ false → IsFree scripts (number_in c) old) → IsOwnState (book_beside scripts 0 old) c (told_in scripts earlier old c state)
       → HasItsStates scripts old → HasItsStates scripts new
 
--- whatever records told earlier
+-- whatever records told earlier, the change of a record lands, or is passed over, as recovery decides, where its state could be read
 abbrev pub IsTold : List Named → Change → Option (List ℕ) → (seen read : Bool) → (old new : Book) → Type 0
 IsTold scripts c state seen read old new =
     (earlier : Earlier) → HasToldStates scripts earlier.states old → IsToldBehind scripts earlier c state seen read old new
 
--- the number of a record
+-- the number of a record, if it has one
 abbrev pub number_by : Record → Option ℕ
 number_by (begins shelf scripts) = None
 number_by (changes c state) = number_in c
 
--- what a record makes: the first of a journal is none of a change
+-- what a record makes of the book: the first of a journal nothing, and one of a change what recovery decides, where its state could be read
 abbrev pub IsMadeBy : List Named → Record → (seen read : Bool) → (old new : Book) → Type 0
 IsMadeBy scripts (begins shelf named) seen read old new = (length : ℕ) → book_beside scripts length new ≡ book_beside scripts length old
 IsMadeBy scripts (changes c state) seen read old new = IsTold scripts c state seen read old new

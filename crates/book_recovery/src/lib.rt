@@ -1,4 +1,4 @@
-//! What the records of a journal make: the book of a shelf, whose pages have the states that the records tell.
+//! The book that the records of a journal make: for the shelf, when it is opened.
 #![tactic(auto)]
 
 mod found;

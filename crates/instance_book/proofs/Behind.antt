@@ -18,6 +18,7 @@ use Rattle.instance_book.specs.declared.numbered.Numbered.{Numbered}
 use Rattle.instance_book.specs.declared.in_order.InOrder.{InOrder}
 use Rattle.instance_book.specs.declared.page.KeptPage.{KeptPage}
 use Rattle.instance_book.specs.Views.{page_of, pages_of}
+use Rattle.script_nodes.proofs.Scripts.{arena_again as its_arena}
 use Rattle.instance_book.specs.Places.{Source, own, given, arena_of, kept_at, shown_of, shown_in, IsStateAt, HasState, IsKeptBehind, AreStatesOf}
 use Rattle.instance_book.proofs.States.{links_of, state_found}
 
@@ -60,7 +61,7 @@ link_behind s h (q ∷ older) d k n more kept =
 
 -- a script is its nodes in pre-order
 pub arena_again : (a : Arena) → IsScript a → arena_of (script_of a) ≡ a
-arena_again a script = sym (ap (λ (ns : List Node). record a { nodes = ns }) script.numbered)
+arena_again a script = sym (its_arena a script)
 
 module _ (law : EachPageHasOneState) (s : Named) (a : Arena) (script : IsScript a) (same : arena_of s.script ≡ a) (ps : InOrder KeptPage) where
   -- a state fits the script

@@ -18,7 +18,7 @@ use Rattle.instance_book.specs.declared.ticket.Ticket.{Ticket}
 use Rattle.instance_book.specs.declared.book.Book.{Book}
 use Rattle.instance_book.specs.Views.{book_of, instances_of, reply_of}
 use Rattle.instance_book.specs.Changes.{decision_by, decision_of}
-use Rattle.instance_book.specs.Prepares.{rules_with, IsCarriedOut, next_page, extension_by, ending_by, IsOpening, IsExtension, IsEnding, IsFinish, IsDecisionBy, IsOfSegment}
+use Rattle.instance_book.specs.Prepares.{rules_with, IsCarriedOut, next_page, extension_by, ending_by, IsOpening, IsExtension, IsEnding, IsFinish, IsDecisionBy, AnswersWithPage, IsOfSegment}
 use Rattle.instance_book.proofs.Lands.{stays, opening_itself, extension_itself, ending_itself, finish_itself}
 
 module _ (book : Book) (t : Ticket) (s : Segment) where
@@ -32,6 +32,7 @@ module _ (book : Book) (t : Ticket) (s : Segment) where
       let replied : replies (reply_of p.reply) ≡ decision_of p = ap (decision_by (reply_of p.reply)) (sym change) in
       record {
         decision = subst (IsDecisionBy t s target) replied tt;
+        reply = subst AnswersWithPage replied tt;
         lands = λ scripts journal down has.
             subst (λ (d : Decision). CarriedBy scripts journal down d p) replied
             (stays scripts 0 0 0 0 (book_of scripts journal down book) t p p.reply refl logged change);
@@ -42,6 +43,7 @@ module _ (book : Book) (t : Ticket) (s : Segment) where
       → IsOfSegment book t s (start name) p
   opens_itself name bytes kind deadline p o = record {
     decision = subst (IsDecisionBy t s (start name)) (sym o.recorded.decision) ((kind, (deadline, refl)), refl);
+    reply = subst AnswersWithPage (sym o.recorded.decision) tt;
     lands = λ scripts journal down has.
         subst (λ (d : Decision). CarriedBy scripts journal down d p) (sym o.recorded.decision)
         (opening_itself scripts 0 0 0 0 (book_of scripts journal down book) t refl has.0 has.1.0 has.1.1 bytes s.effects s.entered s.left kind deadline p o);
@@ -52,6 +54,7 @@ module _ (book : Book) (t : Ticket) (s : Segment) where
       → IsOfSegment book t s (page name n) p
   finishes_itself name n bytes p x = record {
     decision = subst (IsDecisionBy t s (page name n)) (sym x.decision) (refl, refl);
+    reply = subst AnswersWithPage (sym x.decision) tt;
     lands = λ scripts journal down has.
         subst (λ (d : Decision). CarriedBy scripts journal down d p) (sym x.decision)
         (finish_itself scripts 0 0 0 0 (book_of scripts journal down book) t n.instance n.page bytes s.effects s.entered p x);
@@ -74,6 +77,7 @@ module _ (book : Book) (t : Ticket) (s : Segment) where
         (x []).recorded.decision ∙ ap (λ (m : ℕ). records (step.ended bytes) (spec.ends (ending_by t m n.page s.effects s.left)) s.entered) (number []) in
         record {
           decision = subst (IsDecisionBy t s (page name n)) (sym decided) (refl, refl);
+          reply = subst AnswersWithPage (sym decided) tt;
           lands = λ scripts journal down has.
               subst (λ (d : Decision). CarriedBy scripts journal down d p) (sym (x scripts).recorded.decision)
               (ending_itself scripts 0 0 0 0 (book_of scripts journal down book) t (i scripts) n.page bytes s.effects s.entered s.left p (here scripts) (x scripts));
@@ -93,6 +97,7 @@ module _ (book : Book) (t : Ticket) (s : Segment) where
           ∙ ap (λ (m : ℕ). records (step.shown bytes t.url) (spec.extends (extension_by t m n.page s.effects s.left kind deadline)) s.entered) (number []) in
           record {
             decision = subst (IsDecisionBy t s (page name n)) (sym decided) ((kind, (deadline, refl)), refl);
+            reply = subst AnswersWithPage (sym decided) tt;
             lands = λ scripts journal down has.
                 subst (λ (d : Decision). CarriedBy scripts journal down d p) (sym (x scripts).recorded.decision)
                 (extension_itself scripts 0 0 0 0 (book_of scripts journal down book) t (i scripts) n.page bytes s.effects s.entered s.left p (here scripts) kind deadline (x scripts));

@@ -7,8 +7,8 @@ use Rattle.std.proofs.lemmas.Option.{get_or_from_slice_get}
 use Rattle.script_value.specs.Val.{Val}
 use Rattle.script_value.specs.declared.outcome.TxName.{TxName}
 use Rattle.script_value.specs.declared.value.Value.{Value}
-use Rattle.prim_ops.specs.Same.{same}
-use Rattle.prim_ops.proofs.Tests.{equal_is_same}
+use Rattle.prim_spec.specs.Same.{same}
+use Rattle.prim_spec.proofs.Tests.{equal_is_same}
 use Rattle.instance_cells.specs.Cells.{Effect, read, set, add, cell_of, cell_at, sum, landed, Stands, Holds, AreOn}
 use Rattle.script_nodes.specs.Setup.{Named}
 use Rattle.replay_spec.specs.Book as spec

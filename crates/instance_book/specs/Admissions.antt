@@ -1,6 +1,7 @@
 -- What the program's admissions stand for in the definitions.
-use Rattle.std.specs.Prelude.{◌≡◌, ℕ, List, Option, Some, None, option_map, slice_get, ⊤, Result, IfOk, IfSome}
+use Rattle.std.specs.Prelude.{◌≡◌, ℕ, ◌==◌, ◌&&◌, Bool, List, Option, Some, None, option_map, slice_get, ⊤, Result, IfOk, IfSome}
 use Rattle.std.specs.Borrow.{Bor}
+use Rattle.std.specs.Str.{bytes_eq}
 use Rattle.std.specs.declared.alloc.AllocError.{AllocError}
 use Rattle.script_value.specs.declared.outcome.Refusal.{Refusal}
 use Rattle.script_nodes.specs.Setup.{Named}
@@ -41,7 +42,7 @@ admission_of scripts (Refused r) = spec.refused r
 abbrev pub IsPlacedAt : List Named → Place → Type 0
 IsPlacedAt scripts p = slice_get scripts p.instance.now.item.script ≡ Some (named_of p.script.now)
 
--- and each of its pages has its state, the place's page among them
+-- each page of the place's instance has its state, the place's page among them
 pub record IsKeptAt (scripts : List Named) (shelf : Source ℕ) (p : Place) : Type 0 where
   pub all :
       let s = named_of p.script.now in
@@ -54,21 +55,24 @@ pub record IsKeptAt (scripts : List Named) (shelf : Source ℕ) (p : Place) : Ty
 abbrev pub IsWhyNot : (clock : ℕ) → Numbered KeptInstance → Numbered KeptPage → Option Refusal → Type 0
 IsWhyNot clock i p r = (scripts : List Named) → r ≡ spec.why_not clock (instance_of scripts i) (page_of p)
 
--- the script that stands there; that of the instance of a number
+-- the script that is lent, if one is
 abbrev pub named_if : Option (Bor NamedScript) → Option Named
 named_if s = option_map (λ n. named_of n.now) s
 
+-- the script of the book's instance of this number, if there is one
 abbrev pub script_at : List Named → (instance : ℕ) → Book → Option Named
 script_at scripts n b = option_map (λ i. i.script) (book.instance_at n (instances_of scripts b.instances))
 
--- it is that of the instance
+-- the script that is lent is that of the instance
 abbrev pub IsScriptOf : List Named → Numbered KeptInstance → Option (Bor NamedScript) → Type 0
 IsScriptOf scripts i s = named_if s ≡ Some (instance_of scripts i).script
 
--- where each page of the book has the state of its chain, so have those of the place's instance; and so it is with given states
+-- where each page of the book has the state of its chain, so has each of the place's instance, if there is a place
 abbrev pub IsKeptWhere : Setup → Book → Option Place → Type 0
 IsKeptWhere setup b p = HasItsStates (scripts_of setup) b → IfSome p (IsKeptAt (scripts_of setup) (own b.shelf))
 
+-- whichever states are given to the pages of the book, where each page has its own, so has each of the place's instance, if there is a
+-- place
 abbrev pub IsGivenWhere : Setup → Book → Option Place → Type 0
 IsGivenWhere setup b p =
     (states : ℕ → Option Suspended) → HasStatesFrom (given states) (scripts_of setup) b
@@ -77,6 +81,10 @@ IsGivenWhere setup b p =
 -- the book under this setup; admission looks at neither a journal nor a doubt
 abbrev pub book_under : Setup → Book → book.Book
 book_under setup b = book_of (scripts_of setup) 0 None b
+
+-- whether a page of this script, on this shelf and with this nonce, has this name
+abbrev pub has_name : Named → (nonce shelf : ℕ) → (name : List ℕ) → PageName → Bool
+has_name s nonce shelf name n = n.shelf == shelf && bytes_eq s.name name && nonce == n.nonce
 
 -- what stands under a page's name in the book
 abbrev pub place_for : Setup → Book → ScriptName → PageName → Option spec.Place
@@ -90,10 +98,11 @@ abbrev pub IsPlaceOf : Setup → Book → (instance page : ℕ) → Option Place
 IsPlaceOf setup b instance page p =
     option_map (place_of (scripts_of setup)) p ≡ page_of_numbers (book_under setup b) instance page
 
--- what a target is admitted as in the book, and why it is not
+-- what a target is admitted as in the book
 abbrev pub admission_for : Setup → Book → Target → spec.Admission
 admission_for setup b target = spec.admit (book_under setup b) (target_of target)
 
+-- why a target is not admitted in the book, if it is not
 abbrev pub refusal_for : Setup → Book → Target → Option Refusal
 refusal_for setup b target = spec.refusal_of (admission_for setup b target)
 
@@ -113,26 +122,27 @@ IsStartOf setup name a =
 abbrev pub HasCellsBy : spec.Admission → Ticket → Type 0
 HasCellsBy a t = t.cells ≡ next.cells_by a
 
--- the ticket is for a start of the script of this place, or for an answer to the page of this place
+-- the ticket is for a start of this script, whose place in the setup is this one
 abbrev pub FitsStartIn : Setup → Book → (place : ℕ) → Named → Ticket → Type 0
 FitsStartIn setup b place s t = FitsStart (scripts_of setup) (book_under setup b) t place s
 
+-- the ticket is for an answer to the page of this place
 abbrev pub FitsPlace : Setup → Book → Place → Ticket → Type 0
 FitsPlace setup b place t =
     IsFor (scripts_of setup) t (next.page_visit (book_under setup b) (ticket_of t) (place_of (scripts_of setup) place))
 
--- where each page of the place's instance has the state of its chain, the ticket is for the answer to its page
+-- where each page of the place's instance has the state of its chain, the ticket is for an answer to the place's page
 abbrev pub FitsWhereKept : Setup → Book → Place → Result Ticket AllocError → Type 0
 FitsWhereKept setup b place result =
     IsKeptAt (scripts_of setup) (own b.shelf) place → IfOk result (FitsPlace setup b place)
 
--- where states are given to them, it goes on from the one that is given to the page
+-- where each page of the place's instance has the state that is given to it, the ticket goes on from that of the place's page
 abbrev pub GoesOnAsGiven : Setup → Place → Result Ticket AllocError → Type 0
 GoesOnAsGiven setup place result =
     (states : ℕ → Option Suspended) → IsKeptAt (scripts_of setup) (given states) place
     → IfOk result (GoesOnGiven states (place_of (scripts_of setup) place))
 
--- what it goes on from is a state of the place's script that can be written
+-- what the ticket goes on from, if anything, is a state of the place's script that can be written
 abbrev pub GoesOnStored : Place → Ticket → Type 0
 GoesOnStored place t = IsStoredOrigin (named_of place.script.now) t.from
 
@@ -140,7 +150,7 @@ GoesOnStored place t = IsStoredOrigin (named_of place.script.now) t.from
 abbrev pub FitsIn : Setup → Book → Target → Ticket → Type 0
 FitsIn setup b target t = FitsAs (scripts_of setup) (book_under setup b) t (admission_for setup b target)
 
--- so it is where each page of the book has the state of its chain
+-- where each page of the book has the state of its chain and the target is admitted, the ticket is for the visit
 abbrev pub FitsInKept : Setup → Book → Target → Result Ticket AllocError → Type 0
 FitsInKept setup b target result = HasItsStates (scripts_of setup) b → IfOk result (FitsIn setup b target)
 
@@ -148,16 +158,16 @@ FitsInKept setup b target result = HasItsStates (scripts_of setup) b → IfOk re
 abbrev pub StartsIn : Setup → Book → Target → Ticket → Type 0
 StartsIn setup b target t = FitsIfStart (scripts_of setup) (book_under setup b) t (admission_for setup b target)
 
--- what an admission resumes is of its instance's script
+-- the place that an admission resumes, if any, has the script of its instance
 abbrev pub ResumesPlaced : List Named → Admission → Type 0
 ResumesPlaced scripts (Resumes place) = IsPlacedAt scripts place
 ResumesPlaced scripts _ = ⊤
 
--- and what it resumes is kept so
+-- each page of the instance that an admission resumes, if any, has the state of its chain
 abbrev pub ResumesKept : List Named → (shelf : ℕ) → Admission → Type 0
 ResumesKept scripts shelf (Resumes place) = IsKeptAt scripts (own shelf) place
 ResumesKept scripts shelf _ = ⊤
 
--- so it is where each page of the book has the state of its chain
+-- where each page of the book has the state of its chain, so has each of the instance that an admission resumes, if any
 abbrev pub ResumesWhereKept : Setup → Book → Admission → Type 0
 ResumesWhereKept setup b a = HasItsStates (scripts_of setup) b → ResumesKept (scripts_of setup) b.shelf a

@@ -17,38 +17,40 @@ use Rattle.instance_book.specs.Views.{page_of, pages_of, instance_with}
 use Rattle.instance_book.specs.Changes.{shown_with, extension_of, begun_with, change_of, inside_of, decision_by, decision_of, instances_after, HasRoomWith, HasRoomFor, HasStateIn, HasStateFrom, instances_with}
 use Rattle.instance_book.specs.Places.{Source, kept_at, shown_in}
 
--- the same instance under each number and setup
+-- a copy stands for the same instance, under each number and setup
 abbrev pub IsSameInstance : (i copy : KeptInstance) → Type 0
 IsSameInstance i copy = (scripts : List Named) (n : ℕ) → instance_with scripts n copy ≡ instance_with scripts n i
 
--- the same pages, with the same states
+-- a copy has the same pages, with the same states
 pub record IsSamePages (ps copy : InOrder KeptPage) : Type 0 where
   pub pages : pages_of copy ≡ pages_of ps
   pub shown : shown_in copy ≡ shown_in ps
 
--- the same page with the same state, and the same is made of each instance
+-- a copy has the same page with the same state, and makes the same of each instance
 pub record IsSameShow (s copy : Show) : Type 0 where
   pub page : page_of copy.page ≡ page_of s.page
   pub state : kept_at copy.page ≡ kept_at s.page
   pub made : (i : spec.Instance) → shown_with copy i ≡ shown_with s i
 
--- the instance that begins is the same
+-- a copy of an opening begins the same instance
 abbrev pub BeginsAlike : (o copy : Opening) → Type 0
 BeginsAlike o copy = (scripts : List Named) → begun_with scripts copy ≡ begun_with scripts o
 
--- it tells the same state; and its instance has the same pages
+-- a copy of an opening tells the same state
 abbrev pub TellsAlike : (o copy : Opening) → Type 0
 TellsAlike o copy = suspended_of copy.state ≡ suspended_of o.state
 
+-- the instance of an opening's copy has the same pages, with the same states
 abbrev pub HasSamePages : (o copy : Opening) → Type 0
 HasSamePages o copy = IsSamePages o.instance.pages copy.instance.pages
 
--- the same record, and the same is made of each instance
+-- a copy of an extension has the same record, and makes the same of each instance
 pub record IsSameExtension (x copy : Extension) : Type 0 where
   pub extension : extension_of copy ≡ extension_of x
   pub show : IsSameShow x.show copy.show
 
--- the same change with the same record, and room for the one is room for the other
+-- a copy of a change has the same record and makes the same of the instances; where the one has its room, and its page its state, so has
+-- the copy
 pub record IsSameChange (c copy : Change) : Type 0 where
   pub change : change_of copy ≡ change_of c
   pub inside : inside_of copy ≡ inside_of c
@@ -56,14 +58,16 @@ pub record IsSameChange (c copy : Change) : Type 0 where
   pub room : (b : Book) → HasRoomWith c b → HasRoomWith copy b
   pub states : (scripts : List Named) (shelf : Source ℕ) (is : List spec.Instance) → HasStateIn scripts shelf is c → HasStateIn scripts shelf is copy
 
--- where there is one
+-- a copy of a change, if there is one, is the same decision and makes the same of the instances; where the one has its room, and its page
+-- its state, so has the copy
 pub record IsSameIf (c copy : Option Change) : Type 0 where
   pub decision : (r : step.Reply) → decision_by r copy ≡ decision_by r c
   pub instances : (scripts : List Named) (is : List spec.Instance) → instances_after scripts copy is ≡ instances_after scripts c is
   pub room : (b : Book) → HasRoomFor c b → HasRoomFor copy b
   pub states : (scripts : List Named) (shelf : Source ℕ) (is : List spec.Instance) → HasStateFrom scripts shelf is c → HasStateFrom scripts shelf is copy
 
--- the same visit
+-- a copy of what is prepared has the same reply and decision and makes the same of the instances; where the one has its room, and its page
+-- its state, so has the copy
 pub record IsSame (p copy : Prepared) : Type 0 where
   pub reply : copy.reply ≡ p.reply
   pub logged : copy.logged ≡ p.logged

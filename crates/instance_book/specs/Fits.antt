@@ -49,7 +49,7 @@ FitsAs scripts b t (begins k s) = FitsStart scripts b t k s
 FitsAs scripts b t (resumes at) = IsFor scripts t (page_visit b (ticket_of t) at)
 FitsAs scripts b t (refused r) = ⊤
 
--- what a ticket goes on from fits a script
+-- what a ticket goes on from, if anything, fits a script
 abbrev pub FitsScript : Arena → Option Suspended → Type 0
 FitsScript a None = ⊤
 FitsScript a (Some d) = Fits a d
@@ -57,7 +57,7 @@ FitsScript a (Some d) = Fits a d
 abbrev pub IsOriginOf : Named → Origin → Type 0
 IsOriginOf s from = FitsScript (arena_of s.script) (origin_of from)
 
--- and it is one that can be written
+-- what a ticket goes on from, if anything, is a state of the script that can be written
 abbrev pub IsStoredScript : Arena → Option Suspended → Type 0
 IsStoredScript a None = ⊤
 IsStoredScript a (Some d) = IsStored a d
@@ -72,7 +72,8 @@ pub record GoesOnGiven (states : ℕ → Option Suspended) (at : Place) (t : Tic
   pub state : IsGiven at.instance.script states at.page.number before
   pub links : t.links ≡ links_at (length (spec.chain at.instance.pages at.page))
 
--- where pages have the states of their chains it is for the visit that answers the page, and else it goes on from the given state
+-- where pages have the states of their chains, the ticket is for the visit that answers the page; where states are given, it goes on from
+-- the given one
 abbrev pub GoesOnBySource : Source ⊤ → List Named → spec.Book → Place → Ticket → Type 0
 GoesOnBySource (own all) scripts b at t = IsFor scripts t (page_visit b (ticket_of t) at)
 GoesOnBySource (given states) scripts b at t = GoesOnGiven states at t
@@ -94,7 +95,7 @@ pub record IsForSome (scripts : List Named) (t : Ticket) : Type 0 where
   pub ticket : visit.ticket ≡ ticket_of t
   pub fits : IsFor scripts t visit
 
--- the same ticket, which goes on from the same
+-- a copy stands for the same ticket, and goes on from the same state
 pub record IsCopy (copy t : Ticket) : Type 0 where
   pub ticket : ticket_of copy ≡ ticket_of t
   pub target : copy.target ≡ t.target
@@ -104,6 +105,6 @@ pub record IsCopy (copy t : Ticket) : Type 0 where
   pub links : copy.links ≡ t.links
   pub cells : copy.cells ≡ t.cells
 
--- it is the state that a page of the ticket's segment is written behind
+-- what is lent is the state that a page of the ticket's segment is written behind, if there is one
 abbrev pub IsWrittenBehind : Ticket → Option (Bor stored.Suspended) → Type 0
 IsWrittenBehind t d = option_map (λ x. suspended_of x.now) d ≡ behind_at t.links (origin_of t.from)

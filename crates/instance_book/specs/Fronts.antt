@@ -11,10 +11,10 @@ use Rattle.instance_book.specs.declared.in_order.InOrder.{InOrder}
 use Rattle.instance_book.specs.declared.page.KeptPage.{KeptPage}
 use Rattle.instance_book.specs.Places.{AreStatesOf}
 
--- such a front of the page's state is this
+-- this is so much of the page's state as is needed
 abbrev pub IsFrontIn : Named → InOrder KeptPage → Numbered KeptPage → Need → stored.Suspended → Type 0
 IsFrontIn s ps p n d = (are : AreStatesOf s ps p) → front n are.own.state ≡ suspended_of d
 
--- so it is of a page of so many links
+-- where the page has so many links, the result is so much of its state as is needed
 abbrev pub IsFrontAt : Named → InOrder KeptPage → Numbered KeptPage → Need → (links : ℕ) → Result stored.Suspended AllocError → Type 0
 IsFrontAt s ps p n links result = p.item.state.links ≡ links → IfOk result (IsFrontIn s ps p n)

@@ -24,7 +24,7 @@ abbrev pub KeepsStateOver : Visit → Segment → Type 0
 KeepsStateOver v r =
     Keeps r.outcome (λ d. IsStateOf (arena_of v.script.script) (tape_for v (recorded (reads_of (map effect_of r.effects.items)))) d)
 
--- the visit is the one that the ticket's target is admitted as
+-- where the segment waits for an answer, its state is kept over the tape of the visit that the ticket's target is admitted as
 abbrev pub KeepsStateAs : Book → Ticket → Admission → Segment → Type 0
 KeepsStateAs b t (begins k s) r = KeepsStateOver (start_visit b (ticket_of t) k s) r
 KeepsStateAs b t (resumes at) r = KeepsStateOver (page_visit b (ticket_of t) at) r

@@ -13,28 +13,30 @@ use Rattle.instance_book.specs.Views.{instance_of, instances_of, book_of}
 use Rattle.machine_spec.specs.Machine.{Suspended}
 use Rattle.instance_book.specs.Places.{Source, own, given, seen_from, IsKept, AreKept, IsPlaced, ArePlaced, IsNextAt}
 
--- whatever the setup, of the one list this was made
+-- whatever the setup, f made the new instances of the old ones
 abbrev pub AllBecome : (List spec.Instance → List spec.Instance) → (old new : InOrder KeptInstance) → Type 0
 AllBecome f old new = (scripts : List Named) → instances_of scripts new ≡ f (instances_of scripts old)
 
+-- whatever the setup, the new instances are the old ones with this one put among them
 abbrev pub PutsInstance : Numbered KeptInstance → (old new : InOrder KeptInstance) → Type 0
 PutsInstance i old new =
     (scripts : List Named) → instances_of scripts new ≡ put_instance (instance_of scripts i) (instances_of scripts old)
 
--- the instance of a number, which is kept as each is
+-- what is lent is the instance of a number, if there is one
 abbrev pub IsInstanceAt : ℕ → InOrder KeptInstance → Option (Bor (Numbered KeptInstance)) → Type 0
 IsInstanceAt n is i =
     (scripts : List Named) → option_map (λ x. instance_of scripts x.now) i ≡ spec.instance_at n (instances_of scripts is)
 
+-- where each instance is of a script of the setup and each page has its state, so it is with the one that is lent, if any
 abbrev pub IsKeptAmong : InOrder KeptInstance → Option (Bor (Numbered KeptInstance)) → Type 0
 IsKeptAmong is i =
     (scripts : List Named) (shelf : Source ℕ) → AreKept scripts shelf is → IfSome i (λ x. IsKept scripts shelf x.now)
 
--- it is of a script of the setup, as each is
+-- where each instance is of a script of the setup, so is the one that is lent, if any
 abbrev pub IsPlacedAmong : InOrder KeptInstance → Option (Bor (Numbered KeptInstance)) → Type 0
 IsPlacedAmong is i = (scripts : List Named) → ArePlaced scripts is → IfSome i (λ x. IsPlaced scripts x.now)
 
--- Whatever the setup, the length of the journal and what is in doubt, of the one book this was made, under that setup.
+-- Whatever the setup, the length of the journal and what is in doubt, f made the new book of the old one, under that setup.
 abbrev pub MakesUnder : (List Named → spec.Book → spec.Book) → (old new : Book) → Type 0
 MakesUnder f old new =
     (scripts : List Named) (journal : ℕ) (down : Option spec.Doubt)
@@ -50,33 +52,36 @@ StaysSame old new = Makes (λ b. b) old new
 abbrev pub count_of : Book → ℕ
 count_of b = length b.instances.things.items
 
--- each instance is of a script of the setup; and so it goes on to be
+-- each instance of the book is of a script of the setup
 abbrev pub HasPlaces : List Named → Book → Type 0
 HasPlaces scripts b = ArePlaced scripts b.instances
 
+-- where each instance of the old book is of a script of the setup, so is each of the new one
 abbrev pub KeepsPlaces : (old new : Book) → Type 0
 KeepsPlaces old new = (scripts : List Named) → HasPlaces scripts old → HasPlaces scripts new
 
--- whose states they are in a book's shelf
+-- where the states of a book's pages are from: their chains, which are looked at from this shelf, or given states
 abbrev pub shelf_from : Source ⊤ → (shelf : ℕ) → Source ℕ
 shelf_from source shelf = seen_from (λ all. shelf) source
 
--- and each of its pages has its state: that of its chain, or the one that is given to it; and so it goes on to be
+-- each instance of the book is of a script of the setup, and each page has its state: that of its chain, or the one that is given to it
 abbrev pub HasStatesFrom : Source ⊤ → List Named → Book → Type 0
 HasStatesFrom source scripts b = AreKept scripts (shelf_from source b.shelf) b.instances
 
+-- each instance of the book is of a script of the setup, and each page has the state of its chain
 abbrev pub HasItsStates : List Named → Book → Type 0
 HasItsStates scripts b = AreKept scripts (own b.shelf) b.instances
 
--- whichever states are given to its pages, they have them: so it is where there is none
+-- whichever states are given to the pages of the book, they have them, as where there is no page
 abbrev pub HasWhatIsGiven : Book → Type 0
 HasWhatIsGiven b = (states : ℕ → Option Suspended) (scripts : List Named) → HasStatesFrom (given states) scripts b
 
+-- where each page of the old book has its state, so has each of the new one
 abbrev pub KeepsStates : (old new : Book) → Type 0
 KeepsStates old new =
     (source : Source ⊤) (scripts : List Named) → HasStatesFrom source scripts old → HasStatesFrom source scripts new
 
--- where this is the next page of its instance and has its state, each goes on to be kept so
+-- where this is the next page of its instance and has its state, and each old page has its own, so has each new one
 abbrev pub StayKeptNext : (instance : ℕ) → Numbered KeptPage → (old new : InOrder KeptInstance) → Type 0
 StayKeptNext n p old new =
     (scripts : List Named) (shelf : Source ℕ) → IsNextAt shelf (instances_of scripts old) n p → AreKept scripts shelf old → AreKept scripts shelf new

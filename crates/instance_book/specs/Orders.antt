@@ -20,7 +20,7 @@ pub record IsGap (ns : List ℕ) (n place : ℕ) : Type 0 where
   pub lower : (k : ℕ) → k < place → slice_index ns k < n
   pub greater : (k : ℕ) → place ≤ k → k < length ns → n < slice_index ns k
 
--- where a search for the number ended
+-- what a search for the number found: its place, or the one at which it would stand
 pub record Finds (ns : List ℕ) (n : ℕ) (result : Result ℕ ℕ) : Type 0 where
   pub found : IfOk result (IsAt ns n)
   pub absent : IfErr result (IsGap ns n)

@@ -3,7 +3,7 @@ use Rattle.std.specs.Prelude.{◌≡◌, ◌<◌, ℕ, List, [], ◌∷◌, map,
 use Rattle.std.specs.List.{AllByRecursion}
 use Rattle.std.specs.Borrow.{Bor}
 use Rattle.script_nodes.specs.Arena.{Arena}
-use Rattle.script_nodes.specs.Layout.{layout}
+pub use Rattle.script_nodes.specs.Arena.{arena_of}
 use Rattle.script_nodes.specs.Setup.{Named, Script}
 use Rattle.replay_spec.specs.Book as spec
 use Rattle.replay_spec.specs.Change.{put_page, put_in_order}
@@ -24,31 +24,31 @@ use Rattle.instance_book.specs.declared.page.KeptPage.{KeptPage}
 use Rattle.instance_book.specs.declared.instance.KeptInstance.{KeptInstance}
 use Rattle.instance_book.specs.Views.{page_of, pages_of, script_in}
 
--- a script as its nodes in pre-order
-abbrev pub arena_of : Script → Arena
-arena_of s = record { nodes = layout 0 s.body; web = s.web; cells = s.cells }
-
--- what is kept of the state of a page; a page with it, and all of an instance
+-- what is kept of the state of a page
 abbrev pub kept_at : Numbered KeptPage → Kept
 kept_at p = kept_of p.item.state
 
+-- a page with what is kept of its state
 abbrev pub shown_of : Numbered KeptPage → spec.Page × Kept
 shown_of p = (page_of p, kept_at p)
 
+-- the pages of an instance, each with what is kept of its state
 abbrev pub shown_in : InOrder KeptPage → List (spec.Page × Kept)
 shown_in ps = map shown_of ps.things.items
 
--- the page of a number; and with what is kept of its state
+-- what is lent is the page of a number, if there is one
 abbrev pub IsPageAt : ℕ → InOrder KeptPage → Option (Bor (Numbered KeptPage)) → Type 0
 IsPageAt n ps p = option_map (λ x. page_of x.now) p ≡ spec.page_at n (pages_of ps)
 
+-- what is lent is the page of a number with what is kept of its state, if there is one
 abbrev pub IsShownAt : ℕ → InOrder KeptPage → Option (Bor (Numbered KeptPage)) → Type 0
 IsShownAt n ps p = option_map (λ x. shown_of x.now) p ≡ spec.at_number (λ x. x.0.number) n (shown_in ps)
 
--- one page more, in the place of the one of its number; and with what is kept of its state
+-- the new pages are the old ones with one more, in the place of the one of its number
 abbrev pub PutsPage : Numbered KeptPage → (old new : InOrder KeptPage) → Type 0
 PutsPage p old new = pages_of new ≡ put_page (page_of p) (pages_of old)
 
+-- the new pages with what is kept of their states are the old ones with one more, in the place of the one of its number
 abbrev pub PutsShown : Numbered KeptPage → (old new : InOrder KeptPage) → Type 0
 PutsShown p old new = shown_in new ≡ put_in_order (λ x. x.0.number) (shown_of p) (shown_in old)
 
@@ -62,11 +62,11 @@ abbrev pub seen_from : {A B : Type 0} → (A → B) → Source A → Source B
 seen_from f (own x) = own (f x)
 seen_from f (given states) = given states
 
--- in the instance of this number
+-- where the states of the pages of this instance are from: their chains, which are looked at from its home, or given states
 abbrev pub source_in : Named → Source ℕ → (instance : ℕ) → Source Home
 source_in s shelf n = seen_from (λ number. home s number n) shelf
 
--- a given state fits the script, and has a spelling
+-- the state that is given to this number is this one, which fits the script and has a spelling
 abbrev pub IsGiven : Named → (ℕ → Option Suspended) → (number : ℕ) → Suspended → Type 0
 IsGiven s states n d = (states n ≡ Some d) × IsStored (arena_of s.script) d
 
@@ -99,33 +99,37 @@ pub record IsKeptAs (scripts : List Named) (shelf : Source ℕ) (number place : 
   pub placed : place < length scripts
   pub states : let s = script_in scripts place in HaveStates s (source_in s shelf number) ps xs
 
--- the instance is of a script of the setup, and each page has its state; each instance is so
+-- the instance is of a script of the setup, and each of its pages has its state
 abbrev pub IsKept : List Named → Source ℕ → Numbered KeptInstance → Type 0
 IsKept scripts shelf i = IsKeptAs scripts shelf i.number i.item.script (pages_of i.item.pages) (shown_in i.item.pages)
 
+-- each instance is of a script of the setup, and each page has its state
 abbrev pub AreKept : List Named → Source ℕ → InOrder KeptInstance → Type 0
 AreKept scripts shelf is = AllByRecursion (IsKept scripts shelf) is.things.items
 
--- the instance is of a script of the setup; each instance is so
+-- the instance is of a script of the setup
 abbrev pub IsPlaced : List Named → Numbered KeptInstance → Type 0
 IsPlaced scripts i = i.item.script < length scripts
 
+-- each instance is of a script of the setup
 abbrev pub ArePlaced : List Named → InOrder KeptInstance → Type 0
 ArePlaced scripts is = AllByRecursion (IsPlaced scripts) is.things.items
 
--- where each was so, each is; where this one is so too, each goes on to be
+-- where each old instance is of a script of the setup, so is each new one
 abbrev pub StayPlaced : (old new : InOrder KeptInstance) → Type 0
 StayPlaced old new = (scripts : List Named) → ArePlaced scripts old → ArePlaced scripts new
 
+-- where this instance is of a script of the setup, and each old one is, so is each new one
 abbrev pub StayPlacedWith : Numbered KeptInstance → (old new : InOrder KeptInstance) → Type 0
 StayPlacedWith i old new = (scripts : List Named) → IsPlaced scripts i → ArePlaced scripts old → ArePlaced scripts new
 
--- where this one is so too, each goes on to be
+-- where this instance is of a script of the setup and its pages have their states, and so it is with each old one, so it is with each new
+-- one
 abbrev pub StayKeptWith : Numbered KeptInstance → (old new : InOrder KeptInstance) → Type 0
 StayKeptWith i old new =
     (scripts : List Named) (shelf : Source ℕ) → IsKept scripts shelf i → AreKept scripts shelf old → AreKept scripts shelf new
 
--- where each was so, each is
+-- where each old instance is of a script of the setup and each page has its state, so it is with each new one
 abbrev pub StayKept : (old new : InOrder KeptInstance) → Type 0
 StayKept old new = (scripts : List Named) (shelf : Source ℕ) → AreKept scripts shelf old → AreKept scripts shelf new
 
@@ -134,7 +138,7 @@ pub record IsNextIn (shelf : Source ℕ) (i : spec.Instance) (p : spec.Page) (k 
   pub unused : spec.page_at p.number i.pages ≡ None
   pub state : HasState i.script (source_in i.script shelf i.number) (put_page p i.pages) p k
 
--- so it is in the instance of a number, where there is one
+-- the page is new in the instance of a number, where there is one, and this is kept of its state
 abbrev pub IsNextAt : Source ℕ → List spec.Instance → (instance : ℕ) → Numbered KeptPage → Type 0
 IsNextAt shelf is n p = (i : spec.Instance) → spec.instance_at n is ≡ Some i → IsNextIn shelf i (page_of p) (kept_at p)
 
@@ -144,15 +148,15 @@ pub record AreStatesOf (s : Named) (ps : InOrder KeptPage) (p : Numbered KeptPag
   pub all : HaveStates s home (pages_of ps) (shown_in ps)
   pub own : HasState s home (pages_of ps) (page_of p) (kept_at p)
 
--- its state is this
+-- where each page among these has its state, that of this page is this one
 abbrev pub IsStateIn : Named → InOrder KeptPage → Numbered KeptPage → stored.Suspended → Type 0
 IsStateIn s ps p d = (are : AreStatesOf s ps p) → are.own.state ≡ suspended_of d
 
--- an answer to it goes on from that
+-- where each page among these has its state, an answer to this page goes on from the page's state
 abbrev pub IsOriginIn : Named → InOrder KeptPage → Numbered KeptPage → Origin → Type 0
 IsOriginIn s ps p from = (are : AreStatesOf s ps p) → origin_of from ≡ Some are.own.state
 
--- Of the pages of an instance each has its state; then so it is with one more that has its own.
+-- Where each page of an instance has its state, so has each with one page more that has its own.
 abbrev pub OneMoreHasItsState : Type 0
 OneMoreHasItsState =
     (s : Named) (h : Source Home) (ps : List spec.Page) (xs : List (spec.Page × Kept)) (p : spec.Page) (k : Kept)

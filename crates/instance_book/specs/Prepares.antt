@@ -53,7 +53,8 @@ pub record IsCarriedOut (scripts : List Named) (rules : Rules) (b : spec.Book) (
   pub decision : decision_of p ≡ d
   pub lands : (n : ℕ) → carried_out rules (spend n b) d ≡ (reply_of p.reply, put_into scripts p (spend n b))
 
--- A refusal is the decision. Want of memory is told only of one that changes the book.
+-- What is prepared carries the decision out, and a refusal is the decision. Want of memory is told only of a decision that changes the
+-- book.
 abbrev pub Prepares : List Named → Rules → spec.Book → Decision → Result Prepared Reply → Type 0
 Prepares scripts rules b d (Ok p) = IsCarriedOut scripts rules b d p
 Prepares scripts rules b d (Err reply.Memory) = IsRecord d
@@ -76,7 +77,7 @@ WantsRoom (step.instance_full count) = ⊤
 WantsRoom step.memory = ⊤
 WantsRoom _ = ⊥
 
--- the first page of an instance, and the instance without it and with it
+-- the first page of the instance that a start begins
 abbrev pub first_page : Ticket → List Effect → List TxName → (deadline : ℕ) → spec.Page
 first_page t effects inside deadline = record {
   number = t.number;
@@ -88,15 +89,17 @@ first_page t effects inside deadline = record {
   deadline = deadline;
 }
 
+-- the instance that a start begins, without its first page
 abbrev pub begun_by : List Named → Ticket → (number : ℕ) → List Effect → (left : List TxName) → spec.Instance
 begun_by scripts t n effects left =
     record { number = n; script = script_in scripts t.script; cells = commit effects t.cells; closed = left; revoked = []; pages = [] }
 
+-- the instance that a start begins, with its first page
 abbrev pub first_instance : List Named → Ticket → List Effect → (inside left : List TxName) → (deadline : ℕ) → spec.Instance
 first_instance scripts t effects inside left deadline =
     record (begun_by scripts t t.number effects left) { pages = first_page t effects inside deadline ∷ [] }
 
--- the page of an answer to this one
+-- the page of an answer to the page of this number
 abbrev pub next_page : Ticket → (parent : ℕ) → List Effect → List TxName → (deadline : ℕ) → spec.Page
 next_page t parent effects inside deadline = record {
   number = t.number;
@@ -108,7 +111,7 @@ next_page t parent effects inside deadline = record {
   deadline = deadline;
 }
 
--- the changes of a ticket's segment
+-- the opening of a ticket's segment
 abbrev pub opening_by : Ticket → List Effect → List TxName → SendKind → (deadline : ℕ) → spec.Opening
 opening_by t effects left kind deadline = record {
   number = t.number;
@@ -120,6 +123,7 @@ opening_by t effects left kind deadline = record {
   deadline = deadline;
 }
 
+-- the extension by a ticket's segment
 abbrev pub extension_by : Ticket → (instance answered : ℕ) → List Effect → List TxName → SendKind → (deadline : ℕ) → spec.Extension
 extension_by t instance answered effects left kind deadline = record {
   number = t.number;
@@ -133,6 +137,7 @@ extension_by t instance answered effects left kind deadline = record {
   deadline = deadline;
 }
 
+-- the ending by a ticket's segment
 abbrev pub ending_by : Ticket → (instance answered : ℕ) → List Effect → List TxName → spec.Ending
 ending_by t instance answered effects left = record {
   number = t.number;
@@ -143,6 +148,7 @@ ending_by t instance answered effects left = record {
   left = left;
 }
 
+-- the finish by a ticket's segment
 abbrev pub finish_by : Ticket → (instance answered : ℕ) → List Effect → spec.Finish
 finish_by t instance answered effects = record {
   number = t.number;
@@ -152,40 +158,42 @@ finish_by t instance answered effects = record {
   effects = effects;
 }
 
--- the instance that an opening begins with is this under each setup; an extension or ending makes this of an instance
+-- the change is an opening, and the instance that it begins is this one under each setup
 abbrev pub OpensWith : Option Change → (List Named → spec.Instance) → Type 0
 OpensWith (Some (Opens o)) f = (scripts : List Named) → begun_with scripts o ≡ f scripts
 OpensWith _ f = ⊥
 
+-- the change is an extension of this instance, and makes of it what f does
 abbrev pub ExtendsBy : Option Change → spec.Instance → (spec.Instance → spec.Instance) → Type 0
 ExtendsBy (Some (Extends x)) i f = (x.instance ≡ i.number) × (shown_with x.show i ≡ f i)
 ExtendsBy _ i f = ⊥
 
+-- the change is an ending of this instance, and makes of it what f does
 abbrev pub EndsBy : Option Change → spec.Instance → (spec.Instance → spec.Instance) → Type 0
 EndsBy (Some (Ends e)) i f = (e.instance ≡ i.number) × (ended_with e.after i ≡ f i)
 EndsBy _ i f = ⊥
 
--- a segment's number is logged, and this was decided
+-- the number of the ticket is logged, and this was decided
 pub record IsLogged (p : Prepared) (t : Ticket) (d : Decision) : Type 0 where
   pub decision : decision_of p ≡ d
   pub logged : p.logged ≡ t.number + 1
 
--- a start showed this page
+-- what is prepared is the opening of a start that showed this page
 pub record IsOpening (p : Prepared) (t : Ticket) (bytes : List ℕ) (effects : List Effect) (inside left : List TxName) (kind : SendKind) (deadline : ℕ) : Type 0 where
   pub recorded : IsLogged p t (records (shown bytes t.url) (spec.opens (opening_by t effects left kind deadline)) inside)
   pub change : OpensWith p.change (λ scripts. first_instance scripts t effects inside left deadline)
 
--- an answer to a page of the instance showed this page, which makes this of the instance
+-- what is prepared is the extension by an answer to a page of the instance that showed this page, and makes of the instance what f does
 pub record IsExtension (p : Prepared) (t : Ticket) (i : spec.Instance) (answered : ℕ) (bytes : List ℕ) (effects : List Effect) (inside left : List TxName) (kind : SendKind) (deadline : ℕ) (f : spec.Instance → spec.Instance) : Type 0 where
   pub recorded : IsLogged p t (records (shown bytes t.url) (spec.extends (extension_by t i.number answered effects left kind deadline)) inside)
   pub change : ExtendsBy p.change i f
 
--- it ended with this page
+-- what is prepared is the ending of the instance by an answer with this page, and makes of the instance what f does
 pub record IsEnding (p : Prepared) (t : Ticket) (i : spec.Instance) (answered : ℕ) (bytes : List ℕ) (effects : List Effect) (inside left : List TxName) (f : spec.Instance → spec.Instance) : Type 0 where
   pub recorded : IsLogged p t (records (ended bytes) (spec.ends (ending_by t i.number answered effects left)) inside)
   pub change : EndsBy p.change i f
 
--- it freed the instance with this page
+-- what is prepared is the finish by an answer that freed the instance with this page
 abbrev pub IsFinish : Prepared → Ticket → (instance answered : ℕ) → (bytes : List ℕ) → List Effect → (inside : List TxName) → Type 0
 IsFinish p t instance answered bytes effects inside =
     IsLogged p t (records (finished bytes) (spec.finishes (finish_by t instance answered effects)) inside)
@@ -207,22 +215,24 @@ AnswersOn book t n s pages life result =
     → let rules = rules_with fuel life instances pages in
     Prepares scripts rules b (settles rules b (length at.instance.pages) (page_visit b (ticket_of t) at) s) result
 
--- so it is with what the program's segment came to
+-- what is prepared for an answer to a page that is admitted, with what the program's segment came to
 abbrev pub AnswersBy : Book → Ticket → PageName → stored.Segment → (pages life : ℕ) → Result Prepared Reply → Type 0
 AnswersBy book t n r pages life result = AnswersOn book t n (segment_of r) pages life result
 
--- the effects are on the cells of the instance; on those of the ticket's instance, which a start's ticket has itself
+-- the effects are on the cells of the instance of this number, if there is one
 abbrev pub IsOnCells : Book → (instance : ℕ) → List Effect → Type 0
 IsOnCells b n effects = IfSome (cells_at n b) (λ cells. AreOn (length cells) effects)
 
+-- the effects are on the cells of a start's ticket, or of the instance whose page is answered
 abbrev pub AreOnBy : Book → Ticket → Destination → List Effect → Type 0
 AreOnBy b t (start name) effects = AreOn (length t.cells) effects
 AreOnBy b t (page name n) effects = IsOnCells b n.instance effects
 
+-- the effects are on the cells of the ticket, where it is for a start, or of the instance whose page it answers
 abbrev pub AreOnCells : Book → Ticket → List Effect → Type 0
 AreOnCells b t effects = AreOnBy b t (target_of t.target) effects
 
--- what a visit comes to whose new segment came to this
+-- the decision on a visit whose new segment came to this
 abbrev pub settled : Rules → spec.Book → Ticket → Admission → Segment → Decision
 settled rules b t (begins k named) s = settles rules b (length b.instances) (start_visit b (ticket_of t) k named) s
 settled rules b t (resumes at) s = settles rules b (length at.instance.pages) (page_visit b (ticket_of t) at) s
@@ -235,17 +245,15 @@ IsPrepared book t s instances pages life result =
     → let b = book_of scripts length_now down book in admit b (target_of t.target) ≡ a → refusal_of a ≡ None → FitsAs scripts b t a
     → let rules = rules_with fuel life instances pages in Prepares scripts rules b (settled rules b t a s) result
 
--- so it is with what the program's segment came to
+-- what is prepared with what the program's segment came to, where the target is admitted and the ticket is for the visit
 abbrev pub IsPreparedBy : Book → Ticket → stored.Segment → (instances pages life : ℕ) → Result Prepared Reply → Type 0
 IsPreparedBy book t r instances pages life result = IsPrepared book t (segment_of r) instances pages life result
 
--- of the state of a ticket's page this is kept: as many links from one kept by itself as the ticket says, behind that from which
--- the ticket goes on
+-- this is kept of the state of a ticket's page: as many links from one kept by itself as the ticket says, behind that from which it goes on
 abbrev pub IsKeptOfTicket : Ticket → Suspended → Numbered KeptPage → Type 0
 IsKeptOfTicket t d p = IsKeptFrom (origin_of t.from) t.links d (kept_at p)
 
--- A start's instance begins with its page alone, and an answer's page follows the one that was answered; each is the page of the
--- ticket, behind what its segment did, and has this state.
+-- a start's instance begins with its page alone: this is the page of the ticket, after what its segment did, and has this state
 pub record OpensAs (t : Ticket) (effects : List Effect) (inside : List TxName) (d : Suspended) (o : Opening) : Type 0 where
   pub script : o.instance.script ≡ t.script
   pub pages : pages_of o.instance.pages ≡ []
@@ -254,71 +262,80 @@ pub record OpensAs (t : Ticket) (effects : List Effect) (inside : List TxName) (
   pub state : IsKeptFrom None 0 d (kept_at o.page)
   pub told : suspended_of o.state ≡ d
 
+-- an answer's page follows the one that was answered: it is the page of the ticket, after what its segment did, and has this state
 pub record ExtendsAs (t : Ticket) (number answered : ℕ) (effects : List Effect) (inside : List TxName) (d : Suspended) (x : Extension) : Type 0 where
   pub instance : x.instance ≡ number
   pub page : page_of x.show.page ≡ next_page t answered effects inside x.show.page.item.deadline
   pub state : IsKeptOfTicket t d x.show.page
   pub told : suspended_of x.state ≡ d
 
+-- the change is the opening of a start, and its page has this state
 abbrev pub OpensTo : Ticket → List Effect → (inside : List TxName) → Suspended → Option Change → Type 0
 OpensTo t effects inside d (Some (Opens o)) = OpensAs t effects inside d o
 OpensTo t effects inside d _ = ⊥
 
+-- the change is the extension by an answer to this page, and its new page has this state
 abbrev pub ExtendsTo : Ticket → (instance answered : ℕ) → List Effect → (inside : List TxName) → Suspended → Option Change → Type 0
 ExtendsTo t instance answered effects inside d (Some (Extends x)) = ExtendsAs t instance answered effects inside d x
 ExtendsTo t instance answered effects inside d _ = ⊥
 
--- the first page of a start, or the page of an answer to this one, has the state of its segment
+-- the change is the opening of a start, and its page has the state of the segment
 abbrev pub OpensFrom : Ticket → stored.Segment → Option Change → Type 0
 OpensFrom t r c =
     (d : Suspended) × ((state_of r.outcome ≡ Some d) × OpensTo t (segment_of r).effects r.entered.items d c)
 
+-- the change is the extension by an answer to this page, and its new page has the state of the segment
 abbrev pub ExtendsFrom : Ticket → stored.Segment → (instance answered : ℕ) → Option Change → Type 0
 ExtendsFrom t r instance answered c =
     (d : Suspended) × ((state_of r.outcome ≡ Some d) × ExtendsTo t instance answered (segment_of r).effects r.entered.items d c)
 
--- the change shows no page; or it shows the page so
+-- the change, if there is one, shows no page
 abbrev pub ShowsNone : Option Change → Type 0
 ShowsNone (Some (Opens o)) = ⊥
 ShowsNone (Some (Extends x)) = ⊥
 ShowsNone _ = ⊤
 
+-- the change shows no page, or it is the opening of a start, and its page has the state of the segment
 abbrev pub StartKeepsState : Ticket → stored.Segment → Option Change → Type 0
 StartKeepsState t r c = ShowsNone c ⊎ OpensFrom t r c
 
+-- the change shows no page, or it is the extension by an answer to this page, and its new page has the state of the segment
 abbrev pub AnswerKeepsState : Ticket → stored.Segment → (instance answered : ℕ) → Option Change → Type 0
 AnswerKeepsState t r instance answered c = ShowsNone c ⊎ ExtendsFrom t r instance answered c
 
--- so it is of what is prepared for an answer to the page of this name
+-- what is prepared for an answer to the page of this name shows no page, or one that has the state of the segment
 abbrev pub KeepsAnswerState : Ticket → stored.Segment → PageName → Prepared → Type 0
 KeepsAnswerState t r n p = AnswerKeepsState t r n.instance n.page p.change
 
--- the new page of a ticket, if there is one, is that of its segment
+-- the new page of a visit of this destination, if there is one, has the state of the ticket's segment
 abbrev pub KeepsStateOf : Ticket → stored.Segment → Destination → Option Change → Type 0
 KeepsStateOf t r (start name) c = StartKeepsState t r c
 KeepsStateOf t r (page name n) c = AnswerKeepsState t r n.instance n.page c
 
+-- the new page of a ticket, if there is one, has the state of its segment
 abbrev pub KeepsItsState : Ticket → stored.Segment → Option Change → Type 0
 KeepsItsState t r c = KeepsStateOf t r (target_of t.target) c
 
 -- ---- whatever the ticket is for
 
--- the change is that of a ticket's segment: of a start, or of an answer to this page of this instance
+-- the change is the opening of a ticket's segment
 abbrev pub IsStartBy : Ticket → Segment → spec.Change → Type 0
 IsStartBy t s (spec.opens o) = (kind : SendKind) × ((deadline : ℕ) × (o ≡ opening_by t s.effects s.left kind deadline))
 IsStartBy t s _ = ⊥
 
+-- the change is that of a ticket's segment which answered this page of this instance
 abbrev pub IsAnswerBy : Ticket → Segment → (instance answered : ℕ) → spec.Change → Type 0
 IsAnswerBy t s n m (spec.extends x) = (kind : SendKind) × ((deadline : ℕ) × (x ≡ extension_by t n m s.effects s.left kind deadline))
 IsAnswerBy t s n m (spec.ends e) = e ≡ ending_by t n m s.effects s.left
 IsAnswerBy t s n m (spec.finishes f) = f ≡ finish_by t n m s.effects
 IsAnswerBy t s n m _ = ⊥
 
+-- the change is that of a ticket's segment: of a start, or of an answer to the page of this destination
 abbrev pub IsChangeBy : Ticket → Segment → Destination → spec.Change → Type 0
 IsChangeBy t s (start name) c = IsStartBy t s c
 IsChangeBy t s (page name n) c = IsAnswerBy t s n.instance n.page c
 
--- and its page is inside the transactions in which the segment stopped
+-- the change, if there is one, is that of a ticket's segment, and its page is inside the transactions in which the segment stopped
 abbrev pub IsDecisionBy : Ticket → Segment → Destination → Decision → Type 0
 IsDecisionBy t s d (replies r) = ⊤
 IsDecisionBy t s d (records r c inside) = IsChangeBy t s d c × (inside ≡ s.entered)
@@ -334,17 +351,28 @@ CarriesItself book t d p =
     (scripts : List Named) (length_now : ℕ) (down : Option Doubt) → HasItsScript scripts t d
     → IsCarriedOut scripts (rules_with 0 0 0 0) (book_of scripts length_now down book) (decision_of p) p
 
+-- a change is answered with the page that its segment came to
+abbrev pub AnswersWithPage : Decision → Type 0
+AnswersWithPage (replies r) = ⊤
+AnswersWithPage (records (shown bytes url) c inside) = ⊤
+AnswersWithPage (records (finished bytes) c inside) = ⊤
+AnswersWithPage (records (ended bytes) c inside) = ⊤
+AnswersWithPage (records r c inside) = ⊥
+
 -- What is prepared for a ticket is a change of its segment, or none, and carries itself out.
 pub record IsOfSegment (book : Book) (t : Ticket) (s : Segment) (d : Destination) (p : Prepared) : Type 0 where
   pub decision : IsDecisionBy t s d (decision_of p)
+  pub reply : AnswersWithPage (decision_of p)
   pub lands : CarriesItself book t d p
 
--- so it is for a start, whatever its script's name; for an answer to this page; and for what the ticket is for
+-- what is prepared for a start, whatever its script's name, is a change of its segment, or none, and carries itself out
 abbrev pub IsOfStart : Book → Ticket → stored.Segment → Result Prepared Reply → Type 0
 IsOfStart book t r result = (name : List ℕ) → IfOk result (IsOfSegment book t (segment_of r) (start name))
 
+-- what is prepared for an answer to this page is a change of its segment, or none, and carries itself out
 abbrev pub IsOfAnswer : Book → Ticket → stored.Segment → PageName → Result Prepared Reply → Type 0
 IsOfAnswer book t r n result = (name : List ℕ) → IfOk result (IsOfSegment book t (segment_of r) (page name n))
 
+-- what is prepared for what the ticket is for is a change of its segment, or none, and carries itself out
 abbrev pub IsOfItsSegment : Book → Ticket → stored.Segment → Prepared → Type 0
 IsOfItsSegment book t r p = IsOfSegment book t (segment_of r) (target_of t.target) p

@@ -12,10 +12,11 @@ use Rattle.instance_book.specs.Views.{book_of}
 abbrev pub swept : ℕ → spec.Book → spec.Book
 swept tick b = record b { clock = tick; instances = filter (is_live tick) b.instances }
 
--- the cells of the live instance of a number; and as the program keeps them
+-- the cells of the instance of a number, if there is one
 abbrev pub cells_in : ℕ → spec.Book → Option (List Val)
 cells_in n b = option_map (λ i. i.cells) (spec.instance_at n b.instances)
 
+-- the cells that the program keeps of the instance of a number, if there is one
 abbrev pub cells_at : ℕ → Book → Option (List Val)
 cells_at n b = option_map (λ i. i.item.cells) (at_number (λ i. i.number) n b.instances.things.items)
 

@@ -44,10 +44,11 @@ use Rattle.instance_book.specs.Segments.{GoesOnBy}
 use Rattle.instance_book.specs.Fits.{IsFor, FitsStart, IsStoredOrigin, GoesOnGiven, GoesOnBySource}
 use Rattle.instance_book.specs.Admissions.{book_under}
 
--- the ticket of a record's start, and of its answer
+-- the ticket of a start that a record tells of
 abbrev pub told_start : Named → (number nonce : ℕ) → next.Ticket
 told_start s number nonce = record { target = start s.name; answer = list no_vals; number = number; nonce = nonce }
 
+-- the ticket of an answer that a record tells of, to the page of this place
 abbrev pub told_answer : Place → Value → (number nonce : ℕ) → next.Ticket
 told_answer at answer number nonce =
     record { target = start at.instance.script.name; answer = meaning answer; number = number; nonce = nonce }
@@ -59,14 +60,14 @@ pub record StartsAgain (setup : Setup) (b : Book) (script number nonce : ℕ) (t
   pub ticket : ticket_of t ≡ told_start named number nonce
   pub fits : FitsStart (scripts_of setup) (book_under setup b) t script named
 
--- the ticket is of an answer to the page that stands there, and has the cells of its instance
+-- the ticket is of an answer to the page of these numbers, and has the cells of its instance
 pub record AnswersThere (setup : Setup) (b : Book) (instance page : ℕ) (answer : Value) (number nonce : ℕ) (t : Ticket) : Type 0 where
   pub at : Place
   pub found : page_of_numbers (book_under setup b) instance page ≡ Some at
   pub ticket : ticket_of t ≡ told_answer at answer number nonce
   pub cells : t.cells ≡ at.instance.cells
 
--- and is for it
+-- the ticket is of an answer to the page of these numbers, is for it, and has the cells of its instance
 pub record AnswersAgain (setup : Setup) (b : Book) (instance page : ℕ) (answer : Value) (number nonce : ℕ) (t : Ticket) : Type 0 where
   pub at : Place
   pub found : page_of_numbers (book_under setup b) instance page ≡ Some at
@@ -74,45 +75,47 @@ pub record AnswersAgain (setup : Setup) (b : Book) (instance page : ℕ) (answer
   pub fits : IsFor (scripts_of setup) t (page_visit (book_under setup b) (ticket_of t) at)
   pub cells : t.cells ≡ at.instance.cells
 
--- and goes on from the state that is given to the page
+-- the ticket goes on from the state that is given to the page of these numbers
 pub record AnswersGiven (setup : Setup) (b : Book) (instance page : ℕ) (states : ℕ → Option Suspended) (t : Ticket) : Type 0 where
   pub at : Place
   pub found : page_of_numbers (book_under setup b) instance page ≡ Some at
   pub goes : GoesOnGiven states at t
 
--- it goes on from a state of the instance's script that can be written
+-- what the ticket goes on from, if anything, is a state of the script of the page of these numbers that can be written
 pub record AnswersStored (setup : Setup) (b : Book) (instance page : ℕ) (t : Ticket) : Type 0 where
   pub at : Place
   pub found : page_of_numbers (book_under setup b) instance page ≡ Some at
   pub stored : IsStoredOrigin at.instance.script t.from
 
--- the setup has no script of this place; and no page stands under these numbers
+-- the setup has no script of this place
 abbrev pub LacksScript : Setup → (script : ℕ) → Type 0
 LacksScript setup script = slice_get (scripts_of setup) script ≡ None
 
+-- no page of the book stands under these numbers
 abbrev pub LacksPage : Setup → Book → (instance page : ℕ) → Type 0
 LacksPage setup b instance page = page_of_numbers (book_under setup b) instance page ≡ None
 
--- a ticket, where there is one, is for the start, or for the answer
+-- a ticket, where there is one, is for the start that the record tells of
 abbrev pub StartsIfTold : Setup → Book → (script number nonce : ℕ) → Option Ticket → Type 0
 StartsIfTold setup b script number nonce t = IfSome t (StartsAgain setup b script number nonce)
 
+-- a ticket, where there is one, is of the answer that the record tells of
 abbrev pub AnswersIfTold : Setup → Book → (instance page : ℕ) → Value → (number nonce : ℕ) → Option Ticket → Type 0
 AnswersIfTold setup b instance page answer number nonce t =
     IfSome t (AnswersThere setup b instance page answer number nonce)
 
--- where each page of the book has the state of its chain, it is for that answer with all that it goes on from
+-- where each page of the book has the state of its chain, a ticket, if there is one, is for the answer with all that it goes on from
 abbrev pub AnswersWhereKept : Setup → Book → (instance page : ℕ) → Value → (number nonce : ℕ) → Result (Option Ticket) AllocError → Type 0
 AnswersWhereKept setup b instance page answer number nonce result =
     HasItsStates (scripts_of setup) b → IfOk result (λ t. IfSome t (AnswersAgain setup b instance page answer number nonce))
 
--- where states are given to the pages of the book, it goes on from the one that is given to the page
+-- where states are given to the pages of the book, a ticket that is told goes on from the one that is given to the answered page
 abbrev pub AnswersAsGiven : Setup → Book → (instance page : ℕ) → Result (Option Ticket) AllocError → Type 0
 AnswersAsGiven setup b instance page result =
     (states : ℕ → Option Suspended) → HasStatesFrom (given states) (scripts_of setup) b
     → IfOk result (λ t. IfSome t (AnswersGiven setup b instance page states))
 
--- what it goes on from can be written
+-- what a ticket, where there is one, goes on from can be written
 abbrev pub IsStoredIfTold : Setup → Book → (instance page : ℕ) → Option Ticket → Type 0
 IsStoredIfTold setup b instance page t = IfSome t (AnswersStored setup b instance page)
 
@@ -130,14 +133,15 @@ IsRedone c old new =
     (scripts : List Named) (length : ℕ)
     → let b = book_beside scripts length old in book_beside scripts length new ≡ redone no_rules c (remade b c) b
 
--- a record of this number counts
+-- the book with a record of this number counted
 abbrev pub counted_to : ℕ → spec.Book → spec.Book
 counted_to number b = record b { logged = max b.logged (number + 1) }
 
+-- the book becomes the one with a record of this number counted
 abbrev pub Counts : ℕ → (old new : Book) → Type 0
 Counts number old new = Makes (counted_to number) old new
 
--- the book is as after a crash
+-- the new book is the old one as it is after a crash
 abbrev pub IsReopened : (old new : Book) → Type 0
 IsReopened old new =
     (scripts : List Named) (length : ℕ) → book_beside scripts length new ≡ reopened (book_beside scripts length old)
@@ -146,38 +150,40 @@ IsReopened old new =
 abbrev pub effects_in : ShownPage → List Effect
 effects_in p = map effect_of p.effects.items
 
--- a start's page begins an instance so
+-- the opening is that of a start's segment, begins the instance that the start does, and its page has this state
 pub record IsOpenedAs (t : Ticket) (effects : List Effect) (inside left : List TxName) (kind : SendKind) (deadline : ℕ) (d : Suspended) (o : Opening) : Type 0 where
   pub opening : opening_of o ≡ opening_by t effects left kind deadline
   pub inside_is : o.page.item.inside.items ≡ inside
   pub begun : (scripts : List Named) → begun_with scripts o ≡ first_instance scripts t effects inside left deadline
   pub kept : OpensAs t effects inside d o
 
+-- the opening is that of the page that a start showed
 abbrev pub IsOpenedBy : Ticket → ShownPage → Opening → Type 0
 IsOpenedBy t p o = IsOpenedAs t (effects_in p) p.inside.items p.left.items p.kind p.deadline (suspended_of p.state) o
 
--- an answer's page extends its instance so
+-- the extension is that of the page that an answer showed, and makes of the instance what the page's segment does
 pub record IsExtendedBy (t : Ticket) (answered : ℕ) (p : ShownPage) (i : Numbered KeptInstance) (x : Extension) : Type 0 where
   pub extension : extension_of x ≡ extension_by t i.number answered (effects_in p) p.left.items p.kind p.deadline
   pub inside_is : x.show.page.item.inside.items ≡ p.inside.items
   pub goes : GoesOnBy t answered p i.item x.show
   pub kept : ExtendsAs t i.number answered (effects_in p) p.inside.items (suspended_of p.state) x
 
--- the opening of a ticket's page, and its extension
+-- the opening of a ticket's page
 abbrev pub told_opening : Ticket → ShownPage → spec.Change
 told_opening t p = spec.opens (opening_by t (effects_in p) p.left.items p.kind p.deadline)
 
+-- the extension by a ticket's page
 abbrev pub told_extension : Ticket → (instance answered : ℕ) → ShownPage → spec.Change
 told_extension t instance answered p =
     spec.extends (extension_by t instance answered (effects_in p) p.left.items p.kind p.deadline)
 
--- it lands, where the ticket is for a start of a script of the setup
+-- the opening of a ticket's page lands, where the ticket is for a start of a script of the setup
 abbrev pub LandsOpening : Ticket → ShownPage → (old new : Book) → Type 0
 LandsOpening t p old new =
     (scripts : List Named) (length : ℕ) (named : Named) → slice_get scripts t.script ≡ Some named → t.cells ≡ named.script.cells
     → book_beside scripts length new ≡ land no_rules (told_opening t p) p.inside.items (book_beside scripts length old)
 
--- it lands, where the instance is there
+-- the extension by a ticket's page lands, where the instance is there
 abbrev pub LandsExtension : Ticket → (instance answered : ℕ) → ShownPage → (old new : Book) → Type 0
 LandsExtension t instance answered p old new =
     (scripts : List Named) (length : ℕ) (i : spec.Instance)
@@ -207,22 +213,23 @@ pub record HasAnswerState (source : Source ⊤) (scripts : List Named) (b : Book
       IsStateOver source at.instance.script (tape_for (page_visit (book_beside scripts 0 b) (ticket_of t) at) (recorded (reads_of (effects_in p)))) t.number (suspended_of p.state)
   pub fits : GoesOnBySource source scripts (book_beside scripts 0 b) at t
 
--- each instance goes on to be of a script of the setup, where the ticket's is one
+-- each instance goes on to be of a script of the setup, where the ticket's script is one
 abbrev pub KeepsStartPlaces : Ticket → (old new : Book) → Type 0
 KeepsStartPlaces t old new = (scripts : List Named) → t.script < length scripts → HasPlaces scripts old → HasPlaces scripts new
 
--- so each page goes on to have its own
+-- where a start's page has its state, each page of the book goes on to have its own
 abbrev pub KeepsStartStates : Ticket → ShownPage → (old new : Book) → Type 0
 KeepsStartStates t p old new =
     (source : Source ⊤) (scripts : List Named) → HasStartState source scripts old t p → HasStatesFrom source scripts old
     → HasStatesFrom source scripts new
 
+-- where an answer's page has its state, each page of the book goes on to have its own
 abbrev pub KeepsAnswerStates : Ticket → (instance answered : ℕ) → ShownPage → (old new : Book) → Type 0
 KeepsAnswerStates t instance answered p old new =
     (source : Source ⊤) (scripts : List Named) → HasAnswerState source scripts old t instance answered p → HasStatesFrom source scripts old
     → HasStatesFrom source scripts new
 
--- the ending and the finish of a record
+-- the ending that a record tells of
 abbrev pub told_ending : (number instance page : ℕ) → Value → List Effect → List TxName → spec.Change
 told_ending number instance page answer effects left = spec.ends (record {
   number = number;
@@ -233,29 +240,33 @@ told_ending number instance page answer effects left = spec.ends (record {
   left = left;
 })
 
+-- the finish that a record tells of
 abbrev pub told_finish : (number instance page : ℕ) → Value → List Effect → spec.Change
 told_finish number instance page answer effects =
     spec.finishes (record { number = number; instance = instance; page = page; answer = meaning answer; effects = effects })
 
--- the ending or the finish that a record tells of is made again, or passed over
+-- the ending that a record tells of is made again, or passed over
 abbrev pub IsRedoneEnding : (number instance page : ℕ) → Value → List kept.Effect → List TxName → (old new : Book) → Type 0
 IsRedoneEnding number instance page answer effects left old new =
     IsRedone (told_ending number instance page answer (map effect_of effects) left) old new
 
+-- the finish that a record tells of is made again, or passed over
 abbrev pub IsRedoneFinish : (number instance page : ℕ) → Value → List kept.Effect → (old new : Book) → Type 0
 IsRedoneFinish number instance page answer effects old new =
     IsRedone (told_finish number instance page answer (map effect_of effects)) old new
 
--- the page is there and these effects are on its instance's cells, and hold over them
+-- the names that an ending or finish lands with: none, where its page is there and its effects are on its instance's cells and hold over
+-- them
 abbrev pub ended_in : spec.Book → (instance page : ℕ) → List Effect → Option (List TxName)
 ended_in b instance page effects = page_of_numbers b instance page >>= (λ at. ended_so effects at.instance.cells)
 
--- it is this instance then, and where it is none there is none
+-- an ending or finish with these effects lands in this instance
 pub record IsEndedIn (b : Book) (instance page : ℕ) (effects : List Effect) (i : Numbered KeptInstance) : Type 0 where
   pub here : (scripts : List Named) → instance_at instance (book_beside scripts 0 b).instances ≡ Some (instance_of scripts i)
   pub so : (scripts : List Named) (length : ℕ) → ended_in (book_beside scripts length b) instance page effects ≡ Some []
   pub on : AreOn (length i.item.cells) effects
 
+-- the instance that is lent is the one in which the ending or finish lands; where none is lent, it lands in none
 abbrev pub EndsIn : Book → (instance page : ℕ) → List Effect → Option (Bor (Numbered KeptInstance)) → Type 0
 EndsIn b instance page effects (Some i) = IsEndedIn b instance page effects i.now
 EndsIn b instance page effects None =

@@ -5,7 +5,7 @@ use Rattle.script_value.specs.Views.{meaning}
 use Rattle.script_value.specs.declared.outcome.Reply.{Reply}
 use Rattle.script_value.specs.declared.outcome.Reply.TheVariants as reply
 use Rattle.script_value.specs.declared.value.Value.{Value}
-use Rattle.script_nodes.specs.Core.{lit}
+use Rattle.script_nodes.specs.Core.{lit, no_cores}
 use Rattle.script_nodes.specs.Setup.{Named}
 use Rattle.page_names.specs.Views.{target_of}
 use Rattle.page_names.specs.declared.names.Target.{Target}
@@ -36,10 +36,11 @@ page_of p = record {
 abbrev pub pages_of : InOrder KeptPage → List spec.Page
 pages_of ps = map page_of ps.things.items
 
--- the script of a place of the setup, and one that does nothing where the setup has no such place
+-- a script that does nothing
 abbrev pub no_script : Named
-no_script = record { name = []; text = []; script = record { web = []; cells = []; body = lit (list no_vals) } }
+no_script = record { name = []; text = []; script = record { web = []; cells = []; tasks = no_cores; body = lit (list no_vals) } }
 
+-- the script of a place of the setup, and one that does nothing where the setup has no such place
 abbrev pub script_in : List Named → ℕ → Named
 script_in scripts place = get_or scripts place no_script
 

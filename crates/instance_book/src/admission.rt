@@ -6,7 +6,7 @@ ghost use Rattle.replay_spec.specs.Admission as spec;
 ghost use Rattle.replay_spec.specs.Names.{first_closed};
 ghost use Rattle.instance_book.specs.Views.{instance_of, page_of};
 ghost use Rattle.instance_book.specs.Makes.{HasPlaces};
-ghost use Rattle.instance_book.specs.Admissions.{IsWhyNot, named_if, IsPlaceOf, IsPlaceAt, IsStartOf, IsAdmittedAs, IsPlacedAt, IsScriptOf, IsKeptWhere, IsGivenWhere, ResumesPlaced, ResumesKept, ResumesWhereKept};
+ghost use Rattle.instance_book.specs.Admissions.{IsWhyNot, has_name, named_if, IsPlaceOf, IsPlaceAt, IsStartOf, IsAdmittedAs, IsPlacedAt, IsScriptOf, IsKeptWhere, IsGivenWhere, ResumesPlaced, ResumesKept, ResumesWhereKept};
 
 use crate::book::Book;
 use crate::instance::KeptInstance;
@@ -106,6 +106,19 @@ pub(crate) fn place_of_numbers<'a>(
     })
 }
 
+// Whether a page of this script and with this nonce is so named, on this shelf.
+fn is_named(
+    script: &NamedScript,
+    nonce: u64,
+    shelf: u32,
+    name: &ScriptName,
+    page: &PageName,
+) -> bool
+    ensures { result ≡ has_name (named_of script.now) nonce shelf (name_of name.now) page.now }
+{
+    page.shelf == shelf && script.name.as_bytes() == name.as_bytes() && nonce == page.nonce
+}
+
 // The page of this script's name, this shelf, instance and number, and this nonce.
 fn place_at<'a>(
     book: &'a Book,
@@ -119,13 +132,12 @@ fn place_at<'a>(
     ensures states { IsKeptWhere setup.now book.now result }
 {
     let place = place_of_numbers(book, setup, page.instance, page.page)?;
-    if page.shelf == book.shelf
-        && place.script.name.as_bytes() == name.as_bytes()
-        && place.page.item.nonce == page.nonce
-    {
-        return Some(place);
+    let nonce = place.page.item.nonce;
+    if is_named(place.script, nonce, book.shelf, name, page) {
+        Some(place)
+    } else {
+        None
     }
-    None
 }
 
 // What a start is admitted as.

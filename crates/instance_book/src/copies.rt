@@ -1,4 +1,5 @@
-ghost use Rattle.std.specs.Prelude.{◌≡◌, IfOk};
+ghost use Rattle.std.specs.Prelude.{◌≡◌, IfOk, map};
+ghost use Rattle.instance_cells.specs.Views.{effect_of};
 ghost use Rattle.instance_book.specs.Lists.{HasRoom};
 ghost use Rattle.instance_book.specs.Views.{page_of};
 ghost use Rattle.stored_states.specs.Views.{suspended_of};
@@ -14,7 +15,8 @@ use crate::instance::KeptInstance;
 use crate::numbered::Numbered;
 use crate::page::KeptPage;
 use crate::prepared::{Change, Ending, Extension, Finish, Opening, Prepared};
-use instance_cells::clone_effects;
+use instance_cells::{Effect, clone_effects};
+use script_value::TxName;
 use std::alloc::{AllocError, Global};
 
 impl Numbered<KeptPage> {
@@ -65,6 +67,20 @@ impl KeptInstance {
             revoked: self.revoked.numbers(alloc)?,
             pages: self.pages.try_clone(alloc)?,
         })
+    }
+}
+
+impl KeptInstance {
+    // A copy, with room for one page more.
+    fn clone_with_room(&self, alloc: Global) -> Result<KeptInstance, AllocError>
+        ensures instance { IfOk result (IsSameInstance self.now) }
+        ensures script { IfOk result (λ copy. copy.script ≡ self.now.script) }
+        ensures pages { IfOk result (λ copy. IsSamePages self.now.pages copy.pages) }
+        ensures room { IfOk result (λ copy. HasRoom copy.pages) }
+    {
+        let mut copy = self.try_clone(alloc)?;
+        copy.pages.make_room()?;
+        Ok(copy)
     }
 }
 
@@ -119,6 +135,19 @@ impl Show {
     }
 }
 
+// Copies of what a segment did, and of the transactions that it left.
+fn clone_done(
+    alloc: Global,
+    effects: &[Effect],
+    left: &[TxName],
+) -> Result<(Vec<Effect>, Vec<TxName>), AllocError>
+    ensures effects { IfOk result (λ both. map effect_of both.0.items ≡ map effect_of effects.now) }
+    ensures left { IfOk result (λ both. both.1.items ≡ left.now) }
+{
+    let names = left.to_vec(alloc)?;
+    Ok((clone_effects(alloc, effects)?, names))
+}
+
 impl Opening {
     /// A copy, equal to its source, with room for its page.
     pub fn try_clone(&self, alloc: Global) -> Result<Opening, AllocError>
@@ -131,14 +160,16 @@ impl Opening {
         ensures begun { IfOk result (BeginsAlike self.now) }
         ensures room { IfOk result (λ copy. HasRoom copy.instance.pages) }
     {
-        let mut instance = self.instance.try_clone(alloc)?;
-        instance.pages.make_room()?;
+        let (effects, left) = clone_done(alloc, &self.effects, &self.left)?;
+        let state = self.state.try_clone(alloc)?;
+        let page = self.page.try_clone(alloc)?;
+        let instance = self.instance.clone_with_room(alloc)?;
         Ok(Opening {
-            effects: clone_effects(alloc, &self.effects)?,
-            left: self.left.as_slice().to_vec(alloc)?,
+            effects,
+            left,
             kind: self.kind,
-            page: self.page.try_clone(alloc)?,
-            state: self.state.try_clone(alloc)?,
+            page,
+            state,
             instance,
         })
     }
@@ -149,12 +180,13 @@ impl Extension {
     pub fn try_clone(&self, alloc: Global) -> Result<Extension, AllocError>
         ensures { IfOk result (IsSameExtension self.now) }
     {
+        let (effects, left) = clone_done(alloc, &self.effects, &self.left)?;
         Ok(Extension {
             instance: self.instance,
             answered: self.answered,
             answer: self.answer.try_clone(alloc)?,
-            effects: clone_effects(alloc, &self.effects)?,
-            left: self.left.as_slice().to_vec(alloc)?,
+            effects,
+            left,
             kind: self.kind,
             state: self.state.try_clone(alloc)?,
             show: self.show.try_clone(alloc)?,
@@ -169,13 +201,14 @@ impl Ending {
         ensures inside { IfOk result (λ copy. copy.inside.items ≡ self.now.inside.items) }
         ensures after { IfOk result (λ copy. copy.after ≡ self.now.after) }
     {
+        let (effects, left) = clone_done(alloc, &self.effects, &self.left)?;
         Ok(Ending {
             number: self.number,
             instance: self.instance,
             answered: self.answered,
             answer: self.answer.try_clone(alloc)?,
-            effects: clone_effects(alloc, &self.effects)?,
-            left: self.left.as_slice().to_vec(alloc)?,
+            effects,
+            left,
             inside: self.inside.as_slice().to_vec(alloc)?,
             after: self.after.try_clone(alloc)?,
         })
@@ -235,9 +268,10 @@ impl Prepared {
     pub fn try_clone(&self, alloc: Global) -> Result<Prepared, AllocError>
         ensures { IfOk result (IsSame self.now) }
     {
+        let reply = self.reply.try_clone(alloc)?;
         let change = clone_change(alloc, &self.change)?;
         Ok(Prepared {
-            reply: self.reply.try_clone(alloc)?,
+            reply,
             logged: self.logged,
             change,
         })

@@ -1,4 +1,4 @@
-//! The instances of a shelf with their pages and cells: what a target is admitted as, and what each visit makes of the book.
+//! The book of a shelf, with its instances, pages and cells: admission, tickets, and what a visit changes: for the shelf.
 #![tactic(auto)]
 
 ghost use Rattle.instance_book.specs.Places.{OneMoreHasItsState};

@@ -39,14 +39,22 @@ struct Done {
     left: Vec<TxName>,
 }
 
+// These transactions are closed too.
+fn close(closed: &mut Closed, left: &[TxName]) -> Result<(), AllocError>
+    ensures { OnOk result (closed.new ≡ closed.old ++ left.now) }
+{
+    for name in left {
+        closed.add(*name)?;
+    }
+    Ok(())
+}
+
 // The closed transactions with these more.
 fn closed_with(closed: Closed, left: &[TxName]) -> Result<Closed, AllocError>
     ensures { IfOk result (λ more. more ≡ closed ++ left.now) }
 {
     let mut more = closed;
-    for name in left {
-        more.add(*name)?;
-    }
+    close(&mut more, left)?;
     Ok(more)
 }
 
@@ -366,7 +374,17 @@ impl Book {
         }
     }
 
-    // Room for one page more in an instance, beside what is prepared.
+    // Room for one page more in an instance.
+    fn room_in(&mut self, instance: u64) -> Result<(), AllocError>
+        ensures book { StaysSame self.old self.new }
+        ensures placed { KeepsPlaces self.old self.new }
+        ensures states { KeepsStates self.old self.new }
+        ensures room { OnOk result (HasRoomAt instance self.new.instances) }
+    {
+        self.instances.make_room_in(instance)
+    }
+
+    // So much, beside what is prepared.
     fn with_room(
         &mut self,
         instance: u64,
@@ -379,12 +397,9 @@ impl Book {
         ensures room { OnOk result (HasRoomAt instance self.new.instances) }
         ensures err { IfErr result (λ r. r ≡ Reply.Memory) }
     {
-        match made {
-            Ok(prepared) => match self.instances.make_room_in(instance) {
-                Ok(()) => Ok(prepared),
-                Err(_) => Err(Reply::Memory),
-            },
-            Err(_) => Err(Reply::Memory),
+        match (made, self.room_in(instance)) {
+            (Ok(prepared), Ok(())) => Ok(prepared),
+            _ => Err(Reply::Memory),
         }
     }
 

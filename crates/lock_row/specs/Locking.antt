@@ -19,21 +19,21 @@ pub record Seats (O E : Type 0) : Type 0 where
   pub spots : List (Spot O E)
   pub room : ℕ
 
--- the value that it was made with
+-- the value that a lock was made with
 abbrev pub first_value : {S O E : Type 0} → Held S O E → S
 first_value h = h.start.value.value
 
 module _ {O E : Type 0} where
-  -- the seats of so many callers, each with room for so many
+  -- there are the columns of so many callers, each without a seat and with room for so many
   abbrev pub AreEmpty : (seats places : ℕ) → List (Seats O E) → Type 0
   AreEmpty seats places columns =
       (length columns ≡ seats) × ((k : ℕ) (c : Seats O E) → slice_get columns k ≡ Some c → (c.spots ≡ []) × (places ≤ c.room))
 
-  -- so the columns of a vector, which is as long
+  -- the columns of a vector are those of so many callers, each without a seat and with room for so many
   abbrev pub AreColumns : (seats places : ℕ) → Vec (Seats O E) → Type 0
   AreColumns seats places columns = AreEmpty seats places columns.items × (vec_len columns ≡ seats)
 
-  -- one seat more
+  -- the column has one seat more, in the room that it had
   abbrev pub Extends : Spot O E → Seats O E → Seats O E → Type 0
   Extends s a b = (b.spots ≡ a.spots ++ s ∷ []) × (b.room + 1 ≡ a.room)
 
@@ -44,7 +44,7 @@ module _ {O E : Type 0} where
       → (map (λ (s : Spot O E). home_of s) c.spots ≡ homes) × IsNewPass k c.spots × (places ≤ c.room)
 
 module _ {S O E : Type 0} (g : Ghosts S O E) where
-  -- where it is, and what its value was opened as
+  -- where a lock is, and what its value was opened as
   abbrev pub home_in : Held S O E → Home O
   home_in h = home h.table (g.opening (first_value h) ∷ [])
 
@@ -58,14 +58,14 @@ module _ {S O E : Type 0} (g : Ghosts S O E) where
   abbrev pub AreHeld : (seats : ℕ) → List (Held S O E) → Type 0
   AreHeld seats hs = (k : ℕ) (h : Held S O E) → slice_get hs k ≡ Some h → IsHeld seats h
 
-  -- all these values are behind such locks, that of the last value first
+  -- all these values are behind locks that were just made, that of the last value first
   abbrev pub HoldsAll : (seats : ℕ) → List S → List (Held S O E) → Type 0
   HoldsAll seats xs hs = AreHeld seats hs × (reverse (map first_value hs) ≡ xs)
 
-  -- the values of these locks came back behind others, that of the last lock first
+  -- the values of these locks came back and stand at the end of the list, that of the last lock first
   abbrev pub PutsBack : List (Held S O E) → (old new : List S) → Type 0
   PutsBack hs old new = (back : List S) × (new ≡ old ++ back) × AllZip (ComesBack g) (reverse (map first_value hs)) back
 
-  -- all these values came back
+  -- each of these values came back in its place, as nothing had been done
   abbrev pub AllComeBack : Vec S → Vec S → Type 0
   AllComeBack old new = AllZip (ComesBack g) old.items new.items × (vec_len new ≡ vec_len old)

@@ -13,7 +13,7 @@ use Rattle.lock_row.specs.Rows.{IsClosed, IsSpare, AreSpare}
 abbrev pub HasRoomFor : {T : Type 0} → ℕ → Vec T → Type 0
 HasRoomFor many v = (v.items ≡ []) × (vec_len v ≡ 0) × (many ≤ vec_capacity v)
 
--- so many more are in the room that there was
+-- the vector has so many items more, in the room that it had
 abbrev pub GrowsBy : {T : Type 0} → ℕ → Vec T → Vec T → Type 0
 GrowsBy many old new = (vec_capacity new ≡ vec_capacity old) × (vec_len new ≡ vec_len old + many)
 
@@ -52,7 +52,7 @@ module _ {S O E : Type 0} (g : Ghosts S O E) where
   TellsOfSeat p x = Begins g (g.history x) p.seat.me.0
 
   -- Each lock has a seat for each caller who has his pass, for each who may still get it, and the row's own; the passes that no
-  -- caller has, and its own, have seen nothing.
+  -- caller has, and the row's own one, have seen nothing.
   abbrev pub HasSeats : (dealt : ℕ) → List (ShelfLock S O E) → List (List (Spot O E)) → List (Spot O E) → Type 0
   HasSeats dealt locks spare own =
       AreMadeFor (dealt + length spare + 1) locks

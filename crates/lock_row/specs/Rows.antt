@@ -17,15 +17,15 @@ module _ {S O E : Type 0} (g : Ghosts S O E) where
   abbrev pub IsFresh : S → Type 0
   IsFresh x = g.sound x × (g.history x ≡ []) × (g.first x ≤ 2 ^ 62)
 
-  -- so each of these
+  -- each of these values may be put behind a lock: it has no entry
   abbrev pub AreFresh : List S → Type 0
   AreFresh xs = (k : ℕ) (x : S) → slice_get xs k ≡ Some x → IsFresh x
 
-  -- the locks of these values, in their order
+  -- the locks have the openings of these values, in their order
   abbrev pub AreHomesOf : List S → List (Home O) → Type 0
   AreHomesOf xs homes = map (λ h. h.opening) homes ≡ map (λ x. g.opening x ∷ []) xs
 
-  -- a value that was put there, and came back as nothing had been done
+  -- a value that was put behind a lock came back as nothing had been done
   abbrev pub ComesBack : S → S → Type 0
   ComesBack x y = g.sound y × (g.opening y ≡ g.opening x) × (g.history y ≡ []) × (g.first y ≡ g.first x)
 
@@ -33,12 +33,12 @@ module _ {S O E : Type 0} (g : Ghosts S O E) where
   abbrev pub MayCallAt : {F A : Type 0} → Once F (MutBor S × Unit {0}) (A × (MutBor S × Unit {0})) → F → ℕ → List (Spot O E) → Type 0
   MayCallAt call f place pass = (a : Spot O E) → slice_get pass place ≡ Some a → MayCall g call f a.known
 
-  -- and keeps what a turn has to keep
+  -- f keeps what a turn at this place has to keep
   abbrev pub KeepsEachAt : {F A : Type 0} → Once F (MutBor S × Unit {0}) (A × (MutBor S × Unit {0})) → F → ℕ → List (Spot O E) → Type 0
   KeepsEachAt call f place pass = (a : Spot O E) → slice_get pass place ≡ Some a → KeepsEach g call f a.known
 
-  -- The pass has then seen the longer history of both. What it and the note had seen begin it, and it has no further entry of
-  -- the pass's caller.
+  -- The pass has heard a note: it has then seen the longer history of both. What it and the note had seen begin that one, which has
+  -- no further entry of the pass's caller.
   abbrev pub Hears : Spot O E → Spot O E → Spot O E → Type 0
   Hears note a b =
       (b ≡ spot a.table (posed Outside (longer a.known.seen note.known.seen) a.known))
@@ -55,12 +55,12 @@ module _ {S O E : Type 0} (g : Ghosts S O E) where
   abbrev pub TellsOf : S → View O E → Type 0
   TellsOf x v = Told g (g.history x) (v.caller, v.seen) × Each (Told g (g.history x)) v.heard
 
-  -- the same of the lock that it was behind, which was made with this
+  -- a value given back from a lock that was made with this: it is sound, has the same opening, and entries of the lock's callers alone
   abbrev pub IsClosed : Start S → S → Type 0
   IsClosed start x =
       g.sound x × (g.opening x ≡ g.opening start.value.value) × MadeBelow g start.seats (g.history x)
 
-  -- what is told of this pass is told of each of these
+  -- each history that tells of this pass at a lock tells of each of these passes there
   abbrev pub TellsAll : List (List (Spot O E)) → List (Spot O E) → Type 0
   TellsAll passes pass =
       (k : ℕ) (a : Spot O E) → slice_get pass k ≡ Some a → (log : List E) → Begins g log a.known
@@ -89,15 +89,15 @@ module _ {O E : Type 0} where
   abbrev pub SitsAt : ℕ → List (Spot O E) → TableId → Type 0
   SitsAt place pass table = (a : Spot O E) × (slice_get pass place ≡ Some a) × (table ≡ a.table)
 
-  -- what is then told of this seat is told of both
+  -- a seat has taken over another: what is told of it then is told of both
   abbrev pub Absorbs : Spot O E → Spot O E → Spot O E → Type 0
   Absorbs other a b = b ≡ spot a.table (both a.known other.known)
 
-  -- a caller that has seen nothing yet
+  -- a seat of this caller that has seen nothing yet
   abbrev pub IsNewFor : ℕ → Spot O E → Type 0
   IsNewFor caller s = (s.known.caller ≡ caller) × (s.known.seen ≡ []) × (s.known.heard ≡ [])
 
-  -- so at each lock
+  -- a pass of this caller that has seen nothing yet at any lock
   abbrev pub IsNewPass : ℕ → List (Spot O E) → Type 0
   IsNewPass caller pass = (k : ℕ) (s : Spot O E) → slice_get pass k ≡ Some s → IsNewFor caller s
 
@@ -105,18 +105,18 @@ module _ {O E : Type 0} where
   abbrev pub IsSpare : List (Home O) → ℕ → List (Spot O E) → Type 0
   IsSpare homes caller pass = IsAt homes pass × IsNewPass caller pass
 
-  -- so each of these, of which the last is the next caller's
+  -- each of these passes has seen nothing and may be given out, the last one to the next caller
   abbrev pub AreSpare : List (Home O) → (next : ℕ) → List (List (Spot O E)) → Type 0
   AreSpare homes next spare =
       (j : ℕ) (p : List (Spot O E)) → slice_get spare j ≡ Some p → IsSpare homes (next + (length spare - 1 - j)) p
 
--- a walk from the last place on, so far: from this place on each was changed so, and the others are as they were
+-- each place from this one on was changed so, by what stands there in the second list, and the places before it are as they were
 abbrev pub ZipsFrom : {A B : Type 0} → (B → A → A → Type 0) → ℕ → List A → List B → List A → Type 0
 ZipsFrom {A} {B} R from old others new =
     ((k : ℕ) → from ≤ k → (a : A) (n : B) → slice_get old k ≡ Some a → slice_get others k ≡ Some n → (b : A) × (slice_get new k ≡ Some b) × R n a b)
     × ((k : ℕ) → k < from → slice_get new k ≡ slice_get old k)
 
--- each place of a list and of two others, so
+-- each place of a list was changed so, by what stands there in the second list
 abbrev pub ZipsAll : {A B : Type 0} → (B → A → A → Type 0) → List A → List B → List A → Type 0
 ZipsAll {A} {B} R old others new =
     (k : ℕ) (a : A) (n : B) → slice_get old k ≡ Some a → slice_get others k ≡ Some n → (b : A) × (slice_get new k ≡ Some b) × R n a b

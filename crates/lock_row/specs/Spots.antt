@@ -19,7 +19,7 @@ pub record Home (O : Type 0) : Type 0 where
 abbrev pub home : {O : Type 0} → TableId → List O → Home O
 home table opening = record { table = table; opening = opening }
 
--- the locks in their order; how many callers have their pass, which are numbered from 0; and for how many more there are seats
+-- a row: the locks in their order; how many callers have their pass, which are numbered from 0; and for how many more there are seats
 pub record Homes (O : Type 0) : Type 0 where
   pub homes : List (Home O)
   pub seats : ℕ

@@ -1,4 +1,4 @@
-//! A row of locks, and passes that have a seat at each of them.
+//! A row of locks, and passes with a seat at each of them: for the site.
 #![tactic(auto)]
 
 mod locking;

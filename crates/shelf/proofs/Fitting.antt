@@ -103,6 +103,7 @@ landed_at ss old new t p same h =
       segment = h.segment;
       itself = record {
         decision = h.itself.decision;
+        reply = h.itself.reply;
         lands = λ scripts journal down has. subst (λ (b : Book). IsCarriedOut scripts (rules_with 0 0 0 0) b (decision_of p) p) (sym (same scripts journal down)) (h.itself.lands scripts journal down has);
       };
       deadline = h.deadline;

@@ -12,6 +12,7 @@ pub mod Recorded
 pub mod Order
 pub mod Shelves
 pub mod Publishing
+pub mod Quiet
 pub mod Stated
 pub mod Taken
 pub mod Tales

@@ -2,9 +2,9 @@
 use Rattle.std.proofs.Common.{◌≡◌, ◌∙◌, ap, sym, subst, ℕ, List, [], ◌∷◌, length, map, Option, Some, None, IfSome, Result, Ok, Err, IfOk, option_map, slice_get, refl}
 use Rattle.std.proofs.lemmas.Option.{same_Some}
 use Rattle.script_value.specs.Val.{Val}
-use Rattle.script_nodes.specs.Core.{OnCells}
+use Rattle.script_nodes.specs.Core.{AllOnCells}
 use Rattle.script_nodes.specs.Arena.{Arena, IsScript, script_of}
-use Rattle.script_nodes.specs.Setup.{Named}
+use Rattle.script_nodes.specs.Setup.{Named, trees_of}
 use Rattle.page_names.specs.Names.{Destination, start, page}
 use Rattle.page_names.specs.declared.names.PageName.{PageName}
 use Rattle.instance_cells.specs.Cells.{Holds, AreOn}
@@ -43,7 +43,7 @@ run_holds : EffectsHold → (v : Visit) (fuel : ℕ) (over : List Val) → Holds
 run_holds law v fuel over = law v.script.script (map (answered (home_of v)) v.pages) (next.newest v (recorded [])) (pages_past (home_of v) v.pages) fuel over
 
 -- a run's effects are on the cells of its script
-on_cells : EffectsAreOnCells → (v : Visit) (reads : Reads) (n : ℕ) → OnCells (length v.script.script.web) (length v.script.script.cells) v.script.script.body
+on_cells : EffectsAreOnCells → (v : Visit) (reads : Reads) (n : ℕ) → AllOnCells (length v.script.script.web) (length v.script.script.cells) (trees_of v.script.script)
     → n ≡ length v.script.script.cells → AreOn n (comes_to v reads).effects
 on_cells law v reads n whole e =
     subst (λ m. AreOn m (comes_to v reads).effects) (sym e) (law v.script.script (tape_for v reads) (length v.script.script.web) (length v.script.script.cells) whole)
@@ -54,10 +54,10 @@ module _ (b : Book) (t : Ticket) (name : List ℕ) (a : Arena) (i : IsScript a) 
   run_as : (v : Visit) → v.ticket ≡ ticket_of t → IsFor b.scripts t v → IsLike v over fuel r
   run_as v e fits = run_like b.scripts t a i named its found fuel over r is v e fits
 
-  whole_of : (v : Visit) → IsFor b.scripts t v → OnCells (length named.script.web) (length named.script.cells) named.script.body
-      → OnCells (length v.script.script.web) (length v.script.script.cells) v.script.script.body
+  whole_of : (v : Visit) → IsFor b.scripts t v → AllOnCells (length named.script.web) (length named.script.cells) (trees_of named.script)
+      → AllOnCells (length v.script.script.web) (length v.script.script.cells) (trees_of v.script.script)
   whole_of v fits whole =
-      subst (λ (s : Named). OnCells (length s.script.web) (length s.script.cells) s.script.body) (same_Some named v.script (sym found ∙ fits.script)) whole
+      subst (λ (s : Named). AllOnCells (length s.script.web) (length s.script.cells) (trees_of s.script)) (same_Some named v.script (sym found ∙ fits.script)) whole
 
   -- its state, where the target is admitted
   pub keeps_state : (adm : Admission) → FitsAs b.scripts b t adm → KeepsStateAs b t adm r
@@ -74,7 +74,7 @@ module _ (b : Book) (t : Ticket) (name : List ℕ) (a : Arena) (i : IsScript a) 
   start_segment (refused why) e fits own = tt
 
   -- the effects of its run are on its cells
-  pub start_on : EffectsAreOnCells → (adm : Admission) → OnCells (length named.script.web) (length named.script.cells) named.script.body
+  pub start_on : EffectsAreOnCells → (adm : Admission) → AllOnCells (length named.script.web) (length named.script.cells) (trees_of named.script)
       → admit b (start name) ≡ adm → refusal_of adm ≡ None → FitsAs b.scripts b t adm → AreOn (length t.cells) (segment_of r).effects
   start_on law (begins k x) whole e ok fits =
       let v = start_visit b (ticket_of t) k x in
@@ -114,7 +114,7 @@ module _ (b : Book) (t : Ticket) (name : List ℕ) (a : Arena) (i : IsScript a) 
     held_segment law (refused why) e fits holds = tt
 
     -- the effects of its run are on the cells of its instance
-    pub page_on : EffectsAreOnCells → (adm : Admission) → OnCells (length named.script.web) (length named.script.cells) named.script.body → HaveTheirCells b
+    pub page_on : EffectsAreOnCells → (adm : Admission) → AllOnCells (length named.script.web) (length named.script.cells) (trees_of named.script) → HaveTheirCells b
         → admit b (page name n) ≡ adm → refusal_of adm ≡ None → FitsAs b.scripts b t adm → AreOn (length cells) (segment_of r).effects
     page_on law (begins k x) whole theirs e ok fits = absurd (page_is_no_start b name n k x e)
     page_on law (resumes at) whole theirs e ok fits =
@@ -125,7 +125,7 @@ module _ (b : Book) (t : Ticket) (name : List ℕ) (a : Arena) (i : IsScript a) 
     page_on law (refused why) whole theirs e ok fits = absurd (cc)
 
     -- so they are held by these where they hold over them
-    pub page_held : EffectsAreOnCells → (d : Destination) → d ≡ page name n → OnCells (length named.script.web) (length named.script.cells) named.script.body → HaveTheirCells b
+    pub page_held : EffectsAreOnCells → (d : Destination) → d ≡ page name n → AllOnCells (length named.script.web) (length named.script.cells) (trees_of named.script) → HaveTheirCells b
         → refusal_of (admit b d) ≡ None → FitsAs b.scripts b t (admit b d) → HoldIn b d (segment_of r).effects → AreHeld (segment_of r).effects cells
     page_held law d e whole theirs ok fits hold =
         let over : HoldIn b (page name n) (segment_of r).effects = subst (λ (x : Destination). HoldIn b x (segment_of r).effects) e hold in

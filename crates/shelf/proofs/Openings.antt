@@ -3,16 +3,18 @@ use Rattle.std.proofs.Common.{◌≡◌, ◌≢◌, ◌⊎◌, inl, inr, ⊎_eli
 use Rattle.script_nodes.specs.Setup.{Named}
 use Rattle.web_disk.specs.View.{View, LeavesOnly}
 use Rattle.page_journal.specs.Records.{records, Intact, stored, at_rest}
+use Rattle.page_journal.specs.Opened.{IsIntactOrEmpty}
 use Rattle.page_journal.specs.Scanned.{IsQuiet}
-use Rattle.page_journal.specs.Settled.{IsSettled, bodies_in, length_of}
+use Rattle.page_journal.specs.Settled.{IsSettled, view_of, bodies_in, length_of}
 use Rattle.page_journal.specs.declared.journal.Journal.{Journal}
 use Rattle.page_journal.proofs.Mending.{leaves_then}
 use Rattle.replay_spec.specs.Book.{Doubt, Book, Change, reopened, reopened_with}
 use Rattle.replay_spec.specs.Rules.{Rules, empty_book}
 use Rattle.replay_spec.specs.Step as step
-use Rattle.replay_spec.specs.Step.{lost, kept, live, recovered}
-use Rattle.replay_spec.specs.Invariant.{IsOrderly}
+use Rattle.replay_spec.specs.Step.{Fate, lost, kept, live, recovered}
+use Rattle.replay_spec.specs.Invariant.{IsOrderly, IsSound}
 use Rattle.replay_spec.proofs.Orderly.{books_stay}
+use Rattle.replay_spec.proofs.Steps.{stepped}
 use Rattle.journal_records.specs.Records.{Record, begins, changes, begin_of, begun_length, IsInGrammar}
 use Rattle.journal_records.specs.Reading.{read_record}
 use Rattle.journal_records.specs.Laws.{AreRecordsExact}
@@ -34,7 +36,7 @@ use Rattle.instance_book.specs.Makes.{HasPlaces}
 use Rattle.book_recovery.specs.Remaking.{HasToldStates}
 use Rattle.book_recovery.specs.Found.{book_with, FindsBook, IsBookInOrder}
 use Rattle.shelf.specs.Views.{TellsStates}
-use Rattle.shelf.specs.Opening.{IsCrashed, AReopenedShelfHasCrashed, AStandingDiskOpens}
+use Rattle.shelf.specs.Opening.{IsCrashed, AReopenedShelfHasCrashed, AReopenedShelfIsSound, AStandingDiskOpens, KeepsRecords, ReadsOrBegins}
 use Rattle.shelf.specs.declared.begin.BeginFault.TheVariants as fault
 
 -- what records make is nothing where there is none
@@ -195,6 +197,18 @@ reopened_has_crashed view scripts shelf rules b c nonce old new setup (n, (k, (h
     (λ h. inr (crashed_as rules b c nonce scripts kept (recovered_setup rules b.down b ∙ setup) (h ∙ sym measured)))
     (one b (if_kept n b) k (λ image left. held image (among image left)))
 
+crashed_sound : (rules : Rules) (b c : Book) (nonce : ℕ) (scripts : List Named) (fate : Fate) → IsSound b → IsCrashed rules b nonce scripts fate c → IsSound c
+crashed_sound rules b c nonce scripts fate sound is =
+    subst IsSound (ap (λ (x : step.Reply × Book). x.1) is)
+    (stepped (record { rules = rules; nonce = nonce; event = step.crash scripts; fate = fate }) b sound tt).sound
+
+pub reopened_is_sound : {D : Type 0} (view : D → View) → AReopenedShelfIsSound view
+reopened_is_sound view scripts shelf rules b c old new sound (n, (k, (held, measured))) among one = ⊎_elim
+    (λ h. crashed_sound rules b c 0 b.scripts lost sound
+    (crashed_as rules b c 0 b.scripts lost (ap (λ (x : Book). x.scripts) (lost_is rules b.down b)) (h ∙ sym (ap reopened (lost_is rules b.down b)))))
+    (λ h. crashed_sound rules b c 0 b.scripts kept sound (crashed_as rules b c 0 b.scripts kept (recovered_setup rules b.down b) (h ∙ sym measured)))
+    (one b (if_kept n b) k (λ image left. held image (among image left)))
+
 -- what was found makes a book, and so does what is begun
 pub found_begun : (scripts : List Named) (shelf : ℕ) (m : Making) (b : Book) → IsBook m b → IsBook (begun scripts shelf m) b
 found_begun scripts shelf m b (seen, is) = (seen, ap (begun scripts shelf) is)
@@ -232,3 +246,11 @@ found_told view scripts shelf n j making b same finds m is =
     let both : made m ≡ made (made_of (book_with scripts n b) finds.book.0) = sym is ∙ (same ∙ finds.book.1) in
     let earlier : m.earlier ≡ finds.book.0 = cc both in
     subst (λ (e : Earlier). HasToldStates scripts e.states b) (sym earlier) finds.told
+
+-- nothing is lost on a disk whose journal was opened, and whose records are read
+pub keeps_read : {D : Type 0} (view : D → View) (scripts : List Named) (shelf : ℕ) (old : View) (j0 j1 : Journal D) → IsSettled view j0 → bodies_in view j0 ≡ stored old.seen → IsIntactOrEmpty old
+    → ReadsOrBegins view scripts shelf j0 j1 → KeepsRecords scripts shelf old (view_of view j1)
+keeps_read view scripts shelf old j0 j1 settled is intact (inl u) =
+    inr (intact, inl (u.0 ∙ (settled.file ∙ ap at_rest is), λ image left. settled.durable image (u.1 image left) ∙ sym u.0))
+keeps_read view scripts shelf old j0 j1 settled is intact (inr begun) =
+    inr (intact, inr (sym is ∙ begun.0, (begun.1.file ∙ ap at_rest begun.2, begun.1.durable)))

@@ -7,7 +7,7 @@ use Rattle.script_value.specs.Val.{Val}
 use Rattle.value_bytes.specs.Spelling.{HasBytes}
 use Rattle.kept_states.specs.Kept.{Form, spelled, whole, bytes_of, IsKeptBy, form_byte, KeptAreWritten}
 use Rattle.kept_states.specs.Links.{behind_at}
-use Rattle.machine_spec.specs.Machine.{Frame, in_binding, in_operand, in_body, in_seq, in_and, in_or, in_if, in_count, in_store, in_turn, in_isolate, in_page, in_finish, in_back, Suspended}
+use Rattle.machine_spec.specs.Machine.{Frame, in_binding, in_operand, in_body, in_seq, in_and, in_or, in_if, in_count, in_store, in_turn, in_isolate, in_call, in_task, in_page, in_finish, in_back, Suspended}
 use Rattle.frame_codec.specs.Forms.{form_bytes, BindsBefore}
 use Rattle.frame_codec.specs.Spelling.{FrameHasBytes, ShadowHasBytes, StateHasBytes}
 use Rattle.frame_codec.proofs.States.{all_reversed}
@@ -27,6 +27,8 @@ frame_shallow : (f : Frame) → FrameHasBytes f → is_shallow_frame f ≡ true
 frame_shallow (in_binding n done) h = values_shallow done h.1.1
 frame_shallow (in_operand n done) h = values_shallow done h.1.1
 frame_shallow (in_turn n turns done) h = values_shallow done h.1.1.1
+frame_shallow (in_call n done) h = values_shallow done h.1.1
+frame_shallow (in_task n k outer) h = values_shallow outer h.1.1.1
 frame_shallow (in_body n bound) h = refl
 frame_shallow (in_seq n k) h = refl
 frame_shallow (in_and n k) h = refl

@@ -32,11 +32,13 @@ pub record AreHeld (effects : List Effect) (cells : List Val) : Type 0 where
   pub on : AreOn (length cells) effects
   pub hold : Holds effects cells
 
--- over those of a start's ticket, or of the instance whose page is answered
+-- the effects are on the cells of a start's ticket, or of the instance whose page is answered, and hold over them
 abbrev pub AreHeldBy : Book → Ticket → Destination → List Effect → Type 0
 AreHeldBy b t (start name) effects = AreHeld effects t.cells
 AreHeldBy b t (page name n) effects = IfSome (cells_at n.instance b) (AreHeld effects)
 
+-- the segment's effects are on the cells of its ticket, where that is for a start, or of the instance whose page it answers, and hold over
+-- them
 abbrev pub AreHeldNow : Book → Ticket → Segment → Type 0
 AreHeldNow b t r = AreHeldBy b t (target_of t.target) (map effect_of r.effects.items)
 
@@ -49,7 +51,8 @@ pub record IsWhole (a : Arena) (d : Suspended) (inside : List TxName) : Type 0 w
   pub inside_is : inside_of d.frames ≡ inside
   pub stored : FitsIfSpelled a d
 
--- so it is of the page that a change shows, by the script of its instance
+-- the page that a change shows is inside the transactions of its state's frames, and the state fits the script of its instance where it has
+-- a spelling
 abbrev pub IsWholeIn : List Named → Book → Change → Type 0
 IsWholeIn scripts b (Opens o) =
     IfSome (slice_get scripts o.instance.script) (λ s. IsWhole (arena_of s.script) (suspended_of o.state) o.page.item.inside.items)

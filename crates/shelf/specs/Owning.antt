@@ -20,17 +20,19 @@ pub record OwnRecords (scripts : List Named) (shelf : ℕ) : Type 0 where
   pub room : HasRoom bodies more
   pub own : AreOwn scripts shelf (bodies ++ flight more)
 
--- bytes that hold these, whatever becomes of them in a recovery that crashes, too; and that hold some
+-- bytes hold these own records, whatever becomes of them in a recovery that crashes, too
 abbrev pub HoldOwn : {scripts : List Named} {shelf : ℕ} → OwnRecords scripts shelf → List ℕ → Type 0
 HoldOwn o image = Hold o.bodies o.more image
 
+-- bytes hold some own records, whatever becomes of them in a recovery that crashes, too
 abbrev pub HoldsOwnRecords : List Named → (shelf : ℕ) → List ℕ → Type 0
 HoldsOwnRecords scripts shelf image = (o : OwnRecords scripts shelf) × HoldOwn o image
 
--- whatever a crash leaves now holds the same own records; and at each moment of a call it leaves some
+-- whatever a crash leaves now holds the same own records
 abbrev pub HasOwnImages : List Named → (shelf : ℕ) → View → Type 0
 HasOwnImages scripts shelf v = (o : OwnRecords scripts shelf) × ((image : List ℕ) → v.images image → HoldOwn o image)
 
+-- whatever a crash leaves at a moment of a call holds some own records
 abbrev pub StaysOwnThroughout : List Named → (shelf : ℕ) → View → View → Type 0
 StaysOwnThroughout scripts shelf old new = LeavesOnly old new (HoldsOwnRecords scripts shelf)
 

@@ -26,16 +26,17 @@ use Rattle.shelf.specs.declared.rules.Rules.{Rules}
 use Rattle.shelf.specs.Views.{unmeasured, fate_by, HoldNow}
 use Rattle.shelf.specs.Holding.{AreHeldNow}
 
--- what it comes to on the book beside a journal of this length, where nothing is in doubt
+-- what a publish comes to on the book beside a journal of this length, where nothing is in doubt
 abbrev pub decision_beside : Setup → (length : ℕ) → Rules → Book → Ticket → Decision
 decision_beside setup length rules b t =
     publish_comes (unmeasured rules) (book_of (scripts_of setup) length None b) (ticket_of t)
 
--- what is prepared for it, or its refusal; want of memory may stand for any
+-- what is prepared carries the decision out, or the refusal is the decision; want of memory may stand for any
 abbrev pub Decides : List Named → spec_rules.Rules → spec.Book → Decision → Result Prepared Reply → Type 0
 Decides scripts rules b d (Err reply.Memory) = ⊤
 Decides scripts rules b d result = Prepares scripts rules b d result
 
+-- what a publish comes to is prepared, or its refusal is told; want of memory may stand for any
 abbrev pub IsDecided : Setup → Rules → Book → Ticket → Result Prepared Reply → Type 0
 IsDecided setup rules b t result =
     (length : ℕ) → Decides (scripts_of setup) (unmeasured rules) (book_of (scripts_of setup) length None b)
@@ -66,7 +67,7 @@ pub record CanBeLanded (scripts : List Named) (b : Book) (t : Ticket) (p : Prepa
   pub held : AreHeldNow b t segment
   pub own : KeepsStateIfFits (book_of scripts 0 None b) t segment
 
--- the page that it shows, if any, has the state of its chain, where this has a spelling
+-- the page that is prepared, if any, has the state of its chain, where this has a spelling
 abbrev pub ShowsState : Setup → Book → Prepared → Type 0
 ShowsState setup b p =
     let scripts = scripts_of setup in IsSpelledBy p.change → HasStateBy scripts b.shelf (instances_of scripts b.instances) p.change
@@ -77,9 +78,10 @@ TellsOfRun (Ok p) = fate_by (reply_of p.reply) ≡ plain
 TellsOfRun (Err reply.Memory) = ⊤
 TellsOfRun (Err r) = fate_by (reply_of r) ≡ plain
 
--- a target that is not admitted is told so; where there was no memory for the run of one that is, that is the answer
+-- a target that is not admitted is told so
 abbrev pub IsRefused : Setup → Book → Target → Result Prepared Reply → Type 0
 IsRefused setup b target result = IfSome (refusal_for setup b target) (λ r. result ≡ Err (reply.Refused r))
 
+-- where there was no memory for the run of an admitted target, want of memory is the answer
 abbrev pub WantsMemory : Setup → Book → Ticket → Option Segment → Result Prepared Reply → Type 0
 WantsMemory setup b t segment result = segment ≡ None → refusal_for setup b t.target ≡ None → result ≡ Err reply.Memory

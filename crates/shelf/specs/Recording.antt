@@ -36,7 +36,7 @@ refusal_of_size journal size =
     or_else (when (nat_lt most_of_record size) (oversize size))
     (when (nat_lt most_of_journal (journal + (size + 5))) (journal_full (journal + (size + 5))))
 
--- it can
+-- a record of so many bytes can be added to a journal of so many
 pub record IsShort (journal size : ℕ) : Type 0 where
   pub body : size ≤ most_of_record
   pub whole : journal + (size + 5) ≤ most_of_journal
@@ -46,12 +46,13 @@ abbrev pub CanBeWritten : (journal : ℕ) → Record → Type 0
 CanBeWritten journal (begins shelf scripts) = ⊥
 CanBeWritten journal (changes c state) = IsShort journal (record_length c state) → PartsFit c → IsInGrammar (changes c state)
 
--- its body, which is short; or why there is none
+-- the bytes are the body of the record, which can be spelled and is short
 pub record IsBody (journal : ℕ) (r : Record) (size : ℕ) (body : List ℕ) : Type 0 where
   pub is : body ≡ body_of r
   pub spelled : IsInGrammar r
   pub short : IsShort journal size
 
+-- the record is written as its body, or told why it can't be added; want of memory may stand for either
 abbrev pub IsWritten : (journal : ℕ) → Record → Result (List ℕ) Reply → Type 0
 IsWritten journal (begins shelf scripts) result = ⊤
 IsWritten journal (changes c state) (Ok body) = IsBody journal (changes c state) (record_length c state) body
@@ -64,12 +65,12 @@ state_in (Opens o) = Some (suspended_of o.state)
 state_in (Extends x) = Some (suspended_of x.state)
 state_in _ = None
 
--- that is written behind what the change's ticket goes on from, where the links ask for it
+-- the state that a change's state is written behind: what its ticket goes on from, where the links ask for it
 abbrev pub behind_in : Ticket → Change → Option Suspended
 behind_in t (Extends x) = behind_at t.links (origin_of t.from)
 behind_in t _ = None
 
--- and the bytes that its record tells of it
+-- the bytes that a change's record tells of the state of its page, if it shows one
 abbrev pub told_in : Ticket → Change → Option (List ℕ)
 told_in t c = state_in c >>= told_bytes (behind_in t c)
 
@@ -91,13 +92,15 @@ state_of before = option_map (λ p. suspended_of p.now) before
 abbrev pub IsToldAs : (before : Option Suspended) → Suspended → Option (List ℕ) → Type 0
 IsToldAs before d bytes = bytes ≡ told_bytes before d
 
--- where bytes are told, this holds; where a test tells that it holds, it does; and where it does, it is told
+-- where bytes are told, this holds
 abbrev pub WhereTold : {E : Type 0} → Result (Option (List ℕ)) E → Type 0 → Type 0
 WhereTold result holds = IfOk result (λ bytes. IfSome bytes (λ _. holds))
 
+-- where a test tells that this holds, it does
 abbrev pub WhereTrue : {E : Type 0} → Result Bool E → Type 0 → Type 0
 WhereTrue result holds = IfOk result (λ test. IsTrue test → holds)
 
+-- where this holds, the test tells that it does
 abbrev pub IsTrueWhere : {E : Type 0} → Result Bool E → Type 0 → Type 0
 IsTrueWhere result holds = IfOk result (λ test. holds → IsTrue test)
 
@@ -112,14 +115,15 @@ IsKeptIn t (Opens o) = IsKeptFrom None 0 (suspended_of o.state) (kept_at o.page)
 IsKeptIn t (Extends x) = IsKeptOfTicket t (suspended_of x.state) x.show.page
 IsKeptIn t _ = ⊤
 
--- each web cell that is bound where the state is written behind is bound in it
+-- each web cell that is bound in the state that a change's state is written behind is bound in the change's state
 abbrev pub BindsIn : Ticket → Change → Type 0
 BindsIn t c = IfSome (state_in c) (BindsBefore (behind_in t c))
 
--- two states have as many variables and frames; all of a state's are shared with another one
+-- two states have as many variables and as many frames
 abbrev pub AreAsLong : (d e : stored.Suspended) → Type 0
 AreAsLong d e = (length d.env ≡ length e.env) × (length d.frames.items ≡ length e.frames.items)
 
+-- a delta shares all the variables and frames of a state
 abbrev pub IsAllShared : stored.Suspended → Delta → Type 0
 IsAllShared d x = (x.env_shared ≡ length d.env) × (x.frames_shared ≡ length d.frames.items)
 
@@ -143,7 +147,7 @@ abbrev pub IsOfByte : Change → Type 0
 IsOfByte (Opens o) = o.instance.script < 256
 IsOfByte _ = ⊤
 
--- its record can be written with the state that it tells, where it is short
+-- the record of a change can be written with the state that it tells, where it is short
 abbrev pub CanBeTold : (journal : ℕ) → Ticket → Change → Type 0
 CanBeTold journal t c = CanBeWritten journal (changes (change_of c) (told_in t c))
 

@@ -58,23 +58,25 @@ use Rattle.shelf.specs.Owning.{StandsOwn}
 abbrev pub unmeasured : Rules → spec_rules.Rules
 unmeasured r = rules_with r.fuel r.life r.instances r.pages
 
--- and with its journal, which these scripts begin
+-- what the events of a shelf run under, with its journal, which these scripts begin
 abbrev pub rules_of : List Named → Rules → spec_rules.Rules
 rules_of scripts r = record (unmeasured r) { journal = Some (journal_rules r.number scripts) }
 
--- a change that may have happened, and the transactions that its page is inside
+-- a change that may have happened, as the definitions have it
 abbrev pub doubted_of : Doubted → spec.Change
 doubted_of (Visits c) = change_of c
 doubted_of (Sweeps tick) = spec.sweeps tick
 
+-- the transactions that the page of a change that may have happened is inside
 abbrev pub doubted_inside : Doubted → List TxName
 doubted_inside (Visits c) = inside_of c
 doubted_inside (Sweeps tick) = []
 
+-- what is in doubt, as the definitions have it
 abbrev pub doubt_of : Doubt → spec.Doubt
 doubt_of d = record { count = d.count; change = doubted_of d.change; inside = doubted_inside d.change }
 
--- a visit's change, if it has one
+-- what is in doubt with a visit's change, if it has one
 abbrev pub doubt_by : (count : ℕ) → Option Change → Option spec.Doubt
 doubt_by count None = None
 doubt_by count (Some c) = Some (record { count = count; change = change_of c; inside = inside_of c })
@@ -87,7 +89,7 @@ book_in scripts s = book_of scripts (length_of s.journal) (option_map doubt_of s
 abbrev pub shelf_of : {D N : Type 0} → List Named → (given : ℕ) → Shelf D N → runs.Shelf
 shelf_of scripts given s = record { rules = rules_of scripts s.rules; book = book_in scripts s; nonces = given }
 
--- behind so many nonces of this source these are to come
+-- after so many nonces of this source these are to come
 abbrev pub HasGiven : (source : ℕ → ℕ) → (given : ℕ) → (coming : ℕ → ℕ) → Type 0
 HasGiven source given coming = (k : ℕ) → coming k ≡ source (given + k)
 
@@ -119,23 +121,25 @@ pub record IsOwnShelf {D N : Type 0} (view : D → View) (tells : Bool) (scripts
   pub states : HasItsStates scripts s.book
   pub own : IsTrue tells → StandsOwn (rules_of scripts s.rules) scripts s.rules.number (view s.journal.disk) (book_in scripts s)
 
--- one that was in order and an own one goes on to be, under each setup
+-- a shelf that was in order and an own one goes on to be an own one, under each setup
 abbrev pub StaysOwn : {D N : Type 0} → (D → View) → Bool → (old new : Shelf D N) → Type 0
 StaysOwn view tells old new =
     (scripts : List Named) → IsInOrder view tells scripts old → IsOwnShelf view tells scripts old → IsOwnShelf view tells scripts new
 
--- under some setup; one that was in order goes on to be, under each
+-- the shelf is in order under some setup
 abbrev pub IsInSomeOrder : {D N : Type 0} → (D → View) → Bool → Shelf D N → Type 0
 IsInSomeOrder view tells s = (scripts : List Named) × IsInOrder view tells scripts s
 
+-- a shelf that was in order goes on to be, under each setup
 abbrev pub StaysInOrder : {D N : Type 0} → (D → View) → Bool → (old new : Shelf D N) → Type 0
 StaysInOrder view tells old new = (scripts : List Named) → IsInOrder view tells scripts old → IsInOrder view tells scripts new
 
--- what a take and a sweep answer
+-- what a take answers
 abbrev pub taken_of : Result Ticket Reply → step.Reply
 taken_of (Ok t) = step.taken t.number t.nonce
 taken_of (Err r) = reply_of r
 
+-- what a sweep answers
 abbrev pub swept_of : Result ℕ Reply → step.Reply
 swept_of (Ok n) = step.swept n
 swept_of (Err r) = reply_of r
@@ -156,10 +160,11 @@ pub record IsEvent {D N : Type 0} (coming : N → ℕ → ℕ) (scripts : List N
       → IsStep source (shelf_of scripts given old) event reply (shelf_of scripts (drawn_by reply given) new)
   pub nonces : (source : ℕ → ℕ) (given : ℕ) → HasGiven source given (coming old.nonces) → HasGiven source (drawn_by reply given) (coming new.nonces)
 
--- what a target is admitted as, and why it is not
+-- what a target is admitted as now
 abbrev pub admission_now : {D N : Type 0} → Setup → Shelf D N → Target → Admission
 admission_now setup s target = admit (book_in (scripts_of setup) s) (target_of target)
 
+-- why a target is not admitted now, if it is not
 abbrev pub refusal_now : {D N : Type 0} → Setup → Shelf D N → Target → Option Refusal
 refusal_now setup s target = refusal_of (admission_now setup s target)
 
@@ -176,7 +181,7 @@ pub record IsOwnVisit {D N : Type 0} (view : D → View) (tells : Bool) (setup :
 abbrev pub HasTargetScript : List Named → Ticket → Type 0
 HasTargetScript scripts t = HasItsScript scripts t (target_of t.target)
 
--- its number is out
+-- the ticket's number is out
 abbrev pub IsOut : {D N : Type 0} → Setup → Shelf D N → Ticket → Type 0
 IsOut setup s t = Contains (book_in (scripts_of setup) s).out t.number
 
@@ -184,11 +189,12 @@ IsOut setup s t = Contains (book_in (scripts_of setup) s).out t.number
 abbrev pub IsRunOf : List Named → (fuel : ℕ) → Ticket → ran.Segment → Type 0
 IsRunOf scripts fuel t r = IsRunOver scripts fuel t t.cells r
 
--- the run, where there was memory for it
+-- the segment is the run of the ticket, where there was memory for it
 abbrev pub IsRunIfAny : List Named → (fuel : ℕ) → Ticket → Option ran.Segment → Type 0
 IsRunIfAny scripts fuel t None = ⊤
 IsRunIfAny scripts fuel t (Some r) = IsRunOf scripts fuel t r
 
+-- the segment is the run of the ticket under this shelf's fuel, where there was memory for it
 abbrev pub IsRunFor : {D N : Type 0} → Setup → Shelf D N → Ticket → Option ran.Segment → Type 0
 IsRunFor setup s t segment = IsRunIfAny (scripts_of setup) s.rules.fuel t segment
 
@@ -211,10 +217,10 @@ IsSegmentOf fuel b t (begins k named) s = s ≡ comes_to (start_visit b (ticket_
 IsSegmentOf fuel b t (resumes at) s = s ≡ comes_to (page_visit b (ticket_of t) at) (present at.instance.cells fuel)
 IsSegmentOf fuel b t (refused r) s = ⊤
 
--- the same of the program's values
+-- the program's segment is what that of an admitted visit comes to over the cells of now
 abbrev pub IsSegmentNow : (fuel : ℕ) → Book → Ticket → ran.Segment → Type 0
 IsSegmentNow fuel b t r = IsSegmentOf fuel b t (admit b (target_of t.target)) (segment_of r)
 
--- and its state is that of the page's chain
+-- where the segment waits for an answer, its state is that of its page's chain, for the visit that the ticket's target is admitted as
 abbrev pub KeepsStateNow : Book → Ticket → ran.Segment → Type 0
 KeepsStateNow b t r = KeepsStateAs b t (admit b (target_of t.target)) r

@@ -5,7 +5,7 @@ ghost use Rattle.journal_records.specs.Records.{IsInGrammar, begin_of};
 ghost use Rattle.journal_books.specs.Keeping.{IsWhole, AreWhole, first_body};
 ghost use Rattle.book_recovery.specs.Found.{IsBookInOrder};
 ghost use Rattle.shelf.specs.Faults.{begin_fault};
-ghost use Rattle.shelf.specs.Opening.{HasOwnRecords, OpensOwn, LeavesOwnRecords, HasFirstLength, IsDoneUnlessOutside, TellsFailure, IsMadeOf, CanGoOnWith, TellsReadFault, IsReadAlone};
+ghost use Rattle.shelf.specs.Opening.{HasOwnRecords, OpensOwn, LeavesOwnRecords, HasFirstLength, IsDoneUnlessOutside, TellsFailure, IsMadeOf, CanGoOnWith, TellsReadFault, IsReadAlone, KeepsUnlessFailed, IsUntouchedIfShort};
 ghost use Rattle.shelf.specs.Ranges.{AreInRange};
 ghost use Rattle.shelf.specs.Views.{TellsStates};
 
@@ -63,6 +63,7 @@ fn start<D: Disk>(
     ensures own_moments { IsTrue D.tells → bodies_in D.view journal.old ≡ []
         → LeavesOwnRecords D.view (scripts_of setup.now) number journal.old journal.new }
     ensures refused { IsDoneUnlessOutside result }
+    ensures untouched { IsUntouchedIfShort D.view journal.old journal.new result }
     ensures cause { TellsFailure D.view journal.old journal.new result }
     ensures later { (view_of D.view journal.old).faults ≤ (view_of D.view journal.new).faults }
 {
@@ -110,6 +111,8 @@ fn open<D: Disk>(
         → TellsReadFault D.view (scripts_of setup.now) number journal.old result }
     ensures quiet { IsTrue D.tells
         → IsReadAlone D.view (scripts_of setup.now) number journal.old journal.new }
+    ensures keeps { IsTrue D.tells
+        → KeepsUnlessFailed D.view (scripts_of setup.now) number journal.old journal.new result }
     ensures cause { TellsFailure D.view journal.old journal.new result }
     ensures later { (view_of D.view journal.old).faults ≤ (view_of D.view journal.new).faults }
 {
@@ -151,12 +154,13 @@ fn can_be_run(named: &NamedScript)
 impl<D: Disk, N: Nonces + Drop> Shelf<D, N> {
     ghost use Rattle.shelf.specs.Views.{IsInOrder, IsOwnShelf};
     ghost use Rattle.shelf.specs.Owning.{IsOwnImage};
-    ghost use Rattle.shelf.specs.Opening.{MakesShelf, IsOpenedAnew, OpensOneOf, StandsThroughout, LeavesOwn, TellsFault, TellsCause, disk_of, nonces_of};
+    ghost use Rattle.shelf.specs.Opening.{MakesShelf, IsOpenedAnew, OpensOneOf, StandsThroughout, OpensOwnIfEmpty, LeavesOwn, TellsFault, TellsCause, KeepsDisk, disk_of, nonces_of};
 
     /// Opens the shelf of these limits, which are in their ranges, on a disk: its book is what the records of the journal make,
     /// as after a crash. A disk without a record gets the first, which tells the shelf's number and its scripts. A disk that is
-    /// refused is handed back. Where the records that are read are own ones, as those of an empty disk are, the shelf is an own
-    /// one; and where a disk holds own records, a crash at any moment of the opening leaves some.
+    /// refused is handed back, with what stands on it, but where one of its calls failed. Where the records that are read are own
+    /// ones, as those of an empty disk are, the shelf is an own one; on a disk that tells no bytes it is where its book has no
+    /// instance. Where a disk holds own records, a crash at any moment of the opening leaves some.
     ///
     /// It asks for scripts that such a record can tell.
     pub fn begin(
@@ -180,12 +184,15 @@ impl<D: Disk, N: Nonces + Drop> Shelf<D, N> {
         ensures own { IsTrue D.tells
             → IsOwnImage (scripts_of setup.now) rules.number (D.view disk).seen
             → IfOk result (IsOwnShelf D.view D.tells (scripts_of setup.now)) }
+        ensures own_if_empty { OpensOwnIfEmpty D.view D.tells (scripts_of setup.now) result }
         ensures own_moments { IsTrue D.tells
             → LeavesOwn D.view (scripts_of setup.now) rules.number disk result }
         ensures rules { IfOk result (λ s. s.rules ≡ rules) }
         ensures nonces { nonces_of result ≡ nonces }
         ensures refused { IsTrue D.tells
             → TellsFault D.view (scripts_of setup.now) rules.number disk result }
+        ensures keeps { IsTrue D.tells
+            → KeepsDisk D.view (scripts_of setup.now) rules.number disk result }
         ensures cause { TellsCause D.view disk result }
         ensures later { (D.view disk).faults ≤ (D.view (disk_of result)).faults }
     {

@@ -1,9 +1,9 @@
-//! One shelf: a book, the journal that has what made it, a source of nonces and the limits that its visits run under. Each call is one event of the shelf.
+//! One shelf: a book, its journal, a source of nonces and limits; each call is one event: for `play` and for the site.
 #![tactic(auto)]
 
 ghost use Rattle.std.specs.Prelude.{IsTrue};
 ghost use Rattle.shelf.specs.Going.{TicketsGoOnToFit};
-ghost use Rattle.shelf.specs.Opening.{AReopenedShelfHasCrashed, AStandingDiskOpens};
+ghost use Rattle.shelf.specs.Opening.{AReopenedShelfHasCrashed, AReopenedShelfIsSound, AStandingDiskOpens};
 
 mod begin;
 mod body;
@@ -40,6 +40,12 @@ pub fn tickets_go_on_to_fit()
 /// lost or kept.
 pub fn a_reopened_shelf_has_crashed<D: Disk>()
     ensures { AReopenedShelfHasCrashed D.view }
+{}
+
+/// A shelf that is opened on what a crash left of a shelf in order has a sound book, where that shelf's was sound. The book of a
+/// new journal is, and so is each that a legal history leads to from a sound one.
+pub fn a_reopened_shelf_is_sound<D: Disk>()
+    ensures { AReopenedShelfIsSound D.view }
 {}
 
 /// A disk that a crash left of a shelf in order is neither damaged nor another shelf's, so opening it fails for the outside

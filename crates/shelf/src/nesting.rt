@@ -36,6 +36,8 @@ fn frame_nests_shallow(frame: &Frame) -> bool
         Frame::Binding { done, .. } => values_nest_shallow(done.as_slice()),
         Frame::Operand { done, .. } => values_nest_shallow(done.as_slice()),
         Frame::Turn { done, .. } => values_nest_shallow(done.as_slice()),
+        Frame::Call { done, .. } => values_nest_shallow(done.as_slice()),
+        Frame::Task { outer, .. } => values_nest_shallow(outer.as_slice()),
         _ => true,
     }
 }

@@ -24,7 +24,7 @@ use web_outside::Nonces;
 impl<D: Disk, N: Nonces + Drop> Shelf<D, N> {
     ghost use Rattle.shelf.specs.Views.{IsInOrder, IsOwnShelf, IsOwnVisit, IsOut, IsRunFor, HasTargetScript, fate_by};
     ghost use Rattle.replay_spec.specs.Step.{plain};
-    ghost use Rattle.shelf.specs.Events.{IsPublish, TellsRefusal, IsToldIfHeld, WantsIfNone, SpendsNumber, SpendsOnly, HasMoments, HasOwnMoments, TellsFaults, CountsOn, TellsReply, CarriesOut, ShowsItsState, decision_of};
+    ghost use Rattle.shelf.specs.Events.{IsPublish, TellsRefusal, IsToldIfHeld, WantsIfNone, SpendsNumber, SpendsOnly, HasMoments, HasOwnMoments, TellsFaults, LeavesItsDisk, CountsOn, TellsReply, CarriesOut, ShowsItsState, decision_of};
     ghost use Rattle.shelf.specs.Preparing.{CanBeLanded};
 
     /// Publishes the segment of a ticket, which spends its number whatever the reply.
@@ -32,8 +32,9 @@ impl<D: Disk, N: Nonces + Drop> Shelf<D, N> {
     /// The target is admitted anew. A start's segment is published as it is, and so is one whose effects hold over the cells of
     /// now; else it is run again over them, under the same number and nonce. No segment says that its run found no memory.
     ///
-    /// A change of the book is on the disk before it is made. All memory is taken before the first call of the disk. Where the
-    /// disk fails, the change may stand there or not, and the shelf is down until it is opened again.
+    /// A change of the book is on the disk before it is made. All memory is taken before the first call of the disk: a reply that is
+    /// neither a page nor a fault of the disk leaves the disk alone. Where the disk fails, the change may stand there or not, and the
+    /// shelf is down until it is opened again.
     ///
     /// A shelf that is down and a target that is not admitted are told whatever memory there is, and so is, where no second run
     /// is due, any reply that changes nothing, but for the length of a record. Want of memory changes nothing else than that
@@ -71,6 +72,7 @@ impl<D: Disk, N: Nonces + Drop> Shelf<D, N> {
             → IsToldIfHeld setup.now self.old ticket segment result }
         ensures memory { SpendsOnly setup.now self.old self.new ticket result }
         ensures cause { TellsFaults D.view self.old self.new (reply_of result) }
+        ensures quiet { LeavesItsDisk D.view self.old self.new (reply_of result) }
         ensures later { CountsOn D.view self.old self.new }
         ensures nonces { self.new.nonces ≡ self.old.nonces }
         ensures rules { self.new.rules ≡ self.old.rules }
@@ -120,6 +122,7 @@ impl<D: Disk, N: Nonces + Drop> Shelf<D, N> {
             → TellsReply (decision_of setup.now self.old ticket.now) (reply_of result) }
         ensures memory { SpendsOnly setup.now self.old self.new ticket.now result }
         ensures cause { TellsFaults D.view self.old self.new (reply_of result) }
+        ensures quiet { LeavesItsDisk D.view self.old self.new (reply_of result) }
         ensures later { CountsOn D.view self.old self.new }
         ensures nonces { self.new.nonces ≡ self.old.nonces }
         ensures rules { self.new.rules ≡ self.old.rules }

@@ -4,6 +4,7 @@ ghost use Rattle.instance_cells.specs.Views.{effect_of};
 ghost use Rattle.instance_book.specs.Admissions.{book_under};
 ghost use Rattle.instance_book.specs.Fits.{IsRunnable};
 ghost use Rattle.instance_book.specs.Prepares.{AreOnCells};
+ghost use Rattle.ticket_runs.specs.Runs.{IsRunOver};
 ghost use Rattle.shelf.specs.Views.{HaveTheirCells, HasTargetScript, IsRunOf, IsSegmentNow, KeepsStateNow, HoldNow};
 ghost use Rattle.shelf.specs.Holding.{AreHeld, AreHeldNow, IsForItsVisit};
 
@@ -34,6 +35,23 @@ fn held(cells: &Cells, segment: Segment) -> Result<Segment, AllocError>
     } else {
         Err(AllocError)
     }
+}
+
+// The segment of a ticket that is run again over these cells, where its effects hold over them.
+fn run_again(
+    alloc: Global,
+    setup: &Setup,
+    ticket: &Ticket,
+    cells: &Cells,
+    fuel: u64,
+) -> Result<Segment, AllocError>
+    requires runs { IsRunnable (scripts_of setup.now) ticket.now }
+    requires fuel { fuel < 2 ^ 63 }
+    ensures run { IfOk result (IsRunOver (scripts_of setup.now) fuel ticket.now cells.now) }
+    ensures held { IfOk result (λ r. AreHeld (map effect_of r.effects.items) cells.now) }
+{
+    let second = run_ticket(alloc, setup, ticket, cells, fuel)?;
+    held(cells, second)
 }
 
 /// What the segment of a ticket comes to over the cells of now: the first run's result where its effects hold over them, and
@@ -80,6 +98,5 @@ pub fn segment_now(
     if are_held(cells, &first.effects) {
         return Ok(first);
     }
-    let second = run_ticket(alloc, setup, ticket, cells, fuel)?;
-    held(cells, second)
+    run_again(alloc, setup, ticket, cells, fuel)
 }

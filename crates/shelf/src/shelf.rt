@@ -17,6 +17,12 @@ pub struct Shelf<D: Disk, N> {
     pub(crate) rules: Rules,
 }
 
+// What stands in memory is let go.
+fn forget(book: Book, down: Option<Doubt>) {
+    drop(book);
+    drop(down);
+}
+
 impl<D: Disk, N> Shelf<D, N> {
     ghost use Rattle.page_journal.specs.Settled.{IsSound, view_of, length_of};
     ghost use Rattle.instance_book.specs.Makes.{count_of};
@@ -65,11 +71,12 @@ impl<D: Disk, N> Shelf<D, N> {
     {
         let Shelf {
             journal,
-            book: _,
-            down: _,
+            book,
+            down,
             nonces,
             rules: _,
         } = self;
+        forget(book, down);
         (journal.close(), nonces)
     }
 }

@@ -12,12 +12,12 @@ use web_outside::Nonces;
 
 impl<D: Disk, N: Nonces + Drop> Shelf<D, N> {
     ghost use Rattle.shelf.specs.Views.{IsInSomeOrder, StaysInOrder, StaysOwn, swept_of};
-    ghost use Rattle.shelf.specs.Events.{IsSweep, HasAllMoments, HasAllOwnMoments, TellsFaults, CountsOn};
+    ghost use Rattle.shelf.specs.Events.{IsSweep, HasAllMoments, HasAllOwnMoments, TellsFaults, LeavesItsDisk, CountsOn};
 
     /// Goes on to a tick and frees each instance whose pages are all expired then, once this is on the disk; a tick at or below
     /// the clock does nothing. It tells how many instances were freed.
     ///
-    /// It asks for a shelf in order, under whatever setup.
+    /// It asks for a shelf in order, under whatever setup. A reply that tells neither a sweep nor a fault of the disk leaves the disk alone.
     pub fn sweep(&mut self, alloc: Global, tick: u64) -> Result<u32, Reply>
         requires tick { tick < 2 ^ 62 }
         requires in_order { IsInSomeOrder D.view D.tells self.old }
@@ -27,6 +27,7 @@ impl<D: Disk, N: Nonces + Drop> Shelf<D, N> {
         ensures any_moment { IsTrue D.tells → HasAllMoments D.view D.tells self.old self.new }
         ensures own_moments { IsTrue D.tells → HasAllOwnMoments D.view D.tells self.old self.new }
         ensures cause { TellsFaults D.view self.old self.new (swept_of result) }
+        ensures quiet { LeavesItsDisk D.view self.old self.new (swept_of result) }
         ensures later { CountsOn D.view self.old self.new }
         ensures nonces { self.new.nonces ≡ self.old.nonces }
         ensures rules { self.new.rules ≡ self.old.rules }

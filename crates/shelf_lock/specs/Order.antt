@@ -13,12 +13,12 @@ use Rattle.shelf_lock.specs.declared.view.View.{View}
 abbrev pub made_by : {E : Type 0} → (E → ℕ) → ℕ → List E → List E
 made_by caller who log = filter (λ e. caller e == who) log
 
--- so of each element
+-- the property holds of each element of the list
 abbrev pub Each : {A : Type 0} → (A → Type 0) → List A → Type 0
 Each P [] = Unit {0}
 Each P (x ∷ xs) = P x × Each P xs
 
--- the number that no entry has
+-- the limit that the number of each entry is below
 abbrev pub entry_limit : ℕ
 entry_limit = 2 ^ 62
 
@@ -27,39 +27,40 @@ abbrev pub longer : {E : Type 0} → List E → List E → List E
 longer xs ys = if ltb (length xs) (length ys) then ys else xs
 
 module _ {O E : Type 0} where
-  -- the seat that hands out the callers, before it hands out this one
+  -- the view of the seat that hands out the callers, before it hands out the caller of this number
   abbrev pub maker : O → ℕ → ℕ → View O E
   maker o first next = record { role = Maker; caller = next; opening = o ∷ []; first = first; seen = []; heard = []; told = [] }
 
-  -- the maker, once it has handed one out
+  -- the view of the maker, after it has handed out one caller
   abbrev pub appointer : View O E → View O E
   appointer v = record { role = v.role; caller = v.caller + 1; opening = v.opening; first = v.first; seen = v.seen; heard = v.heard; told = v.told }
 
-  -- the caller that it has handed out, which has seen nothing
+  -- the view of a caller that the maker has just handed out, which has seen nothing
   abbrev pub appointed : View O E → View O E
   appointed v = record { role = Outside; caller = v.caller; opening = v.opening; first = v.first; seen = []; heard = []; told = [] }
 
-  -- v in this role, having seen this
+  -- the view v in this role, having seen this history
   abbrev pub posed : Role → List E → View O E → View O E
   posed role seen v = record { role = role; caller = v.caller; opening = v.opening; first = v.first; seen = seen; heard = v.heard; told = [] }
 
-  -- v has heard of w, and of all that w has heard of
+  -- the view v where it has heard of w too, and of all that w has heard of
   abbrev pub both : View O E → View O E → View O E
   both v w = record { role = v.role; caller = v.caller; opening = v.opening; first = v.first; seen = v.seen; heard = (w.caller, w.seen) ∷ (w.heard ++ v.heard); told = v.told }
 
-  -- what v has seen, without a number
+  -- a note of what v has seen, which has no caller number
   abbrev pub noted : View O E → View O E
   noted v = record { role = Noted; caller = 0; opening = v.opening; first = v.first; seen = v.seen; heard = []; told = [] }
 
-  -- v has taken the note n in, and has yet to compare the two
+  -- the view v after it has taken in the note n, with the two histories that it has yet to compare
   abbrev pub comparing : View O E → View O E → View O E
   comparing v n = record { role = Comparing; caller = v.caller; opening = v.opening; first = v.first; seen = longer v.seen n.seen; heard = v.heard; told = v.seen ∷ n.seen ∷ [] }
 
-  -- what is left of a seat that was joined into another
+  -- the view that is left of a seat which was joined into another
   abbrev pub nobody : View O E
   nobody = record { role = Spent; caller = 0; opening = []; first = 0; seen = []; heard = []; told = [] }
 
--- the history so far, the gate, the seat inside, the maker's seat, its next number, and the seat of each number below it
+-- what holds of all seats: the history so far, the gate, the seat inside, the maker's seat, its next number, and the seat of each
+-- number below that
 pub record Facts (E : Type 0) : Type 0 where
   pub log : List E
   pub gate : ℕ
@@ -73,7 +74,7 @@ module _ {S O E : Type 0} (g : Ghosts S O E) where
   abbrev pub Of : S → View O E → Type 0
   Of x v = (v.opening ≡ g.opening x ∷ []) × (v.first ≡ g.first x)
 
-  -- the next entry has at most this number
+  -- the number of the value's next entry is the limit at most
   abbrev pub IsWithin : S → Type 0
   IsWithin x = g.first x + length (g.history x) ≤ entry_limit
 
@@ -81,19 +82,19 @@ module _ {S O E : Type 0} (g : Ghosts S O E) where
   abbrev pub Told : List E → ℕ × List E → Type 0
   Told log h = IsPrefix h.1 log × (made_by g.caller h.0 log ≡ made_by g.caller h.0 h.1)
 
-  -- so of the view's caller, and of each that it has heard of
+  -- what the view has seen begins the history and has all entries of its caller, and so it is of each caller that the view has heard of
   abbrev pub Begins : List E → View O E → Type 0
   Begins log v = IsPrefix v.seen log × (made_by g.caller v.caller log ≡ made_by g.caller v.caller v.seen) × Each (Told log) v.heard
 
-  -- a caller that this seat took over from another
+  -- the caller is one that this seat took over from another: its number is the seat's, and not that of the seat's own caller
   abbrev pub Owned : Facts E → ℕ → ℕ → ℕ × List E → Type 0
   Owned k seat who h = (h.0 < k.next) × (k.owner h.0 ≡ seat) × (h.0 ≢ who)
 
-  -- the seat has its caller number, and those that it took over, alone
+  -- the numbers of the seat's caller, and of other callers that it took over, are given out and belong to this seat
   abbrev pub Numbered : Facts E → ℕ → View O E → Type 0
   Numbered k seat v = (v.caller < k.next) × (k.owner v.caller ≡ seat) × Each (Owned k seat v.caller) v.heard
 
-  -- a history begins with what the caller had seen and has no entry of it behind that, and begins with what others had seen
+  -- a history begins with what the caller had seen, has no further entry of the caller, and begins with what others had seen
   abbrev pub GoesOn : ℕ → List E → List (List E) → Type 0
   GoesOn who seen [] = Unit {0}
   GoesOn who seen (own ∷ others) = IsPrefix own seen × (made_by g.caller who seen ≡ made_by g.caller who own) × Each (λ l. IsPrefix l seen) others
@@ -108,7 +109,7 @@ module _ {S O E : Type 0} (g : Ghosts S O E) where
   Fits start k seat v Noted = Of start v × IsPrefix v.seen k.log
   Fits start k seat v Spent = Unit {0}
 
-  -- the value that is at home
+  -- the value that is at home is sound, has the opening and the first number of the start, and has this history
   pub record Home (start : S) (log : List E) (s : State S (View O E)) : Type 0 where
     pub value : S
     pub there : get_elem? s.homes 0 ≡ some (some value)
@@ -117,7 +118,7 @@ module _ {S O E : Type 0} (g : Ghosts S O E) where
     pub first_is : g.first value ≡ g.first start
     pub history_is : g.history value ≡ log
 
-  -- no caller but the first ones has entries
+  -- callers from this number on have no entries in the history
   abbrev pub MadeBelow : ℕ → List E → Type 0
   MadeBelow seats log = (who : ℕ) → seats ≤ who → made_by g.caller who log ≡ []
 
@@ -138,7 +139,7 @@ module _ {S O E : Type 0} (g : Ghosts S O E) where
       (found ≡ 0 → (x : S) × (w ≡ (posed Inside (g.history x) v.0, (0, x) ∷ [])) × g.sound x × Of x v.0 × Begins (g.history x) v.0 × IsWithin x)
       × (found ≢ 0 → w ≡ v)
 
-  -- what was to be compared are beginnings of one history
+  -- the seat has compared what it had to: these are beginnings of one history, which it has seen
   abbrev pub Looked : Step S → Me S (View O E) → ℕ → Me S (View O E) → Type 0
   Looked s v found w = (w ≡ (posed Outside v.0.seen v.0, [])) × GoesOn v.0.caller v.0.seen v.0.told
 
@@ -151,7 +152,7 @@ module _ {S O E : Type 0} (history : S → List E) where
   abbrev pub Left : Step S → Me S (View O E) → ℕ → Me S (View O E) → Type 0
   Left s v found w = (x : S) → v.1 ≡ (0, x) ∷ [] → w ≡ (posed Outside (history x) v.0, [])
 
--- one more entry at most, by this caller
+-- the new history has one entry more at most, which this caller made
 abbrev pub Adds : {E : Type 0} → (E → ℕ) → ℕ → List E → List E → Type 0
 Adds {E} caller who old new = (new ≡ old) ⊎ ((e : E) × (caller e ≡ who) × (new ≡ old ++ e ∷ []))
 

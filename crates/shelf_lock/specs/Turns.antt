@@ -18,7 +18,7 @@ module _ {S O E : Type 0} where
   abbrev pub IsOutside : Seat S (View O E) → Type 0
   IsOutside s = (s.me.0.role ≡ Outside) × (s.me.1 ≡ [])
 
-  -- it is one seat, before and after
+  -- the two seats are one, before and after: of one table, under one number
   abbrev pub IsSameSeat : Seat S (View O E) → Seat S (View O E) → Type 0
   IsSameSeat a b = (b.table_id ≡ a.table_id) × (b.id ≡ a.id)
 
@@ -31,7 +31,7 @@ module _ {S O E : Type 0} (g : Ghosts S O E) where
   abbrev pub Reached : View O E → S → Type 0
   Reached v x = g.sound x × Of g x v × Begins g (g.history x) v × (g.first x + length (g.history x) < entry_limit)
 
-  -- a turn on x keeps what it has to, and leaves y
+  -- a turn on x leaves y: it is sound, has the same opening and first number, and one entry more at most, by this caller
   abbrev pub KeepsAll : ℕ → S → S → Type 0
   KeepsAll who x y = g.sound y × (g.opening y ≡ g.opening x) × (g.first y ≡ g.first x) × Adds g.caller who (g.history x) (g.history y)
 
@@ -39,7 +39,7 @@ module _ {S O E : Type 0} (g : Ghosts S O E) where
   abbrev pub MayCall : {F A : Type 0} → Once F (MutBor S × Unit {0}) (A × (MutBor S × Unit {0})) → F → View O E → Type 0
   MayCall call f v = (p : MutBor S) → Reached v p.now → call.pre f (p, tt)
 
-  -- f keeps what it has to, on each value that a turn of the seat may find
+  -- f keeps what a turn has to keep, on each value that a turn of the seat may find
   abbrev pub KeepsEach : {F A : Type 0} → Once F (MutBor S × Unit {0}) (A × (MutBor S × Unit {0})) → F → View O E → Type 0
   KeepsEach {F} {A} call f v = (x : S) (a : A) (y : S) → Reached v x → FnOnceReturnsAtMut call f x a y → KeepsAll v.caller x y
 

@@ -1,4 +1,4 @@
-//! A value that threads work on in turns. It has one history, of which each pass knows a beginning.
+//! A value that threads work on in turns, with one history: for the row of locks.
 #![tactic(auto)]
 
 mod kept;

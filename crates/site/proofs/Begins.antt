@@ -1,5 +1,5 @@
 -- Shelves that are opened one after another, and handed back.
-use Rattle.std.proofs.Common.{◌≡◌, ℕ, zero, suc, ◌<◌, ◌+◌, ◌-◌, Bool, List, [], ◌∷◌, ◌++◌, length, length-append, map, reverse, Some, slice_get, refl, ap, sym, ◌∙◌, subst, arith}
+use Rattle.std.proofs.Common.{◌≡◌, ◌≢◌, inl, ℕ, zero, suc, ◌<◌, ◌+◌, ◌-◌, Bool, List, [], ◌∷◌, ◌++◌, length, length-append, map, reverse, Some, slice_get, IsTrue, refl, ap, sym, ◌∙◌, subst, arith}
 use Rattle.std.specs.List.{AllZip}
 use Rattle.std.proofs.lemmas.List.{append-nil, reverse-reverse}
 use Rattle.std.proofs.lemmas.Option.{slice_get_within}
@@ -10,11 +10,11 @@ use Rattle.script_nodes.specs.Setup.{Named}
 use Rattle.script_nodes.specs.declared.setup.Setup.{Setup}
 use Rattle.script_nodes.specs.Views.{scripts_of}
 use Rattle.web_outside.specs.Causes.{Rose}
-use Rattle.shelf.specs.Opening.{IsFaultOf}
+use Rattle.shelf.specs.Opening.{IsFaultOf, KeepsRecords}
 use Rattle.shelf.specs.Owning.{HoldsOwnRecords}
 use Rattle.shelf.specs.Views.{book_in}
 use Rattle.shelf.specs.declared.begin.BeginFault.{BeginFault}
-use Rattle.shelf.specs.declared.begin.BeginFault.TheVariants.{Memory}
+use Rattle.shelf.specs.declared.begin.BeginFault.TheVariants.{DiskFault, Memory}
 use Rattle.shelf.specs.declared.rules.Rules.{Rules}
 use Rattle.shelf.specs.declared.shelf.Shelf.{Shelf}
 use Rattle.shelf_lock.proofs.Prefixes.{snoc_each}
@@ -78,6 +78,9 @@ module _ {D : Type 0} (view : D → View) (tells : Bool) (scripts : List Named) 
     later = omega arith;
   }
 
+  kept_same : (k : ℕ) (d : D) → KeepsRecords scripts k (view d) (view d)
+  kept_same k d = inl (refl, λ image left. left)
+
   -- so disks that nothing was done to are handed back
   pub unopened_none : OnlyNow → (disks : List D) → 0 < length disks → AreUnopened view tells scripts disks disks 0 Memory
   unopened_none only_now disks some = record {
@@ -89,6 +92,7 @@ module _ {D : Type 0} (view : D → View) (tells : Bool) (scripts : List Named) 
     earlier = λ told k d lt e. absurd (omega arith);
     why = λ told d e. tt;
     cause = λ no. absurd (let other : ⊥ = cc no in other);
+    keep = λ told k d e d_is e_is sound. subst (λ (z : D). KeepsRecords scripts k (view d) (view z)) (one_of (sym d_is ∙ e_is)) (kept_same k d);
   }
 
 module _ {D N : Type 0} (view : D → View) (tells : Bool) (coming : N → ℕ → ℕ) (setup : Setup) (rules : Rules) where
@@ -129,6 +133,12 @@ module _ {D N : Type 0} (view : D → View) (tells : Bool) (coming : N → ℕ �
         let f = fresh_at k d s.0 d_is s.1 in
         subst (IsReturned view tells (scripts_of setup) k d) s.2 (returned_opened k d f.0 s.0 f.1)
 
+    keeps_at : IsTrue tells → (k : ℕ) (d e : D) → slice_get disks k ≡ Some d → slice_get (map disk_in ks) k ≡ Some e → KeepsRecords (scripts_of setup) k (view d) (view e)
+    keeps_at told k d e d_is e_is =
+        let s = map_get disk_in ks k e e_is in
+        let f = fresh_at k d s.0 d_is s.1 in
+        subst (λ (z : D). KeepsRecords (scripts_of setup) k (view d) (view z)) s.2 (f.1.shelf.keeps told)
+
     -- all were opened, and are handed back
     pub unopened_after : length ks ≡ length disks → 0 < length disks → AreUnopened view tells (scripts_of setup) disks (map disk_in ks) 0 Memory
     unopened_after many some = record {
@@ -137,6 +147,7 @@ module _ {D N : Type 0} (view : D → View) (tells : Bool) (coming : N → ℕ �
       earlier = λ told k d lt e. absurd (omega arith);
       why = λ told d e. tt;
       cause = λ no. absurd (let other : ⊥ = cc no in other);
+      keep = λ told k d e d_is e_is sound. keeps_at told k d e d_is e_is;
     }
 
     -- their sources are those that they were given
@@ -222,6 +233,12 @@ module _ {D N : Type 0} (view : D → View) (tells : Bool) (coming : N → ℕ �
           cause = λ was x y x_is y_is.
               subst (λ (z : D). Rose (view z).faults (view y).faults) (one_of (sym here ∙ x_is))
               (subst (λ (z : D). Rose (view d).faults (view z).faults) (one_of (sym home ∙ y_is)) (unopened.cause was));
+          keep = λ told k x y x_is y_is.
+              pairs_of (λ (n : ℕ) (a b : D). (n ≡ number → fault ≢ DiskFault) → KeepsRecords (scripts_of setup) n (view a) (view b)) front (map disk_in ks) rest d e (len ∙ sym (mapped ∙ many))
+              (λ n a b a_is b_is sound. keeps_at told n a b (ap (λ l. slice_get l n) is ∙ get_front front (d ∷ rest) n a a_is) b_is)
+              (λ sound. subst (λ (n : ℕ). KeepsRecords (scripts_of setup) n (view d) (view e)) (sym len) (unopened.keeps told (sound len)))
+              (λ n a sound. kept_same view tells (scripts_of setup) n a) k x y
+              (ap (λ l. slice_get l k) (sym is) ∙ x_is) y_is;
         }
 
 -- shelves that came back from their locks are as they were

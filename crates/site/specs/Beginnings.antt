@@ -1,5 +1,5 @@
 -- What a site begins with, and what it hands back where it does not begin.
-use Rattle.std.specs.Prelude.{◌≡◌, ◌≤◌, ◌<◌, ◌-◌, ◌^◌, ℕ, Bool, IsTrue, List, [], ◌∷◌, ◌+◌, length, map, reverse, Some, slice_get, vec_len, vec_capacity}
+use Rattle.std.specs.Prelude.{◌≡◌, ◌≢◌, ◌≤◌, ◌<◌, ◌-◌, ◌^◌, ℕ, Bool, IsTrue, List, [], ◌∷◌, ◌+◌, length, map, reverse, Some, slice_get, vec_len, vec_capacity}
 use Rattle.std.specs.Global.{Vec}
 use Rattle.web_outside.specs.Causes.{Rose}
 use Rattle.web_disk.specs.View.{View}
@@ -13,7 +13,7 @@ use Rattle.shelf.specs.declared.begin.BeginFault.{BeginFault}
 use Rattle.shelf.specs.declared.begin.BeginFault.TheVariants.{DiskFault}
 use Rattle.shelf.specs.declared.rules.Rules.{Rules}
 use Rattle.shelf.specs.declared.shelf.Shelf.{Shelf}
-use Rattle.shelf.specs.Opening.{MakesBook, IsFaultOf}
+use Rattle.shelf.specs.Opening.{MakesBook, IsFaultOf, KeepsRecords}
 use Rattle.shelf.specs.Owning.{IsOwnImage, HasOwnImages, StaysOwnThroughout}
 use Rattle.shelf.specs.Views.{IsInOrder, IsOwnShelf, book_in}
 use Rattle.lock_row.specs.Spots.{Home, Homes}
@@ -36,8 +36,8 @@ CanBegin scripts shelves = (k : ℕ) → k < shelves → IsInGrammar (begin_of k
 
 module _ {D N : Type 0} (view : D → View) (tells : Bool) (scripts : List Named) where
   -- A shelf that was opened on this disk under these limits: its book is what the disk's bytes make, as after a crash, and empty
-  -- where they have no record. A crash at any moment of the opening left the disk between the books that it stood between. Where the
-  -- records that are read are own ones, it is an own shelf.
+  -- where they have no record. A crash at any moment of the opening left the disk between the books that it stood between, and nothing
+  -- was lost on it. Where the records that are read are own ones, it is an own shelf.
   pub record IsOpenedOn (rules : Rules) (disk : D) (nonces : N) (s : Shelf D N) : Type 0 where
     pub rules_are : s.rules ≡ rules
     pub nonces_are : s.nonces ≡ nonces
@@ -49,10 +49,11 @@ module _ {D N : Type 0} (view : D → View) (tells : Bool) (scripts : List Named
     pub any_moment : IsTrue tells → StaysThroughout scripts rules.number (view disk) (view s.journal.disk)
     pub own_moments : IsTrue tells → HasOwnImages scripts rules.number (view disk)
         → StaysOwnThroughout scripts rules.number (view disk) (view s.journal.disk)
+    pub keeps : IsTrue tells → KeepsRecords scripts rules.number (view disk) (view s.journal.disk)
     pub later : (view disk).faults ≤ (view s.journal.disk).faults
 
 module _ {D N : Type 0} (view : D → View) (tells : Bool) (coming : N → ℕ → ℕ) (setup : Setup) where
-  -- a shelf that was opened so and has no entry yet
+  -- a shelf that was opened on this disk with this source of nonces, and has no entry yet
   pub record IsFreshOn (rules : Rules) (disk : D) (nonces : N) (k : KeptShelf D N) : Type 0 where
     pub setup_is : k.opened.setup.value ≡ setup
     pub opened_is : k.opened.shelf.value ≡ k.shelf
@@ -60,13 +61,13 @@ module _ {D N : Type 0} (view : D → View) (tells : Bool) (coming : N → ℕ �
     pub sound : IsSoundShelf view tells coming k
     pub shelf : IsOpenedOn view tells (scripts_of setup) rules disk nonces k.shelf
 
-  -- so each of these, on the disk and with the source of its place
+  -- each of these shelves was opened on the disk of its place, with the source of its place, and has no entry yet
   abbrev pub AreFreshOn : Rules → List D → List N → List (KeptShelf D N) → Type 0
   AreFreshOn rules disks nonces ks =
       (k : ℕ) (d : D) (n : N) (s : KeptShelf D N) → slice_get disks k ≡ Some d → slice_get nonces k ≡ Some n → slice_get ks k ≡ Some s
       → IsFreshOn (rules_for rules k) d n s
 
-  -- shelves that were opened so on these disks, of which the last is the first shelf's, with sources in the same order
+  -- shelves without an entry that were opened on these disks, of which the last is the first shelf's, with sources in the same order
   abbrev pub AreOpened : Rules → Vec D → Vec N → Vec (KeptShelf D N) → Type 0
   AreOpened rules disks nonces ks = AreFreshOn rules (reverse disks.items) (reverse nonces.items) ks.items
 
@@ -78,11 +79,12 @@ module _ {D : Type 0} (view : D → View) (tells : Bool) (scripts : List Named) 
     pub own_moments : IsTrue tells → HasOwnImages scripts k (view disk) → StaysOwnThroughout scripts k (view disk) (view back)
     pub later : (view disk).faults ≤ (view back).faults
 
-  -- the shelf of this number was not opened, and its disk is handed back
+  -- the shelf of this number was not opened, and its disk is handed back, with what stands on it, but where a call of it failed
   pub record IsUnopened (k : ℕ) (disk back : D) (fault : BeginFault) : Type 0 where
     pub returned : IsReturned k disk back
     pub why : IsTrue tells → IsFaultOf scripts k (view disk) fault
     pub cause : fault ≡ DiskFault → Rose (view disk).faults (view back).faults
+    pub keeps : IsTrue tells → fault ≢ DiskFault → KeepsRecords scripts k (view disk) (view back)
 
   -- disks are handed back, each in its place
   pub record AreReturned (disks back : List D) : Type 0 where
@@ -90,7 +92,7 @@ module _ {D : Type 0} (view : D → View) (tells : Bool) (scripts : List Named) 
     pub each : (k : ℕ) (d e : D) → slice_get disks k ≡ Some d → slice_get back k ≡ Some e → IsReturned k d e
 
   -- A shelf was not opened, the first of those that can't be: what makes no shelf stands on its disk, or a call of its disk failed,
-  -- or memory ended.
+  -- or memory ended. Nothing was lost on any disk, but on the one of which a call failed.
   pub record AreUnopened (disks back : List D) (shelf : ℕ) (fault : BeginFault) : Type 0 where
     pub returned : AreReturned disks back
     pub within : shelf < length disks
@@ -98,9 +100,11 @@ module _ {D : Type 0} (view : D → View) (tells : Bool) (scripts : List Named) 
     pub why : IsTrue tells → (d : D) → slice_get disks shelf ≡ Some d → IsFaultOf scripts shelf (view d) fault
     pub cause : fault ≡ DiskFault → (d e : D) → slice_get disks shelf ≡ Some d → slice_get back shelf ≡ Some e
         → Rose (view d).faults (view e).faults
+    pub keep : IsTrue tells → (k : ℕ) (d e : D) → slice_get disks k ≡ Some d → slice_get back k ≡ Some e
+        → (k ≡ shelf → fault ≢ DiskFault) → KeepsRecords scripts k (view d) (view e)
 
 module _ {D : Type 0} (view : D → View) (tells : Bool) (setup : Setup) where
-  -- why the shelf of this number was not opened, and its disk and its source
+  -- the shelf of this number was not opened, and this is why; its disk is handed back, with a source
   abbrev pub IsNotOpened : {N : Type 0} → ℕ → D → BeginFault × D × N → Type 0
   IsNotOpened k disk left = IsUnopened view tells (scripts_of setup) k disk left.1 left.0
 
@@ -109,10 +113,11 @@ module _ {D : Type 0} (view : D → View) (tells : Bool) (setup : Setup) where
   AreNotOpened old new left = AreUnopened view tells (scripts_of setup) (reverse old.items) (reverse new.items) left.0 left.1
 
 module _ {D N : Type 0} where
-  -- the disks and the sources of these shelves
+  -- the disks of these shelves
   abbrev pub disks_of : List (KeptShelf D N) → List D
   disks_of ks = map (λ k. k.shelf.journal.disk) ks
 
+  -- the sources of nonces of these shelves
   abbrev pub nonces_of : List (KeptShelf D N) → List N
   nonces_of ks = map (λ k. k.shelf.nonces) ks
 
@@ -129,12 +134,12 @@ module _ {D N : Type 0} where
   abbrev pub AreGone : Vec D → Vec N → Type 0
   AreGone disks nonces = (disks.items ≡ []) × (nonces.items ≡ []) × (vec_len disks ≡ 0) × (vec_len nonces ≡ 0)
 
--- there are so many
+-- the vector has so many items
 abbrev pub HasMany : {T : Type 0} → ℕ → Vec T → Type 0
 HasMany many v = (length v.items ≡ many) × (vec_len v ≡ many)
 
 module _ {D N : Type 0} (view : D → View) (tells : Bool) (setup : Setup) (rules : Rules) where
-  -- the shelf of this number was opened so, and lies behind its lock
+  -- the shelf of this number was opened on this disk with this source of nonces, and lies behind its lock
   pub record IsBegunAt (k : ℕ) (disk : D) (nonces : N) (h : Home (Opening D N)) : Type 0 where
     pub opening : Opening D N
     pub opening_is : h.opening ≡ opening ∷ []
@@ -170,7 +175,7 @@ module _ {D N : Type 0} where
     pub setup_is : opening.setup.value ≡ site.setup
     pub fuel_is : opening.shelf.value.rules.fuel ≡ site.fuel
 
-  -- There is room for what a site hands back when it is closed. (The room is empty.)
+  -- There is room for what a site hands back when it is closed, and the room is empty.
   pub record HasRoom (shelves : ℕ) (site : Site D N) : Type 0 where
     pub no_disks : vec_len site.disks ≡ 0
     pub no_nonces : vec_len site.nonces ≡ 0
@@ -198,7 +203,7 @@ module _ {D N : Type 0} where
     pub own : IsOwn site pass
     pub fresh : IsNewPass caller pass
 
-  -- so each of these, that of place k of caller k
+  -- each of these passes of the site has seen nothing, and that of place k is of caller k
   abbrev pub AreFirstPasses : Site D N → Vec (Spots D N) → Type 0
   AreFirstPasses site passes = (k : ℕ) (p : Spots D N) → slice_get passes.items k ≡ Some p → IsFirstPass site k p
 

@@ -14,8 +14,8 @@ use Rattle.site.specs.Entries.{entries_of}
 use Rattle.site.specs.Passes.{Spots, seen_by}
 use Rattle.site.specs.Sound.{StandsFor}
 
--- The pass has then seen the longer history of both. What it and the note had seen begin it, and it has no further entry of the
--- pass's caller.
+-- The pass has heard a note of a shelf: it has then seen the longer history of both. What it and the note had seen begin that one,
+-- which has no further entry of the pass's caller.
 pub record HearsOf {D N : Type 0} (note a b : Spot (Opening D N) KeptEntry) : Type 0 where
   pub is : b ≡ spot a.table (posed Outside (longer a.known.seen note.known.seen) a.known)
   pub had : IsPrefix (seen_by a.known) (seen_by b.known)
@@ -30,7 +30,7 @@ pub record IsBack {D N : Type 0} (view : D → View) (tells : Bool) (coming : N 
   pub stands : StandsFor view tells coming opened disk nonces es
   pub callers : (who : ℕ) → given ≤ who → own_of who es ≡ []
 
--- so of each of these shelves, in their order
+-- what is handed back of each of these shelves, in their order, stands for its history, in which only callers with a pass have entries
 abbrev pub AreBack : {D N : Type 0} → (D → View) → Bool → (N → ℕ → ℕ) → Homes (Opening D N) → Vec D × Vec N × Vec (List KeptEntry) → Type 0
 AreBack {D} {N} view tells coming row back =
     (k : ℕ) (h : Home (Opening D N)) (d : D) (n : N) (es : List KeptEntry) → slice_get row.homes k ≡ Some h

@@ -15,7 +15,7 @@ use Rattle.site.specs.declared.entry.Did.TheVariants.{Take, Publish, Sweep}
 abbrev pub entry : (caller : ℕ) → Event → step.Reply → Entry
 entry caller event reply = record { caller = caller; event = event; reply = reply }
 
--- what was done, and what it was answered
+-- the entry of what a caller did, and of what it was answered
 abbrev pub done_by : (caller : ℕ) → Did → Entry
 done_by caller (Take target answer told) =
     entry caller (step.take (target_of target.value) (meaning answer.value)) (taken_of told.value)
@@ -28,7 +28,7 @@ entry_of e = done_by e.caller e.did
 abbrev pub entries_of : List KeptEntry → List Entry
 entries_of es = map entry_of es
 
--- this is the next entry
+-- the history has one entry more: this event and this reply, by this caller
 pub record Comes (caller : ℕ) (event : Event) (reply : step.Reply) (old new : List KeptEntry) : Type 0 where
   pub entry_made : KeptEntry
   pub caller_is : entry_made.caller ≡ caller

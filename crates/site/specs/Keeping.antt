@@ -21,25 +21,25 @@ use Rattle.site.specs.Openings.{scripts_in}
 use Rattle.site.specs.Sound.{IsSound, Holds, Gives}
 
 module _ {D N : Type 0} (view : D → View) (tells : Bool) (coming : N → ℕ → ℕ) where
-  -- it is sound, with its history since it was opened
+  -- a kept shelf is sound, with its history since it was opened
   abbrev pub IsSoundShelf : KeptShelf D N → Type 0
   IsSoundShelf k = IsSound view tells coming k.opened k.shelf (entries_of k.history)
 
-  -- by its history the caller holds the ticket
+  -- by the history of a kept shelf the caller holds the ticket
   abbrev pub IsHeldOn : KeptShelf D N → (caller : ℕ) → Ticket → Type 0
   IsHeldOn k caller t = Holds view tells coming k.opened (entries_of k.history) caller t
 
-  -- by the history behind a take the caller was given what it was told
+  -- by the history after a take the caller was given what it was told
   abbrev pub GivesOn : (caller : ℕ) → Target → Value → Result Ticket Reply → (old new : KeptShelf D N) → Type 0
   GivesOn caller target answer told old new =
       Gives view tells coming old.opened (entries_of new.history) caller (target_of target) (meaning answer) told
 
 module _ {D N : Type 0} where
-  -- its opening is under this setup, and of this shelf
+  -- the opening of a kept shelf is under this setup, and of this shelf
   abbrev pub OpensAs : Setup → Shelf D N → KeptShelf D N → Type 0
   OpensAs setup shelf k = (k.opened.setup.value ≡ setup) × (k.opened.shelf.value ≡ shelf)
 
-  -- a shelf as it is behind a crash
+  -- a shelf as it is after a crash
   abbrev pub IsReopened : List Named → Shelf D N → Type 0
   IsReopened scripts shelf = book_in scripts shelf ≡ reopened (book_in scripts shelf)
 
@@ -47,16 +47,16 @@ module _ {D N : Type 0} where
   abbrev pub IsRunOn : List Named → KeptShelf D N → Ticket → Option Segment → Type 0
   IsRunOn scripts k t segment = IsRunIfAny scripts k.opened.shelf.value.rules.fuel t segment
 
-  -- the take is the next entry
+  -- the take is the next entry of the history
   abbrev pub NotesTake : (caller : ℕ) → Target → Value → Result Ticket Reply → (old new : KeptShelf D N) → Type 0
   NotesTake caller target answer told old new =
       Comes caller (step.take (target_of target) (meaning answer)) (taken_of told) old.history new.history
 
-  -- the publish is the next entry
+  -- the publish is the next entry of the history
   abbrev pub NotesPublish : (caller : ℕ) → Ticket → Reply → (old new : KeptShelf D N) → Type 0
   NotesPublish caller t told old new = Comes caller (step.publish (ticket_of t)) (reply_of told) old.history new.history
 
-  -- the sweep is the next entry, where its tick is later than the clock; else there is none
+  -- the sweep is the next entry of the history, where its tick is later than the clock; else there is none
   abbrev pub NotesSweep : (caller tick : ℕ) → Result ℕ Reply → (old new : KeptShelf D N) → Type 0
   NotesSweep caller tick told old new =
       Sweeps caller tick told (book_in (scripts_in old.opened) old.shelf).clock old.history new.history

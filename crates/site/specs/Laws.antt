@@ -1,5 +1,5 @@
 -- What holds of the histories of a closed site.
-use Rattle.std.specs.Prelude.{◌≡◌, ℕ, Bool, List, [], ◌∷◌, ◌++◌}
+use Rattle.std.specs.Prelude.{◌≡◌, ℕ, Bool, IsTrue, List, [], ◌∷◌, ◌++◌}
 use Rattle.script_value.specs.declared.outcome.TxName.{TxName}
 use Rattle.web_disk.specs.View.{View}
 use Rattle.replay_spec.specs.Invariant as invariant
@@ -7,12 +7,12 @@ use Rattle.replay_spec.specs.Laws.{Leaves, IsOn, IsRefusal, without_effect}
 use Rattle.shelf_history.specs.Histories.{Entry}
 use Rattle.shelf_history.specs.Laws.{moment_of}
 use Rattle.site.specs.declared.opening.Opening.{Opening}
-use Rattle.site.specs.Openings.{IsOwnOpening, start_of, source_of, book_then}
+use Rattle.journal_books.specs.Standing.{IsOneOf}
+use Rattle.site.specs.Openings.{scripts_in, IsOwnOpening, start_of, source_of, book_then}
 use Rattle.site.specs.Sound.{StandsFor}
 
--- Behind an entry that left a transaction none leaves it, of whichever caller; and each on a page that is inside it, or was in the
--- book behind any beginning of the history, is refused without effect. So it is of a shelf that was opened as an own one, with a
--- sound book.
+-- On a shelf that was opened as an own one, with a sound book: after an entry that left a transaction none leaves it, of whichever
+-- caller; and each on a page that was inside it after any beginning of the history is refused without effect.
 abbrev pub ClosedIsClosedOverThreads : {D N : Type 0} → (D → View) → Bool → (N → ℕ → ℕ) → Type 0
 ClosedIsClosedOverThreads {D} {N} view tells coming =
     (o : Opening D N) (disk : D) (nonces : N) (es : List Entry) → StandsFor view tells coming o disk nonces es
@@ -24,3 +24,11 @@ ClosedIsClosedOverThreads {D} {N} view tells coming =
     → (Leaves name (book_then coming o until) (moment_of (source_of coming o) (start_of o) until next) → ⊥)
     × ((early later : List Entry) → until ≡ early ++ later → IsOn name (book_then coming o early) next.event
     → IsRefusal next.reply × (book_then coming o (until ++ next ∷ []) ≡ without_effect next.event (book_then coming o until)))
+
+-- A shelf that is opened on what a closed site left of one that was opened as an own one, with a sound book, has a sound book: so
+-- closed is closed over the next site's threads too.
+abbrev pub WhatASiteLeftIsSound : {D N : Type 0} → (D → View) → Bool → (N → ℕ → ℕ) → Type 0
+WhatASiteLeftIsSound {D} {N} view tells coming =
+    (o p : Opening D N) (disk : D) (nonces : N) (es : List Entry) → IsTrue tells → StandsFor view tells coming o disk nonces es
+    → IsOwnOpening view tells o → invariant.IsSound (start_of o).book
+    → IsOneOf (scripts_in o) o.shelf.value.rules.number (view disk) (start_of p).book → invariant.IsSound (start_of p).book

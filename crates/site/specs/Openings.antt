@@ -11,20 +11,20 @@ use Rattle.shelf.specs.declared.shelf.Shelf.{Shelf}
 use Rattle.shelf.specs.Views.{shelf_of, IsOwnShelf}
 use Rattle.site.specs.declared.opening.Opening.{Opening}
 
--- its scripts
+-- the scripts of the setup that a shelf was opened under
 abbrev pub scripts_in : {D N : Type 0} → Opening D N → List Named
 scripts_in o = scripts_of o.setup.value
 
--- It was opened as an own shelf: each page that was found has the state of its chain, and where the disk tells its bytes, so has
+-- The shelf was opened as an own one: each page that was found has the state of its chain, and where the disk tells its bytes, so has
 -- each record there. What is told of the meaning of a history rests on this, and no call asks for it.
 abbrev pub IsOwnOpening : {D N : Type 0} → (D → View) → Bool → Opening D N → Type 0
 IsOwnOpening view tells o = IsOwnShelf view tells (scripts_in o) o.shelf.value
 
--- the shelf, whose source has given nothing yet
+-- the shelf as it was opened, whose source has given nothing yet
 abbrev pub start_of : {D N : Type 0} → Opening D N → runs.Shelf
 start_of o = shelf_of (scripts_in o) 0 o.shelf.value
 
--- the nonces of its source
+-- the nonces of the source that a shelf was opened with
 abbrev pub source_of : {D N : Type 0} → (N → ℕ → ℕ) → Opening D N → ℕ → ℕ
 source_of coming o = coming o.shelf.value.nonces
 
@@ -32,11 +32,11 @@ source_of coming o = coming o.shelf.value.nonces
 abbrev pub count_of : {D N : Type 0} → (D → View) → Shelf D N → ℕ
 count_of view s = (view s.journal.disk).faults
 
--- a history from there, by when the disk's count is this
+-- the history is legal from the opening on, by when the disk's count of faults is this
 abbrev pub HasLegal : {D N : Type 0} → (D → View) → (N → ℕ → ℕ) → Opening D N → (now : ℕ) → List Entry → Type 0
 HasLegal view coming o now es = IsLegal (source_of coming o) (count_of view o.shelf.value) now (start_of o) es
 
--- the book behind it
+-- the book of a shelf after this history since its opening
 abbrev pub book_then : {D N : Type 0} → (N → ℕ → ℕ) → Opening D N → List Entry → Book
 book_then coming o es = book_behind (source_of coming o) (start_of o) es
 

@@ -30,7 +30,7 @@ Known D N = lock.View (Opening D N) KeptEntry
 abbrev pub Spots : Type 0 → Type 0 → Type 0
 Spots D N = List (Spot (Opening D N) KeptEntry)
 
--- the history that it has seen
+-- the history that a pass has seen of a shelf
 abbrev pub seen_by : {D N : Type 0} → Known D N → List Entry
 seen_by v = entries_of v.seen
 
@@ -42,8 +42,8 @@ pub record IsSeat {D N : Type 0} (setup : Setup) (fuel worker : ℕ) (v : Known 
   pub fuel_is : opening.shelf.value.rules.fuel ≡ fuel
   pub caller_is : v.caller ≡ worker
 
--- More was seen: behind what was there stand entries of others, and at the end those added, which are all the new ones of this
--- caller.
+-- More of a history was seen: first what was seen before, then entries of others, and at the end those added, which are all the new
+-- ones of this caller.
 pub record Grows (caller : ℕ) (seen added es : List Entry) : Type 0 where
   pub between : List Entry
   pub is : es ≡ (seen ++ between) ++ added
@@ -93,7 +93,7 @@ module _ {D N : Type 0} (view : D → View) (tells : Bool) (coming : N → ℕ �
   HasReached w tick =
       (o : Opening D N) → w.opening ≡ o ∷ [] → IsOwnOpening view tells o → tick ≤ (book_then coming o (seen_by w)).clock
 
-  -- A sweep is one entry of the caller, with its answer; there is none where the clock was at the tick before. Behind an answer
+  -- A sweep is one entry of the caller, with its answer; there is none where the clock was at the tick before. After an answer
   -- that is no refusal the clock is at the tick, at least.
   abbrev pub Swept : Known D N → (tick : ℕ) → Result ℕ Reply → Known D N → Type 0
   Swept v tick (Ok n) w =

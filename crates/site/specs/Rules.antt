@@ -7,7 +7,7 @@ use Rattle.site.specs.Passes.{Spots}
 use Rattle.site.specs.Sites.{IsOwn, VisitsAt, Ticks}
 
 module _ {D N : Type 0} (view : D → View) (tells : Bool) (coming : N → ℕ → ℕ) where
-  -- want of memory for the answers changes nothing
+  -- what a tick does to a pass: want of memory for the answers changes nothing
   abbrev pub TicksAs : Spots D N → (tick : ℕ) → Swept → Spots D N → Type 0
   TicksAs old tick (Ok answers) new = Ticks view tells coming old tick answers new
   TicksAs old tick (Err e) new = new ≡ old

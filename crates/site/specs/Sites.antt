@@ -47,7 +47,7 @@ module _ {D N : Type 0} where
       (k : ℕ) → shelf_for (length pass) (caller_at pass) (ticket_of t).target ≡ Some k → IsRunThere k pass t segment
 
 module _ {D N : Type 0} (view : D → View) (tells : Bool) (coming : N → ℕ → ℕ) where
-  -- what a take on the shelf of the target comes to, where it is on one
+  -- what a take comes to: it is one on the shelf of the target, or refused where the target is on none
   abbrev pub TakesOn : Option ℕ → Spots D N → Destination → Val → Result Ticket Reply → Spots D N → Type 0
   TakesOn None old target answer result new = (result ≡ Err (Refused Unknown)) × (new ≡ old)
   TakesOn (Some k) old target answer result new =
@@ -56,7 +56,7 @@ module _ {D N : Type 0} (view : D → View) (tells : Bool) (coming : N → ℕ �
   abbrev pub TakesAt : Spots D N → Destination → Val → Result Ticket Reply → Spots D N → Type 0
   TakesAt old target answer result new = TakesOn (shelf_for (length old) (caller_at old) target) old target answer result new
 
-  -- the same by the target and the answer as they were passed
+  -- what a take comes to, by the target and the answer as they were passed
   abbrev pub TakesFor : Target → Value → Result Ticket Reply → (old new : Spots D N) → Type 0
   TakesFor target answer result old new = TakesAt old (target_of target) (meaning answer) result new
 
@@ -80,24 +80,24 @@ module _ {D N : Type 0} (view : D → View) (tells : Bool) (coming : N → ℕ �
     pub at : slice_get pass shelf ≡ Some spot
     pub holds : HoldsTicket view tells coming spot.known t
 
-  -- so at this place
+  -- the pass holds the ticket by what it knows at this place
   abbrev pub HoldsThere : ℕ → Spots D N → Ticket → Type 0
   HoldsThere k pass t =
       (a : Spot (Opening D N) KeptEntry) → slice_get pass k ≡ Some a → HoldsTicket view tells coming a.known t
 
-  -- a publish of its ticket
+  -- a publish of this ticket, on the shelf that its target is on
   abbrev pub PublishesAt : Spots D N → Ticket → Reply → Spots D N → Type 0
   PublishesAt old t r new =
       (k : ℕ) × (shelf_for (length old) (caller_at old) (ticket_of t).target ≡ Some k)
       × PublishedAt k t r old new
 
-  -- a take that gave a ticket and the publish of that; or a take that gave none
+  -- a visit: a take that gave a ticket, and the publish of that; or a take that gave none
   abbrev pub VisitsAt : Spots D N → Destination → Val → Reply → Spots D N → Type 0
   VisitsAt old target answer reply new =
       ((t : Ticket) × (middle : Spots D N) × TakesAt old target answer (Ok t) middle × PublishesAt middle t reply new)
       ⊎ TakesAt old target answer (Err reply) new
 
-  -- the same by the target and the answer as they were passed
+  -- a visit, by the target and the answer as they were passed
   abbrev pub VisitsFor : Target → Value → Reply → (old new : Spots D N) → Type 0
   VisitsFor target answer reply old new = VisitsAt old (target_of target) (meaning answer) reply new
 
@@ -107,11 +107,11 @@ module _ {D N : Type 0} (view : D → View) (tells : Bool) (coming : N → ℕ �
         → (w : Known D N) × (slice_get new k ≡ Some (spot a.table w)) × Swept view tells coming a.known tick r w
     pub others : (k : ℕ) → length answers ≤ k → slice_get new k ≡ slice_get old k
 
-  -- each shelf was swept, and answered in its place
+  -- a tick that is over: each shelf was swept, and answered in its place
   pub record Ticks (old : Spots D N) (tick : ℕ) (answers : List (Result ℕ Reply)) (new : Spots D N) : Type 0 where
     pub all : length answers ≡ length old
     pub so : TicksSoFar old tick answers new
 
-  -- these are the answers of such a tick
+  -- these are the answers of a tick that swept each shelf
   abbrev pub AnswersTick : (tick : ℕ) → (old new : Spots D N) → Vec (Result ℕ Reply) → Type 0
   AnswersTick tick old new answers = Ticks old tick answers.items new

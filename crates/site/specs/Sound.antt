@@ -44,7 +44,7 @@ module _ {D N : Type 0} (view : D → View) (tells : Bool) (coming : N → ℕ �
   abbrev pub MakesSome : Opening D N → (image : List ℕ) → Type 0
   MakesSome o image = (b : Book) × MakesIn (scripts_in o) o.shelf.value.rules.number image b
 
-  -- An image of the disk has own records, and makes the book behind a beginning of the history, with what is in doubt there or
+  -- An image of the disk has own records, and makes the book after a beginning of the history, with what is in doubt there or
   -- without it.
   pub record IsLeft (o : Opening D N) (es : List Entry) (image : List ℕ) : Type 0 where
     pub own : HoldsOwnRecords (scripts_in o) o.shelf.value.rules.number image
@@ -53,8 +53,8 @@ module _ {D N : Type 0} (view : D → View) (tells : Bool) (coming : N → ℕ �
     pub makes : MakesIn (scripts_in o) o.shelf.value.rules.number image (book_then coming o front)
         ⊎ MakesIn (scripts_in o) o.shelf.value.rules.number image (with_doubt o (book_then coming o front))
 
-  -- What holds besides of a shelf that was opened as an own one: it is one still, and has this legal history since. Where the disk
-  -- tells its bytes, a crash at any moment since the opening left what makes the book of a beginning of the history.
+  -- A shelf that was opened as an own one is one still, and has this legal history since. Where the disk tells its bytes, a crash at
+  -- any moment since the opening left what makes the book of a beginning of the history.
   pub record HasItsHistory (o : Opening D N) (s : Shelf D N) (es : List Entry) : Type 0 where
     pub own : IsOwnShelf view tells (scripts_in o) s
     pub kept : IsKept (source_of coming o) (count_of view o.shelf.value) (count_of view s) (start_of o)
@@ -77,7 +77,7 @@ module _ {D N : Type 0} (view : D → View) (tells : Bool) (coming : N → ℕ �
     -- without an entry nothing was done
     pub untouched : es ≡ [] → s ≡ o.shelf.value
 
-  -- behind a beginning of the history the ticket's target was admitted, on a book of this setup, and the ticket was for the visit of it
+  -- after a beginning of the history the ticket's target was admitted, on a book of this setup, and the ticket was for the visit of it
   pub record IsForItsVisit (o : Opening D N) (es : List Entry) (t : Ticket) : Type 0 where
     pub front : List Entry
     pub begins : IsPrefix front es
@@ -99,8 +99,8 @@ module _ {D N : Type 0} (view : D → View) (tells : Bool) (coming : N → ℕ �
     pub ticket : IfOk result (λ t. ((ticket_of t).target ≡ target) × ((ticket_of t).answer ≡ answer))
     pub refused : IfErr result IsNoTicket
 
-  -- What is told besides of a shelf that was opened as an own one: its history is legal, and the disk stands for its book and is an
-  -- own one; a crash at any moment since the opening left what makes the book of a beginning of it.
+  -- A shelf that was opened as an own one has a legal history, and the disk stands for its book and is an own one; a crash at any
+  -- moment since the opening left what makes the book of a beginning of it.
   pub record StandsForBook (o : Opening D N) (disk : D) (es : List Entry) : Type 0 where
     pub legal : HasLegal view coming o (view disk).faults es
     pub stands : IsTrue tells → StandsOwn (start_of o).rules (scripts_in o) o.shelf.value.rules.number (view disk) (book_then coming o es)

@@ -1,7 +1,7 @@
-//! Shelves behind locks: visits by many threads, of which each has happened once, in one order a shelf.
+//! The shelves of a server behind their locks, visited by many threads: for the serving of links.
 #![tactic(auto)]
 
-ghost use Rattle.site.specs.Laws.{ClosedIsClosedOverThreads};
+ghost use Rattle.site.specs.Laws.{ClosedIsClosedOverThreads, WhatASiteLeftIsSound};
 
 mod begin;
 mod entry;
@@ -19,7 +19,8 @@ pub use kept::KeptShelf;
 pub use opening::Opening;
 pub use pass::{SiteNote, SitePass};
 pub use running::Running;
-use shelf_history::{closed_is_closed, histories_go_on};
+use shelf::a_reopened_shelf_is_sound;
+use shelf_history::{books_behind_are_sound, closed_is_closed, histories_go_on};
 pub use site::Site;
 use web_disk::Disk;
 use web_outside::Nonces;
@@ -31,4 +32,13 @@ pub fn closed_is_closed_over_threads<D: Disk, N: Nonces>()
 {
     closed_is_closed();
     histories_go_on();
+}
+
+/// A shelf that is opened on what a closed site left of one that was opened as an own one, with a sound book, has a sound book: so
+/// what is closed stays closed over the next site's threads.
+pub fn what_a_site_left_is_sound<D: Disk, N: Nonces>()
+    ensures { WhatASiteLeftIsSound D.view D.tells N.nonce }
+{
+    books_behind_are_sound();
+    a_reopened_shelf_is_sound::<D>();
 }

@@ -1,4 +1,4 @@
-use Rattle.std.proofs.Common.{◌≡◌, ◌++◌, ◌∷◌, [], List, ℕ, sym, ◌∙◌, ap, subst, arith}
+use Rattle.std.proofs.Common.{inr, ◌≡◌, ◌++◌, ◌∷◌, [], List, ℕ, sym, ◌∙◌, ap, subst, arith}
 use Rattle.script_nodes.specs.Views.{scripts_of}
 use Rattle.page_journal.specs.Records.{stored}
 use Rattle.page_journal.specs.Settled.{bodies_in, length_of}
@@ -134,3 +134,14 @@ returns-in-Made-clause-told g c = λ told.
 
 pub returns-in-Ok-start-clause-told : goal.returns-in-Ok-start-clause-told
 returns-in-Ok-start-clause-told g c = λ told m is. c.empty.ensures.told (λ n. state_at n m.earlier.states) (scripts_of c.args.setup.now)
+
+pub returns-in-Ok-start-clause-keeps : goal.returns-in-Ok-start-clause-keeps
+returns-in-Ok-start-clause-keeps g c = λ told no.
+    let ss = scripts_of c.args.setup.now in
+    let j = c.args.journal.now in
+    let view = g.D.Disk.view in
+    let m = book_of ss c.args.number (bodies_in view j) in
+    let none : m ≡ nothing = subst (λ (f : Found). Finds ss c.args.number (length_of j) f m) c.in-Nothing.is (c.in-Ok.ensures.found told) in
+    let nothing_there = none_read ss c.args.number (bodies_in view j) none in
+    let both = c.in-Ok-start.ensures.bodies told in
+    inr (nothing_there, both.0, both.1 ∙ ap (λ (bs : List (List ℕ)). bs ++ first_body ss c.args.number ∷ []) (ap stored c.read_book.ensures.quiet.seen ∙ nothing_there))

@@ -10,8 +10,6 @@ use Rattle.instance_book.specs.Admissions.{book_under}
 use Rattle.instance_book.specs.Swept.{cells_in}
 use Rattle.instance_book.proofs.Seen.{cells_seen}
 use Rattle.stored_states.specs.Views.{segment_of}
-use Rattle.stored_states.specs.declared.segment.Segment.{Segment}
-use Rattle.shelf.specs.Views.{IsSegmentNow, KeepsStateNow}
 use Rattle.shelf.specs.Holding.{AreHeld}
 use Rattle.ticket_runs.proofs.Replayed.{if_ok}
 use Rattle.shelf.proofs.Now.{gone_segment, start_on, start_holds, keeps_state, held_segment, rerun_segment, page_held}
@@ -62,21 +60,6 @@ returns-then-are_held-clause-state c own =
     let named = c.in-Some.named.now in
     keeps_state b t (name_of c.in-Page.field-0) named.script c.root-root.ensures.script (named_of named) refl (sym c.in-Some.ensures) c.args.fuel t.cells c.args.first c.requires.segment (admit b (target_of t.target)) own.fits
 
-pub returns-in_err-second-clause-first : goal.returns-in_err-second-clause-first
-returns-in_err-second-clause-first c own hold =
-    let b = book_under c.args.setup.now c.args.book.now in
-    let t = c.args.ticket.now in
-    let named = c.in-Some.named.now in
-    let page = c.in-Page.page in
-    let here : cells_in page.instance b ≡ Some c.in-Some-cells.cells.now = sym (cells_seen (scripts_of c.args.setup.now) 0 None page.instance c.args.book.now) ∙ sym c.in-Some-cells.ensures in
-    let held : AreHeld (map effect_of c.args.first.effects.items) c.in-Some-cells.cells.now =
-    page_held b t (name_of c.in-Page.field-0) named.script c.root-root.ensures.script (named_of named) refl (sym c.in-Some.ensures) c.args.fuel t.cells c.args.first c.requires.segment page c.in-Some-cells.cells.now here
-    c.effects_are_on_cells.ensures (target_of t.target) (ap target_of c.in-Page.is) c.root-root.ensures.cells c.requires.cells own.admitted own.fits hold in
-    let seen : AreHeld (map effect_of c.deref.result.now) c.in-Some-cells.cells.now =
-    subst (λ (es : List rust.Effect). AreHeld (map effect_of es) c.in-Some-cells.cells.now) (sym c.deref.ensures.value) held in
-    let no : false ≡ true = c.if-are_held.ensures.1 seen in
-    absurd (cc)
-
 pub returns-clause-first : goal.returns-clause-first
 returns-clause-first c own hold =
     let b = book_under c.args.setup.now c.args.book.now in
@@ -99,16 +82,14 @@ returns-clause-segment c own =
     let named = c.in-Some.named.now in
     let page = c.in-Page.page in
     let here : cells_in page.instance b ≡ Some c.in-Some-cells.cells.now = sym (cells_seen (scripts_of c.args.setup.now) 0 None page.instance c.args.book.now) ∙ sym c.in-Some-cells.ensures in
-    if_ok c.held-2.result c.held-2.ensures.first (λ r same.
-    subst (λ (x : Segment). IsSegmentNow c.args.fuel b t x) (sym same)
-    (rerun_segment b t (name_of c.in-Page.field-0) named.script c.root-root.ensures.script (named_of named) refl (sym c.in-Some.ensures) c.args.fuel c.in-Some-cells.cells.now c.in_ok-second.second c.in_ok-second.ensures.run page c.in-Some-cells.cells.now here
-    (admit b (target_of t.target)) (ap (λ (x : Target). admit b (target_of x)) (sym c.in-Page.is)) own.fits refl))
+    if_ok c.run_again.result c.run_again.ensures.run (λ r run.
+    rerun_segment b t (name_of c.in-Page.field-0) named.script c.root-root.ensures.script (named_of named) refl (sym c.in-Some.ensures) c.args.fuel c.in-Some-cells.cells.now r run page c.in-Some-cells.cells.now here
+    (admit b (target_of t.target)) (ap (λ (x : Target). admit b (target_of x)) (sym c.in-Page.is)) own.fits refl)
 
 pub returns-clause-state : goal.returns-clause-state
 returns-clause-state c own =
     let b = book_under c.args.setup.now c.args.book.now in
     let t = c.args.ticket.now in
     let named = c.in-Some.named.now in
-    if_ok c.held-2.result c.held-2.ensures.first (λ r same.
-    subst (λ (x : Segment). KeepsStateNow b t x) (sym same)
-    (keeps_state b t (name_of c.in-Page.field-0) named.script c.root-root.ensures.script (named_of named) refl (sym c.in-Some.ensures) c.args.fuel c.in-Some-cells.cells.now c.in_ok-second.second c.in_ok-second.ensures.run (admit b (target_of t.target)) own.fits))
+    if_ok c.run_again.result c.run_again.ensures.run (λ r run.
+    keeps_state b t (name_of c.in-Page.field-0) named.script c.root-root.ensures.script (named_of named) refl (sym c.in-Some.ensures) c.args.fuel c.in-Some-cells.cells.now r run (admit b (target_of t.target)) own.fits)

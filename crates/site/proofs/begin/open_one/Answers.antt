@@ -17,6 +17,7 @@ returns-in-Ok-clause-opened g c =
       own = b.own;
       any_moment = b.any_moment;
       own_moments = b.own_moments;
+      keeps = λ told. b.keeps told (λ e. let none : ⊥ = cc e in none);
       later = b.later;
     } in
     record {
@@ -30,4 +31,4 @@ returns-in-Ok-clause-opened g c =
 pub returns-in-Err-clause-unopened : goal.returns-in-Err-clause-unopened
 returns-in-Err-clause-unopened g c =
     let b = c.in-Err.ensures in
-    record { returned = record { any_moment = b.any_moment; own_moments = b.own_moments; later = b.later }; why = b.refused; cause = λ e. b.cause (λ i. Err (e i)) }
+    record { returned = record { any_moment = b.any_moment; own_moments = b.own_moments; later = b.later }; why = b.refused; cause = λ e. b.cause (λ i. Err (e i)); keeps = λ told no. b.keeps told (λ e. no (cc e)) }

@@ -8,9 +8,9 @@ pub returns : goal.returns
 returns c =
     let same = c.in_ok-change.ensures in
     record {
-      reply = c.in_ok-try_clone.ensures;
+      reply = c.in_ok-reply.ensures;
       logged = refl;
-      decision = ap (λ (r : Reply). decision_by (reply_of r) c.in_ok-change.change) c.in_ok-try_clone.ensures ∙ same.decision (reply_of c.args.self.now.reply);
+      decision = ap (λ (r : Reply). decision_by (reply_of r) c.in_ok-change.change) c.in_ok-reply.ensures ∙ same.decision (reply_of c.args.self.now.reply);
       instances = same.instances;
       room = same.room;
       states = same.states;

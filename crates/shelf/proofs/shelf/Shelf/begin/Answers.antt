@@ -1,4 +1,9 @@
-use Rattle.std.proofs.Common.{refl}
+use Rattle.std.proofs.Common.{◌≡◌, refl, sym, subst, List}
+use Rattle.std.specs.Prelude.{Err}
+use Rattle.std.specs.List.{AllByRecursion}
+use Rattle.instance_book.specs.declared.numbered.Numbered.{Numbered}
+use Rattle.instance_book.specs.declared.instance.KeptInstance.{KeptInstance}
+use Rattle.instance_book.specs.Places.{own, IsKept}
 use Rattle.script_nodes.specs.Views.{scripts_of}
 use Rattle.page_journal.specs.Settled.{bodies_in, length_of}
 use Rattle.journal_books.proofs.Standings.{stays_by, one_of}
@@ -7,7 +12,8 @@ use Rattle.page_journal.proofs.Mending.{leaves_then}
 use Rattle.shelf.specs.Owning.{HoldsOwnRecords}
 use Rattle.shelf.proofs.Owned.{recovery_own}
 use Rattle.shelf.proofs.OwnOpenings.{records_found, records_left, opened_own}
-use Rattle.shelf.proofs.Openings.{book_there, one_of_there, same_books, stays_open}
+use Rattle.shelf.proofs.Openings.{book_there, one_of_there, same_books, stays_open, keeps_read}
+use Rattle.shelf.specs.declared.begin.BeginFault.TheVariants.{DiskFault}
 use Rattle.shelf.proofs.shelf.Shelf.begin.Goals as goal
 
 pub returns-in-Err-clause-any_moment : goal.returns-in-Err-clause-any_moment
@@ -98,3 +104,20 @@ returns-in-Err-open-clause-own_moments g c = λ told own.
     let found = records_left v ss n (v c.args.disk) c.in-Ok.journal (c.in-Ok.ensures.records told) (g.met.D.Disk.reads_image c.args.disk told) own in
     let whole = leaves_then (v c.args.disk) (v c.in-Ok.journal.disk) (v c.open.new.journal.disk) (HoldsOwnRecords ss n) first (c.open.ensures.own_moments told found) in
     rw c.close.ensures whole
+
+pub returns-in-Ok-open-clause-own_if_empty : goal.returns-in-Ok-open-clause-own_if_empty
+returns-in-Ok-open-clause-own_if_empty g c = λ mute none. record {
+  states = subst (λ (is : List (Numbered KeptInstance)). AllByRecursion (IsKept (scripts_of c.args.setup.now) (own c.in-Ok-open.book.shelf)) is) (sym none) tt;
+  own = λ told. absurd (mute told);
+}
+
+pub returns-in-Ok-open-clause-keeps : goal.returns-in-Ok-open-clause-keeps
+returns-in-Ok-open-clause-keeps g c = λ told no.
+    keeps_read g.D.Disk.view (scripts_of c.args.setup.now) c.args.rules.number (g.D.Disk.view c.args.disk) c.in-Ok.journal c.open.new.journal (c.in-Ok.ensures.settled told) (c.in-Ok.ensures.records told) (c.in-Ok.ensures.intact told)
+    (c.in-Ok-open.ensures.keeps told (λ e. let none : ⊥ = cc e in none))
+
+pub returns-in-Err-open-clause-keeps : goal.returns-in-Err-open-clause-keeps
+returns-in-Err-open-clause-keeps g c = λ told no.
+    let kept = keeps_read g.D.Disk.view (scripts_of c.args.setup.now) c.args.rules.number (g.D.Disk.view c.args.disk) c.in-Ok.journal c.open.new.journal (c.in-Ok.ensures.settled told) (c.in-Ok.ensures.records told) (c.in-Ok.ensures.intact told)
+    (c.in-Err-open.ensures.keeps told (λ e. let is : c.in-Err-open.fault ≡ DiskFault = cc e in no (λ i. Err (is i)))) in
+    rw c.close.ensures kept

@@ -15,6 +15,8 @@ use Rattle.shelf.specs.Recording.{IsBody, told_in}
 use Rattle.shelf.proofs.Standing.{no_call}
 use Rattle.shelf.proofs.Sizes.{unwritten_count}
 use Rattle.shelf.proofs.Publishing.{told_none, told_some, plain_count}
+use Rattle.shelf.specs.Events.{LeavesDisk}
+use Rattle.shelf.proofs.Quiet.{untouched, alone, told_page}
 use Rattle.shelf.proofs.Landing as landing
 use Rattle.shelf.proofs.Leaving.{Publishes, spent_publishes, landed_publishes, doubted_publishes}
 use Rattle.shelf.proofs.shelf.Shelf.land.Goals as goal
@@ -67,6 +69,9 @@ returns-in_default-clause-memory g c = (idle g c).memory
 
 pub returns-in_default-clause-cause : goal.returns-in_default-clause-cause
 returns-in_default-clause-cause g c = plain_count c.install.result _ _ (ap (λ (x : Reply). fate_by (reply_of x)) c.install.ensures.reply ∙ c.requires.plain)
+
+pub returns-in_default-clause-quiet : goal.returns-in_default-clause-quiet
+returns-in_default-clause-quiet g c = alone c.install.result (untouched (g.D.Disk.view c.args.self.now.journal.disk))
 
 -- what is asked of a change
 
@@ -139,6 +144,11 @@ pub returns-in-Err-clause-cause : goal.returns-in-Err-clause-cause
 returns-in-Err-clause-cause g c =
     let change = c.in-Some.change in
     unwritten_count (length_of c.args.self.now.journal) (change_of change) (told_in c.args.ticket.now change) c.in-Err.reply _ _ c.in-Err.ensures.written
+
+pub returns-in-Err-clause-quiet : goal.returns-in-Err-clause-quiet
+returns-in-Err-clause-quiet g c =
+    let told = c.told_body.ensures in
+    alone c.in-Err.reply (record { faults = told.faults; seen = told.seen; images = told.images })
 
 -- it was written, and is to be added
 
@@ -258,3 +268,10 @@ returns-clause-own_moments g c = (doubted g (goal.at.returns-clause-own_moments 
 
 pub returns-clause-told : goal.returns-clause-told
 returns-clause-told g c own = told_some (scripts_of c.args.setup.now) c.args.self.now.rules _ _ c.args.prepared (c.requires.decided own) c.in-Some.change _ c.in-Some.is
+
+pub returns-in-Ok-added-clause-quiet : goal.returns-in-Ok-added-clause-quiet
+returns-in-Ok-added-clause-quiet g c =
+    let p = c.args.prepared in
+    let view = g.D.Disk.view in
+    subst (λ (x : Reply). LeavesDisk (view c.args.self.now.journal.disk) (view c.added.new.journal.disk) (reply_of x)) (sym c.install-in-Ok-added.ensures.reply)
+    (told_page (view c.args.self.now.journal.disk) (view c.added.new.journal.disk) c.in-Some.change p.change p.reply c.in-Some.is c.requires.landed.itself.reply)

@@ -23,6 +23,7 @@ use Rattle.shelf.proofs.Publishing.{answered, told_answered, no_count, up_refusa
 use Rattle.shelf.proofs.Fitting.{shown_at, landed_at}
 use Rattle.shelf.proofs.Leaving.{Publishes, spent_publishes, visit_anew, publishes_from}
 use Rattle.shelf.proofs.Now.{if_none}
+use Rattle.shelf.proofs.Quiet.{untouched, alone}
 use Rattle.shelf.proofs.shelf.Shelf.publish.Goals as goal
 use Rattle.shelf.proofs.shelf.Shelf.publish.Goals.{After-spend, After-prepared, After-land, After-spend-in-Err}
 
@@ -83,6 +84,9 @@ returns-in-Some-clause-held g c own r is held =
 
 pub returns-in-Some-clause-memory : goal.returns-in-Some-clause-memory
 returns-in-Some-clause-memory g c = (turned g (goal.at.returns-in-Some-clause-memory g c).After-spend).memory
+
+pub returns-in-Some-clause-quiet : goal.returns-in-Some-clause-quiet
+returns-in-Some-clause-quiet g c = untouched (g.D.Disk.view c.args.self.now.journal.disk)
 
 -- what was prepared
 
@@ -200,6 +204,9 @@ returns-in-Ok-clause-held g c own r is held =
 pub returns-in-Ok-clause-memory : goal.returns-in-Ok-clause-memory
 returns-in-Ok-clause-memory g c = (landed g (goal.at.returns-in-Ok-clause-memory g c).After-land).memory
 
+pub returns-in-Ok-clause-quiet : goal.returns-in-Ok-clause-quiet
+returns-in-Ok-clause-quiet g c = c.land.ensures.quiet
+
 -- what was refused, or found no memory
 
 refused : (g : _) (c : After-spend-in-Err g)
@@ -270,3 +277,6 @@ returns-clause-memory g c = (refused g (goal.at.returns-clause-memory g c).After
 
 pub returns-clause-cause : goal.returns-clause-cause
 returns-clause-cause g c = no_count c.in-Err.reply _ _ c.in-Err.ensures.tells
+
+pub returns-clause-quiet : goal.returns-clause-quiet
+returns-clause-quiet g c = alone c.in-Err.reply (untouched (g.D.Disk.view c.args.self.now.journal.disk))

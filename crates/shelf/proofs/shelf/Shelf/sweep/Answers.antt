@@ -12,6 +12,7 @@ use Rattle.shelf.specs.Views.{book_in, doubt_of}
 use Rattle.shelf.proofs.Steps.{early, down_sweep}
 use Rattle.shelf.proofs.Standing.{no_call}
 use Rattle.shelf.proofs.Order.{quiet}
+use Rattle.shelf.proofs.Quiet.{untouched, alone}
 use Rattle.shelf.proofs.Sizes.{unwritten_count}
 use Rattle.shelf.proofs.Sweeping.{unwritten_sweep}
 use Rattle.shelf.proofs.Freeing.{Sweeps, unswept, landed_sweeps, doubted_sweeps}
@@ -36,6 +37,9 @@ returns-then-tick-clock-clause-any_moment g c = (early_tick g (goal.at.returns-t
 pub returns-then-tick-clock-clause-own_moments : goal.returns-then-tick-clock-clause-own_moments
 returns-then-tick-clock-clause-own_moments g c = (early_tick g (goal.at.returns-then-tick-clock-clause-own_moments g c).Then-tick-clock).own_moments
 
+pub returns-then-tick-clock-clause-quiet : goal.returns-then-tick-clock-clause-quiet
+returns-then-tick-clock-clause-quiet g c = tt
+
 -- a shelf that is down
 
 turned : (g : _) (c : In-Some g) → Sweeps g.D.Disk.view g.D.Disk.tells g.N.Nonces.nonce c.args.self.now c.args.self.now c.args.tick (step.down c.in-Some.doubt.count)
@@ -54,6 +58,9 @@ returns-in-Some-clause-any_moment g c = (turned g (goal.at.returns-in-Some-claus
 
 pub returns-in-Some-clause-own_moments : goal.returns-in-Some-clause-own_moments
 returns-in-Some-clause-own_moments g c = (turned g (goal.at.returns-in-Some-clause-own_moments g c).In-Some).own_moments
+
+pub returns-in-Some-clause-quiet : goal.returns-in-Some-clause-quiet
+returns-in-Some-clause-quiet g c = untouched (g.D.Disk.view c.args.self.now.journal.disk)
 
 -- its record was not written
 
@@ -84,6 +91,11 @@ returns-in-Err-clause-own_moments g c = (unwritten g (goal.at.returns-in-Err-cla
 
 pub returns-in-Err-clause-cause : goal.returns-in-Err-clause-cause
 returns-in-Err-clause-cause g c = unwritten_count (length_of c.args.self.now.journal) (sweeps c.args.tick) None c.in-Err.reply _ _ c.in-Err.ensures.written
+
+pub returns-in-Err-clause-quiet : goal.returns-in-Err-clause-quiet
+returns-in-Err-clause-quiet g c =
+    let done = c.written.ensures in
+    alone c.in-Err.reply (record { faults = done.faults; seen = done.seen; images = done.images })
 
 -- it was added
 

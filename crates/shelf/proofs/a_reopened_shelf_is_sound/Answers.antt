@@ -1,0 +1,5 @@
+use Rattle.shelf.proofs.Openings.{reopened_is_sound}
+use Rattle.shelf.proofs.a_reopened_shelf_is_sound.Goals as goal
+
+pub returns : goal.returns
+returns g c = reopened_is_sound g.D.Disk.view
