@@ -1,11 +1,12 @@
 -- One step of a measured run, and its end.
-use Rattle.std.proofs.Common.{◌≡◌, ◌<◌, ◌≤◌, ◌||◌, not, ℕ, List, [], ◌∷◌, Bool, true, false, IsTrue, Some, Option, refl, sym, ap, ◌∙◌, subst, Ok, Err, Vec}
+use Rattle.std.proofs.Common.{◌≡◌, ◌<◌, ◌≤◌, ◌||◌, not, ℕ, List, [], ◌∷◌, Bool, true, false, IsTrue, Some, Option, inl, inr, refl, sym, ap, ◌∙◌, subst, arith, Ok, Err, Vec}
 use Rattle.std.specs.List.{list_any}
 use Rattle.fnv_hash.specs.Fnv.{goes_on, fnv1a}
 use Rattle.play_steps.specs.Rules.{StageRules}
 use Rattle.play_steps.specs.Step.{Step, is_told, is_crash}
 use Rattle.play_steps.specs.Texts.{print}
-use Rattle.play_steps.specs.Played.{Spot, HaltsBy}
+use Rattle.play_steps.specs.Transcript.{fits}
+use Rattle.play_steps.specs.Played.{Spot, Came, HaltsBy}
 use Rattle.play_steps.specs.declared.performing.Halt.{Halt}
 use Rattle.play_steps.specs.declared.performing.Halt.TheVariants as halt
 use Rattle.play_steps.specs.declared.stage.Reopen.TheVariants as reopen
@@ -20,8 +21,8 @@ use Rattle.load_run.specs.declared.measuring.Course.{Course}
 use Rattle.load_run.specs.declared.measuring.Measure.{Measure}
 use Rattle.load_run.specs.Drawing.{drawn_over, step_over, learned_from}
 use Rattle.load_run.specs.Counting.{tally_of, measure_of}
-use Rattle.load_run.specs.Course.{GoesOn, Loads, Measures, course_past}
-use Rattle.load_run.proofs.Reached.{Reached, ended, lost}
+use Rattle.load_run.specs.Course.{GoesOn, Loads, LoadsSome, Measures, course_past}
+use Rattle.load_run.proofs.Reached.{Reached, ended, lost, one_past, some}
 
 -- what is drawn over these shelves and workers is drawn over the stage
 pub drawn_is : (r : StageRules) (s : r.State) (shelves : ℕ) (holds : List Bool) (source new : Source) (step : LoadStep) → shelves ≡ r.shelves s
@@ -51,24 +52,33 @@ course_is r old new s source step told draws learned tallied hashed =
 
 -- a step that told nothing
 pub halts_on : (r : StageRules) (old new : Course) (s t : Spot r) (step : Step) (why : Halt)
-    → step ≡ step_over r old.generator s.state → HaltsBy r step why s t → GoesOn r (Some why) old new s t
-halts_on r old new s t step halt.Memory is halts = tt
-halts_on r old new s t step (halt.Reopen shelf reopen.Memory) is halts = halts
-halts_on r old new s t step (halt.Reopen shelf reopen.Disk) is halts = sym is ∙ halts
-halts_on r old new s t step (halt.Reopen shelf (reopen.Damaged place)) is halts = sym is ∙ halts
-halts_on r old new s t step (halt.Reopen shelf (reopen.Other place)) is halts = sym is ∙ halts
+    → step ≡ step_over r old.generator s.state → fits r (step_over r old.generator s.state) s.state ≡ true → HaltsBy r step why s t
+    → GoesOn r (Some why) old new s t
+halts_on r old new s t step halt.Memory is fitting (inl (told, came)) =
+    inr (inl (told, record { fitting = fitting; came = subst (λ (x : Step). Came r s x told t) is came }))
+halts_on r old new s t step halt.Memory is fitting (inr (shelf, (crash, later))) = inr (inr (shelf, (sym is ∙ crash, later)))
+halts_on r old new s t step (halt.Reopen shelf reopen.Memory) is fitting halts = halts
+halts_on r old new s t step (halt.Reopen shelf reopen.Disk) is fitting halts = ((sym is ∙ halts.0.0, halts.0.1), halts.1)
+halts_on r old new s t step (halt.Reopen shelf (reopen.Damaged place)) is fitting halts = (sym is ∙ halts.0, halts.1)
+halts_on r old new s t step (halt.Reopen shelf (reopen.Other place)) is fitting halts = (sym is ∙ halts.0, halts.1)
 
 -- a run that ended at such a step
 pub halted : (r : StageRules) (start here there : Spot r) (source : Source) (k count : ℕ) (course past : Course) (why : Halt) → k < count
     → Reached r start source k here course → GoesOn r (Some why) course past here there → Measures r count source (Err why) start there
-halted r start here there source k count course past halt.Memory few reached goes = tt
+unfolding lost
+halted r start here there source k count course past halt.Memory few reached (inl same) =
+    inl (subst (LoadsSome r count source start) (sym same) (some r start here source k count course (omega (arith, few)) reached))
+halted r start here there source k count course past halt.Memory few reached (inr (inl (told, goes))) =
+    inl (one_past r start here there source k count course told few goes reached)
+halted r start here there source k count course past halt.Memory few reached (inr (inr (shelf, crash))) =
+    inr (shelf, lost r start here there source k count shelf course few reached crash)
 halted r start here there source k count course past (halt.Reopen shelf reopen.Memory) few reached goes = goes
 halted r start here there source k count course past (halt.Reopen shelf reopen.Disk) few reached goes =
-    lost r start here source k count shelf course few reached goes
+    record { loses = lost r start here there source k count shelf course few reached goes.0; rose = goes.1 }
 halted r start here there source k count course past (halt.Reopen shelf (reopen.Damaged place)) few reached goes =
-    lost r start here source k count shelf course few reached goes
+    lost r start here there source k count shelf course few reached goes
 halted r start here there source k count course past (halt.Reopen shelf (reopen.Other place)) few reached goes =
-    lost r start here source k count shelf course few reached goes
+    lost r start here there source k count shelf course few reached goes
 
 measure_same : (a b : Measure) → a.tally ≡ b.tally → a.hash ≡ b.hash → a ≡ b
 measure_same a b t h = λ at. record { tally = t at; hash = h at }

@@ -6,7 +6,7 @@ use Rattle.play_steps.specs.Rules.{StageRules}
 use Rattle.play_steps.specs.Step.{Step, crash, lines_in}
 use Rattle.play_steps.specs.Texts.{print}
 use Rattle.play_steps.specs.Transcript.{Run, went, behind, transcript, performed}
-use Rattle.play_steps.specs.Played.{Spot, Goes, HasRisen}
+use Rattle.play_steps.specs.Played.{Spot, Crashed, Goes, HasRisen}
 use Rattle.play_steps.specs.declared.report.Report.{Report}
 use Rattle.play_steps.proofs.Risings.{stays_risen, rises_then}
 use Rattle.play_steps.proofs.Runs.{joined, one, over, print_joined}
@@ -16,7 +16,7 @@ use Rattle.load_steps.specs.Tallies.{counted, grown, tells_page, tells_refusal}
 use Rattle.load_run.specs.declared.measuring.Course.{Course}
 use Rattle.load_run.specs.Drawing.{step_over, source_past, steps_drawn, run_drawn}
 use Rattle.load_run.specs.Counting.{tally_of}
-use Rattle.load_run.specs.Course.{Loads, LosesShelf, course_past}
+use Rattle.load_run.specs.Course.{Loads, LoadsSome, LosesShelf, course_past}
 
 -- after so many steps the course is here, and what follows goes on from there
 pub record Reached (r : StageRules) (start : Spot r) (source : Source) (k : ℕ) (here : Spot r) (course : Course) : Type 0 where
@@ -145,7 +145,7 @@ unfolding steps_drawn
 one_drawn r source s fates = refl
 
 -- and one more, whose fates do not matter
-and_next : (r : StageRules) (start here : Spot r) (source : Source) (k : ℕ) (course : Course) (reached : Reached r start source k here course)
+pub and_next : (r : StageRules) (start here : Spot r) (source : Source) (k : ℕ) (course : Course) (reached : Reached r start source k here course)
     → steps_drawn r (k + 1) source start.state reached.fates ≡ reached.steps ++ step_over r course.generator here.state ∷ []
 and_next r start here source k course reached =
     ap (steps_drawn r (k + 1) source start.state) (sym (append-nil reached.fates))
@@ -166,16 +166,30 @@ ended r start here source k course reached = record {
   risen = reached.risen;
 }
 
+-- so many steps went
+pub some : (r : StageRules) (start here : Spot r) (source : Source) (k count : ℕ) (course : Course) → k ≤ count
+    → Reached r start source k here course → LoadsSome r count source start here
+some r start here source k count course few reached =
+    record { done = k; few = few; told = reached.told; loads = ended r start here source k course reached }
+
+-- and another one, behind which memory ran out
+pub one_past : (r : StageRules) (start here there : Spot r) (source : Source) (k count : ℕ) (course : Course) (told : List Report) → k < count
+    → Goes r (step_over r course.generator here.state) told here there → Reached r start source k here course → LoadsSome r count source start there
+one_past r start here there source k count course told few goes reached =
+    let past = course_past r course here.state told in
+    some r start there source (k + 1) count past (omega (arith, few)) (one_more r start here there source k course told goes reached past refl)
+
 -- the next step is the crash of a shelf that was not opened again
-pub lost : (r : StageRules) (start here : Spot r) (source : Source) (k count shelf : ℕ) (course : Course) → k < count
-    → Reached r start source k here course → step_over r course.generator here.state ≡ crash shelf → LosesShelf r count source shelf start
+unfoldable pub lost : (r : StageRules) (start here there : Spot r) (source : Source) (k count shelf : ℕ) (course : Course) → k < count
+    → Reached r start source k here course → Crashed r (step_over r course.generator here.state) shelf here there → LosesShelf r count source shelf start there
 unfolding ended
-lost r start here source k count shelf course few reached is = record {
+lost r start here there source k count shelf course few reached (is, later) = record {
   done = k;
   few = few;
   told = reached.told;
   middle = here;
   loads = ended r start here source k course reached;
+  later = later;
   next =
       and_next r start here source k course reached
       ∙ ap (λ (step : Step). reached.steps ++ step ∷ []) is

@@ -15,7 +15,7 @@ tally_of count told = record {
   refused = grown 0 (count_by tells_refusal told);
 }
 
--- these counts, and the hash of what is printed of the reports
+-- the counts of so many steps of which this was told, and the hash of what is printed of the reports
 abbrev pub measure_of : (count : ℕ) → List Report → Measure
 measure_of count told = record { tally = tally_of count told; hash = fnv1a (print told) }
 

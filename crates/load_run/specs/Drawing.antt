@@ -12,7 +12,7 @@ use Rattle.load_steps.specs.Lines.{played}
 abbrev pub most_steps : ℕ
 most_steps = 20000
 
--- the next step over a stage in this state, and what the step behind it goes by
+-- the next step over a stage in this state, and what the step after it goes by
 abbrev pub drawn_over : (r : StageRules) → Source → r.State → LoadStep × Source
 drawn_over r source s = next_step (r.shelves s) (r.holds s) source
 
@@ -24,11 +24,11 @@ abbrev pub learned_from : List Report → Source → Source
 learned_from [] source = source
 learned_from (x ∷ told) source = learned_from told (learned x source)
 
--- this was learned of reports
+-- the new source is the old one after what was learned of these reports
 abbrev pub HasLearned : List Report → (old new : Source) → Type 0
 HasLearned told old new = new ≡ learned_from told old
 
--- what the step behind the next goes by, where the next tells this
+-- what the step after the next goes by, where the next tells this
 abbrev pub source_past : (r : StageRules) → Source → r.State → List Report → Source
 source_past r source s told = learned_from told (drawn_over r source s).1
 
@@ -39,6 +39,6 @@ steps_drawn r (suc count) source s fates =
     let run = performed r (step_over r source s) s fates in
     step_over r source s ∷ steps_drawn r count (source_past r source s run.told) run.state run.fates
 
--- the transcript of so many of them, from line 1 on
+-- the transcript of so many drawn steps, from line 1 on
 abbrev pub run_drawn : (r : StageRules) → (count : ℕ) → Source → r.State → List r.Fate → Run r
 run_drawn r count source s fates = transcript r s 1 (map Some (steps_drawn r count source s fates)) fates

@@ -1,4 +1,4 @@
-//! A measured run over whatever stage performs its steps.
+//! A measured run over any stage: for `load`.
 #![tactic(auto)]
 
 mod measuring;

@@ -9,10 +9,10 @@ abbrev pub scripts_in : Result Parsed Fault → List Named
 scripts_in (Ok setup) = setup.scripts
 scripts_in (Err fault) = []
 
--- those of the setup that its text is
+-- the scripts of the setup that the text of a measured run spells
 unfoldable pub load_scripts : List Named
 load_scripts = scripts_in (setup_of Input setup_text)
 
--- the text is a setup, which the end of the input ends
+-- the text of a measured run is read as a setup, which the end of the input ends
 abbrev pub IsSetup : Type 0
 IsSetup = setup_of Input setup_text ≡ Ok (record { scripts = load_scripts; steps = [] })

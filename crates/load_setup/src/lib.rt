@@ -1,4 +1,4 @@
-//! The setup of a measured run, read from its text.
+//! The setup of a measured run, read from its text: for `load`.
 #![tactic(auto)]
 
 ghost use Rattle.std.specs.Prelude.{◌≡◌, ◌≤◌, length, IfOk};

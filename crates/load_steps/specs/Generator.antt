@@ -15,7 +15,7 @@ pub record Source : Type 0 where
   pub clock : ℕ
   pub targets : List (List ℕ)
 
--- before the first step of the run of a number
+-- what the first step of the run of a number goes by
 abbrev pub source_of : ℕ → Source
 source_of n = record { number = n; clock = 0; targets = [] }
 
@@ -27,23 +27,23 @@ most_targets = 256
 abbrev pub left_joined : (bits n : ℕ) → ℕ
 left_joined bits n = bit_xor n (n * 2 ^ bits % 2 ^ 64)
 
--- the same to the right
+-- a number and what it is shifted by these bits to the right, joined by an exclusive or
 abbrev pub right_joined : (bits n : ℕ) → ℕ
 right_joined bits n = bit_xor n (n / 2 ^ bits)
 
--- the number that is drawn behind a number
+-- the number that is drawn after a number
 unfoldable pub drawn : ℕ → ℕ
 drawn n = left_joined 17 (right_joined 7 (left_joined 13 n))
 
--- What a number that was drawn says: the lot, of 0 to 999, that decides on the row;
+-- the lot that a drawn number says, of 0 to 999, which decides on the row
 abbrev pub lot_of : ℕ → ℕ
 lot_of r = r % 1000
 
--- the worker, of 0 to 3;
+-- the worker that a drawn number says, of 0 to 3
 abbrev pub worker_of : ℕ → ℕ
 worker_of r = r / 1000 % 4
 
--- and what is chosen within the row.
+-- what a drawn number chooses within the row
 abbrev pub choice_of : ℕ → ℕ
 choice_of r = r / 4000
 
@@ -77,7 +77,7 @@ step_of shelves holds source r =
     -- else: the worker makes a visit
     else visit_of (lot_of r) (worker_of r) (visit_target source.targets r)))
 
--- the clock behind a step: of a tick its time
+-- the clock after a step: of a tick its time
 abbrev pub clock_behind : LoadStep → ℕ → ℕ
 clock_behind (Tick time) clock = time
 clock_behind (Crash shelf) clock = clock
@@ -85,11 +85,11 @@ clock_behind (Publish worker) clock = clock
 clock_behind (Take worker target) clock = clock
 clock_behind (Get worker target) clock = clock
 
--- what the step behind this one goes by
+-- what the step after this one goes by
 abbrev pub source_behind : LoadStep → ℕ → Source → Source
 source_behind step r source = record { number = r; clock = clock_behind step source.clock; targets = source.targets }
 
--- the next step, and what the step behind it goes by
+-- the next step, and what the step after it goes by
 unfoldable pub next_step : (shelves : ℕ) → (holds : ℕ → Bool) → Source → LoadStep × Source
 next_step shelves holds source = (
   step_of shelves holds source (drawn source.number),
@@ -104,7 +104,7 @@ held_in holds worker = slice_index_or holds worker false
 abbrev pub step_for : (shelves : ℕ) → (holds : List Bool) → Source → (r : ℕ) → LoadStep
 step_for shelves holds source r = step_of shelves (held_in holds) source r
 
--- a step was drawn so, over these shelves and where these of the workers hold a ticket
+-- this step is the next of the source, over these shelves and where these of the workers hold a ticket
 abbrev pub Draws : (shelves : ℕ) → (holds : List Bool) → (old : Source) → LoadStep → (new : Source) → Type 0
 Draws shelves holds old step new = (step, new) ≡ next_step shelves (held_in holds) old
 
@@ -112,16 +112,16 @@ Draws shelves holds old step new = (step, new) ≡ next_step shelves (held_in ho
 abbrev pub last_of : List (List ℕ) → List (List ℕ)
 last_of urls = if nat_lt most_targets (length urls) then drop 1 urls else urls
 
--- one URL more
+-- the source with one URL more
 abbrev pub with_url : List ℕ → Source → Source
 with_url url source = record { number = source.number; clock = source.clock; targets = last_of (source.targets ++ url ∷ []) }
 
--- what a reply shows: a page that has a URL
+-- the source after a reply: the URL of a page that has one is learned
 abbrev pub shown : Reply → Source → Source
 shown (Page bytes url) source = with_url url source
 shown _ source = source
 
--- what is learned of a report
+-- the source after a report: what a reply shows is learned
 abbrev pub learned : Report → Source → Source
 learned (Replied worker reply) source = shown reply source
 learned _ source = source

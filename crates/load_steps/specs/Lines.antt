@@ -9,7 +9,7 @@ use Rattle.load_steps.specs.declared.step.LoadStep.TheVariants.{Crash, Tick, Pub
 abbrev pub visit_line : List ℕ → ℕ → List ℕ → List ℕ
 visit_line word worker target = word ++ codes " " ++ decimal worker ++ codes " " ++ target
 
--- the step of `play` that it is
+-- the step of `play` that a step of a measured run is
 abbrev pub played : LoadStep → play.Step
 played (Crash shelf) = play.crash shelf
 played (Tick time) = play.tick time

@@ -11,7 +11,7 @@ name_of Hotel = codes "hotel"
 name_of Shop = codes "shop"
 name_of Pay = codes "pay"
 
--- its lines
+-- the lines of a script
 abbrev pub lines_of : LoadScript → List (List ℕ)
 lines_of Hotel =
     codes "(define picked (make-web-cell \"none\"))"
@@ -42,7 +42,7 @@ lines_of Pay =
     ∷ codes "  '(p \"end\"))"
     ∷ []
 
--- its text: newlines stand between the lines, and none behind the last
+-- the text of a script: newlines stand between its lines, and none after the last
 unfoldable pub text_of : LoadScript → List ℕ
 text_of script = join_with_byte 10 (lines_of script)
 
@@ -59,6 +59,6 @@ abbrev pub section_of : LoadScript → List ℕ
 section_of script =
     codes "script " ++ name_of script ++ codes " " ++ decimal (length (text_of script)) ++ codes "\n" ++ text_of script ++ codes "\n"
 
--- the setup: a section each, in the order of their numbers
+-- the text of the setup: a section of each script, in the order of their numbers
 abbrev pub setup_text : List ℕ
 setup_text = section_of Hotel ++ section_of Shop ++ section_of Pay

@@ -7,11 +7,12 @@ use Rattle.play_steps.specs.declared.report.Report.TheVariants.{Replied}
 use Rattle.load_steps.specs.declared.tally.Tally.{Tally}
 use Rattle.page_names.specs.Hex.{hex16}
 
--- whether a page is told, and whether a status and a word
+-- whether a page is told
 abbrev pub is_page : Told → Bool
 is_page (page bytes) = true
 is_page (word status bytes) = false
 
+-- whether a status and a word are told
 abbrev pub is_word : Told → Bool
 is_word (page bytes) = false
 is_word (word status bytes) = true
@@ -21,7 +22,7 @@ abbrev pub tells_page : Report → Bool
 tells_page (Replied worker reply) = is_page (told reply)
 tells_page _ = false
 
--- whether a worker was answered without one; a ticket that is taken is no answer
+-- whether a worker was answered without a page; a ticket that is taken is no answer
 abbrev pub tells_refusal : Report → Bool
 tells_refusal (Replied worker reply) = is_word (told reply)
 tells_refusal _ = false
@@ -30,7 +31,7 @@ tells_refusal _ = false
 abbrev pub grown : ℕ → ℕ → ℕ
 grown count more = min (count + more) (2 ^ 64 - 1)
 
--- one step more, of which this was told
+-- the tally with one step more, of which this was told
 abbrev pub counted : Tally → List Report → Tally
 counted tally told = record {
   steps = grown tally.steps 1;

@@ -88,7 +88,7 @@ learned_pages = refl
 abbrev kept_of : ℕ → List (List ℕ)
 kept_of count = last_of ((codes "/first" ∷ replicate count (codes "/")) ++ codes "/last" ∷ [])
 
--- how many are kept, the first of these and the 256th
+-- how many URLs are kept, the first of them and the 256th
 abbrev kept_at : ℕ → List (List ℕ)
 kept_at count = (decimal (length (kept_of count))) ∷ slice_index_or (kept_of count) 0 [] ∷ slice_index_or (kept_of count) 255 [] ∷ []
 
@@ -121,13 +121,13 @@ pub at_the_end :
     ≡ record { steps = 18446744073709551615; pages = 18446744073709551615; refused = 0 }
 at_the_end = refl
 
--- the line behind a run
+-- the line that a run prints at its end
 pub summary :
     summary_text (record { steps = 20000; pages = 12; refused = 0 }) 171 ≡ codes "steps 20000 pages 12 refused 0 hash 00000000000000ab\n"
 unfolding digits hex16
 summary = refl
 
--- how long the texts are
+-- how long the texts of the scripts are
 pub lengths : map (λ script. length (text_of script)) (Hotel ∷ Shop ∷ Pay ∷ []) ≡ 246 ∷ 217 ∷ 387 ∷ []
 unfolding text_of
 lengths = refl

@@ -1,4 +1,4 @@
-//! The steps of a measured run, drawn from a number and from the replies, and what is counted of it.
+//! The steps of a measured run, drawn from a number and from the replies, and what is counted of it: for the run.
 #![tactic(auto)]
 
 ghost use Rattle.load_steps.specs.Laws.{AsksFourWorkers, NextIsStep, UrlsAreKept};

@@ -1,5 +1,5 @@
 -- What stands there while empty shelves are opened, one behind the other.
-use Rattle.std.proofs.Common.{◌≡◌, ◌≢◌, ◌∙◌, ⊎_elim, ap, sym, subst, refl, ℕ, ◌+◌, ◌^◌, ◌<◌, ◌≤◌, zero, suc, Bool, true, false, List, [], ◌∷◌, ◌++◌, length, length-append, map, replicate, slice_get, Option, Some, None, arith}
+use Rattle.std.proofs.Common.{◌≡◌, ◌≢◌, ◌∙◌, ◌⊎◌, inl, inr, ⊎_elim, ap, sym, subst, refl, ℕ, ◌+◌, ◌^◌, ◌<◌, ◌≤◌, zero, suc, Bool, true, false, List, [], ◌∷◌, ◌++◌, length, length-append, map, replicate, slice_get, Option, Some, None, arith}
 use Rattle.std.specs.Prelude.{IsTrue}
 use Rattle.std.proofs.lemmas.List.{length-map, map-append}
 use Rattle.std.proofs.lemmas.List.Sums.{sum_by-append, sum_by-cons}
@@ -15,12 +15,14 @@ use Rattle.shelf.specs.declared.rules.Rules.{Rules}
 use Rattle.shelf.specs.declared.shelf.Shelf.{Shelf}
 use Rattle.shelf.specs.Views.{IsOwnShelf}
 use Rattle.play_desk.specs.Desk.{Desk, first_desk, first_shelves}
-use Rattle.play_desk.specs.Opening.{AreHome, CountStays, GivesOne, IsClosedBy, IsRefusedBy, OpensNext, numbered, rules_at}
+use Rattle.play_desk.specs.Opening.{AllKept, AllStayKept, AreHome, CountStays, GivesOne, HoldImages, IsClosedBy, IsKept, IsRefusedBy, LeaveOthers, OpensNext, numbered, rules_at}
 use Rattle.play_desk.specs.Staff.{AreFit, HaveOwnNumbers, IsHome, IsServed, desk_with, faults_in, numbers_in, shelf_at, total}
 use Rattle.play_desk.specs.declared.opening.OpenCause.{OpenCause}
 use Rattle.play_desk.specs.declared.opening.OpenCause.TheVariants as cause
 use Rattle.play_desk.proofs.Places.{in_push, none_there, same_Some}
 use Rattle.play_desk.proofs.Closing.{at_last, in_front}
+use Rattle.play_desk.proofs.Fitting.{number_at}
+use Rattle.play_desk.proofs.Keeping.{all_kept_in}
 
 -- Of a rack that was first so, these are the shelves of the numbers below this one, all empty; no disk beyond them was touched.
 pub record AreOpened {D : Type 0} (view : D → View) (rack_tells tells : Bool) (scripts : List Named) (rules : Rules) (first : RackView)
@@ -29,6 +31,8 @@ pub record AreOpened {D : Type 0} (view : D → View) (rack_tells tells : Bool) 
   pub numbers : (k n : ℕ) → slice_get (numbers_in xs) k ≡ Some n → n ≡ k
   pub served : (k : ℕ) (x : Shelf D Counting) → slice_get xs k ≡ Some x → IsServed view tells scripts x
   pub own : IsTrue rack_tells → IsTrue tells → (k : ℕ) (x : Shelf D Counting) → slice_get xs k ≡ Some x → IsOwnShelf view tells scripts x
+  pub keeps : IsTrue rack_tells → IsTrue tells → (k : ℕ) (x : Shelf D Counting) → slice_get xs k ≡ Some x
+      → AllKept scripts k (first.holds k) [] (view x.journal.disk).images
   pub home : IsHome xs now.out
   pub rest : (n : ℕ) → count ≤ n → AreAmong (now.holds n) (first.holds n)
   pub empty : IsTrue rack_tells → IsTrue tells → (k : ℕ) → k < count → first.holds k []
@@ -44,6 +48,7 @@ opened_none view rack_tells tells scripts rules first home few = record {
   numbers = λ k n e. absurd (let no : None ≡ Some n = e in cc);
   served = λ k x e. absurd (let no : None ≡ Some x = e in cc);
   own = λ rack_told told k x e. absurd (let no : None ≡ Some x = e in cc);
+  keeps = λ rack_told told k x e. absurd (let no : None ≡ Some x = e in cc);
   home = record {
     ours = λ k n e. absurd (let no : None ≡ Some n = e in cc);
     only = λ n out. absurd (let no : true ≡ false = sym out ∙ home n in cc);
@@ -61,6 +66,18 @@ last_place [] x zero u e other = absurd (other refl)
 last_place [] x (suc k) u e other = absurd (let no : None ≡ Some u = e in cc)
 last_place (y ∷ xs) x zero u e other = e
 last_place (y ∷ xs) x (suc k) u e other = last_place xs x k u e (λ is. other (ap suc is))
+
+-- what stands below the length
+there : {A : Type 0} (xs : List A) (n : ℕ) → n < length xs → (x : A) × (slice_get xs n ≡ Some x)
+there [] n low = absurd (omega (arith, low))
+there (x ∷ xs) zero low = (x, refl)
+there (x ∷ xs) (suc n) low = there xs n (omega (arith, low))
+
+below_or_not : (k n : ℕ) → (k < n) ⊎ (n ≤ k)
+below_or_not zero zero = inr (omega arith)
+below_or_not zero (suc n) = inl (omega arith)
+below_or_not (suc k) zero = inr (omega arith)
+below_or_not (suc k) (suc n) = elim (below_or_not k n) [ inl h ↦ inl (omega arith) | inr h ↦ inr (omega arith) ]
 
 module _ {D : Type 0} (view : D → View) (rack_tells tells : Bool) (scripts : List Named) (rules : Rules) (first : RackView) (count : ℕ)
     (xs : List (Shelf D Counting)) (now : RackView) where
@@ -104,8 +121,33 @@ module _ {D : Type 0} (view : D → View) (rack_tells tells : Bool) (scripts : L
   )
   closed_by limit (cause.Damaged place) o low rack_told told h = h
   closed_by limit (cause.Other place) o low rack_told told h = h
-  closed_by limit cause.Disk o low rack_told told h = low
-  closed_by limit cause.Memory o low rack_told told h = low
+  closed_by limit cause.Disk o low rack_told told h = (low, o.empty rack_told told)
+  closed_by limit cause.Memory o low rack_told told h = (low, o.empty rack_told told)
+
+  -- then nothing was lost on any disk, but on the one of which a call failed
+  pub kept_all : (mid next : RackView) (why : OpenCause) → AreOpened view rack_tells tells scripts rules first count xs now → IsTrue rack_tells → IsTrue tells
+      → GivesOne count now mid → (why ≢ cause.Disk → AllKept scripts count (now.holds count) [] (mid.holds count)) → HoldImages view xs next.holds
+      → LeaveOthers xs mid next → AllStayKept scripts first.holds next.holds count why
+  kept_all mid next why o rack_told told given kept images others n but left is =
+      elim (below_or_not n (length xs)) [ inl low ↦ opened (there xs n low) | inr high ↦ beyond (omega (arith, o.size, high)) ]
+    where
+      -- the disk of a shelf that was opened
+      opened : (x : Shelf D Counting) × (slice_get xs n ≡ Some x) → IsKept scripts n (first.holds n) [] left
+      opened (x, at) =
+          let number : x.rules.number ≡ n = o.numbers n x.rules.number (number_at xs n x at) in
+          o.keeps rack_told told n x at left (images n x at left (subst (λ m. next.holds m left) (sym number) is))
+
+      -- and of one that was not
+      beyond : count ≤ n → IsKept scripts n (first.holds n) [] left
+      beyond le =
+          let held = others n (λ k e. let low = below o k n e in omega (arith, low, le)) left is in
+          dite (ℕ_discrete n count)
+          (λ same.
+          let here : AllKept scripts count (first.holds count) [] (mid.holds count) =
+          all_kept_in scripts count (first.holds count) (now.holds count) [] (mid.holds count) (mid.holds count) (o.rest count (omega arith)) (λ image h. h)
+          (kept (λ e. but e same)) in
+          subst (λ m. IsKept scripts m (first.holds m) [] left) (sym same) (here left (subst (λ m. mid.holds m left) same held)))
+          (λ other. inl (o.rest n le left (given.others n other left held)))
 
   -- then the count did not fall
   pub later_closed : (mid new : ℕ) → AreOpened view rack_tells tells scripts rules first count xs now → CountStays now.faults 0 mid 0
@@ -181,6 +223,18 @@ module _ {D : Type 0} (view : D → View) (rack_tells tells : Bool) (scripts : L
           ∙ ap (λ (ss : List runs.Shelf). ss ++ shelf_at scripts x ∷ []) (o.shelves rack_told told)
           ∙ ap (λ (s : runs.Shelf). first_shelves (rules_at scripts rules) scripts count ++ s ∷ []) (h.empty rack_told told).1
 
+      kept : IsTrue rack_tells → IsTrue tells → AllKept scripts count (first.holds count) [] (view x.journal.disk).images
+      kept rack_told told =
+          all_kept_in scripts count (first.holds count) (now.holds count) [] (view x.journal.disk).images (view x.journal.disk).images
+          (o.rest count (omega arith)) (λ image h. h) (h.keeps rack_told told)
+
+      last_kept : IsTrue rack_tells → IsTrue tells → (k : ℕ) (z : Shelf D Counting) → slice_get (xs ++ x ∷ []) k ≡ Some z → x ≡ z
+          → AllKept scripts k (first.holds k) [] (view z.journal.disk).images
+      last_kept rack_told told k z e is =
+          let at : count ≡ k = sym number ∙ (ap (λ (s : Shelf D Counting). s.rules.number) is ∙ all_numbers k z.rules.number (number_at (xs ++ x ∷ []) k z e)) in
+          subst (λ n. AllKept scripts n (first.holds n) [] (view z.journal.disk).images) at
+          (subst (λ (s : Shelf D Counting). AllKept scripts count (first.holds count) [] (view s.journal.disk).images) is (kept rack_told told))
+
       sum_is : faults_in view (xs ++ x ∷ []) ≡ faults_in view xs + (view x.journal.disk).faults
       sum_is =
           let parts = sum_by-append (λ (s : Shelf D Counting). (view s.journal.disk).faults) xs (x ∷ []) in
@@ -197,6 +251,8 @@ module _ {D : Type 0} (view : D → View) (rack_tells tells : Bool) (scripts : L
         served = λ k z e. ⊎_elim (λ was. o.served k z was) (λ is. subst (λ (s : Shelf D Counting). IsServed view tells scripts s) is h.served) (in_push xs x k z e);
         own = λ rack_told told k z e.
             ⊎_elim (λ was. o.own rack_told told k z was) (λ is. subst (λ (s : Shelf D Counting). IsOwnShelf view tells scripts s) is (h.own rack_told told)) (in_push xs x k z e);
+        keeps = λ rack_told told k z e.
+            ⊎_elim (λ was. o.keeps rack_told told k z was) (λ is. last_kept rack_told told k z e is) (in_push xs x k z e);
         home = taken_home;
         rest = untouched;
         empty = were_empty;

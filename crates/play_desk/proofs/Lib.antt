@@ -1,5 +1,6 @@
 pub mod Places
 pub mod Kept
+pub mod Keeping
 pub mod ShelfRuns
 pub mod Held
 pub mod Entering

@@ -31,7 +31,7 @@ told (spec.down count) = reply.Down count
 told spec.worn = reply.Worn
 told _ = reply.Memory
 
--- the setup, the shelves in their order, and the ticket that each worker holds
+-- a desk: the setup, the shelves in their order, and the ticket that each worker holds
 pub record Desk : Type 0 where
   pub scripts : List Named
   pub shelves : List Shelf
@@ -41,11 +41,11 @@ pub record Desk : Type 0 where
 abbrev pub counting : ℕ → ℕ
 counting k = k % 2 ^ 64
 
--- how many nonces a shelf has given is counted in 64 bits too
+-- a shelf where the count of nonces that it has given is one of 64 bits
 abbrev pub in_64_bits : Shelf → Shelf
 in_64_bits s = record s { nonces = counting s.nonces }
 
--- an event of a shelf: its reply, and the shelf behind it
+-- an event of a shelf: its reply, and the shelf after it
 abbrev pub happening : Shelf → Event → Fate → spec.Reply × Shelf
 happening s what fate = let x = shelf_step counting s what fate in (x.0, in_64_bits x.1)
 
@@ -54,7 +54,7 @@ abbrev pub first_shelves : (rules : ℕ → Rules) → List Named → (count : �
 first_shelves rules scripts zero = []
 first_shelves rules scripts (suc n) = first_shelves rules scripts n ++ empty_shelf (rules n) scripts n ∷ []
 
--- these, and sixteen workers that hold nothing
+-- the desk of so many shelves with nothing on them, and of sixteen workers that hold nothing
 abbrev pub first_desk : (rules : ℕ → Rules) → List Named → (count : ℕ) → Desk
 first_desk rules scripts count =
     record { scripts = scripts; shelves = first_shelves rules scripts count; held = replicate 16 None }
@@ -62,11 +62,11 @@ first_desk rules scripts count =
 abbrev pub ticket_of : Desk → (worker : ℕ) → Option Ticket
 ticket_of d worker = option_and_then (λ t. t) (slice_get d.held worker)
 
--- the desk behind an event of a shelf, and with what the worker holds then
+-- the desk after an event of a shelf, and with what the worker holds then
 abbrev pub behind : Desk → (shelf : ℕ) → Shelf → (worker : ℕ) → Option Ticket → Desk
 behind d k s worker t = record d { shelves = slice_set d.shelves k s; held = slice_set d.held worker t }
 
--- the desk behind an event of a shelf by which nobody's ticket changes
+-- the desk after an event of a shelf by which nobody's ticket changes
 abbrev pub with_shelf : Desk → (shelf : ℕ) → Shelf → Desk
 with_shelf d k s = record d { shelves = slice_set d.shelves k s }
 
@@ -76,13 +76,13 @@ taken_by d k worker target answer (spec.taken number nonce, s) =
     (Ok number, behind d k s worker (Some (record { target = target; answer = answer; number = number; nonce = nonce })))
 taken_by d k worker target answer (r, s) = (Err (told r), with_shelf d k s)
 
--- on a shelf that is not there each target is unknown, and its take is no event
+-- a take on a shelf; on one that is not there each target is unknown, and its take is no event
 abbrev pub take_on : Desk → ℕ → ℕ → Destination → Val → Option Shelf → Call Desk Fate (Result ℕ Reply)
 take_on d k worker target answer None = answered (Err (reply.Refused Unknown))
 take_on d k worker target answer (Some s) =
     event (λ fate. taken_by d k worker target answer (happening s (take target answer) fate))
 
--- a path that names nothing is unknown, and its take is no event
+-- a take of what a path names; a path that names nothing is unknown, and its take is no event
 abbrev pub take_at : Desk → ℕ → Val → Option Destination → Call Desk Fate (Result ℕ Reply)
 take_at d worker answer None = answered (Err (reply.Refused Unknown))
 take_at d worker answer (Some target) =
@@ -130,12 +130,12 @@ is_of count k worker (Some t) = shelf_for count worker t.target == k
 abbrev pub left_of : (count shelf worker : ℕ) → Option Ticket → Option Ticket
 left_of count k worker t = if is_of count k worker t then None else t
 
--- and what workers hold from this one on
+-- what the workers from this one on hold once the tickets of this shelf are lost
 abbrev pub without_shelf : (count shelf worker : ℕ) → List (Option Ticket) → List (Option Ticket)
 without_shelf count k worker [] = []
 without_shelf count k worker (t ∷ ts) = left_of count k worker t ∷ without_shelf count k (worker + 1) ts
 
--- a crash loses the shelf's tickets, and tells how many instances are live behind it
+-- a crash loses the shelf's tickets, and tells how many instances are live after it
 abbrev pub crashed_by : Desk → (shelf : ℕ) → spec.Reply × Shelf → ℕ × Desk
 crashed_by d k (spec.live count, s) =
     (count, record d { shelves = slice_set d.shelves k s; held = without_shelf (length d.shelves) k 0 d.held })
@@ -145,11 +145,11 @@ abbrev pub crash_on : Desk → (shelf : ℕ) → Option Shelf → Call Desk Fate
 crash_on d k None = answered 0
 crash_on d k (Some s) = event (λ fate. crashed_by d k (happening s (crash d.scripts) fate))
 
--- the shelf is opened again under the same setup
+-- a crash of a shelf, which is opened again under the same setup
 abbrev pub desk_crash : Desk → (shelf : ℕ) → Call Desk Fate ℕ
 desk_crash d k = crash_on d k (slice_get d.shelves k)
 
--- whether the disk failed
+-- whether a fate is that a call of the disk failed
 abbrev pub is_fault : Fate → Bool
 is_fault (disk_fault count) = true
 is_fault _ = false

@@ -10,11 +10,12 @@ use Rattle.play_steps.specs.Transcript.{text_of, transcript}
 use Rattle.play_desk.specs.Desk.{Desk, first_desk, desk_rules, counting}
 use Rattle.play_desk.specs.Ledger.{Entry, reading, print_of, events_of}
 
--- the events that were entered for the shelf of this number, with their fates, and what they were answered
+-- the events that were entered for the shelf of this number, with their fates
 abbrev pub events_on : ℕ → List Entry → List (Event × Fate)
 events_on k [] = []
 events_on k (e ∷ entries) = if e.shelf == k then (e.event, e.fate) ∷ events_on k entries else events_on k entries
 
+-- what the events that were entered for the shelf of this number were answered
 abbrev pub replies_on : ℕ → List Entry → List Reply
 replies_on k [] = []
 replies_on k (e ∷ entries) = if e.shelf == k then e.reply ∷ replies_on k entries else replies_on k entries
@@ -25,13 +26,13 @@ pub record AreAlike (s t : Shelf) : Type 0 where
   pub book : t.book ≡ s.book
   pub nonces : counting t.nonces ≡ counting s.nonces
 
--- each shelf's run over the events that were entered for it gives just the replies that were entered, and leaves the shelf so
+-- each shelf's run over the events that were entered for it gives just the replies that were entered, and leaves a shelf like the new one
 pub record AreRuns (entries : List Entry) (old new : List Shelf) : Type 0 where
   pub answered : (k : ℕ) (s : Shelf) → slice_get old k ≡ Some s → answers_to counting (events_on k entries) s ≡ replies_on k entries
   pub left : (k : ℕ) (s : Shelf) → slice_get old k ≡ Some s
       → (t : Shelf) × (slice_get new k ≡ Some t) × AreAlike (after counting (events_on k entries) s) t
 
--- each publish of these runs spends a number that is out on its shelf
+-- each publish of the shelves' runs over these entries spends a number that is out on its shelf
 abbrev pub AreLawfulRuns : List Entry → List Shelf → Type 0
 AreLawfulRuns entries shelves =
     (k : ℕ) (s : Shelf) → slice_get shelves k ≡ Some s → IsLawfulRun counting (events_on k entries) s

@@ -22,7 +22,7 @@ pub record Entry : Type 0 where
   pub fate : Fate
   pub reply : Reply
 
--- the setup; how many shelves there are; the ticket that each worker holds; the replies to come; and what was entered
+-- a ledger: the setup; how many shelves there are; the ticket that each worker holds; the replies to come; and what was entered
 pub record Ledger : Type 0 where
   pub scripts : List Named
   pub count : ℕ
@@ -34,11 +34,12 @@ pub record Ledger : Type 0 where
 abbrev pub ledger_of : Desk → List Reply → List Entry → Ledger
 ledger_of d replies entries = record { scripts = d.scripts; count = length d.shelves; held = d.held; replies = replies; entries = entries }
 
--- the reply to the next event, and those to the events after it; replies that are not listed are `memory`
+-- the reply to the next event; a reply that is not listed is `memory`
 abbrev pub first_reply : List Reply → Reply
 first_reply [] = memory
 first_reply (r ∷ replies) = r
 
+-- the replies to the events after the next one
 abbrev pub later_replies : List Reply → List Reply
 later_replies [] = []
 later_replies (r ∷ replies) = replies
@@ -50,7 +51,7 @@ entered l k x fate = record l {
   entries = l.entries ++ record { shelf = k; event = x; fate = fate; reply = first_reply l.replies } ∷ [];
 }
 
--- a worker holds this from now on
+-- the ledger where the worker holds this from now on
 abbrev pub holding : Ledger → (worker : ℕ) → Option Ticket → Ledger
 holding l worker t = record l { held = slice_set l.held worker t }
 
@@ -60,13 +61,14 @@ taken_in l worker target answer (taken number nonce) =
     (Ok number, holding l worker (Some (record { target = target; answer = answer; number = number; nonce = nonce })))
 taken_in l worker target answer r = (Err (told r), l)
 
--- a take on a shelf that is not there is no event, and its target is unknown; nor is a take of a path that names nothing
+-- a take on a shelf; on one that is not there it is no event, and its target is unknown
 abbrev pub take_on : Ledger → (shelf worker : ℕ) → Destination → Val → Call Ledger Fate (Result ℕ outcome.Reply)
 take_on l k worker target answer =
     if nat_lt k l.count
     then event (λ fate. taken_in (entered l k (take target answer) fate) worker target answer (first_reply l.replies))
     else answered (Err (Refused Unknown))
 
+-- a take of what a path names; where that is nothing it is no event, and its target is unknown
 abbrev pub take_at : Ledger → (worker : ℕ) → Val → Option Destination → Call Ledger Fate (Result ℕ outcome.Reply)
 take_at l worker answer None = answered (Err (Refused Unknown))
 take_at l worker answer (Some target) = take_on l (shelf_for l.count worker target) worker target answer
@@ -132,9 +134,10 @@ ledger_rules = record {
 abbrev pub reading : Desk → (number : ℕ) → List (Option Step) → List Fate → List Reply → Run ledger_rules
 reading d number steps fates replies = transcript ledger_rules (ledger_of d replies []) number steps fates
 
--- what the lines print, and the events that they are
+-- what the lines from this desk on print, with these fates and replies
 abbrev pub print_of : Desk → (number : ℕ) → List (Option Step) → List Fate → List Reply → List ℕ
 print_of d number steps fates replies = text_of (reading d number steps fates replies)
 
+-- the events that the lines from this desk on are, with these fates and replies
 abbrev pub events_of : Desk → (number : ℕ) → List (Option Step) → List Fate → List Reply → List Entry
 events_of d number steps fates replies = (reading d number steps fates replies).state.entries

@@ -1,5 +1,5 @@
 -- How shelves are opened on the disks of a rack, and closed.
-use Rattle.std.specs.Prelude.{⊤, ◌≡◌, ◌≢◌, ◌⊎◌, ◌≤◌, ◌<◌, ◌+◌, ℕ, Bool, true, false, IsTrue, List, [], ◌∷◌, ◌++◌, slice_get, Some, Result, Ok, Err, IsErrOf}
+use Rattle.std.specs.Prelude.{⊤, ◌≡◌, ◌≢◌, ◌⊎◌, ◌≤◌, ◌<◌, ◌+◌, ℕ, Bool, true, false, IsTrue, List, [], ◌∷◌, ◌++◌, slice_get, Some, Result, Ok, Err, IfErr, IsErrOf}
 use Rattle.web_outside.specs.Causes.{Rose}
 use Rattle.web_outside.specs.declared.nonces.Counting.{Counting}
 use Rattle.web_disk.specs.View.{View, RackView, AreAmong}
@@ -11,12 +11,14 @@ use Rattle.replay_spec.specs.Rules.{empty_book}
 use Rattle.replay_spec.specs.Runs as runs_spec
 use Rattle.replay_spec.specs.Runs.{empty_shelf}
 use Rattle.replay_spec.specs.Step.{lost, kept}
+use Rattle.page_journal.specs.Records.{Intact, records, at_rest, stored}
 use Rattle.journal_records.specs.Records.{IsInGrammar, begin_of}
+use Rattle.journal_books.specs.Keeping.{first_body}
 use Rattle.journal_books.specs.Making.{damaged, other, book_in_bytes}
 use Rattle.journal_books.specs.Standing.{Between, HoldIn, IsOneOf, if_kept}
 use Rattle.journal_books.specs.Laws.{MeasuresDoubt}
 use Rattle.shelf.specs.Views.{book_in, rules_of, IsOwnShelf}
-use Rattle.shelf.specs.Opening.{IsCrashed}
+use Rattle.shelf.specs.Opening.{IsCrashed, KeepsRecords}
 use Rattle.shelf.specs.Owning.{OwnRecords, HoldOwn}
 use Rattle.shelf.specs.declared.begin.BeginFault.{BeginFault}
 use Rattle.shelf.specs.declared.begin.BeginFault.TheVariants as begin
@@ -26,7 +28,7 @@ use Rattle.play_steps.specs.Rules.{Crashes}
 use Rattle.play_steps.specs.declared.stage.Reopen.{Reopen}
 use Rattle.play_steps.specs.declared.stage.Reopen.TheVariants as reopen
 use Rattle.play_desk.specs.Desk.{Desk, desk_rules}
-use Rattle.play_desk.specs.Staff.{IsServed, desk_of, shelf_at, total}
+use Rattle.play_desk.specs.Staff.{IsServed, desk_of, numbers_in, shelf_at, total}
 use Rattle.play_desk.specs.declared.staff.Staff.{Staff}
 use Rattle.play_desk.specs.declared.opening.OpenCause.{OpenCause}
 use Rattle.play_desk.specs.declared.opening.OpenCause.TheVariants as cause
@@ -47,10 +49,11 @@ CanBegin scripts shelves = (k : ℕ) → k < shelves → IsInGrammar (begin_of k
 abbrev pub RackFailed : (old new : RackView) → Type 0
 RackFailed old new = Rose old.faults new.faults
 
--- it is no record at fault, and none of another program, for which this was not opened again
+-- the answer is not that a record on the disk is at fault
 abbrev pub IsNeverDamaged : {T : Type 0} → Result T Reopen → Type 0
 IsNeverDamaged result = (place : ℕ) → IsErrOf result (reopen.Damaged place) → ⊥
 
+-- the answer is not that a record on the disk is of another shelf or of other scripts
 abbrev pub IsNeverOther : {T : Type 0} → Result T Reopen → Type 0
 IsNeverOther result = (place : ℕ) → IsErrOf result (reopen.Other place) → ⊥
 
@@ -58,12 +61,13 @@ IsNeverOther result = (place : ℕ) → IsErrOf result (reopen.Other place) → 
 abbrev pub AreHome : (out : ℕ → Bool) → Type 0
 AreHome out = (n : ℕ) → out n ≡ false
 
--- the disk of this number was taken, or given back, and no other
+-- the disk of this number was taken, and no other was taken or given back
 pub record TakesOne (number : ℕ) (old new : RackView) : Type 0 where
   pub out : new.out number ≡ true
   pub others_out : (n : ℕ) → n ≢ number → new.out n ≡ old.out n
   pub others : (n : ℕ) → n ≢ number → AreAmong (new.holds n) (old.holds n)
 
+-- the disk of this number was given back, and no other was taken or given back
 pub record GivesOne (number : ℕ) (old new : RackView) : Type 0 where
   pub home : new.out number ≡ false
   pub others_out : (n : ℕ) → n ≢ number → new.out n ≡ old.out n
@@ -78,7 +82,7 @@ abbrev pub TakesOrLeaves : {T E : Type 0} → (number : ℕ) → Result T E → 
 TakesOrLeaves number (Ok disk) old new = TakesOne number old new
 TakesOrLeaves number (Err why) old new = LeavesAll old new
 
--- where the shelf is opened its disk is out, and else at home
+-- the disk of a shelf is out where the shelf is opened, and else at home
 abbrev pub OpensOne : {T E : Type 0} → (number : ℕ) → Result T E → (old new : RackView) → Type 0
 OpensOne number (Ok shelf) old new = TakesOne number old new
 OpensOne number (Err why) old new = GivesOne number old new
@@ -88,10 +92,11 @@ abbrev pub faults_left : {D E : Type 0} → (D → View) → Result (Shelf D Cou
 faults_left view (Ok s) = (view s.journal.disk).faults
 faults_left view (Err why) = 0
 
--- beside disks of any count of faults the whole count did not fall; or it rose
+-- beside other disks of any count of faults the whole count did not fall
 abbrev pub CountStays : (rack disk rack_now disk_now : ℕ) → Type 0
 CountStays rack disk rack_now disk_now = (others : ℕ) → total rack (disk + others) ≤ total rack_now (disk_now + others)
 
+-- beside other disks of any count of faults the whole count rose
 abbrev pub CountRose : (rack disk rack_now disk_now : ℕ) → Type 0
 CountRose rack disk rack_now disk_now = (others : ℕ) → Rose (total rack (disk + others)) (total rack_now (disk_now + others))
 
@@ -119,7 +124,7 @@ IsOutside reopen.Disk = ⊤
 IsOutside reopen.Memory = ⊤
 IsOutside _ = ⊥
 
--- of a disk that was taken, how often it has failed
+-- how often a disk that was taken has failed, and 0 where none was taken
 abbrev pub disk_faults : {D E : Type 0} → (D → View) → Result D E → ℕ
 disk_faults view (Ok disk) = (view disk).faults
 disk_faults view (Err why) = 0
@@ -144,6 +149,47 @@ BeginsEmpty scripts rules (Err (reopen.Damaged place)) = ⊥
 BeginsEmpty scripts rules (Err (reopen.Other place)) = ⊥
 BeginsEmpty scripts rules (Err _) = ⊤
 
+-- What may be left of the disk of a shelf on which nothing was lost, and of which this was read: what it might hold before; or the
+-- records that were read, at rest; or the first one, where there was none.
+abbrev pub IsKept : List Named → (shelf : ℕ) → (held : List ℕ → Type 0) → (read left : List ℕ) → Type 0
+IsKept scripts shelf held read left =
+    held left
+    ⊎ (((records read ≡ Intact (stored read)) ⊎ (read ≡ []))
+    × ((left ≡ at_rest (stored read)) ⊎ ((stored read ≡ []) × (left ≡ at_rest (first_body scripts shelf ∷ [])))))
+
+-- whatever is left of the disk of a shelf is what may be left where nothing was lost on it
+abbrev pub AllKept : List Named → (shelf : ℕ) → (held : List ℕ → Type 0) → (read : List ℕ) → (holds : List ℕ → Type 0) → Type 0
+AllKept scripts shelf held read holds = (left : List ℕ) → holds left → IsKept scripts shelf held read left
+
+-- nothing was lost on a disk where a shelf was begun, nor where it was not, unless a call of the disk failed
+abbrev pub KeepsBegun : {D : Type 0} → (D → View) → List Named → (number : ℕ) → (disk : View) → (holds : ℕ → List ℕ → Type 0)
+    → Result (Shelf D Counting) Reopen → Type 0
+KeepsBegun view scripts number disk holds (Ok s) = KeepsRecords scripts number disk (view s.journal.disk)
+KeepsBegun view scripts number disk holds (Err reopen.Disk) = ⊤
+KeepsBegun view scripts number disk holds (Err why) = AllKept scripts number disk.images disk.seen (holds number)
+
+-- a disk that is not taken, as it is not empty or a call failed, may hold nothing that it might not hold
+abbrev pub GivesUnread : {D : Type 0} → (D → View) → (held holds : List ℕ → Type 0) → Result D OpenCause → Type 0
+GivesUnread view held holds (Ok disk) = AreAmong (view disk).images held
+GivesUnread view held holds (Err why) = AreAmong holds held
+
+-- nothing was lost on the disk of an empty shelf, where it was opened and where it was not, unless a call of the disk failed
+abbrev pub KeepsOpened : {D : Type 0} → (D → View) → List Named → (number : ℕ) → (held : List ℕ → Type 0) → (holds : ℕ → List ℕ → Type 0)
+    → Result (Shelf D Counting) OpenCause → Type 0
+KeepsOpened view scripts number held holds (Ok s) = AllKept scripts number held [] (view s.journal.disk).images
+KeepsOpened view scripts number held holds (Err cause.Disk) = ⊤
+KeepsOpened view scripts number held holds (Err why) = AllKept scripts number held [] (holds number)
+
+-- where a shelf is not opened, nothing was lost on its disk, unless a call of the disk failed
+abbrev pub KeepsClosed : {T : Type 0} → List Named → (number : ℕ) → (held holds : List ℕ → Type 0) → Result T OpenCause → Type 0
+KeepsClosed scripts number held holds result =
+    IfErr result (λ why. why ≢ cause.Disk → AllKept scripts number held [] holds)
+
+-- No step was performed, as a shelf was not opened for this: nothing was lost on any disk, but on the one of which a call failed.
+abbrev pub AllStayKept : List Named → (before after : ℕ → List ℕ → Type 0) → (shelf : ℕ) → OpenCause → Type 0
+AllStayKept scripts before after shelf why =
+    (n : ℕ) → (why ≡ cause.Disk → n ≢ shelf) → AllKept scripts n (before n) [] (after n)
+
 -- the cause for which a shelf was not opened
 abbrev pub cause_of : Reopen → OpenCause
 cause_of reopen.Disk = cause.Disk
@@ -167,11 +213,12 @@ pub record OpensNext {D : Type 0} (view : D → View) (rack_tells tells : Bool) 
   pub rules : shelf.rules ≡ limits
   pub empty : IsTrue rack_tells → IsTrue tells → OpensEmpty scripts limits (old.holds limits.number) (Ok shelf)
   pub own : IsTrue rack_tells → IsTrue tells → IsOwnShelf view tells scripts shelf
+  pub keeps : IsTrue rack_tells → IsTrue tells → KeepsOpened view scripts limits.number (old.holds limits.number) new.holds (Ok shelf)
   pub taken : TakesOne limits.number old new
   pub later : CountStays old.faults 0 new.faults (view shelf.journal.disk).faults
   pub rack_later : old.faults ≤ new.faults
 
--- the one shelf is the other behind the event crash, what was in doubt lost or kept
+-- the one shelf is the other after the event crash, what was in doubt lost or kept
 abbrev pub HasCrashed : {D : Type 0} → List Named → (old new : Shelf D Counting) → Type 0
 HasCrashed scripts old new =
     (nonce : ℕ)
@@ -182,24 +229,30 @@ HasCrashed scripts old new =
 abbrev pub CrashesShelf : {D : Type 0} → Setup → (old : Staff D) → (place live : ℕ) → (new : Staff D) → Type 0
 CrashesShelf setup old place live new = Crashes desk_rules ⊥ (desk_of setup old) place live (desk_of setup new)
 
--- a disk that is not empty: of the first of these numbers that may hold other bytes than none
+-- the disk of this number is not empty: it may hold some bytes, and each disk before it may hold none
 pub record IsNotEmpty (holds : ℕ → List ℕ → Type 0) (number : ℕ) : Type 0 where
   pub before : (k : ℕ) → k < number → holds k []
   pub image : List ℕ
   pub held : holds number image
   pub some : image ≢ []
 
--- why a desk was not opened, of disks that tell what they hold; an empty disk is neither damaged nor another's
+-- Why a desk was not opened, of disks that tell what they hold. The disks of the shelves before it may hold nothing; an empty disk is
+-- neither damaged nor another's.
 abbrev pub IsClosedBy : (holds : ℕ → List ℕ → Type 0) → (count number : ℕ) → OpenCause → Type 0
 IsClosedBy holds count number cause.NotEmpty = (number < count) × IsNotEmpty holds number
 IsClosedBy holds count number (cause.Damaged place) = ⊥
 IsClosedBy holds count number (cause.Other place) = ⊥
-IsClosedBy holds count number _ = number < count
+IsClosedBy holds count number _ = (number < count) × ((k : ℕ) → k < number → holds k [])
 
--- what a disk may hold that was given back, each shelf's disk might have held before
+-- what the disk of each of these shelves may hold, now that it was given back, it might have held before
 abbrev pub HoldImages : {D : Type 0} → (D → View) → List (Shelf D Counting) → (holds : ℕ → List ℕ → Type 0) → Type 0
 HoldImages {D = D} view shelves holds =
     (k : ℕ) (s : Shelf D Counting) → slice_get shelves k ≡ Some s → AreAmong (holds s.rules.number) (view s.journal.disk).images
+
+-- the disks that are of none of these shelves may hold nothing that they might not hold before
+abbrev pub LeaveOthers : {D : Type 0} → List (Shelf D Counting) → (before after : RackView) → Type 0
+LeaveOthers shelves before after =
+    (n : ℕ) → ((k : ℕ) → slice_get (numbers_in shelves) k ≡ Some n → ⊥) → AreAmong (after.holds n) (before.holds n)
 
 -- What the disk of this shelf may hold has own records, and makes the book, with what is in doubt or without it, whose record is as
 -- long as the rules measure it.

@@ -86,19 +86,20 @@ pub record HoldsAt {D : Type 0} (Q : Book → Ticket → Type 0) (scripts : List
   pub there : slice_get shelves place ≡ Some shelf
   pub held : Q (book_in scripts shelf) t
 
--- and of each ticket that a worker holds, on its shelf
+-- this holds of each ticket that a worker holds, on the book of the ticket's shelf
 abbrev pub OfEachTicket : {D : Type 0} → (Book → Ticket → Type 0) → List Named → List (Shelf D Counting) → List (Option Ticket) → Type 0
 OfEachTicket Q scripts shelves tickets =
     (w : ℕ) (t : Ticket) → slice_get tickets w ≡ Some (Some t) → HoldsAt Q scripts shelves (place_of (length shelves) w t) t
 
--- the numbers of shelves, and how often their disks have failed in all
+-- the numbers of shelves
 abbrev pub numbers_in : {D : Type 0} → List (Shelf D Counting) → List ℕ
 numbers_in shelves = map (λ x. x.rules.number) shelves
 
+-- how often the disks of shelves have failed in all
 abbrev pub faults_in : {D : Type 0} → (D → View) → List (Shelf D Counting) → ℕ
 faults_in view shelves = sum_by (λ x. (view x.journal.disk).faults) shelves
 
--- each has a number of its own
+-- each of these shelves has a number of its own
 abbrev pub HaveOwnNumbers : {D : Type 0} → List (Shelf D Counting) → Type 0
 HaveOwnNumbers shelves =
     (j k n : ℕ) → slice_get (numbers_in shelves) j ≡ Some n → slice_get (numbers_in shelves) k ≡ Some n → j ≡ k
@@ -128,7 +129,7 @@ pub record AreOwn {D : Type 0} (view : D → View) (tells : Bool) (scripts : Lis
 abbrev pub IsOwn : {D : Type 0} → (D → View) → Bool → List Named → Staff D → Type 0
 IsOwn view tells scripts s = AreOwn view tells scripts s.shelves.items s.tickets
 
--- what was own goes on to be
+-- shelves and tickets that were this program's own are so still
 abbrev pub KeepsOwn : {D : Type 0} → (D → View) → Bool → Setup → (old new : Staff D) → Type 0
 KeepsOwn view tells setup old new = IsOwn view tells (scripts_of setup) old → IsOwn view tells (scripts_of setup) new
 
@@ -136,7 +137,7 @@ KeepsOwn view tells setup old new = IsOwn view tells (scripts_of setup) old → 
 abbrev pub total : (rack disks : ℕ) → ℕ
 total rack disks = min (rack + disks) (2 ^ 64 - 1)
 
--- whatever the count of a rack is, it rose with these of disks; or it did not fall
+-- beside a rack of any count of faults the whole count rose, with these counts of the disks before and now
 abbrev pub RoseBeside : (before now : ℕ) → Type 0
 RoseBeside before now = (rack : ℕ) → Rose (total rack before) (total rack now)
 
@@ -145,27 +146,28 @@ pub record IsHome {D : Type 0} (shelves : List (Shelf D Counting)) (out : ℕ �
   pub ours : (k n : ℕ) → slice_get (numbers_in shelves) k ≡ Some n → out n ≡ true
   pub only : (n : ℕ) → out n ≡ true → (k : ℕ) × (slice_get (numbers_in shelves) k ≡ Some n)
 
--- a staff's step may have failed by what rose so
+-- beside a rack of any count of faults the whole count rose, by the disks of a staff's shelves
 abbrev pub RisesBy : {D : Type 0} → (D → View) → (old new : Staff D) → Type 0
 RisesBy view old new = RoseBeside (faults_in view old.shelves.items) (faults_in view new.shelves.items)
 
--- a worker's take of a target is the desk's
+-- a worker's take of a target does what the desk's does
 abbrev pub TakesTicket : {D : Type 0} → (D → View) → Setup → (old : Staff D) → (worker : ℕ) → (target : List ℕ) → Result ℕ Reply
     → (new : Staff D) → Type 0
 TakesTicket view setup old worker target result new =
     Takes desk_rules (RisesBy view old new) (desk_of setup old) worker target result (desk_of setup new)
 
--- so is a publish of what a worker holds, of own shelves; and a sweep of a shelf
+-- a publish of what a worker holds, of own shelves, does what the desk's does
 abbrev pub PublishesTicket : {D : Type 0} → (D → View) → Bool → Setup → (old : Staff D) → (worker : ℕ) → Reply → (new : Staff D) → Type 0
 PublishesTicket view tells setup old worker reply new =
     IsOwn view tells (scripts_of setup) old
     → Publishes desk_rules (RisesBy view old new) (desk_of setup old) worker reply (desk_of setup new)
 
+-- a sweep of a shelf does what the desk's does
 abbrev pub SweepsShelf : {D : Type 0} → (D → View) → Setup → (old : Staff D) → (shelf tick : ℕ) → Result ℕ Reply → (new : Staff D) → Type 0
 SweepsShelf view setup old shelf tick result new =
     Sweeps desk_rules (RisesBy view old new) (desk_of setup old) shelf tick result (desk_of setup new)
 
--- the same shelves stand there, and the count of their disks' faults did not fall
+-- a staff has the same shelves as before, and the count of their disks' faults did not fall
 pub record StaysThere {D : Type 0} (view : D → View) (old new : Staff D) : Type 0 where
   pub numbers : numbers_in new.shelves.items ≡ numbers_in old.shelves.items
   pub later : faults_in view old.shelves.items ≤ faults_in view new.shelves.items

@@ -27,7 +27,7 @@ abbrev publishing : (number nonce : ℕ) → Reply → Entry
 publishing n m r = record { shelf = 0; event = event.publish (ticket n m); fate = plain; reply = r }
 
 -- A publish is of the ticket that the worker's take was given, and a path that names nothing is no event and takes no reply.
--- Nothing is read behind a line that does not fit.
+-- Nothing is read after a line that does not fit.
 pub lines_are_events :
     (rules : ℕ → Rules) (scripts : List Named)
     → reading (first_desk rules scripts 1) 1 (map Some (take 0 (codes "/servlets/s") ∷ take 1 (codes "/") ∷ publish 0 ∷ publish 0 ∷ tick 60 ∷ [])) []
@@ -64,7 +64,7 @@ pub refusals_are_events :
 unfolding transcript destination_of named_by percent_decode
 refusals_are_events rules scripts = refl
 
--- and the fate of the event behind it is not that of a path that names nothing
+-- a path that names nothing takes no fate from the event after it
 pub what_names_nothing_takes_no_fate :
     (rules : ℕ → Rules) (scripts : List Named)
     → events_of (first_desk rules scripts 1) 1 (map Some (take 0 (codes "/") ∷ take 0 (codes "/servlets/s") ∷ [])) (no_memory ∷ []) (memory ∷ [])

@@ -4,7 +4,7 @@ ghost use Rattle.journal_records.specs.Records.{IsInGrammar, begin_of};
 ghost use Rattle.shelf.specs.Ranges.{AreInRange};
 ghost use Rattle.play_desk.specs.Desk.{first_desk};
 ghost use Rattle.play_desk.specs.Staff.{HaveOwnNumbers, IsFit, IsHome, IsOwn, desk_of, faults_in, total};
-ghost use Rattle.play_desk.specs.Opening.{AreHome, CanBegin, CountStays, GivesOne, HoldImages, HoldTheBooks, IsClosedBy, IsRefusedBy, OpensNext, RackFailed, numbered, rules_at};
+ghost use Rattle.play_desk.specs.Opening.{AllStayKept, AreHome, CanBegin, CountStays, GivesOne, HoldImages, HoldTheBooks, IsClosedBy, IsRefusedBy, KeepsClosed, LeaveOthers, OpensNext, RackFailed, numbered, rules_at};
 
 use crate::desk::Desk;
 use crate::opening::{OpenCause, OpenFault, opened, put_back};
@@ -36,6 +36,7 @@ fn put_all_back<D: Disk, R: Rack<D>>(rack: &mut R, shelves: Vec<Shelf<D, Countin
     requires home { IsHome shelves.items (R.view rack.old).out }
     ensures home { AreHome (R.view rack.new).out }
     ensures images { IsTrue R.tells → HoldImages D.view shelves.items (R.view rack.new).holds }
+    ensures others { LeaveOthers shelves.items (R.view rack.old) (R.view rack.new) }
     ensures later { total (R.view rack.old).faults (faults_in D.view shelves.items)
         ≤ (R.view rack.new).faults }
 {
@@ -66,6 +67,8 @@ fn open_next<D: Disk, R: Rack<D>>(
     ensures given { OnErr result (GivesOne rules.number (R.view rack.old) (R.view rack.new)) }
     ensures why { IsTrue R.tells → IsTrue D.tells →
         IfErr result (IsRefusedBy ((R.view rack.old).holds rules.number)) }
+    ensures keeps { IsTrue R.tells → IsTrue D.tells → KeepsClosed (scripts_of setup.now) rules.number
+        ((R.view rack.old).holds rules.number) ((R.view rack.new).holds rules.number) result }
     ensures disk { IsErrOf result OpenCause.Disk → RackFailed (R.view rack.old) (R.view rack.new) }
     ensures later { OnErr result
         (CountStays (R.view rack.old).faults 0 (R.view rack.new).faults 0) }
@@ -84,7 +87,7 @@ fn open_next<D: Disk, R: Rack<D>>(
 /// workers that hold nothing. The limits are those of each shelf, but for its number.
 ///
 /// A disk that is not empty, or that fails, is told with the number of its shelf, and then all disks go
-/// back to the rack.
+/// back to the rack. Nothing was lost on any then, but on one of which a call failed.
 pub fn open_desk<'s, D: Disk, R: Rack<D>>(
     alloc: Global,
     rack: &mut R,
@@ -108,6 +111,9 @@ pub fn open_desk<'s, D: Disk, R: Rack<D>>(
     ensures home { IfOk result (λ d. IsHome d.staff.shelves.items (R.view rack.new).out) }
     ensures closed { IsTrue R.tells → IsTrue D.tells →
         IfErr result (λ e. IsClosedBy (R.view rack.old).holds rules.shelves e.shelf e.why) }
+    ensures keeps { IsTrue R.tells → IsTrue D.tells →
+        IfErr result (λ e. AllStayKept (scripts_of setup.now)
+        (R.view rack.old).holds (R.view rack.new).holds e.shelf e.why) }
     ensures all_home { IfErr result (λ e. AreHome (R.view rack.new).out) }
     ensures disk { IsErrAnd result (λ e. e.why ≡ OpenCause.Disk) →
         RackFailed (R.view rack.old) (R.view rack.new) }

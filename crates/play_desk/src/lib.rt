@@ -1,4 +1,4 @@
-//! The stage of a run of steps: shelves on the disks of a rack, and the tickets of sixteen workers.
+//! The stage of `play`, which is shelves on the disks of a rack and the tickets of sixteen workers: for the command.
 #![tactic(auto)]
 
 ghost use Rattle.play_desk.specs.Laws.{TranscriptsAreRuns};

@@ -3,7 +3,7 @@ ghost use Rattle.script_nodes.specs.Views.{scripts_of};
 ghost use Rattle.journal_records.specs.Records.{IsInGrammar, begin_of};
 ghost use Rattle.web_disk.specs.View.{AreAmong};
 ghost use Rattle.shelf.specs.Ranges.{AreInRange};
-ghost use Rattle.play_desk.specs.Opening.{BeginsEmpty, CountRose, CountStays, Finds, GivesOne, HasCrashed, IsNeverDamaged, IsNeverOther, IsOutside, OpensEmpty, OpensOne, RackFailed, TakesEmpty, TakesOrLeaves, cause_of, disk_faults, faults_left, reopen_of};
+ghost use Rattle.play_desk.specs.Opening.{BeginsEmpty, CountRose, CountStays, Finds, GivesOne, GivesUnread, HasCrashed, IsNeverDamaged, IsNeverOther, IsOutside, KeepsBegun, KeepsOpened, OpensEmpty, OpensOne, RackFailed, TakesEmpty, TakesOrLeaves, cause_of, disk_faults, faults_left, reopen_of};
 ghost use Rattle.play_desk.specs.Staff.{IsServed};
 ghost use Rattle.shelf.specs.Owning.{IsOwnImage};
 ghost use Rattle.shelf.specs.Views.{IsOwnShelf};
@@ -25,7 +25,7 @@ pub enum OpenCause {
     Disk,
     /// What stands at this place of its journal is no record.
     Damaged { place: u64 },
-    /// The record at this place is that of another setup, another shelf or another program.
+    /// The record at this place is that of another shelf or of other scripts.
     Other { place: u64 },
     /// There was no memory.
     Memory,
@@ -108,6 +108,9 @@ fn begun<D: Disk, R: Rack<D>>(
     ensures own { IsTrue D.tells →
         IsOwnImage (scripts_of setup.now) rules.number (D.view disk).seen →
         IfOk result (IsOwnShelf D.view D.tells (scripts_of setup.now)) }
+    ensures keeps { IsTrue R.tells → IsTrue D.tells → (R.view rack.old).out rules.number ≡ true →
+        KeepsBegun D.view (scripts_of setup.now) rules.number
+        (D.view disk) (R.view rack.new).holds result }
     ensures kept { OnOk result (rack.new ≡ rack.old) }
     ensures given { OnErr result (GivesOne rules.number (R.view rack.old) (R.view rack.new)) }
     ensures disk { IsErrOf result Reopen.Disk →
@@ -188,6 +191,8 @@ fn taken_empty<D: Disk, R: Rack<D>>(
     requires { (R.view rack.old).out number ≡ false }
     ensures empty { IsTrue R.tells → IsTrue D.tells →
         TakesEmpty D.view ((R.view rack.old).holds number) result }
+    ensures images { IsTrue R.tells → GivesUnread D.view
+        ((R.view rack.old).holds number) ((R.view rack.new).holds number) result }
     ensures rack { OpensOne number result (R.view rack.old) (R.view rack.new) }
     ensures disk { IsErrOf result OpenCause.Disk → RackFailed (R.view rack.old) (R.view rack.new) }
     ensures later { CountStays (R.view rack.old).faults 0
@@ -229,6 +234,9 @@ pub fn opened<D: Disk, R: Rack<D>>(
         OpensEmpty (scripts_of setup.now) rules ((R.view rack.old).holds rules.number) result }
     ensures own { IsTrue R.tells → IsTrue D.tells →
         IfOk result (IsOwnShelf D.view D.tells (scripts_of setup.now)) }
+    ensures keeps { IsTrue R.tells → IsTrue D.tells →
+        KeepsOpened D.view (scripts_of setup.now) rules.number
+        ((R.view rack.old).holds rules.number) (R.view rack.new).holds result }
     ensures rack { OpensOne rules.number result (R.view rack.old) (R.view rack.new) }
     ensures disk { IsErrOf result OpenCause.Disk → RackFailed (R.view rack.old) (R.view rack.new) }
     ensures later { CountStays (R.view rack.old).faults 0

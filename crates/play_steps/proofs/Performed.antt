@@ -1,5 +1,5 @@
 -- The steps of a worker, by their calls.
-use Rattle.std.proofs.Common.{◌≡◌, ◌≤◌, inl, inr, ℕ, List, [], ◌∷◌, ◌++◌, append_assoc, Bool, true, false, ◌||◌, Result, Ok, Err, Vec, ap, sym, ◌∙◌, refl, subst, MatchResult, IfOk, IsTrue, Some}
+use Rattle.std.proofs.Common.{◌≡◌, ◌≤◌, inl, inr, ℕ, List, [], ◌∷◌, ◌++◌, append_assoc, Bool, true, false, Result, Ok, Err, Vec, ap, sym, ◌∙◌, refl, subst, MatchResult, IfOk, IsErrOf, IsTrue, Some, arith}
 use Rattle.std.specs.declared.alloc.Global.{Global}
 use Rattle.web_outside.specs.Causes.{Rose}
 use Rattle.script_value.specs.declared.outcome.Reply.{Reply}
@@ -14,7 +14,7 @@ use Rattle.play_steps.specs.declared.stage.Reopen.{Reopen}
 use Rattle.play_steps.specs.declared.stage.Reopen.TheVariants as reopen
 use Rattle.play_steps.specs.declared.performing.Halt.{Halt}
 use Rattle.play_steps.specs.declared.performing.Halt.TheVariants as halt
-use Rattle.play_steps.proofs.Risings.{rises_then}
+use Rattle.play_steps.proofs.Risings.{rises_once, rises_then}
 
 -- the fates that a call uses, and what stands behind it
 pub record Called (r : StageRules) {A : Type 0} (call : Call r.State r.Fate A) (s : Spot r) (result : A) (t : Spot r) : Type 0 where
@@ -23,21 +23,17 @@ pub record Called (r : StageRules) {A : Type 0} (call : Call r.State r.Fate A) (
       → called r call s.state (fates ++ later) next ≡ next result t.state later
   pub risen : HasRisen r fates s.faults t.faults
 
-only_fate : (b : Bool) → (b || false) ≡ true → b ≡ true
-only_fate true e = refl
-only_fate false e = e
-
 pub comes_called : (r : StageRules) {A : Type 0} (call : Call r.State r.Fate A) (s t : Spot r) (rose : Type 0) (result : A)
     → Comes r.fails rose call s.state result t.state → s.faults ≤ t.faults → (rose → Rose s.faults t.faults) → Called r call s result t
 comes_called r (answered a) s t rose result h le up = record {
   fates = [];
   is = λ next later. ap (λ x. next x s.state later) h.0 ∙ ap (λ x. next result x later) (sym h.1);
-  risen = record { later = le; fails = λ none. let no : ⊥ = cc in absurd no };
+  risen = record { later = le; fails = omega (arith, le) };
 }
 comes_called r {A = A} (event by) s t rose result h le up = record {
   fates = h.0 ∷ [];
   is = λ next later. ap (λ (x : A × r.State). next x.0 x.1 later) h.1;
-  risen = record { later = le; fails = λ some. up (h.2 (only_fate (r.fails h.0) some)) };
+  risen = rises_once r h.0 s.faults t.faults le (λ fails. up (h.2 fails));
 }
 
 pub took : (r : StageRules) (s t : Spot r) (worker : ℕ) (target : List ℕ) (result : Result ℕ Reply)
@@ -90,15 +86,15 @@ told_crash false step shelf is known =
 -- a shelf that crashed was opened again or not
 pub crash_performs : (r : StageRules) (s t : Spot r) (shelf : ℕ) (opened : Result ℕ Reopen) (result : Result (Vec Report Global) Halt)
     → TellsCrash shelf opened result → IfOk opened (λ live. Crashes r (Rose s.faults t.faults) s.state shelf live t.state)
-    → s.faults ≤ t.faults → Performs r (crash shelf) result s t
-crash_performs r s t shelf (Ok live) result told comes le =
+    → (IsErrOf opened reopen.Disk → Rose s.faults t.faults) → s.faults ≤ t.faults → Performs r (crash shelf) result s t
+crash_performs r s t shelf (Ok live) result told comes rose le =
     tells r s t (crash shelf) _ result told
-    (crashed r s t shelf live (comes_called r (r.crash s.state shelf) s t (Rose s.faults t.faults) live comes le (λ rose. rose)))
-crash_performs r s t shelf (Err reopen.Memory) result told comes le =
-    subst (λ (x : Result (Vec Report Global) Halt). Performs r (crash shelf) x s t) (sym told) (inr (shelf, refl))
-crash_performs r s t shelf (Err reopen.Disk) result told comes le =
-    subst (λ (x : Result (Vec Report Global) Halt). Performs r (crash shelf) x s t) (sym told) refl
-crash_performs r s t shelf (Err (reopen.Damaged place)) result told comes le =
-    subst (λ (x : Result (Vec Report Global) Halt). Performs r (crash shelf) x s t) (sym told) refl
-crash_performs r s t shelf (Err (reopen.Other place)) result told comes le =
-    subst (λ (x : Result (Vec Report Global) Halt). Performs r (crash shelf) x s t) (sym told) refl
+    (crashed r s t shelf live (comes_called r (r.crash s.state shelf) s t (Rose s.faults t.faults) live comes le (λ up. up)))
+crash_performs r s t shelf (Err reopen.Memory) result told comes rose le =
+    subst (λ (x : Result (Vec Report Global) Halt). Performs r (crash shelf) x s t) (sym told) (inr (shelf, (refl, le)))
+crash_performs r s t shelf (Err reopen.Disk) result told comes rose le =
+    subst (λ (x : Result (Vec Report Global) Halt). Performs r (crash shelf) x s t) (sym told) ((refl, le), rose refl)
+crash_performs r s t shelf (Err (reopen.Damaged place)) result told comes rose le =
+    subst (λ (x : Result (Vec Report Global) Halt). Performs r (crash shelf) x s t) (sym told) (refl, le)
+crash_performs r s t shelf (Err (reopen.Other place)) result told comes rose le =
+    subst (λ (x : Result (Vec Report Global) Halt). Performs r (crash shelf) x s t) (sym told) (refl, le)

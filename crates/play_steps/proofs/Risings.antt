@@ -1,27 +1,34 @@
 -- The count of faults over the events of steps.
-use Rattle.std.proofs.Common.{◌≡◌, ◌⊎◌, ⊎_elim, inl, inr, ℕ, List, [], ◌∷◌, ◌++◌, Bool, true, false, ◌||◌, refl, arith}
-use Rattle.std.specs.List.{list_any}
+use Rattle.std.proofs.Common.{◌≡◌, ◌≤◌, ◌+◌, ℕ, List, [], ◌∷◌, ◌++◌, Bool, true, false, cond, refl, arith}
+use Rattle.std.specs.Prelude.{count_by}
+use Rattle.std.proofs.lemmas.List.Sums.{sum_by-append, sum_by-cons}
+use Rattle.web_outside.specs.Causes.{Rose}
 use Rattle.play_steps.specs.Rules.{StageRules}
-use Rattle.play_steps.specs.Played.{HasRisen}
+use Rattle.play_steps.specs.Played.{HasRisen, RoseBy}
 
--- what holds of some of two lists holds of some of one of them
-some_of : {A : Type 0} (p : A → Bool) (xs ys : List A) → list_any p (xs ++ ys) ≡ true → (list_any p xs ≡ true) ⊎ (list_any p ys ≡ true)
-some_of p [] ys h = inr h
-some_of p (x ∷ xs) ys h = by_head (some_of p xs ys) (p x) h
-  where
-    by_head : (list_any p (xs ++ ys) ≡ true → (list_any p xs ≡ true) ⊎ (list_any p ys ≡ true))
-        → (b : Bool) → (b || list_any p (xs ++ ys)) ≡ true → ((b || list_any p xs) ≡ true) ⊎ (list_any p ys ≡ true)
-    by_head rest true k = inl refl
-    by_head rest false k = rest k
+-- how many there are in two lists
+count_both : {A : Type 0} (p : A → Bool) (xs ys : List A) → count_by p (xs ++ ys) ≡ count_by p xs + count_by p ys
+count_both p xs ys = sum_by-append (λ x. cond (p x) 1 0) xs ys
+
+count_one : {A : Type 0} (p : A → Bool) (x : A) → count_by p (x ∷ []) ≡ cond (p x) 1 0
+count_one p x = (let one = sum_by-cons (λ y. cond (p y) 1 0) x [] in omega (arith, one))
 
 -- no event
 pub stays_risen : (r : StageRules) (faults : ℕ) → HasRisen r [] faults faults
-stays_risen r faults = record { later = omega arith; fails = λ none. let no : ⊥ = cc in absurd no }
+stays_risen r faults = record { later = omega arith; fails = omega arith }
+
+-- one event, which failed only where the count rose
+pub rises_once : (r : StageRules) (fate : r.Fate) (before now : ℕ) → before ≤ now → (r.fails fate ≡ true → Rose before now)
+    → HasRisen r (fate ∷ []) before now
+rises_once r fate before now le rose = record { later = le; fails = by_fate (r.fails fate) (count_one r.fails fate) rose }
+  where
+    by_fate : (b : Bool) → count_by r.fails (fate ∷ []) ≡ cond b 1 0 → (b ≡ true → Rose before now) → RoseBy (count_by r.fails (fate ∷ [])) before now
+    by_fate true is up = (let once = up refl in omega (arith, is, once))
+    by_fate false is up = omega (arith, is, le)
 
 -- events, and then others
 pub rises_then : (r : StageRules) (one two : List r.Fate) (a b c : ℕ) → HasRisen r one a b → HasRisen r two b c → HasRisen r (one ++ two) a c
 rises_then r one two a b c h k = record {
   later = omega (arith, h.later, k.later);
-  fails = λ some.
-      ⊎_elim (λ x. omega (arith, h.later, k.later, h.fails x)) (λ y. omega (arith, h.later, k.later, k.fails y)) (some_of r.fails one two some);
+  fails = (let both = count_both r.fails one two in omega (arith, both, h.fails, k.fails));
 }

@@ -1,5 +1,5 @@
 -- A run, step after step.
-use Rattle.std.proofs.Common.{◌≡◌, ◌+◌, ◌++◌, ℕ, List, [], ◌∷◌, Option, Some, None, true, false, if◌then◌else◌, append_assoc, append-nil, Bool, ⊎_elim, inl, inr, sym, ap, ◌∙◌, refl, subst}
+use Rattle.std.proofs.Common.{◌≡◌, ◌≤◌, ◌+◌, ◌++◌, ℕ, List, [], ◌∷◌, Option, Some, None, true, false, if◌then◌else◌, append_assoc, append-nil, Bool, ⊎_elim, inl, inr, sym, ap, ◌∙◌, refl, subst}
 use Rattle.std.specs.Io.KnownBytes.{Appends}
 use Rattle.web_outside.specs.Pieces.{AppendsPart}
 use Rattle.web_outside.proofs.Writes.{appends_none, appends_then, longer_part, whole_part}
@@ -7,7 +7,7 @@ use Rattle.play_steps.specs.Rules.{StageRules}
 use Rattle.play_steps.specs.Step.{Step, take, publish, get, tick, crash, is_told, lines_in}
 use Rattle.play_steps.specs.Texts.{report_text, print}
 use Rattle.play_steps.specs.Transcript.{Run, went, stopped, behind, goes_on, done, bad_line, transcript, fits, performed, text_of}
-use Rattle.play_steps.specs.Played.{Scene, Spot, HasRisen, Goes, Plays, Halts, Loses, HaltsBy, Leaves, end_of}
+use Rattle.play_steps.specs.Played.{Scene, Spot, HasRisen, Crashed, Goes, Plays, Halts, Loses, HaltsBy, Leaves, end_of}
 use Rattle.play_steps.specs.declared.report.Report.{Report}
 use Rattle.play_steps.specs.declared.stage.Reopen.TheVariants as reopen
 use Rattle.play_steps.specs.declared.performing.Halt.{Halt}
@@ -169,6 +169,27 @@ so_far r all start here number left reached =
     ∙ reached.is [] [] ∙ ap (behind r reached.told) (over r here.spot.state number [])
     ∙ alone r reached.told (went r [] here.spot.state []) refl
 
+-- the steps so far alone, whatever fates stand behind theirs
+pub front_only : (r : StageRules) (all : List (Option Step)) (start here : Scene r) (number : ℕ) (left : List (Option Step))
+    (reached : Reached r all start here number left) (later : List r.Fate)
+    → transcript r start.spot.state 1 reached.front (reached.fates ++ later) ≡ went r reached.told here.spot.state later
+front_only r all start here number left reached later =
+    ap (λ steps. transcript r start.spot.state 1 steps (reached.fates ++ later)) (sym (append-nil reached.front))
+    ∙ reached.is [] later ∙ ap (behind r reached.told) (over r here.spot.state number later)
+    ∙ alone r reached.told (went r [] here.spot.state later) refl
+
+-- and with one more
+pub with_next : (r : StageRules) (all : List (Option Step)) (start here : Scene r) (t : Spot r) (number : ℕ) (step : Step)
+    (left : List (Option Step)) (told : List Report) (g : Goes r step told here.spot t)
+    (reached : Reached r all start here number (Some step ∷ left))
+    → transcript r start.spot.state 1 (reached.front ++ Some step ∷ []) (reached.fates ++ g.came.fates) ≡ went r (reached.told ++ told) t.state []
+with_next r all start here t number step left told g reached =
+    none_more r start.spot.state (reached.front ++ Some step ∷ []) (reached.fates ++ g.came.fates)
+    ∙ ap (λ steps. transcript r start.spot.state 1 steps ((reached.fates ++ g.came.fates) ++ [])) (sym (append-nil (reached.front ++ Some step ∷ [])))
+    ∙ more r all start here t number step left told g reached [] []
+    ∙ ap (behind r (reached.told ++ told)) (over r t.state (number + lines_in step) [])
+    ∙ alone r (reached.told ++ told) (went r [] t.state []) refl
+
 -- the transcript of all begins with the text of the steps so far and of the next
 pub begins : (r : StageRules) (all : List (Option Step)) (start here : Scene r) (t : Spot r) (number : ℕ) (step : Step)
     (left : List (Option Step)) (told : List Report) (g : Goes r step told here.spot t)
@@ -205,11 +226,12 @@ halted r all start here there number step left told g reached shown hidden split
       fates = reached.fates;
       told = reached.told;
       middle = here.spot;
-      is = so_far r all start here number (Some step ∷ left) reached;
-      risen = reached.risen;
+      is = front_only r all start here number (Some step ∷ left) reached;
       fitting = g.fitting;
       last = told;
       came = g.came;
+      reached = with_next r all start here there.spot number step left told g reached;
+      risen = rises_then r reached.fates g.came.fates start.spot.faults here.spot.faults there.spot.faults reached.risen g.came.risen;
       hidden = hidden;
       split = split;
       written = whole;
@@ -223,9 +245,9 @@ halted r all start here there number step left told g reached shown hidden split
 
 -- the run lost a shelf, which crashed
 pub lost : (r : StageRules) (all : List (Option Step)) (start here there : Scene r) (number shelf : ℕ) (left : List (Option Step))
-    → fits r (crash shelf) here.spot.state ≡ true → Reached r all start here number (Some (crash shelf) ∷ left)
-    → there.written ≡ here.written → Loses r all shelf start there
-lost r all start here there number shelf left fitting reached same = record {
+    → fits r (crash shelf) here.spot.state ≡ true → here.spot.faults ≤ there.spot.faults
+    → Reached r all start here number (Some (crash shelf) ∷ left) → there.written ≡ here.written → Loses r all shelf start there
+lost r all start here there number shelf left fitting later reached same = record {
   front = reached.front;
   rest = left;
   cut = reached.cut;
@@ -234,21 +256,23 @@ lost r all start here there number shelf left fitting reached same = record {
   middle = here.spot;
   is = so_far r all start here number (Some (crash shelf) ∷ left) reached;
   risen = reached.risen;
+  later = later;
   fitting = fitting;
   written = subst (λ w. Appends start.written w (print reached.told)) (sym same) reached.written;
 }
 
 lost_at : (r : StageRules) (all : List (Option Step)) (start here there : Scene r) (number : ℕ) (step : Step) (shelf : ℕ)
-    (left : List (Option Step)) → step ≡ crash shelf → fits r step here.spot.state ≡ true
+    (left : List (Option Step)) → Crashed r step shelf here.spot there.spot → fits r step here.spot.state ≡ true
     → Reached r all start here number (Some step ∷ left) → there.written ≡ here.written → Loses r all shelf start there
 lost_at r all start here there number step shelf left is fitting reached same =
-    lost r all start here there number shelf left (ap (λ (x : Step). fits r x here.spot.state) (sym is) ∙ fitting)
-    (subst (λ (x : Step). Reached r all start here number (Some x ∷ left)) is reached) same
+    lost r all start here there number shelf left (ap (λ (x : Step). fits r x here.spot.state) (sym is.0) ∙ fitting) is.1
+    (subst (λ (x : Step). Reached r all start here number (Some x ∷ left)) is.0 reached) same
 
 -- the run halted at a step, of which nothing was told
 pub stops : (r : StageRules) (all : List (Option Step)) (start here there : Scene r) (number : ℕ) (step : Step)
     (left : List (Option Step)) (why : Halt) → fits r step here.spot.state ≡ true → HaltsBy r step why here.spot there.spot
     → there.written ≡ here.written → Reached r all start here number (Some step ∷ left) → Leaves r all (end_of why) start there
+unfolding lost lost_at
 stops r all start here there number step left halt.Memory fitting halts same reached =
     ⊎_elim
     (λ tells.
@@ -257,7 +281,7 @@ stops r all start here there number step left halt.Memory fitting halts same rea
     (λ crashes. inr (crashes.0, lost_at r all start here there number step crashes.0 left crashes.1 fitting reached same)) halts
 stops r all start here there number step left (halt.Reopen shelf reopen.Memory) fitting halts same reached = absurd halts
 stops r all start here there number step left (halt.Reopen shelf reopen.Disk) fitting halts same reached =
-    lost_at r all start here there number step shelf left halts fitting reached same
+    record { loses = lost_at r all start here there number step shelf left halts.0 fitting reached same; rose = halts.1 }
 stops r all start here there number step left (halt.Reopen shelf (reopen.Damaged place)) fitting halts same reached =
     lost_at r all start here there number step shelf left halts fitting reached same
 stops r all start here there number step left (halt.Reopen shelf (reopen.Other place)) fitting halts same reached =

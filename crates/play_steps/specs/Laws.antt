@@ -13,7 +13,7 @@ RepliesGoOn r =
     transcript r s number (steps ++ more) fates
     ≡ goes_on r first.end first (transcript r first.state (number + lines_before steps) more first.fates)
 
--- lines are steps exactly where they are these steps' lines
+-- bytes are read as these steps alone exactly where they are the lines that spell them, and the steps are in their ranges
 abbrev pub LinesAreSteps : Type 0
 LinesAreSteps =
     (steps : List Step)

@@ -1,6 +1,5 @@
 -- What a run of steps leaves behind.
-use Rattle.std.specs.Prelude.{[], ◌≡◌, ◌⊎◌, ◌<◌, ◌≤◌, ℕ, length, List, ◌∷◌, ◌++◌, Option, Some, true, false, IfOk, IsOkAnd, MatchResult, Result, Ok, Err, Vec}
-use Rattle.std.specs.List.{list_any}
+use Rattle.std.specs.Prelude.{[], ◌≡◌, ◌⊎◌, ◌<◌, ◌≤◌, ◌+◌, ◌-◌, ◌^◌, ℕ, min, count_by, length, List, ◌∷◌, ◌++◌, Option, Some, true, false, IfOk, IsOkAnd, MatchResult, Result, Ok, Err, Vec}
 use Rattle.std.specs.declared.alloc.Global.{Global}
 use Rattle.std.specs.Io.KnownBytes.{Appends}
 use Rattle.web_outside.specs.Causes.{Rose}
@@ -36,12 +35,16 @@ pub record Scene (r : StageRules) : Type 0 where
 abbrev pub scene : (r : StageRules) → Option (List ℕ) → r.State → ℕ → Scene r
 scene r written s faults = record { written = written; spot = spot r s faults }
 
--- the count of faults did not fall, and it rose where one of these fates fails
+-- a count rose by at least so many, or stands at the type's end
+abbrev pub RoseBy : (count before now : ℕ) → Type 0
+RoseBy count before now = min (before + count) (2 ^ 64 - 1) ≤ now
+
+-- the count of faults did not fall, and it rose by one at least for each of these fates that fails
 pub record HasRisen (r : StageRules) (fates : List r.Fate) (before now : ℕ) : Type 0 where
   pub later : before ≤ now
-  pub fails : list_any r.fails fates ≡ true → Rose before now
+  pub fails : RoseBy (count_by r.fails fates) before now
 
--- a step tells this and leaves this state, for some fates of its events: for these and no more, whatever fates stand behind them
+-- a step tells this and leaves this state, for some fates of its events: for these and no more, whatever fates follow them
 pub record Came (r : StageRules) (s : Spot r) (step : Step) (told : List Report) (t : Spot r) : Type 0 where
   pub fates : List r.Fate
   pub is : (later : List r.Fate) → performed r step s.state (fates ++ later) ≡ went r told t.state later
@@ -51,23 +54,28 @@ pub record Came (r : StageRules) (s : Spot r) (step : Step) (told : List Report)
 abbrev pub Lengthens : {A E : Type 0} → Result (Vec A Global) E → List A → Result (Vec A Global) E → Type 0
 Lengthens list more longer = IfOk longer (λ whole. IsOkAnd list (λ front. whole.items ≡ front.items ++ more))
 
--- a step was performed, and told this
+-- a step was performed, whatever it told
 abbrev pub Tells : (r : StageRules) → Step → Spot r → Spot r → Type 0
 Tells r step s t = (told : List Report) × Came r s step told t
+
+-- the step was a crash of this shelf, which was not opened again
+abbrev pub Crashed : (r : StageRules) → Step → (shelf : ℕ) → Spot r → Spot r → Type 0
+Crashed r step shelf s t = (step ≡ crash shelf) × (s.faults ≤ t.faults)
 
 -- Why a step was not told: there was no memory for that, or none to open a shelf again that crashed, or another cause not to open
 -- it.
 abbrev pub HaltsBy : (r : StageRules) → Step → Halt → Spot r → Spot r → Type 0
-HaltsBy r step halt.Memory s t = Tells r step s t ⊎ ((shelf : ℕ) × (step ≡ crash shelf))
+HaltsBy r step halt.Memory s t = Tells r step s t ⊎ ((shelf : ℕ) × Crashed r step shelf s t)
 HaltsBy r step (halt.Reopen shelf reopen.Memory) s t = ⊥
-HaltsBy r step (halt.Reopen shelf _) s t = step ≡ crash shelf
+HaltsBy r step (halt.Reopen shelf reopen.Disk) s t = Crashed r step shelf s t × Rose s.faults t.faults
+HaltsBy r step (halt.Reopen shelf _) s t = Crashed r step shelf s t
 
--- a step was performed so, and this is what it told, or why it told nothing
+-- what came of performing a step: it told these reports, or this is why it told nothing
 abbrev pub Performs : (r : StageRules) → Step → Result (Vec Report Global) Halt → Spot r → Spot r → Type 0
 Performs r step (Ok reports) s t = Came r s step reports.items t
 Performs r step (Err halt) s t = HaltsBy r step halt s t
 
--- this alone was told, or there was no memory for it
+-- this report alone was told, or there was no memory for it
 abbrev pub TellsOne : Report → Result (Vec Report Global) Halt → Type 0
 TellsOne report result = MatchResult result (λ reports. reports.items ≡ report ∷ []) (λ why. why ≡ halt.Memory)
 
@@ -77,7 +85,7 @@ TellsCrash shelf (Ok live) result = TellsOne (Reopened shelf live) result
 TellsCrash shelf (Err reopen.Memory) result = result ≡ Err halt.Memory
 TellsCrash shelf (Err why) result = result ≡ Err (halt.Reopen shelf why)
 
--- the sweeps of a tick are performed so, and this is what they told, or there was no memory for that
+-- what came of the sweeps of a tick: they are performed, and this is what they told, or there was no memory for that
 pub record SweepsAll {E : Type 0} (r : StageRules) (step : Step) (result : Result (Vec Report Global) E) (s t : Spot r) : Type 0 where
   pub told : List Report
   pub came : Came r s step told t
@@ -101,11 +109,12 @@ pub record Halts (r : StageRules) (steps : List (Option Step)) (shown : List ℕ
   pub fates : List r.Fate
   pub told : List Report
   pub middle : Spot r
-  pub is : transcript r before.spot.state 1 front fates ≡ went r told middle.state []
-  pub risen : HasRisen r fates before.spot.faults middle.faults
+  pub is : (later : List r.Fate) → transcript r before.spot.state 1 front (fates ++ later) ≡ went r told middle.state later
   pub fitting : fits r step middle.state ≡ true
   pub last : List Report
   pub came : Came r middle step last after.spot
+  pub reached : transcript r before.spot.state 1 (front ++ Some step ∷ []) (fates ++ came.fates) ≡ went r (told ++ last) after.spot.state []
+  pub risen : HasRisen r (fates ++ came.fates) before.spot.faults after.spot.faults
   pub hidden : List ℕ
   pub split : print last ≡ shown ++ hidden
   pub written : Appends before.written after.written (print told ++ shown)
@@ -124,8 +133,14 @@ pub record Loses (r : StageRules) (steps : List (Option Step)) (shelf : ℕ) (be
   pub middle : Spot r
   pub is : transcript r before.spot.state 1 front fates ≡ went r told middle.state []
   pub risen : HasRisen r fates before.spot.faults middle.faults
+  pub later : middle.faults ≤ after.spot.faults
   pub fitting : fits r (crash shelf) middle.state ≡ true
   pub written : Appends before.written after.written (print told)
+
+-- the run lost this shelf at a crash of it, as its disk failed, or a call for it
+pub record LosesDisk (r : StageRules) (steps : List (Option Step)) (shelf : ℕ) (before after : Scene r) : Type 0 where
+  pub loses : Loses r steps shelf before after
+  pub rose : Rose loses.middle.faults after.spot.faults
 
 -- what a run of steps leaves, by its end; where a text could not be written, some of it is missing
 abbrev pub Leaves : (r : StageRules) → List (Option Step) → PlayEnd → Scene r → Scene r → Type 0
@@ -134,14 +149,15 @@ Leaves r steps (Line number) before after = Plays r steps (bad_line number) befo
 Leaves r steps Write before after = (shown : List ℕ) × (h : Halts r steps shown before after) × (0 < length h.hidden)
 Leaves r steps Memory before after = Halts r steps [] before after ⊎ ((shelf : ℕ) × Loses r steps shelf before after)
 Leaves r steps (Lost shelf reopen.Memory) before after = ⊥
+Leaves r steps (Lost shelf reopen.Disk) before after = LosesDisk r steps shelf before after
 Leaves r steps (Lost shelf _) before after = Loses r steps shelf before after
 
--- the end of a run that halts so
+-- the end of a run that halts for this cause
 abbrev pub end_of : Halt → PlayEnd
 end_of halt.Memory = Memory
 end_of (halt.Reopen shelf why) = Lost shelf why
 
--- the step fits, and is performed so
+-- the step fits, tells this and leaves this state
 pub record Goes (r : StageRules) (step : Step) (told : List Report) (s t : Spot r) : Type 0 where
   pub fitting : fits r step s.state ≡ true
   pub came : Came r s step told t

@@ -4,13 +4,13 @@ use Rattle.web_outside.specs.Causes.{Rose}
 use Rattle.script_value.specs.declared.outcome.Reply.{Reply}
 
 -- What a call comes to: an answer that is no event and changes nothing, or an event, whose fate decides its answer and the state
--- behind it. A fate is what the outside decides of an event.
+-- after it. A fate is what the outside decides of an event.
 pub data Call (State Fate Answer : Type 0) : Type 0 where
   answered : (answer : Answer) → Call State Fate Answer
   event : (by : Fate → Answer × State) → Call State Fate Answer
 
--- What each call comes to. Most fates are plain; a fate that fails is that of an event at which a device failed. A crash answers how
--- many instances are live behind it.
+-- What each call of a stage comes to. Most fates are plain; a fate that fails is that of an event at which a device failed. A crash
+-- answers how many instances are live after it.
 pub record StageRules : Type 1 where
   pub State : Type 0
   pub Fate : Type 0
@@ -30,19 +30,19 @@ Comes fails rose (answered a) old result new = (a ≡ result) × (new ≡ old)
 Comes {Fate = Fate} fails rose (event by) old result new =
     (fate : Fate) × (by fate ≡ (result, new)) × (fails fate ≡ true → rose)
 
--- so does a worker's take of a target
+-- a worker's take of a target answers this and leaves this state
 abbrev pub Takes : (r : StageRules) → (rose : Type 0) → r.State → (worker : ℕ) → (target : List ℕ) → Result ℕ Reply → r.State → Type 0
 Takes r rose old worker target result new = Comes r.fails rose (r.take old worker target) old result new
 
--- a worker's publish
+-- a worker's publish answers this and leaves this state
 abbrev pub Publishes : (r : StageRules) → (rose : Type 0) → r.State → (worker : ℕ) → Reply → r.State → Type 0
 Publishes r rose old worker reply new = Comes r.fails rose (r.publish old worker) old reply new
 
--- a sweep of a shelf
+-- a sweep of a shelf answers this and leaves this state
 abbrev pub Sweeps : (r : StageRules) → (rose : Type 0) → r.State → (shelf tick : ℕ) → Result ℕ Reply → r.State → Type 0
 Sweeps r rose old shelf tick result new = Comes r.fails rose (r.sweep old shelf tick) old result new
 
--- and a crash of a shelf
+-- a crash of a shelf leaves so many live instances and this state
 abbrev pub Crashes : (r : StageRules) → (rose : Type 0) → r.State → (shelf live : ℕ) → r.State → Type 0
 Crashes r rose old shelf live new = Comes r.fails rose (r.crash old shelf) old live new
 
@@ -50,7 +50,7 @@ Crashes r rose old shelf live new = Comes r.fails rose (r.crash old shelf) old l
 abbrev pub RoseOver : {Devices : Type 0} → (before now : Devices → ℕ) → Type 0
 RoseOver {Devices = Devices} before now = (devices : Devices) → Rose (before devices) (now devices)
 
--- over any devices it did not fall
+-- over any devices the count of faults did not fall
 abbrev pub StaysUp : {Devices : Type 0} → (before now : Devices → ℕ) → Type 0
 StaysUp {Devices = Devices} before now = (devices : Devices) → before devices ≤ now devices
 

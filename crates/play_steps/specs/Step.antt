@@ -11,11 +11,11 @@ pub data Step : Type 0 where
   tick : (time : ℕ) → Step
   crash : (shelf : ℕ) → Step
 
--- how many workers hold tickets
+-- how many workers there are, each of which may hold a ticket
 abbrev pub workers : ℕ
 workers = 16
 
--- a number below that, in decimal
+-- the worker that a number below 16 names, in decimal
 abbrev pub worker_of : List ℕ → Option ℕ
 worker_of digits = number_below workers digits
 
@@ -23,53 +23,53 @@ worker_of digits = number_below workers digits
 abbrev pub is_target_byte : ℕ → Bool
 is_target_byte b = nat_le 33 b && nat_le b 126
 
--- 1 or more of these
+-- a target: 1 or more bytes from `!` to `~`
 abbrev pub is_target : List ℕ → Bool
 is_target target = not (length target == 0) && list_all is_target_byte target
 
--- `W TARGET`
+-- the worker and the target that `W TARGET` spells
 unfoldable pub aim_of : List ℕ → Option (ℕ × List ℕ)
 aim_of bytes = do
   parts ← cut_at 32 bytes
   worker ← worker_of parts.0
   if is_target parts.1 then Some (worker, parts.1) else None
 
--- `take W TARGET`
+-- the step that `take W TARGET` spells
 unfoldable pub take_of : List ℕ → Option Step
 take_of line = do
   rest ← behind (codes "take ") line
   aim ← aim_of rest
   Some (take aim.0 aim.1)
 
--- `publish W`
+-- the step that `publish W` spells
 unfoldable pub publish_of : List ℕ → Option Step
 publish_of line = do
   rest ← behind (codes "publish ") line
   worker ← worker_of rest
   Some (publish worker)
 
--- `get W TARGET`
+-- the step that `get W TARGET` spells
 unfoldable pub get_of : List ℕ → Option Step
 get_of line = do
   rest ← behind (codes "get ") line
   aim ← aim_of rest
   Some (get aim.0 aim.1)
 
--- `tick T`
+-- the step that `tick T` spells
 unfoldable pub tick_of : List ℕ → Option Step
 tick_of line = do
   rest ← behind (codes "tick ") line
   time ← number_below (2 ^ 62) rest
   Some (tick time)
 
--- `crash S`
+-- the step that `crash S` spells
 unfoldable pub crash_of : List ℕ → Option Step
 crash_of line = do
   rest ← behind (codes "crash ") line
   shelf ← number_below (2 ^ 32) rest
   Some (crash shelf)
 
--- the first of them that is some
+-- the first of two options that is some
 abbrev pub first_of : Option Step → Option Step → Option Step
 first_of (Some s) o = Some s
 first_of None o = o
@@ -79,7 +79,7 @@ unfoldable pub step_of : List ℕ → Option Step
 step_of line =
     first_of (take_of line) (first_of (publish_of line) (first_of (get_of line) (first_of (tick_of line) (crash_of line))))
 
--- the step at the front, and the bytes behind its lines
+-- the step at the front of the bytes, and the bytes after its line
 unfoldable pub first_step : List ℕ → Option (Step × List ℕ)
 first_step bytes = do
   parts ← cut_at 10 bytes
@@ -94,12 +94,12 @@ lines_in (get worker target) = 1
 lines_in (tick time) = 1
 lines_in (crash shelf) = 1
 
--- how many newlines there are
+-- how many newlines the bytes have
 abbrev pub newlines : List ℕ → ℕ
 newlines [] = 0
 newlines (b ∷ bytes) = if b == 10 then suc (newlines bytes) else newlines bytes
 
--- this many steps of the bytes at most; where the front is no step, nothing behind it is read
+-- this many steps of the bytes at most; where the front is no step, nothing after it is read
 abbrev pub steps_within : ℕ → List ℕ → List (Option Step)
 steps_within count [] = []
 steps_within zero (b ∷ bytes) = []
@@ -110,7 +110,7 @@ steps_within (suc count) (b ∷ bytes) =
 unfoldable pub steps_of : List ℕ → List (Option Step)
 steps_of bytes = steps_within (length bytes) bytes
 
--- how many lines stand before what is behind these steps
+-- how many lines these steps have, up to what is no step
 abbrev pub lines_before : List (Option Step) → ℕ
 lines_before [] = 0
 lines_before (None ∷ steps) = 0
@@ -149,7 +149,7 @@ abbrev pub AreSteps : List Step → Type 0
 AreSteps [] = Unit {0}
 AreSteps (s ∷ steps) = IsStep s × AreSteps steps
 
--- whether it is a crash
+-- whether the step is a crash
 abbrev pub is_crash : Option Step → Bool
 is_crash (Some (crash shelf)) = true
 is_crash _ = false

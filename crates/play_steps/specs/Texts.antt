@@ -7,22 +7,22 @@ use Rattle.reply_words.specs.declared.status.ReplyStatus.{ReplyStatus}
 use Rattle.play_steps.specs.declared.report.Report.{Report}
 use Rattle.play_steps.specs.declared.report.Report.TheVariants.{Taken, Replied, Swept, Unswept, Reopened}
 
--- a reply with a status and a word
+-- the text of a reply to a worker, with a status and a word
 abbrev pub line_text : ℕ → ReplyStatus → List ℕ → List ℕ
 line_text worker status bytes =
     decimal worker ++ codes " " ++ decimal (status_number status) ++ codes " " ++ bytes ++ codes "\n"
 
--- a reply with a page
+-- the text of a reply to a worker, with a page
 abbrev pub page_text : ℕ → List ℕ → List ℕ
 page_text worker bytes =
     decimal worker ++ codes " 200 " ++ decimal (length bytes) ++ codes "\n" ++ bytes ++ codes "\n"
 
--- what is told to a worker
+-- the text of what is told to a worker
 abbrev pub told_text : ℕ → Told → List ℕ
 told_text worker (page bytes) = page_text worker bytes
 told_text worker (word status bytes) = line_text worker status bytes
 
--- the reply to a worker
+-- the text of the reply to a worker
 unfoldable pub reply_text : ℕ → Reply → List ℕ
 reply_text worker reply = told_text worker (told reply)
 
@@ -38,8 +38,8 @@ unswept_text shelf reply = codes "shelf " ++ reply_text shelf reply
 abbrev pub reopened_text : ℕ → ℕ → List ℕ
 reopened_text shelf live = codes "shelf " ++ decimal shelf ++ codes " live " ++ decimal live ++ codes "\n"
 
--- A number that was taken, a reply, and the line of a shelf: that was swept, with the number of instances that went, or was not;
--- or that was opened again, with the number of its live instances.
+-- The text of a report: a number that was taken; a reply; a shelf that was swept, with the number of instances that went, or was not;
+-- or a shelf that was opened again, with the number of its live instances.
 unfoldable pub report_text : Report → List ℕ
 report_text (Taken worker number) = taken_text worker number
 report_text (Replied worker reply) = reply_text worker reply
@@ -47,7 +47,7 @@ report_text (Swept shelf count) = swept_text shelf count
 report_text (Unswept shelf reply) = unswept_text shelf reply
 report_text (Reopened shelf live) = reopened_text shelf live
 
--- reports, one behind another
+-- the text of reports, one after another
 abbrev pub print : List Report → List ℕ
 print [] = []
 print (r ∷ reports) = report_text r ++ print reports

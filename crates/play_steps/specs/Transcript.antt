@@ -8,12 +8,12 @@ use Rattle.play_steps.specs.Texts.{print}
 use Rattle.play_steps.specs.declared.report.Report.{Report}
 use Rattle.play_steps.specs.declared.report.Report.TheVariants.{Replied, Reopened}
 
--- where a run ends: behind the last step, or at the line of this number
+-- where a run ends: after the last step, or at the line of this number
 pub data End : Type 0 where
   done : End
   bad_line : ℕ → End
 
--- what is told, how the run ends, the state that it leaves, and the fates that are left for events behind it
+-- a run: what is told, how it ends, the state that it leaves, and the fates that are left for later events
 pub record Run (r : StageRules) : Type 0 where
   pub told : List Report
   pub end : End
@@ -24,28 +24,29 @@ pub record Run (r : StageRules) : Type 0 where
 abbrev pub text_of : {r : StageRules} → Run r → List ℕ
 text_of run = print run.told
 
--- a run that goes on behind these reports
+-- a run that told these reports and goes on
 abbrev pub went : (r : StageRules) → List Report → r.State → List r.Fate → Run r
 went r told s fates = record { told = told; end = done; state = s; fates = fates }
 
--- a run that stands at the line of this number
+-- a run that told nothing and stands at the line of this number
 abbrev pub stopped : (r : StageRules) → ℕ → r.State → List r.Fate → Run r
 stopped r number s fates = record { told = []; end = bad_line number; state = s; fates = fates }
 
--- a run behind these reports
+-- a run with these reports told before its own
 abbrev pub behind : (r : StageRules) → List Report → Run r → Run r
 behind r told run = record { told = told ++ run.told; end = run.end; state = run.state; fates = run.fates }
 
--- the second run behind the first, where the first goes on
+-- the second run after the first, where the first goes on
 abbrev pub goes_on : (r : StageRules) → End → Run r → Run r → Run r
 goes_on r done first second = behind r first.told second
 goes_on r (bad_line number) first second = first
 
--- the fate of the next event, and those of the events after it; fates that are not listed are plain
+-- the fate of the next event; a fate that is not listed is plain
 abbrev pub first_fate : (r : StageRules) → List r.Fate → r.Fate
 first_fate r [] = r.plain
 first_fate r (f ∷ fates) = f
 
+-- the fates of the events after the next one
 abbrev pub later_fates : (r : StageRules) → List r.Fate → List r.Fate
 later_fates r [] = []
 later_fates r (f ∷ fates) = fates
@@ -58,29 +59,29 @@ fits r (get worker target) s = not (r.holds s worker)
 fits r (tick time) s = true
 fits r (crash shelf) s = nat_lt shelf (r.shelves s)
 
--- a call, and what stands behind its answer; an event takes one fate
+-- a call, and the run that follows its answer; an event takes one fate
 abbrev pub called : (r : StageRules) → {A : Type 0} → Call r.State r.Fate A → r.State → List r.Fate
     → (A → r.State → List r.Fate → Run r) → Run r
 called r (answered a) s fates next = next a s fates
 called r (event by) s fates next = let x = by (first_fate r fates) in next x.0 x.1 (later_fates r fates)
 
--- a publish, and its reply
+-- the run of a publish, which tells its reply
 abbrev pub published : (r : StageRules) → ℕ → r.State → List r.Fate → Run r
 published r worker s fates = called r (r.publish s worker) s fates (λ reply. went r (Replied worker reply ∷ []))
 
--- a get that was given a number goes on to its publish; any other answer is its reply
+-- the run of a get after its take: where it was given a number it goes on to its publish; any other answer is its reply
 abbrev pub got : (r : StageRules) → ℕ → Result ℕ Reply → r.State → List r.Fate → Run r
 got r worker (Ok number) s fates = published r worker s fates
 got r worker (Err refused) s fates = went r (Replied worker refused ∷ []) s fates
 
--- the sweeps of this many shelves, from this one on
+-- the run of the sweeps of this many shelves, from this one on
 abbrev pub swept : (r : StageRules) → ℕ → ℕ → ℕ → r.State → List r.Fate → Run r
 swept r time zero shelf s fates = went r [] s fates
 swept r time (suc count) shelf s fates =
     called r (r.sweep s shelf time) s fates
     (λ x t later. behind r (sweep_report shelf x ∷ []) (swept r time count (shelf + 1) t later))
 
--- one step
+-- the run of one step
 abbrev pub performed : (r : StageRules) → Step → r.State → List r.Fate → Run r
 performed r (take worker target) s fates =
     called r (r.take s worker target) s fates (λ x. went r (take_report worker x ∷ []))
@@ -89,7 +90,7 @@ performed r (get worker target) s fates = called r (r.take s worker target) s fa
 performed r (tick time) s fates = swept r time (r.shelves s) 0 s fates
 performed r (crash shelf) s fates = called r (r.crash s shelf) s fates (λ live. went r (Reopened shelf live ∷ []))
 
--- the steps from this state and this line on
+-- the run of the steps from this state and this line on
 unfoldable pub transcript : (r : StageRules) → r.State → ℕ → List (Option Step) → List r.Fate → Run r
 transcript r s number [] fates = went r [] s fates
 transcript r s number (None ∷ steps) fates = stopped r number s fates

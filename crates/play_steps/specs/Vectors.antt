@@ -69,7 +69,7 @@ pub no_shelves :
 unfolding step_of take_of publish_of get_of tick_of crash_of aim_of
 no_shelves = refl
 
--- other words
+-- other words spell no step
 pub no_steps :
     map step_of ([] ∷ codes "GET 0 /" ∷ codes "put 0 /" ∷ codes "Crash 0" ∷ codes "gets 0 /" ∷ codes "publish0" ∷ [])
     ≡ None ∷ None ∷ None ∷ None ∷ None ∷ None ∷ []
@@ -83,7 +83,7 @@ pub spelled :
 unfolding digits
 spelled = refl
 
--- a last line that no newline ends is no step, nor is an empty line; behind what is no step nothing is read
+-- a last line that no newline ends is no step, nor is an empty line; after what is no step nothing is read
 pub an_open_line :
     map steps_of (codes "publish 1\npublish 2" ∷ codes "publish 1\n\npublish 2\n" ∷ [])
     ≡ (Some (publish 1) ∷ None ∷ []) ∷ (Some (publish 1) ∷ None ∷ []) ∷ []
@@ -149,7 +149,7 @@ abbrev without : ℕ → List ℕ → List ℕ
 without w [] = []
 without w (x ∷ xs) = if x == w then xs else x ∷ without w xs
 
--- what the outside decides of its events
+-- what the outside decides of the events of the small stage
 pub data Luck : Type 0 where
   good : Luck
   bad : Luck
@@ -232,7 +232,7 @@ pub fates_of_gets :
 unfolding transcript steps_of first_step step_of take_of publish_of get_of tick_of crash_of aim_of report_text reply_text digits
 fates_of_gets = refl
 
--- a tick sweeps the shelves in their order, also behind one that is not swept; a fate that is not listed is plain
+-- a tick sweeps the shelves in their order, also after one that is not swept; a fate that is not listed is plain
 pub a_tick :
     of_lines (codes "tick 7" ∷ codes "tick 8" ∷ []) (bad ∷ good ∷ good ∷ [])
     ≡ (lines (codes "shelf 0 503 down" ∷ codes "shelf 1 swept 7" ∷ codes "shelf 0 swept 8" ∷ codes "shelf 1 swept 8" ∷ []), done, at 3 [], [])
@@ -252,14 +252,14 @@ pub not_fitting :
 unfolding transcript steps_of first_step step_of take_of publish_of get_of tick_of crash_of aim_of report_text reply_text digits
 not_fitting = refl
 
--- a line that is no step ends the run: the replies before it stand, and nothing behind it is played
+-- a line that is no step ends the run: the replies before it stand, and nothing after it is played
 pub a_bad_line :
     of_lines (codes "get 0 /a" ∷ codes "get 16 /a" ∷ codes "get 0 /a" ∷ []) (good ∷ good ∷ bad ∷ [])
     ≡ (lines (codes "0 200 2" ∷ codes "hi" ∷ []), bad_line 2, at 1 [], bad ∷ [])
 unfolding transcript steps_of first_step step_of take_of publish_of get_of tick_of crash_of aim_of report_text reply_text digits
 a_bad_line = refl
 
--- a take that names nothing is answered without an event: the fates are there for those behind it
+-- a take that names nothing is answered without an event: the fates are there for the events after it
 pub no_event :
     of_lines (codes "take 0 #a" ∷ codes "get 0 #a" ∷ codes "get 0 /a" ∷ []) (bad ∷ good ∷ [])
     ≡ (lines (codes "0 404 unknown" ∷ codes "0 404 unknown" ∷ codes "0 503 worn" ∷ []), done, at 0 [], good ∷ [])

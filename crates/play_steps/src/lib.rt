@@ -1,4 +1,4 @@
-//! The steps of a run over whatever stage performs them.
+//! The steps of a run over any stage, and what is told of them: for `play` and for measured runs.
 #![tactic(auto)]
 
 ghost use Rattle.play_steps.specs.Laws.{RepliesGoOn, LinesAreSteps, LinesAreCounted};

@@ -12,7 +12,7 @@ pub enum Reopen {
     Disk,
     /// What stands at this place of its journal is no record.
     Damaged { place: u64 },
-    /// The record at this place is that of another setup, another shelf or another program.
+    /// The record at this place is that of another shelf or of other scripts.
     Other { place: u64 },
     /// There was no memory for it.
     Memory,

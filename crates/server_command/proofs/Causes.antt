@@ -21,7 +21,10 @@ use Rattle.server_command.specs.declared.program.Job.{Job}
 use Rattle.server_command.specs.declared.program.Job.TheVariants as job
 use Rattle.server_command.specs.declared.program.Status.{Status}
 use Rattle.server_command.specs.declared.program.Status.TheVariants as status
-use Rattle.server_command.specs.Output.{Chances, nothing}
+use Rattle.setup_reader.specs.Setup.{Parsed, Fault, setup_of}
+use Rattle.server_command.specs.Output.{Chances, ending_of, nothing}
+use Rattle.server_command.specs.Racks.{AtRest}
+use Rattle.server_command.specs.Remains.{IsAny, Remains}
 use Rattle.server_command.specs.Command.{Met, Prints, Untouched, ReadToEnd, HasDone, HasServed, Leaves, Outputs, Comes, ComesServing, CameServing, ComesTo, Came, Refuses, Explains, Explained, IsUnread, ReadsInput, asked_of, asked_unless, asked_in, unread_line, unread_status}
 use Rattle.server_command.specs.Serving.{Serves, RackFailed, LeavesInput}
 use Rattle.server_command.proofs.Endings.{whole_input, always, tells, no_chances}
@@ -56,9 +59,20 @@ pub came : (asked : Command) (s : Status) (met : Met) (bytes : List ℕ) → Con
 came asked s met bytes read end short p = (p.0, comes asked s met bytes p.0 read end short p.1)
 
 -- memory ran out before the whole input was there
-memory_came : (asked : Command) (met : Met) → IsUnread faults.Memory met → Came asked status.Memory met
-memory_came asked met p =
-    (no_chances, (always met.input _ (λ bytes. λ settles. ([], nothing, tells met.output.held met.output.held met.output.holds [] _ met.output.before met.output.after (appends_none met.output.held) p.0)), p.1))
+memory_came : (asked : Command) (met : Met) → ((setup : Result Parsed Fault) → Remains met.rack asked setup no_chances [] IsAny 0) → IsUnread faults.Memory met
+    → Came asked status.Memory met
+memory_came asked met remains p = (
+  no_chances,
+  (
+    always met.input _ (λ bytes. λ settles. (
+      [],
+      nothing,
+      tells met.output.held met.output.held met.output.holds [] _ met.output.before met.output.after (appends_none met.output.held) p.0,
+      remains (setup_of (ending_of asked) bytes),
+    )),
+    p.1,
+  ),
+)
 
 -- what holds where the input was not read for this fault
 unread : {A : Type 0} (r : Result A InputFault) (fault : InputFault) (P : Type 0) → r ≡ Err fault → (IsErrOf r fault → P) → P
@@ -67,18 +81,21 @@ unread r fault P is h = h (subst (λ x. IsErrOf x fault) (sym is) refl)
 pub unread_by : {A : Type 0} (met : Met) (r : Result A InputFault) (fault : InputFault) → r ≡ Err fault
     → AppendsUnlessFault met.output.held met.output.holds (unread_line fault) met.output.before met.output.after
     → (IsErrOf r faults.Long → ReadsPast met.input met.unread most_of_input) → (IsErrOf r faults.Failed → Rose met.input_before met.input_after)
-    → (IsErrOf r faults.Failed → ReadsUpTo met.input met.unread most_of_input) → ConsumesSome met.input met.unread → IsUnread fault met
-unread_by met r faults.Failed is line long failed short some = (unread r faults.Failed _ is failed, line, unread r faults.Failed _ is short)
-unread_by met r faults.Memory is line long failed short some = (line, some)
-unread_by met r faults.Long is line long failed short some = (unread r faults.Long _ is long, line)
+    → (IsErrOf r faults.Failed → ReadsUpTo met.input met.unread most_of_input) → ConsumesSome met.input met.unread
+    → AtRest met.rack → IsUnread fault met
+unread_by met r faults.Failed is line long failed short some rest = (unread r faults.Failed _ is failed, line, unread r faults.Failed _ is short, rest)
+unread_by met r faults.Memory is line long failed short some rest = (line, some)
+unread_by met r faults.Long is line long failed short some rest = (unread r faults.Long _ is long, line, rest)
 
-came_unread : (asked : Command) (met : Met) (fault : InputFault) → IsUnread fault met → Came asked (unread_status fault) met
-came_unread asked met faults.Failed p = (no_chances, p)
-came_unread asked met faults.Memory p = memory_came asked met p
-came_unread asked met faults.Long p = (no_chances, p)
+came_unread : (asked : Command) (met : Met) (fault : InputFault) → ((setup : Result Parsed Fault) → Remains met.rack asked setup no_chances [] IsAny 0)
+    → IsUnread fault met → Came asked (unread_status fault) met
+came_unread asked met faults.Failed remains p = (no_chances, p)
+came_unread asked met faults.Memory remains p = memory_came asked met remains p
+came_unread asked met faults.Long remains p = (no_chances, p)
 
-pub unread_came : (asked : Command) (s : Status) (met : Met) (fault : InputFault) → s ≡ unread_status fault → IsUnread fault met → Came asked s met
-unread_came asked s met fault e p = subst (λ x. Came asked x met) (sym e) (came_unread asked met fault p)
+pub unread_came : (asked : Command) (s : Status) (met : Met) (fault : InputFault) → s ≡ unread_status fault
+    → ((setup : Result Parsed Fault) → Remains met.rack asked setup no_chances [] IsAny 0) → IsUnread fault met → Came asked s met
+unread_came asked s met fault e remains p = subst (λ x. Came asked x met) (sym e) (came_unread asked met fault remains p)
 
 served_unread : (serves : Serves) (v : Service) (met : Met) (fault : InputFault) → IsUnread fault met → serves.unopened
     → CameServing serves v (unread_status fault) met
@@ -165,5 +182,6 @@ pub understood : (serves : Serves) (s : Status) (met : Met) (asked : Command) �
 understood serves s met asked is h e = refuted serves met asked h.0 is (subst (λ x. Explains serves x h.0 met) e h.1)
 
 -- memory ran out as the words were read
-pub unworded : (serves : Serves) (s : Status) (met : Met) → s ≡ status.Memory → Prints met (codes "error 10 memory\n") → Untouched met → Explained serves s met
-unworded serves s met is line same = subst (λ (x : Status). Explained serves x met) (sym is) (no_chances, inl (line, same))
+pub unworded : (serves : Serves) (s : Status) (met : Met) → s ≡ status.Memory → Prints met (codes "error 10 memory\n") → Untouched met → AtRest met.rack
+    → Explained serves s met
+unworded serves s met is line same rest = subst (λ (x : Status). Explained serves x met) (sym is) (no_chances, inl (line, same, rest))

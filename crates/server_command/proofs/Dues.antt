@@ -87,7 +87,7 @@ asked_exact asked status.Done met bytes chances e is settles h =
     inl (gives_due asked met bytes chances 0 e is h.0 ((left asked status.Done met bytes chances e h) (subst (Settles met.rack) short.reached settles)).0)
 asked_exact asked status.Usage met bytes chances e is settles h = absurd h
 asked_exact asked status.Setup met bytes chances e is settles h =
-    inl (gives_due asked met bytes chances 3 e is h.0 (left asked status.Setup met bytes chances e h))
+    inl (gives_due asked met bytes chances 3 e is h.0 (left asked status.Setup met bytes chances e h).0)
 asked_exact asked status.Line met bytes chances e is settles h =
     let short = is_short asked met bytes chances e is h.0 in
     inl (gives_due asked met bytes chances 4 e is h.0 ((left asked status.Line met bytes chances e h) (subst (Settles met.rack) short.reached settles)).0)
@@ -99,7 +99,7 @@ asked_exact asked status.Long met bytes chances e is settles h =
 asked_exact asked status.Disk met bytes chances e is settles h = inr (inr (inr (inl (refl, h.1))))
 asked_exact asked status.Journal met bytes chances e is settles h =
     let short = is_short asked met bytes chances e is h.0 in
-    inl (gives_due asked met bytes chances 8 e is h.0 ((left asked status.Journal met bytes chances e h) (subst (Settles met.rack) short.reached settles)))
+    inl (gives_due asked met bytes chances 8 e is h.0 ((left asked status.Journal met bytes chances e h) (subst (Settles met.rack) short.reached settles)).0)
 asked_exact asked status.Door met bytes chances e is settles h = absurd h
 asked_exact asked status.Key met bytes chances e is settles h = absurd h
 
@@ -175,7 +175,8 @@ serving_exact serves v status.Disk met bytes chances same e is settles h = inr (
 serving_exact serves v status.Journal met bytes chances same e is settles h =
     let p = input_left serves v status.Journal met bytes chances e h in
     let shuts = subst (λ r. Shuts r v p.0.scripts chances.disks p.2.0 p.2.1) same p.2.2 in
-    inl (shut_due v met bytes chances p.0 p.2.0 p.2.1 e is h.0 p.1 (shuts (tells_served v met bytes chances p.0 e is h.0 p.1 settles)))
+    let shut = shuts (tells_served v met bytes chances p.0 e is h.0 p.1 settles) in
+    inl (shut_due v met bytes chances p.0 p.2.0 p.2.1 e is h.0 p.1 (shut.0, shut.1))
 serving_exact serves v status.Door met bytes chances same e is settles h = inr (inr (inr (inr (inl (refl, h.1)))))
 serving_exact serves v status.Key met bytes chances same e is settles h = inr (inr (inr (inr (inr (inl (refl, h.1))))))
 
@@ -216,7 +217,7 @@ load_due : (l : LoadOptions) (s : Status) (met : Met) (chances : Chances) → Is
 load_due l status.Done met chances t h = (let g = (h.1 t).0 in inl (record { same = sym g.answered.0; taken = g.taken }))
 load_due l status.Write met chances t h = inr (inl (refl, h.1.0))
 load_due l status.Disk met chances t h = inr (inr (inl (refl, h.1.0)))
-load_due l status.Journal met chances t h = (let g = h.1 t in inl (record { same = sym g.answered.0; taken = g.taken }))
+load_due l status.Journal met chances t h = (let g = (h.1 t).0 in inl (record { same = sym g.answered.0; taken = g.taken }))
 load_due l status.Memory met chances t h = inr (inr (inr refl))
 load_due l _ met chances t h = absurd h.1
 
@@ -315,7 +316,7 @@ asked_complete : (asked : Command) (s : Status) (met : Met) (bytes : List ℕ) (
 asked_complete asked status.Done met bytes chances e l opens read write rack h = inl refl
 asked_complete asked status.Usage met bytes chances e l opens read write rack h = absurd h
 asked_complete asked status.Setup met bytes chances e l opens read write rack h =
-    absurd (not_3 3 (lawful_gives asked met bytes chances 3 l opens (left asked status.Setup met bytes chances e h)) refl)
+    absurd (not_3 3 (lawful_gives asked met bytes chances 3 l opens (left asked status.Setup met bytes chances e h).0) refl)
 asked_complete asked status.Line met bytes chances e l opens read write rack h = inr (inl refl)
 asked_complete asked status.Read met bytes chances e l opens read write rack h = absurd (read h.0)
 asked_complete asked status.Write met bytes chances e l opens read write rack h = absurd (write h.1)
@@ -324,7 +325,7 @@ asked_complete asked status.Long met bytes chances e l opens read write rack h =
     let long = past_length met.input met.unread bytes most_of_input e h.0 in absurd (omega (arith, long, l.short))
 asked_complete asked status.Disk met bytes chances e l opens read write rack h = absurd (rack h.1)
 asked_complete asked status.Journal met bytes chances e l opens read write rack h =
-    absurd (not_8 8 (lawful_gives asked met bytes chances 8 l opens ((left asked status.Journal met bytes chances e h) (open_settles asked met bytes l opens))) refl)
+    absurd (not_8 8 (lawful_gives asked met bytes chances 8 l opens ((left asked status.Journal met bytes chances e h) (open_settles asked met bytes l opens)).0) refl)
 asked_complete asked status.Door met bytes chances e l opens read write rack h = absurd h
 asked_complete asked status.Key met bytes chances e l opens read write rack h = absurd h
 
@@ -373,7 +374,7 @@ check_complete : (s : Status) (met : Met) (bytes : List ℕ) (chances : Chances)
 check_complete status.Done met bytes chances e l read write h = inl refl
 check_complete status.Usage met bytes chances e l read write h = absurd h
 check_complete status.Setup met bytes chances e l read write h =
-    absurd (not_3 3 (lawful_gives Check met bytes chances 3 l tt (left Check status.Setup met bytes chances e h)) refl)
+    absurd (not_3 3 (lawful_gives Check met bytes chances 3 l tt (left Check status.Setup met bytes chances e h).0) refl)
 check_complete status.Line met bytes chances e l read write h =
     absurd (four (setup_of Input bytes) ((left Check status.Line met bytes chances e h) (open_settles Check met bytes l tt)).0.answered.0)
 check_complete status.Read met bytes chances e l read write h = absurd (read h.0)
@@ -385,7 +386,7 @@ check_complete status.Disk met bytes chances e l read write h =
     let loses = (left Check status.Disk met bytes chances e h.0).1 (open_settles Check met bytes l tt) in
     absurd (check_loses bytes chances loses.0 loses.1 loses.2)
 check_complete status.Journal met bytes chances e l read write h =
-    absurd (not_8 8 (lawful_gives Check met bytes chances 8 l tt ((left Check status.Journal met bytes chances e h) (open_settles Check met bytes l tt))) refl)
+    absurd (not_8 8 (lawful_gives Check met bytes chances 8 l tt ((left Check status.Journal met bytes chances e h) (open_settles Check met bytes l tt)).0) refl)
 check_complete status.Door met bytes chances e l read write h = absurd h
 check_complete status.Key met bytes chances e l read write h = absurd h
 
@@ -396,7 +397,7 @@ loading_complete l status.Done met chances opens write well h = inl refl
 loading_complete l status.Write met chances opens write well h = absurd (write h.1.0)
 loading_complete l status.Disk met chances opens write well h = absurd (well h.1.0)
 loading_complete l status.Journal met chances opens write well h =
-    let g = h.1 opens.0 in
+    let g = (h.1 opens.0).0 in
     let fine = opens_fine l chances (fit_opens unfit_new met.rack.before.holds 0 chances.disks opens.1 g.taken.held) in
     absurd (omega (arith, fine, g.answered.0))
 loading_complete l status.Memory met chances opens write well h = inr refl

@@ -5,7 +5,7 @@ use Rattle.std.proofs.lemmas.List.{append_assoc, length-append}
 use Rattle.std.proofs.lemmas.Option.{slice_get_within}
 use Rattle.web_outside.specs.Causes.{Rose}
 use Rattle.web_disk.specs.View.{View, RackView, AreAmong}
-use Rattle.server_command.specs.Opening.{AreGiven, AreOut, TakesBack}
+use Rattle.server_command.specs.Opening.{AreGiven, AreOut, LeavesFrom, TakesBack}
 use Rattle.server_command.proofs.Openings.{Gives, GivesDownTo, gives_before, gives_down, gives_last, same_or_not}
 
 last_is : {A : Type 0} (xs ys : List A) (x : A) → slice_get (xs ++ x ∷ ys) (length xs) ≡ Some x
@@ -23,6 +23,7 @@ pub record GivenAll {D : Type 0} (view : D → View) (told : Type 0) (all front 
   pub is : all ≡ front ++ back
   pub down : GivesDownTo before now (length front) (length all)
   pub held : told → AreOut before (length all) → (k : ℕ) (d : D) → length front ≤ k → slice_get all k ≡ Some d → AreAmong (now.holds k) (view d).images
+  pub others : LeavesFrom (length all) before now
   pub faults : (k : ℕ) (d : D) → length front ≤ k → slice_get all k ≡ Some d → 1 ≤ (view d).faults → Rose before.faults now.faults
 
 pub given_none : {D : Type 0} (view : D → View) (told : Type 0) (all : List D) (before : RackView) → before.faults ≤ 2 ^ 64 - 1 → GivenAll view told all all before before
@@ -31,6 +32,7 @@ given_none view told all before low = record {
   is = sym (append-nil all);
   down = gives_last before (length all) low;
   held = λ t out k d above here. absurd (let within = slice_get_within all k d here in omega (arith, within, above));
+  others = λ n le image h. h;
   faults = λ k d above here some. absurd (let within = slice_get_within all k d here in omega (arith, within, above));
 }
 
@@ -48,6 +50,7 @@ given_next {D = D} view told all old front d before now after popped p gives hol
         subst (λ n. AreAmong (after.holds n) (view x).images) (sym e) (subst (λ y. AreAmong (after.holds (length front)) (view y).images) same (holds.among t home))
     | inr ne ↦ λ image h. p.held t out k x (omega (arith, above, ne, count)) here image (holds.others k ne image h)
   ];
+  others = λ n le image h. p.others n le image (holds.others n (λ e. omega (arith, e, le, size, count)) image h);
   faults = λ k x above here some. elim (same_or_not k (length front)) [
     | inl e ↦
         let same = ap (λ y. (view y).faults) (this k x e here) in
@@ -80,5 +83,5 @@ pub given_back : {D : Type 0} (view : D → View) (told : Type 0) (all : List D)
     → TakesBack before now 0 (length all) × AreGiven view told before now all
 given_back view told all before now p = (
   gives_down before now (length all) p.down,
-  record { held = λ t out k d here. p.held t out k d (omega arith) here; faults = λ k d here some. p.faults k d (omega arith) here some },
+  record { held = λ t out k d here. p.held t out k d (omega arith) here; others = p.others; faults = λ k d here some. p.faults k d (omega arith) here some },
 )

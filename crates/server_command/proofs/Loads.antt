@@ -1,6 +1,6 @@
 -- From what a measured run comes to, to what a command answers.
-use Rattle.std.proofs.Common.{◌≡◌, ◌≤◌, ◌<◌, ◌++◌, ◌∷◌, ◌⊎◌, ◌∙◌, ℕ, List, [], map, IsTrue, Option, Some, None, Result, Ok, Err, IsErrOf, sym, ap, refl, subst, inl, inr, arith, codes}
-use Rattle.std.specs.Prelude.{replicate}
+use Rattle.std.proofs.Common.{◌≡◌, ◌≤◌, ◌<◌, ◌++◌, ◌∷◌, ◌⊎◌, ◌∙◌, ℕ, Bool, List, [], map, IsTrue, Option, Some, None, Result, Ok, Err, IsErrOf, sym, ap, refl, subst, inl, inr, arith, codes}
+use Rattle.std.specs.Prelude.{count_by, replicate}
 use Rattle.std.specs.Io.KnownBytes.{Appends, Keeps}
 use Rattle.std.proofs.lemmas.Option.{same_Some}
 use Rattle.web_outside.specs.Causes.{Rose}
@@ -16,9 +16,10 @@ use Rattle.play_steps.specs.declared.performing.Halt.TheVariants as halt
 use Rattle.play_steps.specs.declared.report.Report.{Report}
 use Rattle.play_steps.specs.declared.stage.Reopen.{Reopen}
 use Rattle.play_steps.specs.declared.stage.Reopen.TheVariants as reopen
-use Rattle.play_desk.specs.Desk.{Desk, desk_rules}
+use Rattle.web_disk.specs.View.{RackView}
+use Rattle.play_desk.specs.Desk.{Desk, desk_rules, is_fault}
 use Rattle.play_desk.specs.Laws.{TranscriptsAreRuns}
-use Rattle.play_desk.specs.Opening.{HoldTheBooks, IsClosedBy}
+use Rattle.play_desk.specs.Opening.{AllStayKept, HoldTheBooks, IsClosedBy}
 use Rattle.play_desk.specs.declared.opening.OpenCause.{OpenCause}
 use Rattle.play_desk.specs.declared.opening.OpenCause.TheVariants as first
 use Rattle.load_steps.specs.Generator.{source_of}
@@ -31,13 +32,14 @@ use Rattle.load_setup.specs.Scripts.{load_scripts}
 use Rattle.command_words.specs.declared.LoadOptions.{LoadOptions}
 use Rattle.server_command.specs.declared.program.Status.{Status}
 use Rattle.server_command.specs.declared.program.Status.TheVariants as status
-use Rattle.server_command.specs.Racks.{Racks, AreTaken, disk_line, first_unfit, not_empty, unfit_line, unfit_new}
+use Rattle.server_command.specs.Racks.{Racks, racks_of, AreTaken, disk_line, first_unfit, not_empty, unfit_line, unfit_new}
 use Rattle.server_command.specs.Serving.{RackFailed}
-use Rattle.server_command.specs.Output.{Answers, BreaksOff, Chances, Output, Sinks, Tells, desk_for, loaded, run_loaded, sinks, unless_shut}
-use Rattle.server_command.specs.Loading.{GivesLoad, HasLeft, HasLoaded, IsLost, LoadsEvents, TellsMeasure, at_crash, at_first, told_measure}
+use Rattle.server_command.specs.Output.{Answers, BreaksOff, Chances, Output, Sinks, desk_for, loaded, run_loaded, sinks, unless_shut}
+use Rattle.server_command.specs.Loading.{GivesLoad, HasLeft, HasLoaded, IsLoaded, IsLost, IsLostBehind, LoadsEvents, RemainsLoaded, TellsMeasure, at_crash, at_first, told_measure}
+use Rattle.server_command.specs.Remains.{AreAllKept, HaveFailed, IsAny, IsThis, IsUnopened, lost, performed, unopened}
 use Rattle.server_command.specs.Telling.{TellsUnopened, told, untold, unopened_again, unopened_by}
 use Rattle.server_command.proofs.Endings.{no_chances, since, tells, tells_nothing}
-use Rattle.server_command.proofs.Playing.{Begins, IsFull, are_taken, chances_of, decided, full_held, full_unfit, none_unfit}
+use Rattle.server_command.proofs.Playing.{Begins, IsFull, are_taken, chances_of, decided, full_held, full_unfit, have_failed, have_failed_once, is_unopened, none_unfit}
 use Rattle.server_command.proofs.Opened.{is_full}
 
 -- the line of a run was written, and handed on or not
@@ -63,11 +65,13 @@ pub record Loaded (rack : Racks) (l : LoadOptions) (m : Measure) : Type 0 where
   pub loads : Loads desk_rules most_steps (source_of l.number) told (spot desk_rules start before) (spot desk_rules last after)
   pub is : m ≡ measure_of most_steps told
   pub left : HoldTheBooks last rack.after.holds
+  pub from : rack.before.faults ≤ before
+  pub to : after ≤ rack.after.faults
 
 pub loaded_by : (rack : Racks) (l : LoadOptions) (m : Measure) (start last : Desk) (before after : ℕ) → Begins rack l.options load_scripts start
     → Measures desk_rules most_steps (source_of l.number) (Ok m) (spot desk_rules start before) (spot desk_rules last after)
-    → HoldTheBooks last rack.after.holds → Loaded rack l m
-loaded_by rack l m start last before after b h left = record {
+    → HoldTheBooks last rack.after.holds → rack.before.faults ≤ before → after ≤ rack.after.faults → Loaded rack l m
+loaded_by rack l m start last before after b h left from to = record {
   start = start;
   last = last;
   begins = b;
@@ -77,6 +81,8 @@ loaded_by rack l m start last before after b h left = record {
   loads = h.1;
   is = h.2;
   left = left;
+  from = from;
+  to = to;
 }
 
 -- its transcript
@@ -94,48 +100,93 @@ output_is rack l m p =
     ∙ ap (λ (r : Run desk_rules). whole (line_for most_steps r.told)) run
     ∙ ap (λ (x : Measure). whole (summary_text x.tally x.hash)) (sym p.is)
 
+-- the shelves behind so many of the steps
+loaded_behind : (l : LoadOptions) (start last : Desk) (fates : List Fate) (count : ℕ) (reports : List Report) → count ≤ most_steps
+    → start ≡ desk_for l.options load_scripts → run_drawn desk_rules count (source_of l.number) start fates ≡ went desk_rules reports last []
+    → IsLoaded l fates last
+loaded_behind l start last fates count reports few begun is =
+    let run = ap (λ (d : Desk). run_drawn desk_rules count (source_of l.number) d fates) (sym begun) ∙ is in
+    record { count = count; few = few; goes_on = ap (λ (r : Run desk_rules). r.end) run; state = ap (λ (r : Run desk_rules). r.state) run }
+
+-- what all steps left
+has_loaded : (rack : Racks) (l : LoadOptions) (m : Measure) (p : Loaded rack l m) → HasLoaded rack l (chances_of l.options p.loads.fates)
+has_loaded rack l m p =
+    let run = run_is l p.start p.loads.fates _ p.begins.first p.loads.is in
+    record {
+      whole = ap (λ (r : Run desk_rules). r.end) run;
+      books = subst (λ (d : Desk). HoldTheBooks d rack.after.holds) (sym (ap (λ (r : Run desk_rules). r.state) run)) p.left;
+      counted = have_failed rack p.loads.fates p.before p.after p.from p.loads.risen p.to;
+    }
+
 pub measure_leaves : (rack : Racks) (l : LoadOptions) (m : Measure) (s : Status) (out : Sinks) → (IsTrue rack.tells → Loaded rack l m)
     → TellsMeasure m s out → HasLeft rack l s out
 measure_leaves rack l m status.Done out ran h =
     decided rack.tells (λ chances. GivesLoad rack l chances 0 out × HasLoaded rack l chances) no_chances (λ t. gives (ran t))
   where
     gives : Loaded rack l m → (chances : Chances) × (GivesLoad rack l chances 0 out × HasLoaded rack l chances)
-    gives p =
-        let run = run_is l p.start p.loads.fates _ p.begins.first p.loads.is in (
-          chances_of l.options p.loads.fates,
-          (
-            record {
-              answered = subst (λ (o : Output). Answers o 0 out) (sym (output_is rack l m p)) h;
-              taken = are_taken rack l.options load_scripts p.start p.begins;
-            },
-            record {
-              whole = ap (λ (r : Run desk_rules). r.end) run;
-              books = subst (λ (d : Desk). HoldTheBooks d rack.after.holds) (sym (ap (λ (r : Run desk_rules). r.state) run)) p.left;
-            },
-          ),
-        )
+    gives p = (
+      chances_of l.options p.loads.fates,
+      (
+        record {
+          answered = subst (λ (o : Output). Answers o 0 out) (sym (output_is rack l m p)) h;
+          taken = are_taken rack l.options load_scripts p.start p.begins;
+        },
+        has_loaded rack l m p,
+      ),
+    )
 measure_leaves rack l m status.Write out ran h =
-    let x = decided rack.tells (λ chances. BreaksOff (loaded l chances) out) no_chances (λ t. breaks (ran t)) in (x.0, (h.0, x.1))
+    let x = decided rack.tells (λ chances. BreaksOff (loaded l chances) out × HasLoaded rack l chances) no_chances (λ t. breaks (ran t)) in
+    (x.0, (h.0, x.1))
   where
-    breaks : Loaded rack l m → (chances : Chances) × BreaksOff (loaded l chances) out
-    breaks p = (chances_of l.options p.loads.fates, subst (λ (o : Output). BreaksOff o out) (sym (output_is rack l m p)) h.1)
-measure_leaves rack l m status.Memory out ran h = (no_chances, h)
+    breaks : Loaded rack l m → (chances : Chances) × (BreaksOff (loaded l chances) out × HasLoaded rack l chances)
+    breaks p = (
+      chances_of l.options p.loads.fates,
+      (subst (λ (o : Output). BreaksOff o out) (sym (output_is rack l m p)) h.1, has_loaded rack l m p),
+    )
+measure_leaves rack l m status.Memory out ran h =
+    let x = decided rack.tells (λ chances. RemainsLoaded rack l chances IsAny 0) no_chances (λ t. remains (ran t)) in (x.0, (h, x.1))
+  where
+    remains : Loaded rack l m → (chances : Chances) × RemainsLoaded rack l chances IsAny 0
+    remains p = (
+      chances_of l.options p.loads.fates,
+      (
+        performed p.last (loaded_behind l p.start p.last p.loads.fates most_steps p.told (omega arith) p.begins.first p.loads.is) p.left,
+        have_failed rack p.loads.fates p.before p.after p.from p.loads.risen p.to,
+      ),
+    )
 measure_leaves rack l m s out ran h = absurd h
 
 -- memory ran out
 pub memory_leaves : (rack : Racks) (l : LoadOptions) (s : Status) (old new : Option (List ℕ)) (before after : ℕ) → s ≡ status.Memory
-    → AppendsUnlessFault old new (codes "error 10 memory\n") before after → HasLeft rack l s (sinks old new before after)
-memory_leaves rack l s old new before after is line =
-    subst (λ (x : Status). HasLeft rack l x (sinks old new before after)) (sym is) (no_chances, line)
+    → AppendsUnlessFault old new (codes "error 10 memory\n") before after → (IsTrue rack.tells → (chances : Chances) × RemainsLoaded rack l chances IsAny 0)
+    → HasLeft rack l s (sinks old new before after)
+memory_leaves rack l s old new before after is line remains =
+    let x = decided rack.tells (λ chances. RemainsLoaded rack l chances IsAny 0) no_chances remains in
+    subst (λ (x : Status). HasLeft rack l x (sinks old new before after)) (sym is) (x.0, (line, x.1))
+
+-- no step was performed
+pub none_loaded : (rack : Racks) (l : LoadOptions) (shelf : ℕ) (why : OpenCause) → IsUnopened rack load_scripts shelf why
+    → rack.before.faults ≤ rack.after.faults → (chances : Chances) × RemainsLoaded rack l chances IsAny 0
+none_loaded rack l shelf why is later =
+    (no_chances, (unopened shelf why tt refl is, (let none : count_by is_fault [] ≡ 0 = refl in omega (arith, none, later))))
+
+-- nor was the rack touched
+pub untouched : (known : Bool) (rack : RackView) (l : LoadOptions) → (chances : Chances) × RemainsLoaded (racks_of known rack rack) l chances IsAny 0
+untouched known rack l =
+    none_loaded (racks_of known rack rack) l 0 first.Memory
+    (record { before = λ k low. absurd (omega (arith, low)); failed = λ e. let no : ⊥ = cc in absurd no; kept = λ n but left is. inl is }) (omega arith)
 
 -- a disk holds something
 full_leaves : (rack : Racks) (l : LoadOptions) (shelf : ℕ) (old new : Option (List ℕ)) (before after : ℕ) → (IsTrue rack.tells → IsFull rack l.options shelf)
+    → (IsTrue rack.tells → AllStayKept load_scripts rack.before.holds rack.after.holds shelf first.NotEmpty)
     → AppendsUnlessFault old new (unfit_line shelf not_empty) before after → HasLeft rack l status.Journal (sinks old new before after)
-full_leaves rack l shelf old new before after full line =
-    decided rack.tells (λ chances. GivesLoad rack l chances 8 (sinks old new before after)) no_chances (λ t. shut (full t))
+full_leaves rack l shelf old new before after full kept line =
+    decided rack.tells (λ chances. GivesLoad rack l chances 8 (sinks old new before after) × AreAllKept rack load_scripts) no_chances
+    (λ t. shut (full t) (kept t))
   where
-    shut : IsFull rack l.options shelf → (chances : Chances) × GivesLoad rack l chances 8 (sinks old new before after)
-    shut p =
+    shut : IsFull rack l.options shelf → AllStayKept load_scripts rack.before.holds rack.after.holds shelf first.NotEmpty
+        → (chances : Chances) × (GivesLoad rack l chances 8 (sinks old new before after) × AreAllKept rack load_scripts)
+    shut p stay =
         let images : List (List ℕ) = replicate shelf [] ++ (p.byte ∷ p.bytes) ∷ [] in
         let chances : Chances = record { disks = images; fates = [] } in
         let unfit = full_unfit shelf 0 p.byte p.bytes shelf (omega arith) in
@@ -146,59 +197,138 @@ full_leaves rack l shelf old new before after full line =
         let is : loaded l chances ≡ record { text = []; error = unfit_line shelf not_empty; status = 8 } =
         ap (λ f. unless_shut f (record { text = line_for most_steps (run_loaded l []).told; error = []; status = 0 })) unfit in (
           chances,
-          record {
-            answered = subst (λ (x : Output). Answers x 8 (sinks old new before after)) (sym is)
-                (refl, tells old old new [] (unfit_line shelf not_empty) before after (appends_none old) line);
-            taken = taken;
-          },
+          (
+            record {
+              answered = subst (λ (x : Output). Answers x 8 (sinks old new before after)) (sym is)
+                  (refl, tells old old new [] (unfit_line shelf not_empty) before after (appends_none old) line);
+              taken = taken;
+            },
+            λ n. stay n (λ e. let no : ⊥ = cc in absurd no),
+          ),
         )
 
 -- the run did not begin
 pub first_leaves : (rack : Racks) (l : LoadOptions) (shelf : ℕ) (why : OpenCause) (s : Status) (old new : Option (List ℕ)) (before after : ℕ)
     → (IsTrue rack.tells → IsClosedBy rack.before.holds l.options.shelves shelf why) → (why ≡ first.Disk → RackFailed rack)
+    → (IsTrue rack.tells → AllStayKept load_scripts rack.before.holds rack.after.holds shelf why) → rack.before.faults ≤ rack.after.faults
     → TellsUnopened (unopened_by shelf why) s (sinks old new before after) → HasLeft rack l s (sinks old new before after)
-first_leaves rack l shelf why s old new before after closed failed (untold is line) = memory_leaves rack l s old new before after is line
-first_leaves rack l shelf first.Disk s old new before after closed failed (told line is same p) =
+first_leaves rack l shelf why s old new before after closed failed kept later (untold is line) =
+    memory_leaves rack l s old new before after is line (λ t. none_loaded rack l shelf why (is_unopened rack load_scripts l.options.shelves shelf why (closed t) failed (kept t)) later)
+first_leaves rack l shelf first.Disk s old new before after closed failed kept later (told line is same p) =
+    subst (λ x. HasLeft rack l x (sinks old new before after)) (sym same) (
+      no_chances,
+      (
+        failed refl,
+        λ t. (
+          shelf,
+          at_first,
+          subst (λ w. AppendsUnlessFault old new w before after) (sym (same_Some _ _ is)) p,
+          (unopened shelf first.Disk refl refl (is_unopened rack load_scripts l.options.shelves shelf first.Disk (closed t) failed (kept t)), (let rose = failed refl in let none : count_by is_fault [] ≡ 0 = refl in omega (arith, none, rose))),
+        ),
+      ),
+    )
+first_leaves rack l shelf first.NotEmpty s old new before after closed failed kept later (told line is same p) =
     subst (λ x. HasLeft rack l x (sinks old new before after)) (sym same)
-    (no_chances, (failed refl, λ t. (shelf, at_first, subst (λ w. AppendsUnlessFault old new w before after) (sym (same_Some _ _ is)) p)))
-first_leaves rack l shelf first.NotEmpty s old new before after closed failed (told line is same p) =
-    subst (λ x. HasLeft rack l x (sinks old new before after)) (sym same)
-    (full_leaves rack l shelf old new before after (λ t. is_full rack l.options shelf (closed t)) (subst (λ w. AppendsUnlessFault old new w before after) (sym (same_Some _ _ is)) p))
-first_leaves rack l shelf (first.Damaged place) s old new before after closed failed (told line is same p) =
+    (full_leaves rack l shelf old new before after (λ t. is_full rack l.options shelf (closed t)) kept (subst (λ w. AppendsUnlessFault old new w before after) (sym (same_Some _ _ is)) p))
+first_leaves rack l shelf (first.Damaged place) s old new before after closed failed kept later (told line is same p) =
     subst (λ x. HasLeft rack l x (sinks old new before after)) (sym same) (no_chances, λ t. absurd (closed t))
-first_leaves rack l shelf (first.Other place) s old new before after closed failed (told line is same p) =
+first_leaves rack l shelf (first.Other place) s old new before after closed failed kept later (told line is same p) =
     subst (λ x. HasLeft rack l x (sinks old new before after)) (sym same) (no_chances, λ t. absurd (closed t))
-first_leaves rack l shelf first.Memory s old new before after closed failed (told line is same p) = absurd (let no : None ≡ Some line = is in cc)
+first_leaves rack l shelf first.Memory s old new before after closed failed kept later (told line is same p) = absurd (let no : None ≡ Some line = is in cc)
 
--- a run that came to a crash behind which the shelf was not opened
-pub record LostLoad (rack : Racks) (l : LoadOptions) (shelf : ℕ) : Type 0 where
+-- from this desk on a run came to a crash behind which the shelf was not opened, for this
+pub record LosesLoad (l : LoadOptions) (shelf : ℕ) (why : Reopen) (before : ℕ) (left : Spot desk_rules) (start : Desk) : Type 0 where
+  pub loses : LosesShelf desk_rules most_steps (source_of l.number) shelf (spot desk_rules start before) left
+  pub rose : why ≡ reopen.Disk → Rose loses.middle.faults left.faults
+
+pub record LostLoad (rack : Racks) (l : LoadOptions) (shelf : ℕ) (why : Reopen) : Type 0 where
   pub start : Desk
+  pub left : Spot desk_rules
   pub begins : Begins rack l.options load_scripts start
   pub before : ℕ
-  pub loses : LosesShelf desk_rules most_steps (source_of l.number) shelf (spot desk_rules start before)
+  pub loses : LosesLoad l shelf why before left start
+  pub from : rack.before.faults ≤ before
+  pub to : left.faults ≤ rack.after.faults
 
-loses_by : (l : LoadOptions) (shelf : ℕ) (why : Reopen) (s t : Spot desk_rules)
-    → Measures desk_rules most_steps (source_of l.number) (Err (halt.Reopen shelf why)) s t
-    → LosesShelf desk_rules most_steps (source_of l.number) shelf s
-loses_by l shelf reopen.Disk s t h = h
-loses_by l shelf (reopen.Damaged place) s t h = h
-loses_by l shelf (reopen.Other place) s t h = h
-loses_by l shelf reopen.Memory s t h = absurd h
+loses_by : (l : LoadOptions) (shelf : ℕ) (why : Reopen) (start : Desk) (before : ℕ) (t : Spot desk_rules)
+    → Measures desk_rules most_steps (source_of l.number) (Err (halt.Reopen shelf why)) (spot desk_rules start before) t
+    → LosesLoad l shelf why before t start
+loses_by l shelf reopen.Disk start before t h = record { loses = h.loses; rose = λ e. h.rose }
+loses_by l shelf (reopen.Damaged place) start before t h = record { loses = h; rose = λ e. let no : ⊥ = cc in absurd no }
+loses_by l shelf (reopen.Other place) start before t h = record { loses = h; rose = λ e. let no : ⊥ = cc in absurd no }
+loses_by l shelf reopen.Memory start before t h = absurd h
+
+-- what remains behind it
+remains_lost : (rack : Racks) (l : LoadOptions) (shelf : ℕ) (why : Reopen) (q : LostLoad rack l shelf why) → (x : (fates : List Fate)
+    × IsLostBehind l (chances_of l.options fates) shelf)
+    × (HaveFailed rack x.0 0 × (why ≡ reopen.Disk → HaveFailed rack x.0 1))
+remains_lost rack l shelf why q =
+    let p = subst (LosesLoad l shelf why q.before q.left) q.begins.first q.loses in
+    let loads = p.loses.loads in
+    let later = p.loses.later in
+    let to = q.to in (
+      (loads.fates, record { faults = q.before; left = q.left; lost = p.loses; fates = refl }),
+      (
+        have_failed rack loads.fates q.before p.loses.middle.faults q.from loads.risen (omega (arith, later, to)),
+        λ e. have_failed_once rack loads.fates q.before p.loses.middle.faults q.left.faults q.from loads.risen (p.rose e) to,
+      ),
+    )
 
 pub lost_by : (rack : Racks) (l : LoadOptions) (shelf : ℕ) (why : Reopen) (start last : Desk) (before after : ℕ) → Begins rack l.options load_scripts start
     → Measures desk_rules most_steps (source_of l.number) (Err (halt.Reopen shelf why)) (spot desk_rules start before) (spot desk_rules last after)
-    → LostLoad rack l shelf
-lost_by rack l shelf why start last before after b h =
-    record { start = start; begins = b; before = before; loses = loses_by l shelf why (spot desk_rules start before) (spot desk_rules last after) h }
+    → rack.before.faults ≤ before → after ≤ rack.after.faults → LostLoad rack l shelf why
+lost_by rack l shelf why start last before after b h from to = record {
+  start = start;
+  left = spot desk_rules last after;
+  begins = b;
+  before = before;
+  loses = loses_by l shelf why start before (spot desk_rules last after) h;
+  from = from;
+  to = to;
+}
 
 -- the same of a result that is this error
 pub lost_if : (rack : Racks) (l : LoadOptions) (shelf : ℕ) (why : Reopen) (result : Result Measure Halt) (start last : Desk) (before after : ℕ)
     → result ≡ Err (halt.Reopen shelf why) → Begins rack l.options load_scripts start
     → Measures desk_rules most_steps (source_of l.number) result (spot desk_rules start before) (spot desk_rules last after)
-    → LostLoad rack l shelf
-lost_if rack l shelf why result start last before after is b h =
+    → rack.before.faults ≤ before → after ≤ rack.after.faults → LostLoad rack l shelf why
+lost_if rack l shelf why result start last before after is b h from to =
     lost_by rack l shelf why start last before after b
     (subst (λ (r : Result Measure Halt). Measures desk_rules most_steps (source_of l.number) r (spot desk_rules start before) (spot desk_rules last after)) is h)
+    from to
+
+-- memory ran out, behind some of the steps
+pub short_load : (rack : Racks) (l : LoadOptions) (start last : Desk) (before after : ℕ) → Begins rack l.options load_scripts start
+    → Measures desk_rules most_steps (source_of l.number) (Err halt.Memory) (spot desk_rules start before) (spot desk_rules last after)
+    → HoldTheBooks last rack.after.holds → rack.before.faults ≤ before → after ≤ rack.after.faults → (chances : Chances) × RemainsLoaded rack l chances IsAny 0
+short_load rack l start last before after b (inl h) left from to = (
+  chances_of l.options h.loads.fates,
+  (
+    performed last (loaded_behind l start last h.loads.fates h.done h.told h.few b.first h.loads.is) left,
+    have_failed rack h.loads.fates before after from h.loads.risen to,
+  ),
+)
+short_load rack l start last before after b (inr (shelf, h)) left from to =
+    let q : LostLoad rack l shelf reopen.Memory = record {
+      start = start;
+      left = spot desk_rules last after;
+      begins = b;
+      before = before;
+      loses = record { loses = h; rose = λ e. let no : ⊥ = cc in absurd no };
+      from = from;
+      to = to;
+    } in
+    let x = remains_lost rack l shelf reopen.Memory q in (chances_of l.options x.0.0, (lost shelf tt x.0.1, x.1.0))
+
+-- the same of a result that is that
+pub short_if : (rack : Racks) (l : LoadOptions) (result : Result Measure Halt) (start last : Desk) (before after : ℕ) → result ≡ Err halt.Memory
+    → Begins rack l.options load_scripts start
+    → Measures desk_rules most_steps (source_of l.number) result (spot desk_rules start before) (spot desk_rules last after)
+    → HoldTheBooks last rack.after.holds → rack.before.faults ≤ before → after ≤ rack.after.faults → (chances : Chances) × RemainsLoaded rack l chances IsAny 0
+short_if rack l result start last before after is b h left from to =
+    short_load rack l start last before after b
+    (subst (λ (r : Result Measure Halt). Measures desk_rules most_steps (source_of l.number) r (spot desk_rules start before) (spot desk_rules last after)) is h)
+    left from to
 
 -- its error
 pub error_is : (result : Result Measure Halt) (shelf : ℕ) (why other : Reopen) → result ≡ Err (halt.Reopen shelf why) → why ≡ other
@@ -206,30 +336,38 @@ pub error_is : (result : Result Measure Halt) (shelf : ℕ) (why other : Reopen)
 error_is result shelf why other is e =
     let made : Reopen → Result Measure Halt = λ w. Err (halt.Reopen shelf w) in is ∙ ap made e
 
+-- what is told of that
+abbrev LosesTold : (rack : Racks) (l : LoadOptions) (old new : Option (List ℕ)) (before after : ℕ) → Chances → Type 0
+LosesTold rack l old new before after chances =
+    (k : ℕ) × IsLost l chances k × AppendsUnlessFault old new (disk_line k) before after × RemainsLoaded rack l chances (IsThis k) 1
+
 -- a shelf was not opened again
 pub again_leaves : (rack : Racks) (l : LoadOptions) (shelf : ℕ) (why : Reopen) (s : Status) (old new : Option (List ℕ)) (before after : ℕ)
-    → (IsTrue rack.tells → LostLoad rack l shelf) → (why ≡ reopen.Disk → RackFailed rack) → (IsTrue rack.tells → (place : ℕ) → why ≡ reopen.Damaged place → ⊥)
+    → (IsTrue rack.tells → LostLoad rack l shelf why) → (why ≡ reopen.Disk → RackFailed rack) → (IsTrue rack.tells → (place : ℕ) → why ≡ reopen.Damaged place → ⊥)
     → (IsTrue rack.tells → (place : ℕ) → why ≡ reopen.Other place → ⊥) → TellsUnopened (unopened_again shelf why) s (sinks old new before after)
     → HasLeft rack l s (sinks old new before after)
-again_leaves rack l shelf why s old new before after lost failed damaged other (untold is line) = memory_leaves rack l s old new before after is line
-again_leaves rack l shelf reopen.Disk s old new before after lost failed damaged other (told line is same p) =
+again_leaves rack l shelf why s old new before after lost_so failed damaged other (untold is line) =
+    memory_leaves rack l s old new before after is line
+    (λ t. let x = remains_lost rack l shelf why (lost_so t) in (chances_of l.options x.0.0, (lost shelf tt x.0.1, x.1.0)))
+again_leaves rack l shelf reopen.Disk s old new before after lost_so failed damaged other (told line is same p) =
     subst (λ x. HasLeft rack l x (sinks old new before after)) (sym same) (x.0, (failed refl, x.1))
   where
     shown : AppendsUnlessFault old new (disk_line shelf) before after
     shown = subst (λ w. AppendsUnlessFault old new w before after) (sym (same_Some _ _ is)) p
 
-    here : LostLoad rack l shelf → (chances : Chances) × ((k : ℕ) × IsLost l chances k × AppendsUnlessFault old new (disk_line k) before after)
+    here : LostLoad rack l shelf reopen.Disk → (chances : Chances) × LosesTold rack l old new before after chances
     here q =
-        let loses = subst (λ (d : Desk). LosesShelf desk_rules most_steps (source_of l.number) shelf (spot desk_rules d q.before)) q.begins.first q.loses in
-        (chances_of l.options loses.loads.fates, (shelf, at_crash q.before loses refl, shown))
+        let x = remains_lost rack l shelf reopen.Disk q in
+        (chances_of l.options x.0.0, (shelf, at_crash x.0.1, shown, (lost shelf refl x.0.1, x.1.1 refl)))
 
-    x : (chances : Chances) × (IsTrue rack.tells → (k : ℕ) × IsLost l chances k × AppendsUnlessFault old new (disk_line k) before after)
-    x = decided rack.tells (λ chances. (k : ℕ) × IsLost l chances k × AppendsUnlessFault old new (disk_line k) before after) no_chances (λ t. here (lost t))
-again_leaves rack l shelf (reopen.Damaged place) s old new before after lost failed damaged other (told line is same p) =
+    x : (chances : Chances) × (IsTrue rack.tells → LosesTold rack l old new before after chances)
+    x = decided rack.tells (LosesTold rack l old new before after) no_chances (λ t. here (lost_so t))
+again_leaves rack l shelf (reopen.Damaged place) s old new before after lost_so failed damaged other (told line is same p) =
     subst (λ x. HasLeft rack l x (sinks old new before after)) (sym same) (no_chances, λ t. absurd (damaged t place refl))
-again_leaves rack l shelf (reopen.Other place) s old new before after lost failed damaged other (told line is same p) =
+again_leaves rack l shelf (reopen.Other place) s old new before after lost_so failed damaged other (told line is same p) =
     subst (λ x. HasLeft rack l x (sinks old new before after)) (sym same) (no_chances, λ t. absurd (other t place refl))
-again_leaves rack l shelf reopen.Memory s old new before after lost failed damaged other (told line is same p) = absurd (let no : None ≡ Some line = is in cc)
+again_leaves rack l shelf reopen.Memory s old new before after lost_so failed damaged other (told line is same p) =
+    absurd (let no : None ≡ Some line = is in cc)
 
 -- its steps are events
 pub loads_events : TranscriptsAreRuns → (l : LoadOptions) (fates : List Fate) → LoadsEvents l fates

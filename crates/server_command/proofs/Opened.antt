@@ -9,7 +9,7 @@ use Rattle.setup_reader.specs.Setup.{Parsed, setup_of}
 use Rattle.play_steps.specs.Step.{steps_of}
 use Rattle.play_steps.specs.declared.stage.Reopen.{Reopen}
 use Rattle.play_steps.specs.declared.stage.Reopen.TheVariants as reopen
-use Rattle.play_desk.specs.Opening.{IsClosedBy, IsNotEmpty}
+use Rattle.play_desk.specs.Opening.{AllStayKept, IsClosedBy, IsNotEmpty}
 use Rattle.play_desk.specs.declared.opening.OpenCause.{OpenCause}
 use Rattle.play_desk.specs.declared.opening.OpenCause.TheVariants as first
 use Rattle.server_command.specs.declared.program.Status.{Status}
@@ -18,8 +18,7 @@ use Rattle.server_command.specs.Output.{sinks}
 use Rattle.server_command.specs.Racks.{Racks}
 use Rattle.server_command.specs.Serving.{RackFailed}
 use Rattle.server_command.specs.Telling.{TellsUnopened, told, untold, unopened_again, unopened_by}
-use Rattle.server_command.proofs.Endings.{early}
-use Rattle.server_command.proofs.Playing.{IsFull, Lost, full_outputs, lost_outputs, memory_outputs, never_outputs, unread_outputs}
+use Rattle.server_command.proofs.Playing.{IsFull, Lost, full_outputs, is_unopened, lost_outputs, memory_outputs, never_outputs, unopened_early, unread_outputs}
 
 pub is_full : (rack : Racks) (o : Options) (shelf : ℕ) → (shelf < o.shelves) × IsNotEmpty rack.before.holds shelf → IsFull rack o shelf
 is_full rack o shelf h = by_image h.1.image h.1.held h.1.some
@@ -31,27 +30,31 @@ is_full rack o shelf h = by_image h.1.image h.1.held h.1.some
 -- a run of steps did not begin
 pub first_outputs : (rack : Racks) (o : Options) (bytes : List ℕ) (setup : Parsed) (shelf : ℕ) (why : OpenCause) (s : Status) (old new : Option (List ℕ)) (before after : ℕ)
     → setup_of Steps bytes ≡ Ok setup → (IsTrue rack.tells → IsClosedBy rack.before.holds o.shelves shelf why) → (why ≡ first.Disk → RackFailed rack)
+    → (IsTrue rack.tells → AllStayKept setup.scripts rack.before.holds rack.after.holds shelf why) → rack.before.faults ≤ rack.after.faults
     → TellsUnopened (unopened_by shelf why) s (sinks old new before after) → Outputs rack (Play o) bytes s (sinks old new before after)
-first_outputs rack o bytes setup shelf why s old new before after h closed failed (untold is line) = early rack (Play o) bytes s old new before after is line
-first_outputs rack o bytes setup shelf first.Disk s old new before after h closed failed (told line is same p) =
+first_outputs rack o bytes setup shelf why s old new before after h closed failed kept later (untold is line) =
+    unopened_early rack o bytes setup shelf why s old new before after h
+    (λ t. is_unopened rack setup.scripts o.shelves shelf why (closed t) failed (kept t)) later is line
+first_outputs rack o bytes setup shelf first.Disk s old new before after h closed failed kept later (told line is same p) =
     subst (λ x. Outputs rack (Play o) bytes x (sinks old new before after)) (sym same)
-    (unread_outputs rack o bytes setup shelf old new before after h (failed refl) (subst (λ l. AppendsUnlessFault old new l before after) (sym (same_Some _ _ is)) p))
-first_outputs rack o bytes setup shelf first.NotEmpty s old new before after h closed failed (told line is same p) =
+    (unread_outputs rack o bytes setup shelf old new before after h (failed refl)
+    (λ t. is_unopened rack setup.scripts o.shelves shelf first.Disk (closed t) failed (kept t)) (subst (λ l. AppendsUnlessFault old new l before after) (sym (same_Some _ _ is)) p))
+first_outputs rack o bytes setup shelf first.NotEmpty s old new before after h closed failed kept later (told line is same p) =
     subst (λ x. Outputs rack (Play o) bytes x (sinks old new before after)) (sym same)
-    (full_outputs rack o bytes setup shelf old new before after h (λ t. is_full rack o shelf (closed t)) (subst (λ l. AppendsUnlessFault old new l before after) (sym (same_Some _ _ is)) p))
-first_outputs rack o bytes setup shelf (first.Damaged place) s old new before after h closed failed (told line is same p) =
+    (full_outputs rack o bytes setup shelf old new before after h (λ t. is_full rack o shelf (closed t)) kept (subst (λ l. AppendsUnlessFault old new l before after) (sym (same_Some _ _ is)) p))
+first_outputs rack o bytes setup shelf (first.Damaged place) s old new before after h closed failed kept later (told line is same p) =
     subst (λ x. Outputs rack (Play o) bytes x (sinks old new before after)) (sym same) (never_outputs rack o bytes setup old new before after h closed)
-first_outputs rack o bytes setup shelf (first.Other place) s old new before after h closed failed (told line is same p) =
+first_outputs rack o bytes setup shelf (first.Other place) s old new before after h closed failed kept later (told line is same p) =
     subst (λ x. Outputs rack (Play o) bytes x (sinks old new before after)) (sym same) (never_outputs rack o bytes setup old new before after h closed)
-first_outputs rack o bytes setup shelf first.Memory s old new before after h closed failed (told line is same p) = absurd (let no : None ≡ Some line = is in cc)
+first_outputs rack o bytes setup shelf first.Memory s old new before after h closed failed kept later (told line is same p) = absurd (let no : None ≡ Some line = is in cc)
 
 -- a shelf was not opened again
 pub again_outputs : (rack : Racks) (o : Options) (bytes : List ℕ) (setup : Parsed) (shelf : ℕ) (why : Reopen) (s : Status) (old mid new : Option (List ℕ)) (before between after : ℕ)
-    → setup_of Steps bytes ≡ Ok setup → (IsTrue rack.tells → Lost rack o setup.scripts (steps_of setup.steps) shelf old mid)
+    → setup_of Steps bytes ≡ Ok setup → (IsTrue rack.tells → Lost rack o setup.scripts (steps_of setup.steps) shelf why old mid)
     → (why ≡ reopen.Disk → RackFailed rack) → (IsTrue rack.tells → (place : ℕ) → why ≡ reopen.Damaged place → ⊥) → (IsTrue rack.tells → (place : ℕ) → why ≡ reopen.Other place → ⊥)
     → before ≤ between → TellsUnopened (unopened_again shelf why) s (sinks mid new between after) → Outputs rack (Play o) bytes s (sinks old new before after)
 again_outputs rack o bytes setup shelf why s old mid new before between after h lost failed damaged other le (untold is line) =
-    memory_outputs rack o bytes setup s old mid new before between after h (λ t. inr (shelf, lost t)) le is line
+    memory_outputs rack o bytes setup s old mid new before between after h (λ t. inr (shelf, why, lost t)) le is line
 again_outputs rack o bytes setup shelf reopen.Disk s old mid new before between after h lost failed damaged other le (told line is same p) =
     subst (λ x. Outputs rack (Play o) bytes x (sinks old new before after)) (sym same)
     (lost_outputs rack o bytes setup shelf old mid new before between after h lost le (failed refl) (subst (λ l. AppendsUnlessFault mid new l between after) (sym (same_Some _ _ is)) p))

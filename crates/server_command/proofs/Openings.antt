@@ -1,13 +1,13 @@
 -- What opening and closing the shelves of a server leaves of its rack.
 use Rattle.std.proofs.Common.{◌≡◌, ◌≢◌, ◌<◌, ◌≤◌, ◌+◌, ◌-◌, ◌^◌, ◌++◌, ◌∷◌, ◌∙◌, ◌⊎◌, inl, inr, ℕ, zero, suc, List, [], length, Bool, true, false, IsTrue, Some, None, refl, sym, ap, subst, arith}
-use Rattle.std.specs.Prelude.{min, ◌&&◌}
+use Rattle.std.specs.Prelude.{min, slice_get, ◌&&◌}
 use Rattle.std.proofs.lemmas.Bool.{and_parts}
 use Rattle.std.proofs.lemmas.List.{length-append}
 use Rattle.web_outside.specs.Causes.{Rose}
 use Rattle.web_disk.specs.View.{View, RackView, AreAmong}
 use Rattle.script_nodes.specs.Setup.{Named}
 use Rattle.server_command.specs.Racks.{KeepsHome, damaged, other, first_unfit, unfit_left}
-use Rattle.server_command.specs.Opening.{HasTaken, IsRefused, IsUntaken, TakesBack, seen_on}
+use Rattle.server_command.specs.Opening.{AreFrom, HasTaken, IsRefused, IsUntaken, LeavesFrom, TakesBack, seen_on}
 use Rattle.server_command.specs.declared.opening.Unopened.{Unopened}
 use Rattle.server_command.specs.declared.opening.Unopened.TheVariants as unopened
 use Rattle.server_command.proofs.Racks.{held_more, unfit_behind}
@@ -76,7 +76,7 @@ gives_down before after count p = record {
 pub rose_since : (before mid after : ℕ) → before ≤ mid → Rose mid after → Rose before after
 rose_since before mid after le rose = omega (arith, le, rose)
 
-pub untaken_since : (before mid after : ℕ) (why : Unopened) → mid ≤ after → IsUntaken (Rose before mid) why → IsUntaken (Rose before after) why
+pub untaken_since : (before mid after : ℕ) (why : Unopened) → mid ≤ after → IsUntaken (λ shelf. Rose before mid) why → IsUntaken (λ shelf. Rose before after) why
 untaken_since before mid after (unopened.Disk shelf) le risen = omega (arith, le, risen)
 untaken_since before mid after (unopened.NotEmpty shelf) le h = h
 untaken_since before mid after (unopened.Damaged shelf place) le h = h
@@ -84,7 +84,7 @@ untaken_since before mid after (unopened.Other shelf place) le h = h
 untaken_since before mid after unopened.Memory le h = tt
 
 -- no disk that holds something was looked at
-pub untaken_refused : (told risen : Type 0) (scripts : List Named) (images : List (List ℕ)) (why : Unopened) → IsUntaken risen why → IsRefused told risen scripts images why
+pub untaken_refused : (told : Type 0) (risen : ℕ → Type 0) (scripts : List Named) (images : List (List ℕ)) (why : Unopened) → IsUntaken risen why → IsRefused told risen scripts images why
 untaken_refused told risen scripts images (unopened.Disk shelf) h = h
 untaken_refused told risen scripts images (unopened.NotEmpty shelf) h = h
 untaken_refused told risen scripts images (unopened.Damaged shelf place) h = absurd h
@@ -92,7 +92,7 @@ untaken_refused told risen scripts images (unopened.Other shelf place) h = absur
 untaken_refused told risen scripts images unopened.Memory h = tt
 
 pub refused_since : (told : Type 0) (before mid after : ℕ) (scripts : List Named) (images : List (List ℕ)) (why : Unopened) → before ≤ mid
-    → IsRefused told (Rose mid after) scripts images why → IsRefused told (Rose before after) scripts images why
+    → IsRefused told (λ shelf. Rose mid after) scripts images why → IsRefused told (λ shelf. Rose before after) scripts images why
 refused_since told before mid after scripts images (unopened.Disk shelf) le h = rose_since before mid after le h
 refused_since told before mid after scripts images (unopened.NotEmpty shelf) le h = h
 refused_since told before mid after scripts images (unopened.Damaged shelf place) le h = h
@@ -139,6 +139,7 @@ takes_none told before = record {
     held = λ t. tt;
     out = λ k below. absurd (omega (arith, below));
     others = λ k above home. home;
+    rest = λ n le image h. h;
     later = omega arith;
   };
   above = λ n le image h. h;
@@ -156,6 +157,7 @@ takes_next told before now after number images image p one here = record {
       | inr d ↦ one.others_out k d ∙ p.taken.out k (omega (arith, d, below))
     ];
     others = λ k above home. one.others_out k (λ e. omega (arith, e, above)) ∙ (p.home k (omega (arith, above)) ∙ home);
+    rest = λ n le x h. p.above n (omega (arith, le)) x (one.others n (λ e. omega (arith, e, le)) x h);
     later = omega (arith, p.taken.later, one.later);
   };
   above = λ n le x h. p.above n (omega (arith, le)) x (one.others n (λ e. omega (arith, e, le)) x h);
@@ -170,6 +172,14 @@ pub seen_size : {D : Type 0} (view : D → View) (front : List D) → length (se
 seen_size view [] = refl
 seen_size view (d ∷ front) = ap suc (seen_size view front)
 
+-- what holds of each, and of one more
+pub each_more : {A : Type 0} (K : ℕ → A → Type 0) (xs : List A) (x : A) → ((k : ℕ) (y : A) → slice_get xs k ≡ Some y → K k y) → K (length xs) x
+    → (k : ℕ) (y : A) → slice_get (xs ++ x ∷ []) k ≡ Some y → K k y
+each_more K [] x all new zero y e = subst (K 0) (cc e) new
+each_more K [] x all new (suc k) y e = absurd (cc e)
+each_more K (z ∷ xs) x all new zero y e = all zero y e
+each_more K (z ∷ xs) x all new (suc k) y e = each_more (λ j q. K (suc j) q) xs x (λ j q f. all (suc j) q f) new k y e
+
 -- disks that were taken came home, where one of them was not taken
 pub some_home : (told : Type 0) (before mid after last : RackView) (count : ℕ) (images : List (List ℕ)) → TakesUpTo told before mid count images
     → ((n : ℕ) → after.out n ≡ mid.out n) → TakesBack after last 0 count → KeepsHome before last
@@ -178,6 +188,22 @@ some_home told before mid after last count images p same back k home =
       | inl below ↦ back.back k (omega arith) (omega (arith, below))
       | inr above ↦ back.home k (same k ∙ (p.home k above ∙ home))
     ]
+
+-- disks that were taken came home as they were, and no other was touched
+pub kept_home : {D : Type 0} (view : D → View) (told : Type 0) (before mid after last : RackView) (count : ℕ) (images : List (List ℕ)) (disks : List D)
+    → TakesUpTo told before mid count images → length disks ≡ count → AreFrom view before disks → ((n : ℕ) → AreAmong (after.holds n) (mid.holds n))
+    → ((k : ℕ) (d : D) → slice_get disks k ≡ Some d → AreAmong (last.holds k) (view d).images) → LeavesFrom (length disks) after last
+    → LeavesFrom 0 before last
+kept_home {D = D} view told before mid after last count images disks p many from same held others n le image h =
+    elim (below_or_not n (length disks)) [
+      | inl low ↦ (let d = there disks n low in from n d.0 d.1 image (held n d.0 d.1 image h))
+      | inr high ↦ p.above n (omega (arith, many, high)) image (same n image (others n high image h))
+    ]
+  where
+    there : (xs : List D) (k : ℕ) → k < length xs → (x : D) × (slice_get xs k ≡ Some x)
+    there [] k low = absurd (omega (arith, low))
+    there (x ∷ xs) zero low = (x, refl)
+    there (x ∷ xs) (suc k) low = there xs k (omega (arith, low))
 
 -- both the rack and its disks tell
 pub both_tell : (a b : Bool) → IsTrue (a && b) → IsTrue a × IsTrue b

@@ -1,6 +1,6 @@
 -- From what a run of steps leaves to what a command answers.
-use Rattle.std.proofs.Common.{◌≡◌, ◌≤◌, ◌<◌, ◌+◌, ◌++◌, ◌∷◌, ◌⊎◌, ◌∙◌, ℕ, zero, suc, List, [], length, Bool, true, false, IsTrue, Option, Some, None, Result, Ok, append-nil, sym, ap, refl, subst, inl, inr, arith, codes}
-use Rattle.std.specs.Prelude.{replicate}
+use Rattle.std.proofs.Common.{◌≡◌, ◌≤◌, ◌<◌, ◌+◌, ◌++◌, ◌∷◌, ◌⊎◌, ◌∙◌, ℕ, zero, suc, List, [], length, Bool, true, false, IsTrue, Option, Some, None, Result, Ok, append-nil, append_assoc, sym, ap, refl, subst, inl, inr, arith, codes}
+use Rattle.std.specs.Prelude.{count_by, replicate}
 use Rattle.std.proofs.lemmas.List.{length-append}
 use Rattle.std.specs.Fmt.{decimal}
 use Rattle.std.specs.Io.KnownBytes.{Appends, Keeps}
@@ -14,20 +14,27 @@ use Rattle.setup_reader.specs.Setup.{Parsed, Fault, setup_of}
 use Rattle.script_nodes.specs.Setup.{Named}
 use Rattle.replay_spec.specs.Step.{Fate}
 use Rattle.play_steps.specs.Step.{Step, crash, steps_of}
-use Rattle.play_steps.specs.Transcript.{End, done, bad_line, Run, text_of, transcript}
+use Rattle.play_steps.specs.Transcript.{End, done, bad_line, Run, text_of, transcript, went}
+use Rattle.play_steps.specs.declared.report.Report.{Report}
+use Rattle.play_steps.specs.declared.stage.Reopen.{Reopen}
+use Rattle.play_steps.specs.declared.stage.Reopen.TheVariants as reopen
+use Rattle.play_steps.proofs.Runs.{print_joined}
 use Rattle.play_steps.specs.Texts.{print}
 use Rattle.play_steps.specs.Played as played
-use Rattle.play_steps.specs.Played.{Scene, Plays, Halts}
-use Rattle.play_desk.specs.Desk.{Desk, desk_rules}
+use Rattle.play_steps.specs.Played.{Scene, Plays, Halts, HasRisen, RoseBy}
+use Rattle.play_desk.specs.Desk.{Desk, desk_rules, is_fault}
 use Rattle.play_desk.specs.Laws.{TranscriptsAreRuns}
-use Rattle.play_desk.specs.Opening.{HoldTheBooks}
+use Rattle.play_desk.specs.Opening.{AllStayKept, HoldTheBooks, IsClosedBy}
+use Rattle.play_desk.specs.declared.opening.OpenCause.{OpenCause}
+use Rattle.play_desk.specs.declared.opening.OpenCause.TheVariants as cause
 use Rattle.server_command.specs.Racks.{Racks, AreHeld, AreTaken, not_empty, first_unfit, unfit_new, disk_line, unfit_line}
-use Rattle.server_command.specs.Output.{Chances, Output, output_of, desk_for, run_of, finished, ended, sinks, Tells, BreaksOff, at_line, replies, at_first, at_crash, unless_shut, Loses, Pauses}
+use Rattle.server_command.specs.Output.{Chances, Output, output_of, desk_for, run_of, finished, ended, sinks, Tells, BreaksOff, at_line, replies, at_first, at_crash, unless_shut, Replied}
+use Rattle.server_command.specs.Remains.{HaveFailed, IsAny, IsBehind, IsThis, IsUnopened, Loses, Pauses, Remains, RemainsShut, RemainsUnwritten, unopened, performed, lost}
 use Rattle.server_command.specs.Command.{Gives, Known, Outputs, PlaysEvents, Settles, StandFor, TakesDisks, TellsLine, with_setup}
 use Rattle.server_command.specs.Serving.{RackFailed}
 use Rattle.server_command.specs.declared.program.Status.{Status}
 use Rattle.server_command.specs.declared.program.Status.TheVariants as status
-use Rattle.server_command.proofs.Endings.{IsWhole, no_chances, whole_text, tells, since}
+use Rattle.server_command.proofs.Endings.{IsWhole, early, no_chances, whole_text, tells, since}
 
 -- what is there where this holds, and something else where not
 pub decided : {X : Type 0} (b : Bool) (P : X → Type 0) → X → (IsTrue b → (x : X) × P x) → (x : X) × (IsTrue b → P x)
@@ -104,10 +111,51 @@ plays_events law o bytes setup chances is none =
 
 stand_for : (rack : Racks) (o : Options) (bytes : List ℕ) (setup : Parsed) (d e : Desk) (fates : List Fate) (run : Run desk_rules) → setup_of Steps bytes ≡ Ok setup
     → d ≡ desk_for o setup.scripts → transcript desk_rules d 1 (steps_of setup.steps) fates ≡ run → run.state ≡ e → HoldTheBooks e rack.after.holds
-    → StandFor rack (Play o) (setup_of Steps bytes) (chances_of o fates)
-stand_for rack o bytes setup d e fates run h first is last l =
+    → HaveFailed rack fates 0 → StandFor rack (Play o) (setup_of Steps bytes) (chances_of o fates)
+stand_for rack o bytes setup d e fates run h first is last l counted =
     let same = ap (λ (x : Desk). (transcript desk_rules x 1 (steps_of setup.steps) fates).state) (sym first) ∙ (ap (λ (r : Run desk_rules). r.state) is ∙ last) in
-    subst (λ (r : Result Parsed Fault). StandFor rack (Play o) r (chances_of o fates)) (sym h) (subst (λ (x : Desk). HoldTheBooks x rack.after.holds) (sym same) l)
+    subst (λ (r : Result Parsed Fault). StandFor rack (Play o) r (chances_of o fates)) (sym h)
+    (subst (λ (x : Desk). HoldTheBooks x rack.after.holds) (sym same) l, counted)
+
+-- the count of a rack, by that of the stage before and behind the events of these fates
+pub have_failed : (rack : Racks) (fates : List Fate) (before after : ℕ) → rack.before.faults ≤ before → HasRisen desk_rules fates before after
+    → after ≤ rack.after.faults → HaveFailed rack fates 0
+have_failed rack fates before after from h to =
+    let rose : RoseBy (count_by is_fault fates) before after = h.fails in omega (arith, rose, from, to)
+
+-- and of one call more
+pub have_failed_once : (rack : Racks) (fates : List Fate) (before middle after : ℕ) → rack.before.faults ≤ before → HasRisen desk_rules fates before middle
+    → Rose middle after → after ≤ rack.after.faults → HaveFailed rack fates 1
+have_failed_once rack fates before middle after from h once to =
+    let rose : RoseBy (count_by is_fault fates) before middle = h.fails in omega (arith, rose, once, from, to)
+
+-- all steps were performed, up to the end or to a line that is no step or does not fit
+behind_all : (o : Options) (setup : Parsed) (d e : Desk) (fates : List Fate) (run : Run desk_rules) → d ≡ desk_for o setup.scripts
+    → transcript desk_rules d 1 (steps_of setup.steps) fates ≡ run → run.state ≡ e → IsBehind o setup fates (text_of run) e
+behind_all o setup d e fates run first is last =
+    let same = ap (λ (x : Desk). transcript desk_rules x 1 (steps_of setup.steps) fates) (sym first) ∙ is in
+    record {
+      front = steps_of setup.steps;
+      rest = [];
+      cut = sym (append-nil (steps_of setup.steps));
+      printed = ([], append-nil (text_of run) ∙ ap (λ (r : Run desk_rules). text_of r) (sym same));
+      state = ap (λ (r : Run desk_rules). r.state) same ∙ last;
+    }
+
+-- some were, and one that was not told whole
+behind_next : (o : Options) (setup : Parsed) (d e : Desk) (fates : List Fate) (front rest : List (Option Step)) (step : Step) (told last : List Report)
+    (text more : List ℕ) → d ≡ desk_for o setup.scripts → steps_of setup.steps ≡ front ++ Some step ∷ rest
+    → transcript desk_rules d 1 (front ++ Some step ∷ []) fates ≡ went desk_rules (told ++ last) e [] → print told ++ print last ≡ text ++ more
+    → IsBehind o setup fates text e
+behind_next o setup d e fates front rest step told last text more first cut is split =
+    let same = ap (λ (x : Desk). transcript desk_rules x 1 (front ++ Some step ∷ []) fates) (sym first) ∙ is in
+    record {
+      front = front ++ Some step ∷ [];
+      rest = rest;
+      cut = cut ∙ sym (append_assoc front (Some step ∷ []) rest);
+      printed = (more, sym split ∙ sym (print_joined told last) ∙ ap (λ (r : Run desk_rules). text_of r) (sym same));
+      state = ap (λ (r : Run desk_rules). r.state) same;
+    }
 
 -- what a run left that came to its end, or to a line that is no step or does not fit
 pub record Ran (rack : Racks) (o : Options) (scripts : List Named) (steps : List (Option Step)) (end : End) (old mid : Option (List ℕ)) : Type 0 where
@@ -118,6 +166,8 @@ pub record Ran (rack : Racks) (o : Options) (scripts : List Named) (steps : List
   pub after : ℕ
   pub plays : Plays desk_rules steps end (played.scene desk_rules old first before) (played.scene desk_rules mid last after)
   pub left : HoldTheBooks last rack.after.holds
+  pub from : rack.before.faults ≤ before
+  pub to : after ≤ rack.after.faults
 
 ran_output : (rack : Racks) (o : Options) (bytes : List ℕ) (setup : Parsed) (end : End) (old mid : Option (List ℕ)) → setup_of Steps bytes ≡ Ok setup
     → (p : Ran rack o setup.scripts (steps_of setup.steps) end old mid)
@@ -141,7 +191,16 @@ done_outputs rack o bytes setup s old mid new before between after h ran kept le
             error = ap (λ (x : Output). x.error) is;
             text = subst (Appends old new) (sym (ap (λ (x : Output). x.text) is)) (appends_kept old mid new (print p.plays.told) p.plays.written kept);
             taken = takes rack o bytes setup p.first p.plays.fates h p.begins;
-            stand = stand_for rack o bytes setup p.first p.last p.plays.fates _ h p.begins.first p.plays.is refl p.left;
+            stand = stand_for rack o bytes setup p.first p.last p.plays.fates _ h p.begins.first p.plays.is refl p.left
+                (have_failed rack p.plays.fates p.before p.after p.from p.plays.risen p.to);
+            unwritten = subst (λ (r : Result Parsed Fault). RemainsUnwritten rack (Play o) r (chances_of o p.plays.fates) old new) (sym h) (
+              print p.plays.told,
+              p.last,
+              appends_kept old mid new (print p.plays.told) p.plays.written kept,
+              behind_all o setup p.first p.last p.plays.fates _ p.begins.first p.plays.is refl,
+              p.left,
+              have_failed rack p.plays.fates p.before p.after p.from p.plays.risen p.to,
+            );
           },
         )
 
@@ -163,14 +222,15 @@ line_outputs rack o bytes setup n status.Line old mid new before between after h
               answered = subst (λ (x : Output). (x.status ≡ 4) × Tells x.text x.error (sinks old new before after)) (sym is) (refl, told_so);
               taken = takes rack o bytes setup p.first p.plays.fates h p.begins;
             },
-            stand_for rack o bytes setup p.first p.last p.plays.fates _ h p.begins.first p.plays.is refl p.left,
+            stand_for rack o bytes setup p.first p.last p.plays.fates _ h p.begins.first p.plays.is refl p.left
+                (have_failed rack p.plays.fates p.before p.after p.from p.plays.risen p.to),
           ),
         )
 line_outputs rack o bytes setup n status.Memory old mid new before between after h ran le told =
     by_tells rack o bytes setup h _ (λ t. paused (ran t))
   where
     paused : (p : Ran rack o setup.scripts (steps_of setup.steps) (bad_line n) old mid)
-        → (chances : Chances) × Pauses (Play o) bytes chances (codes "error 10 memory\n") (sinks old new before after)
+        → (chances : Chances) × Pauses rack (Play o) bytes chances (codes "error 10 memory\n") (sinks old new before after)
     paused p =
         let is = ran_output rack o bytes setup (bad_line n) old mid h p in
         let text : (output_of (Play o) bytes (chances_of o p.plays.fates)).text ≡ print p.plays.told = ap (λ (x : Output). x.text) is in (
@@ -179,6 +239,11 @@ line_outputs rack o bytes setup n status.Memory old mid new before between after
             (output_of (Play o) bytes (chances_of o p.plays.fates)).text,
             at_line (ap (λ (x : Output). x.status) is),
             tells old mid new _ (codes "error 10 memory\n") before after (subst (Appends old mid) (sym text) p.plays.written) (since mid new _ before between after le told),
+            subst (λ (t : List ℕ). Remains rack (Play o) (setup_of Steps bytes) (chances_of o p.plays.fates) t IsAny 0) (sym text)
+                (subst (λ (r : Result Parsed Fault). Remains rack (Play o) r (chances_of o p.plays.fates) (print p.plays.told) IsAny 0) (sym h) (
+                  performed p.last (behind_all o setup p.first p.last p.plays.fates _ p.begins.first p.plays.is refl) p.left,
+                  have_failed rack p.plays.fates p.before p.after p.from p.plays.risen p.to,
+                )),
           ),
         )
 line_outputs rack o bytes setup n s old mid new before between after h ran le told = absurd told
@@ -191,47 +256,88 @@ pub record Halted (rack : Racks) (o : Options) (scripts : List Named) (steps : L
   pub before : ℕ
   pub after : ℕ
   pub halts : Halts desk_rules steps shown (played.scene desk_rules old first before) (played.scene desk_rules mid last after)
+  pub left : HoldTheBooks last rack.after.holds
+  pub from : rack.before.faults ≤ before
+  pub to : after ≤ rack.after.faults
 
 pub write_outputs : (rack : Racks) (o : Options) (bytes : List ℕ) (setup : Parsed) (old new : Option (List ℕ)) (before after : ℕ) → setup_of Steps bytes ≡ Ok setup
     → (IsTrue rack.tells → (shown : List ℕ) × (p : Halted rack o setup.scripts (steps_of setup.steps) shown old new) × (0 < length p.halts.hidden))
     → Rose before after → Outputs rack (Play o) bytes status.Write (sinks old new before after)
 write_outputs rack o bytes setup old new before after h halted rose =
-    let x = by_tells rack o bytes setup h (λ chances. BreaksOff (output_of (Play o) bytes chances) (sinks old new before after)) (λ t. broke (halted t)) in
+    let x = by_tells rack o bytes setup h (λ chances. BreaksOff (output_of (Play o) bytes chances) (sinks old new before after)
+    × RemainsUnwritten rack (Play o) (setup_of Steps bytes) chances old new) (λ t. broke (halted t)) in
     (x.0, (rose, x.1))
   where
     broke : (shown : List ℕ) × (p : Halted rack o setup.scripts (steps_of setup.steps) shown old new) × (0 < length p.halts.hidden)
-        → (chances : Chances) × BreaksOff (output_of (Play o) bytes chances) (sinks old new before after)
+        → (chances : Chances) × (BreaksOff (output_of (Play o) bytes chances) (sinks old new before after)
+        × RemainsUnwritten rack (Play o) (setup_of Steps bytes) chances old new)
     broke (shown, p, some) =
         let q = p.halts in
         let fates = q.fates ++ q.came.fates in
         let run = transcript desk_rules p.first 1 (steps_of setup.steps) fates in
         let text : (output_of (Play o) bytes (chances_of o fates)).text ≡ (print q.told ++ shown) ++ (q.hidden ++ q.later) =
         ap (λ (x : Output). x.text) (output_is rack o bytes setup p.first fates run h p.begins.first refl) ∙ (text_is (text_of run) run.end ∙ q.all) in
-        (chances_of o fates, inl (record { front = print q.told ++ shown; rest = q.hidden ++ q.later; is = text; some = omega (arith, some, length-append q.hidden q.later); written = q.written }))
+        let split : print q.told ++ print q.last ≡ (print q.told ++ shown) ++ q.hidden =
+        ap (λ w. print q.told ++ w) q.split ∙ sym (append_assoc (print q.told) shown q.hidden) in (
+          chances_of o fates,
+          (
+            inl (record { front = print q.told ++ shown; rest = q.hidden ++ q.later; is = text; some = omega (arith, some, length-append q.hidden q.later); written = q.written }),
+            subst (λ (r : Result Parsed Fault). RemainsUnwritten rack (Play o) r (chances_of o fates) old new) (sym h) (
+              print q.told ++ shown,
+              p.last,
+              q.written,
+              behind_next o setup p.first p.last fates q.front q.rest q.step q.told q.last (print q.told ++ shown) q.hidden p.begins.first q.cut q.reached split,
+              p.left,
+              have_failed rack fates p.before p.after p.from q.risen p.to,
+            ),
+          ),
+        )
 
--- what a run left that came to a crash behind which the shelf was not opened
-pub record Lost (rack : Racks) (o : Options) (scripts : List Named) (steps : List (Option Step)) (shelf : ℕ) (old mid : Option (List ℕ)) : Type 0 where
+-- what a run left that came to a crash behind which the shelf was not opened, for this
+pub record Lost (rack : Racks) (o : Options) (scripts : List Named) (steps : List (Option Step)) (shelf : ℕ) (why : Reopen) (old mid : Option (List ℕ))
+    : Type 0 where
   pub first : Desk
   pub last : Desk
   pub begins : Begins rack o scripts first
   pub before : ℕ
   pub after : ℕ
   pub loses : played.Loses desk_rules steps shelf (played.scene desk_rules old first before) (played.scene desk_rules mid last after)
+  pub rose : why ≡ reopen.Disk → Rose loses.middle.faults after
+  pub from : rack.before.faults ≤ before
+  pub to : after ≤ rack.after.faults
+
+-- whole replies to the steps before the crash
+is_replied : (rack : Racks) (o : Options) (setup : Parsed) (shelf : ℕ) (why : Reopen) (old mid : Option (List ℕ))
+    (p : Lost rack o setup.scripts (steps_of setup.steps) shelf why old mid)
+    → Replied o setup p.loses.fates (λ step. step ≡ crash shelf) (print p.loses.told)
+is_replied rack o setup shelf why old mid p =
+    let q = p.loses in
+    let run = ap (λ (x : Desk). transcript desk_rules x 1 q.front q.fates) (sym p.begins.first) ∙ q.is in
+    record {
+      front = q.front;
+      step = crash shelf;
+      next = refl;
+      rest = q.rest;
+      cut = q.cut;
+      text_is = ap (λ (r : Run desk_rules). text_of r) run;
+      goes_on = ap (λ (r : Run desk_rules). r.end) run;
+    }
 
 pub memory_outputs : (rack : Racks) (o : Options) (bytes : List ℕ) (setup : Parsed) (s : Status) (old mid new : Option (List ℕ)) (before between after : ℕ)
     → setup_of Steps bytes ≡ Ok setup
-    → (IsTrue rack.tells → Halted rack o setup.scripts (steps_of setup.steps) [] old mid ⊎ ((shelf : ℕ) × Lost rack o setup.scripts (steps_of setup.steps) shelf old mid))
+    → (IsTrue rack.tells → Halted rack o setup.scripts (steps_of setup.steps) [] old mid ⊎ ((shelf : ℕ) × (why : Reopen) × Lost rack o setup.scripts (steps_of setup.steps) shelf why old mid))
     → before ≤ between → s ≡ status.Memory → AppendsUnlessFault mid new (codes "error 10 memory\n") between after
     → Outputs rack (Play o) bytes s (sinks old new before after)
 memory_outputs rack o bytes setup s old mid new before between after h halted le is told =
     subst (λ (x : Status). Outputs rack (Play o) bytes x (sinks old new before after)) (sym is) (by_tells rack o bytes setup h _ (λ t. paused (halted t)))
   where
-    paused : Halted rack o setup.scripts (steps_of setup.steps) [] old mid ⊎ ((shelf : ℕ) × Lost rack o setup.scripts (steps_of setup.steps) shelf old mid)
-        → (chances : Chances) × Pauses (Play o) bytes chances (codes "error 10 memory\n") (sinks old new before after)
+    paused : Halted rack o setup.scripts (steps_of setup.steps) [] old mid ⊎ ((shelf : ℕ) × (why : Reopen) × Lost rack o setup.scripts (steps_of setup.steps) shelf why old mid)
+        → (chances : Chances) × Pauses rack (Play o) bytes chances (codes "error 10 memory\n") (sinks old new before after)
     paused (inl p) =
         let q = p.halts in
-        let run = ap (λ (x : Desk). transcript desk_rules x 1 q.front q.fates) (sym p.begins.first) ∙ q.is in (
-          chances_of o q.fates,
+        let fates = q.fates ++ q.came.fates in
+        let run = ap (λ (x : Desk). transcript desk_rules x 1 q.front fates) (sym p.begins.first) ∙ q.is q.came.fates in (
+          chances_of o fates,
           (
             print q.told,
             replies o setup (print q.told) refl h (record {
@@ -244,9 +350,14 @@ memory_outputs rack o bytes setup s old mid new before between after h halted le
               goes_on = ap (λ (r : Run desk_rules). r.end) run;
             }),
             tells old mid new (print q.told) (codes "error 10 memory\n") before after (subst (Appends old mid) (append-nil (print q.told)) q.written) (since mid new _ before between after le told),
+            subst (λ (r : Result Parsed Fault). Remains rack (Play o) r (chances_of o fates) (print q.told) IsAny 0) (sym h) (
+              performed p.last
+                  (behind_next o setup p.first p.last fates q.front q.rest q.step q.told q.last (print q.told) (print q.last) p.begins.first q.cut q.reached refl) p.left,
+              have_failed rack fates p.before p.after p.from q.risen p.to,
+            ),
           ),
         )
-    paused (inr (shelf, p)) =
+    paused (inr (shelf, why, p)) =
         let q = p.loses in
         let run = ap (λ (x : Desk). transcript desk_rules x 1 q.front q.fates) (sym p.begins.first) ∙ q.is in (
           chances_of o q.fates,
@@ -262,44 +373,81 @@ memory_outputs rack o bytes setup s old mid new before between after h halted le
               goes_on = ap (λ (r : Run desk_rules). r.end) run;
             }),
             tells old mid new (print q.told) (codes "error 10 memory\n") before after q.written (since mid new _ before between after le told),
+            subst (λ (r : Result Parsed Fault). Remains rack (Play o) r (chances_of o q.fates) (print q.told) IsAny 0) (sym h) (
+              lost shelf tt (is_replied rack o setup shelf why old mid p),
+              have_failed rack q.fates p.before q.middle.faults p.from q.risen (let later = q.later in let to = p.to in omega (arith, later, to)),
+            ),
           ),
         )
 
 pub lost_outputs : (rack : Racks) (o : Options) (bytes : List ℕ) (setup : Parsed) (shelf : ℕ) (old mid new : Option (List ℕ)) (before between after : ℕ)
-    → setup_of Steps bytes ≡ Ok setup → (IsTrue rack.tells → Lost rack o setup.scripts (steps_of setup.steps) shelf old mid) → before ≤ between → RackFailed rack
-    → AppendsUnlessFault mid new (disk_line shelf) between after → Outputs rack (Play o) bytes status.Disk (sinks old new before after)
-lost_outputs rack o bytes setup shelf old mid new before between after h lost le failed told =
-    let x = by_tells rack o bytes setup h (λ chances. Loses (Play o) bytes chances (sinks old new before after)) (λ t. loses (lost t)) in
+    → setup_of Steps bytes ≡ Ok setup → (IsTrue rack.tells → Lost rack o setup.scripts (steps_of setup.steps) shelf reopen.Disk old mid) → before ≤ between
+    → RackFailed rack → AppendsUnlessFault mid new (disk_line shelf) between after → Outputs rack (Play o) bytes status.Disk (sinks old new before after)
+lost_outputs rack o bytes setup shelf old mid new before between after h lost_so le failed told =
+    let x = by_tells rack o bytes setup h (λ chances. Loses rack (Play o) bytes chances (sinks old new before after)) (λ t. loses (lost_so t)) in
     (x.0, (failed, x.1))
   where
-    loses : Lost rack o setup.scripts (steps_of setup.steps) shelf old mid → (chances : Chances) × Loses (Play o) bytes chances (sinks old new before after)
+    loses : Lost rack o setup.scripts (steps_of setup.steps) shelf reopen.Disk old mid
+        → (chances : Chances) × Loses rack (Play o) bytes chances (sinks old new before after)
     loses p =
         let q = p.loses in
-        let run = ap (λ (x : Desk). transcript desk_rules x 1 q.front q.fates) (sym p.begins.first) ∙ q.is in (
+        let replied = is_replied rack o setup shelf reopen.Disk old mid p in (
           chances_of o q.fates,
           (
             shelf,
             print q.told,
-            at_crash o setup (print q.told) refl h (record {
-              front = q.front;
-              step = crash shelf;
-              next = refl;
-              rest = q.rest;
-              cut = q.cut;
-              text_is = ap (λ (r : Run desk_rules). text_of r) run;
-              goes_on = ap (λ (r : Run desk_rules). r.end) run;
-            }),
+            at_crash o setup (print q.told) refl h replied,
             tells old mid new (print q.told) (disk_line shelf) before after q.written (since mid new _ before between after le told),
+            subst (λ (r : Result Parsed Fault). Remains rack (Play o) r (chances_of o q.fates) (print q.told) (IsThis shelf) 1) (sym h)
+                (lost shelf refl replied, have_failed_once rack q.fates p.before q.middle.faults p.after p.from q.risen (p.rose refl) p.to),
           ),
         )
 
 -- ---- a run of steps that does not begin
 
 pub unread_outputs : (rack : Racks) (o : Options) (bytes : List ℕ) (setup : Parsed) (shelf : ℕ) (old new : Option (List ℕ)) (before after : ℕ)
-    → setup_of Steps bytes ≡ Ok setup → RackFailed rack → AppendsUnlessFault old new (disk_line shelf) before after
-    → Outputs rack (Play o) bytes status.Disk (sinks old new before after)
-unread_outputs rack o bytes setup shelf old new before after h failed told =
-    (no_chances, (failed, λ settles. (shelf, [], at_first o refl, tells old old new [] (disk_line shelf) before after (appends_none old) told)))
+    → setup_of Steps bytes ≡ Ok setup → RackFailed rack → (IsTrue rack.tells → IsUnopened rack setup.scripts shelf cause.Disk)
+    → AppendsUnlessFault old new (disk_line shelf) before after → Outputs rack (Play o) bytes status.Disk (sinks old new before after)
+unread_outputs rack o bytes setup shelf old new before after h failed kept told = (
+  no_chances,
+  (
+    failed,
+    λ settles. (
+      shelf,
+      [],
+      at_first o refl,
+      tells old old new [] (disk_line shelf) before after (appends_none old) told,
+      subst (λ (r : Result Parsed Fault). Remains rack (Play o) r no_chances [] (IsThis shelf) 1) (sym h) (
+        unopened shelf cause.Disk refl refl (kept (tells_of rack o bytes setup h settles)),
+        (let none : count_by is_fault [] ≡ 0 = refl in omega (arith, none, failed)),
+      ),
+    ),
+  ),
+)
+
+-- the disks before the first that is not opened may hold nothing
+pub closed_before : (holds : ℕ → List ℕ → Type 0) (count shelf : ℕ) (why : OpenCause) → IsClosedBy holds count shelf why → (k : ℕ) → k < shelf → holds k []
+closed_before holds count shelf cause.NotEmpty h = h.1.before
+closed_before holds count shelf (cause.Damaged place) h = absurd h
+closed_before holds count shelf (cause.Other place) h = absurd h
+closed_before holds count shelf cause.Disk h = h.1
+closed_before holds count shelf cause.Memory h = h.1
+
+pub is_unopened : (rack : Racks) (scripts : List Named) (count shelf : ℕ) (why : OpenCause) → IsClosedBy rack.before.holds count shelf why
+    → (why ≡ cause.Disk → RackFailed rack) → AllStayKept scripts rack.before.holds rack.after.holds shelf why → IsUnopened rack scripts shelf why
+is_unopened rack scripts count shelf why closed failed kept =
+    record { before = closed_before rack.before.holds count shelf why closed; failed = failed; kept = kept }
+
+-- memory ran out, or was not there to tell why a shelf was not opened
+pub unopened_early : (rack : Racks) (o : Options) (bytes : List ℕ) (setup : Parsed) (shelf : ℕ) (why : OpenCause) (s : Status) (old new : Option (List ℕ)) (before after : ℕ)
+    → setup_of Steps bytes ≡ Ok setup → (IsTrue rack.tells → IsUnopened rack setup.scripts shelf why) → rack.before.faults ≤ rack.after.faults → s ≡ status.Memory
+    → AppendsUnlessFault old new (codes "error 10 memory\n") before after → Outputs rack (Play o) bytes s (sinks old new before after)
+unopened_early rack o bytes setup shelf why s old new before after h kept later is line =
+    early rack (Play o) bytes s old new before after is line
+    (λ settles. subst (λ (r : Result Parsed Fault). Remains rack (Play o) r no_chances [] IsAny 0) (sym h) (
+      unopened shelf why tt refl (kept (tells_of rack o bytes setup h settles)),
+      (let none : count_by is_fault [] ≡ 0 = refl in omega (arith, none, later)),
+    ))
 
 -- the disks before this one are empty, and this one holds something
 pub record IsFull (rack : Racks) (o : Options) (shelf : ℕ) : Type 0 where
@@ -323,13 +471,16 @@ full_held holds (suc n) k image m is each here =
     (each k (omega (arith, is)), full_held holds n (k + 1) image m (omega (arith, is)) each here)
 
 pub full_outputs : (rack : Racks) (o : Options) (bytes : List ℕ) (setup : Parsed) (shelf : ℕ) (old new : Option (List ℕ)) (before after : ℕ)
-    → setup_of Steps bytes ≡ Ok setup → (IsTrue rack.tells → IsFull rack o shelf) → AppendsUnlessFault old new (unfit_line shelf not_empty) before after
-    → Outputs rack (Play o) bytes status.Journal (sinks old new before after)
-full_outputs rack o bytes setup shelf old new before after h full told =
-    by_tells rack o bytes setup h (λ chances. Gives rack (Play o) bytes chances 8 (sinks old new before after)) (λ t. shut (full t))
+    → setup_of Steps bytes ≡ Ok setup → (IsTrue rack.tells → IsFull rack o shelf)
+    → (IsTrue rack.tells → AllStayKept setup.scripts rack.before.holds rack.after.holds shelf cause.NotEmpty)
+    → AppendsUnlessFault old new (unfit_line shelf not_empty) before after → Outputs rack (Play o) bytes status.Journal (sinks old new before after)
+full_outputs rack o bytes setup shelf old new before after h full kept told =
+    by_tells rack o bytes setup h (λ chances. Gives rack (Play o) bytes chances 8 (sinks old new before after) × RemainsShut rack (Play o) (setup_of Steps bytes))
+    (λ t. shut (full t) (kept t))
   where
-    shut : IsFull rack o shelf → (chances : Chances) × Gives rack (Play o) bytes chances 8 (sinks old new before after)
-    shut p =
+    shut : IsFull rack o shelf → AllStayKept setup.scripts rack.before.holds rack.after.holds shelf cause.NotEmpty
+        → (chances : Chances) × (Gives rack (Play o) bytes chances 8 (sinks old new before after) × RemainsShut rack (Play o) (setup_of Steps bytes))
+    shut p stay =
         let images : List (List ℕ) = replicate shelf [] ++ (p.byte ∷ p.bytes) ∷ [] in
         let chances : Chances = record { disks = images; fates = [] } in
         let unfit = full_unfit shelf 0 p.byte p.bytes shelf (omega arith) in
@@ -340,11 +491,14 @@ full_outputs rack o bytes setup shelf old new before after h full told =
         let is : output_of (Play o) bytes chances ≡ record { text = []; error = unfit_line shelf not_empty; status = 8 } =
         rw h (ap (λ f. unless_shut f (finished (run_of o setup.scripts (steps_of setup.steps) []))) unfit) in (
           chances,
-          record {
-            answered = subst (λ (x : Output). (x.status ≡ 8) × Tells x.text x.error (sinks old new before after)) (sym is)
-                (refl, tells old old new [] (unfit_line shelf not_empty) before after (appends_none old) told);
-            taken = subst (λ (r : Result Parsed Fault). TakesDisks rack (with_setup (Play o) r) images) (sym h) taken;
-          },
+          (
+            record {
+              answered = subst (λ (x : Output). (x.status ≡ 8) × Tells x.text x.error (sinks old new before after)) (sym is)
+                  (refl, tells old old new [] (unfit_line shelf not_empty) before after (appends_none old) told);
+              taken = subst (λ (r : Result Parsed Fault). TakesDisks rack (with_setup (Play o) r) images) (sym h) taken;
+            },
+            subst (λ (r : Result Parsed Fault). RemainsShut rack (Play o) r) (sym h) (λ n. stay n (λ e. let no : ⊥ = cc in absurd no)),
+          ),
         )
 
 -- what no disk that tells its bytes does

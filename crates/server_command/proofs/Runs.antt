@@ -1,5 +1,6 @@
 -- What a run of steps on a desk leaves, by what its opening, its steps and its closing tell.
-use Rattle.std.proofs.Common.{◌≡◌, ◌<◌, ◌⊎◌, ◌∙◌, inl, inr, ℕ, List, [], length, Option, Some, ap, subst}
+use Rattle.web_outside.specs.Causes.{Rose}
+use Rattle.std.proofs.Common.{◌≡◌, ◌<◌, ◌≤◌, ◌⊎◌, ◌∙◌, inl, inr, ℕ, List, [], length, Option, Some, ap, subst}
 use Rattle.command_words.specs.declared.Options.{Options}
 use Rattle.journal_books.specs.Lengths.{journal_rules}
 use Rattle.script_nodes.specs.Setup.{Named}
@@ -39,39 +40,51 @@ begins rack o scripts r d a is empty = record {
   empty = subst (λ n. (k : ℕ) → k < n → rack.before.holds k []) a.shelves empty;
 }
 
+-- a run came to a crash of this shelf, which was not opened again for this
+pub record LosesBy (steps : List (Option Step)) (shelf : ℕ) (why : Reopen) (before after : Scene desk_rules) : Type 0 where
+  pub loses : played.Loses desk_rules steps shelf before after
+  pub rose : why ≡ reopen.Disk → Rose loses.middle.faults after.spot.faults
+
 pub ran : (rack : Racks) (o : Options) (scripts : List Named) (steps : List (Option Step)) (end : End) (old mid : Option (List ℕ)) (first last : Desk) (before after : ℕ)
     → Begins rack o scripts first → Plays desk_rules steps end (played.scene desk_rules old first before) (played.scene desk_rules mid last after)
-    → HoldTheBooks last rack.after.holds → Ran rack o scripts steps end old mid
-ran rack o scripts steps end old mid first last before after b p left =
-    record { first = first; last = last; begins = b; before = before; after = after; plays = p; left = left }
+    → HoldTheBooks last rack.after.holds → rack.before.faults ≤ before → after ≤ rack.after.faults → Ran rack o scripts steps end old mid
+ran rack o scripts steps end old mid first last before after b p left from to =
+    record { first = first; last = last; begins = b; before = before; after = after; plays = p; left = left; from = from; to = to }
 
 pub halted : (rack : Racks) (o : Options) (scripts : List Named) (steps : List (Option Step)) (old mid : Option (List ℕ)) (first last : Desk) (before after : ℕ)
     → Begins rack o scripts first
     → ((shown : List ℕ) × (h : Halts desk_rules steps shown (played.scene desk_rules old first before) (played.scene desk_rules mid last after)) × (0 < length h.hidden))
+    → HoldTheBooks last rack.after.holds → rack.before.faults ≤ before → after ≤ rack.after.faults
     → (shown : List ℕ) × (p : Halted rack o scripts steps shown old mid) × (0 < length p.halts.hidden)
-halted rack o scripts steps old mid first last before after b (shown, h, some) =
-    (shown, record { first = first; last = last; begins = b; before = before; after = after; halts = h }, some)
+halted rack o scripts steps old mid first last before after b (shown, h, some) left from to =
+    (shown, record { first = first; last = last; begins = b; before = before; after = after; halts = h; left = left; from = from; to = to }, some)
 
-pub lost : (rack : Racks) (o : Options) (scripts : List Named) (steps : List (Option Step)) (shelf : ℕ) (old mid : Option (List ℕ)) (first last : Desk) (before after : ℕ)
-    → Begins rack o scripts first → played.Loses desk_rules steps shelf (played.scene desk_rules old first before) (played.scene desk_rules mid last after)
-    → Lost rack o scripts steps shelf old mid
-lost rack o scripts steps shelf old mid first last before after b p =
-    record { first = first; last = last; begins = b; before = before; after = after; loses = p }
+pub lost : (rack : Racks) (o : Options) (scripts : List Named) (steps : List (Option Step)) (shelf : ℕ) (why : Reopen) (old mid : Option (List ℕ)) (first last : Desk) (before after : ℕ)
+    → Begins rack o scripts first → LosesBy steps shelf why (played.scene desk_rules old first before) (played.scene desk_rules mid last after)
+    → rack.before.faults ≤ before → after ≤ rack.after.faults → Lost rack o scripts steps shelf why old mid
+lost rack o scripts steps shelf why old mid first last before after b p from to =
+    record { first = first; last = last; begins = b; before = before; after = after; loses = p.loses; rose = p.rose; from = from; to = to }
 
 pub paused : (rack : Racks) (o : Options) (scripts : List Named) (steps : List (Option Step)) (old mid : Option (List ℕ)) (first last : Desk) (before after : ℕ)
     → Begins rack o scripts first
     → Halts desk_rules steps [] (played.scene desk_rules old first before) (played.scene desk_rules mid last after)
     ⊎ ((shelf : ℕ) × played.Loses desk_rules steps shelf (played.scene desk_rules old first before) (played.scene desk_rules mid last after))
-    → Halted rack o scripts steps [] old mid ⊎ ((shelf : ℕ) × Lost rack o scripts steps shelf old mid)
-paused rack o scripts steps old mid first last before after b (inl h) =
-    inl (record { first = first; last = last; begins = b; before = before; after = after; halts = h })
-paused rack o scripts steps old mid first last before after b (inr (shelf, p)) =
-    inr (shelf, lost rack o scripts steps shelf old mid first last before after b p)
+    → HoldTheBooks last rack.after.holds → rack.before.faults ≤ before → after ≤ rack.after.faults
+    → Halted rack o scripts steps [] old mid ⊎ ((shelf : ℕ) × (why : Reopen) × Lost rack o scripts steps shelf why old mid)
+paused rack o scripts steps old mid first last before after b (inl h) left from to =
+    inl (record { first = first; last = last; begins = b; before = before; after = after; halts = h; left = left; from = from; to = to })
+paused rack o scripts steps old mid first last before after b (inr (shelf, p)) left from to =
+    inr (
+      shelf,
+      reopen.Memory,
+      lost rack o scripts steps shelf reopen.Memory old mid first last before after b
+          (record { loses = p; rose = λ e. let no : ⊥ = cc in absurd no }) from to,
+    )
 
 -- a shelf was not opened again, for whatever cause
 pub loses : (steps : List (Option Step)) (shelf : ℕ) (why : Reopen) (before after : Scene desk_rules) → Leaves desk_rules steps (Lost_at shelf why) before after
-    → played.Loses desk_rules steps shelf before after
-loses steps shelf reopen.Disk before after p = p
-loses steps shelf (reopen.Damaged place) before after p = p
-loses steps shelf (reopen.Other place) before after p = p
+    → LosesBy steps shelf why before after
+loses steps shelf reopen.Disk before after p = record { loses = p.loses; rose = λ e. p.rose }
+loses steps shelf (reopen.Damaged place) before after p = record { loses = p; rose = λ e. let no : ⊥ = cc in absurd no }
+loses steps shelf (reopen.Other place) before after p = record { loses = p; rose = λ e. let no : ⊥ = cc in absurd no }
 loses steps shelf reopen.Memory before after p = absurd p

@@ -26,10 +26,11 @@ use Rattle.server_command.specs.declared.serving.ServeFault.TheVariants as fault
 use Rattle.server_command.specs.declared.opening.Unopened.{Unopened}
 use Rattle.server_command.specs.declared.opening.Unopened.TheVariants as unopened
 use Rattle.server_command.specs.Command.{TellsFaultLine}
-use Rattle.server_command.specs.Opening.{IsRefused, OpensOn, RefusesOn}
+use Rattle.server_command.specs.Opening.{FailsAt, IsRefused, LeavesFrom, OpensOn, RefusesOn}
 use Rattle.server_command.specs.Output.{Answers, Chances, PrintsTo, Sinks, rules_for, served, sinks}
 use Rattle.server_command.specs.Telling.{TellsUnopened, told, untold}
-use Rattle.server_command.specs.Racks.{AreHeld, damaged, other}
+use Rattle.play_desk.specs.Opening.{IsKept}
+use Rattle.server_command.specs.Racks.{AtRest, damaged, other}
 use Rattle.server_command.specs.Serving.{Faults, LeavesInput, LeavesServing, Opens, Outside, Served, Serves, ServesBy, ShutsBy, serves_over, told_as, watch_of}
 use Rattle.server_command.proofs.Endings.{no_chances, tells}
 use Rattle.server_command.proofs.Shelves.{opened_fits, stands_from}
@@ -72,24 +73,41 @@ serves_of {D = D} {P = P} {L = L} {N = N} o s scripts sources middle openings di
         → ServesBy (serves_over o) s scripts p.images (told_as r)
     by_result (Ok tally) f =
         (record { kept = f.0; served = whole ends.Done f.0 f.1; counted = f.2 }, opens_of o s scripts sources middle openings count p)
-    by_result (Err faults.Door) (inl none) = inl none
-    by_result (Err faults.Door) (inr f) = inr (total f.0.tallies, record { kept = f.0; served = whole ends.Failed f.0 f.1; counted = refl })
+    by_result (Err faults.Door) (inl none) = inl (none, opens_of o s scripts sources middle openings count p)
+    by_result (Err faults.Door) (inr f) =
+        inr (total f.0.tallies, record { kept = f.0; served = whole ends.Failed f.0 f.1; counted = refl }, opens_of o s scripts sources middle openings count p)
     by_result (Err faults.Memory) f = f
 
 -- a shelf was not opened
 pub refuses_of : {D P L N : Type 0} (o : Outside D P L N) (s : Service) (scripts : List Named) (why : Unopened) → IsUnserved o.before o.after o.past
     → (p : RefusesOn (IsTrue o.rack.tells) scripts s.options.shelves o.rack.before o.rack.after why) → ServesBy (serves_over o) s scripts p.images (Err (fault.Shelf why))
-refuses_of o s scripts why none p = (none, by_why why p.images p.held p.refused)
+refuses_of o s scripts why none p = (none, by_why why p.refused p.kept p.unread)
   where
-    by_why : (w : Unopened) (images : List (List ℕ)) → (IsTrue o.rack.tells → AreHeld o.rack.before.holds 0 images)
-        → IsRefused (IsTrue o.rack.tells) (Rose o.rack.before.faults o.rack.after.faults) scripts images w → ShutsBy o.rack s scripts images w
-    by_why (unopened.Disk shelf) images held h = h
-    by_why (unopened.NotEmpty shelf) images held h = h
-    by_why (unopened.Damaged shelf place) images held h = λ t.
-        (record { held = held t; all = λ none. absurd (let no : None ≡ Some (shelf, damaged place) = sym none ∙ h t in cc) }, h t)
-    by_why (unopened.Other shelf place) images held h = λ t.
-        (record { held = held t; all = λ none. absurd (let no : None ≡ Some (shelf, other place) = sym none ∙ h t in cc) }, h t)
-    by_why unopened.Memory images held h = tt
+    by_why : (w : Unopened) → IsRefused (IsTrue o.rack.tells) (FailsAt s.options.shelves o.rack.before o.rack.after) scripts p.images w
+        → (IsTrue o.rack.tells → (k : ℕ) (read left : List ℕ) → slice_get p.images k ≡ Some read → o.rack.after.holds k left → (w ≡ unopened.Disk k → ⊥)
+        → IsKept scripts k (o.rack.before.holds k) read left)
+        → (IsTrue o.rack.tells → LeavesFrom (length p.images) o.rack.before o.rack.after)
+        → ShutsBy o.rack s scripts p.images w
+    by_why (unopened.Disk shelf) h kept rest = (
+      h.0,
+      h.1,
+      λ t. record {
+        read = λ k read left read_is left_is other. kept t k read left read_is left_is (λ e. other (let same : k ≡ shelf = cc in same));
+        unread = λ k left le is. rest t k le left is;
+      },
+    )
+    by_why (unopened.NotEmpty shelf) h kept rest = h
+    by_why (unopened.Damaged shelf place) h kept rest = λ t. (
+      record { held = p.held t; all = λ none. absurd (let no : None ≡ Some (shelf, damaged place) = sym none ∙ h t in cc) },
+      h t,
+      λ k read left read_is left_is. kept t k read left read_is left_is (λ e. let no : ⊥ = cc e in no),
+    )
+    by_why (unopened.Other shelf place) h kept rest = λ t. (
+      record { held = p.held t; all = λ none. absurd (let no : None ≡ Some (shelf, other place) = sym none ∙ h t in cc) },
+      h t,
+      λ k read left read_is left_is. kept t k read left read_is left_is (λ e. let no : ⊥ = cc e in no),
+    )
+    by_why unopened.Memory h kept rest = tt
 
 -- the line of a setup's fault
 pub tells_fault_line : (line : List ℕ) (e : Fault) (old new : Option (List ℕ)) (before after : ℕ) → line ≡ fault_line e → AppendsUnlessFault old new line before after
@@ -98,11 +116,11 @@ tells_fault_line line e old new before after same p = subst (λ l. AppendsUnless
 
 -- a fault of a setup is all that is told
 pub fault_left : (serves : Serves) (v : Service) (bytes : List ℕ) (fault : Fault) (s : Status) (out : Sinks) (door seeds : Faults) → setup_of Input bytes ≡ Err fault
-    → TellsFaultLine fault s out → serves.unopened → (chances : Chances) × LeavesInput serves v bytes chances s out door seeds
-fault_left serves v bytes fault status.Setup out door seeds is line none =
-    (no_chances, (subst (λ r. Answers (served r no_chances) 3 out) (sym is) (refl, tells out.held out.held out.holds [] (fault_line fault) out.before out.after (appends_none out.held) line), none))
-fault_left serves v bytes fault status.Memory out door seeds is line none = (no_chances, (line, inl none))
-fault_left serves v bytes fault s out door seeds is line none = absurd line
+    → TellsFaultLine fault s out → serves.unopened → AtRest serves.rack → (chances : Chances) × LeavesInput serves v bytes chances s out door seeds
+fault_left serves v bytes fault status.Setup out door seeds is line none rest =
+    (no_chances, (subst (λ r. Answers (served r no_chances) 3 out) (sym is) (refl, tells out.held out.held out.holds [] (fault_line fault) out.before out.after (appends_none out.held) line), none, rest))
+fault_left serves v bytes fault status.Memory out door seeds is line none rest = (no_chances, (line, inl none))
+fault_left serves v bytes fault s out door seeds is line none rest = absurd line
 
 -- memory ran out before a setup was served
 pub memory_left : (serves : Serves) (v : Service) (bytes : List ℕ) (s : Status) (out : Sinks) (door seeds : Faults) → s ≡ status.Memory
@@ -116,7 +134,7 @@ pub shuts_told : (serves : Serves) (v : Service) (scripts : List Named) (images 
 shuts_told serves v scripts images why s out door seeds by (untold is line) =
     subst (λ x. LeavesServing serves v scripts images x out door seeds) (sym is) (line, inl by.0)
 shuts_told serves v scripts images (unopened.Disk shelf) s out door seeds by (told line is same p) =
-    subst (λ x. LeavesServing serves v scripts images x out door seeds) (sym same) (shelf, by.1, subst (PrintsTo out) (sym (same_Some _ _ is)) p, by.0)
+    subst (λ x. LeavesServing serves v scripts images x out door seeds) (sym same) (shelf, by.1.1, by.1.0, subst (PrintsTo out) (sym (same_Some _ _ is)) p, by.0, by.1.2)
 shuts_told serves v scripts images (unopened.NotEmpty shelf) s out door seeds by (told line is same p) = absurd by.1
 shuts_told serves v scripts images (unopened.Damaged shelf place) s out door seeds by (told line is same p) =
     subst (λ x. LeavesServing serves v scripts images x out door seeds) (sym same) (shelf, damaged place, by.1, subst (PrintsTo out) (sym (same_Some _ _ is)) p, by.0)

@@ -1,7 +1,7 @@
 -- The shelves of a site: opened one behind the other, and standing when they were given back.
 use Rattle.std.proofs.Common.{◌≡◌, ◌≢◌, ◌<◌, ◌≤◌, ◌+◌, ◌++◌, ◌∷◌, ◌∙◌, ℕ, zero, suc, List, [], length, Bool, IsTrue, Option, Some, None, refl, sym, ap, subst, arith}
 use Rattle.std.specs.Prelude.{slice_get}
-use Rattle.std.proofs.lemmas.Option.{same_Some}
+use Rattle.std.proofs.lemmas.Option.{same_Some, slice_get_within}
 use Rattle.lock_row.specs.Spots.{Home}
 use Rattle.web_outside.specs.Causes.{Rose}
 use Rattle.web_disk.specs.View.{View, AreAmong}
@@ -12,7 +12,7 @@ use Rattle.replay_spec.specs.Book.{Book}
 use Rattle.replay_spec.specs.Rules as spec
 use Rattle.journal_books.specs.Making.{book_in_bytes}
 use Rattle.journal_books.specs.Standing.{Stands}
-use Rattle.lock_row.proofs.Places.{get_there}
+use Rattle.lock_row.proofs.Places.{get_there, map_get}
 use Rattle.shelf.specs.declared.begin.BeginFault.{BeginFault}
 use Rattle.shelf.specs.declared.begin.BeginFault.TheVariants as fault
 use Rattle.shelf.specs.Opening.{IsFaultOf, MakesBook}
@@ -30,7 +30,10 @@ use Rattle.site.specs.Openings.{book_then}
 use Rattle.site_serving.specs.Serving.{AreEnded, IsEnded, openings_of}
 use Rattle.command_words.specs.declared.Options.{Options}
 use Rattle.server_command.specs.Opening.{AreAsked, IsRefused, seen_on, unopened_by}
+use Rattle.server_command.specs.declared.opening.Unopened.TheVariants as unopened
 use Rattle.server_command.specs.Output.{rules_for}
+use Rattle.play_desk.specs.Opening.{IsKept}
+use Rattle.play_desk.proofs.Keeping.{is_kept}
 use Rattle.server_command.specs.Racks.{Unfit, found_unfit, first_unfit, unfit_left, unfit_making, damaged, other}
 use Rattle.server_command.specs.Serving.{AreOpened, IsOpened, StandsBehind}
 use Rattle.server_command.proofs.Racks.{made_fits}
@@ -103,7 +106,7 @@ first_bad view scripts k (suc i) n (x ∷ disks) d why is fit here bad =
 pub refused_at : {D N : Type 0} (view : D → View) (tells : Bool) (setup : Setup) (told : Type 0) (disks : List D) (nonces : List N)
     (f : SiteFault D N) (before after : ℕ) → (told → IsTrue tells) → IsNotBegun view tells setup disks nonces f
     → ((k : ℕ) (e : D) → slice_get f.disks.items k ≡ Some e → 1 ≤ (view e).faults → Rose before after)
-    → IsRefused told (Rose before after) (scripts_of setup) (seen_on view disks) (unopened_by f.shelf f.fault)
+    → IsRefused told (λ k. (k < length disks) × Rose before after) (scripts_of setup) (seen_on view disks) (unopened_by f.shelf f.fault)
 refused_at {D = D} view tells setup told disks nonces f before after knows not risen = by_fault f.fault refl
   where
     scripts : List Named
@@ -121,14 +124,32 @@ refused_at {D = D} view tells setup told disks nonces f before after knows not r
         (λ j m x low at x_is. let same : j ≡ m = omega (arith, at) in
         subst (λ n. (b : Book) × MakesBook scripts n (view x) b) same (not.disks_back.earlier (knows t) j x low x_is)) there.1 bad
 
-    by_fault : (e : BeginFault) → f.fault ≡ e → IsRefused told (Rose before after) scripts (seen_on view disks) (unopened_by f.shelf e)
+    by_fault : (e : BeginFault) → f.fault ≡ e → IsRefused told (λ k. (k < length disks) × Rose before after) scripts (seen_on view disks) (unopened_by f.shelf e)
     by_fault (fault.Damaged place) is = λ t.
         found t (damaged place) (ap unfit_making (subst (IsFaultOf scripts f.shelf (view there.0)) is (not.disks_back.why (knows t) there.0 there.1)))
     by_fault (fault.Other place) is = λ t.
         found t (other place) (ap unfit_making (subst (IsFaultOf scripts f.shelf (view there.0)) is (not.disks_back.why (knows t) there.0 there.1)))
     by_fault fault.DiskFault is =
-        let rose = not.disks_back.cause is there.0 back.0 there.1 back.1 in risen f.shelf back.0 back.1 (omega (arith, rose))
+        let rose = not.disks_back.cause is there.0 back.0 there.1 back.1 in (not.disks_back.within, risen f.shelf back.0 back.1 (omega (arith, rose)))
     by_fault fault.Memory is = tt
+
+-- ---- handed back
+
+-- nothing was lost on the disks of a site that was not begun, but on the one of which a call failed
+pub kept_at : {D N : Type 0} (view : D → View) (tells : Bool) (setup : Setup) (told : Type 0) (disks : List D) (nonces : List N)
+    (f : SiteFault D N) (before after : ℕ → List ℕ → Type 0) → (told → IsTrue tells) → IsNotBegun view tells setup disks nonces f
+    → (told → (k : ℕ) (d : D) → slice_get disks k ≡ Some d → AreAmong (view d).images (before k))
+    → (told → (k : ℕ) (e : D) → slice_get f.disks.items k ≡ Some e → AreAmong (after k) (view e).images)
+    → told → (k : ℕ) (read left : List ℕ) → slice_get (seen_on view disks) k ≡ Some read → after k left → (unopened_by f.shelf f.fault ≡ unopened.Disk k → ⊥)
+    → IsKept (scripts_of setup) k (before k) read left
+kept_at view tells setup told disks nonces f before after knows not held given t k read left read_is left_is but =
+    let d = map_get (λ x. (view x).seen) disks k read read_is in
+    let low = slice_get_within disks k d.0 d.1 in
+    let e = get_there f.disks.items k (let size = not.disks_back.returned.many in omega (arith, low, size)) in
+    let keeps = not.disks_back.keep (knows t) k d.0 e.0 d.1 e.1
+    (λ here why. but (ap (λ w. unopened_by f.shelf w) why ∙ ap (λ s. unopened.Disk s) (sym here))) in
+    subst (λ r. IsKept (scripts_of setup) k (before k) r left) d.2
+    (is_kept (scripts_of setup) k (view d.0) (view e.0) (before k) (held t k d.0 d.1) keeps left (given t k e.0 e.1 left left_is))
 
 -- ---- given back
 

@@ -31,15 +31,16 @@ use Rattle.server_command.specs.declared.program.Status.{Status}
 use Rattle.server_command.specs.declared.program.Status.TheVariants as status
 use Rattle.server_command.specs.declared.program.Job.{Job}
 use Rattle.server_command.specs.declared.program.Job.TheVariants as job
-use Rattle.server_command.specs.Racks.{Racks, AreTaken, Unfit, first_unfit, unfit_new, unfit_left}
+use Rattle.server_command.specs.Racks.{Racks, AreTaken, AtRest, Unfit, first_unfit, unfit_new, unfit_left}
 use Rattle.server_command.specs.Serving.{Serves, Faults, HaveRisen, RackFailed, LeavesInput}
 use Rattle.play_desk.specs.Ledger.{print_of}
 use Rattle.play_desk.specs.Laws.{IsRunOfEvents}
 use Rattle.play_desk.specs.Opening.{HoldTheBooks}
-use Rattle.server_command.specs.Output.{memory_line, step_line, Chances, Output, output_of, told_scripts, desk_for, loaded, run_of, Sinks, PrintsTo, Answers, BreaksOff, Pauses, Loses, ending_of}
+use Rattle.server_command.specs.Output.{memory_line, step_line, Chances, Output, output_of, told_scripts, desk_for, loaded, run_of, Sinks, PrintsTo, Answers, BreaksOff, ending_of}
+use Rattle.server_command.specs.Remains.{HaveFailed, Loses, Pauses, RemainsShut, RemainsUnwritten}
 use Rattle.server_command.specs.Loading.{LeavesLoad, LoadsEvents}
 
--- what is done with an input alone
+-- the command that is done with an input alone
 abbrev pub asked_of : Job → Command
 asked_of job.Check = Check
 asked_of (job.Play options) = Play options
@@ -84,7 +85,7 @@ pub record Met : Type 1 where
   pub door : Faults
   pub seeds : Faults
 
--- the same by what contracts see of the input before and after a call
+-- what a command met, by what contracts see of the input before and after a call
 abbrev pub met_of : (words : List (List ℕ)) → (old new : SourceView) → Sinks → Racks → (door seeds : Faults) → Met
 met_of words old new output rack door seeds = record {
   words = words;
@@ -108,18 +109,19 @@ unread_status fault.Failed = status.Read
 unread_status fault.Memory = status.Memory
 unread_status fault.Long = status.Long
 
--- its line
+-- the line of an input that was not read whole
 abbrev pub unread_line : InputFault → List ℕ
 unread_line fault.Failed = codes "error 5 read\n"
 unread_line fault.Memory = memory_line
 unread_line fault.Long = codes "error 11 long\n"
 
--- the input was not read whole for this fault, and this was told
+-- the input was not read whole for this fault, and this was told; where it failed or is too long, no disk was taken
 abbrev pub IsUnread : InputFault → Met → Type 0
 IsUnread fault.Failed met =
     Rose met.input_before met.input_after × Prints met (unread_line fault.Failed) × ReadsUpTo met.input met.unread most_of_input
+    × AtRest met.rack
 IsUnread fault.Memory met = Prints met (unread_line fault.Memory) × ConsumesSome met.input met.unread
-IsUnread fault.Long met = ReadsPast met.input met.unread most_of_input × Prints met (unread_line fault.Long)
+IsUnread fault.Long met = ReadsPast met.input met.unread most_of_input × Prints met (unread_line fault.Long) × AtRest met.rack
 
 -- nothing was read, and no read failed
 abbrev pub Untouched : Met → Type 0
@@ -142,14 +144,14 @@ reached_by None bytes = None
 reached_by (Some asked) bytes =
     if nat_le (length bytes) most_of_input then with_setup asked (setup_of (ending_of asked) bytes) else None
 
--- it takes disks, which hold these
+-- the command takes disks, which hold these
 abbrev pub TakesDisks : Racks → Option (Command × Parsed) → List (List ℕ) → Type 0
 TakesDisks rack (Some (Play o, setup)) disks = AreTaken unfit_new rack.before.holds o.shelves disks
 TakesDisks rack (Some (Serve s, setup)) disks = AreTaken (unfit_left setup.scripts) rack.before.holds s.options.shelves disks
 TakesDisks rack (Some (Load l, setup)) disks = AreTaken unfit_new rack.before.holds l.options.shelves disks
 TakesDisks rack _ disks = ⊤
 
--- it takes none, or they tell their bytes
+-- the command takes no disks, or they tell their bytes
 abbrev pub Settles : Racks → Option (Command × Parsed) → Type 0
 Settles rack (Some (Play o, setup)) = IsTrue rack.tells
 Settles rack (Some (Serve s, setup)) = IsTrue rack.tells
@@ -160,15 +162,17 @@ Settles rack _ = ⊤
 abbrev pub Known : Racks → Command → (bytes : List ℕ) → Type 0 → Type 0
 Known rack asked bytes P = Settles rack (with_setup asked (setup_of (ending_of asked) bytes)) → P
 
--- the disks that were given back stand for the books that the steps of a setup left
+-- the disks that were given back stand for the books that the steps of a setup left, and each fault of one was counted; a check took none
 abbrev pub StandFor : Racks → Command → Result Parsed Fault → Chances → Type 0
 StandFor rack (Play o) (Ok setup) chances =
     HoldTheBooks (run_of o setup.scripts (steps_of setup.steps) chances.fates).state rack.after.holds
+    × HaveFailed rack chances.fates 0
+StandFor rack Check setup chances = AtRest rack
 StandFor rack asked setup chances = ⊤
 
 -- ---- why a command ends so
 
--- what a whole input gives, of whose setup the disks were taken that hold this
+-- the output that is due to a whole input has this status, by the disks that were taken for its setup
 pub record Gives (rack : Racks) (asked : Command) (bytes : List ℕ) (chances : Chances) (status : ℕ) (out : Sinks) : Type 0 where
   pub answered : Answers (output_of asked bytes chances) status out
   pub taken : TakesDisks rack (with_setup asked (setup_of (ending_of asked) bytes)) chances.disks
@@ -177,21 +181,23 @@ pub record Gives (rack : Racks) (asked : Command) (bytes : List ℕ) (chances : 
 abbrev pub Leaves : Racks → Command → (bytes : List ℕ) → Status → Chances → Sinks → Type 0
 Leaves rack asked bytes status.Done chances out =
     Known rack asked bytes (Gives rack asked bytes chances 0 out × StandFor rack asked (setup_of (ending_of asked) bytes) chances)
-Leaves rack asked bytes status.Setup chances out = Gives rack asked bytes chances 3 out
+Leaves rack asked bytes status.Setup chances out = Gives rack asked bytes chances 3 out × AtRest rack
 Leaves rack asked bytes status.Line chances out =
     Known rack asked bytes (Gives rack asked bytes chances 4 out × StandFor rack asked (setup_of (ending_of asked) bytes) chances)
 Leaves rack asked bytes status.Write chances out =
-    Rose out.before out.after × Known rack asked bytes (BreaksOff (output_of asked bytes chances) out)
-Leaves rack asked bytes status.Disk chances out = RackFailed rack × Known rack asked bytes (Loses asked bytes chances out)
-Leaves rack asked bytes status.Journal chances out = Known rack asked bytes (Gives rack asked bytes chances 8 out)
-Leaves rack asked bytes status.Memory chances out = Known rack asked bytes (Pauses asked bytes chances memory_line out)
+    Rose out.before out.after × Known rack asked bytes (BreaksOff (output_of asked bytes chances) out
+    × RemainsUnwritten rack asked (setup_of (ending_of asked) bytes) chances out.held out.holds)
+Leaves rack asked bytes status.Disk chances out = RackFailed rack × Known rack asked bytes (Loses rack asked bytes chances out)
+Leaves rack asked bytes status.Journal chances out =
+    Known rack asked bytes (Gives rack asked bytes chances 8 out × RemainsShut rack asked (setup_of (ending_of asked) bytes))
+Leaves rack asked bytes status.Memory chances out = Known rack asked bytes (Pauses rack asked bytes chances memory_line out)
 Leaves rack asked bytes _ chances out = ⊥
 
--- the same, for some chances
+-- what a command leaves that has read its whole input, for some chances
 abbrev pub Outputs : Racks → Command → (bytes : List ℕ) → Status → Sinks → Type 0
 Outputs rack asked bytes status out = (chances : Chances) × Leaves rack asked bytes status chances out
 
--- it was done with the whole input
+-- the whole input was read, and this is what the command leaves for it
 abbrev pub HasDone : Command → Chances → Status → Met → Type 0
 HasDone asked chances how met =
     ReadToEnd met × IfSome met.input (λ bytes. Leaves met.rack asked bytes how chances met.output)
@@ -230,7 +236,7 @@ ComesServing serves s chances status.Read met = IsUnread fault.Failed met × ser
 ComesServing serves s chances status.Long met = IsUnread fault.Long met × serves.unopened
 ComesServing serves s chances _ met = ⊥
 
--- a measured run reads no input
+-- a measured run reads no input, and this is what it leaves
 abbrev pub ComesLoading : LoadOptions → Chances → Status → Met → Type 0
 ComesLoading l chances how met = Untouched met × LeavesLoad met.rack l how chances met.output
 
@@ -240,10 +246,10 @@ ComesTo serves (Play o) chances how met = Comes (Play o) chances how met
 ComesTo serves (Serve s) chances how met = ComesServing serves s chances how met
 ComesTo serves (Load l) chances how met = ComesLoading l chances how met
 
--- words without a command, or want of memory for them, leave the input unread
+-- words without a command, or want of memory for them, leave the input unread and the disks where they are
 abbrev pub Refuses : Option Command → Status → Met → Type 0
-Refuses asked status.Usage met = (asked ≡ None) × Prints met (codes "error 2 usage\n") × Untouched met
-Refuses asked status.Memory met = Prints met memory_line × Untouched met
+Refuses asked status.Usage met = (asked ≡ None) × Prints met (codes "error 2 usage\n") × Untouched met × AtRest met.rack
+Refuses asked status.Memory met = Prints met memory_line × Untouched met × AtRest met.rack
 Refuses asked _ met = ⊥
 
 -- why the command ends so, and what it wrote
@@ -266,7 +272,7 @@ pub record IsDue (status : ℕ) (met : Met) (bytes : List ℕ) (chances : Chance
   pub same : status ≡ due met.words bytes chances
   pub taken : TakesDisks met.rack (reached_by (asked_in met.words) bytes) chances.disks
 
--- it is so, or that of an input, an output, a rack, a door or seeds that failed, or that of want of memory
+-- the status is the one that is due, or that of an input, an output, a rack, a door or seeds that failed, or that of want of memory
 abbrev pub EndsAs : (status : ℕ) → Met → (bytes : List ℕ) → Chances → Type 0
 EndsAs status met bytes chances =
     IsDue status met bytes chances
@@ -275,7 +281,7 @@ EndsAs status met bytes chances =
     ⊎ (((status ≡ 7) × RackFailed met.rack)
     ⊎ (((status ≡ 9) × HaveRisen met.door) ⊎ (((status ≡ 14) × HaveRisen met.seeds) ⊎ (status ≡ 10))))))
 
--- all but a measured run reads its input
+-- the words ask for anything but a measured run, which reads no input
 abbrev pub ReadsInput : Option Command → Type 0
 ReadsInput (Some (Load l)) = ⊥
 ReadsInput _ = ⊤
@@ -285,7 +291,7 @@ pub record IsDueLoad (status : ℕ) (met : Met) (l : LoadOptions) (chances : Cha
   pub same : status ≡ (loaded l chances).status
   pub taken : AreTaken unfit_new met.rack.before.holds l.options.shelves chances.disks
 
--- it is so, or that of an output or a rack that failed, or that of want of memory
+-- the status of a measured run is the one that is due, or that of an output or a rack that failed, or that of want of memory
 abbrev pub EndsAsLoad : (status : ℕ) → Met → LoadOptions → Chances → Type 0
 EndsAsLoad status met l chances =
     IsDueLoad status met l chances
@@ -323,7 +329,7 @@ TellsLine number _ out = ⊥
 abbrev pub AreUnderstood : List (List ℕ) → Type 0
 AreUnderstood words = (asked : Command) → IsPlain words asked → asked_in words ≡ Some asked
 
--- what is left of a command over each input that reads so: as this setup or with this fault
+-- what a command leaves over each input that reads so: as this setup or with this fault
 abbrev pub OutputsFor : Racks → Command → Result Parsed Fault → Status → Sinks → Type 0
 OutputsFor rack asked setup status out =
     (bytes : List ℕ) → setup_of (ending_of asked) bytes ≡ setup → Outputs rack asked bytes status out
@@ -350,17 +356,19 @@ TellsFaultLine fault _ out = ⊥
 abbrev pub IsDoneUnlessFault : Status → (before after : ℕ) → Type 0
 IsDoneUnlessFault s before after = (s ≡ status.Done) ⊎ ((s ≡ status.Write) × Rose before after)
 
--- a command that was asked for came to this, for some chances; and so did the words
+-- a command that was asked for came to this, for some chances
 abbrev pub Came : Command → Status → Met → Type 0
 Came asked status met = (chances : Chances) × Comes asked chances status met
 
+-- a serving came to this, for some chances
 abbrev pub CameServing : Serves → Service → Status → Met → Type 0
 CameServing serves s status met = (chances : Chances) × ComesServing serves s chances status met
 
+-- why the command ended with this status, and what it wrote, for some chances
 abbrev pub Explained : Serves → Status → Met → Type 0
 Explained serves status met = (chances : Chances) × Explains serves status chances met
 
--- the input spells a setup, and behind it, where it is played, a line for each of some steps; and it is not too long
+-- the input spells a setup, and after it, where it is played, a line for each of some steps; and it is not too long
 pub record IsLawful (asked : Command) (bytes : List ℕ) : Type 0 where
   pub setup : Parsed
   pub spelled : IsSetup (ending_of asked) bytes setup
@@ -386,7 +394,7 @@ GoesWell (Play o) met = ¬ (RackFailed met.rack)
 GoesWell (Load l) met = ¬ (RackFailed met.rack)
 GoesWell (Serve s) met = ¬ (RackFailed met.rack) × ¬ (HaveRisen met.door) × ¬ (HaveRisen met.seeds)
 
--- it ended well, at a step that does not fit, or for want of memory
+-- a command ended well, at a step that does not fit, or for want of memory
 abbrev pub EndsWell : Command → (result : ℕ) → Type 0
 EndsWell (Play o) result = (result ≡ 0) ⊎ ((result ≡ 4) ⊎ (result ≡ 10))
 EndsWell _ result = (result ≡ 0) ⊎ (result ≡ 10)

@@ -14,6 +14,7 @@ use Rattle.command_words.specs.declared.Options.{Options}
 use Rattle.server_command.specs.declared.opening.Unopened.{Unopened}
 use Rattle.server_command.specs.declared.opening.Unopened.TheVariants as unopened
 use Rattle.server_command.specs.Output.{rules_for}
+use Rattle.play_desk.specs.Opening.{IsKept}
 use Rattle.server_command.specs.Racks.{AreHeld, KeepsHome, damaged, other, first_unfit, unfit_left}
 use Rattle.server_command.specs.Serving.{AreOpened}
 
@@ -45,11 +46,15 @@ pub record AreAsked (o : Options) (r : Limits) : Type 0 where
 abbrev pub AreRulesFor : Options → (number : ℕ) → Limits → Type 0
 AreRulesFor o number r = (scripts : List Named) → rules_of scripts r ≡ rules_for o number scripts
 
--- disks came home, and none went; and no count fell
+-- the disks of so many numbers came home, and no disk went out; and the rack's count of faults did not fall
 pub record TakesBack (before after : RackView) (first count : ℕ) : Type 0 where
   pub home : KeepsHome before after
   pub back : AreHome after first count
   pub later : before.faults ≤ after.faults
+
+-- the disks of the numbers from this one on may hold nothing that they might not hold
+abbrev pub LeavesFrom : (first : ℕ) → (before after : RackView) → Type 0
+LeavesFrom first before after = (n : ℕ) → first ≤ n → AreAmong (after.holds n) (before.holds n)
 
 -- The disks of so many numbers were taken, from 0 on, and hold these, where the rack and its disks tell that.
 pub record HasTaken (told : Type 0) (before after : RackView) (count : ℕ) (images : List (List ℕ)) : Type 0 where
@@ -57,7 +62,12 @@ pub record HasTaken (told : Type 0) (before after : RackView) (count : ℕ) (ima
   pub held : told → AreHeld before.holds 0 images
   pub out : AreOut after count
   pub others : (k : ℕ) → count ≤ k → before.out k ≡ false → after.out k ≡ false
+  pub rest : LeavesFrom count before after
   pub later : before.faults ≤ after.faults
+
+-- each of these disks holds what the disk of its number might hold in the rack
+abbrev pub AreFrom : {D : Type 0} → (D → View) → RackView → List D → Type 0
+AreFrom view before disks = (k : ℕ) (d : _) → slice_get disks k ≡ Some d → AreAmong (view d).images (before.holds k)
 
 -- the shelf of this number was not opened for this
 abbrev pub unopened_by : (shelf : ℕ) → BeginFault → Unopened
@@ -66,15 +76,19 @@ unopened_by shelf (fault.Other place) = unopened.Other shelf place
 unopened_by shelf fault.DiskFault = unopened.Disk shelf
 unopened_by shelf fault.Memory = unopened.Memory
 
+-- a call of the rack or of a disk failed, and this is one of so many shelves
+abbrev pub FailsAt : (count : ℕ) → (before after : RackView) → (shelf : ℕ) → Type 0
+FailsAt count before after shelf = (shelf < count) × Rose before.faults after.faults
+
 -- why disks were not taken
-abbrev pub IsUntaken : (risen : Type 0) → Unopened → Type 0
-IsUntaken risen (unopened.Disk shelf) = risen
+abbrev pub IsUntaken : (risen : ℕ → Type 0) → Unopened → Type 0
+IsUntaken risen (unopened.Disk shelf) = risen shelf
 IsUntaken risen unopened.Memory = ⊤
 IsUntaken risen _ = ⊥
 
 -- why a shelf was not opened, of those on disks that hold these
-abbrev pub IsRefused : (told risen : Type 0) → List Named → (images : List (List ℕ)) → Unopened → Type 0
-IsRefused told risen scripts images (unopened.Disk shelf) = risen
+abbrev pub IsRefused : (told : Type 0) → (risen : ℕ → Type 0) → List Named → (images : List (List ℕ)) → Unopened → Type 0
+IsRefused told risen scripts images (unopened.Disk shelf) = risen shelf
 IsRefused told risen scripts images (unopened.NotEmpty shelf) = ⊥
 IsRefused told risen scripts images (unopened.Damaged shelf place) =
     told → first_unfit (unfit_left scripts) 0 images ≡ Some (shelf, damaged place)
@@ -86,17 +100,23 @@ IsRefused told risen scripts images unopened.Memory = ⊤
 -- that; and a fault of one is a fault of the rack
 pub record AreGiven {D : Type 0} (view : D → View) (told : Type 0) (before after : RackView) (disks : List D) : Type 0 where
   pub held : told → AreOut before (length disks) → (k : ℕ) (d : D) → slice_get disks k ≡ Some d → AreAmong (after.holds k) (view d).images
+  pub others : LeavesFrom (length disks) before after
   pub faults : (k : ℕ) (d : D) → slice_get disks k ≡ Some d → 1 ≤ (view d).faults → Rose before.faults after.faults
 
--- the shelves were opened so on the disks of a rack; or why they were not
+-- the shelves were opened on the disks that were taken from a rack, under these rules and with these sources of nonces
 pub record OpensOn {D N : Type 0} (view : D → View) (tells : Bool) (told : Type 0) (nonce : N → ℕ → ℕ) (rules : ℕ → Rules)
     (scripts : List Named) (sources : List N) (before after : RackView) (openings : List (Opening D N)) : Type 0 where
   pub images : List (List ℕ)
   pub taken : HasTaken told before after (length sources) images
   pub opened : AreOpened view tells told nonce rules scripts 0 images sources openings
 
+-- A shelf was not opened. Nothing was lost on any disk, but on the one of which a call failed; a disk of which nothing was read holds
+-- what it might hold.
 pub record RefusesOn (told : Type 0) (scripts : List Named) (count : ℕ) (before after : RackView) (why : Unopened) : Type 0 where
   pub images : List (List ℕ)
   pub held : told → AreHeld before.holds 0 images
-  pub refused : IsRefused told (Rose before.faults after.faults) scripts images why
+  pub refused : IsRefused told (FailsAt count before after) scripts images why
+  pub kept : told → (k : ℕ) (read left : List ℕ) → slice_get images k ≡ Some read → after.holds k left → (why ≡ unopened.Disk k → ⊥)
+      → IsKept scripts k (before.holds k) read left
+  pub unread : told → LeavesFrom (length images) before after
   pub home : KeepsHome before after

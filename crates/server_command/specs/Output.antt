@@ -26,27 +26,27 @@ use Rattle.journal_books.specs.Lengths.{journal_rules}
 use Rattle.play_desk.specs.Desk.{Desk, first_desk, desk_rules}
 use Rattle.server_command.specs.declared.program.Status.{Status}
 use Rattle.server_command.specs.declared.program.Status.TheVariants as status
-use Rattle.server_command.specs.Racks.{Unfit, first_unfit, unfit_new, unfit_left, unfit_line, disk_line}
+use Rattle.server_command.specs.Racks.{Unfit, first_unfit, unfit_new, unfit_left, unfit_line}
 
--- what is written for a whole input: the text, the error's line behind it, and the status
+-- what is written for a whole input: the text, the error's line after it, and the status
 pub record Output : Type 0 where
   pub text : List ℕ
   pub error : List ℕ
   pub status : ℕ
 
--- `error 4 LINE`
+-- the line of a step that is none or does not fit: `error 4 LINE`
 abbrev pub step_line : (number : ℕ) → List ℕ
 step_line number = codes "error 4 " ++ (decimal number ++ 10 ∷ [])
 
--- `error 10 memory`
+-- the line of want of memory: `error 10 memory`
 abbrev pub memory_line : List ℕ
 memory_line = codes "error 10 memory\n"
 
--- a setup that has a fault
+-- the output for a setup that has a fault
 abbrev pub faulty : Fault → Output
 faulty e = record { text = []; error = fault_line e; status = 3 }
 
--- how many scripts there are
+-- the output that tells how many scripts there are
 abbrev pub told_scripts : List Named → Output
 told_scripts scripts = record { text = codes "ok " ++ (decimal (length scripts) ++ 10 ∷ []); error = []; status = 0 }
 
@@ -59,7 +59,7 @@ abbrev pub rules_for : Options → (shelf : ℕ) → List Named → Rules
 rules_for o shelf scripts =
     record { fuel = o.fuel; life = o.life; instances = o.instances; pages = o.pages; journal = Some (journal_rules shelf scripts) }
 
--- the shelves of a run, with nothing on them, and workers that hold nothing
+-- the desk that a run begins with: shelves with nothing on them, and workers that hold nothing
 abbrev pub desk_for : Options → List Named → Desk
 desk_for o scripts = first_desk (λ shelf. rules_for o shelf scripts) scripts o.shelves
 
@@ -72,7 +72,7 @@ pub record Chances : Type 0 where
   pub disks : List (List ℕ)
   pub fates : List Fate
 
--- a shelf is not opened, and so nothing is done
+-- the output where a shelf is not opened, and so nothing is done
 abbrev pub shut : (shelf : ℕ) → Unfit → Output
 shut shelf why = record { text = []; error = unfit_line shelf why; status = 8 }
 
@@ -135,7 +135,7 @@ pub record Sinks : Type 0 where
 abbrev pub sinks : (held holds : Option (List ℕ)) (before after : ℕ) → Sinks
 sinks held holds before after = record { held = held; holds = holds; before = before; after = after }
 
--- the same by what contracts see of a sink before and after a call
+-- what a sink held and holds, and its counts of faults, by what contracts see of it before and after a call
 abbrev pub sinks_of : (old new : SinkView) → Sinks
 sinks_of old new = sinks old.written new.written old.faults new.faults
 
@@ -163,7 +163,7 @@ Answers output status out = (output.status ≡ status) × Tells output.text outp
 abbrev pub BreaksOff : Output → Sinks → Type 0
 BreaksOff output out = IsCutShort out.held out.holds output.text ⊎ ((output.status ≡ 0) × Appends out.held out.holds output.text)
 
--- whole replies to the first of the steps, behind which such a step stands, with these behind it
+-- the text is the whole replies to the first of the steps, after which a step of this kind stands
 pub record Replied (o : Options) (setup : Parsed) (fates : List Fate) (IsNext : Step → Type 0) (text : List ℕ) : Type 0 where
   pub front : List (Option Step)
   pub step : Step
@@ -173,7 +173,7 @@ pub record Replied (o : Options) (setup : Parsed) (fates : List Fate) (IsNext : 
   pub text_is : text_of (run_of o setup.scripts front fates) ≡ text
   pub goes_on : (run_of o setup.scripts front fates).end ≡ done
 
--- What stands before want of memory is told: nothing; whole replies to the first of the steps, behind which a step is performed or
+-- What stands before want of memory is told: nothing; whole replies to the first of the steps, after which a step is performed or
 -- begun and not told; or all replies up to a line that is no step or does not fit.
 pub data Before (asked : Command) (input : List ℕ) (chances : Chances) : List ℕ → Type 0 where
   nothing : Before asked input chances []
@@ -181,17 +181,8 @@ pub data Before (asked : Command) (input : List ℕ) (chances : Chances) : List 
   replies : (o : Options) (setup : Parsed) (text : List ℕ) → asked ≡ Play o → setup_of Steps input ≡ Ok setup
       → Replied o setup chances.fates (λ step. ⊤) text → Before asked input chances text
 
--- the sink grew by that, and then by the line
-abbrev pub Pauses : Command → (input : List ℕ) → Chances → (line : List ℕ) → Sinks → Type 0
-Pauses asked input chances line out = (text : List ℕ) × Before asked input chances text × Tells text line out
-
 -- what stands before it is told that this shelf was not opened: nothing; or whole replies to the steps before a crash of it
 pub data BeforeOpening (asked : Command) (input : List ℕ) (chances : Chances) (shelf : ℕ) : List ℕ → Type 0 where
   at_first : (o : Options) → asked ≡ Play o → BeforeOpening asked input chances shelf []
   at_crash : (o : Options) (setup : Parsed) (text : List ℕ) → asked ≡ Play o → setup_of Steps input ≡ Ok setup
       → Replied o setup chances.fates (λ step. step ≡ crash shelf) text → BeforeOpening asked input chances shelf text
-
--- the sink grew by that, and then by the line that its disk failed
-abbrev pub Loses : Command → (input : List ℕ) → Chances → Sinks → Type 0
-Loses asked input chances out =
-    (shelf : ℕ) × (text : List ℕ) × BeforeOpening asked input chances shelf text × Tells text (disk_line shelf) out

@@ -1,14 +1,15 @@
 -- What the disks of a rack are to the shelves that stand on them.
-use Rattle.std.specs.Prelude.{⊤, ◌≡◌, ℕ, ◌+◌, ◌++◌, ◌∷◌, List, [], length, Bool, false, Option, Some, None, codes}
+use Rattle.std.specs.Prelude.{⊤, ◌≡◌, ℕ, ◌+◌, ◌++◌, ◌∷◌, List, [], length, Bool, false, Option, Some, None, slice_get, codes}
 use Rattle.std.specs.Fmt.{decimal}
-use Rattle.web_disk.specs.View.{RackView}
+use Rattle.web_disk.specs.View.{RackView, AreAmong}
 use Rattle.script_nodes.specs.Setup.{Named}
 use Rattle.replay_spec.specs.Book.{Book}
 use Rattle.journal_books.specs.Making as making
 use Rattle.journal_books.specs.Making.{Making, book_in_bytes}
 use Rattle.journal_books.specs.Standing.{Between, HoldIn, if_kept}
+use Rattle.play_desk.specs.Opening.{IsKept}
 
--- a rack and its disks: whether they tell their bytes, and what contracts see of the rack before and behind
+-- a rack and its disks: whether they tell their bytes, and what contracts see of the rack before and after
 pub record Racks : Type 1 where
   pub tells : Bool
   pub before : RackView
@@ -16,6 +17,12 @@ pub record Racks : Type 1 where
 
 abbrev pub racks_of : (tells : Bool) → (before after : RackView) → Racks
 racks_of tells before after = record { tells = tells; before = before; after = after }
+
+-- nothing was asked of the rack
+pub record AtRest (rack : Racks) : Type 0 where
+  pub faults : rack.after.faults ≡ rack.before.faults
+  pub out : (number : ℕ) → rack.after.out number ≡ rack.before.out number
+  pub holds : (number : ℕ) → AreAmong (rack.after.holds number) (rack.before.holds number)
 
 -- each disk that is home stays so, or comes back
 abbrev pub KeepsHome : (before after : RackView) → Type 0
@@ -32,12 +39,12 @@ pub data Unfit : Type 0 where
   damaged : (place : ℕ) → Unfit
   other : (place : ℕ) → Unfit
 
--- a shelf that is played begins on an empty disk
+-- why a shelf that is played is not opened, if so: it begins on an empty disk
 abbrev pub unfit_new : (shelf : ℕ) → List ℕ → Option Unfit
 unfit_new shelf [] = None
 unfit_new shelf (b ∷ bytes) = Some not_empty
 
--- one that is served goes on with what the records of its journal make
+-- why a shelf that is served is not opened, if so: it goes on with what the records of its journal make
 abbrev pub unfit_making : Making → Option Unfit
 unfit_making making.nothing = None
 unfit_making (making.made m) = None
@@ -47,11 +54,12 @@ unfit_making (making.other place) = Some (other place)
 abbrev pub unfit_left : List Named → (shelf : ℕ) → List ℕ → Option Unfit
 unfit_left scripts shelf image = unfit_making (book_in_bytes scripts shelf image)
 
--- the first shelf that is not opened, of those from this number on, and why
+-- the shelf of this number where it is not opened, and why; else what is found of the later ones
 abbrev pub found_unfit : ℕ → Option Unfit → Option (ℕ × Unfit) → Option (ℕ × Unfit)
 found_unfit k None later = later
 found_unfit k (Some why) later = Some (k, why)
 
+-- the first shelf that is not opened, of those from this number on, and why
 abbrev pub first_unfit : (ℕ → List ℕ → Option Unfit) → ℕ → List (List ℕ) → Option (ℕ × Unfit)
 first_unfit unfit k [] = None
 first_unfit unfit k (image ∷ images) = found_unfit k (unfit k image) (first_unfit unfit (k + 1) images)
@@ -65,6 +73,11 @@ pub record AreTaken (unfit : ℕ → List ℕ → Option Unfit) (holds : ℕ →
 abbrev pub StandsForSome : List Named → (shelf : ℕ) → (images : List ℕ → Type 0) → Type 0
 StandsForSome scripts shelf images = (b : Book) × ((n : ℕ) × ((t : Between scripts shelf b (if_kept n b)) × HoldIn t images))
 
+-- nothing was lost on any disk of which something was read
+abbrev pub AreKept : List Named → (before after : RackView) → (images : List (List ℕ)) → Type 0
+AreKept scripts before after images =
+    (k : ℕ) (read left : List ℕ) → slice_get images k ≡ Some read → after.holds k left → IsKept scripts k (before.holds k) read left
+
 -- ---- the lines
 
 abbrev pub unfit_word : Unfit → List ℕ
@@ -72,10 +85,10 @@ unfit_word not_empty = codes "0 not-empty\n"
 unfit_word (damaged place) = decimal place ++ codes " damaged\n"
 unfit_word (other place) = decimal place ++ codes " other\n"
 
--- `error 8 SHELF PLACE WORD`
+-- the line of a shelf that is not opened on what its disk holds: `error 8 SHELF PLACE WORD`
 abbrev pub unfit_line : (shelf : ℕ) → Unfit → List ℕ
 unfit_line shelf why = codes "error 8 " ++ (decimal shelf ++ 32 ∷ unfit_word why)
 
--- `error 7 SHELF disk`
+-- the line of a shelf whose disk failed: `error 7 SHELF disk`
 abbrev pub disk_line : (shelf : ℕ) → List ℕ
 disk_line shelf = codes "error 7 " ++ (decimal shelf ++ codes " disk\n")

@@ -1,10 +1,10 @@
 -- What serving a setup over HTTP comes to.
-use Rattle.std.specs.Prelude.{⊤, ◌≡◌, ◌==◌, ◌⊎◌, ◌++◌, ◌∷◌, [], ℕ, ◌+◌, Bool, List, length, Option, Some, None, IfSome, IsTrue, Result, Ok, Err, codes, slice_get, if◌then◌else◌}
+use Rattle.std.specs.Prelude.{⊤, ◌≡◌, ◌≢◌, ◌≤◌, ◌<◌, ◌==◌, ◌⊎◌, ◌++◌, ◌∷◌, [], ℕ, ◌+◌, Bool, List, length, Option, Some, None, IfSome, IsTrue, Result, Ok, Err, codes, slice_get, if◌then◌else◌}
 use Rattle.std.specs.Fmt.{decimal}
 use Rattle.web_outside.specs.Causes.{Rose}
 use Rattle.web_outside.specs.View.{DoorView, SeedsView}
 use Rattle.web_disk.specs.View.{View}
-use Rattle.play_desk.specs.Opening.{HoldsTheBook}
+use Rattle.play_desk.specs.Opening.{HoldsTheBook, IsKept}
 use Rattle.script_nodes.specs.Setup.{Named}
 use Rattle.command_words.specs.declared.Service.{Service}
 use Rattle.setup_reader.specs.declared.setup.Ending.TheVariants.{Input}
@@ -37,7 +37,7 @@ use Rattle.server_command.specs.declared.opening.Unopened.TheVariants as unopene
 use Rattle.server_command.specs.declared.serving.ServeFault.{ServeFault}
 use Rattle.server_command.specs.declared.serving.ServeFault.TheVariants as fault
 use Rattle.server_command.specs.Output.{memory_line, Chances, Output, Sinks, PrintsTo, Answers, BreaksOff, rules_for, served}
-use Rattle.server_command.specs.Racks.{Racks, AreTaken, StandsForSome, Unfit, damaged, other, disk_line, first_unfit, unfit_left, unfit_line}
+use Rattle.server_command.specs.Racks.{Racks, AreKept, AreTaken, AtRest, StandsForSome, Unfit, damaged, other, disk_line, first_unfit, unfit_left, unfit_line}
 
 -- ---- what is told
 
@@ -63,7 +63,7 @@ TellsCount c _ out = ⊥
 abbrev pub AreDrawn : {N : Type 0} → SeedsView N → (count : ℕ) → List N → Type 0
 AreDrawn seeds count sources = IfSome (seeds.gives count) (λ given. given ≡ sources)
 
--- what contracts see of what a serving meets; its rack, its door and its past before it and behind it; and the seeds before it
+-- what contracts see of what a serving meets; its rack, its door and its past before it and after it; and the seeds before it
 pub record Outside (D P L N : Type 0) : Type 1 where
   pub views : Views D P L N
   pub rack : Racks
@@ -78,7 +78,7 @@ outside views rack before after seeds past =
 
 -- what a service asks of its door
 abbrev pub watch_of : Service → Watch
-watch_of s = record { port = s.port; workers = s.workers; connections = s.connections }
+watch_of s = record { port = s.port; workers = s.workers; connections = s.connections; requests = s.requests }
 
 -- The shelf of this number was opened under this setup and these rules, with nonces of this source: its book is what the bytes of
 -- its disk make, and empty where they have no record. Where the records are own ones, it was opened as an own shelf.
@@ -93,7 +93,7 @@ pub record IsOpened {D N : Type 0} (view : D → View) (tells : Bool) (told : Ty
   pub own : told → IsOwnImage scripts k image → IsOwnOpening view tells o
 
 module _ {D N : Type 0} (view : D → View) (tells : Bool) where
-  -- so were all shelves from this number on
+  -- all shelves from this number on were opened under this setup, each on what its disk held and with nonces of its source
   abbrev pub AreOpened : (told : Type 0) → (nonce : N → ℕ → ℕ) → (ℕ → Rules) → List Named → ℕ → List (List ℕ) → List N → List (Opening D N) → Type 0
   AreOpened told nonce rules scripts k [] [] [] = ⊤
   AreOpened told nonce rules scripts k (image ∷ images) (source ∷ sources) (o ∷ openings) =
@@ -107,7 +107,7 @@ module _ {D N : Type 0} (view : D → View) (tells : Bool) where
     pub own : IsOwnOpening view tells o
         → HoldsTheBook (rules_of scripts o.shelf.value.rules) scripts shelf images (book_then nonce o (entries_of h))
 
-  -- so do the disks of all shelves
+  -- the disk of each shelf may hold what makes some book; of a shelf that was opened as an own one it is the book of its history
   abbrev pub AllStand : (nonce : N → ℕ → ℕ) → List Named → (ℕ → List ℕ → Type 0) → List (Opening D N) → List (List KeptEntry) → Type 0
   AllStand nonce scripts holds openings histories =
       (k : ℕ) (o : Opening D N) (h : List KeptEntry) → slice_get openings k ≡ Some o → slice_get histories k ≡ Some h
@@ -128,7 +128,7 @@ pub record Served {D P L N : Type 0} (o : Outside D P L N) (s : Service) (script
   pub leaves : Leaves o.views openings o.before o.after o.past (watch_of s) disks end kept
   pub stands : IsTrue o.rack.tells → AllStand o.views.disk o.views.told o.views.nonce scripts o.rack.after.holds openings kept.histories
 
--- it ended so, and this was counted
+-- serving links from the shelves of a setup ended so, and this was counted
 pub record ServedSo {D P L N : Type 0} (o : Outside D P L N) (s : Service) (scripts : List Named) (images : List (List ℕ)) (end : WorkEnd)
     (count : Count) : Type 0 where
   pub kept : Kept
@@ -156,11 +156,11 @@ abbrev pub Opens : Racks → Service → List Named → List (List ℕ) → Type
 Opens rack s scripts images =
     IsTrue rack.tells → AreTaken (unfit_left scripts) rack.before.holds s.options.shelves images × (first_unfit (unfit_left scripts) 0 images ≡ None)
 
--- this shelf is the first that was not opened, for what its disk held
+-- this shelf is the first that was not opened, for what its disk held; and nothing was lost on any disk
 abbrev pub Shuts : Racks → Service → List Named → List (List ℕ) → (shelf : ℕ) → Unfit → Type 0
 Shuts rack s scripts images shelf why =
     IsTrue rack.tells → AreTaken (unfit_left scripts) rack.before.holds s.options.shelves images
-    × (first_unfit (unfit_left scripts) 0 images ≡ Some (shelf, why))
+    × (first_unfit (unfit_left scripts) 0 images ≡ Some (shelf, why)) × AreKept scripts rack.before rack.after images
 
 -- ---- how it ended
 
@@ -179,9 +179,17 @@ HaveRisen f = Rose f.before f.after
 abbrev pub RackFailed : Racks → Type 0
 RackFailed rack = Rose rack.before.faults rack.after.faults
 
+-- nothing was lost on any disk but on this shelf's, of which a call failed
+pub record AreKeptBut (rack : Racks) (scripts : List Named) (images : List (List ℕ)) (shelf : ℕ) : Type 0 where
+  pub read : (k : ℕ) (read left : List ℕ) → slice_get images k ≡ Some read → rack.after.holds k left → k ≢ shelf
+      → IsKept scripts k (rack.before.holds k) read left
+  pub unread : (k : ℕ) (left : List ℕ) → length images ≤ k → rack.after.holds k left → rack.before.holds k left
+
 -- why a shelf was not opened
 abbrev pub ShutsBy : Racks → Service → List Named → List (List ℕ) → Unopened → Type 0
-ShutsBy rack s scripts images (unopened.Disk shelf) = RackFailed rack
+ShutsBy rack s scripts images (unopened.Disk shelf) =
+    (shelf < s.options.shelves) × RackFailed rack
+    × (IsTrue rack.tells → AreKeptBut rack scripts images shelf)
 ShutsBy rack s scripts images (unopened.NotEmpty shelf) = ⊥
 ShutsBy rack s scripts images (unopened.Damaged shelf place) = Shuts rack s scripts images shelf (damaged place)
 ShutsBy rack s scripts images (unopened.Other shelf place) = Shuts rack s scripts images shelf (other place)
@@ -193,16 +201,23 @@ told_as (Ok tally) = Ok tally
 told_as (Err faults.Door) = Err fault.Door
 told_as (Err faults.Memory) = Err fault.Memory
 
+-- the door failed after all shelves were opened: at once; or a porch at last, and until then links were served and counted
+abbrev pub FailsAtDoor : Serves → Service → List Named → List (List ℕ) → Type 0
+FailsAtDoor serves s scripts images =
+    (serves.unopened × Opens serves.rack s scripts images)
+    ⊎ ((count : Count) × serves.fails s scripts images count × Opens serves.rack s scripts images)
+
 -- what was served, by how a serving ended
 abbrev pub ServesBy : Serves → Service → List Named → List (List ℕ) → Result Tally ServeFault → Type 0
 ServesBy serves s scripts images (Ok tally) = serves.can s scripts images (count_of tally) × Opens serves.rack s scripts images
-ServesBy serves s scripts images (Err fault.Door) = serves.unopened ⊎ ((count : Count) × serves.fails s scripts images count)
+ServesBy serves s scripts images (Err fault.Door) = FailsAtDoor serves s scripts images
 ServesBy serves s scripts images (Err (fault.Shelf why)) = serves.unopened × ShutsBy serves.rack s scripts images why
 ServesBy serves s scripts images (Err e) = serves.unopened
 
 -- links were served to their end, and counted so; or no door was opened
 abbrev pub HasServedIfAny : Serves → Service → List Named → List (List ℕ) → Type 0
-HasServedIfAny serves s scripts images = serves.unopened ⊎ ((count : Count) × serves.can s scripts images count)
+HasServedIfAny serves s scripts images =
+    serves.unopened ⊎ ((count : Count) × serves.can s scripts images count × Opens serves.rack s scripts images)
 
 -- the links of a setup were served and their counts told; or the seeds, the disks or the door failed, at once or at last; or a disk
 -- holds no journal of its shelf; or memory ran out
@@ -214,21 +229,22 @@ LeavesServing serves s scripts images status.Write out door seeds =
 LeavesServing serves s scripts images status.Memory out door seeds =
     PrintsTo out memory_line × HasServedIfAny serves s scripts images
 LeavesServing serves s scripts images status.Disk out door seeds =
-    (shelf : ℕ) × RackFailed serves.rack × PrintsTo out (disk_line shelf) × serves.unopened
+    (shelf : ℕ) × RackFailed serves.rack × (shelf < s.options.shelves) × PrintsTo out (disk_line shelf) × serves.unopened
+    × (IsTrue serves.rack.tells → AreKeptBut serves.rack scripts images shelf)
 LeavesServing serves s scripts images status.Journal out door seeds =
     (shelf : ℕ) × (why : Unfit) × Shuts serves.rack s scripts images shelf why × PrintsTo out (unfit_line shelf why) × serves.unopened
 LeavesServing serves s scripts images status.Door out door seeds =
-    HaveRisen door × PrintsTo out (codes "error 9 door\n") × (serves.unopened ⊎ ((count : Count) × serves.fails s scripts images count))
+    HaveRisen door × PrintsTo out (codes "error 9 door\n") × FailsAtDoor serves s scripts images
 LeavesServing serves s scripts images status.Key out door seeds =
     HaveRisen seeds × PrintsTo out (codes "error 14 key\n") × serves.unopened
 LeavesServing serves s scripts images _ out door seeds = ⊥
 
--- the same of an input that is such a setup
+-- the input is a setup, and this is what serving its links left
 abbrev pub ServesInput : Serves → Service → (bytes : List ℕ) → List (List ℕ) → Status → Sinks → (door seeds : Faults) → Type 0
 ServesInput serves s bytes images status out door seeds =
     (setup : Parsed) × (setup_of Input bytes ≡ Ok setup) × LeavesServing serves s setup.scripts images status out door seeds
 
--- what is left of a whole input that is served: it is not a setup, and this was told; or its links were served
+-- what serving a whole input leaves: it is not a setup, and this was told; or its links were served
 abbrev pub LeavesInput : Serves → Service → (bytes : List ℕ) → Chances → Status → Sinks → (door seeds : Faults) → Type 0
 LeavesInput serves s bytes chances status.Done out door seeds = ServesInput serves s bytes chances.disks status.Done out door seeds
 LeavesInput serves s bytes chances status.Write out door seeds = ServesInput serves s bytes chances.disks status.Write out door seeds
@@ -236,7 +252,8 @@ LeavesInput serves s bytes chances status.Disk out door seeds = ServesInput serv
 LeavesInput serves s bytes chances status.Journal out door seeds = ServesInput serves s bytes chances.disks status.Journal out door seeds
 LeavesInput serves s bytes chances status.Door out door seeds = ServesInput serves s bytes chances.disks status.Door out door seeds
 LeavesInput serves s bytes chances status.Key out door seeds = ServesInput serves s bytes chances.disks status.Key out door seeds
-LeavesInput serves s bytes chances status.Setup out door seeds = Answers (served (setup_of Input bytes) chances) 3 out × serves.unopened
+LeavesInput serves s bytes chances status.Setup out door seeds =
+    Answers (served (setup_of Input bytes) chances) 3 out × serves.unopened × AtRest serves.rack
 LeavesInput serves s bytes chances status.Memory out door seeds =
     PrintsTo out memory_line × (serves.unopened ⊎ ServesInput serves s bytes chances.disks status.Memory out door seeds)
 LeavesInput serves s bytes chances _ out door seeds = ⊥

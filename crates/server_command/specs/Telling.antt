@@ -20,7 +20,7 @@ unopened_line (unopened.Damaged shelf place) = Some (unfit_line shelf (damaged p
 unopened_line (unopened.Other shelf place) = Some (unfit_line shelf (other place))
 unopened_line unopened.Memory = None
 
--- its status
+-- the status of a shelf that was not opened
 abbrev pub unopened_status : Unopened → Status
 unopened_status (unopened.Disk shelf) = status.Disk
 unopened_status (unopened.NotEmpty shelf) = status.Journal
@@ -28,12 +28,12 @@ unopened_status (unopened.Damaged shelf place) = status.Journal
 unopened_status (unopened.Other shelf place) = status.Journal
 unopened_status unopened.Memory = status.Memory
 
--- that line was told, or there was no memory for it
+-- the line that names a shelf which was not opened was told, or there was no memory for it
 pub data TellsUnopened (why : Unopened) (s : Status) (out : Sinks) : Type 0 where
   told : (line : List ℕ) → unopened_line why ≡ Some line → s ≡ unopened_status why → PrintsTo out line → TellsUnopened why s out
   untold : s ≡ status.Memory → PrintsTo out memory_line → TellsUnopened why s out
 
--- why a shelf was not opened at first, and again
+-- this shelf was not opened, for this cause
 abbrev pub unopened_by : ℕ → OpenCause → Unopened
 unopened_by shelf first.Disk = unopened.Disk shelf
 unopened_by shelf first.NotEmpty = unopened.NotEmpty shelf
@@ -41,9 +41,11 @@ unopened_by shelf (first.Damaged place) = unopened.Damaged shelf place
 unopened_by shelf (first.Other place) = unopened.Other shelf place
 unopened_by shelf first.Memory = unopened.Memory
 
+-- the shelf that was not opened at first, and why
 abbrev pub unopened_first : OpenFault → Unopened
 unopened_first fault = unopened_by fault.shelf fault.why
 
+-- this shelf was not opened again, and this is why
 abbrev pub unopened_again : (shelf : ℕ) → Reopen → Unopened
 unopened_again shelf reopen.Disk = unopened.Disk shelf
 unopened_again shelf (reopen.Damaged place) = unopened.Damaged shelf place

@@ -1,5 +1,4 @@
-//! What the program's words come to: setups that are checked, steps that are played, links that are served, and
-//! runs that are measured.
+//! The commands `check`, `play`, `serve` and `load`, over any streams, disks, sockets and clock: for `main`.
 #![tactic(auto)]
 
 mod loading;

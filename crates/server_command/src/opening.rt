@@ -10,7 +10,7 @@ ghost use Rattle.site_serving.specs.Serving.{openings_of};
 ghost use Rattle.command_words.specs.Plain.{AreInRange};
 ghost use Rattle.server_command.specs.Output.{rules_for};
 ghost use Rattle.server_command.specs.Racks.{KeepsHome};
-ghost use Rattle.server_command.specs.Opening.{AreAsked, AreGiven, AreOut, AreRulesFor, CanBegin, HasTaken, IsUntaken, OpensOn, RefusesOn, TakesBack, seen_on, unopened_by};
+ghost use Rattle.server_command.specs.Opening.{AreAsked, AreFrom, AreGiven, FailsAt, AreOut, AreRulesFor, CanBegin, HasTaken, IsUntaken, LeavesFrom, OpensOn, RefusesOn, TakesBack, seen_on, unopened_by};
 
 use command_words::Options;
 use script_nodes::Setup;
@@ -103,9 +103,12 @@ fn take_all<D: Disk, R: Rack<D>>(
     requires { count ≤ most_shelves }
     ensures taken { IfOk result (λ disks. HasTaken (IsTrue (R.tells && D.tells))
         (R.view rack.old) (R.view rack.new) count (seen_on D.view disks.items)) }
+    ensures from { IsTrue R.tells →
+        IfOk result (λ disks. AreFrom D.view (R.view rack.old) disks.items) }
+    ensures kept { IsTrue R.tells → OnErr result (LeavesFrom 0 (R.view rack.old) (R.view rack.new)) }
     ensures home { OnErr result (KeepsHome (R.view rack.old) (R.view rack.new)) }
     ensures refused { IfErr result
-        (IsUntaken (Rose (R.view rack.old).faults (R.view rack.new).faults)) }
+        (IsUntaken (FailsAt count (R.view rack.old) (R.view rack.new))) }
     ensures later { (R.view rack.old).faults ≤ (R.view rack.new).faults }
 {
     let mut disks = Vec::with_capacity(alloc, count as usize)?;

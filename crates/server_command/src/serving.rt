@@ -40,6 +40,7 @@ fn watch_of(service: &Service) -> Watch
         port: service.port,
         workers: service.workers,
         connections: service.connections,
+        requests: service.requests,
     }
 }
 
@@ -75,8 +76,8 @@ fn draw_sources<N: Nonces + Drop, S: Seeds<N>>(
     }
 }
 
-/// Serves a setup by as many workers as the service says: links of the door, each with one request, until each worker served
-/// as many as it says, or no more come. The shelves go on with what the journals of their disks make. When the workers have
+/// Serves a setup by as many workers as the service says: links of the door, each with as many requests at most as it says,
+/// until each worker served as many links as it says, or no more come. The shelves go on with what the journals of their disks make. When the workers have
 /// ended, what each shelf's callers did and what each worker counted is kept, once. An error is that of the seeds, of a shelf
 /// that was not opened, of the door or a porch, or want of memory.
 pub fn serve<

@@ -36,7 +36,7 @@ syntax_word syntax.Effect = codes "effect"
 syntax_word syntax.TooMany = codes "toomany"
 syntax_word syntax.NoElse = codes "noelse"
 
--- `error 3 setup PLACE WORD`, `error 3 NAME read PLACE KIND` or `error 3 NAME syntax FORM KIND`
+-- the line of a fault: `error 3 setup PLACE WORD`, `error 3 NAME read PLACE KIND` or `error 3 NAME syntax FORM KIND`
 abbrev pub fault_line : Fault → List ℕ
 fault_line (at_section place kind) = codes "error 3 setup " ++ (decimal place ++ 32 ∷ (setup_word kind ++ 10 ∷ []))
 fault_line (at_text name place kind) = codes "error 3 " ++ (name ++ (codes " read " ++ (decimal place ++ 32 ∷ (read_word kind ++ 10 ∷ []))))

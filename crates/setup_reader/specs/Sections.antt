@@ -15,12 +15,12 @@ use Rattle.setup_reader.specs.Setup.{Parsed}
 abbrev pub section_text : List ℕ → List ℕ → List ℕ
 section_text name text = codes "script " ++ (name ++ 32 ∷ (decimal (length text) ++ 10 ∷ (text ++ 10 ∷ [])))
 
--- the end of a setup, and what stands behind it
+-- the end of a setup, and what follows it
 abbrev pub IsEnd : Ending → (rest steps : List ℕ) → Type 0
 IsEnd Steps rest steps = rest ≡ codes "steps\n" ++ steps
 IsEnd Input rest steps = (rest ≡ []) × (steps ≡ [])
 
--- sections one behind the other, and then the rest
+-- the text of a setup: the sections of its scripts, one after the other, and then the rest
 abbrev pub setup_text : List Named → (rest : List ℕ) → List ℕ
 setup_text [] rest = rest
 setup_text (s ∷ ss) rest = section_text s.name s.text ++ setup_text ss rest

@@ -50,7 +50,7 @@ by_data name text (Err e) = Err (at_text name e.0 e.1)
 abbrev pub script_in : List ℕ → List ℕ → Result Named Fault
 script_in name text = by_data name text (read text)
 
--- a section at this place behind these scripts: its name is new, there is room for it, and then its text is read
+-- the script of a section at this place after these scripts: its name is new, there is room for it, and then its text is read
 abbrev pub named_next : ℕ → List Named → Option ℕ → Piece → Result Named Fault
 named_next place scripts (Some twin) piece = Err (at_section place Repeat)
 named_next place scripts None piece =
@@ -67,18 +67,18 @@ script_at place scripts None = Err (at_section place Section)
 script_at place scripts (Some piece) =
     with_rest piece.rest (named_next place scripts (place_named piece.name scripts) piece)
 
--- the scripts, and the bytes behind them, which are those of the steps
+-- what an input has: the scripts, and the bytes after them, which are those of the steps
 pub record Parsed : Type 0 where
   pub scripts : List Named
   pub steps : List ℕ
 
--- what ends a setup here, if it does: the line `steps`, with what stands behind it, or the end of the input
+-- what ends a setup here, if it does: the line `steps`, with what follows it, or the end of the input
 abbrev pub ending_at : Ending → List ℕ → Option (List ℕ)
 ending_at Steps rest = behind (codes "steps\n") rest
 ending_at Input [] = Some []
 ending_at Input (b ∷ bs) = None
 
--- a setup that ends at this place has one script or more
+-- what a setup that ends at this place comes to: it has one script or more
 abbrev pub ended : ℕ → List Named → List ℕ → Result Parsed Fault
 ended place [] steps = Err (at_section place Empty)
 ended place (s ∷ ss) steps = Ok (record { scripts = s ∷ ss; steps = steps })
@@ -93,11 +93,11 @@ abbrev pub unless_ended : Option (List ℕ) → (List ℕ → Result Parsed Faul
 unless_ended (Some steps) end other = end steps
 unless_ended None end other = other
 
--- what the end of the input comes to at this place, behind these scripts
+-- what the end of the input comes to at this place, after these scripts
 abbrev pub at_end : Ending → ℕ → List Named → List ℕ → Result Parsed Fault
 at_end ending place scripts rest = unless_ended (ending_at ending rest) (ended place scripts) (Err (at_section place End))
 
--- the setup behind these scripts, of an input with so many bytes; the count is of the sections and ends that are read at most
+-- the setup after these scripts, of an input with so many bytes; the count is of the sections and ends that are read at most
 abbrev pub setup_from : ℕ → Ending → ℕ → List Named → List ℕ → Result Parsed Fault
 setup_from zero ending total scripts rest = Err (at_section (total - length rest) Many)
 setup_from (suc n) ending total scripts [] = at_end ending total scripts []
@@ -106,6 +106,6 @@ setup_from (suc n) ending total scripts (b ∷ bs) =
     unless_ended (ending_at ending (b ∷ bs)) (ended place scripts)
     (after (script_at place scripts (section_in (b ∷ bs))) (λ found. setup_from n ending total (scripts ++ found.0 ∷ []) found.1))
 
--- the whole setup, or its first fault: the sections that may be, and the end behind them
+-- the whole setup, or its first fault: the sections that may be, and the end after them
 unfoldable pub setup_of : Ending → List ℕ → Result Parsed Fault
 setup_of ending input = setup_from (most_scripts + 1) ending (length input) [] input

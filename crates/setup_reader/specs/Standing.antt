@@ -28,14 +28,14 @@ NoSection bytes = (name text after : List ℕ) → IsSection bytes name text aft
 abbrev pub NoEnd : Ending → List ℕ → Type 0
 NoEnd ending bytes = (steps : List ℕ) → IsEnd ending bytes steps → ⊥
 
--- the section of one more script begins these bytes: there is room for it behind those scripts, and none has its name
+-- the section of one more script begins these bytes: there is room for it after those scripts, and none has its name
 pub record IsNext (scripts : List Named) (bytes name text : List ℕ) : Type 0 where
   pub after : List ℕ
   pub section : IsSection bytes name text after
   pub new : place_named name scripts ≡ None
   pub room : length scripts < most_scripts
 
--- what has a fault of this kind behind these scripts
+-- these bytes have a fault of this kind after these scripts
 abbrev pub SectionFault : Ending → List Named → List ℕ → SetupKind → Type 0
 SectionFault ending scripts bytes Section = (bytes ≢ []) × NoEnd ending bytes × NoSection bytes
 SectionFault ending scripts bytes End = (bytes ≡ []) × NoEnd ending bytes
@@ -45,14 +45,14 @@ SectionFault ending scripts bytes Repeat =
 SectionFault ending scripts bytes Many =
     (name text after : List ℕ) × IsSection bytes name text after × (place_named name scripts ≡ None) × (most_scripts ≤ length scripts)
 
--- what has this fault behind these scripts, at this place
+-- these bytes have this fault after these scripts, at this place
 abbrev pub Stands : Ending → List Named → ℕ → List ℕ → Fault → Type 0
 Stands ending scripts place bytes (at_section at kind) = (at ≡ place) × SectionFault ending scripts bytes kind
 Stands ending scripts place bytes (at_text name at kind) = (text : List ℕ) × IsNext scripts bytes name text × (read text ≡ Err (at, kind))
 Stands ending scripts place bytes (at_form name form kind) =
     (text : List ℕ) × (vs : List Val) × IsNext scripts bytes name text × Spells text vs × (expanded vs ≡ Err (kind, form))
 
--- An input has a first fault: scripts, each under a name of its own, and what has the fault behind them.
+-- An input has a first fault: scripts, each under a name of its own, and what has the fault after them.
 pub record HasFault (ending : Ending) (input : List ℕ) (fault : Fault) : Type 0 where
   pub scripts : List Named
   pub rest : List ℕ

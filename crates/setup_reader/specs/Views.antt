@@ -43,7 +43,7 @@ Gives view (Err e) wanted = Fails e wanted
 abbrev pub Finds : Result (NamedScript × Bor (List ℕ)) SetupFault → Result (Named × List ℕ) spec.Fault → Type 0
 Finds result wanted = Gives (λ found. (named_of found.0, found.1.now)) result wanted
 
--- the script of the section that these bytes begin with was found, behind these scripts and at this place
+-- the script of the section that these bytes begin with was found, after these scripts and at this place
 abbrev pub FindsNext : ℕ → List Named → List ℕ → Result (NamedScript × Bor (List ℕ)) SetupFault → Type 0
 FindsNext place scripts bytes result = Finds result (spec.script_at place scripts (spec.section_in bytes))
 

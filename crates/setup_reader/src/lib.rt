@@ -1,4 +1,4 @@
-//! Setups: the scripts that a program serves, as an input spells them, and the first fault of an input that spells none.
+//! The scripts of a setup as an input spells them, or the first fault: for the command.
 #![tactic(auto)]
 
 mod fault;

@@ -1,4 +1,4 @@
-use Rattle.std.proofs.Common.{rules, ◌≡◌, ◌≤◌, ◌^◌, ◌∙◌, ◌∷◌, [], ap, sym, subst, true, List, Some, arith}
+use Rattle.std.proofs.Common.{rules, ◌≡◌, ◌≤◌, ◌^◌, ◌∙◌, ◌∷◌, [], inl, inr, refl, ap, sym, subst, true, List, Some, arith}
 use Rattle.play_steps.specs.Step.{Step, IsWithin}
 use Rattle.play_steps.specs.Transcript.{fits}
 use Rattle.play_steps.specs.Views.{meaning}
@@ -37,10 +37,11 @@ returns-in-Err-clause-went g c known own =
     let r = g.T.Stage.rules in
     let s = g.T.Stage.state c.args.stage.now in
     let source = c.args.course.now.generator in
+    let few : r.shelves s ≤ 2 ^ 32 = first_of (omega (arith, c.shelves-shelves.ensures), grind (arith, c.shelves-shelves.ensures)) in
     let draws = drawn_is r s c.shelves-shelves.result c.holders-workers.result source c.next.new.self c.in-Ok.step c.shelves-shelves.ensures c.holders-workers.ensures c.in-Ok.ensures.drawn in
     let is = step_is r s source c.next.new.self c.in-Ok.step (meaning c.as_step.result) draws c.as_step.ensures in
     halts_on r c.args.course.now (record { generator = c.next.new.self; tally = c.args.course.now.tally; hash = c.args.course.now.hash }) (spot r s (g.T.Stage.faults c.args.stage.now c.args.devices.now))
-    (spot r (g.T.Stage.state c.perform.new.stage) (g.T.Stage.faults c.perform.new.stage c.perform.new.devices)) (meaning c.as_step.result) c.in-Err.halt is
+    (spot r (g.T.Stage.state c.perform.new.stage) (g.T.Stage.faults c.perform.new.stage c.perform.new.devices)) (meaning c.as_step.result) c.in-Err.halt is (drawn_fits r s source c.requires.some few c.requires.clock)
     (c.in-Err.ensures.came (told_by g.T.Stage.tells (Some (meaning c.as_step.result) ∷ []) known) own)
 
 pub returns-in-Ok-note-clause-went : goal.returns-in-Ok-note-clause-went
@@ -64,6 +65,30 @@ returns-in-Ok-note-clause-went g c known own =
           (c.in-Ok-note.ensures.tally ∙ c.count.ensures ∙ ap (λ (xs : List Report). counted c.args.course.now.tally xs) c.deref.ensures.value)
           (c.in-Ok-note.ensures.hashed ∙ ap (λ (xs : List Report). goes_on c.args.course.now.hash (print xs)) c.deref-2.ensures.value),
     )
+
+-- there was no memory to learn of what was told
+pub returns-clause-went : goal.returns-clause-went
+returns-clause-went g c known own =
+    let r = g.T.Stage.rules in
+    let s = g.T.Stage.state c.args.stage.now in
+    let source = c.args.course.now.generator in
+    let old = spot r s (g.T.Stage.faults c.args.stage.now c.args.devices.now) in
+    let new = spot r (g.T.Stage.state c.perform.new.stage) (g.T.Stage.faults c.perform.new.stage c.perform.new.devices) in
+    let few : r.shelves s ≤ 2 ^ 32 = first_of (omega (arith, c.shelves-shelves.ensures), grind (arith, c.shelves-shelves.ensures)) in
+    let draws = drawn_is r s c.shelves-shelves.result c.holders-workers.result source c.next.new.self c.in-Ok.step c.shelves-shelves.ensures c.holders-workers.ensures c.in-Ok.ensures.drawn in
+    let is = step_is r s source c.next.new.self c.in-Ok.step (meaning c.as_step.result) draws c.as_step.ensures in
+    inr (inl (
+      c.in-Ok-perform.told.items,
+      record {
+        fitting = drawn_fits r s source c.requires.some few c.requires.clock;
+        came = subst (λ (x : Step). Came r old x c.in-Ok-perform.told.items new) is
+            (c.in-Ok-perform.ensures.came (told_by g.T.Stage.tells (Some (meaning c.as_step.result) ∷ []) known) own);
+      },
+    ))
+
+-- nor to draw the next step
+pub returns-in_default-clause-went : goal.returns-in_default-clause-went
+returns-in_default-clause-went g c known own = inl refl
 
 pub returns-in-Ok-note-clause-own : goal.returns-in-Ok-note-clause-own
 returns-in-Ok-note-clause-own g c known own = c.in-Ok-perform.ensures.own (told_by g.T.Stage.tells (Some (meaning c.as_step.result) ∷ []) known) own

@@ -1,13 +1,13 @@
-use Rattle.std.proofs.Common.{◌≡◌, ◌≤◌, ◌∙◌, ap, sym, subst, List, arith}
+use Rattle.std.proofs.Common.{◌≡◌, ◌≤◌, ◌∙◌, ap, sym, subst, List, Err, arith}
 use Rattle.script_nodes.specs.Views.{scripts_of}
 use Rattle.journal_records.specs.Records.{IsInGrammar, begin_of}
 use Rattle.web_outside.specs.declared.nonces.Counting.{Counting}
 use Rattle.shelf.specs.declared.rules.Rules.{Rules}
 use Rattle.shelf.specs.declared.shelf.Shelf.{Shelf}
 use Rattle.play_desk.specs.Desk.{first_desk}
-use Rattle.play_desk.specs.Opening.{GivesOne, IsRefusedBy, OpensNext, rules_at}
+use Rattle.play_desk.specs.Opening.{GivesOne, HoldImages, IsRefusedBy, KeepsClosed, LeaveOthers, OpensNext, rules_at}
 use Rattle.play_desk.specs.Staff.{HaveOwnNumbers, IsHome, desk_with, faults_in, total}
-use Rattle.play_desk.proofs.Beginning.{closed_by, desk_opened, fit_opened, later_closed, next_home, opened_more, own_opened, still_home}
+use Rattle.play_desk.proofs.Beginning.{closed_by, desk_opened, fit_opened, kept_all, later_closed, next_home, opened_more, own_opened, still_home}
 use Rattle.play_desk.proofs.Owning.{own_alone}
 use Rattle.play_desk.proofs.desk_disks.open_desk.Goals as goal
 
@@ -39,6 +39,20 @@ returns-in-Err-clause-closed g c rack_tells disk_tells =
     closed_by _ _ _ _ _ _ _ _ _ c.args.rules.shelves c.in-Err.why c.loop-number.invariant (omega arith) rack_tells disk_tells
     (subst (λ (r : Rules). IsRefusedBy ((g.R.Rack.view c.loop-number.rack).holds r.number) c.in-Err.why) c.numbered-next.ensures
     (c.in-Err.ensures.why rack_tells disk_tells))
+
+pub returns-in-Err-clause-keeps : goal.returns-in-Err-clause-keeps
+returns-in-Err-clause-keeps g c rack_tells disk_tells =
+    let scripts = scripts_of c.args.setup.now in
+    let old = g.R.Rack.view c.loop-number.rack in
+    let mid = g.R.Rack.view c.open_next.new.rack in
+    let new = g.R.Rack.view c.put_all_back.new.rack in
+    let same = c.in-Err.ensures.same in
+    kept_all _ _ _ _ _ _ _ _ _ mid new c.in-Err.why c.loop-number.invariant rack_tells disk_tells
+    (subst (λ (r : Rules). GivesOne r.number old mid) c.numbered-next.ensures c.in-Err.ensures.given)
+    (subst (λ (r : Rules). KeepsClosed {T = Unit {0}} scripts r.number (old.holds r.number) (mid.holds r.number) (Err c.in-Err.why)) c.numbered-next.ensures
+    (c.in-Err.ensures.keeps rack_tells disk_tells))
+    (subst (λ (ys : List (Shelf g.row.D.Denot Counting)). HoldImages g.D.Disk.view ys new.holds) same (c.put_all_back.ensures.images rack_tells))
+    (subst (λ (ys : List (Shelf g.row.D.Denot Counting)). LeaveOthers ys mid new) same c.put_all_back.ensures.others)
 
 pub returns-in-Err-clause-later : goal.returns-in-Err-clause-later
 returns-in-Err-clause-later g c =

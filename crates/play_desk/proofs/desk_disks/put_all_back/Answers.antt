@@ -1,11 +1,11 @@
-use Rattle.std.proofs.Common.{◌≤◌, ◌∷◌, ◌++◌, [], List, length, length-append, subst, ap, arith}
+use Rattle.std.proofs.Common.{◌≤◌, ◌∷◌, ◌++◌, ◌∙◌, [], List, Some, length, length-append, subst, sym, ap, arith}
 use mathlib.Core.List.{IsPrefix}
 use Rattle.std.proofs.lemmas.List.{append-nil}
 use Rattle.std.proofs.lemmas.Option.{slice_get_within}
 use Rattle.web_outside.specs.declared.nonces.Counting.{Counting}
 use Rattle.shelf.specs.declared.shelf.Shelf.{Shelf}
 use Rattle.play_desk.specs.Staff.{IsHome, faults_in, total}
-use Rattle.play_desk.proofs.Closing.{at_last, front_less, home_last, images_last, stays_last}
+use Rattle.play_desk.proofs.Closing.{at_front, at_last, front_less, home_last, images_last, stays_last}
 use Rattle.play_desk.proofs.Fitting.{number_at}
 use Rattle.play_desk.proofs.desk_disks.put_all_back.Goals as goal
 
@@ -15,6 +15,7 @@ loop-shelf-init g c = (
   c.requires.home,
   λ told k s le e. absurd (let within = slice_get_within c.args.shelves.items k s e in omega (arith, within, le)),
   omega arith,
+  λ n other image h. h,
 )
 
 pub put_back-requires : goal.put_back-requires
@@ -44,4 +45,6 @@ loop-shelf-preserved g c =
       λ told. images_last view xs all x old new front c.requires.numbers given (c.put_back.ensures.images told)
           (λ k s le e. i.2 told k s (let len = ap length items in omega (arith, len, length-append xs (x ∷ []), le)) e),
       omega (arith, sum, stays),
+      λ n other image h. i.4 n other image
+          (given.others n (λ is. other (length xs) (number_at all (length xs) x (at_front xs all x front) ∙ ap Some (sym is))) image h),
     )

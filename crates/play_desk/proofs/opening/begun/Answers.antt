@@ -1,4 +1,41 @@
+use Rattle.std.proofs.Common.{ℕ, List, sym, subst}
+use Rattle.std.specs.Prelude.{Err}
+use Rattle.script_nodes.specs.Setup.{Named}
+use Rattle.script_nodes.specs.Views.{scripts_of}
+use Rattle.web_disk.specs.View.{View}
+use Rattle.shelf.specs.Opening.{IsFaultOf}
+use Rattle.shelf.specs.declared.begin.BeginFault.{BeginFault}
+use Rattle.shelf.specs.declared.begin.BeginFault.TheVariants as begin
+use Rattle.play_desk.specs.Opening.{Finds, KeepsBegun, reopen_of}
+use Rattle.play_desk.proofs.Keeping.{not_begun}
 use Rattle.play_desk.proofs.opening.begun.Goals as goal
 
 pub returns-in-Ok-clause-found : goal.returns-in-Ok-clause-found
 returns-in-Ok-clause-found g c told = (c.args.disk, λ image here. here, c.in-Ok.ensures.one_of told)
+
+-- a disk that makes no shelf
+found_not : {D : Type 0} (view : D → View) (scripts : List Named) (number : ℕ) (v : View) (e : BeginFault) → v.images v.seen → IsFaultOf scripts number v e
+    → Finds view scripts number v.images (Err (reopen_of e))
+found_not view scripts number v (begin.Damaged place) reads is = (v.seen, reads, is)
+found_not view scripts number v (begin.Other place) reads is = (v.seen, reads, is)
+found_not view scripts number v begin.DiskFault reads is = tt
+found_not view scripts number v begin.Memory reads is = tt
+
+pub returns-in-Err-clause-found : goal.returns-in-Err-clause-found
+returns-in-Err-clause-found g c = λ told.
+    let v = g.D.Disk.view in
+    let ss = scripts_of c.args.setup.now in
+    subst (λ r. Finds v ss c.args.rules.number (v c.args.disk).images (Err r)) (sym c.why_not.ensures)
+    (found_not v ss c.args.rules.number (v c.args.disk) c.in-Err.fault (g.met.D.Disk.reads_image c.args.disk told) (c.in-Err.ensures.refused told))
+
+pub returns-in-Ok-clause-keeps : goal.returns-in-Ok-clause-keeps
+returns-in-Ok-clause-keeps g c rack_tells tells out = c.in-Ok.ensures.keeps tells (λ e. let no : ⊥ = cc in no)
+
+pub returns-in-Err-clause-keeps : goal.returns-in-Err-clause-keeps
+returns-in-Err-clause-keeps g c rack_tells tells out =
+    let v = g.D.Disk.view in
+    let ss = scripts_of c.args.setup.now in
+    let holds = (g.R.Rack.view c.give.new.self).holds in
+    subst (λ r. KeepsBegun v ss c.args.rules.number (v c.args.disk) holds (Err r)) (sym c.why_not.ensures)
+    (not_begun v ss c.args.rules.number (v c.args.disk) (v c.in-Err.disk) holds c.in-Err.fault (λ other. c.in-Err.ensures.keeps tells (λ e. other cc))
+    (c.give.ensures.images rack_tells out))

@@ -67,7 +67,7 @@ returns-in-Crash-clause-came g c known own =
     let new = c.crash-opened.new in
     subst (λ (s : Step). Performs r s c.crash_report.result (spot r (g.T.Stage.state c.args.stage.now) (g.T.Stage.faults c.args.stage.now c.args.devices.now))
     (spot r (g.T.Stage.state new.self) (g.T.Stage.faults new.self new.devices))) step
-    (crash_performs r _ _ _ _ _ c.crash_report.ensures (call.step (told_crash g.T.Stage.tells _ _ step known) own) call.later)
+    (crash_performs r _ _ _ _ _ c.crash_report.ensures (call.step (told_crash g.T.Stage.tells _ _ step known) own) call.disk call.later)
 
 pub returns-in-Crash-clause-own : goal.returns-in-Crash-clause-own
 returns-in-Crash-clause-own g c known own =

@@ -3,14 +3,14 @@ use Rattle.std.specs.Prelude.{◌&&◌}
 use Rattle.std.proofs.lemmas.List.{length-map}
 use Rattle.script_nodes.specs.Setup.{Named}
 use Rattle.script_nodes.specs.Views.{scripts_of}
-use Rattle.play_steps.specs.declared.performing.Halt.TheVariants.{Reopen}
-use Rattle.play_desk.specs.Opening.{IsClosedBy}
+use Rattle.play_steps.specs.declared.performing.Halt.TheVariants.{Memory, Reopen}
+use Rattle.play_desk.specs.Opening.{AllStayKept, IsClosedBy}
 use Rattle.play_steps.specs.declared.stage.Reopen.TheVariants as again
 use Rattle.play_desk.specs.Staff.{desk_of, faults_in, shelf_at, total}
 use Rattle.server_command.specs.Output.{sinks_of}
 use Rattle.server_command.specs.Racks.{racks_of}
 use Rattle.server_command.specs.Telling.{TellsUnopened}
-use Rattle.server_command.proofs.Loads.{again_leaves, error_is, first_leaves, loaded_by, lost_if, measure_leaves, memory_leaves}
+use Rattle.server_command.proofs.Loads.{again_leaves, error_is, first_leaves, loaded_by, lost_if, measure_leaves, memory_leaves, short_if, untouched}
 use Rattle.server_command.proofs.Openings.{both_tell}
 use Rattle.server_command.proofs.Playing.{Begins}
 use Rattle.server_command.proofs.Runs.{begins}
@@ -19,6 +19,7 @@ use Rattle.server_command.proofs.loading.load_all.Goals as goal
 
 pub returns-in_default-clause-leaves : goal.returns-in_default-clause-leaves
 returns-in_default-clause-leaves g c = memory_leaves _ c.args.options.now _ _ _ _ _ c.no_memory.ensures.status c.no_memory.ensures.line
+    (λ t. untouched _ _ c.args.options.now)
 
 pub open_desk-requires-clause-begins : goal.open_desk-requires-clause-begins
 open_desk-requires-clause-begins g c =
@@ -41,6 +42,9 @@ returns-in-Err-clause-leaves g c =
     (λ t. let b = both_tell g.R.Rack.tells g.D.Disk.tells t in
     subst (λ n. IsClosedBy rack.before.holds n fault.shelf fault.why) c.rules_of-rules.ensures.asked.shelves (c.in-Err.ensures.closed b.0 b.1))
     c.in-Err.ensures.disk
+    (λ t. let b = both_tell g.R.Rack.tells g.D.Disk.tells t in
+    subst (λ (ss : List Named). AllStayKept ss rack.before.holds rack.after.holds fault.shelf fault.why) c.in-Ok.ensures.scripts (c.in-Err.ensures.keeps b.0 b.1))
+    c.in-Err.ensures.later
     (subst (λ why. TellsUnopened why c.tell_unopened.result (sinks_of old new)) c.unopened_first.ensures c.tell_unopened.ensures.tells)
 
 pub returns-in-Ok-end-clause-leaves : goal.returns-in-Ok-end-clause-leaves
@@ -57,12 +61,28 @@ returns-in-Ok-end-clause-leaves g c =
     (subst (λ (ss : List Named). Begins rack l.options ss (desk_of first.setup.now first.staff)) c.in-Ok.ensures.scripts
     (begins rack l.options (scripts_of c.in-Ok.setup) c.rules_of-rules.result (desk_of first.setup.now first.staff) c.rules_of-rules.ensures.asked
     (c.in-Ok-open_desk.ensures.desk b.0 b.1) (c.in-Ok-open_desk.ensures.empty b.0 b.1)))
-    (c.in-Ok-end.ensures.measured t (c.in-Ok-open_desk.ensures.own b.0 b.1)) (c.close.ensures.books b.0 b.1 (c.in-Ok-end.ensures.own t (c.in-Ok-open_desk.ensures.own b.0 b.1))))
+    (c.in-Ok-end.ensures.measured t (c.in-Ok-open_desk.ensures.own b.0 b.1)) (c.close.ensures.books b.0 b.1 (c.in-Ok-end.ensures.own t (c.in-Ok-open_desk.ensures.own b.0 b.1)))
+    c.in-Ok-open_desk.ensures.later_open c.close.ensures.later)
     c.tell_measure.ensures.outputs
 
 pub returns-in-Err-Memory-clause-leaves : goal.returns-in-Err-Memory-clause-leaves
 returns-in-Err-Memory-clause-leaves g c =
-    memory_leaves _ c.args.options.now _ _ _ _ _ c.no_memory-in-Err-Memory.ensures.status c.no_memory-in-Err-Memory.ensures.line
+    let l = c.args.options.now in
+    let rack = racks_of (g.R.Rack.tells && g.D.Disk.tells) (g.R.Rack.view c.args.rack.now) (g.R.Rack.view c.close.new.rack) in
+    let first = c.in-Ok-open_desk.desk in
+    let last = c.load-end.new.stage in
+    let is : c.load-end.result ≡ Err Memory = search rules in
+    memory_leaves rack l _ _ _ _ _ c.no_memory-in-Err-Memory.ensures.status c.no_memory-in-Err-Memory.ensures.line
+    (λ t. let b = both_tell g.R.Rack.tells g.D.Disk.tells t in
+    short_if rack l c.load-end.result (desk_of first.setup.now first.staff) (desk_of last.setup.now last.staff)
+    (total (g.R.Rack.view c.open_desk.new.rack).faults (faults_in g.D.Disk.view first.staff.shelves.items))
+    (total (g.R.Rack.view c.load-end.new.devices).faults (faults_in g.D.Disk.view last.staff.shelves.items)) is
+    (subst (λ (ss : List Named). Begins rack l.options ss (desk_of first.setup.now first.staff)) c.in-Ok.ensures.scripts
+    (begins rack l.options (scripts_of c.in-Ok.setup) c.rules_of-rules.result (desk_of first.setup.now first.staff) c.rules_of-rules.ensures.asked
+    (c.in-Ok-open_desk.ensures.desk b.0 b.1) (c.in-Ok-open_desk.ensures.empty b.0 b.1)))
+    (c.load-end.ensures.measured t (c.in-Ok-open_desk.ensures.own b.0 b.1))
+    (c.close.ensures.books b.0 b.1 (c.load-end.ensures.own t (c.in-Ok-open_desk.ensures.own b.0 b.1)))
+    c.in-Ok-open_desk.ensures.later_open c.close.ensures.later)
 
 pub returns-clause-leaves : goal.returns-clause-leaves
 returns-clause-leaves g c =
@@ -83,7 +103,7 @@ returns-clause-leaves g c =
     (subst (λ (ss : List Named). Begins rack l.options ss (desk_of first.setup.now first.staff)) c.in-Ok.ensures.scripts
     (begins rack l.options (scripts_of c.in-Ok.setup) c.rules_of-rules.result (desk_of first.setup.now first.staff) c.rules_of-rules.ensures.asked
     (c.in-Ok-open_desk.ensures.desk b.0 b.1) (c.in-Ok-open_desk.ensures.empty b.0 b.1)))
-    (c.load-end.ensures.measured t (c.in-Ok-open_desk.ensures.own b.0 b.1)))
+    (c.load-end.ensures.measured t (c.in-Ok-open_desk.ensures.own b.0 b.1)) c.in-Ok-open_desk.ensures.later_open c.close.ensures.later)
     (λ e. let rose = c.load-end.ensures.disk shelf (error_is c.load-end.result shelf why again.Disk is e) in
     omega (arith, rose, c.in-Ok-open_desk.ensures.later_open, c.close.ensures.later))
     (λ t place e. c.load-end.ensures.damaged t shelf place (error_is c.load-end.result shelf why (again.Damaged place) is e))

@@ -1,11 +1,11 @@
-use Rattle.std.proofs.Common.{◌≡◌, ◌≤◌, ◌+◌, ◌∙◌, [], length, Some, slice_get, Err, sym, subst, arith, rules}
+use Rattle.std.proofs.Common.{◌≡◌, ◌<◌, ◌≤◌, ◌+◌, ◌∙◌, [], length, Some, slice_get, Err, sym, subst, arith, rules}
 use Rattle.std.specs.Prelude.{IsTrue, ◌&&◌}
 use Rattle.script_nodes.specs.Views.{scripts_of}
 use Rattle.web_outside.specs.Causes.{Rose}
 use Rattle.site.specs.Beginnings.{IsBegunAt}
-use Rattle.server_command.specs.Opening.{HasTaken, IsRefused, TakesBack, seen_on, unopened_by}
+use Rattle.server_command.specs.Opening.{AreOut, FailsAt, HasTaken, IsRefused, TakesBack, seen_on, unopened_by}
 use Rattle.server_command.proofs.Openings.{all_home, both_tell, rose_since, seen_size, untaken_refused}
-use Rattle.server_command.proofs.Shelves.{opened_from, refused_at}
+use Rattle.server_command.proofs.Shelves.{kept_at, opened_from, refused_at}
 use Rattle.server_command.proofs.opening.open_site.Goals as goal
 
 pub returns-in_err-disks-clause-refused : goal.returns-in_err-disks-clause-refused
@@ -16,6 +16,8 @@ returns-in_err-disks-clause-refused g c =
       images = [];
       held = λ t. tt;
       refused = untaken_refused _ _ (scripts_of c.args.setup) [] why c.in_err-disks.ensures.refused;
+      kept = λ t k read left none. absurd (let no : ⊥ = cc none in no);
+      unread = λ t. c.in_err-disks.ensures.kept (both_tell _ _ t).0;
       home = c.in_err-disks.ensures.home;
     })
 
@@ -62,6 +64,12 @@ returns-in-Err-clause-refused g c =
     record {
       images = seen_on g.D.Disk.view disks;
       held = taken.held;
-      refused = subst (IsRefused told (Rose before.faults last.faults) scripts (seen_on g.D.Disk.view disks)) why refused;
+      refused = subst (IsRefused told (FailsAt c.args.options.now.shelves before last) scripts (seen_on g.D.Disk.view disks)) why
+          (subst (λ n. IsRefused told (λ k. (k < n) × Rose before.faults last.faults) scripts (seen_on g.D.Disk.view disks) (unopened_by c.in-Err.field-0.shelf c.in-Err.field-0.fault)) (sym size ∙ taken.many) refused);
+      kept = λ t k read left read_is left_is but. kept_at g.D.Disk.view g.D.Disk.tells c.args.setup told disks c.args.sources.items c.in-Err.field-0 before.holds last.holds
+          (λ u. (both_tell _ _ u).1) not (λ u. c.in_ok-disks.ensures.from (both_tell _ _ u).0)
+          (λ u j e e_is. c.give_all.ensures.given.held (both_tell _ _ u).0 (subst (AreOut middle) (sym many) taken.out) j e e_is)
+          t k read left read_is left_is (λ same. but (sym why ∙ same));
+      unread = λ t n le image h. taken.rest n (omega (arith, size, taken.many, le)) image (c.give_all.ensures.given.others n (omega (arith, many, size, taken.many, le)) image h);
       home = all_home told before middle last c.args.options.now.shelves (seen_on g.D.Disk.view disks) taken (subst (TakesBack middle last 0) many c.give_all.ensures.back);
     }

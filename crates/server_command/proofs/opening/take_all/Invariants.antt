@@ -1,6 +1,6 @@
 use Rattle.std.proofs.Common.{◌≡◌, ◌≤◌}
 use Rattle.std.specs.Prelude.{IsTrue, ◌&&◌, vec_len, vec_capacity}
-use Rattle.server_command.specs.Opening.{seen_on}
+use Rattle.server_command.specs.Opening.{AreFrom, seen_on}
 use Rattle.server_command.proofs.Openings.{TakesUpTo}
 use Rattle.server_command.proofs.opening.take_all.Given as goal
 
@@ -9,4 +9,5 @@ invariant-taking g l = record {
   size : vec_len l.disks ≡ l.number;
   room : l.fn.count ≤ vec_capacity l.disks;
   taken : TakesUpTo (IsTrue (g.R.Rack.tells && g.D.Disk.tells)) (g.R.Rack.view l.fn.rack) (g.R.Rack.view l.rack) l.number (seen_on g.D.Disk.view l.disks.items);
+  from : IsTrue g.R.Rack.tells → AreFrom g.D.Disk.view (g.R.Rack.view l.fn.rack) l.disks.items;
 }

@@ -28,6 +28,7 @@ returns-in-Err-clause-outputs g c = λ bytes h.
     (λ t. let b = both_tell g.R.Rack.tells g.D.Disk.tells t in
     subst (λ n. IsClosedBy rack.before.holds n fault.shelf fault.why) c.rules_of-rules.ensures.asked.shelves (c.in-Err.ensures.closed b.0 b.1))
     c.in-Err.ensures.disk
+    (λ t. let b = both_tell g.R.Rack.tells g.D.Disk.tells t in c.in-Err.ensures.keeps b.0 b.1) c.in-Err.ensures.later
     (subst (λ why. TellsUnopened why c.tell_unopened.result (sinks_of old new)) c.unopened_first.ensures c.tell_unopened.ensures.tells)
 
 pub returns-in-Done-clause-outputs : goal.returns-in-Done-clause-outputs
@@ -44,7 +45,8 @@ returns-in-Done-clause-outputs g c = λ bytes h.
     ran rack o scripts (steps_of c.args.steps.now) done old.written mid.written _ _ _ _
     (begins rack o scripts c.rules_of-rules.result _ c.rules_of-rules.ensures.asked (c.in-Ok.ensures.desk b.0 b.1) (c.in-Ok.ensures.empty b.0 b.1))
     (c.in-Done.ensures.ended (told_by tells (steps_of c.args.steps.now) t) (c.in-Ok.ensures.own b.0 b.1))
-    (c.close.ensures.books b.0 b.1 (c.in-Done.ensures.own (told_by tells (steps_of c.args.steps.now) t) (c.in-Ok.ensures.own b.0 b.1))))
+    (c.close.ensures.books b.0 b.1 (c.in-Done.ensures.own (told_by tells (steps_of c.args.steps.now) t) (c.in-Ok.ensures.own b.0 b.1)))
+    c.in-Ok.ensures.later_open c.close.ensures.later)
     c.hand_on.ensures.same c.play-end.ensures.later c.hand_on.ensures.status
 
 pub returns-in-Line-clause-outputs : goal.returns-in-Line-clause-outputs
@@ -61,7 +63,8 @@ returns-in-Line-clause-outputs g c = λ bytes h.
     ran rack o scripts (steps_of c.args.steps.now) (bad_line c.in-Line.number) old.written mid.written _ _ _ _
     (begins rack o scripts c.rules_of-rules.result _ c.rules_of-rules.ensures.asked (c.in-Ok.ensures.desk b.0 b.1) (c.in-Ok.ensures.empty b.0 b.1))
     (c.in-Line.ensures.ended (told_by tells (steps_of c.args.steps.now) t) (c.in-Ok.ensures.own b.0 b.1))
-    (c.close.ensures.books b.0 b.1 (c.in-Line.ensures.own (told_by tells (steps_of c.args.steps.now) t) (c.in-Ok.ensures.own b.0 b.1))))
+    (c.close.ensures.books b.0 b.1 (c.in-Line.ensures.own (told_by tells (steps_of c.args.steps.now) t) (c.in-Ok.ensures.own b.0 b.1)))
+    c.in-Ok.ensures.later_open c.close.ensures.later)
     c.play-end.ensures.later c.tell_line.ensures.tells
 
 pub returns-in-Write-clause-outputs : goal.returns-in-Write-clause-outputs
@@ -76,7 +79,9 @@ returns-in-Write-clause-outputs g c = λ bytes h.
     (λ t. let b = both_tell g.R.Rack.tells g.D.Disk.tells t in
     halted rack o scripts (steps_of c.args.steps.now) old.written mid.written _ _ _ _
     (begins rack o scripts c.rules_of-rules.result _ c.rules_of-rules.ensures.asked (c.in-Ok.ensures.desk b.0 b.1) (c.in-Ok.ensures.empty b.0 b.1))
-    (c.in-Write.ensures.ended (told_by tells (steps_of c.args.steps.now) t) (c.in-Ok.ensures.own b.0 b.1)))
+    (c.in-Write.ensures.ended (told_by tells (steps_of c.args.steps.now) t) (c.in-Ok.ensures.own b.0 b.1))
+    (c.close.ensures.books b.0 b.1 (c.in-Write.ensures.own (told_by tells (steps_of c.args.steps.now) t) (c.in-Ok.ensures.own b.0 b.1)))
+    c.in-Ok.ensures.later_open c.close.ensures.later)
     (c.in-Write.ensures.write refl)
 
 pub returns-in-Memory-clause-outputs : goal.returns-in-Memory-clause-outputs
@@ -92,7 +97,9 @@ returns-in-Memory-clause-outputs g c = λ bytes h.
     (λ t. let b = both_tell g.R.Rack.tells g.D.Disk.tells t in
     paused rack o scripts (steps_of c.args.steps.now) old.written mid.written _ _ _ _
     (begins rack o scripts c.rules_of-rules.result _ c.rules_of-rules.ensures.asked (c.in-Ok.ensures.desk b.0 b.1) (c.in-Ok.ensures.empty b.0 b.1))
-    (c.in-Memory.ensures.ended (told_by tells (steps_of c.args.steps.now) t) (c.in-Ok.ensures.own b.0 b.1)))
+    (c.in-Memory.ensures.ended (told_by tells (steps_of c.args.steps.now) t) (c.in-Ok.ensures.own b.0 b.1))
+    (c.close.ensures.books b.0 b.1 (c.in-Memory.ensures.own (told_by tells (steps_of c.args.steps.now) t) (c.in-Ok.ensures.own b.0 b.1)))
+    c.in-Ok.ensures.later_open c.close.ensures.later)
     c.play-end.ensures.later c.no_memory.ensures.status c.no_memory.ensures.line
 
 pub returns-in-Reopen-clause-outputs : goal.returns-in-Reopen-clause-outputs
@@ -109,9 +116,10 @@ returns-in-Reopen-clause-outputs g c = λ bytes h.
     again_outputs rack o bytes (record { scripts = scripts; steps = c.args.steps.now }) shelf why c.tell_unopened-in-Reopen.result
     old.written mid.written new.written old.faults mid.faults new.faults h
     (λ t. let b = both_tell g.R.Rack.tells g.D.Disk.tells t in
-    lost rack o scripts (steps_of c.args.steps.now) shelf old.written mid.written _ _ _ _
+    lost rack o scripts (steps_of c.args.steps.now) shelf why old.written mid.written _ _ _ _
     (begins rack o scripts c.rules_of-rules.result _ c.rules_of-rules.ensures.asked (c.in-Ok.ensures.desk b.0 b.1) (c.in-Ok.ensures.empty b.0 b.1))
-    (loses (steps_of c.args.steps.now) shelf why _ _ (c.in-Reopen.ensures.ended (told_by tells (steps_of c.args.steps.now) t) (c.in-Ok.ensures.own b.0 b.1))))
+    (loses (steps_of c.args.steps.now) shelf why _ _ (c.in-Reopen.ensures.ended (told_by tells (steps_of c.args.steps.now) t) (c.in-Ok.ensures.own b.0 b.1)))
+    c.in-Ok.ensures.later_open c.close.ensures.later)
     (λ e. let rose = c.in-Reopen.ensures.disk shelf (ap (λ w. Reopen shelf w) e) in omega (arith, rose, c.in-Ok.ensures.later_open, c.close.ensures.later))
     (λ t place e. c.in-Reopen.ensures.damaged t shelf place (ap (λ w. Reopen shelf w) e))
     (λ t place e. c.in-Reopen.ensures.other t shelf place (ap (λ w. Reopen shelf w) e))

@@ -8,7 +8,7 @@ use Rattle.server_command.specs.Racks.{racks_of}
 use Rattle.server_command.specs.Output.{sinks_of}
 use Rattle.server_command.specs.Serving.{faults_of, outside, serves_over}
 use Rattle.server_command.proofs.Causes.{asks_if, asks_nothing, plain_asks, unworded}
-use Rattle.server_command.proofs.Endings.{no_chances}
+use Rattle.server_command.proofs.Endings.{at_rest, no_chances}
 use Rattle.server_command.proofs.program.run.Goals as goal
 
 pub returns-in-Ok-Check-clause-explained : goal.returns-in-Ok-Check-clause-explained
@@ -50,7 +50,7 @@ returns-in-Ok-Serve-clause-plain g c = λ asked p. plain_asks _ asked p
 pub returns-in-Err-Usage-clause-explained : goal.returns-in-Err-Usage-clause-explained
 returns-in-Err-Usage-clause-explained g c =
     let usage : c.read_words.result ≡ Err Usage = search rules in
-    (no_chances, inl (asks_nothing (texts c.args.words.now) (c.read_words.ensures.usage usage), c.write_or_drop.ensures.written, (refl, refl)))
+    (no_chances, inl (asks_nothing (texts c.args.words.now) (c.read_words.ensures.usage usage), c.write_or_drop.ensures.written, (refl, refl), at_rest _ _))
 
 pub returns-in-Err-Usage-clause-plain : goal.returns-in-Err-Usage-clause-plain
 returns-in-Err-Usage-clause-plain g c = λ asked p. plain_asks _ asked p
@@ -66,4 +66,4 @@ returns-in-Err-Memory-clause-explained g c =
     (faults_of (g.A.Door.view c.args.door.now).faults (g.A.Door.view c.args.door.now).faults) (faults_of (g.S.Seeds.view c.args.seeds.now).faults (g.S.Seeds.view c.args.seeds.now).faults) in
     let o = outside (views g.D.Disk.view g.D.Disk.tells g.A.Porch.Link.Link.view g.A.Porch.Porch.view g.N.Nonces.nonce (g.C.Clock.shows c.args.clock.now)) rack
     (g.A.Door.view c.args.door.now) (g.A.Door.view c.args.door.now) (g.S.Seeds.view c.args.seeds.now) (pasts_of (g.P.Past.told c.args.past.now) (g.P.Past.told c.args.past.now)) in
-    unworded (serves_over o) c.no_memory.result met c.no_memory.ensures.status c.no_memory.ensures.line (refl, refl)
+    unworded (serves_over o) c.no_memory.result met c.no_memory.ensures.status c.no_memory.ensures.line (refl, refl) (at_rest _ _)

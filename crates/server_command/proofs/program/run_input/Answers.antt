@@ -3,7 +3,7 @@ use Rattle.setup_reader.specs.Setup.{setup_of}
 use Rattle.setup_reader.specs.Views.{fault_of}
 use Rattle.server_command.specs.Command.{asked_of}
 use Rattle.server_command.specs.Output.{ending_of}
-use Rattle.server_command.proofs.Endings.{early, fault_outputs}
+use Rattle.server_command.proofs.Endings.{at_rest, early, fault_outputs, untouched}
 use Rattle.server_command.proofs.Causes.{job_reads}
 use Rattle.server_command.proofs.program.run_input.Goals as goal
 
@@ -11,6 +11,8 @@ pub returns-in-Err-At-clause-outputs : goal.returns-in-Err-At-clause-outputs
 returns-in-Err-At-clause-outputs g c =
     let is : setup_of (ending_of (asked_of c.args.job.now)) c.args.input.now ≡ Err (fault_of c.in-Err-At.error) = search rules in
     fault_outputs _ (asked_of c.args.job.now) (job_reads c.args.job.now) c.args.input.now (fault_of c.in-Err-At.error) c.tell_fault.result _ is c.tell_fault.ensures.line
+    (at_rest _ _)
 
 pub returns-in-Err-Memory-clause-outputs : goal.returns-in-Err-Memory-clause-outputs
 returns-in-Err-Memory-clause-outputs g c = early _ _ _ _ _ _ _ _ c.no_memory.ensures.status c.no_memory.ensures.line
+    (λ settles. untouched _ _ (asked_of c.args.job.now) _)

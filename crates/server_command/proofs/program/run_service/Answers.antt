@@ -6,6 +6,7 @@ use Rattle.server_command.specs.Racks.{racks_of}
 use Rattle.server_command.specs.Output.{Chances, sinks_of}
 use Rattle.server_command.specs.Serving.{LeavesInput, faults_of, outside, serves_over}
 use Rattle.server_command.proofs.Causes.{served_came, unread_by, unread_served}
+use Rattle.server_command.proofs.Endings.{at_rest}
 use Rattle.server_command.proofs.program.run_service.Goals as goal
 
 pub returns-in-Ok-clause-comes : goal.returns-in-Ok-clause-comes
@@ -33,5 +34,6 @@ returns-in-Err-clause-comes g c = λ words.
     (g.A.Door.view c.args.door.now) (g.A.Door.view c.args.door.now) (g.S.Seeds.view c.args.seeds.now) (pasts_of (g.P.Past.told c.args.past.now) (g.P.Past.told c.args.past.now)) in
     let is : c.read_all.result ≡ Err c.in-Err.fault = search rules in
     unread_served (serves_over o) c.args.service.now c.tell_unread.result met c.in-Err.fault c.tell_unread.ensures.status
-    (unread_by met c.read_all.result c.in-Err.fault is c.tell_unread.ensures.line c.read_all.ensures.long c.read_all.ensures.failed c.read_all.ensures.short c.read_all.ensures.front)
+    (unread_by met c.read_all.result c.in-Err.fault is c.tell_unread.ensures.line c.read_all.ensures.long c.read_all.ensures.failed c.read_all.ensures.short c.read_all.ensures.front
+    (at_rest _ _))
     (refl, refl)

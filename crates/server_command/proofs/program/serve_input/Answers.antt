@@ -7,6 +7,7 @@ use Rattle.site_serving.specs.Serving.{pasts_of, views}
 use Rattle.server_command.specs.Racks.{racks_of}
 use Rattle.server_command.specs.Output.{sinks_of}
 use Rattle.server_command.specs.Serving.{faults_of, outside, serves_over}
+use Rattle.server_command.proofs.Endings.{at_rest}
 use Rattle.server_command.proofs.Servings.{fault_left, input_served, memory_left}
 use Rattle.server_command.proofs.program.serve_input.Goals as goal
 
@@ -19,7 +20,7 @@ returns-in-Err-At-clause-outputs g c =
     let o = outside (views g.D.Disk.view g.D.Disk.tells g.A.Porch.Link.Link.view g.A.Porch.Porch.view g.N.Nonces.nonce (g.C.Clock.shows c.args.clock.now)) rack door door seeds (pasts_of (g.P.Past.told c.args.past.now) (g.P.Past.told c.args.past.now)) in
     fault_left (serves_over o) c.args.service.now c.args.input.now (fault_of c.in-Err-At.error) c.tell_fault.result
     (sinks_of (g.O.Sink.view c.args.output.now) (g.O.Sink.view c.tell_fault.new.output)) (faults_of door.faults door.faults) (faults_of seeds.faults seeds.faults)
-    is c.tell_fault.ensures.line (refl, refl)
+    is c.tell_fault.ensures.line (refl, refl) (at_rest _ _)
 
 pub returns-in-Ok-clause-outputs : goal.returns-in-Ok-clause-outputs
 returns-in-Ok-clause-outputs g c =

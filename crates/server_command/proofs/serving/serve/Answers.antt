@@ -1,4 +1,4 @@
-use Rattle.std.proofs.Common.{◌≡◌, ◌≤◌, ◌<◌, ◌∙◌, ℕ, length, Some, slice_get, subst, sym, arith}
+use Rattle.std.proofs.Common.{◌≡◌, ◌≤◌, ◌<◌, ◌∙◌, ℕ, length, Some, slice_get, refl, subst, sym, arith}
 use Rattle.std.specs.Prelude.{IsTrue, ◌&&◌}
 use Rattle.script_nodes.specs.Views.{scripts_of}
 use Rattle.site_serving.specs.Serving.{ComesTo, openings_of, pasts_of, views}
@@ -6,7 +6,7 @@ use Rattle.server_command.specs.Opening.{AreOut, TakesBack}
 use Rattle.server_command.specs.Racks.{racks_of}
 use Rattle.server_command.specs.Serving.{ServesBy, outside, serves_over}
 use Rattle.server_command.proofs.Openings.{all_home, both_tell}
-use Rattle.server_command.proofs.Servings.{serves_of}
+use Rattle.server_command.proofs.Servings.{refuses_of, serves_of}
 use Rattle.server_command.proofs.serving.serve.Goals as goal
 
 pub returns-clause-served : goal.returns-clause-served
@@ -30,6 +30,17 @@ returns-clause-served g c =
     (λ t k d d_is. c.give_all.ensures.given.held (both_tell _ _ t).0 (subst (AreOut middle) (sym many) p.taken.out) k d d_is)
     comes in
     (p.images, subst (ServesBy (serves_over o) c.args.service.now scripts p.images) (sym c.told_as.ensures) served)
+
+pub returns-in-Err-clause-served : goal.returns-in-Err-clause-served
+returns-in-Err-clause-served g c =
+    let before = g.R.Rack.view c.args.rack.now in
+    let last = g.R.Rack.view c.open_site.new.rack in
+    let door = g.A.Door.view c.args.door.now in
+    let told = g.P.Past.told c.args.past.now in
+    let o = outside (views g.D.Disk.view g.D.Disk.tells g.A.Porch.Link.Link.view g.A.Porch.Porch.view g.N.Nonces.nonce (g.C.Clock.shows c.args.clock.now))
+    (racks_of (g.R.Rack.tells && g.D.Disk.tells) before last) door door (g.S.Seeds.view c.args.seeds.now) (pasts_of told told) in
+    let p = c.in-Err.ensures.refused in
+    (p.images, refuses_of o c.args.service.now (scripts_of c.args.setup) c.in-Err.why (refl, refl) p)
 
 pub returns-clause-home : goal.returns-clause-home
 returns-clause-home g c =
