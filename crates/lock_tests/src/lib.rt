@@ -1,4 +1,4 @@
-//! A counter behind the lock, and tests of the lock over it.
+//! Tests of the lock, over a counter.
 #![tactic(auto)]
 
 pub mod counter;

@@ -26,14 +26,3 @@ fn a_note_makes_no_entry(rt: HostRuntime) -> Result<(), Fail> {
     assert!(rt; older.caller == 0 && newer.caller == 1);
     Ok(())
 }
-
-#[test]
-fn each_seat_has_a_pass(rt: HostRuntime) -> Result<(), Fail> {
-    let counter = Counter::new(rt.alloc(), 5);
-    let Ok((_lock, passes)) = ShelfLock::new(rt.alloc(), counter, 3) else {
-        return Err(Fail::from("no memory"));
-    };
-    assert!(rt; passes.len() == 3);
-    assert!(rt; passes[0].caller == 0 && passes[2].caller == 2);
-    Ok(())
-}

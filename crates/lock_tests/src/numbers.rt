@@ -20,19 +20,3 @@ fn the_second_turn_is_worn(rt: HostRuntime) -> Result<(), Fail> {
     assert!(rt; counter.counts.len() == 1);
     Ok(())
 }
-
-#[test]
-fn a_value_at_the_limit_has_no_turn(rt: HostRuntime) -> Result<(), Fail> {
-    let counter = Counter::new(rt.alloc(), 1 << 62);
-    let Ok((lock, mut passes)) = ShelfLock::new(rt.alloc(), counter, 1) else {
-        return Err(Fail::from("no memory"));
-    };
-    let Some(mut pass) = passes.pop() else {
-        return Err(Fail::from("no pass"));
-    };
-    let first = count_once(&rt, &lock, &mut pass, 0);
-    let counter = lock.close_with(&rt, pass);
-    assert!(rt; matches!(first, Err(Worn)));
-    assert!(rt; counter.counts.is_empty());
-    Ok(())
-}

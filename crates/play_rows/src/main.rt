@@ -1,4 +1,5 @@
-//! Plays rows: scripts with names, and runs of the command over them. Each row is written back with what the command wrote.
+//! Plays rows of scripts and runs of the command, each written back with what the command wrote: for the gate, which compares.
+//!
 //! What stands before a run says how its disks are, and which of them are shown behind it.
 #![tactic(auto)]
 
@@ -6,6 +7,7 @@ mod outside;
 mod racks;
 mod rows;
 mod steps;
+mod told;
 mod transcript;
 
 use rows::Rows;

@@ -1,6 +1,7 @@
 ghost use Rattle.std.specs.Prelude.{◌≡◌, ℕ, false, vec_len, IfOk};
 ghost use Rattle.web_disk.specs.Racks.{is_lent};
 
+use crate::told::Told;
 use std::alloc::{AllocError, Global};
 use web_disk::{MemoryDisk, MemoryRack, Wreck};
 
@@ -130,21 +131,17 @@ impl RackPlan {
         Ok(rack)
     }
 
-    /// The bytes of the disks that are to be shown, a line for each.
-    pub fn shown(&self, alloc: Global, rack: &MemoryRack) -> Result<Vec<u8>, AllocError> {
-        let mut told = Vec::new(alloc);
+    /// Tells the bytes of the disks that are to be shown, a line for each.
+    pub fn tell_shown(&self, alloc: Global, rack: &MemoryRack, told: &mut Told) {
         for number in &self.shown {
             let number = *number;
             let bytes = rack.bytes(number).unwrap_or(&[]);
-            told.extend_from_slice(format!(in alloc;
-                "disk {number} has {}:",
-                bytes.len()
-            )?.as_bytes())?;
+            let count = bytes.len();
+            told.put(format!(in alloc; "disk {number} has {count}:"));
             for byte in bytes {
-                told.extend_from_slice(format!(in alloc; " {byte:02x}")?.as_bytes())?;
+                told.put(format!(in alloc; " {byte:02x}"));
             }
-            told.push(b'\n')?;
+            told.add(b"\n");
         }
-        Ok(told)
     }
 }

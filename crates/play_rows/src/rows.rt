@@ -1,6 +1,7 @@
 use crate::outside::{Outcome, ran};
 use crate::racks::RackPlan;
 use crate::steps::unfolded;
+use crate::told::Told;
 use crate::transcript::transcript;
 use std::alloc::{AllocError, Global};
 use std::mem;
@@ -82,6 +83,36 @@ fn started<R: Threads + Wait + Sync>(
     told_of(rt, alloc, "play", input.as_str(), plan)
 }
 
+// What is told of a run over this input: each of its steps with its replies, and the end.
+fn transcribed<R: Threads + Wait + Sync>(
+    rt: &R,
+    alloc: Global,
+    options: &str,
+    input: &[u8],
+    steps: &str,
+    plan: &RackPlan,
+) -> Result<Vec<u8>, AllocError> {
+    let words = format!(in alloc; "play {options}")?;
+    let words = words_of(alloc, words.as_str())?;
+    let Outcome { written, end } = ran(rt, alloc, &words, input, plan)?;
+    let mut told = Told::new(alloc);
+    told.put_bytes(transcript(alloc, steps, shelves_of(options), written.as_slice()));
+    told.add(&end);
+    told.all()
+}
+
+// The block that begins with this word, if one does, and has this behind it.
+fn block_of(alloc: Global, word: &str, rest: &str) -> Result<Option<Block>, AllocError> {
+    let head = String::from_str(alloc, rest)?;
+    let text = String::new(alloc);
+    Ok(match word {
+        "script" => Some(Block::Script(Script { name: head, text })),
+        "play" => Some(Block::Steps { head, steps: text }),
+        "input" => Some(Block::Input { words: head, text }),
+        _ => None,
+    })
+}
+
 // The line of a row as it is.
 fn echo(alloc: Global, line: &str) -> Result<Vec<u8>, AllocError> {
     let line = format!(in alloc; "{line}\n")?;
@@ -115,6 +146,22 @@ impl Rows {
         }
     }
 
+    // The input of a run: the sections of these scripts, and the steps.
+    fn input_of(&self, alloc: Global, names: &str, steps: &str) -> Result<Vec<u8>, AllocError> {
+        let mut input = Told::new(alloc);
+        for name in names.split_whitespace() {
+            input.put(self.section(alloc, name));
+        }
+        input.add(b"steps\n");
+        if !steps.is_empty() {
+            for step in steps.split('\n') {
+                input.put(unfolded(alloc, step));
+                input.add(b"\n");
+            }
+        }
+        input.all()
+    }
+
     // The run of a command over the scripts that its head names, and steps.
     fn played<R: Threads + Wait + Sync>(
         &self,
@@ -125,23 +172,8 @@ impl Rows {
         plan: &RackPlan,
     ) -> Result<Vec<u8>, AllocError> {
         let (names, options) = head.split_once(" : ").unwrap_or((head, ""));
-        let mut input = String::new(alloc);
-        for name in names.split_whitespace() {
-            input.push_str(self.section(alloc, name)?.as_str())?;
-        }
-        input.push_str("steps\n")?;
-        if !steps.is_empty() {
-            for step in steps.split('\n') {
-                input.push_str(unfolded(alloc, step)?.as_str())?;
-                input.push_str("\n")?;
-            }
-        }
-        let words = format!(in alloc; "play {options}")?;
-        let words = words_of(alloc, words.as_str())?;
-        let Outcome { written, end } = ran(rt, alloc, &words, input.as_bytes(), plan)?;
-        let mut told = transcript(alloc, steps, shelves_of(options), written.as_slice())?;
-        told.extend_from_slice(&end)?;
-        Ok(told)
+        let input = self.input_of(alloc, names, steps)?;
+        transcribed(rt, alloc, options, &input, steps, plan)
     }
 
     // How the rack of this run is; that of the next one is as it was at first.
@@ -172,7 +204,7 @@ impl Rows {
         }
     }
 
-    // What is written for a line between two blocks, or for the first of one.
+    // What is told of a line between two blocks, or of the first of one.
     fn begin<R: Threads + Wait + Sync>(
         &mut self,
         rt: &R,
@@ -180,25 +212,29 @@ impl Rows {
         line: &str,
     ) -> Result<Vec<u8>, AllocError> {
         let (word, rest) = line.split_once(' ').unwrap_or((line, ""));
-        let text = String::new(alloc);
         match word {
-            "script" => {
-                let name = String::from_str(alloc, rest)?;
-                self.block = Block::Script(Script { name, text });
-            }
-            "play" => {
-                let head = String::from_str(alloc, rest)?;
-                self.block = Block::Steps { head, steps: text };
-            }
-            "input" => {
-                let words = String::from_str(alloc, rest)?;
-                self.block = Block::Input { words, text };
-            }
             "start" => return started(rt, alloc, rest, &self.take_plan(alloc)),
             "words" => return told_of(rt, alloc, rest, "", &self.take_plan(alloc)),
-            _ => self.plan.line(alloc, word, rest)?,
+            _ => (),
+        }
+        match block_of(alloc, word, rest)? {
+            Some(block) => self.block = block,
+            None => self.plan.line(alloc, word, rest)?,
         }
         Ok(Vec::new(alloc))
+    }
+
+    // What is written for such a line: itself, and what is told of it.
+    fn begun<R: Threads + Wait + Sync>(
+        &mut self,
+        rt: &R,
+        alloc: Global,
+        line: &str,
+    ) -> Result<Vec<u8>, AllocError> {
+        let mut told = Told::new(alloc);
+        told.put_bytes(echo(alloc, line));
+        told.put_bytes(self.begin(rt, alloc, line));
+        told.all()
     }
 
     /// What is written for one more line.
@@ -211,16 +247,15 @@ impl Rows {
         if line == "." {
             return self.ended(rt, alloc);
         }
-        let mut told = echo(alloc, line)?;
         match &mut self.block {
-            Block::Between => told.extend_from_slice(self.begin(rt, alloc, line)?.as_slice())?,
+            Block::Between => return self.begun(rt, alloc, line),
             Block::Script(script) => push_line(&mut script.text, line)?,
             Block::Steps { steps, .. } => {
                 push_line(steps, line)?;
-                told.clear();
+                return Ok(Vec::new(alloc));
             }
             Block::Input { text, .. } => push_line(text, line)?,
         }
-        Ok(told)
+        echo(alloc, line)
     }
 }

@@ -1,3 +1,4 @@
+use crate::told::Told;
 use std::alloc::{AllocError, Global};
 
 // The number behind ` 200 ` in a line, that of the bytes of the page behind it.
@@ -39,16 +40,16 @@ pub fn transcript(
     shelves: usize,
     written: &[u8],
 ) -> Result<Vec<u8>, AllocError> {
-    let mut told = Vec::new(alloc);
+    let mut told = Told::new(alloc);
     let mut rest = written;
     for step in steps.lines() {
-        told.extend_from_slice(format!(in alloc; "> {step}\n")?.as_bytes())?;
+        told.put(format!(in alloc; "> {step}\n"));
         for _ in 0..replies_to(step, shelves) {
             let (reply, behind) = rest.split_at(reply_length(rest).min(rest.len()));
-            told.extend_from_slice(reply)?;
+            told.add(reply);
             rest = behind;
         }
     }
-    told.extend_from_slice(rest)?;
-    Ok(told)
+    told.add(rest);
+    told.all()
 }

@@ -1,5 +1,5 @@
-use crate::runs::question_of;
-use crate::states::{bytes_of, digits, spelling};
+use crate::runs::{Asked, question_of};
+use crate::states::{are_alike, bytes_of, counted};
 use crate::twins::{Chain, chain_of};
 use frame_codec::{Delta, decode_delta, delta, encode_delta, is_delta_spelled, is_stored, join};
 use script_nodes::Script;
@@ -47,12 +47,7 @@ fn is_joined(
         return Ok(false);
     };
     let joined = join(alloc, parent.try_clone(alloc)?, difference)?;
-    let mine = spelling(alloc, state)?;
-    let other = spelling(alloc, &joined)?;
-    Ok(match (&mine, &other) {
-        (Some(mine), Some(other)) => mine.as_slice() == other.as_slice(),
-        _ => false,
-    })
+    are_alike(alloc, state, &joined)
 }
 
 /// What differs between the last page and the one before it: how many bytes, and these bytes.
@@ -70,9 +65,7 @@ pub fn difference_told(
     if !is_joined(alloc, script, parent, state, bytes.as_slice())? {
         return String::from_str(alloc, "another state");
     }
-    let count = bytes.len();
-    let digits = digits(alloc, bytes.as_slice())?;
-    format!(in alloc; "{count} {digits}")
+    counted(alloc, bytes.as_slice())
 }
 
 // Whether these bytes are a difference from the last page.
@@ -96,16 +89,25 @@ fn reading_told(
     )
 }
 
+// Whether these bytes are a difference from the last page of a question.
+fn read_behind(alloc: Global, asked: &Asked, bytes: &[u8]) -> Result<String, AllocError> {
+    let chain = chain_of(alloc, &asked.script, asked.answers.as_slice(), asked.fuel)?;
+    reading_told(alloc, &asked.script, &chain, bytes)
+}
+
+// Whether these bytes are a difference from the last page of a row.
+fn read_in(alloc: Global, row: &str, bytes: &[u8]) -> Result<String, AllocError> {
+    match question_of(alloc, row)? {
+        Ok(asked) => read_behind(alloc, &asked, bytes),
+        Err(fault) => Ok(fault),
+    }
+}
+
 /// Whether the bytes that stand first in a row, in hexadecimal digits without spaces, are a difference from its last page.
 pub fn read_told(alloc: Global, row: &str) -> Result<String, AllocError> {
     let (digits, row) = row.split_once(' ').unwrap_or((row, ""));
-    let Some(bytes) = bytes_of(alloc, digits)? else {
-        return String::from_str(alloc, "no bytes");
-    };
-    let asked = match question_of(alloc, row)? {
-        Ok(asked) => asked,
-        Err(fault) => return Ok(fault),
-    };
-    let chain = chain_of(alloc, &asked.script, asked.answers.as_slice(), asked.fuel)?;
-    reading_told(alloc, &asked.script, &chain, bytes.as_slice())
+    match bytes_of(alloc, digits)? {
+        Some(bytes) => read_in(alloc, row, bytes.as_slice()),
+        None => String::from_str(alloc, "no bytes"),
+    }
 }

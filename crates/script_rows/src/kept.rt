@@ -1,4 +1,5 @@
-use crate::states::spelling;
+use crate::states::are_alike;
+use crate::told::Told;
 use crate::twins::Chain;
 use frame_codec::{Need, copied_front, join};
 use kept_states::{Found, KeptState, next_links};
@@ -29,51 +30,82 @@ fn found(
     })
 }
 
-// Whether two states have one spelling.
-fn are_alike(alloc: Global, state: &Suspended, other: &Suspended) -> Result<bool, AllocError> {
-    let mine = spelling(alloc, state)?;
-    let other = spelling(alloc, other)?;
-    Ok(match (&mine, &other) {
-        (Some(mine), Some(other)) => mine.as_slice() == other.as_slice(),
-        _ => false,
+// The state that is read of what was kept, or why it is not this one.
+fn read_back(
+    alloc: Global,
+    script: &Script,
+    before: &Origin,
+    kept: &KeptState,
+    state: &Suspended,
+) -> Result<Result<Suspended, &'static str>, AllocError> {
+    let Some(back) = found(alloc, script, before, kept)? else {
+        return Ok(Err("not found"));
+    };
+    Ok(if are_alike(alloc, state, &back)? {
+        Ok(back)
+    } else {
+        Err("another state")
     })
 }
 
-// The links of what is kept, and how many bytes it has.
-fn kept_in(alloc: Global, kept: &KeptState) -> Result<String, AllocError> {
-    let links = kept.links;
-    match kept.bytes() {
-        Some(bytes) => {
-            let count = bytes.len();
-            format!(in alloc; "{links}:{count}")
+// The pages up to one: what is told of them, the links of the next one, and what was read of the last.
+#[derive(Drop)]
+struct Kept {
+    told: Told,
+    links: u8,
+    before: Origin,
+}
+
+impl Kept {
+    // The links of what is kept, and how many bytes it has.
+    fn tell(&mut self, kept: &KeptState) {
+        if let Origin::Page(_) = self.before {
+            self.told.add(" ");
         }
-        None => format!(in alloc; "{links}:whole"),
+        self.told.number(kept.links as u64);
+        match kept.bytes() {
+            Some(bytes) => {
+                self.told.add(":");
+                self.told.number(bytes.len() as u64);
+            }
+            None => self.told.add(":whole"),
+        }
+    }
+
+    // One more page with this state; or why what is kept of it does not give it back.
+    fn page(
+        &mut self,
+        alloc: Global,
+        script: &Script,
+        state: &Suspended,
+    ) -> Result<Option<&'static str>, AllocError> {
+        let kept = KeptState::of(alloc, &self.before, self.links, state)?;
+        match read_back(alloc, script, &self.before, &kept, state)? {
+            Ok(back) => {
+                self.tell(&kept);
+                self.links = next_links(self.links);
+                self.before = Origin::Page(back);
+                Ok(None)
+            }
+            Err(word) => Ok(Some(word)),
+        }
     }
 }
 
 /// How the states of pages are kept, each behind what was read of the one before: how many links it is from one that is kept by
 /// itself, and in how many bytes.
 pub fn kept_told(alloc: Global, script: &Script, chain: &Chain) -> Result<String, AllocError> {
-    let mut told = String::new(alloc);
-    let mut links = 0;
-    let mut before = Origin::Start;
+    let mut kept = Kept {
+        told: Told::new(alloc),
+        links: 0,
+        before: Origin::Start,
+    };
     for twins in &chain.segments {
-        let Outcome::Shown { state, .. } = &twins.machine.outcome else {
-            return Ok(told);
-        };
-        let kept = KeptState::of(alloc, &before, links, state)?;
-        let Some(back) = found(alloc, script, &before, &kept)? else {
-            return String::from_str(alloc, "not found");
-        };
-        if !are_alike(alloc, state, &back)? {
-            return String::from_str(alloc, "another state");
+        if let Outcome::Shown { state, .. } = &twins.machine.outcome {
+            if let Some(word) = kept.page(alloc, script, state)? {
+                return String::from_str(alloc, word);
+            }
         }
-        if !told.is_empty() {
-            told.push_str(" ")?;
-        }
-        told.push_str(kept_in(alloc, &kept)?.as_str())?;
-        links = next_links(links);
-        before = Origin::Page(back);
     }
-    Ok(told)
+    kept.told.all()
 }

@@ -1,4 +1,4 @@
-//! Answers rows, one a line: a word that says what is asked, and a text. Each row is written back with its answer.
+//! Answers rows of scripts, texts, values and states, each written back with its answer: for the gate, which compares.
 #![tactic(auto)]
 
 mod differences;
@@ -10,6 +10,7 @@ mod runs;
 mod states;
 mod syntax;
 mod text;
+mod told;
 mod twins;
 mod values;
 

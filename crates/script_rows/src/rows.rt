@@ -22,29 +22,27 @@ fn told_of_pages(
         "form-cuts" => states::cuts_told(alloc, script, writing_of(chain), chain),
         "form-changes" => states::changes_told(alloc, script, writing_of(chain), chain),
         "differs" => differences::difference_told(alloc, script, chain),
-        _ => kept::kept_told(alloc, script, chain),
+        "kept" => kept::kept_told(alloc, script, chain),
+        _ => String::from_str(alloc, "no such row"),
     }
+}
+
+// The same of a question.
+fn of_question(alloc: Global, word: &str, asked: &Asked) -> Result<String, AllocError> {
+    let chain = chain_of(alloc, &asked.script, asked.answers.as_slice(), asked.fuel)?;
+    told_of_pages(alloc, word, asked, &chain)
 }
 
 // The same of a row.
 fn of_pages(alloc: Global, word: &str, row: &str) -> Result<String, AllocError> {
-    let asked = match question_of(alloc, row)? {
-        Ok(asked) => asked,
-        Err(fault) => return Ok(fault),
-    };
-    let chain = chain_of(alloc, &asked.script, asked.answers.as_slice(), asked.fuel)?;
-    told_of_pages(alloc, word, &asked, &chain)
+    match question_of(alloc, row)? {
+        Ok(asked) => of_question(alloc, word, &asked),
+        Err(fault) => Ok(fault),
+    }
 }
 
-// What is asked of a text: the word of a row, and the rest of its line.
-fn answer(alloc: Global, word: &str, row: &str) -> Result<String, AllocError> {
-    let bytes = text::unfolded(alloc, row)?;
-    if word == "fault" {
-        return read::fault_told(alloc, &bytes);
-    }
-    let Ok(asked) = str::from_utf8(&bytes) else {
-        return String::from_str(alloc, "no text");
-    };
+// What is asked of a text by the word of a row.
+fn told_of_text(alloc: Global, word: &str, asked: &str) -> Result<String, AllocError> {
     match word {
         "alike" => read::alike_told(alloc, asked),
         "expand" => syntax::fault_told(alloc, asked),
@@ -53,16 +51,6 @@ fn answer(alloc: Global, word: &str, row: &str) -> Result<String, AllocError> {
         "recorded" => runs::recorded(alloc, asked),
         "value" => runs::value_told(alloc, asked),
         "first" => first::first_told(alloc, asked),
-        "both"
-        | "last"
-        | "bytes"
-        | "cuts"
-        | "changes"
-        | "form"
-        | "form-cuts"
-        | "form-changes"
-        | "differs"
-        | "kept" => of_pages(alloc, word, asked),
         "again" => twins::again_told(alloc, asked),
         "state" => states::read_told(alloc, asked),
         "against" => differences::read_told(alloc, asked),
@@ -70,8 +58,25 @@ fn answer(alloc: Global, word: &str, row: &str) -> Result<String, AllocError> {
         "measure" => values::measures_told(alloc, asked),
         "number" => values::number_told(alloc, asked),
         "path" => values::path_told(alloc, asked),
-        _ => String::from_str(alloc, "no such row"),
+        _ => of_pages(alloc, word, asked),
     }
+}
+
+// The same of bytes.
+fn told_of_bytes(alloc: Global, word: &str, bytes: &[u8]) -> Result<String, AllocError> {
+    if word == "fault" {
+        return read::fault_told(alloc, bytes);
+    }
+    match str::from_utf8(bytes) {
+        Ok(asked) => told_of_text(alloc, word, asked),
+        Err(_) => String::from_str(alloc, "no text"),
+    }
+}
+
+// What is asked by the word of a row, and the rest of its line.
+fn answer(alloc: Global, word: &str, row: &str) -> Result<String, AllocError> {
+    let bytes = text::unfolded(alloc, row)?;
+    told_of_bytes(alloc, word, &bytes)
 }
 
 /// A line of rows with its answer; a line of a heading, or of none, as it is.

@@ -1,5 +1,6 @@
 use crate::read::data;
 use crate::syntax::script_of;
+use crate::told::Told;
 use crate::twins::engines_agree;
 use instance_cells::{Cells, Effect};
 use plain_rerun::rerun;
@@ -135,9 +136,11 @@ pub fn end_told(alloc: Global, end: &PlainEnd) -> Result<String, AllocError> {
 
 // How a run stopped, and what its last segment costs.
 fn with_cost(alloc: Global, run: &Rerun) -> Result<String, AllocError> {
-    let end = end_told(alloc, &run.end)?;
-    let cost = run.cost;
-    format!(in alloc; "{end}, {cost}")
+    let mut told = Told::new(alloc);
+    told.put(end_told(alloc, &run.end));
+    told.add(", ");
+    told.number(run.cost);
+    told.all()
 }
 
 // An effect on a number.
@@ -152,47 +155,57 @@ fn effect_told(alloc: Global, effect: &Effect) -> Result<String, AllocError> {
 
 // How a run stopped, and the effects of its last segment.
 fn with_effects(alloc: Global, run: &Rerun) -> Result<String, AllocError> {
-    let mut told = end_told(alloc, &run.end)?;
+    let mut told = Told::new(alloc);
+    told.put(end_told(alloc, &run.end));
     for effect in run.effects.as_slice() {
-        told.push_str(effect_told(alloc, effect)?.as_str())?;
+        told.put(effect_told(alloc, effect));
     }
-    Ok(told)
+    told.all()
 }
 
-// Names of transactions.
-fn names_told(alloc: Global, names: &[TxName]) -> Result<String, AllocError> {
-    let mut told = String::new(alloc);
+// Names of transactions, behind a word.
+fn tell_names(alloc: Global, told: &mut Told, word: &str, names: &[TxName]) {
+    told.add(word);
     for name in names {
         let ticket = name.ticket;
         let entry = name.entry;
-        told.push_str(format!(in alloc; " {ticket}.{entry}")?.as_str())?;
+        told.put(format!(in alloc; " {ticket}.{entry}"));
     }
-    Ok(told)
 }
 
 // The transactions that are open where a run stopped, and those that its last segment left.
 fn transactions_told(alloc: Global, run: &Rerun) -> Result<String, AllocError> {
-    let entered = names_told(alloc, run.entered.as_slice())?;
-    let left = names_told(alloc, run.left.as_slice())?;
-    format!(in alloc; "open{entered}, left{left}")
+    let mut told = Told::new(alloc);
+    tell_names(alloc, &mut told, "open", run.entered.as_slice());
+    tell_names(alloc, &mut told, ", left", run.left.as_slice());
+    told.all()
+}
+
+// What is asked of a run.
+fn told_of_run(alloc: Global, word: &str, run: &Rerun) -> Result<String, AllocError> {
+    match word {
+        "cost" => with_cost(alloc, run),
+        "effects" => with_effects(alloc, run),
+        "names" => transactions_told(alloc, run),
+        _ => end_told(alloc, &run.end),
+    }
+}
+
+// What is asked of the run over a question's answers, if both engines come to it.
+fn run_asked(alloc: Global, word: &str, asked: &Asked) -> Result<String, AllocError> {
+    if !engines_agree(alloc, asked)? {
+        return String::from_str(alloc, "the engines differ");
+    }
+    let run = run_over(alloc, &asked.script, asked.answers.as_slice(), asked.fuel)?;
+    told_of_run(alloc, word, &run)
 }
 
 /// What is asked of a script's run over the answers of a row: how it stops, and with it its cost or its effects, or its
 /// transactions; or the first fault of the script or of the answers. The machine of stored frames comes to the same.
 pub fn run_told(alloc: Global, word: &str, row: &str) -> Result<String, AllocError> {
-    let asked = match question_of(alloc, row)? {
-        Ok(asked) => asked,
-        Err(fault) => return Ok(fault),
-    };
-    if !engines_agree(alloc, &asked)? {
-        return String::from_str(alloc, "the engines differ");
-    }
-    let run = run_over(alloc, &asked.script, asked.answers.as_slice(), asked.fuel)?;
-    match word {
-        "cost" => with_cost(alloc, &run),
-        "effects" => with_effects(alloc, &run),
-        "names" => transactions_told(alloc, &run),
-        _ => end_told(alloc, &run.end),
+    match question_of(alloc, row)? {
+        Ok(asked) => run_asked(alloc, word, &asked),
+        Err(fault) => Ok(fault),
     }
 }
 
@@ -203,29 +216,44 @@ pub fn value_told(alloc: Global, row: &str) -> Result<String, AllocError> {
     run_told(alloc, "run", text.as_str())
 }
 
+// A run behind these segments.
+fn told_behind(alloc: Global, script: &Script, past: &[Answer]) -> Result<String, AllocError> {
+    let run = run_behind(alloc, script, past, &Value::Int(0), FUEL)?;
+    with_effects(alloc, &run)
+}
+
+// A copy of a run behind copies of these segments.
+fn told_of_copies(alloc: Global, script: &Script, past: &[Answer]) -> Result<String, AllocError> {
+    let past = clone_answers(alloc, past)?;
+    let run = run_behind(alloc, script, past.as_slice(), &Value::Int(0), FUEL)?;
+    let copy = run.try_clone(alloc)?;
+    with_effects(alloc, &copy)
+}
+
 // A run whose first segment read these values, and copies of the past and of the run.
 fn over_reads(alloc: Global, script: &Script, reads: Vec<Value>) -> Result<String, AllocError> {
-    let first = Value::Truth(false);
-    let mut past = Vec::new(alloc);
-    past.push(ran_behind(alloc, 0, first, Items::from_vec(reads))?)?;
-    let run = run_behind(alloc, script, past.as_slice(), &Value::Int(0), FUEL)?;
-    let past = clone_answers(alloc, past.as_slice())?;
-    let again = run_behind(alloc, script, past.as_slice(), &Value::Int(0), FUEL)?;
-    let copy = again.try_clone(alloc)?;
-    let told = with_effects(alloc, &run)?;
-    let copied = with_effects(alloc, &copy)?;
-    format!(in alloc; "{told}; {copied}")
+    let first = ran_behind(alloc, 0, Value::Truth(false), Items::from_vec(reads))?;
+    let past = [first];
+    let mut told = Told::new(alloc);
+    told.put(told_behind(alloc, script, &past));
+    told.add("; ");
+    told.put(told_of_copies(alloc, script, &past));
+    told.all()
+}
+
+// The same where the data of a text are what was read.
+fn over_data(alloc: Global, script: &Script, reads: &str) -> Result<String, AllocError> {
+    match data(alloc, reads.as_bytes())? {
+        Ok(reads) => over_reads(alloc, script, reads),
+        Err(fault) => Ok(fault),
+    }
 }
 
 /// How a script stops behind a first segment that read the values behind `<-`; the same of copies.
 pub fn recorded(alloc: Global, row: &str) -> Result<String, AllocError> {
     let (text, reads) = row.split_once(" <- ").unwrap_or((row, ""));
-    let script = match script_of(alloc, text)? {
-        Ok(script) => script,
-        Err(fault) => return Ok(fault),
-    };
-    match data(alloc, reads.as_bytes())? {
-        Ok(reads) => over_reads(alloc, &script, reads),
+    match script_of(alloc, text)? {
+        Ok(script) => over_data(alloc, &script, reads),
         Err(fault) => Ok(fault),
     }
 }

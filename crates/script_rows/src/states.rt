@@ -1,4 +1,5 @@
 use crate::syntax::script_of;
+use crate::told::Told;
 use crate::twins::Chain;
 use frame_codec::{decode, decode_form, encode, encode_form, is_spelled, is_stored, length};
 use kept_states::next_links;
@@ -7,13 +8,23 @@ use script_value::Bytes;
 use std::alloc::{AllocError, Global};
 use stored_states::{Outcome, Suspended};
 
-/// The spelling of a state, if it has one.
-pub fn spelling(alloc: Global, state: &Suspended) -> Result<Option<Bytes>, AllocError> {
+// The spelling of a state, if it has one.
+fn spelling(alloc: Global, state: &Suspended) -> Result<Option<Bytes>, AllocError> {
     if is_spelled(state) {
         Ok(Some(encode(alloc, state)?))
     } else {
         Ok(None)
     }
+}
+
+/// Whether two states have one spelling.
+pub fn are_alike(alloc: Global, state: &Suspended, other: &Suspended) -> Result<bool, AllocError> {
+    let mine = spelling(alloc, state)?;
+    let other = spelling(alloc, other)?;
+    Ok(match (&mine, &other) {
+        (Some(mine), Some(other)) => mine.as_slice() == other.as_slice(),
+        _ => false,
+    })
 }
 
 /// How the bytes of a state are read and written.
@@ -90,13 +101,22 @@ fn nothing_kept(alloc: Global) -> Result<String, AllocError> {
     String::from_str(alloc, "no page, no spelling or another length")
 }
 
-/// Bytes as two hexadecimal digits each.
-pub fn digits(alloc: Global, bytes: &[u8]) -> Result<String, AllocError> {
-    let mut told = String::new(alloc);
+// Bytes as two hexadecimal digits each.
+fn digits(alloc: Global, bytes: &[u8]) -> Result<String, AllocError> {
+    let mut told = Told::new(alloc);
     for byte in bytes {
-        told.push_str(format!(in alloc; "{byte:02x}")?.as_str())?;
+        told.put(format!(in alloc; "{byte:02x}"));
     }
-    Ok(told)
+    told.all()
+}
+
+/// How many bytes there are, and their digits.
+pub fn counted(alloc: Global, bytes: &[u8]) -> Result<String, AllocError> {
+    let mut told = Told::new(alloc);
+    told.number(bytes.len() as u64);
+    told.add(" ");
+    told.put(digits(alloc, bytes));
+    told.all()
 }
 
 /// The bytes of pairs of hexadecimal digits, with spaces between them or not; none where there is anything else.
@@ -134,9 +154,7 @@ pub fn bytes_told(
     let Reading::State = reading_of(alloc, script, writing, kept.as_slice())? else {
         return String::from_str(alloc, "not read back");
     };
-    let count = kept.len();
-    let digits = digits(alloc, kept.as_slice())?;
-    format!(in alloc; "{count} {digits}")
+    counted(alloc, kept.as_slice())
 }
 
 // How bytes are read.
@@ -167,24 +185,27 @@ fn reading_of(
     }
 }
 
-/// How the bytes behind `<-` are read as a state of the script.
-pub fn read_told(alloc: Global, row: &str) -> Result<String, AllocError> {
-    let (text, digits) = row.split_once(" <- ").unwrap_or((row, ""));
-    let script = match script_of(alloc, text)? {
-        Ok(script) => script,
-        Err(fault) => return Ok(fault),
-    };
+// How the bytes of these digits are read as a state of the script.
+fn digits_read(alloc: Global, script: &Script, digits: &str) -> Result<&'static str, AllocError> {
     let Some(bytes) = bytes_of(alloc, digits)? else {
-        return String::from_str(alloc, "no bytes");
+        return Ok("no bytes");
     };
-    String::from_str(
-        alloc,
-        match reading_of(alloc, &script, Writing::Bare, bytes.as_slice())? {
+    Ok(
+        match reading_of(alloc, script, Writing::Bare, bytes.as_slice())? {
             Reading::None => "none",
             Reading::State => "state",
             Reading::Misread => "misread",
         },
     )
+}
+
+/// How the bytes behind `<-` are read as a state of the script.
+pub fn read_told(alloc: Global, row: &str) -> Result<String, AllocError> {
+    let (text, digits) = row.split_once(" <- ").unwrap_or((row, ""));
+    match script_of(alloc, text)? {
+        Ok(script) => String::from_str(alloc, digits_read(alloc, &script, digits)?),
+        Err(fault) => Ok(fault),
+    }
 }
 
 // How many of many byte strings are states, and how many are misread.

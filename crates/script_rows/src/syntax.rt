@@ -1,6 +1,7 @@
 use crate::read::data;
+use crate::told::Told;
 use core_syntax::{ExpandFault, expand};
-use script_nodes::{Node, Numbers, Script, SendKind};
+use script_nodes::{Node, Script, SendKind};
 use script_value::Value;
 use std::alloc::{AllocError, Global};
 
@@ -29,15 +30,6 @@ pub fn fault_told(alloc: Global, text: &str) -> Result<String, AllocError> {
     }
 }
 
-// The numbers of parts.
-fn numbers_told(alloc: Global, numbers: &Numbers) -> Result<String, AllocError> {
-    let mut told = String::new(alloc);
-    for number in numbers.as_slice() {
-        told.push_str(format!(in alloc; " {number}")?.as_str())?;
-    }
-    Ok(told)
-}
-
 fn kind_told(kind: SendKind) -> &'static str {
     match kind {
         SendKind::Suspend => "suspend",
@@ -46,51 +38,64 @@ fn kind_told(kind: SendKind) -> &'static str {
 }
 
 // A node, its parts by their numbers.
-fn node_told(alloc: Global, node: &Node) -> Result<String, AllocError> {
+fn tell_node(alloc: Global, told: &mut Told, node: &Node) {
     match node {
-        Node::Lit(Value::Int(number)) => format!(in alloc; "lit {number}"),
-        Node::Lit(_) => format!(in alloc; "lit"),
-        Node::Var(place) => format!(in alloc; "var {place}"),
+        Node::Lit(Value::Int(number)) => told.put(format!(in alloc; "lit {number}")),
+        Node::Lit(_) => told.add("lit"),
+        Node::Var(place) => told.put(format!(in alloc; "var {place}")),
         Node::Let { bindings, body } => {
-            format!(in alloc; "let{} in {body}", numbers_told(alloc, bindings)?)
+            told.line("let", bindings.as_slice());
+            told.one(" in", *body);
         }
-        Node::Seq { parts } => format!(in alloc; "seq{}", numbers_told(alloc, parts)?),
+        Node::Seq { parts } => told.line("seq", parts.as_slice()),
         Node::If {
             test,
             then,
             otherwise,
-        } => format!(in alloc; "if {test} {then} {otherwise}"),
-        Node::And { parts } => format!(in alloc; "and{}", numbers_told(alloc, parts)?),
-        Node::Or { parts } => format!(in alloc; "or{}", numbers_told(alloc, parts)?),
-        Node::For { count, body } => format!(in alloc; "for {count} {body}"),
-        Node::Prim { op, operands } => {
-            format!(in alloc; "{op:?}{}", numbers_told(alloc, operands)?)
+        } => {
+            told.one("if", *test);
+            told.two("", *then, *otherwise);
         }
-        Node::Send { kind, body } => format!(in alloc; "{} {body}", kind_told(*kind)),
-        Node::Finish { body } => format!(in alloc; "finish {body}"),
-        Node::Back { body } => format!(in alloc; "back {body}"),
-        Node::Isolate { body } => format!(in alloc; "isolate {body}"),
-        Node::CellRef { cell } => format!(in alloc; "web {cell}"),
-        Node::CellShadow { cell, value } => format!(in alloc; "shadow {cell} {value}"),
-        Node::InstRef { cell } => format!(in alloc; "instance {cell}"),
-        Node::InstSet { cell, value } => format!(in alloc; "set {cell} {value}"),
-        Node::InstAdd { cell, value } => format!(in alloc; "add {cell} {value}"),
+        Node::And { parts } => told.line("and", parts.as_slice()),
+        Node::Or { parts } => told.line("or", parts.as_slice()),
+        Node::For { count, body } => told.two("for", *count, *body),
+        Node::Prim { op, operands } => {
+            told.put(format!(in alloc; "{op:?}"));
+            told.line("", operands.as_slice());
+        }
+        Node::Call { task, operands } => {
+            told.one("call", *task as u32);
+            told.line("", operands.as_slice());
+        }
+        Node::Send { kind, body } => told.one(kind_told(*kind), *body),
+        Node::Finish { body } => told.one("finish", *body),
+        Node::Back { body } => told.one("back", *body),
+        Node::Isolate { body } => told.one("isolate", *body),
+        Node::CellRef { cell } => told.one("web", *cell as u32),
+        Node::CellShadow { cell, value } => told.two("shadow", *cell as u32, *value),
+        Node::InstRef { cell } => told.one("instance", *cell as u32),
+        Node::InstSet { cell, value } => told.two("set", *cell as u32, *value),
+        Node::InstAdd { cell, value } => told.two("add", *cell as u32, *value),
     }
 }
 
-/// The nodes of a script in their order.
-pub fn nodes_of(alloc: Global, text: &str) -> Result<String, AllocError> {
-    let script = match script_of(alloc, text)? {
-        Ok(script) => script,
-        Err(fault) => return Ok(fault),
-    };
-    let mut told = String::new(alloc);
+// The nodes of a script in their order.
+fn nodes_told(alloc: Global, script: &Script) -> Result<String, AllocError> {
+    let mut told = Told::new(alloc);
     for place in 0..script.count() {
         let Ok(number) = u32::try_from(place) else {
             break;
         };
-        told.push_str(node_told(alloc, script.node(number))?.as_str())?;
-        told.push_str(";")?;
+        tell_node(alloc, &mut told, script.node(number));
+        told.add(";");
     }
-    Ok(told)
+    told.all()
+}
+
+/// The nodes of the script of a text in their order.
+pub fn nodes_of(alloc: Global, text: &str) -> Result<String, AllocError> {
+    match script_of(alloc, text)? {
+        Ok(script) => nodes_told(alloc, &script),
+        Err(fault) => Ok(fault),
+    }
 }

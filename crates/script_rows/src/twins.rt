@@ -5,6 +5,7 @@ ghost use Rattle.send_suspend.specs.Segments.{FitsFrom};
 ghost use Rattle.cek_machine.specs.Machines.{IsReady};
 
 use crate::runs::{Asked, end_told, question_of, tape, url};
+use crate::told::Told;
 use cek_machine::{Machine, Steps};
 use instance_cells::{Cells, Effect};
 use plain_rerun::rerun;
@@ -101,6 +102,43 @@ fn frames_at(from: &Origin) -> usize {
     }
 }
 
+// How many steps the machine that begins there takes up to its stop.
+fn stepped<L: Ledger>(
+    alloc: Global,
+    script: &Script,
+    from: &Origin,
+    answer: &Value,
+    segment: Now<'_>,
+    counter: &mut Steps<L>,
+) -> Result<u64, AllocError>
+    requires { FitsFrom script.now from.now }
+{
+    let mut machine = machine_at(alloc, script, from, answer, segment)?;
+    steps_of(alloc, &mut machine, counter)
+}
+
+// The segment that the machine comes to.
+fn run_from<L: Ledger>(
+    alloc: Global,
+    script: &Script,
+    from: &Origin,
+    answer: &Value,
+    cells: &Cells,
+    number: u64,
+    url: &Str,
+    fuel: u64,
+    counter: &mut Steps<L>,
+) -> Result<Segment, AllocError>
+    requires fits { FitsFrom script.now from.now }
+    requires fuel { fuel < 2 ^ 63 }
+    ensures { IfOk result (λ segment. Keeps segment.outcome (λ d. Fits script.now d)) }
+{
+    let begun = copy_of(alloc, script, from)?;
+    run_segment(
+        alloc, script, begun, answer, cells, number, url, fuel, counter,
+    )
+}
+
 // A segment by both engines, the steps of the machine counted.
 fn counted<L: Ledger>(
     alloc: Global,
@@ -128,14 +166,11 @@ fn counted<L: Ledger>(
         url,
         reads: Reads::Present { cells, fuel },
     };
-    let mut stepped = machine_at(alloc, script, from, answer, segment)?;
-    let steps = steps_of(alloc, &mut stepped, &mut counter)?;
-    let plain = rerun(alloc, script, &tape(past, answer, url, cells, fuel))?;
-    let begun = copy_of(alloc, script, from)?;
-    let machine = run_segment(
+    let steps = stepped(alloc, script, from, answer, segment, &mut counter)?;
+    let machine = run_from(
         alloc,
         script,
-        begun,
+        from,
         answer,
         cells,
         number,
@@ -143,6 +178,7 @@ fn counted<L: Ledger>(
         fuel,
         &mut counter,
     )?;
+    let plain = rerun(alloc, script, &tape(past, answer, url, cells, fuel))?;
     Ok(Twins {
         machine,
         plain,
@@ -264,6 +300,26 @@ impl Chain {
         Ok(())
     }
 
+    // One more segment, which begins there.
+    fn visit_from(
+        &mut self,
+        alloc: Global,
+        script: &Script,
+        from: &Origin,
+        answer: &Value,
+        fuel: u64,
+    ) -> Result<(), AllocError>
+        requires fits { FitsFrom script.now from.now }
+        requires fuel { fuel < 2 ^ 63 }
+        ensures { OnOk result (IfSome self.new.from (λ f. FitsFrom script.now f)) }
+    {
+        let twins = twins_of(alloc, script, from, self, answer, fuel)?;
+        self.note(alloc, answer, &twins.machine)?;
+        self.from = origin_behind(alloc, script, &twins.machine)?;
+        self.segments.push(twins)?;
+        Ok(())
+    }
+
     // One more segment, where the last waits for an answer.
     fn visit(
         &mut self,
@@ -276,14 +332,10 @@ impl Chain {
         requires fuel { fuel < 2 ^ 63 }
         ensures { OnOk result (IfSome self.new.from (λ f. FitsFrom script.now f)) }
     {
-        let Some(from) = self.from.take() else {
-            return Ok(());
-        };
-        let twins = twins_of(alloc, script, &from, self, answer, fuel)?;
-        self.note(alloc, answer, &twins.machine)?;
-        self.from = origin_behind(alloc, script, &twins.machine)?;
-        self.segments.push(twins)?;
-        Ok(())
+        match self.from.take() {
+            Some(from) => self.visit_from(alloc, script, &from, answer, fuel),
+            None => Ok(()),
+        }
     }
 }
 
@@ -387,27 +439,31 @@ impl Twins {
     }
 }
 
+fn are_all_alike(chain: &Chain) -> bool {
+    for twins in &chain.segments {
+        if !twins.are_alike() || !twins.is_within() {
+            return false;
+        }
+    }
+    true
+}
+
 /// Whether both engines agree on each segment of a row.
 pub fn engines_agree(alloc: Global, asked: &Asked) -> Result<bool, AllocError> {
     let chain = chain_of(alloc, &asked.script, asked.answers.as_slice(), asked.fuel)?;
-    Ok(
-        chain
-            .segments
-            .iter()
-            .all(|twins| twins.are_alike() && twins.is_within()),
-    )
+    Ok(are_all_alike(&chain))
 }
 
 /// How each segment stops, by both engines.
 pub fn each_told(alloc: Global, chain: &Chain) -> Result<String, AllocError> {
-    let mut told = String::new(alloc);
+    let mut told = Told::new(alloc);
     for (place, twins) in chain.segments.iter().enumerate() {
         if place > 0 {
-            told.push_str("; ")?;
+            told.add("; ");
         }
-        told.push_str(twins.told(alloc)?.as_str())?;
+        told.put(twins.told(alloc));
     }
-    Ok(told)
+    told.all()
 }
 
 /// How many segments there are, and how the last of them stops, by both engines.
@@ -433,14 +489,14 @@ fn each_told_behind(
     requires fits { IfSome chain.now.from (λ f. FitsFrom script.now f) }
     requires fuel { fuel < 2 ^ 63 }
 {
-    let mut told = String::new(alloc);
+    let mut told = Told::new(alloc);
     for (place, answer) in answers.iter().enumerate() {
         if place > 0 {
-            told.push_str("; ")?;
+            told.add("; ");
         }
-        told.push_str(told_behind(alloc, script, chain, answer, fuel)?.as_str())?;
+        told.put(told_behind(alloc, script, chain, answer, fuel));
     }
-    Ok(told)
+    told.all()
 }
 
 // How a page goes on with this answer, by both engines.
@@ -460,13 +516,17 @@ fn told_behind(
     }
 }
 
-/// How the first page of a row goes on with each of its answers, from what was kept there, by both engines.
-pub fn again_told(alloc: Global, row: &str) -> Result<String, AllocError> {
-    let asked = match question_of(alloc, row)? {
-        Ok(asked) => asked,
-        Err(fault) => return Ok(fault),
-    };
+// How the first page of a question goes on with each of its answers.
+fn again_asked(alloc: Global, asked: &Asked) -> Result<String, AllocError> {
     let fuel = asked.fuel.min(MOST);
     let chain = chain_of(alloc, &asked.script, &[], fuel)?;
     each_told_behind(alloc, &asked.script, &chain, asked.answers.as_slice(), fuel)
+}
+
+/// How the first page of a row goes on with each of its answers, from what was kept there, by both engines.
+pub fn again_told(alloc: Global, row: &str) -> Result<String, AllocError> {
+    match question_of(alloc, row)? {
+        Ok(asked) => again_asked(alloc, &asked),
+        Err(fault) => Ok(fault),
+    }
 }

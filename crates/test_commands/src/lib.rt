@@ -1,10 +1,16 @@
-//! An outside in memory, what a command comes to over it, and texts of setups and steps, for crates of tests.
+//! Tests of the command where streams fail, texts are long or runs are measured, and an outside in memory: for other crates of tests.
 #![tactic(auto)]
 
+#[cfg(test)]
+mod endings;
+#[cfg(test)]
+mod loading;
 mod outside;
+#[cfg(test)]
+mod setups;
 mod texts;
+#[cfg(test)]
+mod transcripts;
 
-pub use outside::{
-    CHECK, FAIR, FULL, Machine, Outcome, Outside, PLAY, STUCK, answered, played, ran,
-};
-pub use texts::{Transcript, input_of, parts_of, repeated, setup_of};
+pub use outside::{CHECK, FAIR, FULL, Machine, Outcome, Outside, PLAY, STUCK, comes_to, ran};
+pub use texts::{input_of, repeated, setup_of};

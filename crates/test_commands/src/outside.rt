@@ -1,6 +1,5 @@
 //! An outside in memory, which fails where it is told to, and what a command comes to over it.
 
-use crate::texts::input_of;
 use file_disk::ServedRack;
 use server_command::{NoPast, command};
 use std::alloc::Global;
@@ -113,13 +112,15 @@ pub fn ran<R: Machine>(
     })
 }
 
-/// What `play` comes to for a script of this name and steps.
-pub fn played<R: Machine>(rt: &R, name: &str, script: &str, steps: &str) -> Result<Outcome, Fail> {
-    let input = input_of(rt.alloc(), &[(name, script)], steps)?;
-    ran(rt, PLAY, input.as_bytes(), &FAIR)
-}
-
-/// What `play` comes to for a script of the name `sum` and steps.
-pub fn answered<R: Machine>(rt: &R, script: &str, steps: &str) -> Result<Outcome, Fail> {
-    played(rt, "sum", script, steps)
+/// Whether a run ends with this status and has written this text; where nothing fails, all of it is handed on.
+pub fn comes_to<R: Machine>(
+    rt: &R,
+    words: &[&str],
+    input: &[u8],
+    outside: &Outside,
+    told: (u8, &str),
+) -> Result<bool, Fail> {
+    let outcome = ran(rt, words, input, outside)?;
+    let is_handed = outcome.handed || outcome.status != 0;
+    Ok((outcome.status, outcome.text.as_str()) == told && is_handed)
 }

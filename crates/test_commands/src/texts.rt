@@ -34,28 +34,3 @@ pub fn repeated(
     all.push_str(after)?;
     Ok(all)
 }
-
-/// The steps of a transcript, and what they print.
-#[derive(Drop)]
-pub struct Transcript {
-    pub steps: String,
-    pub printed: String,
-}
-
-/// The parts of a transcript, whose steps stand behind `> `.
-pub fn parts_of(alloc: Global, transcript: &str) -> Result<Transcript, Fail> {
-    let mut steps = String::new(alloc);
-    let mut printed = String::new(alloc);
-    let mut rest = transcript;
-    for _ in 0..transcript.len() {
-        let Some((line, after)) = rest.split_once('\n') else {
-            break;
-        };
-        match line.strip_prefix("> ") {
-            Some(step) => steps.push_str(format!(in alloc; "{step}\n")?.as_str())?,
-            None => printed.push_str(format!(in alloc; "{line}\n")?.as_str())?,
-        }
-        rest = after;
-    }
-    Ok(Transcript { steps, printed })
-}

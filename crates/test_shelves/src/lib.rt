@@ -1,10 +1,17 @@
-//! Setups that are made of texts, and shelves on disks in memory, for crates of tests.
+//! Tests of shelves on disks in memory that stop, fail or are full, of copies, and of the last number of a visit.
 #![tactic(auto)]
 
+#[cfg(test)]
+mod copies;
+#[cfg(test)]
+mod full;
+#[cfg(test)]
+mod journal;
+#[cfg(test)]
+mod numbers;
+#[cfg(test)]
 mod openings;
+#[cfg(test)]
+mod stops;
+#[cfg(test)]
 mod texts;
-
-pub use openings::{
-    LongShelf, MemoryShelf, answered, begun, bytes_of, created, next_number, opened, tried, visited,
-};
-pub use texts::{SUM, data, datum, is_datum, script, setup, target, text_of};

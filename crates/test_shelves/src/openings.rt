@@ -45,49 +45,33 @@ pub fn tried<D: Disk + Drop>(
     }
 }
 
-/// The shelf of a disk, or why it was not opened.
-pub fn begun(
-    alloc: Global,
-    disk: MemoryDisk,
-    setup: &Setup,
-) -> Result<Result<MemoryShelf, BeginFault>, Fail>
-    ensures { IfOk result (λ r. IfOk r (IsInOrder memory_view true (scripts_of setup.now))) }
+/// The shelf of a disk of these bytes, which has to be opened.
+pub fn reopened(alloc: Global, bytes: Vec<u8>, setup: &Setup) -> Result<MemoryShelf, Fail>
+    ensures { IfOk result (IsInOrder memory_view true (scripts_of setup.now)) }
 {
+    let disk = MemoryDisk::new(alloc, bytes, Vec::new(alloc))?;
     match tried(alloc, disk, setup)? {
-        Ok(shelf) => Ok(Ok(shelf)),
-        Err((fault, _)) => Ok(Err(fault)),
+        Ok(shelf) => Ok(shelf),
+        Err(_) => Err(Fail::from("no shelf")),
     }
-}
-
-/// The shelf of a disk of these bytes, or why it was not opened.
-pub fn opened(
-    alloc: Global,
-    bytes: Vec<u8>,
-    setup: &Setup,
-) -> Result<Result<MemoryShelf, BeginFault>, Fail>
-    ensures { IfOk result (λ r. IfOk r (IsInOrder memory_view true (scripts_of setup.now))) }
-{
-    begun(
-        alloc,
-        MemoryDisk::new(alloc, bytes, Vec::new(alloc))?,
-        setup,
-    )
 }
 
 /// The shelf of an empty disk.
 pub fn created(alloc: Global, setup: &Setup) -> Result<MemoryShelf, Fail>
     ensures { IfOk result (IsInOrder memory_view true (scripts_of setup.now)) }
 {
-    match opened(alloc, Vec::new(alloc), setup)? {
-        Ok(shelf) => Ok(shelf),
-        Err(_) => Err(Fail::from("no shelf")),
-    }
+    reopened(alloc, Vec::new(alloc), setup)
 }
 
 /// What stands on the disk of a shelf.
 pub fn bytes_of(alloc: Global, shelf: MemoryShelf) -> Result<Vec<u8>, Fail> {
     let (disk, _nonces) = shelf.close();
     Ok(disk.bytes().to_vec(alloc)?)
+}
+
+/// Closes a shelf whose disk is no longer wanted.
+pub fn put_away(shelf: MemoryShelf) {
+    let (_disk, _nonces) = shelf.close();
 }
 
 /// What a visit of a path with this answer is answered.
@@ -111,14 +95,6 @@ pub fn answered<D: Disk>(
     Ok(shelf.publish(alloc, setup, ticket, Some(segment)))
 }
 
-/// What a start is answered.
-pub fn visited(alloc: Global, shelf: &mut MemoryShelf, setup: &Setup) -> Result<Reply, Fail>
-    requires { IsInOrder memory_view true (scripts_of setup.now) shelf.old }
-    ensures { IsInOrder memory_view true (scripts_of setup.now) shelf.new }
-{
-    answered(alloc, shelf, setup, "/servlets/s", datum(alloc, "()")?)
-}
-
 /// The number that a start takes; none where the numbers are used up.
 pub fn next_number(
     alloc: Global,
@@ -126,7 +102,6 @@ pub fn next_number(
     setup: &Setup,
 ) -> Result<Option<u64>, Fail>
     requires { IsInOrder memory_view true (scripts_of setup.now) shelf.old }
-    ensures { IsInOrder memory_view true (scripts_of setup.now) shelf.new }
 {
     let target = target("/servlets/s")?;
     let answer = datum(alloc, "()")?;

@@ -10,8 +10,8 @@ use std::test::Fail;
 pub const SUM: &str =
     "(let ((a (string->number (extract-binding/single 'n (send/suspend (lambda (u) (list 'a (list (list 'href u)) \"1\")))))) (b (string->number (extract-binding/single 'n (send/suspend (lambda (u) (list 'a (list (list 'href u)) \"2\"))))))) (list 'p (number->string (+ a b))))";
 
-/// The data of a text.
-pub fn data(alloc: Global, text: &str) -> Result<Vec<Value>, Fail> {
+// The data of a text.
+fn data(alloc: Global, text: &str) -> Result<Vec<Value>, Fail> {
     Ok(read_all(alloc, text.as_bytes())?)
 }
 
@@ -28,8 +28,8 @@ pub fn is_datum(alloc: Global, value: &Value, text: &str) -> Result<bool, Fail> 
     })
 }
 
-/// The script of a text.
-pub fn script(alloc: Global, text: &str) -> Result<Script, Fail> {
+// The script of a text.
+fn script(alloc: Global, text: &str) -> Result<Script, Fail> {
     Ok(expand(alloc, data(alloc, text)?.as_slice())?)
 }
 

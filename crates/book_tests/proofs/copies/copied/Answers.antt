@@ -1,4 +1,0 @@
-use Rattle.book_tests.proofs.copies.copied.Goals as goal
-
-pub returns : goal.returns
-returns c = c.in_ok-copy.ensures.room c.args.book.now c.requires

@@ -1,5 +1,0 @@
-use Rattle.script_nodes.specs.Views.{scripts_of}
-use Rattle.book_tests.proofs.copies.empty_book.Goals as goal
-
-pub returns : goal.returns
-returns c = c.empty.ensures.placed (scripts_of c.args.setup.now)

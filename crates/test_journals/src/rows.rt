@@ -1,0 +1,89 @@
+use crate::journals::{File, told_of_file};
+use crate::records::told_of_body;
+use core_syntax::expand;
+use page_names::ScriptName;
+use script_nodes::{NamedScript, Script, Setup};
+use script_value::Bytes;
+use sexp_reader::read_all;
+use std::alloc::{AllocError, Global};
+
+/// The scripts of the rows so far.
+#[derive(Drop)]
+pub struct Rows {
+    setup: Setup,
+}
+
+// The script of a text, and none where it is no script's.
+fn script_of(alloc: Global, text: &str) -> Option<Script> {
+    let data = read_all(alloc, text.as_bytes()).ok()?;
+    expand(alloc, &data).ok()
+}
+
+// The script of this name and text.
+fn named(alloc: Global, name: &str, text: &str) -> Result<Option<NamedScript>, AllocError> {
+    let (Some(name), Some(script)) = (ScriptName::new(name.as_bytes()), script_of(alloc, text))
+    else {
+        return Ok(None);
+    };
+    let text = Bytes::new(text.as_bytes().to_vec(alloc)?);
+    Ok(Some(NamedScript { name, text, script }))
+}
+
+// Records between bars.
+fn add_records(file: &mut File, alloc: Global, records: &str) -> Result<(), AllocError> {
+    if !records.is_empty() {
+        for words in records.split('|') {
+            file.add_words(alloc, words)?;
+        }
+    }
+    Ok(())
+}
+
+impl Rows {
+    /// No scripts yet.
+    pub fn new(alloc: Global) -> Rows {
+        Rows {
+            setup: Setup::new(Vec::new(alloc)),
+        }
+    }
+
+    // One more script: its name and its text.
+    fn add_script(&mut self, alloc: Global, rest: &str) -> Result<(), AllocError> {
+        let (name, text) = rest.split_once(' ').unwrap_or((rest, ""));
+        match named(alloc, name, text)? {
+            Some(script) => self.setup.push(script),
+            None => Ok(()),
+        }
+    }
+
+    // The file of the shelf that its first record tells, if it has one, and of the records behind it.
+    fn file(&self, alloc: Global, rest: &str) -> Result<File, AllocError> {
+        let (shelf, records) = rest.split_once(" | ").unwrap_or((rest, ""));
+        let mut file = File::new(alloc)?;
+        if let Ok(shelf) = shelf.parse() {
+            file.add_begin(alloc, shelf, &self.setup)?;
+        }
+        add_records(&mut file, alloc, records)?;
+        Ok(file)
+    }
+
+    // What is written behind a line: `setup` begins another setup, `script NAME TEXT` adds to it, `journal SHELF | WORDS | ..`
+    // reads a journal, and `body WORDS` one record. Any other line says nothing.
+    fn told(&mut self, alloc: Global, line: &str) -> Result<String, AllocError> {
+        let (word, rest) = line.split_once(' ').unwrap_or((line, ""));
+        match word {
+            "setup" => self.setup = Setup::new(Vec::new(alloc)),
+            "script" => self.add_script(alloc, rest)?,
+            "journal" => return told_of_file(alloc, self.file(alloc, rest)?, &self.setup),
+            "body" => return told_of_body(alloc, rest),
+            _ => {}
+        }
+        Ok(String::new(alloc))
+    }
+
+    /// A line, and what is written behind it.
+    pub fn line(&mut self, alloc: Global, line: &str) -> Result<String, AllocError> {
+        let told = self.told(alloc, line)?;
+        format!(in alloc; "{line}\n{told}")
+    }
+}

@@ -1,0 +1,105 @@
+//! The greatest length of a shelf's journal.
+ghost use Rattle.std.specs.Prelude.{◌≡◌, ◌^◌, false, length, IfOk};
+ghost use Rattle.script_nodes.specs.Views.{scripts_of};
+ghost use Rattle.web_disk.specs.Repeated.{repeat_view};
+ghost use Rattle.shelf.specs.Views.{IsInOrder};
+
+use crate::openings::{LongShelf, answered, bytes_of, created, tried};
+use crate::texts::setup;
+use script_nodes::Setup;
+use script_value::{Reply, Str, Value};
+use std::alloc::Global;
+use std::test::Fail;
+use web_disk::RepeatDisk;
+
+const PAGES: &str = "(begin (send/suspend (lambda (u) \"a\")) (send/suspend (lambda (u) \"b\")))";
+
+const START: &str = "/servlets/s";
+
+const FIRST: &str = "/servlets/s;7*1*1*0000000000000000";
+
+// How a record of 1,048,576 bytes begins, its gate and length among them: segment 0 answered a page that is not there with a
+// text of 1,048,533 characters of code 0, and ended with a last page, without effects.
+const LONG: &[u8] = &[
+    1, 251, 255, 15, 0, 3, 0, 0, 0, 0, 0, 0, 0, 0, 0, 0, 0, 0, 0, 0, 0, 0, 0, 0, 0, 0, 0, 0, 0, 0,
+    3, 213, 255, 15, 0,
+];
+
+fn long_record(alloc: Global) -> Result<Vec<u8>, Fail>
+    ensures { IfOk result (λ block. length block.items ≡ 2 ^ 20) }
+{
+    let mut record = LONG.to_vec(alloc)?;
+    record.resize(1_048_576, 0)?;
+    Ok(record)
+}
+
+// A disk of a new shelf, with 1,023 such records: it lacks 1,048,473 bytes of 2^30.
+fn long_disk(alloc: Global, setup: &Setup) -> Result<RepeatDisk, Fail> {
+    let mut first = bytes_of(alloc, created(alloc, setup)?)?;
+    let gate = first.pop().ok_or("no gate")?;
+    if first.len() != 102 {
+        return Err(Fail::from("another first record"));
+    }
+    let last = vec![in alloc; gate; 1]?;
+    Ok(RepeatDisk::new(first, long_record(alloc)?, 1_023, last))
+}
+
+// Its shelf.
+fn long_shelf(alloc: Global, setup: &Setup) -> Result<LongShelf, Fail>
+    ensures { IfOk result (IsInOrder repeat_view false (scripts_of setup.now)) }
+{
+    match tried(alloc, long_disk(alloc, setup)?, setup)? {
+        Ok(shelf) => Ok(shelf),
+        Err(_) => Err(Fail::from("no shelf")),
+    }
+}
+
+// What a path is told for a text of so many zeros: none where that is a page, and else the length that the journal would have.
+fn too_long(
+    alloc: Global,
+    shelf: &mut LongShelf,
+    setup: &Setup,
+    path: &str,
+    count: usize,
+) -> Result<Option<u64>, Fail>
+    requires { IsInOrder repeat_view false (scripts_of setup.now) shelf.old }
+    ensures { IsInOrder repeat_view false (scripts_of setup.now) shelf.new }
+{
+    let zeros = String::from_utf8(vec![in alloc; b'0'; count]?)?;
+    match answered(alloc, shelf, setup, path, Value::Text(Str::new(zeros)))? {
+        Reply::Page { .. } => Ok(None),
+        Reply::JournalFull(length) => Ok(Some(length)),
+        _ => Err(Fail::from("another reply")),
+    }
+}
+
+// What a start is told, and its page for three texts.
+fn four_told(alloc: Global, shelf: &mut LongShelf, setup: &Setup) -> Result<[Option<u64>; 4], Fail>
+    requires { IsInOrder repeat_view false (scripts_of setup.now) shelf.old }
+{
+    Ok([
+        too_long(alloc, shelf, setup, START, 0)?,
+        too_long(alloc, shelf, setup, FIRST, 1_048_307)?,
+        too_long(alloc, shelf, setup, FIRST, 1_048_306)?,
+        too_long(alloc, shelf, setup, FIRST, 1)?,
+    ])
+}
+
+// The same on a new shelf of that disk.
+fn four_told_at_the_end(alloc: Global, setup: &Setup) -> Result<[Option<u64>; 4], Fail> {
+    let mut shelf = long_shelf(alloc, setup)?;
+    four_told(alloc, &mut shelf, setup)
+}
+
+// A start adds 72 bytes, and an answer 95 besides its zeros: 26 and 35 of them are the state of its page.
+#[test]
+fn a_shelf_writes_up_to_1073741824_bytes(rt: HostRuntime) -> Result<(), Fail> {
+    let alloc = rt.alloc();
+    let setup = setup(alloc, &[("s", PAGES)])?;
+    let told = four_told_at_the_end(alloc, &setup)?;
+    assert_eq!(rt;
+        told,
+        [None, Some(1_073_741_825), None, Some(1_073_741_920)]
+    );
+    Ok(())
+}

@@ -1,0 +1,4 @@
+pub mod Crossings
+pub mod FirstPasses
+pub mod Popped
+pub mod Written

@@ -1,0 +1,5 @@
+use Rattle.std.proofs.Common.{◌≡◌, length}
+use Rattle.test_sites.proofs.threads.sites.outside.Given as goal
+
+abbrev pub invariant-loop-shelf : goal.invariant-loop-shelf
+invariant-loop-shelf l = (length l.disks.items ≡ l.shelf) × (length l.sources.items ≡ l.shelf)

@@ -1,5 +1,0 @@
-use Rattle.std.proofs.Common.{◌≡◌, length}
-use Rattle.thread_tests.proofs.sites.outside.Given as goal
-
-abbrev pub invariant-loop-shelf : goal.invariant-loop-shelf
-invariant-loop-shelf l = (length l.disks.items ≡ l.shelf) × (length l.sources.items ≡ l.shelf)
