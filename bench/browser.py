@@ -13,6 +13,9 @@ HOST = f"http://127.0.0.1:{int(sys.argv[1])}"
 # The server has one worker: a link that the browser opens ahead, and sends nothing on, may hold it for 30 seconds.
 PATIENCE = 75
 
+# How many replies came over each of the browser's links, by the number that it gives them.
+REPLIES = {}
+
 
 class Browser:
     """The browser's process, and the pipe that its commands and its answers go through, each ended by a zero byte."""
@@ -42,6 +45,11 @@ class Browser:
                 self.left += os.read(self.come, 65536) or sys.exit("the browser is gone")
             text, self.left = self.left.split(b"\0", 1)
             answer = json.loads(text)
+            if answer.get("method") == "Network.responseReceived":
+                response = answer["params"]["response"]
+                if response["url"].startswith(HOST) and "favicon" not in response["url"]:
+                    number = response["connectionId"]
+                    REPLIES[number] = REPLIES.get(number, 0) + 1
             if answer.get("id") == self.number:
                 return answer.get("result", {})
 
@@ -55,8 +63,11 @@ class Window:
 
     def __init__(self, browser, url):
         self.browser, self.left = browser, None
-        target = browser.call("Target.createTarget", url=url, newWindow=True)["targetId"]
+        target = browser.call("Target.createTarget", url="about:blank", newWindow=True)["targetId"]
         self.session = browser.call("Target.attachToTarget", targetId=target, flatten=True)["sessionId"]
+        self.call("Network.enable")
+        self.leave()
+        self.call("Page.navigate", url=url)
 
     def call(self, method, **words):
         return self.browser.call(method, self.session, **words)
@@ -165,4 +176,7 @@ def walk_the_hotel(browser):
 chromium = Browser(sys.argv[2])
 walk_the_shop(chromium)
 walk_the_hotel(chromium)
+print(f"{sum(REPLIES.values())} replies over {len(REPLIES)} links: {', '.join(map(str, REPLIES.values()))}")
 chromium.close()
+if REPLIES and max(REPLIES.values()) == 1:
+    sys.exit("WRONG: no link carried a second request")

@@ -12,11 +12,14 @@ ONLY = sys.argv[2:]
 # How many workers the server has.
 WORKERS = 4
 
-# What a link may take up to the end of its head, and then for its body and its reply; and what a visitor may wait beside.
+# What a head, a body and a reply may take each, and how long a link may be idle; and what a visitor may wait beside.
 HEAD = BODY = 30
+IDLE = 5
 SLACK = 5
 
+# A request behind which the link goes on, and one behind which it ends.
 START = b"GET /servlets/shop HTTP/1.1\r\nHost: localhost\r\n\r\n"
+ONCE = START[:-2] + b"Connection: close\r\n\r\n"
 LONG = START.replace(b"shop", b"long")
 FORM = b"Content-Type: application/x-www-form-urlencoded\r\n"
 
@@ -34,6 +37,30 @@ def read(sock):
     except ConnectionResetError:
         pass
     return b"".join(parts)
+
+
+def read_reply(sock):
+    """One reply, of a link that goes on behind it."""
+    reply = b""
+    while b"\r\n\r\n" not in reply:
+        part = sock.recv(65536)
+        if not part:
+            raise AssertionError(f"the link ended behind {reply[:40]}")
+        reply += part
+    head, body = reply.split(b"\r\n\r\n", 1)
+    length = int(head.split(b"Content-Length: ")[1].split(b"\r\n")[0])
+    while len(body) < length:
+        body += sock.recv(65536)
+    if not head.startswith(b"HTTP/1.1 200 ") or b"Connection: keep-alive" not in head or len(body) > length:
+        raise AssertionError(f"a kept link got {reply[:40]}")
+
+
+def kept():
+    """A link over which a request was answered."""
+    sock = link()
+    sock.sendall(START)
+    read_reply(sock)
+    return sock
 
 
 def post(length, body):
@@ -115,7 +142,7 @@ def too_many_lines():
 def a_body_too_long():
     """It goes on sending while it is refused, and gets the refusal nevertheless."""
     sock = link()
-    sock.sendall(post(1_000_000, 100_000 * b"x"))
+    sock.sendall(post(100_000, 100_000 * b"x"))
     return sock, 0, b"413"
 
 
@@ -133,9 +160,10 @@ def a_shorter_body_and_its_end():
 
 
 def a_body_longer_than_told():
+    """What is too much is the next request, whose head never ends."""
     sock = link()
     sock.sendall(post(8, b"name=Ann&name=Bo" + 5000 * b"x"))
-    return sock, 0, b"200"
+    return sock, HEAD, b"200"
 
 
 def a_body_byte_by_byte():
@@ -152,10 +180,123 @@ def a_body_byte_by_byte():
     return sock, BODY, b"", began, visit
 
 
-def two_requests():
+def three_requests_at_once():
     sock = link()
-    sock.sendall(START + START)
-    return sock, 0, b"200"
+    sock.sendall(START + START + ONCE)
+    replies = read(sock).count(b"HTTP/1.1 200 ")
+    if replies != 3:
+        raise AssertionError(f"{replies} of three requests were answered")
+    return None, 0, None
+
+
+def three_requests_and_the_end():
+    """It ends its sending side at once, and gets all that is due."""
+    sock = link()
+    sock.sendall(START + START + START)
+    sock.shutdown(socket.SHUT_WR)
+    replies = read(sock).count(b"HTTP/1.1 200 ")
+    if replies != 3:
+        raise AssertionError(f"{replies} of three requests were answered")
+    return None, 0, None
+
+
+def kept_and_silent():
+    return kept(), IDLE, b""
+
+
+def kept_and_silent_at_each_worker():
+    """As many idle links as there are workers: a visitor is served at once nevertheless."""
+    began = time.monotonic()
+    socks = [kept() for _ in range(WORKERS)]
+    if (took := Visit().took()) > 1:
+        raise AssertionError(f"a visitor waited {took:.1f} s beside idle links")
+    for sock in socks[1:]:
+        sock.close()
+    return socks[0], IDLE, b"", began, Visit()
+
+
+def kept_and_silent_sixty_four():
+    """Many more than there are workers: each new one is served at once too."""
+    socks = []
+    for _ in range(64):
+        began = time.monotonic()
+        socks.append(kept())
+        if (took := time.monotonic() - began) > 1:
+            raise AssertionError(f"a visitor waited {took:.1f} s beside idle links")
+    for sock in socks[1:]:
+        sock.close()
+    return socks[0], IDLE, b""
+
+
+def kept_and_half_a_head():
+    sock = kept()
+    began = time.monotonic()
+    sock.sendall(START[:20])
+    visit = Visit()
+    return sock, HEAD, b"", began, visit
+
+
+def kept_and_half_a_head_at_each_worker():
+    """A head that has begun does not yield: as many of them as there are workers hold the server up to their deadline."""
+    socks = [kept() for _ in range(WORKERS)]
+    began = time.monotonic()
+    for sock in socks:
+        sock.sendall(START[:20])
+    visit = Visit()
+    for sock in socks[1:]:
+        if read(sock):
+            raise AssertionError("one of them got a reply")
+        sock.close()
+    return socks[0], HEAD, b"", began, visit
+
+
+def kept_and_byte_by_byte():
+    """Behind two replies a byte every half a second, until the link is given up."""
+    sock = kept()
+    time.sleep(IDLE - 2)
+    sock.sendall(START)
+    read_reply(sock)
+    began = time.monotonic()
+    visit = Visit()
+    try:
+        for byte in START + 100 * b"x":
+            sock.sendall(bytes([byte]) if byte != 10 else b" ")
+            time.sleep(0.5)
+    except (BrokenPipeError, ConnectionResetError):
+        pass
+    return sock, HEAD, b"", began, visit
+
+
+def kept_and_a_body_byte_by_byte():
+    sock = kept()
+    began = time.monotonic()
+    sock.sendall(post(1000, b""))
+    visit = Visit()
+    try:
+        for _ in range(200):
+            sock.sendall(b"x")
+            time.sleep(0.5)
+    except (BrokenPipeError, ConnectionResetError):
+        pass
+    return sock, BODY, b"", began, visit
+
+
+def kept_and_replies_that_are_not_read():
+    sock = socket.socket()
+    sock.setsockopt(socket.SOL_SOCKET, socket.SO_RCVBUF, 4096)
+    sock.settimeout(2 * (HEAD + BODY))
+    sock.connect(("127.0.0.1", PORT))
+    sock.sendall(START)
+    read_reply(sock)
+    sock.sendall(LONG + LONG)
+    return sock, BODY, None
+
+
+def a_large_upload():
+    """It sends a million bytes that are refused at their head, and gets the refusal nevertheless."""
+    sock = link()
+    sock.sendall(post(1_000_000, 1_000_000 * b"x"))
+    return sock, 0, b"413"
 
 
 def a_reply_that_is_not_read():
@@ -181,7 +322,7 @@ def many_links():
     socks = []
     for _ in range(200):
         socks.append(link())
-        socks[-1].sendall(START)
+        socks[-1].sendall(ONCE)
     for sock in socks:
         if not read(sock).startswith(b"HTTP/1.1 200 "):
             raise AssertionError("not all of them were answered")
@@ -192,7 +333,7 @@ def many_links():
 def a_link_kept_open():
     """It does not end the link: the server waits for that for a moment."""
     sock = link()
-    sock.sendall(START)
+    sock.sendall(ONCE)
     return sock, 1, b"200"
 
 
@@ -202,7 +343,7 @@ class Visit:
     def __init__(self):
         self.began = time.monotonic()
         self.sock = link()
-        self.sock.sendall(START)
+        self.sock.sendall(ONCE)
 
     def took(self):
         reply = read(self.sock)
@@ -229,7 +370,7 @@ def tried(client):
     if sock:
         sock.close()
     answer = "no reply" if not wanted else wanted.decode()
-    print(f"{client.__name__.replace('_', ' '):28} {answer:9} the visitor behind it was served after {took:4.1f} s", flush=True)
+    print(f"{client.__name__.replace('_', ' '):36} {answer:9} the visitor behind it was served after {took:4.1f} s", flush=True)
 
 
 CLIENTS = [
@@ -243,11 +384,21 @@ CLIENTS = [
     a_head_too_long,
     too_many_lines,
     a_body_too_long,
+    a_large_upload,
     a_body_shorter_than_told,
     a_shorter_body_and_its_end,
     a_body_longer_than_told,
     a_body_byte_by_byte,
-    two_requests,
+    three_requests_at_once,
+    three_requests_and_the_end,
+    kept_and_silent,
+    kept_and_silent_at_each_worker,
+    kept_and_silent_sixty_four,
+    kept_and_half_a_head,
+    kept_and_half_a_head_at_each_worker,
+    kept_and_byte_by_byte,
+    kept_and_a_body_byte_by_byte,
+    kept_and_replies_that_are_not_read,
     a_reply_that_is_not_read,
     a_reset_in_the_reply,
     a_link_kept_open,
@@ -264,7 +415,7 @@ def main():
             tried(client)
         except (AssertionError, OSError) as why:
             bad += 1
-            print(f"{client.__name__.replace('_', ' '):28} WRONG: {why}", flush=True)
+            print(f"{client.__name__.replace('_', ' '):36} WRONG: {why}", flush=True)
     sys.exit(1 if bad else 0)
 
 

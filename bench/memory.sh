@@ -1,5 +1,5 @@
 #!/bin/sh
-# Runs each test of crates/site_tests/src/memory.rt once for each growth that it makes, and lets that growth fail
+# Runs each test of crates/test_sites/src/memory.rt once for each growth that it makes, and lets that growth fail
 # (fail_alloc.c). A run has to end well, or to be given up since what the test itself needs was not to be had. Prints of each
 # test how many runs did which, and each that ended otherwise. The tests are proved and built first. No part of the gate.
 # Needs rt and cc.
@@ -10,12 +10,12 @@ trap 'rm -rf "$work"' EXIT
 trap 'exit 1' HUP INT TERM
 
 cc -O2 -shared -fPIC -o "$work/fail_alloc.so" "$here/bench/fail_alloc.c" || exit 1
-cd "$here/crates/site_tests" || exit 1
+cd "$here/crates/test_sites" || exit 1
 rt test >"$work/built" 2>&1 || { cat "$work/built" >&2; exit 1; }
 
 # Runs the test whose growth of this number fails; what it says is left in a file.
 run() {
-    FAIL_ALLOC=$1 LD_PRELOAD=$work/fail_alloc.so out/site_tests_tests "memory::$2" >/dev/null 2>"$work/said"
+    FAIL_ALLOC=$1 LD_PRELOAD=$work/fail_alloc.so out/test_sites_tests "memory::$2" >/dev/null 2>"$work/said"
 }
 
 worst=0

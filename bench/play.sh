@@ -6,7 +6,8 @@
 # stays: where time grows with the cost alone, the last column stays. Then the operations over one long operand and over
 # many short ones, at the same cost: where none is slower than its operands' size, the ratio is near 1. Then the reading of
 # scripts: with twice the names and references the ratio is near 2, and with ten times the levels of a template of one size
-# near 1. Then 9,000 answers to pages with few and with many pages behind them, of a walk, which keeps nothing of its answers, and
+# near 1. Then a loop, and questions, with tasks and without them at one cost: where a call takes no longer than a `let`, the ratio
+# is near 1; and how many bytes of a journal each page of these questions takes. Then 9,000 answers to pages with few and with many pages behind them, of a walk, which keeps nothing of its answers, and
 # of a quiz, which keeps them: a visit goes on from what is kept of its page, so they take the same time, but for the size of
 # that. A page 32 deep is 32 links from one whose state is kept by itself,
 # and one 33 deep is such a page. Last, how many bytes a started instance takes with its page, and one page more of an instance,
@@ -213,6 +214,64 @@ reading() {
     }'
 }
 
+# Five visits of a loop of 1,000,000 turns, each of which does this behind these definitions, at the fuel that is named, and at
+# one less by none of them; leaves the time of the first in `took`.
+turns() {
+    setup_with turns "$1 \`(p ,(number->string (length (for/list ((j 1000)) (length (for/list ((i 1000)) $2))))))" >"$work/in"
+    for i in 1 2 3 4 5; do echo 'get 0 /servlets/turns'; done >>"$work/in"
+    play --fuel "$(($3 - 1))"
+    [ "$(grep -c '^0 503 fuel$' "$work/out")" -eq 5 ] || { echo "a loop costs less than $3" >&2; exit 1; }
+    play --fuel "$3"
+    [ "$(grep -c '^0 200 ' "$work/out")" -eq 5 ] || { echo "a loop costs more than $3" >&2; exit 1; }
+}
+
+# The same loop with a task, and with a `let` in its place.
+with_tasks() {
+    turns '(define-task (f x) (+ x 1))' '(call f i)' 8004009
+    called=$took
+    turns '' '(let ((x i)) (+ x 1))' 8004009
+    awk -v called="$called" -v bound="$took" 'BEGIN {
+        printf "5 visits of cost 8,004,009 with tasks %d ms, without %d ms, ratio %.2f\n", called, bound, (bound > 0 ? called / bound : 0)
+    }'
+}
+
+# Of every three steps of a script one starts it, and two answer its pages.
+questions_of() {
+    setup_with questions "$1"
+    awk -v steps="$2" "$page"'
+        BEGIN {
+            for (j = 0; j < steps; j++) {
+                first = j - j % 3
+                if (j > first) printf "get 1 %s\n", page("questions", first, j - 1, "?n=3")
+                else print "get 0 /servlets/questions"
+            }
+        }'
+}
+
+# The time of 12,000 such steps, in `took`, and the bytes of the journal that each of the 8,000 pages takes that wait, in `bytes`.
+questions() {
+    questions_of "$1" 12000 >"$work/in"
+    play --instances 4096
+    [ "$(grep -c '^[01] 200 ' "$work/out")" -eq 12000 ] || { echo "a question was answered by no page" >&2; exit 1; }
+    without=$took
+    rm -rf "$work/journal"
+    play --instances 4096 --journal "$work/journal"
+    took=$without
+    bytes=$(($(cat "$work/journal"/* | wc -c) / 8000))
+}
+
+# Two questions by one task, and each of them written out.
+questions_by_tasks() {
+    asked='(extract-binding/single (quote n) (send/suspend (lambda (u) `(a ((href ,u)) ,t))))'
+    questions "(define-task (ask t) $asked) \`(p ,(call ask \"1\") ,(call ask \"2\"))"
+    called=$took called_bytes=$bytes
+    questions "\`(p ,(let ((t \"1\")) $asked) ,(let ((t \"2\")) $asked))"
+    awk -v called="$called" -v bound="$took" 'BEGIN {
+        printf "12,000 steps with questions by a task %d ms, without %d ms, ratio %.2f\n", called, bound, (bound > 0 ? called / bound : 0)
+    }'
+    echo "bytes of a journal for each of their pages: $called_bytes with a task, $bytes without"
+}
+
 # A setup with two scripts, whose names and whose pages are of one length, and 4,000 starts, the first so many of them of
 # the script that leaves an instance with a page; each other start ends and leaves none.
 starts() {
@@ -363,6 +422,9 @@ both_sizes '(string=? t t)'
 
 reading names 2000 4000
 reading levels 10 100
+
+with_tasks
+questions_by_tasks
 
 for pages in 1 10 32 33 50; do depth walk "$pages"; done
 for pages in 1 10 32 33 50; do depth quiz "$pages"; done

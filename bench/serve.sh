@@ -1,11 +1,16 @@
 #!/bin/sh
 # Starts `serve` on a free port, tries a start, an answer, the way back and a second window with curl, and prints how many
-# requests a second it serves, beside a bare loop that accepts, reads, replies and closes (bare_loop.c, by `cc -O2`). No part
-# of the gate. Needs curl, cc, and a date that knows %N.
+# requests a second it serves, beside a bare loop that accepts, reads, replies and closes (bare_loop.c, by `cc -O2`). Then
+# 1, 8 and 64 clients that keep their links (clients.c) ask four workers, for what is unknown and for visits, in memory and
+# with a journal, beside four bare loops that keep their links, up to 100 requests a link as `serve` does. At last 64 links
+# are held open and idle, and visitors come (idle_links.c): where one waits for 50 milliseconds or more, it fails. The first
+# word says how many requests one client sends, 1,000 if it is not given, the second how many those that keep their links,
+# 20,000. No part of the gate. Needs curl, cc, and a date that knows %N.
 
 here=$(CDPATH='' cd -- "$(dirname -- "$0")/.." && pwd) || exit 1
 work=$(mktemp -d "${TMPDIR:-/tmp}/hovgyelit-serve.XXXXXX") || exit 1
 server=
+kept=${2:-20000}
 trap '[ -z "$server" ] || kill "$server" 2>/dev/null; rm -rf "$work"' EXIT
 trap 'exit 1' HUP INT TERM
 
@@ -39,7 +44,7 @@ rate_of() {
 
 requests=${1:-1000}
 visits=7
-"$here/hovgyelit" serve --port 0 --workers 1 --connections "$((requests + visits))" -- "$here/examples/sum.scm" \
+"$here/hovgyelit" serve --port 0 --workers 1 --requests 1 --connections "$((requests + visits))" -- "$here/examples/sum.scm" \
     >"$work/counts" 2>"$work/where" &
 server=$!
 host=$(address_in "$work/where") || exit 1
@@ -81,3 +86,70 @@ bare=$(rate_of "$there")
 wait "$server" || fail "the bare loop ended with status $?"
 server=
 echo "$requests requests one after the other by one curl: serve $rate a second, a bare loop $bare a second"
+
+# --- Kept links ---
+
+cc -O2 -pthread -o "$work/clients" "$here/bench/clients.c" || exit 1
+cc -O2 -o "$work/idle_links" "$here/bench/idle_links.c" || exit 1
+
+# Starts a server of four workers with this journal; where it listens is left in `host`.
+start_server() {
+    : >"$work/where"
+    "$here/hovgyelit" serve --port 0 --workers 4 --shelves 4 --connections 1000000 --journal "$1" -- "$here/examples/sum.scm" \
+        >"$work/counts" 2>"$work/where" &
+    server=$!
+    host=$(address_in "$work/where") || exit 1
+}
+
+end_server() {
+    kill "$server" 2>/dev/null
+    wait "$server" 2>/dev/null
+    server=
+}
+
+# How many requests a second so many clients get answered at an address, for the targets that stand in a file.
+kept_rate() {
+    "$work/clients" "${1##*:}" "$2" "$kept" keep <"$3" >"$work/said" || fail "the clients ended badly"
+    read -r rate good bad links <"$work/said"
+    [ $((good + bad)) -eq "$kept" ] || fail "$good and $bad replies of $kept"
+    echo "$rate"
+}
+
+# Targets of visits: each is the last answer of an instance of its own, which leaves a record.
+visits() {
+    : >"$work/visits"
+    for _ in 1 2 3 4 5 6 7 8 9 10 11 12 13 14 15 16; do
+        page /servlets/sum >"$work/first"
+        page "$(action_in "$work/first")" n=3 >"$work/second"
+        echo "$(action_in "$work/second")?n=4" >>"$work/visits"
+    done
+}
+
+echo /servlets/other >"$work/unknown"
+"$work/bare_loop" 1000000 4 100 2>"$work/there" &
+bare_loops=$!
+there=$(address_in "$work/there") || exit 1
+echo "requests a second over kept links, $kept requests, four workers"
+echo "clients  unknown  visits in memory  visits with a journal  bare loops"
+start_server -
+in_memory=$host
+first_server=$server
+visits
+mv "$work/visits" "$work/visits_in_memory"
+start_server "$work/journal"
+visits
+for clients in 1 8 64; do
+    printf '%7s %8s %17s %22s %11s\n' "$clients" "$(kept_rate "$in_memory" "$clients" "$work/unknown")" \
+        "$(kept_rate "$in_memory" "$clients" "$work/visits_in_memory")" "$(kept_rate "$host" "$clients" "$work/visits")" \
+        "$(kept_rate "$there" "$clients" "$work/unknown")"
+done
+pkill -P "$bare_loops" 2>/dev/null
+kill "$bare_loops"
+end_server
+server=$first_server
+"$work/idle_links" "${in_memory##*:}" 64 20 /servlets/sum >"$work/said" || fail "the idle clients ended badly"
+read -r median most good <"$work/said"
+[ "$good" -eq 84 ] || fail "$good of 84 visitors were answered with a page"
+echo "beside 64 idle links visitors waited $median milliseconds, $most at most"
+[ "${most%.*}" -lt 50 ] || fail "a visitor waited for 50 milliseconds or more"
+end_server
