@@ -1,4 +1,4 @@
-//! Until when a page can be answered.
+//! Until when a page can be answered: for the book.
 #![tactic(auto)]
 
 ghost use Rattle.std.specs.Prelude.{◌≡◌, ◌+◌, ◌^◌, ◌<◌, ◌≤◌, nat_le};

@@ -9,7 +9,7 @@ pub of_texts :
 unfolding mixed
 of_texts = refl
 
--- a hash goes on behind each piece
+-- a hash goes on after each piece
 pub in_pieces : goes_on (goes_on (fnv1a []) (codes "foo")) (codes "bar") ≡ fnv1a (codes "foobar")
 unfolding mixed
 in_pieces = refl

@@ -1,4 +1,4 @@
-//! The 64-bit FNV-1a hash of bytes that come in pieces, none of which is kept.
+//! The 64-bit FNV-1a hash of bytes that come in pieces, none of which is kept: for measured runs.
 //!
 //! Source: The FNV Non-Cryptographic Hash Algorithm, Internet-Draft draft-eastlake-fnv.
 #![tactic(auto)]

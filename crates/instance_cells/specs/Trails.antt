@@ -10,7 +10,7 @@ use Rattle.instance_cells.specs.declared.trail.Trail.{Trail}
 abbrev pub start_of : Trail → List Val
 start_of t = t.start.now
 
--- what was done since, the oldest first
+-- the effects of a trail since it began, the oldest first
 abbrev pub effects_of : Trail → List Effect
 effects_of t = map effect_of t.effects.items
 

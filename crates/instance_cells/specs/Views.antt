@@ -22,7 +22,7 @@ abbrev pub seen_of : Seen → Val
 seen_of (Here v) = meaning v.now
 seen_of (Sum n) = number n
 
--- the cells behind effects of the program, the oldest first
+-- the cells after effects of the program, the oldest first
 abbrev pub behind : List Effect → (start : List Val) → List Val
 behind es start = commit (map effect_of es) start
 
@@ -40,12 +40,12 @@ abbrev pub sum_of : Val → Val → Result Val Fault
 sum_of w (number n) = sum w n
 sum_of w _ = Err WrongType
 
--- the sum stands in the cell, or nothing changed
+-- an add to a cell: the sum stands in it, or there is a fault and nothing changed
 abbrev pub Adds : Result (Unit {0}) Fault → (old new : List Val) → ℕ → Val → Type 0
 Adds (Ok x) old new c v = (w : Val) × ((sum_of (cell_at old c) v ≡ Ok w) × (new ≡ slice_set old c w))
 Adds (Err k) old new c v = (sum_of (cell_at old c) v ≡ Err k) × (new ≡ old)
 
--- what a cell has behind effects
+-- what a cell has after effects
 abbrev pub has : (start : List Val) → List Effect → ℕ → Val
 has start es c = cell_at (behind es start) c
 

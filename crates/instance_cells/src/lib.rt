@@ -1,4 +1,4 @@
-//! The cells of an instance, and what a segment did to them.
+//! The cells of an instance and what a segment did to them: for the engine, and for the book, which commits it.
 #![tactic(auto)]
 
 mod cells;

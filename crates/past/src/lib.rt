@@ -1,4 +1,4 @@
-//! A history that takes no memory: clauses see all of its entries, and a program their number.
+//! A history that clauses see and that takes no memory: for the site and for what is kept of a serving.
 #![tactic(auto)]
 
 mod history;

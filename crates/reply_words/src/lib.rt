@@ -1,4 +1,4 @@
-//! What a reply says, whether it is printed or sent: a page, or a status and a word.
+//! What a reply says, a page or a status with a word: for what prints, sends and counts replies.
 #![tactic(auto)]
 
 mod status;

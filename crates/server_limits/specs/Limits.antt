@@ -22,21 +22,26 @@ most_connections = 1000000
 abbrev pub IsWithin : (low high n : ℕ) → Type 0
 IsWithin low high n = (low ≤ n) × (n ≤ high)
 
--- the ranges of the options
+-- the fuel is in its range
 abbrev pub IsFuel : ℕ → Type 0
 IsFuel n = IsWithin 1 most_fuel n
 
+-- the life is in its range
 abbrev pub IsLife : ℕ → Type 0
 IsLife n = IsWithin 1 most_life n
 
+-- the number of instances is in its range
 abbrev pub AreInstances : ℕ → Type 0
 AreInstances n = IsWithin 1 most_instances n
 
+-- the number of pages is in its range
 abbrev pub ArePages : ℕ → Type 0
 ArePages n = IsWithin 1 most_pages n
 
+-- the number of shelves is in its range
 abbrev pub AreShelves : ℕ → Type 0
 AreShelves n = IsWithin 1 most_shelves n
 
+-- the number of connections is in its range
 abbrev pub AreConnections : ℕ → Type 0
 AreConnections n = IsWithin 1 most_connections n

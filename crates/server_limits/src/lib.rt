@@ -1,4 +1,4 @@
-//! The limits of a server's options, each written once.
+//! The limits of the options, each written once: for the command line, the definitions and whoever keeps to them.
 #![tactic(auto)]
 
 ghost use Rattle.std.specs.Prelude.{◌≡◌};

@@ -14,7 +14,7 @@ use Rattle.sexp_reader.specs.declared.classes.Mark.TheVariants.{Quote, Quasiquot
 abbrev pub is_blank : ℕ → Bool
 is_blank b = (b == 32) || (b == 9) || (b == 10) || (b == 13)
 
--- whether a byte ends a token: one of those, or one of ; ( [ ) ] ' ` , "
+-- whether a byte ends a token: a space, a tab, a newline, a carriage return, or one of ; ( [ ) ] ' ` , "
 abbrev pub ends_token : ℕ → Bool
 ends_token b =
     is_blank b || (b == 59) || (b == 40) || (b == 91) || (b == 41) || (b == 93) || (b == 39) || (b == 96) || (b == 44) || (b == 34)
@@ -85,7 +85,7 @@ is_symbol_sign b =
     (b == 33) || (b == 36) || (b == 37) || (b == 38) || (b == 42) || (b == 47) || (b == 58) || (b == 60) || (b == 61)
     || (b == 62) || (b == 63) || (b == 94) || (b == 95) || (b == 126) || (b == 43) || (b == 45) || (b == 46)
 
--- whether a byte may stand in a symbol: a letter, a digit or one of those signs
+-- whether a byte may stand in a symbol: a letter, a digit or one of the signs ! $ % & * / : < = > ? ^ _ ~ + - .
 abbrev pub is_symbol_byte : ℕ → Bool
 is_symbol_byte b = is_ascii_alphanumeric b || is_symbol_sign b
 

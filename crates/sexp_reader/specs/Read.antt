@@ -75,7 +75,7 @@ start = record { items = []; levels = [] }
 abbrev pub marked_list : Mark → Val → Val
 marked_list mark v = list (vals_of (symbol (name_of mark) ∷ v ∷ []))
 
--- one more datum, which ends each mark right before it
+-- the state with one more datum, which ends each mark right before it
 abbrev pub put : Val → List Val → List Level → State
 put v items [] = record { items = items ++ v ∷ []; levels = [] }
 put v items (opened delimiter at before ∷ levels) = record { items = items ++ v ∷ []; levels = opened delimiter at before ∷ levels }
@@ -87,7 +87,7 @@ open_list delimiter place state =
     if nat_lt (length state.levels) most_levels then Ok (record { items = []; levels = opened delimiter place state.items ∷ state.levels })
     else Err (place, Deep)
 
--- a mark at this place
+-- a mark at this place opens a level
 abbrev pub open_mark : Mark → ℕ → State → Result State Fault
 open_mark mark place state =
     if nat_lt (length state.levels) most_levels then Ok (record { items = state.items; levels = marked mark place ∷ state.levels })
@@ -106,25 +106,25 @@ finish items [] = Ok items
 finish items (opened delimiter at before ∷ levels) = Err (at, Unclosed)
 finish items (marked mark at ∷ levels) = Err (at, Unclosed)
 
--- a text, of which what stands behind its quote is given, and what follows it
+-- the state after a text, of which what stands behind its quote is given, and what follows the text
 abbrev pub take_text : ℕ → List ℕ → State → Result (State × List ℕ) Fault
 take_text place bytes state =
     text_from place [] bytes >>= λ found. Ok (put (text found.0) state.items state.levels, found.1)
 
--- a token and what follows it
+-- the state after the token at this place, and what follows the token
 abbrev pub take_token : ℕ → List ℕ → State → Result (State × List ℕ) Fault
 take_token place bytes state =
     word_at place (take (token_len bytes) bytes) >>= λ v. Ok (put v state.items state.levels, drop (token_len bytes) bytes)
 
--- a state, and what follows the piece behind which it is
+-- the state after a piece, with what follows the piece, or a fault
 abbrev pub with_rest : List ℕ → Result State Fault → Result (State × List ℕ) Fault
 with_rest bytes read = read >>= λ state. Ok (state, bytes)
 
--- a mark, of which the first byte and what stands behind that are given, and what follows it
+-- the state after a mark, of which the first byte and what stands behind that are given, and what follows the mark
 abbrev pub take_mark : Mark → ℕ → List ℕ → State → Result (State × List ℕ) Fault
 take_mark mark place bytes state = with_rest (whole_mark mark bytes).1 (open_mark (whole_mark mark bytes).0 place state)
 
--- one piece at this place, which begins with a byte and goes on with bytes: the state behind it, and what follows it
+-- one piece at this place, which begins with a byte and goes on with bytes: the state after it, and what follows it
 abbrev pub piece : ℕ → ℕ → List ℕ → State → Result (State × List ℕ) Fault
 piece place b bs state =
     elim (class_of b) [

@@ -15,7 +15,7 @@ use Rattle.sexp_reader.specs.declared.reader.Level.TheVariants.{Opened, Marked}
 use Rattle.sexp_reader.specs.declared.reader.Reader.{Reader}
 use Rattle.sexp_reader.specs.Read.{Fault, Level, opened, marked, State, put, close_list, finish, piece}
 
--- an answer with a fault is that fault; want of memory is free
+-- a fault that is answered is the one that is wanted; want of memory may come at any time
 abbrev pub Fails : {Y : Type 0} → ReadFault → Result Y Fault → Type 0
 Fails Memory wanted = Unit {0}
 Fails (At error) wanted = wanted ≡ Err (error.place, error.kind)
@@ -25,12 +25,12 @@ abbrev pub Gives : {X Y : Type 0} → (X → Y) → Result X ReadFault → Resul
 Gives view (Ok x) wanted = wanted ≡ Ok (view x)
 Gives view (Err e) wanted = Fails e wanted
 
--- what is open
+-- a list or mark that is open in the reader, as the definitions have it
 abbrev pub level_of : LevelOf → Level
 level_of (Opened delimiter at before) = opened delimiter at (map meaning before.items)
 level_of (Marked mark at) = marked mark at
 
--- what is open, the innermost first
+-- the lists and marks that are open, the innermost first
 abbrev pub stack_of : List LevelOf → List Level
 stack_of levels = reverse (map level_of levels)
 
@@ -49,7 +49,7 @@ Becomes reader result wanted = Gives (λ _. state_of reader) result wanted
 abbrev pub Advances : Reader → Result (Bor (List ℕ)) ReadFault → Result (State × List ℕ) Fault → Type 0
 Advances reader result wanted = Gives (λ rest. (state_of reader, rest.now)) result wanted
 
--- one more datum in a state
+-- a state with one more datum
 abbrev pub with_datum : Val → State → State
 with_datum v state = put v state.items state.levels
 

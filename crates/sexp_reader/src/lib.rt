@@ -1,4 +1,4 @@
-//! The text of a script as data: numbers, truth values, symbols, texts, lists and marks.
+//! The text of a script as data, or its first fault: for the table of forms.
 #![tactic(auto)]
 
 mod classes;

@@ -8,7 +8,7 @@ abbrev pub AShadowBindsItsCell : Type 0
 AShadowBindsItsCell =
     (c d : ℕ) (v : Val) (ss : List (ℕ × Val)) → binding d (bound_to c v ss) ≡ (if c == d then Some v else binding d ss)
 
--- behind any shadows, a cell is bound to its last one, or else to what it was bound to before
+-- after any shadows a cell is bound to its last one, or else to what it was bound to before
 abbrev pub TheLastShadowBinds : Type 0
 TheLastShadowBinds =
     (d : ℕ) (made ss : List (ℕ × Val)) → binding d (all_bound made ss) ≡ last_shadow d made (binding d ss)

@@ -3,22 +3,22 @@ use Rattle.std.specs.Prelude.{◌≡◌, ℕ, ◌⊎◌, List, [], ◌∷◌, So
 use Rattle.script_value.specs.Val.{Val}
 use Rattle.web_cells.specs.Shadows.{binding, all_bound, Rise}
 
--- a web cell is bound so
+-- among these bindings a web cell is bound to this value
 abbrev pub IsBoundSo : List (ℕ × Val) → ℕ × Val → Type 0
 IsBoundSo ss s = binding s.0 ss ≡ Some s.1
 
--- the bindings that the parent has not, or has with another value, in their order
+-- a page's own bindings: those that its parent has not, or has with another value, in their order
 abbrev pub IsOwn : (parent child own : List (ℕ × Val)) → Type 0
 IsOwn parent [] own = own ≡ []
 IsOwn parent (s ∷ ss) own =
     (IsBoundSo parent s × IsOwn parent ss own)
     ⊎ (¬ (IsBoundSo parent s) × ((rest : List (ℕ × Val)) × ((own ≡ s ∷ rest) × IsOwn parent ss rest)))
 
--- each web cell that the parent binds is bound
+-- a page binds each web cell that its parent binds
 abbrev pub BindsAllOf : (parent child : List (ℕ × Val)) → Type 0
 BindsAllOf parent child = (c : ℕ) → binding c child ≡ None → binding c parent ≡ None
 
--- the parent's bindings with a page's own are the page's
+-- the parent's bindings, with a page's own bound over them, are the page's
 abbrev pub OwnGiveBack : Type 0
 OwnGiveBack =
     (parent child own : List (ℕ × Val)) → Rise parent → Rise child → BindsAllOf parent child → IsOwn parent child own

@@ -12,7 +12,7 @@ abbrev pub binding : ℕ → List (ℕ × Val) → Option Val
 binding c [] = None
 binding c (s ∷ ss) = if s.0 == c then Some s.1 else binding c ss
 
--- the bindings behind shadows, the oldest first
+-- the bindings after shadows, the oldest shadow first
 abbrev pub all_bound : List (ℕ × Val) → List (ℕ × Val) → List (ℕ × Val)
 all_bound [] ss = ss
 all_bound (s ∷ later) ss = all_bound later (bound_to s.0 s.1 ss)
@@ -22,7 +22,7 @@ abbrev pub last_shadow : ℕ → List (ℕ × Val) → Option Val → Option Val
 last_shadow c [] found = found
 last_shadow c (s ∷ later) found = last_shadow c later (if s.0 == c then Some s.1 else found)
 
--- each binding is of a higher cell
+-- each of these bindings is of a higher cell than this one
 abbrev pub AreAbove : ℕ → List (ℕ × Val) → Type 0
 AreAbove c [] = ⊤
 AreAbove c (s ∷ ss) = (c < s.0) × AreAbove c ss

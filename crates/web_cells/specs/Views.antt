@@ -9,6 +9,6 @@ use Rattle.web_cells.specs.declared.shades.Shadow.{Shadow}
 abbrev pub pair_of : Shadow → ℕ × Val
 pair_of s = (s.cell, meaning s.value)
 
--- the one more shadow binds its cell anew
+-- one more shadow binds its cell anew
 abbrev pub Binds : Shadow → (old new : List Shadow) → Type 0
 Binds s old new = map pair_of new ≡ bound_to s.cell (meaning s.value) (map pair_of old)

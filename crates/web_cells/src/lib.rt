@@ -1,4 +1,4 @@
-//! The bindings of web cells: each page's run has its own, begun with those of the page that it answers.
+//! The bindings of web cells, of which each page has its own: for the states of pages and the engine.
 #![tactic(auto)]
 
 ghost use Rattle.web_cells.specs.Laws.{AShadowBindsItsCell, TheLastShadowBinds, ShadowsRise};
