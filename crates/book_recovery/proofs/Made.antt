@@ -13,7 +13,7 @@ use Rattle.replay_spec.specs.Invariant.{Among}
 use Rattle.replay_spec.specs.Remade.{IsOrderlyMade}
 use Rattle.replay_spec.proofs.Stand.{orderly_less}
 use Rattle.replay_spec.proofs.Recovered.{made_orderly, among_is, redone_logged}
-use Rattle.machine_spec.specs.Machine.{Suspended, inside_of}
+use Rattle.machine_states.specs.Machine.{Suspended, inside_of}
 use Rattle.instance_book.specs.declared.numbered.Numbered.{Numbered}
 use Rattle.instance_book.specs.declared.in_order.InOrder.{InOrder}
 use Rattle.instance_book.specs.declared.book.Book as kept
@@ -25,12 +25,12 @@ use Rattle.instance_book.specs.Told.{no_rules, book_beside, IsReopened}
 use Rattle.journal_records.specs.Records.{Record, begins, changes, ChangeFits, IsInGrammar, body_of, begin_of, texts_of, begun_length}
 use Rattle.journal_records.specs.Reading.{read_record}
 use Rattle.journal_records.specs.Laws.{IsBodyOf}
-use Rattle.journal_books.specs.Before.{States, state_at, Earlier, nothing_told, Made, nothing_made, plain}
-use Rattle.journal_books.specs.Retaking as books
-use Rattle.journal_books.specs.Retaking.{Told, unread, misread, told, held, landing, rules_for, with_state, states_with, then_told, retaken}
-use Rattle.journal_books.specs.Making.{Making, made, damaged, rules_over, has_script, first_by, told_next, next_by, with_body}
-use Rattle.journal_books.specs.Laws.{OnlyItsBeginBegins}
-use Rattle.journal_books.proofs.Retaken.{retaken_orderly}
+use Rattle.journal_spec.specs.Before.{States, state_at, Earlier, nothing_told, Made, nothing_made, plain}
+use Rattle.journal_spec.specs.Retaking as books
+use Rattle.journal_spec.specs.Retaking.{Told, unread, misread, told, held, landing, rules_for, with_state, states_with, then_told, retaken}
+use Rattle.journal_spec.specs.Making.{Making, made, damaged, rules_over, has_script, first_by, told_next, next_by, with_body}
+use Rattle.journal_spec.specs.Laws.{OnlyItsBeginBegins}
+use Rattle.journal_spec.proofs.Retaken.{retaken_orderly}
 use Rattle.book_recovery.specs.Remaking.{told_in, HasToldStates, is_read, names_told, IsFree, IsUntold, told_states, IsMadeBy, number_by}
 use Rattle.book_recovery.specs.Reading.{seen_by, made_in, TellsOf, IsUnderWay, IsRemade, Sees, SeesNumber, is_later, IsMadeAs, IsNothing, IsOwnBehind}
 

@@ -24,14 +24,14 @@ use Rattle.replay_spec.specs.Next as next
 use Rattle.replay_spec.specs.Next.{tape_for, start_visit, page_visit}
 use Rattle.replay_spec.specs.Recovery.{are_on, hold_over, redone, remade, page_of_numbers, number_in}
 use Rattle.replay_spec.proofs.Admitted.{came_from}
-use Rattle.machine_spec.specs.Machine.{Suspended, inside_of}
-use Rattle.machine_spec.specs.Laws.{IsStateOf}
-use Rattle.stored_states.specs.Views.{suspended_of}
-use Rattle.stored_states.specs.Views.{origin_of}
+use Rattle.machine_states.specs.Machine.{Suspended, inside_of}
+use Rattle.machine_states.specs.Laws.{IsStateOf}
+use Rattle.machine_states.specs.Views.{suspended_of}
+use Rattle.machine_states.specs.Views.{origin_of}
 use Rattle.frame_codec.specs.Stored.{IsStored}
 use Rattle.frame_codec.specs.Forms.{read_form, IsStoredBefore, FormsAreExact}
 use Rattle.value_bytes.specs.Laws.{AreBytes}
-use Rattle.stored_states.specs.declared.frame.Suspended as stored
+use Rattle.machine_states.specs.declared.frame.Suspended as stored
 use Rattle.kept_states.specs.Links.{behind_at}
 use Rattle.instance_book.specs.declared.shown.ShownPage.{ShownPage}
 use Rattle.instance_book.specs.declared.ticket.Ticket.{Ticket}
@@ -48,12 +48,12 @@ use Rattle.instance_book.proofs.Seen.{cells_seen}
 use Rattle.instance_book.proofs.Given.{more_given}
 use Rattle.instance_book.proofs.Behind.{arena_again}
 use Rattle.instance_book.proofs.Recorded.{ends_so, ends_off, ends_not, on_from}
-use Rattle.journal_books.specs.Before.{States, state_at, Earlier, links_behind, before_told}
-use Rattle.journal_books.specs.Retaking.{arena_of, Told, unread, misread, told, told_as, script_for, told_by, if_held, held, with_state, states_with}
-use Rattle.journal_books.specs.Lengths.{state_over}
-use Rattle.journal_books.specs.Owning.{IsOwnState}
-use Rattle.journal_books.specs.Keeping.{IsWhole}
-use Rattle.journal_books.proofs.Owned.{is_state_over}
+use Rattle.journal_spec.specs.Before.{States, state_at, Earlier, links_behind, before_told}
+use Rattle.journal_spec.specs.Retaking.{arena_of, Told, unread, misread, told, told_as, script_for, told_by, if_held, held, with_state, states_with}
+use Rattle.journal_spec.specs.Lengths.{state_over}
+use Rattle.journal_spec.specs.Owning.{IsOwnState}
+use Rattle.journal_spec.specs.Keeping.{IsWhole}
+use Rattle.journal_spec.proofs.Owned.{is_state_over}
 use Rattle.book_recovery.specs.declared.remake.Claim.{Claim}
 use Rattle.book_recovery.specs.Remaking.{opening_told, extension_told, are_held, IsPageOf, told_in, HasToldStates, is_read, names_told, IsFree, told_states, IsToldBehind, IsTold}
 

@@ -13,16 +13,16 @@ use Rattle.instance_book.specs.declared.book.Book as kept
 use Rattle.instance_book.specs.Told.{book_beside}
 use Rattle.journal_records.specs.Records.{Record, begins, changes}
 use Rattle.journal_records.specs.Reading.{read_record}
-use Rattle.journal_books.specs.Before.{Earlier}
-use Rattle.journal_books.specs.Retaking as books
-use Rattle.journal_books.specs.Retaking.{Told, unread, misread, told}
-use Rattle.journal_books.specs.Lengths.{state_by}
-use Rattle.journal_books.specs.Making.{Making, nothing, made, with_body, with_bodies, book_of}
-use Rattle.journal_books.specs.Owning.{IsOwnState, IsOwnRecord, AreOwn}
-use Rattle.journal_books.specs.Keeping.{AreAllBytes, AreWhole, HasWholeScripts}
-use Rattle.journal_books.specs.Spelling.{IsInRange}
-use Rattle.journal_books.specs.Laws.{BodiesMakeFittingBooks}
-use Rattle.journal_books.proofs.Makings.{with_push}
+use Rattle.journal_spec.specs.Before.{Earlier}
+use Rattle.journal_spec.specs.Retaking as books
+use Rattle.journal_spec.specs.Retaking.{Told, unread, misread, told}
+use Rattle.journal_spec.specs.Lengths.{state_by}
+use Rattle.journal_spec.specs.Making.{Making, nothing, made, with_body, with_bodies, book_of}
+use Rattle.journal_spec.specs.Owning.{IsOwnState, IsOwnRecord, AreOwn}
+use Rattle.journal_spec.specs.Keeping.{AreAllBytes, AreWhole, HasWholeScripts}
+use Rattle.journal_spec.specs.Spelling.{IsInRange}
+use Rattle.journal_spec.specs.Laws.{BodiesMakeFittingBooks}
+use Rattle.journal_spec.proofs.Makings.{with_push}
 use Rattle.book_recovery.specs.declared.found.Found.{Found}
 use Rattle.book_recovery.specs.declared.found.Found.TheVariants as found
 use Rattle.book_recovery.specs.declared.reader.Reader.{Reader}

@@ -7,10 +7,10 @@ use Rattle.replay_spec.specs.Invariant.{IsOrderly}
 use Rattle.instance_book.specs.declared.book.Book.{Book}
 use Rattle.instance_book.specs.Views.{book_of}
 use Rattle.instance_book.specs.Makes.{HasPlaces, HasItsStates}
-use Rattle.journal_books.specs.Making.{Making, nothing, damaged, other}
-use Rattle.journal_books.specs.Standing.{IsBook}
-use Rattle.journal_books.specs.Keeping.{HasWholeScripts}
-use Rattle.journal_books.specs.Spelling.{IsInRange}
+use Rattle.journal_spec.specs.Making.{Making, nothing, damaged, other}
+use Rattle.journal_spec.specs.Standing.{IsBook}
+use Rattle.journal_spec.specs.Keeping.{HasWholeScripts}
+use Rattle.journal_spec.specs.Spelling.{IsInRange}
 use Rattle.book_recovery.specs.Remaking.{HasToldStates}
 use Rattle.book_recovery.specs.declared.found.Found.{Found}
 use Rattle.book_recovery.specs.declared.found.Found.TheVariants.{Nothing, Made, Damaged, Other, Memory}

@@ -14,13 +14,13 @@ use Rattle.instance_book.specs.declared.book.Book.{Book}
 use Rattle.instance_book.specs.Orders.{numbers_of}
 use Rattle.instance_book.specs.Makes.{HasPlaces, HasItsStates}
 use Rattle.instance_book.specs.Told.{no_rules, book_beside}
-use Rattle.machine_spec.specs.Machine.{Suspended}
+use Rattle.machine_states.specs.Machine.{Suspended}
 use Rattle.journal_records.specs.Records.{Record, begins, changes}
 use Rattle.journal_records.specs.Reading.{read_record}
-use Rattle.journal_books.specs.Before.{Earlier, state_at, Made}
-use Rattle.journal_books.specs.Retaking.{misread}
-use Rattle.journal_books.specs.Making.{Making, nothing, made, damaged, other, has_script, with_body}
-use Rattle.journal_books.specs.Owning.{IsOwnRecord}
+use Rattle.journal_spec.specs.Before.{Earlier, state_at, Made}
+use Rattle.journal_spec.specs.Retaking.{misread}
+use Rattle.journal_spec.specs.Making.{Making, nothing, made, damaged, other, has_script, with_body}
+use Rattle.journal_spec.specs.Owning.{IsOwnRecord}
 use Rattle.book_recovery.specs.declared.found.Found.{Found}
 use Rattle.book_recovery.specs.declared.found.Found.TheVariants as found
 use Rattle.book_recovery.specs.declared.reader.Reader.{Reader}

@@ -12,8 +12,8 @@ use Rattle.replay_spec.specs.Book as spec
 use Rattle.replay_spec.specs.Book.{Change}
 use Rattle.replay_spec.specs.Recovery.{are_on, hold_over, redone, number_in}
 use Rattle.replay_spec.specs.Invariant.{AreOrderly}
-use Rattle.machine_spec.specs.Machine.{Suspended, inside_of}
-use Rattle.stored_states.specs.Views.{suspended_of}
+use Rattle.machine_states.specs.Machine.{Suspended, inside_of}
+use Rattle.machine_states.specs.Views.{suspended_of}
 use Rattle.frame_codec.specs.Stored.{IsStored}
 use Rattle.frame_codec.specs.Forms.{read_form}
 use Rattle.instance_book.specs.declared.book.Book.{Book}
@@ -22,10 +22,10 @@ use Rattle.instance_book.specs.Makes.{HasStatesFrom, HasItsStates}
 use Rattle.instance_book.specs.Places.{given}
 use Rattle.instance_book.specs.Told.{no_rules, book_beside}
 use Rattle.journal_records.specs.Records.{Record, begins, changes}
-use Rattle.journal_books.specs.Before.{States, state_at, Earlier}
-use Rattle.journal_books.specs.Retaking as books
-use Rattle.journal_books.specs.Retaking.{Told, unread, misread, told, held, states_with}
-use Rattle.journal_books.specs.Owning.{IsOwnState}
+use Rattle.journal_spec.specs.Before.{States, state_at, Earlier}
+use Rattle.journal_spec.specs.Retaking as books
+use Rattle.journal_spec.specs.Retaking.{Told, unread, misread, told, held, states_with}
+use Rattle.journal_spec.specs.Owning.{IsOwnState}
 use Rattle.book_recovery.specs.declared.remake.Claim.{Claim}
 
 -- the opening that a claim of a start tells

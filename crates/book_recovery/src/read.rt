@@ -2,15 +2,15 @@ ghost use Rattle.std.specs.Prelude.{◌≡◌, IsTrue, IfOk, OnErr};
 ghost use Rattle.script_nodes.specs.Views.{scripts_of};
 ghost use Rattle.page_journal.specs.Scanned.{IsQuiet};
 ghost use Rattle.page_journal.specs.Settled.{HasFailed, IsSettled, IsSound, view_of, bodies_in, length_of, is_broken};
-ghost use Rattle.journal_books.specs.Making.{book_of};
+ghost use Rattle.journal_spec.specs.Making.{book_of};
 ghost use Rattle.book_recovery.specs.Found.{Finds, IsFoundInOrder, HasStates};
-ghost use Rattle.journal_books.specs.Owning.{AreOwn};
+ghost use Rattle.journal_spec.specs.Owning.{AreOwn};
 
 use crate::found::Found;
 use crate::setup_scripts::each_is_whole;
 use crate::sound::SoundReader;
-use journal_books::bodies_make_fitting_books;
 use journal_records::records_are_exact;
+use journal_spec::bodies_make_fitting_books;
 use page_journal::{DiskFault, Journal};
 use script_nodes::Setup;
 use std::alloc::Global;

@@ -1,5 +1,5 @@
 ghost use Rattle.std.specs.Prelude.{◌≡◌, ◌<◌, ◌^◌, List, IfOk, IfSome, OnOk, map, Some, None, true, false};
-ghost use Rattle.stored_states.specs.Views.{suspended_of};
+ghost use Rattle.machine_states.specs.Views.{suspended_of};
 ghost use Rattle.frame_codec.specs.Stored.{IsStored};
 ghost use Rattle.frame_codec.specs.Forms.{IsStoredBefore};
 ghost use Rattle.frame_codec.specs.FormViews.{before_of, ReadsForm};
@@ -17,10 +17,10 @@ use frame_codec::{decode_form, forms_are_exact};
 use instance_book::{Book, ShownPage};
 use instance_cells::{Cells, Effect};
 use journal_records::{Logged, LoggedEnded, LoggedFinish, LoggedPage, Origin};
+use machine_states::Suspended;
 use script_nodes::{Script, SendKind, Setup};
 use script_value::{Bytes, TxName, Value};
 use std::alloc::{AllocError, Global};
-use stored_states::Suspended;
 
 /// What the record of a page tells of it, apart from where its segment began.
 #[derive(Drop)]
@@ -56,7 +56,7 @@ impl Claim {
     ghost use Rattle.std.specs.Prelude.{IfNone};
     ghost use Rattle.script_nodes.specs.Arena.{script_of};
     ghost use Rattle.frame_codec.specs.Forms.{read_form};
-    ghost use Rattle.journal_books.specs.Retaking.{arena_of};
+    ghost use Rattle.journal_spec.specs.Retaking.{arena_of};
     ghost use Rattle.book_recovery.specs.Remaking.{IsPageOf};
 
     // The page that was claimed, where its bytes are a state of this script behind the one that it is written behind.

@@ -1,5 +1,5 @@
 ghost use Rattle.script_nodes.specs.Views.{named_of, scripts_of};
-ghost use Rattle.journal_books.specs.Keeping.{IsWhole, AreWhole};
+ghost use Rattle.journal_spec.specs.Keeping.{IsWhole, AreWhole};
 
 use script_nodes::{NamedScript, Setup};
 

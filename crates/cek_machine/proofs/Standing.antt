@@ -5,20 +5,20 @@ use Rattle.script_nodes.specs.declared.script.Node.{Node}
 use Rattle.script_nodes.specs.Arena.{Arena, IsScript, parts}
 use Rattle.segment_progress.specs.States.{state_of}
 use Rattle.replay_spec.specs.Tape.{got}
-use Rattle.machine_spec.specs.Machine as spec
-use Rattle.machine_spec.specs.Machine.{node_at, bindings_in, next, goes, step, outer_env, outer_frames, stepped, in_binding, in_operand, in_seq, in_and, in_or, in_if, in_count, in_store, in_turn, in_call, first_of}
-use Rattle.machine_spec.specs.Fits.{node_of, IsKind, IsPart, FitsAt}
-use Rattle.machine_spec.proofs.Fitting.{node_is_there, few_done}
-use Rattle.machine_spec.proofs.Stepping.{visit_there, place_there, fits_on, pays_on}
-use Rattle.machine_spec.specs.Dues.{InSegment}
+use Rattle.machine_states.specs.Machine as spec
+use Rattle.machine_states.specs.Machine.{node_at, bindings_in, next, goes, step, outer_env, outer_frames, stepped, in_binding, in_operand, in_seq, in_and, in_or, in_if, in_count, in_store, in_turn, in_call, first_of}
+use Rattle.machine_states.specs.Fits.{node_of, IsKind, IsPart, FitsAt}
+use Rattle.machine_states.proofs.Fitting.{node_is_there, few_done}
+use Rattle.machine_states.proofs.Stepping.{visit_there, place_there, fits_on, pays_on}
+use Rattle.machine_states.specs.Dues.{InSegment}
 use Rattle.cek_machine.specs.Machines.{most_cost, steps_left}
-use Rattle.stored_states.specs.declared.frame.Frame.{Frame}
-use Rattle.stored_states.specs.declared.frame.Frame.TheVariants as frame
+use Rattle.machine_states.specs.declared.frame.Frame.{Frame}
+use Rattle.machine_states.specs.declared.frame.Frame.TheVariants as frame
 use Rattle.cek_machine.specs.declared.control.Control.{Control}
 use Rattle.cek_machine.specs.declared.spot.Spot.{Spot}
 use Rattle.cek_machine.specs.Kinds.{IsRow, IsLet, IsPrim, IsCall, IsIf, IsFor, IsStore, Stands}
 use Rattle.cek_machine.specs.Spots.{frames_of, control_of, point}
-use Rattle.stored_states.specs.Views.{frame_of}
+use Rattle.machine_states.specs.Views.{frame_of}
 
 pub visits_there : (a : Arena) (n : ℕ) (env : List Val) (fs : List spec.Frame) → IsScript a → FitsAt a (spec.visit n) env fs → n < length a.nodes
 visits_there a n env fs i w = visit_there a i n env fs w

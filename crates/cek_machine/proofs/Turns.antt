@@ -5,7 +5,7 @@ use Rattle.script_value.specs.declared.outcome.Fault.{Fault}
 use Rattle.prim_spec.specs.Lists.{list_of}
 use Rattle.replay_spec.specs.Tape.{State, faulted, stop, answer}
 use Rattle.segment_progress.specs.Counts.{count_of}
-use Rattle.machine_spec.specs.Machine.{Frame, inside_of, in_turn, visits, given, next_turn, first_turn}
+use Rattle.machine_states.specs.Machine.{Frame, inside_of, in_turn, visits, given, next_turn, first_turn}
 
 pub more_turns : (n turns b left : ℕ) (done env : List Val) (fs : List Frame) (s : State) → 0 < left
     → next_turn n turns b left done env fs s ≡ visits b (env ++ number (pos (length done)) ∷ []) (in_turn n turns done ∷ fs) s

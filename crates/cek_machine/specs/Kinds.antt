@@ -3,9 +3,9 @@ use Rattle.std.specs.Prelude.{ℕ, ◌<◌, length, ⊤}
 use Rattle.script_nodes.specs.declared.script.Node.{Node}
 use Rattle.script_nodes.specs.declared.script.Node.TheVariants as node
 use Rattle.script_nodes.specs.Arena.{Arena, parts}
-use Rattle.machine_spec.specs.Machine.{node_at, bindings_in}
-use Rattle.stored_states.specs.declared.frame.Frame.{Frame}
-use Rattle.stored_states.specs.declared.frame.Frame.TheVariants as frame
+use Rattle.machine_states.specs.Machine.{node_at, bindings_in}
+use Rattle.machine_states.specs.declared.frame.Frame.{Frame}
+use Rattle.machine_states.specs.declared.frame.Frame.TheVariants as frame
 
 -- a sequence, a conjunction or a disjunction
 abbrev pub IsRow : Node → Type 0

@@ -3,19 +3,19 @@ use Rattle.std.specs.Prelude.{◌≡◌, ℕ, ◌+◌, ◌-◌, ◌*◌, ◌^◌
 use Rattle.std.specs.declared.alloc.AllocError.{AllocError}
 use Rattle.script_value.specs.declared.value.Value.{Value}
 use Rattle.script_value.specs.Views.{meaning}
-use Rattle.stored_states.specs.declared.frame.Suspended.{Suspended}
-use Rattle.stored_states.specs.Views.{suspended_of}
+use Rattle.machine_states.specs.declared.frame.Suspended.{Suspended}
+use Rattle.machine_states.specs.Views.{suspended_of}
 use Rattle.segments.specs.declared.ends.PlainEnd.{PlainEnd}
 use Rattle.segments.specs.Views.{outcome_of}
 use Rattle.segment_progress.specs.States.{state_of}
 use Rattle.script_nodes.specs.Arena.{Arena, IsScript}
 use Rattle.replay_spec.specs.Tape.{State, Now, Reads, bound}
-use Rattle.machine_spec.specs.Laws.{started, resumed}
-use Rattle.machine_spec.specs.Machine as spec
-use Rattle.machine_spec.specs.Machine.{inside_of, goes, stopped, next, step, steps}
+use Rattle.machine_states.specs.Laws.{started, resumed}
+use Rattle.machine_states.specs.Machine as spec
+use Rattle.machine_states.specs.Machine.{inside_of, goes, stopped, next, step, steps}
 use Rattle.cek_machine.specs.declared.machine.Machine.{Machine}
-use Rattle.machine_spec.specs.Fits.{FitsAt}
-use Rattle.machine_spec.specs.Dues.{InSegment, owed}
+use Rattle.machine_states.specs.Fits.{FitsAt}
+use Rattle.machine_states.specs.Dues.{InSegment, owed}
 use Rattle.cek_machine.specs.Spots.{point, frames_of, control_of, ControlTakesMemory, Sound}
 
 -- how far a machine has used its tape

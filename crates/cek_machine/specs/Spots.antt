@@ -14,14 +14,14 @@ use Rattle.segment_progress.specs.States as plain
 use Rattle.segment_progress.specs.States.{state_of}
 use Rattle.replay_spec.specs.Tape.{State, paged, faulted, out_of_fuel, End, got, stop, Run, ◌>>◌, charge, send_page, add_cell}
 use Rattle.replay_spec.specs.Eval.{copied}
-use Rattle.stored_states.specs.declared.frame.Frame.{Frame}
-use Rattle.stored_states.specs.declared.frame.Frame.TheVariants as frame
+use Rattle.machine_states.specs.declared.frame.Frame.{Frame}
+use Rattle.machine_states.specs.declared.frame.Frame.TheVariants as frame
 use Rattle.cek_machine.specs.declared.control.Control.{Control}
 use Rattle.cek_machine.specs.declared.control.Control.TheVariants.{Visit, Give}
 use Rattle.cek_machine.specs.declared.spot.Spot.{Spot}
-use Rattle.stored_states.specs.Views.{frame_of, stack}
-use Rattle.machine_spec.specs.Machine as spec
-use Rattle.machine_spec.specs.Machine.{inside_of, visits, given, visited, next_part, next_turn, taken, next, cut, outer_env, outer_frames}
+use Rattle.machine_states.specs.Views.{frame_of, stack}
+use Rattle.machine_states.specs.Machine as spec
+use Rattle.machine_states.specs.Machine.{inside_of, visits, given, visited, next_part, next_turn, taken, next, cut, outer_env, outer_frames}
 
 abbrev pub control_of : Control → spec.Control
 control_of (Visit n) = spec.visit n

@@ -2,16 +2,17 @@ ghost use Rattle.std.specs.Prelude.{◌≡◌, ◌+◌, OnOk, OnErr, IfOk, None,
 ghost use Rattle.script_nodes.specs.Arena.{IsScript};
 ghost use Rattle.segments.specs.Views.{now_of, outcome_of};
 ghost use Rattle.instance_cells.specs.Views.{effect_of};
-ghost use Rattle.machine_spec.specs.Fits.{FitsAt, Fits};
+ghost use Rattle.machine_states.specs.Fits.{FitsAt, Fits};
 ghost use Rattle.cek_machine.specs.Kinds.{Stands};
 ghost use Rattle.cek_machine.specs.Spots.{Sound, Pops, Cuts, Nexts, frames_of, control_of};
-ghost use Rattle.stored_states.specs.Views.{suspended_of, frame_of};
+ghost use Rattle.machine_states.specs.Views.{suspended_of, frame_of};
 ghost use Rattle.cek_machine.specs.Machines.{Steps as StepsSo, Runs, Starts, Resumes, StepTakesMemory, RunTakesMemory, IsReady, IsWithin, machine_of, state_in, kept_of};
 
 use crate::control::Control;
 use crate::nodes::node_of;
 use crate::spot::Spot;
 use crate::steps::Steps;
+use machine_states::{Frame, Suspended};
 use script_nodes::Script;
 use script_value::{Items, Value};
 use segment_progress::{Halt, How, Progress, halt_at};
@@ -19,7 +20,6 @@ use segments::{Now, PlainEnd, Rerun};
 use std::alloc::{AllocError, Global};
 use std::mem;
 use std::sync::ledger::Ledger;
-use stored_states::{Frame, Suspended};
 use web_cells::Shades;
 
 /// A script's machine: it visits a node or gives a value to its innermost frame, step by step, up to a stop.
@@ -32,7 +32,7 @@ pub struct Machine<'s> {
 
 impl<'t> Spot<'t> {
     // The innermost frame.
-    #[tactic(auto, using(stored_states::proofs::Stacks::stack_push))]
+    #[tactic(auto, using(machine_states::proofs::Stacks::stack_push))]
     fn pop(&mut self) -> Option<Frame>
         ensures frames { Pops result (frames_of self.old) (frames_of self.new) }
         ensures env { self.new.env ≡ self.old.env }

@@ -1,7 +1,7 @@
 ghost use Rattle.std.specs.Prelude.{◌≡◌, ◌<◌, ◌≤◌, ◌+◌, drop, length, pos, suc, IfOk};
 ghost use Rattle.script_value.specs.Views.{meaning};
 ghost use Rattle.script_nodes.specs.Arena.{IsFull, IsOnTasks, parts};
-ghost use Rattle.machine_spec.specs.Machine.{node_at};
+ghost use Rattle.machine_states.specs.Machine.{node_at};
 ghost use Rattle.cek_machine.specs.Kinds.{IsRow};
 
 use script_nodes::{Node, Script};

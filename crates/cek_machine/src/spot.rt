@@ -4,17 +4,17 @@ ghost use Rattle.prim_spec.specs.Table.{takes};
 ghost use Rattle.replay_spec.specs.Tape.{shadow, set_cell};
 ghost use Rattle.replay_spec.specs.Eval.{value_at};
 ghost use Rattle.script_nodes.specs.declared.script.Node.TheVariants as variant;
-ghost use Rattle.machine_spec.specs.Machine.{next_operand, next_argument, next_binding};
+ghost use Rattle.machine_states.specs.Machine.{next_operand, next_argument, next_binding};
 ghost use Rattle.cek_machine.specs.Spots.{Moves, Gives, GivesCopy, Sends, Adds, WorksOn, WorksOnNext, Visits, Sound, SoundUnder, IsFlat};
-ghost use Rattle.stored_states.specs.Views.{frame_of};
+ghost use Rattle.machine_states.specs.Views.{frame_of};
 
 use crate::control::Control;
+use machine_states::Frame;
 use script_nodes::SendKind;
 use script_value::{Items, Op, Value};
 use segment_progress::{Halt, Progress, applied};
 use std::alloc::Global;
 use std::mem;
-use stored_states::Frame;
 
 /// Where a machine is, its control aside.
 #[derive(Drop)]
@@ -67,7 +67,7 @@ impl<'t> Spot<'t> {
     }
 
     /// A part is worked on in this frame.
-    #[tactic(auto, using(stored_states::proofs::Stacks::stack_push))]
+    #[tactic(auto, using(machine_states::proofs::Stacks::stack_push))]
     pub fn work(&mut self, frame: Frame, part: u32) -> Result<Control, Halt>
         requires sound { Sound self.old }
         requires flat { IsFlat frame }
@@ -171,7 +171,7 @@ impl<'t> Spot<'t> {
     }
 
     /// The page of a send is worked on, under the URL.
-    #[tactic(auto, using(stored_states::proofs::Stacks::stack_push))]
+    #[tactic(auto, using(machine_states::proofs::Stacks::stack_push))]
     pub fn page(
         &mut self,
         alloc: Global,
@@ -190,7 +190,7 @@ impl<'t> Spot<'t> {
     }
 
     /// A transaction is entered, and its part is worked on.
-    #[tactic(auto, using(stored_states::proofs::Stacks::stack_push))]
+    #[tactic(auto, using(machine_states::proofs::Stacks::stack_push))]
     pub fn isolate(&mut self, node: u32, body: u32) -> Result<Control, Halt>
         requires { Sound self.old }
         ensures gives { Visits result self.old self.new node (variant.Isolate body) }

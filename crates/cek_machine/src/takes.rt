@@ -1,19 +1,19 @@
 ghost use Rattle.std.specs.Prelude.{◌≡◌, ◌<◌, ◌≤◌, ◌+◌, ◌-◌, ◌∷◌, ◌++◌, [], OnOk, length, drop, suc, pos};
 ghost use Rattle.script_value.specs.Views.{meaning};
 ghost use Rattle.replay_spec.specs.Tape.{leave};
-ghost use Rattle.stored_states.specs.declared.frame.Frame.TheVariants as frame;
+ghost use Rattle.machine_states.specs.declared.frame.Frame.TheVariants as frame;
 ghost use Rattle.cek_machine.specs.Kinds.{IsNodeAt, IsFor, IsIf, IsStore, IsRowAt, IsPrimAt, IsCallAt, IsLetAt, Stands};
 ghost use Rattle.cek_machine.specs.Spots.{Gives, Takes, TakesTurn, TurnsOn, Sound, SoundUnder};
-ghost use Rattle.stored_states.specs.Views.{frame_of};
+ghost use Rattle.machine_states.specs.Views.{frame_of};
 
 use crate::control::Control;
 use crate::nodes::{behind, node_of, row_of, turn_behind};
 use crate::spot::Spot;
+use machine_states::Frame;
 use script_nodes::{Node, Script};
 use script_value::{Items, Op, TxName, Value};
 use segment_progress::{Halt, How, applied, halt_at, is_false, turn_count};
 use std::alloc::Global;
-use stored_states::Frame;
 
 impl<'t> Spot<'t> {
     // A binding is done: the next, or the body.

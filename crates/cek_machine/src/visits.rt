@@ -3,15 +3,15 @@ ghost use Rattle.prim_spec.specs.Table.{takes};
 ghost use Rattle.script_nodes.specs.declared.script.Node.TheVariants as variant;
 ghost use Rattle.script_nodes.specs.Arena.{IsFull, IsOnTasks};
 ghost use Rattle.cek_machine.specs.Spots.{Moves, Visits, VisitsIn, Sound, IsFlat, paid_visit};
-ghost use Rattle.stored_states.specs.Views.{frame_of};
+ghost use Rattle.machine_states.specs.Views.{frame_of};
 
 use crate::control::Control;
 use crate::spot::Spot;
+use machine_states::Frame;
 use script_nodes::{Node, Numbers, Script};
 use script_value::{Items, Op, Value};
 use segment_progress::Halt;
 use std::alloc::Global;
-use stored_states::Frame;
 
 impl<'t> Spot<'t> {
     /// A visit is charged, and a part is worked on in this frame.

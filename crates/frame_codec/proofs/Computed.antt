@@ -7,7 +7,7 @@ use Rattle.prim_spec.specs.Same.{same}
 use Rattle.prim_spec.proofs.Tests.{same_decides}
 use Rattle.web_cells.specs.Shadows.{binding}
 use Rattle.web_cells.specs.Own.{IsOwn}
-use Rattle.machine_spec.specs.Machine.{Suspended}
+use Rattle.machine_states.specs.Machine.{Suspended}
 use Rattle.frame_codec.specs.Deltas.{Delta, Shares, IsDelta}
 use Rattle.frame_codec.specs.Difference.{same_frame, one_longer, shared_by, is_value, own_of, difference, DifferencesAreComputed}
 use Rattle.frame_codec.proofs.Differences.{joins, are_one}

@@ -18,10 +18,10 @@ use Rattle.value_bytes.specs.Reading.{read_list, read_values}
 use Rattle.value_bytes.specs.Laws.{AreBytes, IsExact}
 use Rattle.value_bytes.proofs.Numbers.{u32_exact}
 use Rattle.value_bytes.proofs.Lists.{list_exact, no_prefix}
-use Rattle.machine_spec.specs.Machine.{Frame, node_at, Suspended}
-use Rattle.machine_spec.specs.Fits.{node_of, Fits}
-use Rattle.stored_states.specs.declared.frame.Frame.{Frame as Stored}
-use Rattle.stored_states.specs.Views.{frame_of, stack}
+use Rattle.machine_states.specs.Machine.{Frame, node_at, Suspended}
+use Rattle.machine_states.specs.Fits.{node_of, Fits}
+use Rattle.machine_states.specs.declared.frame.Frame.{Frame as Stored}
+use Rattle.machine_states.specs.Views.{frame_of, stack}
 use Rattle.frame_codec.specs.Spelling.{frame_bytes, shadow_bytes, IsShort, FrameHasBytes, ShadowHasBytes, StateHasBytes}
 use Rattle.frame_codec.specs.Walk.{frames_fit, shadows_fit}
 use Rattle.frame_codec.specs.Stored.{IsStored}

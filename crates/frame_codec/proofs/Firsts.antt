@@ -16,9 +16,9 @@ use Rattle.value_bytes.specs.Laws.{IsExact}
 use Rattle.value_bytes.proofs.Numbers.{u32_exact}
 use Rattle.value_bytes.proofs.Lists.{list_exact}
 use Rattle.value_bytes.proofs.Trees.{value_exact}
-use Rattle.machine_spec.specs.Machine.{Frame, Suspended}
-use Rattle.stored_states.specs.declared.frame.Frame.{Frame as Stored}
-use Rattle.stored_states.specs.Views.{frame_of, stack}
+use Rattle.machine_states.specs.Machine.{Frame, Suspended}
+use Rattle.machine_states.specs.declared.frame.Frame.{Frame as Stored}
+use Rattle.machine_states.specs.Views.{frame_of, stack}
 use Rattle.frame_codec.specs.Spelling.{frame_bytes, shadow_bytes, ShadowHasBytes}
 use Rattle.frame_codec.specs.Stored.{IsStored}
 use Rattle.frame_codec.specs.Reading.{read_frame, read_shadow}

@@ -16,8 +16,8 @@ use Rattle.value_bytes.specs.Laws.{AreBytes, Spells, IsExact}
 use Rattle.value_bytes.proofs.Numbers.{bind_some, seen_some, rest_are_bytes, tail_are_bytes, byte_exact, u32_exact, u64_exact}
 use Rattle.value_bytes.proofs.Lists.{list_exact}
 use Rattle.value_bytes.proofs.Trees.{value_exact, chosen}
-use Rattle.machine_spec.specs.Machine.{Frame, in_binding, in_operand, in_body, in_seq, in_and, in_or, in_if, in_count, in_store, in_turn, in_isolate, in_call, in_task, in_page, in_finish, in_back, bindings_in, node_at}
-use Rattle.machine_spec.specs.Fits.{node_of}
+use Rattle.machine_states.specs.Machine.{Frame, in_binding, in_operand, in_body, in_seq, in_and, in_or, in_if, in_count, in_store, in_turn, in_isolate, in_call, in_task, in_page, in_finish, in_back, bindings_in, node_at}
+use Rattle.machine_states.specs.Fits.{node_of}
 use Rattle.frame_codec.specs.Spelling.{frame_bytes, let_bytes, shadow_bytes, IsShort, FrameHasBytes, ShadowHasBytes}
 use Rattle.frame_codec.specs.Walk.{operands_in}
 use Rattle.frame_codec.specs.Reading.{read_both, bindings_of, operands_of, body_frame, let_frame, call_frame, read_let, read_call, read_part, read_for_kind, read_for, name_of, read_kind, read_frame, read_shadow}

@@ -10,7 +10,7 @@ use Rattle.web_cells.specs.Own.{IsOwn}
 use Rattle.web_cells.proofs.Shadowed.{last_binds, rise}
 use Rattle.web_cells.proofs.Owned.{same_bindings, above_none, all_rise}
 use Rattle.script_nodes.specs.Arena.{Arena}
-use Rattle.machine_spec.specs.Machine.{Frame, Suspended}
+use Rattle.machine_states.specs.Machine.{Frame, Suspended}
 use Rattle.frame_codec.specs.Spelling.{ShadowHasBytes}
 use Rattle.frame_codec.specs.Stored.{IsStored}
 use Rattle.frame_codec.specs.Deltas.{Delta, Shares, IsDelta, joined, delta_bytes}

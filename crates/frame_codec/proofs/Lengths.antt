@@ -4,8 +4,8 @@ use Rattle.std.specs.List.{flat_map}
 use Rattle.std.proofs.lemmas.List.{map_more, reverse-reverse}
 use Rattle.web_cells.specs.Views.{pair_of}
 use Rattle.web_cells.specs.declared.shades.Shadow.{Shadow}
-use Rattle.stored_states.specs.declared.frame.Frame.{Frame}
-use Rattle.stored_states.specs.Views.{frame_of, stack}
+use Rattle.machine_states.specs.declared.frame.Frame.{Frame}
+use Rattle.machine_states.specs.Views.{frame_of, stack}
 use Rattle.frame_codec.specs.Spelling.{frame_bytes, shadow_bytes}
 
 flat_more : {A : Type 0} (spelled : A → List ℕ) (xs : List A) (x : A) → length (flat_map spelled (xs ++ x ∷ [])) ≡ length (flat_map spelled xs) + length (spelled x)

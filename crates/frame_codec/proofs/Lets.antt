@@ -1,7 +1,7 @@
 -- The frame of the body of a Let has no value that is done.
 use Rattle.std.proofs.Common.{◌≡◌, ℕ, List, [], ◌∷◌, Some, None, refl}
 use Rattle.script_value.specs.Val.{Val}
-use Rattle.machine_spec.specs.Machine.{in_body}
+use Rattle.machine_states.specs.Machine.{in_body}
 use Rattle.frame_codec.specs.Reading.{body_frame}
 
 pub a_body : (n bound : ℕ) (done : List Val) → done ≡ [] → body_frame n bound done ≡ Some (in_body n bound)

@@ -9,7 +9,7 @@ use Rattle.script_value.specs.declared.value.Value.TheVariants.{Truth}
 use Rattle.script_nodes.specs.declared.script.Node.{Node}
 use Rattle.script_nodes.specs.declared.script.Node.TheVariants as node
 use Rattle.script_nodes.specs.Arena.{Arena}
-use Rattle.machine_spec.specs.Machine.{node_at, first_of}
+use Rattle.machine_states.specs.Machine.{node_at, first_of}
 use Rattle.frame_codec.specs.Walk.{numbered}
 
 pub node_there : (a : Arena) (n : ℕ) (x : Node) → slice_get a.nodes n ≡ Some x → x ≡ node_at a n

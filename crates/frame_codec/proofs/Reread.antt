@@ -14,7 +14,7 @@ use Rattle.web_cells.specs.Own.{BindsAllOf}
 use Rattle.script_nodes.specs.Arena.{Arena}
 use Rattle.value_bytes.specs.Spelling.{HasBytes}
 use Rattle.value_bytes.specs.Laws.{AreBytes}
-use Rattle.machine_spec.specs.Machine.{Frame, Suspended}
+use Rattle.machine_states.specs.Machine.{Frame, Suspended}
 use Rattle.frame_codec.specs.Spelling.{FrameHasBytes, ShadowHasBytes, StateHasBytes}
 use Rattle.frame_codec.specs.Walk.{frames_fit, shadows_fit}
 use Rattle.frame_codec.specs.Stored.{IsStored}

@@ -14,7 +14,7 @@ use Rattle.script_nodes.specs.declared.script.SendKind.TheVariants.{Suspend, For
 use Rattle.replay_spec.specs.Names.{is_name}
 use Rattle.replay_spec.specs.Recovery.{is_kind}
 use Rattle.replay_spec.proofs.Tests.{equal_self, kind_self}
-use Rattle.machine_spec.specs.Machine.{Frame, in_binding, in_operand, in_body, in_seq, in_and, in_or, in_if, in_count, in_store, in_turn, in_isolate, in_call, in_task, in_page, in_finish, in_back}
+use Rattle.machine_states.specs.Machine.{Frame, in_binding, in_operand, in_body, in_seq, in_and, in_or, in_if, in_count, in_store, in_turn, in_isolate, in_call, in_task, in_page, in_finish, in_back}
 use Rattle.frame_codec.specs.Difference.{same_frame, is_value}
 
 values_mean : (vs ws : List Val) → pointwise same vs ws ≡ true → vs ≡ ws

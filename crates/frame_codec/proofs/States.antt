@@ -11,8 +11,8 @@ use Rattle.value_bytes.specs.Spelling.{values_bytes, list_bytes, HaveBytes, Fits
 use Rattle.value_bytes.specs.Reading.{read_list, read_values}
 use Rattle.value_bytes.specs.Laws.{AreBytes, IsExact, HasNoPrefix}
 use Rattle.value_bytes.proofs.Lists.{list_exact, no_prefix}
-use Rattle.machine_spec.specs.Machine.{Frame, node_at, Suspended}
-use Rattle.machine_spec.specs.Fits.{node_of}
+use Rattle.machine_states.specs.Machine.{Frame, node_at, Suspended}
+use Rattle.machine_states.specs.Fits.{node_of}
 use Rattle.frame_codec.specs.Spelling.{frame_bytes, shadow_bytes, state_bytes, FrameHasBytes, ShadowHasBytes}
 use Rattle.frame_codec.specs.Stored.{IsStored}
 use Rattle.frame_codec.specs.Walk.{frames_fit, shadows_fit}

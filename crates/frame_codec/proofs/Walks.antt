@@ -14,8 +14,8 @@ use Rattle.script_nodes.specs.declared.script.Node.TheVariants as node
 use Rattle.script_nodes.specs.Arena.{Arena}
 use Rattle.value_bytes.proofs.Numbers.{bind_some}
 use Rattle.value_bytes.proofs.Trees.{chosen}
-use Rattle.machine_spec.specs.Machine.{Frame, in_binding, in_operand, in_body, in_seq, in_and, in_or, in_if, in_count, in_store, in_turn, in_isolate, in_call, in_task, in_page, in_finish, in_back, node_at, first_of, Suspended}
-use Rattle.machine_spec.specs.Fits.{node_of, IsKind, IsPart, Binds, Works, IsSend, Fits}
+use Rattle.machine_states.specs.Machine.{Frame, in_binding, in_operand, in_body, in_seq, in_and, in_or, in_if, in_count, in_store, in_turn, in_isolate, in_call, in_task, in_page, in_finish, in_back, node_at, first_of, Suspended}
+use Rattle.machine_states.specs.Fits.{node_of, IsKind, IsPart, Binds, Works, IsSend, Fits}
 use Rattle.frame_codec.specs.Spelling.{FrameHasBytes}
 use Rattle.frame_codec.specs.Walk.{part_worked, numbered, scope_in, env_before, env_of, Place, enters, walk, outermost, is_send, ends_well, frames_fit}
 use Rattle.frame_codec.proofs.Frames.{LetFits}

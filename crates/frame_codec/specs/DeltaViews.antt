@@ -1,8 +1,8 @@
 -- What a difference of the program stands for.
 use Rattle.std.specs.Prelude.{◌≡◌, ℕ, List, map, Option, option_map, IfSome, IsNone}
 use Rattle.script_nodes.specs.Arena.{Arena}
-use Rattle.stored_states.specs.Views.{frame_of, suspended_of}
-use Rattle.stored_states.specs.declared.frame.Suspended as stored
+use Rattle.machine_states.specs.Views.{frame_of, suspended_of}
+use Rattle.machine_states.specs.declared.frame.Suspended as stored
 use Rattle.frame_codec.specs.Deltas as spec
 use Rattle.frame_codec.specs.Difference.{difference}
 use Rattle.frame_codec.specs.declared.difference.Delta.{Delta}

@@ -8,7 +8,7 @@ use Rattle.wire_bytes.specs.Spelling.{u32_bytes}
 use Rattle.wire_bytes.specs.Reading.{read_u32}
 use Rattle.value_bytes.specs.Spelling.{values_bytes, list_bytes, HaveBytes, FitsList}
 use Rattle.value_bytes.specs.Reading.{Reader, read_list, read_values}
-use Rattle.machine_spec.specs.Machine.{Frame, Suspended}
+use Rattle.machine_states.specs.Machine.{Frame, Suspended}
 use Rattle.frame_codec.specs.Spelling.{frame_bytes, shadow_bytes, IsShort, FrameHasBytes, ShadowHasBytes, StateHasBytes}
 use Rattle.frame_codec.specs.Stored.{IsStored}
 use Rattle.frame_codec.specs.Reading.{read_both, read_frame, read_shadow}

@@ -10,7 +10,7 @@ use Rattle.script_nodes.specs.Arena.{Arena}
 use Rattle.value_bytes.specs.Laws.{AreBytes}
 use Rattle.replay_spec.specs.Names.{is_name}
 use Rattle.replay_spec.specs.Recovery.{is_kind}
-use Rattle.machine_spec.specs.Machine.{Frame, in_binding, in_operand, in_body, in_seq, in_and, in_or, in_if, in_count, in_store, in_turn, in_isolate, in_call, in_task, in_page, in_finish, in_back, Suspended}
+use Rattle.machine_states.specs.Machine.{Frame, in_binding, in_operand, in_body, in_seq, in_and, in_or, in_if, in_count, in_store, in_turn, in_isolate, in_call, in_task, in_page, in_finish, in_back, Suspended}
 use Rattle.frame_codec.specs.Walk.{frames_fit, shadows_fit}
 use Rattle.frame_codec.specs.Stored.{IsStored}
 use Rattle.frame_codec.specs.Deltas.{Delta, IsDelta, GoesOnFrom, joined, delta_bytes, read_delta, SpellsDelta}

@@ -2,9 +2,9 @@
 use Rattle.std.specs.Prelude.{◌≡◌, ℕ, List, Option, option_map}
 use Rattle.std.specs.Borrow.{Bor}
 use Rattle.script_nodes.specs.Arena.{Arena}
-use Rattle.machine_spec.specs.Machine.{Suspended}
-use Rattle.stored_states.specs.Views.{suspended_of}
-use Rattle.stored_states.specs.declared.frame.Suspended as stored
+use Rattle.machine_states.specs.Machine.{Suspended}
+use Rattle.machine_states.specs.Views.{suspended_of}
+use Rattle.machine_states.specs.declared.frame.Suspended as stored
 use Rattle.frame_codec.specs.Stored.{IsStored}
 use Rattle.frame_codec.specs.Deltas.{joined}
 use Rattle.frame_codec.specs.DeltaViews.{delta_of}

@@ -4,7 +4,7 @@ use Rattle.web_cells.specs.Shadows.{Rise}
 use Rattle.web_cells.specs.Own.{BindsAllOf}
 use Rattle.script_nodes.specs.Arena.{Arena}
 use Rattle.value_bytes.specs.Laws.{AreBytes}
-use Rattle.machine_spec.specs.Machine.{Suspended}
+use Rattle.machine_states.specs.Machine.{Suspended}
 use Rattle.frame_codec.specs.Spelling.{state_bytes}
 use Rattle.frame_codec.specs.Stored.{IsStored}
 use Rattle.frame_codec.specs.Reading.{read_state}

@@ -2,10 +2,10 @@
 use Rattle.std.specs.Prelude.{◌≡◌, ℕ, List, map, Option, option_map}
 use Rattle.std.specs.Global.{Vec}
 use Rattle.script_nodes.specs.Arena.{Arena}
-use Rattle.machine_spec.specs.Machine as machine
-use Rattle.stored_states.specs.Views.{frame_of, suspended_of}
-use Rattle.stored_states.specs.declared.frame.Frame.{Frame}
-use Rattle.stored_states.specs.declared.frame.Suspended.{Suspended}
+use Rattle.machine_states.specs.Machine as machine
+use Rattle.machine_states.specs.Views.{frame_of, suspended_of}
+use Rattle.machine_states.specs.declared.frame.Frame.{Frame}
+use Rattle.machine_states.specs.declared.frame.Suspended.{Suspended}
 use Rattle.frame_codec.specs.DeltaViews.{delta_of}
 use Rattle.frame_codec.specs.PartedViews.{parted_of}
 use Rattle.frame_codec.specs.Fronts.{front, read_front, read_delta_front}

@@ -7,7 +7,7 @@ use Rattle.wire_bytes.specs.Reading.{read_u32, value_of}
 use Rattle.value_bytes.specs.Reading.{Reader, read_several, read_list, read_value}
 use Rattle.value_bytes.specs.Views.{Stops}
 use Rattle.value_bytes.specs.declared.unread.Unread.{Unread}
-use Rattle.machine_spec.specs.Machine.{Frame, Suspended}
+use Rattle.machine_states.specs.Machine.{Frame, Suspended}
 use Rattle.frame_codec.specs.Reading.{read_frame, read_shadow}
 use Rattle.frame_codec.specs.Stored.{IsStored}
 use Rattle.frame_codec.specs.Deltas.{Delta, IsDelta, GoesOnFrom, DeltaHasBytes, joined}

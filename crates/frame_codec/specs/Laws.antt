@@ -3,8 +3,8 @@ use Rattle.std.specs.Prelude.{◌≡◌, ℕ, List, Some}
 use Rattle.script_nodes.specs.Arena.{Arena, IsScript}
 use Rattle.replay_spec.specs.Tape.{Tape}
 use Rattle.value_bytes.specs.Laws.{AreBytes, HasNoPrefix}
-use Rattle.machine_spec.specs.Machine.{Suspended}
-use Rattle.machine_spec.specs.Laws.{IsStateOf}
+use Rattle.machine_states.specs.Machine.{Suspended}
+use Rattle.machine_states.specs.Laws.{IsStateOf}
 use Rattle.frame_codec.specs.Spelling.{state_bytes, StateHasBytes}
 use Rattle.frame_codec.specs.Stored.{IsStored}
 use Rattle.frame_codec.specs.Reading.{read_state}

@@ -1,6 +1,6 @@
 -- The spellings of states and of differences in three parts, of which each can be read without the others.
 use Rattle.std.specs.Prelude.{ℕ, List, ◌++◌, reverse}
-use Rattle.machine_spec.specs.Machine.{Suspended}
+use Rattle.machine_states.specs.Machine.{Suspended}
 use Rattle.wire_bytes.specs.Spelling.{u32_bytes}
 use Rattle.value_bytes.specs.Spelling.{values_bytes, list_bytes}
 use Rattle.frame_codec.specs.Spelling.{frame_bytes, shadow_bytes}

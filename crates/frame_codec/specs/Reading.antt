@@ -6,7 +6,7 @@ use Rattle.script_value.specs.declared.outcome.TxName.{TxName}
 use Rattle.script_nodes.specs.Arena.{Arena}
 use Rattle.wire_bytes.specs.Reading.{read_u8, read_u32, read_u64}
 use Rattle.value_bytes.specs.Reading.{Reader, seen_as, read_several, read_list, read_value, read_values}
-use Rattle.machine_spec.specs.Machine.{Frame, in_binding, in_operand, in_body, in_seq, in_and, in_or, in_if, in_count, in_store, in_turn, in_isolate, in_call, in_task, bindings_in, node_at, Suspended}
+use Rattle.machine_states.specs.Machine.{Frame, in_binding, in_operand, in_body, in_seq, in_and, in_or, in_if, in_count, in_store, in_turn, in_isolate, in_call, in_task, bindings_in, node_at, Suspended}
 use Rattle.frame_codec.specs.Walk.{operands_in, frames_fit, shadows_fit}
 
 -- reads two things, one behind the other

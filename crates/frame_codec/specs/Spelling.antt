@@ -4,7 +4,7 @@ use Rattle.script_value.specs.Val.{Val}
 use Rattle.script_value.specs.declared.outcome.TxName.{TxName}
 use Rattle.wire_bytes.specs.Spelling.{u32_bytes, u64_bytes}
 use Rattle.value_bytes.specs.Spelling.{value_bytes, values_bytes, list_bytes, HasBytes, HaveBytes, FitsList}
-use Rattle.machine_spec.specs.Machine.{Frame, in_binding, in_operand, in_body, in_seq, in_and, in_or, in_if, in_count, in_store, in_turn, in_isolate, in_call, in_task, in_page, in_finish, in_back, Suspended}
+use Rattle.machine_states.specs.Machine.{Frame, in_binding, in_operand, in_body, in_seq, in_and, in_or, in_if, in_count, in_store, in_turn, in_isolate, in_call, in_task, in_page, in_finish, in_back, Suspended}
 
 -- a part of a node: the node, and its number
 abbrev pub part_bytes : (node part : ℕ) → List ℕ

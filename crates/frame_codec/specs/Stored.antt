@@ -4,8 +4,8 @@ use Rattle.std.specs.List.{AllByRecursion}
 use Rattle.script_value.specs.Val.{Val}
 use Rattle.web_cells.specs.Shadows.{Rise}
 use Rattle.script_nodes.specs.Arena.{Arena}
-use Rattle.machine_spec.specs.Machine.{Suspended}
-use Rattle.machine_spec.specs.Fits.{Fits}
+use Rattle.machine_states.specs.Machine.{Suspended}
+use Rattle.machine_states.specs.Fits.{Fits}
 use Rattle.frame_codec.specs.Spelling.{StateHasBytes}
 
 -- the bindings name web cells of the script, the cells rising, each once

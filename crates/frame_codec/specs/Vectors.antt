@@ -8,8 +8,8 @@ use Rattle.script_value.specs.declared.outcome.Op.TheVariants as op
 use Rattle.script_nodes.specs.declared.script.Node.TheVariants as node
 use Rattle.script_nodes.specs.declared.script.SendKind.TheVariants.{Suspend}
 use Rattle.script_nodes.specs.Arena.{Arena}
-use Rattle.machine_spec.specs.Machine.{Frame, Suspended, in_binding, in_operand, in_turn, in_seq, in_count, in_isolate, in_task}
-use Rattle.machine_spec.specs.VectorsTasks as tasks
+use Rattle.machine_states.specs.Machine.{Frame, Suspended, in_binding, in_operand, in_turn, in_seq, in_count, in_isolate, in_task}
+use Rattle.machine_states.specs.VectorsTasks as tasks
 use Rattle.value_bytes.specs.Reading.{read_within}
 use Rattle.frame_codec.specs.Spelling.{state_bytes, frame_bytes}
 use Rattle.frame_codec.specs.Walk.{frames_fit, shadows_fit}

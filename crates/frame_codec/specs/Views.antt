@@ -9,10 +9,10 @@ use Rattle.web_cells.specs.Views.{pair_of}
 use Rattle.web_cells.specs.declared.shades.Shadow.{Shadow}
 use Rattle.script_nodes.specs.Arena.{Arena}
 use Rattle.value_bytes.specs.Spelling.{list_bytes}
-use Rattle.machine_spec.specs.Machine as machine
-use Rattle.stored_states.specs.Views.{frame_of, suspended_of}
-use Rattle.stored_states.specs.declared.frame.Frame.{Frame}
-use Rattle.stored_states.specs.declared.frame.Suspended.{Suspended}
+use Rattle.machine_states.specs.Machine as machine
+use Rattle.machine_states.specs.Views.{frame_of, suspended_of}
+use Rattle.machine_states.specs.declared.frame.Frame.{Frame}
+use Rattle.machine_states.specs.declared.frame.Suspended.{Suspended}
 use Rattle.frame_codec.specs.Spelling.{frame_bytes, let_bytes, shadow_bytes}
 use Rattle.frame_codec.specs.Reading.{fitting, read_state}
 use Rattle.frame_codec.specs.Laws.{SpellsState}

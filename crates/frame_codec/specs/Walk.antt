@@ -5,8 +5,8 @@ use Rattle.script_value.specs.Pieces.{◌>>=◌}
 use Rattle.script_nodes.specs.declared.script.Node.{Node}
 use Rattle.script_nodes.specs.declared.script.Node.TheVariants as node
 use Rattle.script_nodes.specs.Arena.{Arena}
-use Rattle.machine_spec.specs.Machine.{Frame, in_binding, in_operand, in_body, in_seq, in_and, in_or, in_if, in_count, in_store, in_turn, in_isolate, in_call, in_task, node_at, first_of}
-use Rattle.machine_spec.specs.Fits.{node_of}
+use Rattle.machine_states.specs.Machine.{Frame, in_binding, in_operand, in_body, in_seq, in_and, in_or, in_if, in_count, in_store, in_turn, in_isolate, in_call, in_task, node_at, first_of}
+use Rattle.machine_states.specs.Fits.{node_of}
 
 -- the operands of a call
 abbrev pub operands_in : Node → List ℕ

@@ -3,8 +3,8 @@ ghost use Rattle.frame_codec.specs.DeltaViews.{delta_of};
 ghost use Rattle.frame_codec.specs.Fronts.{shared_need};
 
 use crate::need::Need;
+use machine_states::Frame;
 use script_value::Items;
-use stored_states::Frame;
 use web_cells::Own;
 
 /// What differs between a page's state and that of its parent.

@@ -5,16 +5,16 @@ ghost use Rattle.script_value.specs.declared.value.Value.TheVariants as value;
 ghost use Rattle.web_cells.specs.Views.{pair_of};
 ghost use Rattle.script_nodes.specs.Arena.{IsOnTasks};
 ghost use Rattle.script_nodes.specs.declared.script.Node.TheVariants as node;
-ghost use Rattle.machine_spec.specs.Machine.{node_at, bindings_in};
-ghost use Rattle.machine_spec.specs.Fits as fits;
-ghost use Rattle.stored_states.specs.Views.{frame_of};
+ghost use Rattle.machine_states.specs.Machine.{node_at, bindings_in};
+ghost use Rattle.machine_states.specs.Fits as fits;
+ghost use Rattle.machine_states.specs.Views.{frame_of};
 ghost use Rattle.frame_codec.specs.Reading.{bindings_of, operands_of};
 ghost use Rattle.frame_codec.specs.Walk as spec;
 ghost use Rattle.frame_codec.specs.Views.{place_of, IsAround, Enters, WalksTo, TellsFit};
 
+use machine_states::Frame;
 use script_nodes::{Node, Script};
 use script_value::Value;
-use stored_states::Frame;
 use web_cells::Shadow;
 
 // A node that has to be worked on, and how many variables are in scope there.

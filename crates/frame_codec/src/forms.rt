@@ -1,5 +1,5 @@
 ghost use Rattle.std.specs.Prelude.{◌≡◌, ◌∷◌, IfOk};
-ghost use Rattle.stored_states.specs.Views.{suspended_of};
+ghost use Rattle.machine_states.specs.Views.{suspended_of};
 ghost use Rattle.frame_codec.specs.Spelling.{StateHasBytes};
 ghost use Rattle.frame_codec.specs.Stored.{IsStored};
 ghost use Rattle.frame_codec.specs.Forms.{IsStoredBefore};
@@ -9,10 +9,10 @@ use crate::delta_bytes::{decode_delta, spell_delta};
 use crate::joined::{delta, join};
 use crate::state::decode;
 use crate::write::spell_state;
+use machine_states::Suspended;
 use script_nodes::Script;
 use script_value::Bytes;
 use std::alloc::{AllocError, Global};
-use stored_states::Suspended;
 
 /// The byte before a state that is written by itself.
 pub const ALONE: u8 = 0;

@@ -6,9 +6,9 @@ ghost use Rattle.frame_codec.specs.FrontViews.{IsFrontOf};
 use crate::difference::Delta;
 use crate::need::Need;
 use crate::shared::{add_frames, add_values, front, shared_frames, shared_values};
+use machine_states::{Frame, Suspended};
 use script_value::Items;
 use std::alloc::{AllocError, Global};
-use stored_states::{Frame, Suspended};
 use web_cells::{Own, Shades};
 
 // What differs between a state and its parent's.

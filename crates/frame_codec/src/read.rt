@@ -1,15 +1,15 @@
 ghost use Rattle.std.specs.Prelude.{◌≡◌, option_map};
 ghost use Rattle.web_cells.specs.Views.{pair_of};
 ghost use Rattle.value_bytes.specs.Views.{Reads, GrowsWithin};
-ghost use Rattle.stored_states.specs.Views.{frame_of};
+ghost use Rattle.machine_states.specs.Views.{frame_of};
 ghost use Rattle.frame_codec.specs.Reading as spec;
 ghost use Rattle.frame_codec.specs.Views.{frames_of, shadows_of, parts_of};
 
 use crate::fit::{bindings_of, operands_of};
+use machine_states::Frame;
 use script_nodes::Script;
 use script_value::{Items, TxName};
 use std::alloc::Global;
-use stored_states::Frame;
 use value_bytes::fields::{byte, count, number_32, number_64};
 use value_bytes::{Unread, value, values};
 use web_cells::Shadow;

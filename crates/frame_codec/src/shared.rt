@@ -1,11 +1,11 @@
 ghost use Rattle.std.specs.Prelude.{◌≡◌, ◌↔◌, ◌≤◌, ◌++◌, IsTrue, OnOk, map, drop, take, length};
 ghost use Rattle.script_value.specs.Views.{meaning};
-ghost use Rattle.stored_states.specs.Views.{frame_of};
+ghost use Rattle.machine_states.specs.Views.{frame_of};
 ghost use Rattle.frame_codec.specs.Deltas.{SharesFirst, StandsAt};
 
+use machine_states::Frame;
 use script_value::{Items, Value, equal};
 use std::alloc::{AllocError, Global};
-use stored_states::Frame;
 
 // Whether this value stands at this place.
 fn is_value_at(values: &[Value], place: usize, value: &Value) -> bool

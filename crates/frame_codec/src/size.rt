@@ -2,11 +2,11 @@ ghost use Rattle.std.specs.Prelude.{◌≡◌, ◌+◌, ◌^◌, min, map, lengt
 ghost use Rattle.std.specs.List.{flat_map};
 ghost use Rattle.web_cells.specs.Views.{pair_of};
 ghost use Rattle.value_bytes.specs.Spelling.{values_bytes};
-ghost use Rattle.stored_states.specs.Views.{frame_of, suspended_of};
+ghost use Rattle.machine_states.specs.Views.{frame_of, suspended_of};
 ghost use Rattle.frame_codec.specs.Spelling.{frame_bytes, shadow_bytes, state_bytes};
 
+use machine_states::{Frame, Suspended};
 use script_value::Items;
-use stored_states::{Frame, Suspended};
 use value_bytes::{value_length, values_length};
 use web_cells::Shadow;
 

@@ -2,10 +2,10 @@ ghost use Rattle.std.specs.Prelude.{◌↔◌, IsTrue, map};
 ghost use Rattle.std.specs.List.{AllByRecursion};
 ghost use Rattle.web_cells.specs.Views.{pair_of};
 ghost use Rattle.value_bytes.specs.Spelling.{FitsList};
-ghost use Rattle.stored_states.specs.Views.{frame_of, suspended_of};
+ghost use Rattle.machine_states.specs.Views.{frame_of, suspended_of};
 ghost use Rattle.frame_codec.specs.Spelling.{FrameHasBytes, ShadowHasBytes, StateHasBytes};
 
-use stored_states::{Frame, Suspended};
+use machine_states::{Frame, Suspended};
 use value_bytes::{has_bytes, have_bytes};
 use web_cells::Shadow;
 

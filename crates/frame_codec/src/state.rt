@@ -6,9 +6,9 @@ ghost use Rattle.frame_codec.specs.Views.{IsOfParts, ReadsState, FindsSpelled};
 
 use crate::fit::{frames_fit, shadows_fit};
 use crate::read::{Parts, read_parts};
+use machine_states::Suspended;
 use script_nodes::Script;
 use std::alloc::{AllocError, Global};
-use stored_states::Suspended;
 use value_bytes::Unread;
 use web_cells::{Shades, Shadow};
 use wire_bytes::Cursor;

@@ -8,8 +8,8 @@ use Rattle.replay_spec.specs.Book.{Page, at_number, page_at, parent_of}
 use Rattle.replay_spec.specs.Next.{Home, page_tape}
 use Rattle.replay_spec.specs.Invariant.{AreAncestors}
 use Rattle.replay_spec.proofs.Ancestors.{ancestors_one}
-use Rattle.machine_spec.specs.Machine.{Suspended}
-use Rattle.machine_spec.specs.Laws.{IsStateOf, EachPageHasOneState}
+use Rattle.machine_states.specs.Machine.{Suspended}
+use Rattle.machine_states.specs.Laws.{IsStateOf, EachPageHasOneState}
 use Rattle.frame_codec.specs.Stored.{IsStored}
 use Rattle.kept_states.specs.Kept.{Kept, IsAlone, IsBehind, IsKeptBy}
 use Rattle.kept_states.specs.Links.{next_links, links_at}

@@ -29,9 +29,9 @@ use Rattle.instance_book.specs.Views.{script_in, no_script, ticket_of, reply_of,
 use Rattle.instance_book.specs.Changes.{instances_after, put_into, decision_by, decision_of, ended_with, shown_with, HasRoomFor}
 use Rattle.instance_book.specs.Fits.{IsFor, FitsStart}
 use Rattle.instance_book.specs.Prepares.{rules_with, IsRecord, IsCarriedOut, Prepares, first_page, first_instance, next_page, opening_by, extension_by, ending_by, finish_by, OpensWith, ExtendsBy, EndsBy, IsOpening, IsExtension, IsEnding, IsFinish, ExtendsTo, ShowsNone, AnswerKeepsState}
-use Rattle.machine_spec.specs.Machine.{Suspended}
-use Rattle.stored_states.specs.Views.{segment_of, state_of}
-use Rattle.stored_states.specs.declared.segment.Segment as stored
+use Rattle.machine_states.specs.Machine.{Suspended}
+use Rattle.machine_states.specs.Views.{segment_of, state_of}
+use Rattle.machine_states.specs.declared.segment.Segment as stored
 
 -- two changes of the instance that is there which agree on it
 pub mend_agrees : (n : ℕ) (f g : Instance → Instance) (is : List Instance) (i : Instance) → instance_at n is ≡ Some i → f i ≡ g i → mend n f is ≡ mend n g is

@@ -20,14 +20,14 @@ use Rattle.replay_spec.proofs.Ancestors.{Grown, put_grown, ancestors_grown, line
 use Rattle.replay_spec.proofs.Numbered.{put_length}
 use Rattle.replay_spec.proofs.Stand.{among_of}
 use Rattle.replay_spec.proofs.Admitted.{page_stands, start_is_no_page, page_is_no_start}
-use Rattle.machine_spec.specs.Machine.{Suspended}
+use Rattle.machine_states.specs.Machine.{Suspended}
 use Rattle.kept_states.specs.Kept.{Kept, IsKeptFrom}
 use Rattle.kept_states.specs.Links.{next_links, links_at}
-use Rattle.machine_spec.specs.Laws.{IsStateOf}
-use Rattle.stored_states.specs.Views.{Keeps, origin_of, state_of, segment_of}
-use Rattle.stored_states.specs.declared.segment.Outcome.{Outcome}
-use Rattle.stored_states.specs.declared.segment.Outcome.TheVariants.{Shown, Finished, Ended, Faulted, Fuel}
-use Rattle.stored_states.specs.declared.segment.Segment.{Segment}
+use Rattle.machine_states.specs.Laws.{IsStateOf}
+use Rattle.machine_states.specs.Views.{Keeps, origin_of, state_of, segment_of}
+use Rattle.machine_states.specs.declared.segment.Outcome.{Outcome}
+use Rattle.machine_states.specs.declared.segment.Outcome.TheVariants.{Shown, Finished, Ended, Faulted, Fuel}
+use Rattle.machine_states.specs.declared.segment.Segment.{Segment}
 use Rattle.instance_book.specs.declared.numbered.Numbered.{Numbered}
 use Rattle.instance_book.specs.declared.page.KeptPage.{KeptPage}
 use Rattle.instance_book.specs.declared.instance.KeptInstance.{KeptInstance}

@@ -2,9 +2,9 @@
 use Rattle.std.proofs.Common.{◌≡◌, ◌∙◌, ap, sym, ◌<◌, ◌≤◌, List, length, take, reverse, map, arith}
 use Rattle.std.proofs.lemmas.List.{length-take, length-map, length-reverse, reverse-reverse, take_all}
 use Rattle.script_value.specs.Val.{Val}
-use Rattle.machine_spec.specs.Machine.{Frame, Suspended}
-use Rattle.stored_states.specs.declared.frame.Suspended as stored
-use Rattle.stored_states.specs.Views.{frame_of, suspended_of}
+use Rattle.machine_states.specs.Machine.{Frame, Suspended}
+use Rattle.machine_states.specs.declared.frame.Suspended as stored
+use Rattle.machine_states.specs.Views.{frame_of, suspended_of}
 use Rattle.frame_codec.specs.Fronts.{front}
 use Rattle.frame_codec.specs.declared.need.Need.{Need}
 

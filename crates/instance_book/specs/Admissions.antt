@@ -24,7 +24,7 @@ use Rattle.instance_book.specs.declared.admission.Place.{Place}
 use Rattle.instance_book.specs.declared.admission.Admission.{Admission}
 use Rattle.instance_book.specs.declared.admission.Admission.TheVariants.{Begins, Resumes, Refused}
 use Rattle.instance_book.specs.declared.ticket.Ticket.{Ticket}
-use Rattle.machine_spec.specs.Machine.{Suspended}
+use Rattle.machine_states.specs.Machine.{Suspended}
 use Rattle.instance_book.specs.Views.{page_of, pages_of, instance_of, instances_of, book_of, ticket_of}
 use Rattle.instance_book.specs.Places.{Source, own, given, source_in, kept_at, shown_in, HasState, HaveStates}
 use Rattle.instance_book.specs.Makes.{HasStatesFrom, HasItsStates}

@@ -8,7 +8,7 @@ use Rattle.replay_spec.specs.Book as spec
 use Rattle.replay_spec.specs.Change.{put_page, put_instance, mend, without}
 use Rattle.replay_spec.specs.Step as step
 use Rattle.replay_spec.specs.Step.{Decision, replies, records}
-use Rattle.stored_states.specs.Views.{suspended_of}
+use Rattle.machine_states.specs.Views.{suspended_of}
 use Rattle.frame_codec.specs.Spelling.{StateHasBytes}
 use Rattle.instance_book.specs.declared.numbered.Numbered.{Numbered}
 use Rattle.instance_book.specs.declared.in_order.InOrder.{InOrder}

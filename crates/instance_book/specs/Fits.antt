@@ -6,13 +6,13 @@ use Rattle.script_nodes.specs.Setup.{Named}
 use Rattle.replay_spec.specs.Book as spec
 use Rattle.replay_spec.specs.Admission.{Place, Admission, begins, resumes, refused}
 use Rattle.replay_spec.specs.Next.{Visit, url_for, home_of, page_tape, start_visit, page_visit}
-use Rattle.machine_spec.specs.Machine.{Suspended}
-use Rattle.machine_spec.specs.Fits.{Fits}
-use Rattle.machine_spec.specs.Laws.{IsStateOf}
-use Rattle.stored_states.specs.Views.{origin_of, suspended_of}
-use Rattle.stored_states.specs.declared.frame.Suspended as stored
+use Rattle.machine_states.specs.Machine.{Suspended}
+use Rattle.machine_states.specs.Fits.{Fits}
+use Rattle.machine_states.specs.Laws.{IsStateOf}
+use Rattle.machine_states.specs.Views.{origin_of, suspended_of}
+use Rattle.machine_states.specs.declared.frame.Suspended as stored
 use Rattle.frame_codec.specs.Stored.{IsStored}
-use Rattle.stored_states.specs.declared.segment.Origin.{Origin}
+use Rattle.machine_states.specs.declared.segment.Origin.{Origin}
 use Rattle.kept_states.specs.Links.{links_at, behind_at}
 use Rattle.instance_book.specs.declared.ticket.Ticket.{Ticket}
 use Rattle.instance_book.specs.Views.{ticket_of}

@@ -2,8 +2,8 @@
 use Rattle.std.specs.Prelude.{◌≡◌, ℕ, Result, IfOk}
 use Rattle.std.specs.declared.alloc.AllocError.{AllocError}
 use Rattle.script_nodes.specs.Setup.{Named}
-use Rattle.stored_states.specs.Views.{suspended_of}
-use Rattle.stored_states.specs.declared.frame.Suspended as stored
+use Rattle.machine_states.specs.Views.{suspended_of}
+use Rattle.machine_states.specs.declared.frame.Suspended as stored
 use Rattle.frame_codec.specs.Fronts.{front}
 use Rattle.frame_codec.specs.declared.need.Need.{Need}
 use Rattle.instance_book.specs.declared.numbered.Numbered.{Numbered}

@@ -8,9 +8,9 @@ use Rattle.replay_spec.specs.Book.{Book}
 use Rattle.replay_spec.specs.Admission.{Admission, begins, resumes, refused, refusal_of, admit}
 use Rattle.replay_spec.specs.Next.{Visit, tape_for, start_visit, page_visit}
 use Rattle.replay_spec.specs.Invariant.{IsOrderly}
-use Rattle.machine_spec.specs.Laws.{IsStateOf}
-use Rattle.stored_states.specs.Views.{Keeps}
-use Rattle.stored_states.specs.declared.segment.Segment.{Segment}
+use Rattle.machine_states.specs.Laws.{IsStateOf}
+use Rattle.machine_states.specs.Views.{Keeps}
+use Rattle.machine_states.specs.declared.segment.Segment.{Segment}
 use Rattle.instance_book.specs.declared.prepared.Change.{Change}
 use Rattle.instance_book.specs.declared.ticket.Ticket.{Ticket}
 use Rattle.instance_book.specs.Views.{ticket_of}

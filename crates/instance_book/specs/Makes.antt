@@ -10,7 +10,7 @@ use Rattle.instance_book.specs.declared.page.KeptPage.{KeptPage}
 use Rattle.instance_book.specs.declared.instance.KeptInstance.{KeptInstance}
 use Rattle.instance_book.specs.declared.book.Book.{Book}
 use Rattle.instance_book.specs.Views.{instance_of, instances_of, book_of}
-use Rattle.machine_spec.specs.Machine.{Suspended}
+use Rattle.machine_states.specs.Machine.{Suspended}
 use Rattle.instance_book.specs.Places.{Source, own, given, seen_from, IsKept, AreKept, IsPlaced, ArePlaced, IsNextAt}
 
 -- whatever the setup, f made the new instances of the old ones

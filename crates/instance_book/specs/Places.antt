@@ -9,11 +9,11 @@ use Rattle.replay_spec.specs.Book as spec
 use Rattle.replay_spec.specs.Change.{put_page, put_in_order}
 use Rattle.replay_spec.specs.Next.{Home, home, page_tape}
 use Rattle.replay_spec.specs.Invariant.{Lineage}
-use Rattle.machine_spec.specs.Machine.{Suspended}
-use Rattle.machine_spec.specs.Laws.{IsStateOf}
-use Rattle.stored_states.specs.Views.{origin_of, suspended_of}
-use Rattle.stored_states.specs.declared.frame.Suspended as stored
-use Rattle.stored_states.specs.declared.segment.Origin.{Origin}
+use Rattle.machine_states.specs.Machine.{Suspended}
+use Rattle.machine_states.specs.Laws.{IsStateOf}
+use Rattle.machine_states.specs.Views.{origin_of, suspended_of}
+use Rattle.machine_states.specs.declared.frame.Suspended as stored
+use Rattle.machine_states.specs.declared.segment.Origin.{Origin}
 use Rattle.frame_codec.specs.Spelling.{StateHasBytes}
 use Rattle.frame_codec.specs.Stored.{IsStored}
 use Rattle.kept_states.specs.Kept.{Kept, IsKeptFrom, kept_of}

@@ -19,9 +19,9 @@ use Rattle.replay_spec.specs.Admission.{Place, Admission, begins, resumes, refus
 use Rattle.replay_spec.specs.Next.{start_visit, page_visit}
 use Rattle.replay_spec.specs.Step as step
 use Rattle.replay_spec.specs.Step.{Decision, replies, records, settles, carried_out, refusal, shown, ended, finished}
-use Rattle.machine_spec.specs.Machine.{Suspended}
-use Rattle.stored_states.specs.Views.{origin_of, suspended_of, segment_of, state_of}
-use Rattle.stored_states.specs.declared.segment.Segment as stored
+use Rattle.machine_states.specs.Machine.{Suspended}
+use Rattle.machine_states.specs.Views.{origin_of, suspended_of, segment_of, state_of}
+use Rattle.machine_states.specs.declared.segment.Segment as stored
 use Rattle.instance_book.specs.declared.numbered.Numbered.{Numbered}
 use Rattle.instance_book.specs.declared.page.KeptPage.{KeptPage}
 use Rattle.instance_book.specs.declared.prepared.Opening.{Opening}

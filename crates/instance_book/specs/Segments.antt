@@ -5,7 +5,7 @@ use Rattle.script_nodes.specs.Setup.{Named}
 use Rattle.script_nodes.specs.declared.script.SendKind.{SendKind}
 use Rattle.instance_cells.specs.declared.effect.Effect.{Effect}
 use Rattle.instance_cells.specs.Views.{effect_of}
-use Rattle.stored_states.specs.Views.{suspended_of}
+use Rattle.machine_states.specs.Views.{suspended_of}
 use Rattle.replay_spec.specs.Book as spec
 use Rattle.replay_spec.specs.Change.{revoked_by, done, shown_by}
 use Rattle.instance_book.specs.declared.numbered.Numbered.{Numbered}

@@ -24,9 +24,9 @@ use Rattle.replay_spec.specs.Next as next
 use Rattle.replay_spec.specs.Next.{tape_for, start_visit, page_visit}
 use Rattle.replay_spec.specs.Recovery.{page_of_numbers, ended_so, remade, redone}
 use Rattle.replay_spec.specs.Invariant.{Lineage}
-use Rattle.machine_spec.specs.Machine.{Suspended}
-use Rattle.machine_spec.specs.Laws.{IsStateOf}
-use Rattle.stored_states.specs.Views.{suspended_of}
+use Rattle.machine_states.specs.Machine.{Suspended}
+use Rattle.machine_states.specs.Laws.{IsStateOf}
+use Rattle.machine_states.specs.Views.{suspended_of}
 use Rattle.frame_codec.specs.Spelling.{StateHasBytes}
 use Rattle.instance_book.specs.declared.numbered.Numbered.{Numbered}
 use Rattle.instance_book.specs.declared.instance.KeptInstance.{KeptInstance}

@@ -16,11 +16,11 @@ use crate::origins::origin_at;
 use crate::ticket::Ticket;
 use instance_cells::Cells;
 use kept_states::next_links;
+use machine_states::Origin;
 use page_names::Target;
 use script_nodes::{NamedScript, Setup};
 use script_value::{Refusal, Value};
 use std::alloc::{AllocError, Global};
-use stored_states::Origin;
 
 impl Book {
     /// The book of a shelf with nothing in it; it takes no memory.

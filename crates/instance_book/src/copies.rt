@@ -2,7 +2,7 @@ ghost use Rattle.std.specs.Prelude.{◌≡◌, IfOk, map};
 ghost use Rattle.instance_cells.specs.Views.{effect_of};
 ghost use Rattle.instance_book.specs.Lists.{HasRoom};
 ghost use Rattle.instance_book.specs.Views.{page_of};
-ghost use Rattle.stored_states.specs.Views.{suspended_of};
+ghost use Rattle.machine_states.specs.Views.{suspended_of};
 ghost use Rattle.instance_book.specs.Places.{kept_at, StayPlaced, StayKept};
 ghost use Rattle.instance_book.specs.Makes.{AllBecome, StaysSame, KeepsPlaces, KeepsStates};
 ghost use Rattle.instance_book.specs.Changes.{opening_of, ending_of, finish_of};

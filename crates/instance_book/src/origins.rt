@@ -1,6 +1,6 @@
 ghost use Rattle.std.specs.Prelude.{IfOk};
 ghost use Rattle.script_nodes.specs.Views.{named_of};
-ghost use Rattle.stored_states.specs.Views.{suspended_of};
+ghost use Rattle.machine_states.specs.Views.{suspended_of};
 ghost use Rattle.frame_codec.specs.Stored.{IsStored};
 ghost use Rattle.instance_book.specs.Places.{IsStateIn, IsOriginIn};
 ghost use Rattle.instance_book.specs.Fits.{IsOriginOf, IsStoredOrigin};
@@ -11,10 +11,9 @@ use crate::numbered::Numbered;
 use crate::page::KeptPage;
 use frame_codec::{Need, is_stored, join};
 use kept_states::Found;
-use machine_spec::each_page_has_one_state;
+use machine_states::{Origin, Suspended, each_page_has_one_state};
 use script_nodes::NamedScript;
 use std::alloc::{AllocError, Global};
-use stored_states::{Origin, Suspended};
 
 // A front of the state of a page that is so many links from one whose state is kept by itself. Of the page before it reads what
 // this front shares, and no more. It recurses as deep, at most 32.

@@ -1,7 +1,7 @@
 ghost use Rattle.std.specs.Prelude.{◌≡◌, ◌<◌, ◌≤◌, ◌+◌, ◌^◌, ◌++◌, [], None, Ok, IfOk, IfErr, OnOk, map, length, Contains};
 ghost use Rattle.instance_cells.specs.Cells.{AreOn, reads_of};
 ghost use Rattle.instance_cells.specs.Views.{effect_of};
-ghost use Rattle.stored_states.specs.Views.{segment_of};
+ghost use Rattle.machine_states.specs.Views.{segment_of};
 ghost use Rattle.instance_book.specs.Lists.{HasRoom};
 ghost use Rattle.instance_book.specs.Views.{pages_of, HasRoomAt, reply_of};
 ghost use Rattle.instance_book.specs.Places.{shown_in};
@@ -23,11 +23,11 @@ use crate::ticket::Ticket;
 use expiry::{LONGEST_LIFE, deadline};
 use instance_cells::Effect;
 use kept_states::KeptState;
+use machine_states::{Outcome, Segment};
 use page_names::{PageName, Target};
 use script_nodes::SendKind;
 use script_value::{Bytes, Items, Refusal, Reply, TxName, Value};
 use std::alloc::{AllocError, Global};
-use stored_states::{Outcome, Segment};
 use stored_values::{StoredValue, StoredValues};
 use transactions::Closed;
 

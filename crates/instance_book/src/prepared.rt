@@ -3,9 +3,9 @@ use crate::instance::KeptInstance;
 use crate::numbered::Numbered;
 use crate::page::KeptPage;
 use instance_cells::Effect;
+use machine_states::Suspended;
 use script_nodes::SendKind;
 use script_value::{Reply, TxName, Value};
-use stored_states::Suspended;
 
 /// A start showed a page.
 #[derive(Drop)]

@@ -18,9 +18,9 @@ use crate::shown::ShownPage;
 use crate::ticket::Ticket;
 use instance_cells::Effect;
 use kept_states::KeptState;
+use machine_states::Origin;
 use script_value::{Items, TxName, Value};
 use std::alloc::{AllocError, Global};
-use stored_states::Origin;
 use stored_values::StoredValue;
 
 // What a page has that answers none: the empty list.

@@ -1,7 +1,7 @@
 use instance_cells::Effect;
+use machine_states::Suspended;
 use script_nodes::SendKind;
 use script_value::TxName;
-use stored_states::Suspended;
 
 /// A page that a segment showed, or that a record tells of, with what its segment did.
 #[derive(Drop)]

@@ -2,10 +2,10 @@ ghost use Rattle.std.specs.Prelude.{IfOk};
 ghost use Rattle.instance_book.specs.Fits.{IsCopy, IsWrittenBehind};
 
 use instance_cells::Cells;
+use machine_states::{Origin, Suspended};
 use page_names::Target;
 use script_value::{Str, Value};
 use std::alloc::{AllocError, Global};
-use stored_states::{Origin, Suspended};
 
 /// The right to publish one segment under a number and a nonce, with all that the run of the segment needs.
 #[derive(Drop)]

@@ -2,10 +2,10 @@
 use Rattle.std.specs.Prelude.{◌≡◌, Option, Some, None, option_map}
 use Rattle.web_cells.specs.Shadows.{Rise}
 use Rattle.script_nodes.specs.Arena.{Arena}
-use Rattle.machine_spec.specs.Machine.{Suspended}
-use Rattle.machine_spec.specs.Fits.{Fits}
-use Rattle.stored_states.specs.Views.{suspended_of}
-use Rattle.stored_states.specs.declared.frame.Suspended as stored
+use Rattle.machine_states.specs.Machine.{Suspended}
+use Rattle.machine_states.specs.Fits.{Fits}
+use Rattle.machine_states.specs.Views.{suspended_of}
+use Rattle.machine_states.specs.declared.frame.Suspended as stored
 use Rattle.frame_codec.specs.Stored.{ShadowsFit}
 use Rattle.frame_codec.specs.Deltas.{joined}
 use Rattle.frame_codec.specs.DeltaViews.{delta_of}

@@ -1,5 +1,5 @@
 ghost use Rattle.std.specs.Prelude.{◌≡◌, ◌↔◌, IsTrue, IfOk, option_map};
-ghost use Rattle.stored_states.specs.Views.{suspended_of};
+ghost use Rattle.machine_states.specs.Views.{suspended_of};
 ghost use Rattle.kept_states.specs.Kept.{bytes_of, CanDiffer, IsFormAlone, IsFormBehind, form_of};
 ghost use Rattle.kept_states.specs.Given.{GivesAlone, GivesBehind};
 
@@ -8,9 +8,9 @@ use frame_codec::{
     Delta, Need, Parted, copied_front, delta, each_delta_has_bytes, is_spelled, read_delta_front,
     read_front, spell_delta, spell_state,
 };
+use machine_states::Suspended;
 use script_nodes::Script;
 use std::alloc::{AllocError, Global};
-use stored_states::Suspended;
 
 /// A state, or what differs from another one.
 #[derive(Drop)]

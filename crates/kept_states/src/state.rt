@@ -1,13 +1,13 @@
 ghost use Rattle.std.specs.Prelude.{◌≡◌, IfOk, option_map};
-ghost use Rattle.stored_states.specs.Views.{suspended_of};
+ghost use Rattle.machine_states.specs.Views.{suspended_of};
 ghost use Rattle.kept_states.specs.Kept.{bytes_of, IsKeptAfter, kept_of};
 ghost use Rattle.kept_states.specs.Given.{GivesAlone, GivesBehind};
 
 use crate::form::{Form, Found};
 use frame_codec::Need;
+use machine_states::{Origin, Suspended};
 use script_nodes::Script;
 use std::alloc::{AllocError, Global};
-use stored_states::{Origin, Suspended};
 
 /// What is kept of the state of a page: its bytes by itself, or what differs from the state of the page before.
 ///

@@ -6,9 +6,9 @@ use Rattle.web_outside.specs.declared.nonces.Counting.{Counting}
 use Rattle.web_disk.specs.View.{View, AreAmong}
 use Rattle.script_nodes.specs.Setup.{Named}
 use Rattle.replay_spec.specs.Book.{Book}
-use Rattle.journal_books.specs.Making.{Making, damaged, other, book_in_bytes}
-use Rattle.journal_books.specs.Standing.{IsBook, Stands, if_kept}
-use Rattle.journal_books.specs.Laws.{ImagesMakeBooks}
+use Rattle.journal_spec.specs.Making.{Making, damaged, other, book_in_bytes}
+use Rattle.journal_spec.specs.Standing.{IsBook, Stands, if_kept}
+use Rattle.journal_spec.specs.Laws.{ImagesMakeBooks}
 use Rattle.shelf.specs.Views.{book_in, rules_of}
 use Rattle.shelf.specs.Opening.{AReopenedShelfHasCrashed}
 use Rattle.shelf.specs.Owning.{StandsMeasured, IsOwnImage}

@@ -13,10 +13,10 @@ use Rattle.replay_spec.specs.Runs.{empty_shelf}
 use Rattle.replay_spec.specs.Step.{lost, kept}
 use Rattle.page_journal.specs.Records.{Intact, records, at_rest, stored}
 use Rattle.journal_records.specs.Records.{IsInGrammar, begin_of}
-use Rattle.journal_books.specs.Keeping.{first_body}
-use Rattle.journal_books.specs.Making.{damaged, other, book_in_bytes}
-use Rattle.journal_books.specs.Standing.{Between, HoldIn, IsOneOf, if_kept}
-use Rattle.journal_books.specs.Laws.{MeasuresDoubt}
+use Rattle.journal_spec.specs.Keeping.{first_body}
+use Rattle.journal_spec.specs.Making.{damaged, other, book_in_bytes}
+use Rattle.journal_spec.specs.Standing.{Between, HoldIn, IsOneOf, if_kept}
+use Rattle.journal_spec.specs.Laws.{MeasuresDoubt}
 use Rattle.shelf.specs.Views.{book_in, rules_of, IsOwnShelf}
 use Rattle.shelf.specs.Opening.{IsCrashed, KeepsRecords}
 use Rattle.shelf.specs.Owning.{OwnRecords, HoldOwn}

@@ -8,7 +8,7 @@ ghost use Rattle.play_desk.specs.Staff.{IsServed};
 ghost use Rattle.shelf.specs.Owning.{IsOwnImage};
 ghost use Rattle.shelf.specs.Views.{IsOwnShelf};
 
-use journal_books::images_make_books;
+use journal_spec::images_make_books;
 use play_steps::Reopen;
 use script_nodes::Setup;
 use shelf::{BeginFault, Rules, Shelf, a_reopened_shelf_has_crashed};

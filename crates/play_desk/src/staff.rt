@@ -13,6 +13,7 @@ ghost use Rattle.play_desk.specs.Staff.{HoldsTicket, IsFit, KeepsOwn, PublishesT
 use crate::answer::answer_to;
 use http_forms::path_and_query;
 use instance_book::Ticket;
+use machine_states::Segment;
 use page_names::{Target, parse_target};
 use replay_spec::refused_is_unchanged;
 use script_nodes::Setup;
@@ -20,7 +21,6 @@ use script_value::{Refusal, Reply};
 use shelf::{Shelf, run_ticket, tickets_go_on_to_fit};
 use std::alloc::Global;
 use std::mem;
-use stored_states::Segment;
 use web_disk::Disk;
 use web_outside::Counting;
 

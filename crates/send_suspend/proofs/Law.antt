@@ -11,23 +11,23 @@ use Rattle.replay_spec.specs.Tape as spec
 use Rattle.replay_spec.specs.Eval as eval
 use Rattle.replay_spec.specs.Eval.{segment_at}
 use Rattle.replay_spec.specs.Laws.{Waits, reading, longer}
-use Rattle.machine_spec.specs.Machine.{Machine, Suspended, Step, goes, stopped, step, then, steps, inside_of}
-use Rattle.machine_spec.specs.Fits.{FitsAt, Fits}
-use Rattle.machine_spec.specs.Dues.{InSegment, owed}
-use Rattle.machine_spec.specs.Laws.{started, resumed, alone, Stops, ComesTo, IsStateOf}
-use Rattle.machine_spec.proofs.Law.{resume_is, start_is}
-use Rattle.machine_spec.proofs.Replay.{first_stop, same_machine}
-use Rattle.machine_spec.proofs.Bound.{halts}
-use Rattle.machine_spec.proofs.Stepping.{fits_on, fits_kept}
+use Rattle.machine_states.specs.Machine.{Machine, Suspended, Step, goes, stopped, step, then, steps, inside_of}
+use Rattle.machine_states.specs.Fits.{FitsAt, Fits}
+use Rattle.machine_states.specs.Dues.{InSegment, owed}
+use Rattle.machine_states.specs.Laws.{started, resumed, alone, Stops, ComesTo, IsStateOf}
+use Rattle.machine_states.proofs.Law.{resume_is, start_is}
+use Rattle.machine_states.proofs.Replay.{first_stop, same_machine}
+use Rattle.machine_states.proofs.Bound.{halts}
+use Rattle.machine_states.proofs.Stepping.{fits_on, fits_kept}
 use Rattle.segments.specs.declared.ends.PlainEnd.{PlainEnd}
 use Rattle.segments.specs.Views as plain
-use Rattle.stored_states.specs.declared.frame.Suspended as kept
-use Rattle.stored_states.specs.Views.{suspended_of, frame_of, outcome_of, Keeps, segment_of}
-use Rattle.stored_states.specs.declared.segment.Origin.{Origin}
-use Rattle.stored_states.specs.declared.segment.Origin.TheVariants.{Start, Page}
-use Rattle.stored_states.specs.declared.segment.Outcome.{Outcome}
-use Rattle.stored_states.specs.declared.segment.Outcome.TheVariants.{Shown, Finished, Ended, Faulted, Fuel}
-use Rattle.stored_states.specs.declared.segment.Segment.{Segment}
+use Rattle.machine_states.specs.declared.frame.Suspended as kept
+use Rattle.machine_states.specs.Views.{suspended_of, frame_of, outcome_of, Keeps, segment_of}
+use Rattle.machine_states.specs.declared.segment.Origin.{Origin}
+use Rattle.machine_states.specs.declared.segment.Origin.TheVariants.{Start, Page}
+use Rattle.machine_states.specs.declared.segment.Outcome.{Outcome}
+use Rattle.machine_states.specs.declared.segment.Outcome.TheVariants.{Shown, Finished, Ended, Faulted, Fuel}
+use Rattle.machine_states.specs.declared.segment.Segment.{Segment}
 use Rattle.send_suspend.specs.Segments.{Ends, newest, frames_in, begun, IsLastOver, Replays}
 
 -- the segment of a machine over present cells is within its fuel

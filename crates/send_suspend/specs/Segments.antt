@@ -9,16 +9,16 @@ use Rattle.segments.specs.Views as plain
 use Rattle.replay_spec.specs.Tape.{Answer, Reads, recorded, present, State, Tape}
 use Rattle.replay_spec.specs.Eval as eval
 use Rattle.replay_spec.specs.Laws.{reading, longer}
-use Rattle.machine_spec.specs.Machine as machine
-use Rattle.machine_spec.specs.Machine.{inside_of}
-use Rattle.machine_spec.specs.Fits.{Fits}
-use Rattle.machine_spec.specs.Laws.{started, resumed, alone, IsStateOf}
-use Rattle.stored_states.specs.declared.frame.Suspended.{Suspended}
-use Rattle.stored_states.specs.Views.{suspended_of, outcome_of, Keeps, segment_of}
-use Rattle.stored_states.specs.declared.segment.Origin.{Origin}
-use Rattle.stored_states.specs.declared.segment.Origin.TheVariants.{Start, Page}
-use Rattle.stored_states.specs.declared.segment.Outcome.{Outcome}
-use Rattle.stored_states.specs.declared.segment.Segment.{Segment}
+use Rattle.machine_states.specs.Machine as machine
+use Rattle.machine_states.specs.Machine.{inside_of}
+use Rattle.machine_states.specs.Fits.{Fits}
+use Rattle.machine_states.specs.Laws.{started, resumed, alone, IsStateOf}
+use Rattle.machine_states.specs.declared.frame.Suspended.{Suspended}
+use Rattle.machine_states.specs.Views.{suspended_of, outcome_of, Keeps, segment_of}
+use Rattle.machine_states.specs.declared.segment.Origin.{Origin}
+use Rattle.machine_states.specs.declared.segment.Origin.TheVariants.{Start, Page}
+use Rattle.machine_states.specs.declared.segment.Outcome.{Outcome}
+use Rattle.machine_states.specs.declared.segment.Segment.{Segment}
 
 -- the stop of a machine, with this state where it waits for an answer
 abbrev pub Ends : Outcome → PlainEnd → Suspended → Type 0

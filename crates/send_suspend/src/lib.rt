@@ -4,5 +4,5 @@
 mod run;
 
 pub use cek_machine::Steps;
+pub use machine_states::{Frame, Origin, Outcome, Segment, Suspended};
 pub use run::run_segment;
-pub use stored_states::{Frame, Origin, Outcome, Segment, Suspended};

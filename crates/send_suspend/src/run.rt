@@ -1,19 +1,19 @@
 ghost use Rattle.std.specs.Prelude.{◌≡◌, ◌<◌, ◌≤◌, ◌+◌, ◌*◌, ◌^◌, IfOk};
 ghost use Rattle.script_value.specs.Views.{meaning};
 ghost use Rattle.segments.specs.Views.{source_of, now_of};
-ghost use Rattle.machine_spec.specs.Fits.{Fits};
+ghost use Rattle.machine_states.specs.Fits.{Fits};
 ghost use Rattle.cek_machine.specs.Machines.{IsReady, machine_of};
-ghost use Rattle.stored_states.specs.Views.{Keeps};
+ghost use Rattle.machine_states.specs.Views.{Keeps};
 ghost use Rattle.send_suspend.specs.Segments.{newest, FitsFrom, frames_in, begun, Ends, Replays};
 
 use cek_machine::{Machine, Steps};
 use instance_cells::Cells;
+use machine_states::{Origin, Outcome, Segment, Suspended};
 use script_nodes::Script;
 use script_value::{Str, Value};
 use segments::{Now, PlainEnd, Reads};
 use std::alloc::{AllocError, Global};
 use std::sync::ledger::Ledger;
-use stored_states::{Origin, Outcome, Segment, Suspended};
 
 // How a segment stopped, with what is kept where it waits for an answer.
 fn outcome_with(end: PlainEnd, state: Suspended) -> Outcome

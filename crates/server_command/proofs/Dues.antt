@@ -19,8 +19,8 @@ use Rattle.server_command.specs.declared.program.Status.{Status}
 use Rattle.server_command.specs.declared.program.Status.TheVariants as status
 use Rattle.server_command.specs.Racks.{Racks, AreTaken, Unfit, first_unfit, unfit_new, unfit_left}
 use Rattle.server_command.specs.Output.{Chances, output_of, counted, ending_of, ended, finished, served, written, run_of, unless_shut, loaded, run_loaded, BeforeOpening, at_first, at_crash}
-use Rattle.load_run.specs.Drawing.{most_steps}
-use Rattle.load_run.specs.Counting.{line_for}
+use Rattle.measured_run.specs.Drawing.{most_steps}
+use Rattle.measured_run.specs.Counting.{line_for}
 use Rattle.server_command.proofs.Loads.{loads_events}
 use Rattle.server_command.specs.Command.{Met, ReadToEnd, Gives, HasDone, HasServed, Leaves, Settles, TakesDisks, Comes, ComesLoading, ComesServing, ComesTo, EndsAsLoad, ReadsInput, Refuses, Explains, Explained, IsDue, EndsAs, Ends, EndsWell, IsLawful, AreFit, JournalsOpen, GoesWell, asked_in, code_of, due, due_to, reached_by, with_setup}
 use Rattle.server_command.specs.Serving.{Serves, HaveRisen, LeavesInput, Opens, RackFailed, Shuts}

@@ -7,7 +7,7 @@ use Rattle.web_outside.specs.Causes.{Rose}
 use Rattle.web_outside.specs.Pieces.{AppendsUnlessFault}
 use Rattle.web_outside.proofs.Writes.{appends_kept, appends_none}
 use Rattle.replay_spec.specs.Step.{Fate}
-use Rattle.fnv_hash.specs.Fnv.{fnv1a}
+use Rattle.measured_run.specs.Fnv.{fnv1a}
 use Rattle.play_steps.specs.Played.{Spot, spot}
 use Rattle.play_steps.specs.Texts.{print}
 use Rattle.play_steps.specs.Transcript.{Run, went}
@@ -22,13 +22,13 @@ use Rattle.play_desk.specs.Laws.{TranscriptsAreRuns}
 use Rattle.play_desk.specs.Opening.{AllStayKept, HoldTheBooks, IsClosedBy}
 use Rattle.play_desk.specs.declared.opening.OpenCause.{OpenCause}
 use Rattle.play_desk.specs.declared.opening.OpenCause.TheVariants as first
-use Rattle.load_steps.specs.Generator.{source_of}
-use Rattle.load_steps.specs.Tallies.{summary_text}
-use Rattle.load_run.specs.declared.measuring.Measure.{Measure}
-use Rattle.load_run.specs.Drawing.{most_steps, run_drawn, steps_drawn}
-use Rattle.load_run.specs.Counting.{line_for, measure_of}
-use Rattle.load_run.specs.Course.{Loads, LosesShelf, Measures}
-use Rattle.load_setup.specs.Scripts.{load_scripts}
+use Rattle.measured_run.specs.Generator.{source_of}
+use Rattle.measured_run.specs.Tallies.{summary_text}
+use Rattle.measured_run.specs.declared.measuring.Measure.{Measure}
+use Rattle.measured_run.specs.Drawing.{most_steps, run_drawn, steps_drawn}
+use Rattle.measured_run.specs.Counting.{line_for, measure_of}
+use Rattle.measured_run.specs.Course.{Loads, LosesShelf, Measures}
+use Rattle.measured_run.specs.Setups.{load_scripts}
 use Rattle.command_words.specs.declared.LoadOptions.{LoadOptions}
 use Rattle.server_command.specs.declared.program.Status.{Status}
 use Rattle.server_command.specs.declared.program.Status.TheVariants as status

@@ -2,8 +2,8 @@
 use Rattle.std.proofs.Common.{◌≡◌, ◌+◌, ◌++◌, ◌∷◌, ◌∙◌, ℕ, List, [], length, Option, Some, None, refl, sym, ap, subst, arith}
 use Rattle.script_nodes.specs.Setup.{Named}
 use Rattle.replay_spec.specs.Book.{Book}
-use Rattle.journal_books.specs.Making.{Making, nothing, made, damaged, other, begun}
-use Rattle.journal_books.specs.Standing.{IsBook}
+use Rattle.journal_spec.specs.Making.{Making, nothing, made, damaged, other, begun}
+use Rattle.journal_spec.specs.Standing.{IsBook}
 use Rattle.server_command.specs.Racks.{AreHeld, Unfit, found_unfit, first_unfit, unfit_making}
 use Rattle.server_command.specs.Command.{AreFit}
 

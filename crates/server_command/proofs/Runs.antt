@@ -2,7 +2,7 @@
 use Rattle.web_outside.specs.Causes.{Rose}
 use Rattle.std.proofs.Common.{◌≡◌, ◌<◌, ◌≤◌, ◌⊎◌, ◌∙◌, inl, inr, ℕ, List, [], length, Option, Some, ap, subst}
 use Rattle.command_words.specs.declared.Options.{Options}
-use Rattle.journal_books.specs.Lengths.{journal_rules}
+use Rattle.journal_spec.specs.Lengths.{journal_rules}
 use Rattle.script_nodes.specs.Setup.{Named}
 use Rattle.shelf.specs.declared.rules.Rules.{Rules}
 use Rattle.play_steps.specs.Step.{Step}

@@ -11,7 +11,7 @@ use Rattle.command_words.specs.declared.Service.{Service}
 use Rattle.request_workers.specs.declared.tally.Tally.{Tally}
 use Rattle.request_workers.specs.declared.tally.WorkEnd.{WorkEnd}
 use Rattle.request_workers.specs.declared.tally.WorkEnd.TheVariants as ends
-use Rattle.worker_threads.specs.Totals.{total}
+use Rattle.site_serving.specs.Totals.{total}
 use Rattle.setup_reader.specs.declared.setup.Ending.TheVariants.{Input}
 use Rattle.setup_reader.specs.Setup.{Fault, Parsed, setup_of}
 use Rattle.setup_reader.specs.Faults.{fault_line}

@@ -10,8 +10,8 @@ use Rattle.script_nodes.specs.Views.{scripts_of}
 use Rattle.script_nodes.specs.declared.setup.Setup.{Setup}
 use Rattle.replay_spec.specs.Book.{Book}
 use Rattle.replay_spec.specs.Rules as spec
-use Rattle.journal_books.specs.Making.{book_in_bytes}
-use Rattle.journal_books.specs.Standing.{Stands}
+use Rattle.journal_spec.specs.Making.{book_in_bytes}
+use Rattle.journal_spec.specs.Standing.{Stands}
 use Rattle.lock_row.proofs.Places.{get_there, map_get}
 use Rattle.shelf.specs.declared.begin.BeginFault.{BeginFault}
 use Rattle.shelf.specs.declared.begin.BeginFault.TheVariants as fault

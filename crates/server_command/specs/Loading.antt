@@ -7,12 +7,12 @@ use Rattle.play_steps.specs.Transcript.{done}
 use Rattle.play_desk.specs.Desk.{Desk, desk_rules}
 use Rattle.play_desk.specs.Laws.{IsRunOfEvents}
 use Rattle.play_desk.specs.Opening.{HoldTheBooks}
-use Rattle.load_steps.specs.Generator.{source_of}
-use Rattle.load_steps.specs.Tallies.{summary_text}
-use Rattle.load_run.specs.declared.measuring.Measure.{Measure}
-use Rattle.load_run.specs.Drawing.{most_steps, run_drawn, steps_drawn}
-use Rattle.load_run.specs.Course.{LosesShelf}
-use Rattle.load_setup.specs.Scripts.{load_scripts}
+use Rattle.measured_run.specs.Generator.{source_of}
+use Rattle.measured_run.specs.Tallies.{summary_text}
+use Rattle.measured_run.specs.declared.measuring.Measure.{Measure}
+use Rattle.measured_run.specs.Drawing.{most_steps, run_drawn, steps_drawn}
+use Rattle.measured_run.specs.Course.{LosesShelf}
+use Rattle.measured_run.specs.Setups.{load_scripts}
 use Rattle.command_words.specs.declared.LoadOptions.{LoadOptions}
 use Rattle.server_command.specs.declared.program.Status.{Status}
 use Rattle.server_command.specs.declared.program.Status.TheVariants as status

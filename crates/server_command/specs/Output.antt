@@ -18,11 +18,11 @@ use Rattle.command_words.specs.declared.Command.{Command}
 use Rattle.command_words.specs.declared.Command.TheVariants.{Check, Play, Serve, Load}
 use Rattle.command_words.specs.declared.Options.{Options}
 use Rattle.command_words.specs.declared.LoadOptions.{LoadOptions}
-use Rattle.load_steps.specs.Generator.{source_of}
-use Rattle.load_run.specs.Drawing.{most_steps, run_drawn}
-use Rattle.load_run.specs.Counting.{line_for}
-use Rattle.load_setup.specs.Scripts.{load_scripts}
-use Rattle.journal_books.specs.Lengths.{journal_rules}
+use Rattle.measured_run.specs.Generator.{source_of}
+use Rattle.measured_run.specs.Drawing.{most_steps, run_drawn}
+use Rattle.measured_run.specs.Counting.{line_for}
+use Rattle.measured_run.specs.Setups.{load_scripts}
+use Rattle.journal_spec.specs.Lengths.{journal_rules}
 use Rattle.play_desk.specs.Desk.{Desk, first_desk, desk_rules}
 use Rattle.server_command.specs.declared.program.Status.{Status}
 use Rattle.server_command.specs.declared.program.Status.TheVariants as status

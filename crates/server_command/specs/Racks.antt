@@ -4,9 +4,9 @@ use Rattle.std.specs.Fmt.{decimal}
 use Rattle.web_disk.specs.View.{RackView, AreAmong}
 use Rattle.script_nodes.specs.Setup.{Named}
 use Rattle.replay_spec.specs.Book.{Book}
-use Rattle.journal_books.specs.Making as making
-use Rattle.journal_books.specs.Making.{Making, book_in_bytes}
-use Rattle.journal_books.specs.Standing.{Between, HoldIn, if_kept}
+use Rattle.journal_spec.specs.Making as making
+use Rattle.journal_spec.specs.Making.{Making, book_in_bytes}
+use Rattle.journal_spec.specs.Standing.{Between, HoldIn, if_kept}
 use Rattle.play_desk.specs.Opening.{IsKept}
 
 -- a rack and its disks: whether they tell their bytes, and what contracts see of the rack before and after

@@ -11,14 +11,14 @@ use Rattle.setup_reader.specs.declared.setup.Ending.TheVariants.{Input}
 use Rattle.setup_reader.specs.Setup.{Parsed, setup_of}
 use Rattle.replay_spec.specs.Book.{reopened}
 use Rattle.replay_spec.specs.Rules.{Rules}
-use Rattle.journal_books.specs.Making.{begun, book_in_bytes}
-use Rattle.journal_books.specs.Standing.{IsBook}
+use Rattle.journal_spec.specs.Making.{begun, book_in_bytes}
+use Rattle.journal_spec.specs.Standing.{IsBook}
 use Rattle.request_workers.specs.Counting.{Count}
 use Rattle.request_workers.specs.Tallies.{count_of}
 use Rattle.request_workers.specs.declared.tally.Tally.{Tally}
 use Rattle.request_workers.specs.declared.tally.WorkEnd.{WorkEnd}
 use Rattle.request_workers.specs.declared.tally.WorkEnd.TheVariants as ends
-use Rattle.worker_threads.specs.Totals.{total}
+use Rattle.site_serving.specs.Totals.{total}
 use Rattle.shelf.specs.Owning.{IsOwnImage}
 use Rattle.shelf.specs.Views.{book_in, rules_of, HasGiven}
 use Rattle.site.specs.declared.entry.KeptEntry.{KeptEntry}

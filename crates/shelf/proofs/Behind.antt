@@ -7,12 +7,12 @@ use Rattle.page_names.specs.Views.{target_of}
 use Rattle.web_disk.specs.View.{View}
 use Rattle.page_journal.specs.Settled.{bodies_in, length_of}
 use Rattle.replay_spec.specs.Book as spec
-use Rattle.machine_spec.specs.Machine.{Suspended}
-use Rattle.journal_books.specs.Before.{state_at, Earlier, made_of}
-use Rattle.journal_books.specs.Retaking as books
-use Rattle.journal_books.specs.Retaking.{with_state}
-use Rattle.journal_books.specs.Lengths.{told_own}
-use Rattle.journal_books.specs.Keeping.{Keeps}
+use Rattle.machine_states.specs.Machine.{Suspended}
+use Rattle.journal_spec.specs.Before.{state_at, Earlier, made_of}
+use Rattle.journal_spec.specs.Retaking as books
+use Rattle.journal_spec.specs.Retaking.{with_state}
+use Rattle.journal_spec.specs.Lengths.{told_own}
+use Rattle.journal_spec.specs.Keeping.{Keeps}
 use Rattle.instance_book.specs.declared.book.Book.{Book}
 use Rattle.instance_book.specs.declared.in_order.InOrder.{InOrder}
 use Rattle.instance_book.specs.declared.instance.KeptInstance.{KeptInstance}

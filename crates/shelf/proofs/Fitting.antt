@@ -13,7 +13,7 @@ use Rattle.instance_book.specs.Makes.{StaysSame, KeepsStates}
 use Rattle.instance_book.specs.Swept.{cells_in, cells_at}
 use Rattle.instance_book.specs.declared.prepared.Prepared.{Prepared}
 use Rattle.instance_book.proofs.Seen.{cells_seen}
-use Rattle.stored_states.specs.Views.{segment_of}
+use Rattle.machine_states.specs.Views.{segment_of}
 use Rattle.script_value.specs.Val.{Val}
 use Rattle.instance_cells.specs.Cells.{Effect}
 use Rattle.page_names.specs.Views.{target_of}
@@ -23,13 +23,13 @@ use Rattle.instance_book.specs.Views as kept
 use Rattle.instance_book.specs.Changes.{decision_of, HasStateBy}
 use Rattle.web_disk.specs.View.{View}
 use Rattle.page_journal.specs.declared.journal.Journal.{Journal}
-use Rattle.journal_books.specs.Standing.{if_kept, Throughout}
+use Rattle.journal_spec.specs.Standing.{if_kept, Throughout}
 use Rattle.replay_spec.specs.Runs as runs
 use Rattle.replay_spec.specs.Step as step
 use Rattle.shelf.specs.declared.rules.Rules as limits_of
 use Rattle.shelf.specs.declared.shelf.Shelf.{Shelf}
 use Rattle.shelf.specs.Views.{rules_of, book_in, shelf_of, HasGiven, IsStep, IsEvent, IsOwnShelf}
-use Rattle.journal_books.specs.Laws.{MeasuresDoubt}
+use Rattle.journal_spec.specs.Laws.{MeasuresDoubt}
 use Rattle.shelf.specs.Owning.{StaysOwnThroughout, StandsOwn}
 use Rattle.shelf.specs.Events.{HasMoments, HasOwnMoments}
 use Rattle.shelf.specs.Holding.{AreHeld, AreHeldBy}

@@ -12,8 +12,8 @@ use Rattle.replay_spec.specs.Runs.{drawn_by, lands}
 use Rattle.replay_spec.specs.Step as step
 use Rattle.journal_records.specs.Records.{changes, record_length}
 use Rattle.journal_records.specs.Laws.{AreRecordsExact}
-use Rattle.journal_books.specs.Keeping.{HasWholeScripts, CanBeWritten, body_by, stake_of}
-use Rattle.journal_books.specs.Laws.{EventsAreKept, EventsStandBetween}
+use Rattle.journal_spec.specs.Keeping.{HasWholeScripts, CanBeWritten, body_by, stake_of}
+use Rattle.journal_spec.specs.Laws.{EventsAreKept, EventsStandBetween}
 use Rattle.instance_book.specs.declared.book.Book as kept
 use Rattle.instance_book.specs.Places as sources
 use Rattle.instance_book.specs.Swept.{swept}

@@ -18,17 +18,17 @@ use Rattle.replay_spec.proofs.Stand.{among_of}
 use Rattle.replay_spec.proofs.Orderly.{published, failed}
 use Rattle.journal_records.specs.Records.{changes, IsInGrammar}
 use Rattle.journal_records.specs.Laws.{AreRecordsExact}
-use Rattle.journal_books.specs.Before.{States, Made}
-use Rattle.journal_books.specs.Making as make
-use Rattle.journal_books.specs.Retaking.{Told, told_in, with_state, rules_for}
-use Rattle.journal_books.specs.Keeping.{HasWholeScripts, IsTakenAs, IsTaken, IsOut, without_number, landed_in, Keeps, body_by}
-use Rattle.journal_books.specs.Standing.{Between, HasRoom, if_kept, Throughout}
-use Rattle.journal_books.specs.Disks.{IsFit}
-use Rattle.journal_books.specs.Spelling.{IsTickInRange, IsInRange}
-use Rattle.journal_books.specs.Laws.{LandingsAreKept, LandingsStandBetween}
-use Rattle.journal_books.proofs.Fitting.{whole_by}
-use Rattle.journal_books.proofs.Taking.{IsNew}
-use Rattle.journal_books.proofs.Standings.{settled_stands, appended, left_standing}
+use Rattle.journal_spec.specs.Before.{States, Made}
+use Rattle.journal_spec.specs.Making as make
+use Rattle.journal_spec.specs.Retaking.{Told, told_in, with_state, rules_for}
+use Rattle.journal_spec.specs.Keeping.{HasWholeScripts, IsTakenAs, IsTaken, IsOut, without_number, landed_in, Keeps, body_by}
+use Rattle.journal_spec.specs.Standing.{Between, HasRoom, if_kept, Throughout}
+use Rattle.journal_spec.specs.Disks.{IsFit}
+use Rattle.journal_spec.specs.Spelling.{IsTickInRange, IsInRange}
+use Rattle.journal_spec.specs.Laws.{LandingsAreKept, LandingsStandBetween}
+use Rattle.journal_spec.proofs.Fitting.{whole_by}
+use Rattle.journal_spec.proofs.Taking.{IsNew}
+use Rattle.journal_spec.proofs.Standings.{settled_stands, appended, left_standing}
 use Rattle.instance_book.specs.Makes.{HasPlaces}
 use Rattle.book_recovery.specs.Remaking.{HasToldStates}
 use Rattle.shelf.specs.declared.doubt.Doubt as doubt_type

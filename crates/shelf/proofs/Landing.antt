@@ -17,18 +17,18 @@ use Rattle.replay_spec.specs.Eval as eval
 use Rattle.replay_spec.specs.Invariant.{HasPage, IsOf, IsOrderlyChange}
 use Rattle.replay_spec.specs.Step as step
 use Rattle.replay_spec.specs.Step.{replies, records, carried_out, publish_comes}
-use Rattle.machine_spec.specs.Machine.{Suspended}
+use Rattle.machine_states.specs.Machine.{Suspended}
 use Rattle.journal_records.specs.Records.{changes, record_length, IsInGrammar}
-use Rattle.journal_books.specs.Before.{state_at, Earlier}
-use Rattle.journal_books.specs.Retaking as books_told
-use Rattle.journal_books.specs.Retaking.{arena_of, Told, with_state, rules_for}
-use Rattle.journal_books.specs.Lengths.{state_by, told_bytes, state_told, told_own, own_before, own_body}
-use Rattle.journal_books.specs.Keeping.{IsTakenAs, IsSpelledState, HasWholeScripts, body_by}
-use Rattle.journal_books.specs.Keeping as books
-use Rattle.journal_books.specs.Making.{has_script}
-use Rattle.journal_books.proofs.Brief.{moved_told, length_short}
-use Rattle.journal_books.proofs.Grammar.{TellsInRange, IsToldWith, in_grammar}
-use Rattle.stored_states.specs.Views.{segment_of, suspended_of}
+use Rattle.journal_spec.specs.Before.{state_at, Earlier}
+use Rattle.journal_spec.specs.Retaking as books_told
+use Rattle.journal_spec.specs.Retaking.{arena_of, Told, with_state, rules_for}
+use Rattle.journal_spec.specs.Lengths.{state_by, told_bytes, state_told, told_own, own_before, own_body}
+use Rattle.journal_spec.specs.Keeping.{IsTakenAs, IsSpelledState, HasWholeScripts, body_by}
+use Rattle.journal_spec.specs.Keeping as books
+use Rattle.journal_spec.specs.Making.{has_script}
+use Rattle.journal_spec.proofs.Brief.{moved_told, length_short}
+use Rattle.journal_spec.proofs.Grammar.{TellsInRange, IsToldWith, in_grammar}
+use Rattle.machine_states.specs.Views.{segment_of, suspended_of}
 use Rattle.instance_book.specs.declared.book.Book.{Book}
 use Rattle.instance_book.specs.declared.prepared.Change.{Change}
 use Rattle.instance_book.specs.declared.prepared.Change.TheVariants.{Opens, Extends, Ends, Finishes}

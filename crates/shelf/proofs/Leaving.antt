@@ -19,12 +19,12 @@ use Rattle.replay_spec.specs.Invariant.{IsOf}
 use Rattle.replay_spec.specs.Admission.{admit}
 use Rattle.journal_records.specs.Records.{changes, record_length}
 use Rattle.journal_records.specs.Laws.{AreRecordsExact}
-use Rattle.journal_books.specs.Before.{state_at}
-use Rattle.journal_books.specs.Lengths.{told_own, own_body}
-use Rattle.journal_books.specs.Keeping.{HasWholeScripts, IsTakenAs, CanBeWritten, body_by, stake_of}
-use Rattle.journal_books.specs.Owning.{IsOwnBefore}
-use Rattle.journal_books.specs.Retaking as books_told
-use Rattle.journal_books.specs.Laws.{EventsAreKept, EventsStandBetween, LandingsAreKept, LandingsStandBetween}
+use Rattle.journal_spec.specs.Before.{state_at}
+use Rattle.journal_spec.specs.Lengths.{told_own, own_body}
+use Rattle.journal_spec.specs.Keeping.{HasWholeScripts, IsTakenAs, CanBeWritten, body_by, stake_of}
+use Rattle.journal_spec.specs.Owning.{IsOwnBefore}
+use Rattle.journal_spec.specs.Retaking as books_told
+use Rattle.journal_spec.specs.Laws.{EventsAreKept, EventsStandBetween, LandingsAreKept, LandingsStandBetween}
 use Rattle.instance_book.specs.declared.book.Book as kept
 use Rattle.instance_book.specs.declared.ticket.Ticket.{Ticket}
 use Rattle.instance_book.specs.declared.prepared.Prepared.{Prepared}

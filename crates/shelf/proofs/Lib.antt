@@ -27,3 +27,4 @@ pub mod Fitting
 pub mod Leaving
 pub mod Freeing
 pub mod Going
+pub mod Replayed

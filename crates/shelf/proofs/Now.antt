@@ -19,15 +19,15 @@ use Rattle.replay_spec.specs.Laws.{ArePast, EffectsHoldRunSame, EffectsAreOnCell
 use Rattle.replay_spec.specs.Remade.{EffectsHold}
 use Rattle.replay_spec.proofs.Admitted.{page_stands, start_is_no_page, page_is_no_start}
 use Rattle.replay_spec.proofs.Second.{pages_past}
-use Rattle.stored_states.specs.Views.{segment_of}
-use Rattle.stored_states.specs.declared.segment.Segment.{Segment}
+use Rattle.machine_states.specs.Views.{segment_of}
+use Rattle.machine_states.specs.declared.segment.Segment.{Segment}
 use Rattle.instance_book.specs.declared.ticket.Ticket.{Ticket}
 use Rattle.instance_book.specs.Views.{ticket_of}
 use Rattle.instance_book.specs.Swept.{cells_in}
 use Rattle.instance_book.specs.Fits.{IsFor, FitsAs}
 use Rattle.instance_book.specs.Laws.{KeepsStateAs}
-use Rattle.ticket_runs.specs.Runs.{IsRunOver}
-use Rattle.ticket_runs.proofs.Replayed.{IsLike, run_like}
+use Rattle.shelf.specs.Runs.{IsRunOver}
+use Rattle.shelf.proofs.Replayed.{IsLike, run_like}
 use Rattle.book_recovery.proofs.Retold.{of_some}
 use Rattle.shelf.specs.Views.{HoldIn, IsSegmentOf, HaveTheirCells}
 use Rattle.shelf.specs.Holding.{AreHeld}

@@ -18,18 +18,18 @@ use Rattle.replay_spec.proofs.Steps.{stepped}
 use Rattle.journal_records.specs.Records.{Record, begins, changes, begin_of, begun_length, IsInGrammar}
 use Rattle.journal_records.specs.Reading.{read_record}
 use Rattle.journal_records.specs.Laws.{AreRecordsExact}
-use Rattle.journal_books.specs.Before.{Earlier, nothing_told, Made, nothing_made, made_of}
-use Rattle.journal_books.specs.Retaking.{Told, unread, misread, told, told_in}
-use Rattle.journal_books.specs.Lengths.{journal_rules}
-use Rattle.journal_books.specs.Making.{has_script, told_next, Making, nothing, made, damaged, other, rules_over, are_told, first_by, next_by, with_body, with_bodies, begun, book_of, book_in_bytes}
-use Rattle.journal_books.specs.Standing.{IsBook, Makes, MakesIn, Held, if_kept, StaysThroughout, IsOneOf}
-use Rattle.journal_books.specs.Spelling.{IsInRange}
-use Rattle.journal_books.specs.Keeping.{Keeps, AreWhole, HasWholeScripts, first_body}
-use Rattle.journal_books.specs.Disks.{IsFit}
-use Rattle.journal_books.proofs.Fitting.{made_fits}
-use Rattle.journal_books.proofs.Kept.{fresh_kept}
-use Rattle.journal_books.proofs.Between.{recovered_setup, read_as, make_books}
-use Rattle.journal_books.proofs.Standings.{settled_stands}
+use Rattle.journal_spec.specs.Before.{Earlier, nothing_told, Made, nothing_made, made_of}
+use Rattle.journal_spec.specs.Retaking.{Told, unread, misread, told, told_in}
+use Rattle.journal_spec.specs.Lengths.{journal_rules}
+use Rattle.journal_spec.specs.Making.{has_script, told_next, Making, nothing, made, damaged, other, rules_over, are_told, first_by, next_by, with_body, with_bodies, begun, book_of, book_in_bytes}
+use Rattle.journal_spec.specs.Standing.{IsBook, Makes, MakesIn, Held, if_kept, StaysThroughout, IsOneOf}
+use Rattle.journal_spec.specs.Spelling.{IsInRange}
+use Rattle.journal_spec.specs.Keeping.{Keeps, AreWhole, HasWholeScripts, first_body}
+use Rattle.journal_spec.specs.Disks.{IsFit}
+use Rattle.journal_spec.proofs.Fitting.{made_fits}
+use Rattle.journal_spec.proofs.Kept.{fresh_kept}
+use Rattle.journal_spec.proofs.Between.{recovered_setup, read_as, make_books}
+use Rattle.journal_spec.proofs.Standings.{settled_stands}
 use Rattle.instance_book.specs.declared.book.Book.{Book as RustBook}
 use Rattle.instance_book.specs.Swept.{IsEmpty}
 use Rattle.instance_book.specs.Makes.{HasPlaces}

@@ -13,10 +13,10 @@ use Rattle.replay_spec.specs.Step as step
 use Rattle.replay_spec.specs.Laws.{IsLawful, Moment}
 use Rattle.replay_spec.specs.Invariant.{IsOrderly}
 use Rattle.replay_spec.proofs.Orderly.{stepped}
-use Rattle.journal_books.specs.Keeping.{HasWholeScripts}
-use Rattle.journal_books.specs.Disks.{IsFit}
-use Rattle.journal_books.specs.Spelling.{IsInRange, GivesTick}
-use Rattle.journal_books.proofs.Ranges.{ranges_kept}
+use Rattle.journal_spec.specs.Keeping.{HasWholeScripts}
+use Rattle.journal_spec.specs.Disks.{IsFit}
+use Rattle.journal_spec.specs.Spelling.{IsInRange, GivesTick}
+use Rattle.journal_spec.proofs.Ranges.{ranges_kept}
 use Rattle.instance_book.specs.Makes.{HasPlaces}
 use Rattle.instance_book.specs.Views.{reply_of}
 use Rattle.shelf.specs.declared.rules.Rules as limits_of

@@ -8,8 +8,8 @@ use Rattle.page_journal.specs.Scanned.{IsQuiet}
 use Rattle.page_journal.specs.Settled.{IsSettled, view_of, bodies_in, length_of}
 use Rattle.page_journal.specs.declared.journal.Journal.{Journal}
 use Rattle.page_journal.proofs.Mending.{leaves_then}
-use Rattle.journal_books.specs.Owning.{AreOwn}
-use Rattle.journal_books.specs.Disks.{IsFit}
+use Rattle.journal_spec.specs.Owning.{AreOwn}
+use Rattle.journal_spec.specs.Disks.{IsFit}
 use Rattle.shelf.specs.declared.shelf.Shelf.{Shelf}
 use Rattle.shelf.specs.Views.{book_in, rules_of, IsOwnShelf}
 use Rattle.shelf.specs.Opening.{HasOwnRecords, OpensOwn}

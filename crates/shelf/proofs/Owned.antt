@@ -9,10 +9,10 @@ use Rattle.page_journal.specs.Holding.{Holdable, MayHoldNowAndThroughout, Closed
 use Rattle.page_journal.specs.Settled.{IsSettled, view_of, bodies_in}
 use Rattle.page_journal.specs.declared.journal.Journal.{Journal}
 use Rattle.page_journal.proofs.Holds.{settled_images, just_these, before_or_after}
-use Rattle.journal_books.specs.Before.{Made}
-use Rattle.journal_books.specs.Making.{made, book_of}
-use Rattle.journal_books.specs.Owning.{AreOwn}
-use Rattle.journal_books.specs.Standing.{flight, HasRoom, Hold}
+use Rattle.journal_spec.specs.Before.{Made}
+use Rattle.journal_spec.specs.Making.{made, book_of}
+use Rattle.journal_spec.specs.Owning.{AreOwn}
+use Rattle.journal_spec.specs.Standing.{flight, HasRoom, Hold}
 use Rattle.shelf.specs.Owning.{IsOwnImage, OwnRecords, HoldOwn, HoldsOwnRecords, HasOwnImages, StaysOwnThroughout}
 
 -- the first of own records are own

@@ -11,7 +11,7 @@ use Rattle.replay_spec.specs.Admission.{or_else, refusal_of, admit}
 use Rattle.replay_spec.specs.Step as step
 use Rattle.replay_spec.specs.Step.{Decision, replies, records, publish_comes}
 use Rattle.journal_records.specs.Records.{changes, record_length}
-use Rattle.journal_books.specs.Lengths.{state_told}
+use Rattle.journal_spec.specs.Lengths.{state_told}
 use Rattle.instance_book.specs.declared.prepared.Change.{Change as RustChange}
 use Rattle.instance_book.specs.declared.prepared.Prepared.{Prepared}
 use Rattle.instance_book.specs.declared.ticket.Ticket.{Ticket}

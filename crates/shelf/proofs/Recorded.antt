@@ -14,16 +14,16 @@ use Rattle.replay_spec.specs.Step.{Event, Fate, kept, recovered, step}
 use Rattle.replay_spec.specs.Runs.{lands, doubted}
 use Rattle.replay_spec.specs.Laws.{IsLawful}
 use Rattle.replay_spec.specs.Remade.{KeepsSetup}
-use Rattle.journal_books.specs.Retaking.{rules_for}
-use Rattle.journal_books.specs.Lengths.{own_body}
-use Rattle.journal_books.specs.Before.{made_of}
-use Rattle.journal_books.specs.Owning.{AreOwn, IsOwnBefore}
-use Rattle.journal_books.specs.Standing.{Between, if_kept, length_in, Throughout, HasRoom}
-use Rattle.journal_books.specs.Keeping.{Keeps, KeepsDoubt, KeepsWith, landed_bodies, CanBeWritten, IsSpelled, at_stake, stake_of}
-use Rattle.journal_books.specs.Disks.{IsFit}
-use Rattle.journal_books.specs.Laws.{AreOver, MeasuresDoubt, EventsAreKept, EventsStandBetween}
-use Rattle.journal_books.proofs.Telling.{own_before_is, own_are_told}
-use Rattle.journal_books.proofs.Standings.{settled_stands, appended, left_standing}
+use Rattle.journal_spec.specs.Retaking.{rules_for}
+use Rattle.journal_spec.specs.Lengths.{own_body}
+use Rattle.journal_spec.specs.Before.{made_of}
+use Rattle.journal_spec.specs.Owning.{AreOwn, IsOwnBefore}
+use Rattle.journal_spec.specs.Standing.{Between, if_kept, length_in, Throughout, HasRoom}
+use Rattle.journal_spec.specs.Keeping.{Keeps, KeepsDoubt, KeepsWith, landed_bodies, CanBeWritten, IsSpelled, at_stake, stake_of}
+use Rattle.journal_spec.specs.Disks.{IsFit}
+use Rattle.journal_spec.specs.Laws.{AreOver, MeasuresDoubt, EventsAreKept, EventsStandBetween}
+use Rattle.journal_spec.proofs.Telling.{own_before_is, own_are_told}
+use Rattle.journal_spec.proofs.Standings.{settled_stands, appended, left_standing}
 use Rattle.shelf.specs.Owning.{OwnRecords, HoldsOwnRecords, HasOwnImages, StaysOwnThroughout, StandsOwn}
 use Rattle.shelf.proofs.Owned.{images_own, with_flight, stays_own, quiet_run_own}
 use Rattle.shelf.proofs.Standing.{OnlyNow, CountsNow, IsQuietCall, nothing_doubted}

@@ -3,9 +3,9 @@ use Rattle.std.proofs.Common.{◌≡◌, List, [], ◌∷◌, reverse, map, Bool
 use Rattle.std.specs.List.{list_all}
 use Rattle.std.proofs.lemmas.Grind.{reverse_onto}
 use Rattle.std.proofs.lemmas.List.Folds.{list_all-append}
-use Rattle.stored_states.specs.declared.frame.Frame.{Frame}
-use Rattle.stored_states.specs.Views.{frame_of, stack}
-use Rattle.journal_books.specs.Lengths.{is_shallow_frame}
+use Rattle.machine_states.specs.declared.frame.Frame.{Frame}
+use Rattle.machine_states.specs.Views.{frame_of, stack}
+use Rattle.journal_spec.specs.Lengths.{is_shallow_frame}
 
 turned : (a b : Bool) → (a && (b && true)) ≡ (b && a)
 turned true true = refl

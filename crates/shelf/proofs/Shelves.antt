@@ -14,15 +14,15 @@ use Rattle.replay_spec.specs.Step as step
 use Rattle.replay_spec.specs.Laws.{IsLawful}
 use Rattle.replay_spec.specs.Invariant.{IsOrderly}
 use Rattle.replay_spec.specs.Remade.{KeepsSetup}
-use Rattle.journal_books.specs.Before.{States, state_at, Made}
-use Rattle.journal_books.specs.Making as make
-use Rattle.journal_books.specs.Owning.{IsOwnBefore}
-use Rattle.journal_books.specs.Standing.{if_kept, Throughout}
-use Rattle.journal_books.specs.Keeping.{HasWholeScripts, CanBeWritten, stake_of}
-use Rattle.journal_books.specs.Lengths.{own_body}
-use Rattle.journal_books.specs.Disks.{IsFit}
-use Rattle.journal_books.specs.Spelling.{IsInRange, GivesTick}
-use Rattle.journal_books.specs.Laws.{MeasuresDoubt, EventsAreKept, EventsStandBetween}
+use Rattle.journal_spec.specs.Before.{States, state_at, Made}
+use Rattle.journal_spec.specs.Making as make
+use Rattle.journal_spec.specs.Owning.{IsOwnBefore}
+use Rattle.journal_spec.specs.Standing.{if_kept, Throughout}
+use Rattle.journal_spec.specs.Keeping.{HasWholeScripts, CanBeWritten, stake_of}
+use Rattle.journal_spec.specs.Lengths.{own_body}
+use Rattle.journal_spec.specs.Disks.{IsFit}
+use Rattle.journal_spec.specs.Spelling.{IsInRange, GivesTick}
+use Rattle.journal_spec.specs.Laws.{MeasuresDoubt, EventsAreKept, EventsStandBetween}
 use Rattle.instance_book.specs.Places.{given}
 use Rattle.instance_book.specs.Makes.{HasPlaces, HasItsStates, KeepsStates}
 use Rattle.instance_book.specs.declared.book.Book as kept

@@ -15,13 +15,13 @@ use Rattle.replay_spec.specs.Recovery.{page_of_numbers}
 use Rattle.replay_spec.specs.Invariant.{IsOrderly}
 use Rattle.replay_spec.proofs.Stand.{among_of}
 use Rattle.replay_spec.proofs.Admitted.{StandsAt}
-use Rattle.machine_spec.specs.Machine.{Suspended}
-use Rattle.stored_states.specs.Views.{segment_of, origin_of, suspended_of}
-use Rattle.stored_states.specs.declared.segment.Segment.{Segment}
+use Rattle.machine_states.specs.Machine.{Suspended}
+use Rattle.machine_states.specs.Views.{segment_of, origin_of, suspended_of}
+use Rattle.machine_states.specs.declared.segment.Segment.{Segment}
 use Rattle.frame_codec.specs.Spelling.{StateHasBytes}
 use Rattle.frame_codec.specs.Forms.{RisesBefore}
 use Rattle.kept_states.specs.Links.{behind_at}
-use Rattle.journal_books.specs.Before.{state_at, Earlier, links_behind, before_told}
+use Rattle.journal_spec.specs.Before.{state_at, Earlier, links_behind, before_told}
 use Rattle.instance_book.specs.declared.book.Book as kept
 use Rattle.instance_book.specs.declared.in_order.InOrder.{InOrder}
 use Rattle.instance_book.specs.declared.instance.KeptInstance.{KeptInstance}

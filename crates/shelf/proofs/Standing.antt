@@ -12,13 +12,13 @@ use Rattle.replay_spec.specs.Step.{Event, Fate, kept, recovered, step}
 use Rattle.replay_spec.specs.Runs.{lands}
 use Rattle.replay_spec.specs.Laws.{IsLawful}
 use Rattle.replay_spec.specs.Remade.{KeepsSetup}
-use Rattle.journal_books.specs.Standing.{Between, Hold, HoldIn, if_kept, Stands, Throughout}
-use Rattle.journal_books.specs.Keeping.{Keeps, KeepsDoubt, IsOwnDoubt, KeepsWith, landed_bodies, IsSpelled}
-use Rattle.journal_books.specs.Disks.{IsFit}
-use Rattle.journal_books.specs.Laws.{AreOver, MeasuresDoubt, EventsAreKept}
-use Rattle.journal_books.specs.Owning.{IsOwnBefore}
-use Rattle.journal_books.proofs.Between.{kept_alike, stand_alike}
-use Rattle.journal_books.proofs.Standings.{stays_then, stands_then}
+use Rattle.journal_spec.specs.Standing.{Between, Hold, HoldIn, if_kept, Stands, Throughout}
+use Rattle.journal_spec.specs.Keeping.{Keeps, KeepsDoubt, IsOwnDoubt, KeepsWith, landed_bodies, IsSpelled}
+use Rattle.journal_spec.specs.Disks.{IsFit}
+use Rattle.journal_spec.specs.Laws.{AreOver, MeasuresDoubt, EventsAreKept}
+use Rattle.journal_spec.specs.Owning.{IsOwnBefore}
+use Rattle.journal_spec.proofs.Between.{kept_alike, stand_alike}
+use Rattle.journal_spec.proofs.Standings.{stays_then, stands_then}
 use Rattle.shelf.specs.Owning.{StandsMeasured, StandsOwn}
 
 abbrev pub OnlyNow : View → Type 0

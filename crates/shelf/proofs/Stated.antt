@@ -14,20 +14,20 @@ use Rattle.replay_spec.specs.Next.{Home, home, past, answered, page_tape, tape_f
 use Rattle.replay_spec.specs.Recovery.{page_of_numbers}
 use Rattle.replay_spec.specs.Laws.{Waits}
 use Rattle.replay_spec.proofs.Admitted.{StandsAt, page_stands, start_is_no_page, page_is_no_start}
-use Rattle.machine_spec.specs.Machine.{Suspended}
-use Rattle.machine_spec.specs.Laws.{started, Stops, IsStateOf}
-use Rattle.machine_spec.proofs.Halting.{script_stop}
-use Rattle.machine_spec.proofs.Law.{page_is_inside}
-use Rattle.machine_spec.proofs.Replay.{stops_as_run, one_state}
+use Rattle.machine_states.specs.Machine.{Suspended}
+use Rattle.machine_states.specs.Laws.{started, Stops, IsStateOf}
+use Rattle.machine_states.proofs.Halting.{script_stop}
+use Rattle.machine_states.proofs.Law.{page_is_inside}
+use Rattle.machine_states.proofs.Replay.{stops_as_run, one_state}
 use Rattle.kept_states.specs.Links.{links_at, behind_at}
-use Rattle.stored_states.specs.Views.{Keeps, origin_of, segment_of, state_of}
-use Rattle.stored_states.specs.declared.segment.Outcome.{Outcome as StoredOutcome}
-use Rattle.stored_states.specs.declared.segment.Outcome.TheVariants.{Shown, Finished, Ended, Faulted, Fuel}
-use Rattle.stored_states.specs.declared.segment.Segment.{Segment}
-use Rattle.journal_books.specs.Retaking.{arena_of}
-use Rattle.journal_books.specs.Before.{links_behind}
-use Rattle.journal_books.specs.Lengths.{kept_at, kept_by, state_over, state_by, chain_tape, own_state, own_before}
-use Rattle.journal_books.specs.Keeping.{IsWhole, HasWholeScripts}
+use Rattle.machine_states.specs.Views.{Keeps, origin_of, segment_of, state_of}
+use Rattle.machine_states.specs.declared.segment.Outcome.{Outcome as StoredOutcome}
+use Rattle.machine_states.specs.declared.segment.Outcome.TheVariants.{Shown, Finished, Ended, Faulted, Fuel}
+use Rattle.machine_states.specs.declared.segment.Segment.{Segment}
+use Rattle.journal_spec.specs.Retaking.{arena_of}
+use Rattle.journal_spec.specs.Before.{links_behind}
+use Rattle.journal_spec.specs.Lengths.{kept_at, kept_by, state_over, state_by, chain_tape, own_state, own_before}
+use Rattle.journal_spec.specs.Keeping.{IsWhole, HasWholeScripts}
 use Rattle.instance_book.specs.declared.book.Book as kept
 use Rattle.instance_book.specs.declared.prepared.Opening.{Opening}
 use Rattle.instance_book.specs.declared.prepared.Extension.{Extension}

@@ -18,7 +18,7 @@ use Rattle.replay_spec.specs.Runs.{lands, recorded_under}
 use Rattle.replay_spec.specs.Remade.{through}
 use Rattle.replay_spec.proofs.Last.{last}
 use Rattle.journal_records.specs.Records.{record_length}
-use Rattle.journal_books.specs.Lengths.{state_told}
+use Rattle.journal_spec.specs.Lengths.{state_told}
 use Rattle.shelf.specs.declared.rules.Rules as limits_of
 use Rattle.shelf.specs.Views.{unmeasured, rules_of, fate_by}
 use Rattle.shelf.specs.Recording.{refusal_of_size}

@@ -6,8 +6,8 @@ use Rattle.script_nodes.specs.Setup.{Named}
 use Rattle.replay_spec.specs.Book.{sweeps, Book}
 use Rattle.replay_spec.specs.Change.{instances_by, land}
 use Rattle.replay_spec.specs.Invariant.{IsOrderly}
-use Rattle.journal_books.specs.Keeping.{AreWhole, HasWholeScripts}
-use Rattle.journal_books.proofs.Fitting.{WholeIn, whole_by}
+use Rattle.journal_spec.specs.Keeping.{AreWhole, HasWholeScripts}
+use Rattle.journal_spec.proofs.Fitting.{WholeIn, whole_by}
 use Rattle.replay_spec.specs.Step as step
 use Rattle.replay_spec.specs.Step.{freed}
 use Rattle.journal_records.specs.Records.{changes, record_length}

@@ -15,17 +15,17 @@ use Rattle.replay_spec.specs.Recovery.{are_on, hold_over, page_of_numbers, numbe
 use Rattle.replay_spec.specs.Invariant.{IsOf, IsOrderlyChange}
 use Rattle.replay_spec.proofs.Tests.{holds_is, on_is}
 use Rattle.replay_spec.proofs.Admitted.{StandsAt, page_stands, page_is_no_start}
-use Rattle.machine_spec.specs.Machine.{Suspended}
-use Rattle.stored_states.specs.Views.{suspended_of}
+use Rattle.machine_states.specs.Machine.{Suspended}
+use Rattle.machine_states.specs.Views.{suspended_of}
 use Rattle.frame_codec.specs.Spelling.{StateHasBytes}
 use Rattle.frame_codec.specs.Forms.{RisesBefore, BindsBefore}
 use Rattle.frame_codec.proofs.Formed.{forms_are_exact}
-use Rattle.journal_books.specs.Retaking.{arena_of, Told, unread, misread, told, told_as, told_by, script_for, if_held, held}
-use Rattle.journal_books.specs.Before.{Earlier, before_told}
-use Rattle.journal_books.specs.Retaking as books
-use Rattle.journal_books.specs.Lengths.{told_bytes, told_own}
-use Rattle.journal_books.specs.Keeping.{IsTakenAs}
-use Rattle.journal_books.proofs.Retaken.{held_fits}
+use Rattle.journal_spec.specs.Retaking.{arena_of, Told, unread, misread, told, told_as, told_by, script_for, if_held, held}
+use Rattle.journal_spec.specs.Before.{Earlier, before_told}
+use Rattle.journal_spec.specs.Retaking as books
+use Rattle.journal_spec.specs.Lengths.{told_bytes, told_own}
+use Rattle.journal_spec.specs.Keeping.{IsTakenAs}
+use Rattle.journal_spec.proofs.Retaken.{held_fits}
 use Rattle.instance_book.specs.declared.book.Book as kept
 use Rattle.instance_book.specs.declared.prepared.Opening.{Opening}
 use Rattle.instance_book.specs.declared.prepared.Extension.{Extension}

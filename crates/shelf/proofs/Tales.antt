@@ -11,16 +11,16 @@ use Rattle.replay_spec.specs.Recovery.{number_in, with_number}
 use Rattle.replay_spec.specs.Invariant.{Among}
 use Rattle.replay_spec.specs.Remade.{AreUsed}
 use Rattle.replay_spec.proofs.Stand.{among_of}
-use Rattle.machine_spec.specs.Machine.{Suspended, inside_of}
+use Rattle.machine_states.specs.Machine.{Suspended, inside_of}
 use Rattle.journal_records.specs.Records.{Record, begins, changes, IsInGrammar}
 use Rattle.journal_records.specs.Reading.{read_record}
 use Rattle.journal_records.specs.Laws.{AreRecordsExact}
-use Rattle.journal_books.specs.Before.{States, state_at, Earlier, Made, nothing_made, made_of}
-use Rattle.journal_books.specs.Retaking.{Told, unread, misread, told, told_in, held, landing, states_with, retaken}
-use Rattle.journal_books.specs.Making.{Making, nothing, made, damaged, other, rules_over, are_told, has_script, told_next, first_by, next_by, with_body, with_bodies, book_of}
-use Rattle.journal_books.specs.Keeping.{IsTakenAs, IsTaken, Keeps, body_by}
-use Rattle.journal_books.proofs.Makings.{with_push}
-use Rattle.journal_books.proofs.Taking.{IsNew, there, moved_in}
+use Rattle.journal_spec.specs.Before.{States, state_at, Earlier, Made, nothing_made, made_of}
+use Rattle.journal_spec.specs.Retaking.{Told, unread, misread, told, told_in, held, landing, states_with, retaken}
+use Rattle.journal_spec.specs.Making.{Making, nothing, made, damaged, other, rules_over, are_told, has_script, told_next, first_by, next_by, with_body, with_bodies, book_of}
+use Rattle.journal_spec.specs.Keeping.{IsTakenAs, IsTaken, Keeps, body_by}
+use Rattle.journal_spec.proofs.Makings.{with_push}
+use Rattle.journal_spec.proofs.Taking.{IsNew, there, moved_in}
 use Rattle.instance_book.specs.declared.book.Book as kept
 use Rattle.instance_book.proofs.Given.{more_given}
 use Rattle.book_recovery.specs.Remaking.{HasToldStates}

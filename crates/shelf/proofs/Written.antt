@@ -3,10 +3,10 @@ use Rattle.std.proofs.Common.{◌≡◌, ◌∙◌, ap, sym, refl, ℕ, zero, su
 use Rattle.std.proofs.lemmas.List.{length-map, length-reverse, reverse-reverse}
 use Rattle.script_value.specs.Val.{Val}
 use Rattle.script_nodes.specs.declared.setup.Setup.{Setup}
-use Rattle.machine_spec.specs.Machine.{Frame, Suspended}
-use Rattle.stored_states.specs.Views.{frame_of, suspended_of}
-use Rattle.stored_states.specs.declared.frame.Frame as rust
-use Rattle.stored_states.specs.declared.frame.Suspended as stored
+use Rattle.machine_states.specs.Machine.{Frame, Suspended}
+use Rattle.machine_states.specs.Views.{frame_of, suspended_of}
+use Rattle.machine_states.specs.declared.frame.Frame as rust
+use Rattle.machine_states.specs.declared.frame.Suspended as stored
 use Rattle.frame_codec.specs.Deltas.{Shares, IsDelta}
 use Rattle.frame_codec.specs.DeltaViews.{delta_of}
 use Rattle.frame_codec.specs.declared.difference.Delta as declared

@@ -10,11 +10,11 @@ use Rattle.script_nodes.specs.declared.setup.Setup.{Setup}
 use Rattle.page_names.specs.Names.{Destination}
 use Rattle.page_names.specs.Views.{target_of}
 use Rattle.page_names.specs.declared.names.Target.{Target}
-use Rattle.stored_states.specs.declared.segment.Segment.{Segment}
+use Rattle.machine_states.specs.declared.segment.Segment.{Segment}
 use Rattle.web_outside.specs.Causes.{Rose}
 use Rattle.web_disk.specs.View.{View, NoNewImage}
-use Rattle.journal_books.specs.Standing.{if_kept, Throughout}
-use Rattle.journal_books.specs.Laws.{MeasuresDoubt}
+use Rattle.journal_spec.specs.Standing.{if_kept, Throughout}
+use Rattle.journal_spec.specs.Laws.{MeasuresDoubt}
 use Rattle.shelf.specs.Owning.{StaysOwnThroughout}
 use Rattle.replay_spec.specs.Book as spec
 use Rattle.replay_spec.specs.Admission.{or_else, refusal_of, admit}

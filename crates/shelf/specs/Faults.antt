@@ -2,7 +2,7 @@
 use Rattle.std.specs.Prelude.{◌≡◌, Result, Ok, Err, ⊤}
 use Rattle.page_journal.specs.declared.repair.JournalFault.{JournalFault}
 use Rattle.page_journal.specs.declared.repair.JournalFault.TheVariants as journal
-use Rattle.journal_books.specs.Making.{Making, damaged, other}
+use Rattle.journal_spec.specs.Making.{Making, damaged, other}
 use Rattle.shelf.specs.declared.begin.BeginFault.{BeginFault}
 use Rattle.shelf.specs.declared.begin.BeginFault.TheVariants as fault
 

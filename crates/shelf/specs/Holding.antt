@@ -9,9 +9,9 @@ use Rattle.page_names.specs.Names.{Destination, start, page}
 use Rattle.page_names.specs.Views.{target_of}
 use Rattle.instance_cells.specs.Cells.{Effect, AreOn, Holds}
 use Rattle.instance_cells.specs.Views.{effect_of}
-use Rattle.machine_spec.specs.Machine.{Suspended, inside_of}
-use Rattle.stored_states.specs.Views.{suspended_of}
-use Rattle.stored_states.specs.declared.segment.Segment.{Segment}
+use Rattle.machine_states.specs.Machine.{Suspended, inside_of}
+use Rattle.machine_states.specs.Views.{suspended_of}
+use Rattle.machine_states.specs.declared.segment.Segment.{Segment}
 use Rattle.frame_codec.specs.Spelling.{StateHasBytes}
 use Rattle.frame_codec.specs.Stored.{IsStored}
 use Rattle.instance_book.specs.declared.book.Book.{Book}

@@ -8,3 +8,4 @@ pub mod Faults
 pub mod Opening
 pub mod Preparing
 pub mod Recording
+pub mod Runs

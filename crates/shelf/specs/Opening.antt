@@ -12,13 +12,13 @@ use Rattle.replay_spec.specs.Book.{Book}
 use Rattle.replay_spec.specs.Invariant.{IsSound}
 use Rattle.replay_spec.specs.Rules.{Rules}
 use Rattle.replay_spec.specs.Step.{crash, Fate, lost, kept, live, step}
-use Rattle.journal_books.specs.Making.{nothing, damaged, other, begun, book_of, book_in_bytes}
-use Rattle.journal_books.specs.Keeping.{first_body}
-use Rattle.journal_books.specs.Disks.{IsFit}
-use Rattle.journal_books.specs.Owning.{AreOwn}
+use Rattle.journal_spec.specs.Making.{nothing, damaged, other, begun, book_of, book_in_bytes}
+use Rattle.journal_spec.specs.Keeping.{first_body}
+use Rattle.journal_spec.specs.Disks.{IsFit}
+use Rattle.journal_spec.specs.Owning.{AreOwn}
 use Rattle.instance_book.specs.declared.book.Book.{Book as RustBook}
 use Rattle.instance_book.specs.Makes.{HasItsStates}
-use Rattle.journal_books.specs.Standing.{IsBook, Stands, StaysThroughout, IsOneOf}
+use Rattle.journal_spec.specs.Standing.{IsBook, Stands, StaysThroughout, IsOneOf}
 use Rattle.book_recovery.specs.Found.{book_with, IsReopened}
 use Rattle.shelf.specs.Owning.{HasOwnImages, StaysOwnThroughout, StandsMeasured}
 use Rattle.shelf.specs.Faults.{IsReadFault}

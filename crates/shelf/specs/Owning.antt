@@ -5,9 +5,9 @@ use Rattle.web_disk.specs.View.{View, LeavesOnly}
 use Rattle.page_journal.specs.Records.{Intact, records}
 use Rattle.replay_spec.specs.Book.{Book}
 use Rattle.replay_spec.specs.Rules.{Rules}
-use Rattle.journal_books.specs.Laws.{MeasuresDoubt}
-use Rattle.journal_books.specs.Owning.{AreOwn}
-use Rattle.journal_books.specs.Standing.{flight, HasRoom, Hold, Between, HoldIn, if_kept}
+use Rattle.journal_spec.specs.Laws.{MeasuresDoubt}
+use Rattle.journal_spec.specs.Owning.{AreOwn}
+use Rattle.journal_spec.specs.Standing.{flight, HasRoom, Hold, Between, HoldIn, if_kept}
 
 -- the whole records of these bytes are own ones; an empty disk has none
 abbrev pub IsOwnImage : List Named → (shelf : ℕ) → List ℕ → Type 0

@@ -6,7 +6,7 @@ use Rattle.script_nodes.specs.Setup.{Named}
 use Rattle.script_nodes.specs.Views.{scripts_of}
 use Rattle.script_nodes.specs.declared.setup.Setup.{Setup}
 use Rattle.page_names.specs.declared.names.Target.{Target}
-use Rattle.stored_states.specs.declared.segment.Segment.{Segment}
+use Rattle.machine_states.specs.declared.segment.Segment.{Segment}
 use Rattle.replay_spec.specs.Book as spec
 use Rattle.replay_spec.specs.Rules as spec_rules
 use Rattle.replay_spec.specs.Admission.{refusal_of, admit}
@@ -17,7 +17,7 @@ use Rattle.instance_book.specs.declared.prepared.Prepared.{Prepared}
 use Rattle.instance_book.specs.Admissions.{book_under, refusal_for}
 use Rattle.instance_book.specs.Views.{instances_of, ticket_of, reply_of, book_of}
 use Rattle.page_names.specs.Views.{target_of}
-use Rattle.stored_states.specs.Views.{segment_of}
+use Rattle.machine_states.specs.Views.{segment_of}
 use Rattle.instance_book.specs.Changes.{HasDeadlineBy, HasStateBy, IsSpelledBy}
 use Rattle.instance_book.specs.Prepares.{Prepares, IsOfSegment, KeepsItsState}
 use Rattle.instance_book.specs.Fits.{FitsAs}

@@ -20,15 +20,15 @@ use Rattle.instance_book.specs.Places.{given, kept_at}
 use Rattle.instance_book.specs.Makes.{HasStatesFrom}
 use Rattle.instance_book.specs.Prepares.{IsKeptOfTicket}
 use Rattle.instance_book.specs.Told.{AnswersGiven}
-use Rattle.machine_spec.specs.Machine.{Suspended}
+use Rattle.machine_states.specs.Machine.{Suspended}
 use Rattle.std.specs.Borrow.{Bor}
-use Rattle.stored_states.specs.Views.{origin_of, suspended_of}
-use Rattle.stored_states.specs.declared.frame.Suspended as stored
+use Rattle.machine_states.specs.Views.{origin_of, suspended_of}
+use Rattle.machine_states.specs.declared.frame.Suspended as stored
 use Rattle.frame_codec.specs.Forms.{BindsBefore}
 use Rattle.frame_codec.specs.declared.difference.Delta.{Delta}
 use Rattle.kept_states.specs.Kept.{Form, IsAlone, IsBehind, IsKeptFrom}
 use Rattle.kept_states.specs.Links.{behind_at}
-use Rattle.journal_books.specs.Lengths.{told_bytes}
+use Rattle.journal_spec.specs.Lengths.{told_bytes}
 
 -- why a record of this length can't be added to a journal of this one
 abbrev pub refusal_of_size : (journal size : ℕ) → Option step.Reply

@@ -15,14 +15,14 @@ use Rattle.web_disk.specs.View.{View}
 use Rattle.page_journal.specs.Settled as journal
 use Rattle.page_journal.specs.Settled.{is_broken, bodies_in, length_of}
 use Rattle.page_journal.specs.declared.journal.Journal.{Journal}
-use Rattle.journal_books.specs.Before.{Made}
-use Rattle.journal_books.specs.Lengths.{journal_rules}
-use Rattle.journal_books.specs.Making as make
-use Rattle.journal_books.specs.Keeping.{HasWholeScripts}
-use Rattle.journal_books.specs.Disks.{IsFit}
-use Rattle.journal_books.specs.Spelling.{IsInRange}
-use Rattle.stored_states.specs.Views.{segment_of}
-use Rattle.stored_states.specs.declared.segment.Segment as ran
+use Rattle.journal_spec.specs.Before.{Made}
+use Rattle.journal_spec.specs.Lengths.{journal_rules}
+use Rattle.journal_spec.specs.Making as make
+use Rattle.journal_spec.specs.Keeping.{HasWholeScripts}
+use Rattle.journal_spec.specs.Disks.{IsFit}
+use Rattle.journal_spec.specs.Spelling.{IsInRange}
+use Rattle.machine_states.specs.Views.{segment_of}
+use Rattle.machine_states.specs.declared.segment.Segment as ran
 use Rattle.replay_spec.specs.Tape.{present}
 use Rattle.replay_spec.specs.Eval.{Segment}
 use Rattle.replay_spec.specs.Book as spec
@@ -45,7 +45,7 @@ use Rattle.instance_book.specs.Prepares.{rules_with, HasItsScript}
 use Rattle.instance_book.specs.Laws.{KeepsStateAs}
 use Rattle.instance_book.specs.declared.book.Book as kept
 use Rattle.book_recovery.specs.Remaking.{HasToldStates}
-use Rattle.ticket_runs.specs.Runs.{IsRunOver}
+use Rattle.shelf.specs.Runs.{IsRunOver}
 use Rattle.shelf.specs.declared.doubt.Doubt.{Doubt}
 use Rattle.shelf.specs.declared.doubt.Doubted.{Doubted}
 use Rattle.shelf.specs.declared.doubt.Doubted.TheVariants.{Visits, Sweeps}

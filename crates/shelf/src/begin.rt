@@ -2,7 +2,7 @@ ghost use Rattle.std.specs.Prelude.{◌≡◌, ◌≤◌, ◌++◌, ◌∷◌, [
 ghost use Rattle.script_nodes.specs.Views.{named_of, scripts_of};
 ghost use Rattle.page_journal.specs.Settled.{IsSettled, IsSound, view_of, bodies_in, is_broken};
 ghost use Rattle.journal_records.specs.Records.{IsInGrammar, begin_of};
-ghost use Rattle.journal_books.specs.Keeping.{IsWhole, AreWhole, first_body};
+ghost use Rattle.journal_spec.specs.Keeping.{IsWhole, AreWhole, first_body};
 ghost use Rattle.book_recovery.specs.Found.{IsBookInOrder};
 ghost use Rattle.shelf.specs.Faults.{begin_fault};
 ghost use Rattle.shelf.specs.Opening.{HasOwnRecords, OpensOwn, LeavesOwnRecords, HasFirstLength, IsDoneUnlessOutside, TellsFailure, IsMadeOf, CanGoOnWith, TellsReadFault, IsReadAlone, KeepsUnlessFailed, IsUntouchedIfShort};

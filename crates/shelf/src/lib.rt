@@ -13,6 +13,7 @@ mod prepare;
 mod publish;
 mod recording;
 mod rules;
+mod run;
 mod same;
 mod second;
 mod shelf;
@@ -23,8 +24,8 @@ pub use begin::BeginFault;
 pub use doubt::{Doubt, Doubted};
 use replay_spec::{orderly_books_stay, pages_stay};
 pub use rules::Rules;
+pub use run::run_ticket;
 pub use shelf::Shelf;
-pub use ticket_runs::run_ticket;
 use web_disk::Disk;
 
 /// A ticket that fits the book of its take goes on to fit: a page that was shown stays as it is while its instance lives, so

@@ -2,13 +2,13 @@ ghost use Rattle.std.specs.Prelude.{◌≡◌, map};
 ghost use Rattle.std.specs.List.{list_all};
 ghost use Rattle.script_value.specs.Views.{meaning};
 ghost use Rattle.web_cells.specs.Views.{pair_of};
-ghost use Rattle.stored_states.specs.Views.{frame_of, suspended_of};
+ghost use Rattle.machine_states.specs.Views.{frame_of, suspended_of};
 ghost use Rattle.journal_records.specs.Fields.{is_shallow};
-ghost use Rattle.journal_books.specs.Lengths.{is_shallow_frame, is_shallow_state};
+ghost use Rattle.journal_spec.specs.Lengths.{is_shallow_frame, is_shallow_state};
 ghost use Rattle.shelf.specs.Recording.{is_shallow_shadow};
 
+use machine_states::{Frame, Suspended};
 use script_value::{Value, depth};
-use stored_states::{Frame, Suspended};
 use value_bytes::MOST_LEVELS;
 use web_cells::Shadow;
 

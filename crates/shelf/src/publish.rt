@@ -10,10 +10,10 @@ use crate::prepare::prepared;
 use crate::recording::added;
 use crate::shelf::Shelf;
 use instance_book::{Prepared, Ticket};
-use journal_books::{
+use journal_records::records_are_exact;
+use journal_spec::{
     events_are_kept, events_stand_between, landings_are_kept, landings_stand_between,
 };
-use journal_records::records_are_exact;
 use script_nodes::Setup;
 use script_value::Reply;
 use send_suspend::Segment;

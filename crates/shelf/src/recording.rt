@@ -12,7 +12,7 @@ ghost use Rattle.instance_book.specs.Changes.{change_of, IsSpelledIn};
 ghost use Rattle.frame_codec.specs.Spelling.{StateHasBytes};
 ghost use Rattle.frame_codec.specs.Forms.{BindsBefore};
 ghost use Rattle.kept_states.specs.Kept.{form_byte, kept_of};
-ghost use Rattle.stored_states.specs.Views.{suspended_of};
+ghost use Rattle.machine_states.specs.Views.{suspended_of};
 ghost use Rattle.shelf.specs.Holding.{FitsIfSpelled, IsWhole, IsWholeIn};
 ghost use Rattle.shelf.specs.Recording.{refusal_of_size, CanBeWritten, IsWritten, IsOfByte, IsStateFor, IsKeptForm, IsKeptIn, IsToldAs, WhereTold, WhereTrue, IsTrueWhere, BindsIn, GoesOnAsGiven, GoOnAlike, told_in, state_of, lent};
 
@@ -24,11 +24,11 @@ use journal_records::{
     Recorded, RecordedEnded, RecordedFinish, RecordedOrigin, RecordedPage, encode, record_length,
 };
 use kept_states::{KeptState, kept_are_written};
+use machine_states::{Origin, Suspended};
 use page_journal::{AppendFault, Journal, MAX_LEN};
 use script_nodes::{Script, Setup};
 use script_value::{Bytes, Reply, TxName, Value};
 use std::alloc::{AllocError, Global};
-use stored_states::{Origin, Suspended};
 use web_disk::Disk;
 
 /// The greatest length of a record's body, in bytes.

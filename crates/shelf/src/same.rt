@@ -1,12 +1,12 @@
 ghost use Rattle.std.specs.Prelude.{◌≡◌, ◌↔◌, IsTrue, map};
 ghost use Rattle.web_cells.specs.Views.{pair_of};
-ghost use Rattle.stored_states.specs.Views.{suspended_of};
+ghost use Rattle.machine_states.specs.Views.{suspended_of};
 ghost use Rattle.shelf.specs.Recording.{WhereTrue, AreAsLong, IsAllShared};
 
 use frame_codec::{Delta, delta};
+use machine_states::Suspended;
 use script_value::{TxName, equal};
 use std::alloc::{AllocError, Global};
-use stored_states::Suspended;
 use web_cells::Shadow;
 
 /// Whether these are the same names, in the same order.

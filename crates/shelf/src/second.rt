@@ -4,10 +4,11 @@ ghost use Rattle.instance_cells.specs.Views.{effect_of};
 ghost use Rattle.instance_book.specs.Admissions.{book_under};
 ghost use Rattle.instance_book.specs.Fits.{IsRunnable};
 ghost use Rattle.instance_book.specs.Prepares.{AreOnCells};
-ghost use Rattle.ticket_runs.specs.Runs.{IsRunOver};
+ghost use Rattle.shelf.specs.Runs.{IsRunOver};
 ghost use Rattle.shelf.specs.Views.{HaveTheirCells, HasTargetScript, IsRunOf, IsSegmentNow, KeepsStateNow, HoldNow};
 ghost use Rattle.shelf.specs.Holding.{AreHeld, AreHeldNow, IsForItsVisit};
 
+use crate::run_ticket;
 use instance_book::{Book, Ticket};
 use instance_cells::{Cells, Effect};
 use page_names::Target;
@@ -15,7 +16,6 @@ use replay_spec::{effects_are_on_cells, effects_hold, effects_hold_run_same};
 use script_nodes::Setup;
 use send_suspend::Segment;
 use std::alloc::{AllocError, Global};
-use ticket_runs::run_ticket;
 
 // Whether effects are on these cells and hold over them.
 fn are_held(cells: &Cells, effects: &[Effect]) -> bool

@@ -6,7 +6,7 @@ ghost use Rattle.instance_book.specs.Makes.{HasItsStates};
 
 use crate::shelf::Shelf;
 use instance_book::Ticket;
-use journal_books::events_are_kept;
+use journal_spec::events_are_kept;
 use page_names::Target;
 use script_nodes::Setup;
 use script_value::{Reply, Value};

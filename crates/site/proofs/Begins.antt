@@ -5,7 +5,7 @@ use Rattle.std.proofs.lemmas.List.{append-nil, reverse-reverse}
 use Rattle.std.proofs.lemmas.Option.{slice_get_within}
 use Rattle.web_disk.specs.View.{View}
 use Rattle.web_disk.proofs.Moments.{started}
-use Rattle.journal_books.specs.Standing.{Held}
+use Rattle.journal_spec.specs.Standing.{Held}
 use Rattle.script_nodes.specs.Setup.{Named}
 use Rattle.script_nodes.specs.declared.setup.Setup.{Setup}
 use Rattle.script_nodes.specs.Views.{scripts_of}

@@ -7,7 +7,7 @@ use Rattle.script_nodes.specs.Views.{scripts_of}
 use Rattle.script_nodes.specs.declared.setup.Setup.{Setup}
 use Rattle.page_names.specs.Names.{Destination}
 use Rattle.web_disk.specs.View.{View}
-use Rattle.journal_books.specs.Laws.{ImagesMakeBooks}
+use Rattle.journal_spec.specs.Laws.{ImagesMakeBooks}
 use Rattle.replay_spec.specs.Step as step
 use Rattle.instance_book.specs.declared.ticket.Ticket.{Ticket}
 use Rattle.instance_book.specs.Views.{ticket_of, reply_of}
@@ -16,8 +16,8 @@ use Rattle.shelf.specs.Views.{IsInOrder, IsOwnShelf, IsOwnVisit, StaysInOrder, S
 use Rattle.shelf.specs.Events.{IsSweep, SpendsNumber, TellsCount, HasMoments, HasOwnMoments, HasAllMoments, HasAllOwnMoments}
 use Rattle.shelf.specs.Going.{TicketsGoOnToFit}
 use Rattle.shelf.proofs.Order.{quiet}
-use Rattle.shelf_history.specs.Histories.{Entry}
-use Rattle.shelf_history.specs.Laws.{tickets_taken}
+use Rattle.history_spec.specs.Histories.{Entry}
+use Rattle.history_spec.specs.Laws.{tickets_taken}
 use Rattle.site.specs.declared.opening.Opening.{Opening}
 use Rattle.site.specs.Entries.{entry}
 use Rattle.site.specs.Openings.{scripts_in, IsOwnOpening, source_of, count_of}

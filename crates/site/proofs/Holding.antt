@@ -17,13 +17,13 @@ use Rattle.instance_book.specs.Views.{ticket_of}
 use Rattle.instance_book.specs.Fits.{FitsAs, IsRunnable}
 use Rattle.instance_book.specs.Makes.{HasItsStates}
 use Rattle.instance_book.specs.Prepares.{HasItsScript}
-use Rattle.shelf_history.specs.Histories.{Entry, own_of, owed_by, Owes, IsLegal, shelf_behind}
-use Rattle.shelf_history.specs.Laws.{take_of, tickets_taken}
-use Rattle.shelf_history.specs.Kept.{IsKept}
-use Rattle.shelf_history.proofs.Going.{go_on}
-use Rattle.shelf_history.proofs.Keeping.{kept_sound}
-use Rattle.shelf_history.proofs.Numbers.{are_runs}
-use Rattle.shelf_history.proofs.Passing.{prefix_of}
+use Rattle.history_spec.specs.Histories.{Entry, own_of, owed_by, Owes, IsLegal, shelf_behind}
+use Rattle.history_spec.specs.Laws.{take_of, tickets_taken}
+use Rattle.history_spec.specs.Kept.{IsKept}
+use Rattle.history_spec.proofs.Going.{go_on}
+use Rattle.history_spec.proofs.Keeping.{kept_sound}
+use Rattle.history_spec.proofs.Numbers.{are_runs}
+use Rattle.history_spec.proofs.Passing.{prefix_of}
 use Rattle.shelf.specs.declared.shelf.Shelf.{Shelf}
 use Rattle.script_value.specs.declared.outcome.Reply as answers
 use Rattle.shelf.specs.Views.{IsEvent, book_in, rules_of, taken_of}

@@ -18,12 +18,12 @@ use Rattle.replay_spec.proofs.Stand.{among_of}
 use Rattle.instance_book.specs.Views.{reply_of}
 use Rattle.shelf.specs.Views.{swept_of}
 use Rattle.shelf.proofs.Order.{quiet}
-use Rattle.shelf_history.specs.Histories.{Entry, MayCome, Owes, own_of, owed_by, tickets_left}
-use Rattle.shelf_history.specs.Laws.{take_of, given_by, tickets_taken}
-use Rattle.shelf_history.proofs.Members.{contains_mapped, contains_none}
-use Rattle.shelf_history.proofs.Numbers.{given_next}
-use Rattle.shelf_history.proofs.Owing.{IsFresh, held_then, left_push}
-use Rattle.shelf_history.proofs.Twice.{taken_push}
+use Rattle.history_spec.specs.Histories.{Entry, MayCome, Owes, own_of, owed_by, tickets_left}
+use Rattle.history_spec.specs.Laws.{take_of, given_by, tickets_taken}
+use Rattle.history_spec.proofs.Members.{contains_mapped, contains_none}
+use Rattle.history_spec.proofs.Numbers.{given_next}
+use Rattle.history_spec.proofs.Owing.{IsFresh, held_then, left_push}
+use Rattle.history_spec.proofs.Twice.{taken_push}
 use Rattle.site.specs.Entries.{entry}
 use Rattle.site.specs.Sound.{AreOut}
 

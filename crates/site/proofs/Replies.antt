@@ -14,8 +14,8 @@ use Rattle.script_value.specs.Val.{Val}
 use Rattle.replay_spec.specs.Rules.{Rules}
 use Rattle.replay_spec.proofs.Admitted.{admit_drawn}
 use Rattle.web_outside.specs.Causes.{Rose}
-use Rattle.shelf_history.specs.Histories as histories
-use Rattle.shelf_history.specs.Histories.{IsCounted}
+use Rattle.history_spec.specs.Histories as histories
+use Rattle.history_spec.specs.Histories.{IsCounted}
 use Rattle.instance_book.specs.declared.ticket.Ticket.{Ticket}
 use Rattle.instance_book.specs.Views.{reply_of}
 use Rattle.shelf.specs.Views as views

@@ -6,9 +6,9 @@ use Rattle.script_nodes.specs.Setup.{Named}
 use Rattle.web_disk.specs.View.{View, LeavesOnly}
 use Rattle.web_disk.proofs.Moments.{started}
 use Rattle.page_journal.proofs.Mending.{leaves_then}
-use Rattle.journal_books.specs.Laws.{ImagesMakeBooks, MeasuresDoubt}
-use Rattle.journal_books.specs.Making.{made}
-use Rattle.journal_books.specs.Standing.{MakesIn, if_kept, Held, Stands}
+use Rattle.journal_spec.specs.Laws.{ImagesMakeBooks, MeasuresDoubt}
+use Rattle.journal_spec.specs.Making.{made}
+use Rattle.journal_spec.specs.Standing.{MakesIn, if_kept, Held, Stands}
 use Rattle.replay_spec.specs.Book.{Book, reopened}
 use Rattle.replay_spec.specs.Rules.{Rules}
 use Rattle.script_value.specs.Val.{Val}
@@ -18,10 +18,10 @@ use Rattle.replay_spec.specs.Step.{Event, kept, recovered}
 use Rattle.replay_spec.specs.Runs as runs
 use Rattle.replay_spec.specs.Runs.{drawn_by, shelf_step}
 use Rattle.replay_spec.specs.Laws.{IsLawful}
-use Rattle.shelf_history.specs.Histories.{Entry, MayCome, fate_by, tickets_left}
-use Rattle.shelf_history.specs.Laws.{tickets_taken}
-use Rattle.shelf_history.specs.Kept.{IsKept}
-use Rattle.shelf_history.proofs.Keeping.{kept_on}
+use Rattle.history_spec.specs.Histories.{Entry, MayCome, fate_by, tickets_left}
+use Rattle.history_spec.specs.Laws.{tickets_taken}
+use Rattle.history_spec.specs.Kept.{IsKept}
+use Rattle.history_spec.proofs.Keeping.{kept_on}
 use Rattle.shelf_lock.proofs.Prefixes.{prefix_self}
 use Rattle.shelf.proofs.Owned.{leaves_as}
 use Rattle.shelf.specs.declared.rules.Rules as limits_of

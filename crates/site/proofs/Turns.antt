@@ -18,11 +18,11 @@ use Rattle.replay_spec.specs.Step.{Event}
 use Rattle.instance_book.specs.declared.ticket.Ticket.{Ticket}
 use Rattle.instance_book.specs.Views.{ticket_of, reply_of}
 use Rattle.shelf.specs.Views.{book_in, taken_of, swept_of}
-use Rattle.shelf_history.specs.Histories.{Entry, own_of, IsLegal}
-use Rattle.shelf_history.specs.Passes.{IsSeenBy, Goes}
-use Rattle.shelf_history.proofs.Going.{go_on}
-use Rattle.shelf_history.proofs.Behind.{never_back}
-use Rattle.shelf_history.proofs.Passing.{turn}
+use Rattle.history_spec.specs.Histories.{Entry, own_of, IsLegal}
+use Rattle.history_spec.specs.Passes.{IsSeenBy, Goes}
+use Rattle.history_spec.proofs.Going.{go_on}
+use Rattle.history_spec.proofs.Behind.{never_back}
+use Rattle.history_spec.proofs.Passing.{turn}
 use Rattle.site.specs.declared.entry.Did.{Did}
 use Rattle.site.specs.declared.entry.Did.TheVariants as did
 use Rattle.site.specs.declared.entry.KeptEntry.{KeptEntry}

@@ -8,7 +8,7 @@ use Rattle.script_nodes.specs.declared.setup.Setup.{Setup}
 use Rattle.script_nodes.specs.Views.{scripts_of}
 use Rattle.replay_spec.specs.Book.{Book, reopened}
 use Rattle.journal_records.specs.Records.{IsInGrammar, begin_of}
-use Rattle.journal_books.specs.Standing.{StaysThroughout, IsOneOf}
+use Rattle.journal_spec.specs.Standing.{StaysThroughout, IsOneOf}
 use Rattle.shelf.specs.declared.begin.BeginFault.{BeginFault}
 use Rattle.shelf.specs.declared.begin.BeginFault.TheVariants.{DiskFault}
 use Rattle.shelf.specs.declared.rules.Rules.{Rules}

@@ -6,8 +6,8 @@ use Rattle.web_disk.specs.View.{View}
 use Rattle.shelf_lock.specs.declared.view.Role.TheVariants.{Outside}
 use Rattle.shelf_lock.specs.Order.{posed, longer}
 use Rattle.lock_row.specs.Spots.{Spot, spot, Home, Homes}
-use Rattle.shelf_history.specs.Histories.{Entry, own_of}
-use Rattle.shelf_history.specs.Passes.{IsSeenBy}
+use Rattle.history_spec.specs.Histories.{Entry, own_of}
+use Rattle.history_spec.specs.Passes.{IsSeenBy}
 use Rattle.site.specs.declared.entry.KeptEntry.{KeptEntry}
 use Rattle.site.specs.declared.opening.Opening.{Opening}
 use Rattle.site.specs.Entries.{entries_of}

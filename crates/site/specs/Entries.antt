@@ -7,7 +7,7 @@ use Rattle.replay_spec.specs.Step as step
 use Rattle.replay_spec.specs.Step.{Event}
 use Rattle.instance_book.specs.Views.{ticket_of, reply_of}
 use Rattle.shelf.specs.Views.{taken_of, swept_of}
-use Rattle.shelf_history.specs.Histories.{Entry}
+use Rattle.history_spec.specs.Histories.{Entry}
 use Rattle.site.specs.declared.entry.KeptEntry.{KeptEntry}
 use Rattle.site.specs.declared.entry.Did.{Did}
 use Rattle.site.specs.declared.entry.Did.TheVariants.{Take, Publish, Sweep}

@@ -12,7 +12,7 @@ use Rattle.replay_spec.specs.Book.{reopened}
 use Rattle.replay_spec.specs.Step as step
 use Rattle.instance_book.specs.declared.ticket.Ticket.{Ticket}
 use Rattle.instance_book.specs.Views.{ticket_of, reply_of}
-use Rattle.stored_states.specs.declared.segment.Segment.{Segment}
+use Rattle.machine_states.specs.declared.segment.Segment.{Segment}
 use Rattle.shelf.specs.declared.shelf.Shelf.{Shelf}
 use Rattle.shelf.specs.Views.{IsRunIfAny, book_in, taken_of}
 use Rattle.site.specs.declared.kept.KeptShelf.{KeptShelf}

@@ -4,10 +4,10 @@ use Rattle.script_value.specs.declared.outcome.TxName.{TxName}
 use Rattle.web_disk.specs.View.{View}
 use Rattle.replay_spec.specs.Invariant as invariant
 use Rattle.replay_spec.specs.Laws.{Leaves, IsOn, IsRefusal, without_effect}
-use Rattle.shelf_history.specs.Histories.{Entry}
-use Rattle.shelf_history.specs.Laws.{moment_of}
+use Rattle.history_spec.specs.Histories.{Entry}
+use Rattle.history_spec.specs.Laws.{moment_of}
 use Rattle.site.specs.declared.opening.Opening.{Opening}
-use Rattle.journal_books.specs.Standing.{IsOneOf}
+use Rattle.journal_spec.specs.Standing.{IsOneOf}
 use Rattle.site.specs.Openings.{scripts_in, IsOwnOpening, start_of, source_of, book_then}
 use Rattle.site.specs.Sound.{StandsFor}
 

@@ -6,7 +6,7 @@ use Rattle.web_disk.specs.View.{View}
 use Rattle.replay_spec.specs.Book.{Book}
 use Rattle.replay_spec.specs.Runs as runs
 use Rattle.replay_spec.specs.Step.{kept, recovered}
-use Rattle.shelf_history.specs.Histories.{Entry, IsLegal, book_behind}
+use Rattle.history_spec.specs.Histories.{Entry, IsLegal, book_behind}
 use Rattle.shelf.specs.declared.shelf.Shelf.{Shelf}
 use Rattle.shelf.specs.Views.{shelf_of, IsOwnShelf}
 use Rattle.site.specs.declared.opening.Opening.{Opening}

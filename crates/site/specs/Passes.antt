@@ -13,9 +13,9 @@ use Rattle.lock_row.specs.Spots.{Spot}
 use Rattle.replay_spec.specs.Step as step
 use Rattle.instance_book.specs.declared.ticket.Ticket.{Ticket}
 use Rattle.instance_book.specs.Views.{ticket_of, reply_of}
-use Rattle.shelf_history.specs.Histories.{Entry, own_of}
-use Rattle.shelf_history.specs.Laws.{take_of}
-use Rattle.shelf_history.specs.Passes.{Goes, publish_of}
+use Rattle.history_spec.specs.Histories.{Entry, own_of}
+use Rattle.history_spec.specs.Laws.{take_of}
+use Rattle.history_spec.specs.Passes.{Goes, publish_of}
 use Rattle.site.specs.declared.entry.KeptEntry.{KeptEntry}
 use Rattle.site.specs.declared.opening.Opening.{Opening}
 use Rattle.site.specs.Entries.{entry, entries_of}

@@ -17,7 +17,7 @@ use Rattle.instance_book.specs.Views.{ticket_of}
 use Rattle.site.specs.declared.entry.KeptEntry.{KeptEntry}
 use Rattle.site.specs.declared.opening.Opening.{Opening}
 use Rattle.site.specs.declared.site.Site.{Site}
-use Rattle.stored_states.specs.declared.segment.Segment.{Segment}
+use Rattle.machine_states.specs.declared.segment.Segment.{Segment}
 use Rattle.shelf.specs.Views.{IsRunIfAny}
 use Rattle.site.specs.Openings.{scripts_in}
 use Rattle.site.specs.Passes.{Spots, IsSeat, HoldsTicket, Took, Published, Swept, Known}

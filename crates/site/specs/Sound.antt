@@ -7,7 +7,7 @@ use Rattle.page_names.specs.Names.{Destination}
 use mathlib.Core.List.{IsPrefix}
 use Rattle.page_names.specs.Views.{target_of}
 use Rattle.web_disk.specs.View.{View, LeavesOnly}
-use Rattle.journal_books.specs.Standing.{MakesIn, Stands}
+use Rattle.journal_spec.specs.Standing.{MakesIn, Stands}
 use Rattle.replay_spec.specs.Book.{Book}
 use Rattle.replay_spec.specs.Next as next
 use Rattle.replay_spec.specs.Admission.{refusal_of, admit}
@@ -15,9 +15,9 @@ use Rattle.instance_book.specs.declared.ticket.Ticket.{Ticket}
 use Rattle.instance_book.specs.Views.{ticket_of}
 use Rattle.instance_book.specs.Fits.{FitsAs, IsRunnable}
 use Rattle.instance_book.specs.Prepares.{HasItsScript}
-use Rattle.shelf_history.specs.Histories.{Entry, Owes, IsOpened, tickets_left}
-use Rattle.shelf_history.specs.Laws.{tickets_taken}
-use Rattle.shelf_history.specs.Kept.{IsKept}
+use Rattle.history_spec.specs.Histories.{Entry, Owes, IsOpened, tickets_left}
+use Rattle.history_spec.specs.Laws.{tickets_taken}
+use Rattle.history_spec.specs.Kept.{IsKept}
 use Rattle.shelf.specs.declared.shelf.Shelf.{Shelf}
 use Rattle.shelf.specs.Owning.{HoldsOwnRecords, StandsOwn}
 use Rattle.shelf.specs.Views.{IsInOrder, IsOwnShelf, HasGiven, book_in, shelf_of}

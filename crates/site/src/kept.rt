@@ -1,10 +1,10 @@
 //! What lies behind the lock of a shelf.
 use crate::entry::{Did, KeptEntry};
 use crate::opening::Opening;
+use ghost_history::History;
 use instance_book::Ticket;
-use journal_books::images_make_books;
+use journal_spec::images_make_books;
 use page_names::Target;
-use past::History;
 use script_nodes::Setup;
 use script_value::{Reply, Value};
 use send_suspend::Segment;

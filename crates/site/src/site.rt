@@ -2,10 +2,10 @@
 use crate::entry::KeptEntry;
 use crate::kept::KeptShelf;
 use crate::pass::{SiteNote, SitePass};
+use ghost_history::History;
 use instance_book::Ticket;
 use lock_row::LockRow;
 use page_names::Target;
-use past::History;
 use script_nodes::Setup;
 use script_value::{Refusal, Reply, Value};
 use send_suspend::Segment;

@@ -12,9 +12,9 @@ use Rattle.page_names.specs.Names.{Destination}
 use Rattle.replay_spec.specs.Step as step
 use Rattle.instance_book.specs.declared.ticket.Ticket.{Ticket}
 use Rattle.instance_book.specs.Views.{ticket_of, reply_of}
-use Rattle.shelf_history.specs.Histories.{Entry, own_of}
-use Rattle.shelf_history.specs.Laws.{take_of}
-use Rattle.shelf_history.specs.Passes.{publish_of}
+use Rattle.history_spec.specs.Histories.{Entry, own_of}
+use Rattle.history_spec.specs.Laws.{take_of}
+use Rattle.history_spec.specs.Passes.{publish_of}
 use Rattle.http_forms.specs.Passes as passes
 use Rattle.http_forms.specs.Stream.{Stop, closed, refusal, pending, cut}
 use Rattle.request_workers.specs.Counting.{Count, end_count}

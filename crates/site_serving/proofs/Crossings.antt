@@ -7,8 +7,8 @@ use Rattle.std.proofs.MapsCrossing as maps
 use Rattle.script_value.proofs.value.Items.TheLaws.TheKnot as knot
 use Rattle.instance_cells.specs.contracts.cells.Cells as Cells
 use Rattle.transactions.specs.contracts.closed.Closed as Closed
-use Rattle.stored_states.specs.contracts.frame.Frame as Frame
-use Rattle.stored_states.specs.contracts.frame.Suspended as Suspended
+use Rattle.machine_states.specs.contracts.frame.Frame as Frame
+use Rattle.machine_states.specs.contracts.frame.Suspended as Suspended
 use Rattle.web_cells.specs.contracts.shades.Shades as Shades
 use Rattle.instance_book.specs.contracts.book.Book as Book
 use Rattle.instance_cells.specs.contracts.effect.Effect as Effect
@@ -27,7 +27,7 @@ use Rattle.shelf.specs.contracts.doubt.Doubt as Doubt
 use Rattle.shelf_lock.proofs.pass.Pass.TheSendSync as passes
 use Rattle.shelf_lock.proofs.lock.ShelfLock.TheSendSync as locks
 use Rattle.shelf_lock.specs.declared.kept.Kept.{Ghosts}
-use Rattle.past.specs.contracts.history.History as History
+use Rattle.ghost_history.specs.contracts.history.History as History
 use Rattle.site.specs.contracts.opening.Opening as Opened
 use Rattle.site.specs.contracts.entry.KeptEntry as KeptEntry
 use Rattle.shelf.specs.contracts.shelf.Shelf as Shelf

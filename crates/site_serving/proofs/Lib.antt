@@ -3,3 +3,4 @@ pub mod Counting
 pub mod Sums
 pub mod Served
 pub mod Outcomes
+pub mod Lists

@@ -8,7 +8,7 @@ use Rattle.web_outside.specs.declared.door.DoorFault.TheVariants as listening
 use Rattle.request_workers.specs.Tallies.{count_of}
 use Rattle.request_workers.specs.declared.tally.Tally.{Tally}
 use Rattle.request_workers.specs.declared.tally.WorkEnd.{WorkEnd}
-use Rattle.worker_threads.specs.Totals.{total}
+use Rattle.site_serving.specs.Totals.{total}
 use Rattle.site.specs.declared.opening.Opening.{Opening}
 use Rattle.site.specs.declared.site.Site.{Site}
 use Rattle.site_serving.specs.declared.serving.ServingFault.TheVariants as fault

@@ -18,8 +18,8 @@ use Rattle.lock_row.specs.Rows.{IsNewPass}
 use Rattle.lock_row.specs.Spots.{Spot, Home, home_of, caller_at}
 use Rattle.lock_row.proofs.Ends.{zip_length}
 use Rattle.lock_row.proofs.Places.{get_there, get_map, map_get, map_length, one_of}
-use Rattle.shelf_history.specs.Histories.{own_of}
-use Rattle.shelf_history.specs.Passes.{IsSeenBy}
+use Rattle.history_spec.specs.Histories.{own_of}
+use Rattle.history_spec.specs.Passes.{IsSeenBy}
 use Rattle.site.specs.declared.entry.KeptEntry.{KeptEntry}
 use Rattle.site.specs.declared.opening.Opening.{Opening}
 use Rattle.site.specs.declared.site.Site.{Site}
@@ -29,9 +29,9 @@ use Rattle.site.specs.Entries.{entries_of}
 use Rattle.site.specs.Passes.{Spots, seen_by}
 use Rattle.site.specs.Rules.{site_rules}
 use Rattle.site.specs.Sites.{IsOwn}
-use Rattle.worker_threads.specs.Totals.{end_of, end_with, total}
-use Rattle.worker_threads.specs.Workers.{AreServed, WorksAs, porches_of, tallies_of}
-use Rattle.worker_threads.specs.declared.worker.Worker.{Worker}
+use Rattle.site_serving.specs.Totals.{end_of, end_with, total}
+use Rattle.site_serving.specs.Workers.{AreServed, WorksAs, porches_of, tallies_of}
+use Rattle.site_serving.specs.declared.worker.Worker.{Worker}
 use Rattle.site_serving.specs.Kept.{kept_of}
 use Rattle.site_serving.specs.Pages.{pages_in, pages_of, own_pages}
 use Rattle.site_serving.specs.Serving.{AreEnded, HasServed, LeavesAll, ServesPorches, Views, openings_of}

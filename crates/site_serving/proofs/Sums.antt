@@ -3,11 +3,11 @@ use Rattle.std.proofs.Common.{◌≡◌, ◌≢◌, ◌⊎◌, ◌≤◌, ◌<�
 use Rattle.std.proofs.lemmas.Bool.{eq-eqb, ne_eqb}
 use Rattle.std.specs.Prelude.{if◌then◌else◌}
 use Rattle.request_workers.specs.declared.tally.Tally.{Tally}
-use Rattle.shelf_history.specs.Histories.{Entry, own_of}
+use Rattle.history_spec.specs.Histories.{Entry, own_of}
 use Rattle.site.specs.declared.entry.KeptEntry.{KeptEntry}
 use Rattle.site.specs.Entries.{entries_of}
 use Rattle.site_serving.specs.Pages.{pages_by, pages_in, pages_of}
-use Rattle.worker_threads.specs.Totals.{total}
+use Rattle.site_serving.specs.Totals.{total}
 
 -- f of each number below n, added up
 abbrev pub sum_below : ℕ → (ℕ → ℕ) → ℕ

@@ -1,7 +1,7 @@
 -- The past of a serving.
 use Rattle.std.specs.Prelude.{◌≡◌, List, map, Option, Some, IsSomeAnd, option_map}
 use Rattle.std.specs.Global.{Vec}
-use Rattle.past.specs.Entries.{entries}
+use Rattle.ghost_history.specs.Entries.{entries}
 use Rattle.request_workers.specs.declared.tally.Tally.{Tally}
 use Rattle.site.specs.declared.entry.KeptEntry.{KeptEntry}
 use Rattle.site_serving.specs.declared.kept_past.KeptServing.{KeptServing}

@@ -1,3 +1,5 @@
 pub mod Kept
 pub mod Pages
 pub mod Serving
+pub mod Workers
+pub mod Totals

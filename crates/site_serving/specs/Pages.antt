@@ -1,7 +1,7 @@
 -- Which entries of a history are counted as pages.
 use Rattle.std.specs.Prelude.{ℕ, ◌+◌, List, [], ◌∷◌}
 use Rattle.replay_spec.specs.Step.{Event, publish, Reply, shown, finished, ended}
-use Rattle.shelf_history.specs.Histories.{Entry, own_of}
+use Rattle.history_spec.specs.Histories.{Entry, own_of}
 use Rattle.site.specs.declared.entry.KeptEntry.{KeptEntry}
 use Rattle.site.specs.Entries.{entries_of}
 use Rattle.site.specs.Passes.{Spots, seen_by}

@@ -12,8 +12,8 @@ use Rattle.request_workers.specs.declared.tally.Tally.{Tally}
 use Rattle.request_workers.specs.declared.tally.WorkEnd.{WorkEnd}
 use Rattle.request_workers.specs.declared.tally.WorkEnd.TheVariants as ends
 use Rattle.lock_row.specs.Spots.{Spot, Home}
-use Rattle.shelf_history.specs.Histories.{own_of}
-use Rattle.shelf_history.specs.Passes.{IsSeenBy}
+use Rattle.history_spec.specs.Histories.{own_of}
+use Rattle.history_spec.specs.Passes.{IsSeenBy}
 use Rattle.site.specs.declared.entry.KeptEntry.{KeptEntry}
 use Rattle.site.specs.declared.opening.Opening.{Opening}
 use Rattle.site.specs.declared.site.Site.{Site}
@@ -24,12 +24,12 @@ use Rattle.site.specs.Rules.{site_rules}
 use Rattle.site.specs.Sound.{StandsFor}
 use Rattle.site_serving.specs.declared.serving.ServingFault.{ServingFault}
 use Rattle.site_serving.specs.declared.serving.ServingFault.TheVariants as fault
-use Rattle.worker_threads.specs.declared.worker.Worker.{Worker}
+use Rattle.site_serving.specs.declared.worker.Worker.{Worker}
 use Rattle.site_serving.specs.declared.serving.Watch.{Watch}
 use Rattle.site_serving.specs.Kept.{Kept}
 use Rattle.site_serving.specs.Pages.{pages_of}
-use Rattle.worker_threads.specs.Totals.{end_of, total}
-use Rattle.worker_threads.specs.Workers.{WorksAs, porches_of, tallies_of}
+use Rattle.site_serving.specs.Totals.{end_of, total}
+use Rattle.site_serving.specs.Workers.{WorksAs, porches_of, tallies_of}
 
 -- what contracts see of a disk, and whether it tells its bytes; of a link, of a porch and of a source of nonces; and what the
 -- clock shows

@@ -3,7 +3,7 @@ ghost use Rattle.std.specs.Prelude.{List, Option, None};
 ghost use Rattle.web_outside.specs.Porches.{GainsLast};
 ghost use Rattle.site_serving.specs.Kept.{Kept, kept_in};
 
-use past::History;
+use ghost_history::History;
 use request_workers::Tally;
 use site::KeptEntry;
 use std::snapshot::Snapshot;

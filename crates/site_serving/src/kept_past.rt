@@ -1,6 +1,6 @@
 //! A past that can be asked for.
 use crate::keeping::Past;
-use past::History;
+use ghost_history::History;
 use request_workers::Tally;
 use site::KeptEntry;
 use std::mem;
@@ -16,7 +16,7 @@ pub struct KeptServing {
 /// A past that tells what it was given: clauses see that of each serving, and a program that of the last one.
 #[derive(Drop)]
 pub struct KeptPast {
-    servings: Snapshot<past::Past<KeptServing>>,
+    servings: Snapshot<ghost_history::Past<KeptServing>>,
     last: Option<(Vec<History<KeptEntry>>, Vec<Tally>)>,
 }
 
@@ -30,7 +30,7 @@ impl KeptPast {
         ensures last { last_in result ≡ None }
     {
         KeptPast {
-            servings: Snapshot::of(&past::Past::Nothing),
+            servings: Snapshot::of(&ghost_history::Past::Nothing),
             last: None,
         }
     }
@@ -69,12 +69,15 @@ impl Past for KeptPast {
         ensures told { GainsLast (told_by self.old) (told_by self.new) (kept_in histories tallies) }
         ensures last { last_in self.new ≡ Some (kept_in histories tallies) }
     {
-        let before = mem::replace(&mut self.servings, Snapshot::of(&past::Past::Nothing));
+        let before = mem::replace(
+            &mut self.servings,
+            Snapshot::of(&ghost_history::Past::Nothing),
+        );
         let entry = KeptServing {
             histories: Snapshot::of(&histories),
             tallies: Snapshot::of(&tallies),
         };
-        self.servings = Snapshot::of(&past::Past::Then { before, entry });
+        self.servings = Snapshot::of(&ghost_history::Past::Then { before, entry });
         self.last = Some((histories, tallies));
     }
 }

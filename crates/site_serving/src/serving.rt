@@ -1,11 +1,12 @@
 //! Links of a door, served from the shelves of a site.
 ghost use Rattle.std.specs.Prelude.{◌≡◌, ◌≤◌, ℕ, Some, length, slice_get, vec_len, IfOk, IsErrOf};
-ghost use Rattle.worker_threads.specs.Workers.{IsRoomFor};
+ghost use Rattle.site_serving.specs.Workers.{IsRoomFor};
 ghost use Rattle.site.specs.Beginnings.{IsReady, IsWhole, most_passes};
 ghost use Rattle.site.specs.Sites.{IsOwn};
 ghost use Rattle.site_serving.specs.Serving.{ComesTo, EndsAs, HasFailed, IsManned, fault_of, most_requests, openings_of, pasts_of, views};
 
 use crate::keeping::Past;
+use crate::{Room, serve_all, total};
 use request_workers::{Tally, WorkEnd};
 use site::{Running, Site, SitePass};
 use std::alloc::{AllocError, Global};
@@ -13,7 +14,6 @@ use std::sync::Wait;
 use std::thread::Threads;
 use web_disk::Disk;
 use web_outside::{CONNECTION_LIMIT, Clock, Door, DoorFault, Gate, Link, Nonces, Porch};
-use worker_threads::{Room, serve_all, total};
 
 /// What a serving asks of its door.
 #[derive(Clone, Copy, Debug, PartialEq, Eq)]

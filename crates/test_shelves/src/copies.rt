@@ -7,12 +7,12 @@ ghost use Rattle.instance_book.specs.Makes.{HasPlaces};
 
 use crate::texts::{SUM, datum, is_datum, setup, target, text_of};
 use instance_book::{Book, Prepared, Ticket};
+use machine_states::{Outcome, Segment, Suspended};
 use page_names::Target;
 use script_nodes::{SendKind, Setup};
 use script_value::{Bytes, Items, Reply};
 use std::alloc::Global;
 use std::test::Fail;
-use stored_states::{Outcome, Segment, Suspended};
 use web_cells::Shades;
 
 // A book of the shelf 7 with nothing in it, for the scripts of a setup.

@@ -1,10 +1,10 @@
 ghost use Rattle.std.specs.Prelude.{◌≡◌, IfOk};
-ghost use Rattle.machine_spec.specs.Machine.{inside_of};
-ghost use Rattle.stored_states.specs.Views.{stack};
+ghost use Rattle.machine_states.specs.Machine.{inside_of};
+ghost use Rattle.machine_states.specs.Views.{stack};
 
+use machine_states::Suspended;
 use script_value::TxName;
 use std::alloc::{AllocError, Global};
-use stored_states::Suspended;
 
 /// The transactions that a page is inside, the outermost first.
 pub fn inside(alloc: Global, state: &Suspended) -> Result<Vec<TxName>, AllocError>

@@ -1,5 +1,5 @@
 use Rattle.std.proofs.Common.{◌∷◌, ◌++◌, [], subst}
-use Rattle.shelf_history.specs.Histories.{IsLegal}
+use Rattle.history_spec.specs.Histories.{IsLegal}
 use Rattle.site.specs.Openings.{start_of, source_of, count_of}
 use Rattle.site.proofs.closed_is_closed_over_threads.Goals as goal
 

@@ -2,7 +2,7 @@ use Rattle.std.proofs.Common.{◌≡◌, sym, subst, ℕ, length}
 use Rattle.script_nodes.specs.Views.{scripts_of}
 use Rattle.page_journal.specs.Records.{at_rest}
 use Rattle.page_journal.specs.Settled.{bodies_in, length_of}
-use Rattle.journal_books.specs.Making.{book_of}
+use Rattle.journal_spec.specs.Making.{book_of}
 use Rattle.book_recovery.specs.declared.found.Found.{Found}
 use Rattle.book_recovery.specs.Found.{Finds, IsFoundInOrder, HasStates}
 use Rattle.book_recovery.specs.Reading.{Gives}

@@ -6,7 +6,7 @@ use Rattle.frame_codec.specs.Forms.{read_form}
 use Rattle.frame_codec.specs.FormViews.{before_of}
 use Rattle.replay_spec.specs.Recovery.{page_of_numbers}
 use Rattle.instance_book.specs.Told.{effects_in, book_beside}
-use Rattle.journal_books.specs.Retaking.{arena_of}
+use Rattle.journal_spec.specs.Retaking.{arena_of}
 use Rattle.book_recovery.specs.Remaking.{IsPageOf}
 use Rattle.book_recovery.proofs.Retold.{of_some, of_none, held_so, held_on, stands_at, answer_of, answer_fits, answer_stored, on_cells, extension_none, extension_misread, extension_seen, extension_not_held, extension_lands}
 use Rattle.book_recovery.proofs.remake.remake_extension.Goals as goal

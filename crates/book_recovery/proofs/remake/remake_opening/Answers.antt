@@ -1,7 +1,7 @@
 use Rattle.std.proofs.Common.{◌≡◌, ◌<◌, ℕ, sym, subst, true, false, None, slice_get, length}
 use Rattle.script_nodes.specs.Views.{named_of, scripts_of}
 use Rattle.instance_book.specs.Told.{effects_in}
-use Rattle.journal_books.specs.Retaking.{arena_of}
+use Rattle.journal_spec.specs.Retaking.{arena_of}
 use Rattle.book_recovery.specs.Remaking.{IsPageOf}
 use Rattle.book_recovery.proofs.Retold.{of_some, of_none, held_so, held_on, there_is, named_there, start_of, opening_none, opening_seen, opening_not_held, opening_lands}
 use Rattle.book_recovery.proofs.remake.remake_opening.Goals as goal

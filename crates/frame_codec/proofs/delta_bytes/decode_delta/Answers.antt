@@ -1,4 +1,4 @@
-use Rattle.stored_states.specs.Views.{suspended_of}
+use Rattle.machine_states.specs.Views.{suspended_of}
 use Rattle.frame_codec.specs.DeltaViews.{delta_of}
 use Rattle.frame_codec.proofs.Reread.{found_is_read}
 use Rattle.frame_codec.proofs.delta_bytes.decode_delta.Goals as goal

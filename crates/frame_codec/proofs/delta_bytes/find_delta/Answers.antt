@@ -1,6 +1,6 @@
 use Rattle.std.proofs.Common.{sym, ap, ◌∙◌, option_map, refl}
 use Rattle.std.proofs.lemmas.Bool.{false≢true}
-use Rattle.stored_states.specs.Views.{suspended_of}
+use Rattle.machine_states.specs.Views.{suspended_of}
 use Rattle.frame_codec.specs.DeltaViews.{delta_of}
 use Rattle.frame_codec.proofs.Differences.{nothing_said, not_stored, another_spelling, spelled_so}
 use Rattle.frame_codec.proofs.delta_bytes.find_delta.Goals as goal

@@ -1,6 +1,6 @@
 use Rattle.std.proofs.Common.{◌≡◌, map, drop}
 use Rattle.script_value.specs.Views.{meaning}
-use Rattle.stored_states.specs.Views.{frame_of}
+use Rattle.machine_states.specs.Views.{frame_of}
 use Rattle.frame_codec.specs.Walk.{env_of}
 use Rattle.frame_codec.proofs.fit.env_of.Given as goal
 

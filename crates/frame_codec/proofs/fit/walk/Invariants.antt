@@ -1,6 +1,6 @@
 use Rattle.std.proofs.Common.{◌≡◌, map, length}
 use Rattle.script_value.specs.Views.{meaning}
-use Rattle.stored_states.specs.Views.{frame_of}
+use Rattle.machine_states.specs.Views.{frame_of}
 use Rattle.frame_codec.specs.Views.{place_of, IsAround}
 use Rattle.frame_codec.specs.Walk.{walk, outermost}
 use Rattle.frame_codec.proofs.fit.walk.Given as goal

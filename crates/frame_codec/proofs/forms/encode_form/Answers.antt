@@ -1,4 +1,4 @@
-use Rattle.stored_states.specs.Views.{suspended_of}
+use Rattle.machine_states.specs.Views.{suspended_of}
 use Rattle.frame_codec.specs.DeltaViews.{delta_of}
 use Rattle.frame_codec.proofs.Differences.{each_has_bytes}
 use Rattle.frame_codec.proofs.forms.encode_form.Goals as goal

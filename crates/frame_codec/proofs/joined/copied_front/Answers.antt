@@ -1,5 +1,5 @@
 use Rattle.std.proofs.Common.{List, ap, ◌∙◌, take}
-use Rattle.stored_states.specs.declared.frame.Frame.{Frame}
+use Rattle.machine_states.specs.declared.frame.Frame.{Frame}
 use Rattle.frame_codec.proofs.Firsts.{frames_taken}
 use Rattle.frame_codec.proofs.joined.copied_front.Goals as goal
 

@@ -1,6 +1,6 @@
 use Rattle.std.proofs.Common.{◌++◌, List, ap, ◌∙◌}
 use Rattle.script_value.specs.Val.{Val}
-use Rattle.stored_states.specs.declared.frame.Frame.{Frame}
+use Rattle.machine_states.specs.declared.frame.Frame.{Frame}
 use Rattle.frame_codec.proofs.Differences.{frames_joined}
 use Rattle.frame_codec.proofs.joined.join.Goals as goal
 

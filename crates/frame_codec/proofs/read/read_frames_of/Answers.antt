@@ -1,5 +1,5 @@
 use Rattle.std.proofs.Common.{◌∙◌}
-use Rattle.stored_states.specs.Views.{frame_of}
+use Rattle.machine_states.specs.Views.{frame_of}
 use Rattle.frame_codec.specs.Reading.{read_frame}
 use Rattle.frame_codec.proofs.Turns.{one_kept}
 use Rattle.frame_codec.proofs.read.read_frames_of.Goals as goal

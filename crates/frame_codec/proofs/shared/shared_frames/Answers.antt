@@ -1,6 +1,6 @@
 use Rattle.std.proofs.Common.{◌≡◌, ℕ, map, drop, length, subst, arith, refl}
 use Rattle.std.proofs.lemmas.Bool.{false≢true}
-use Rattle.stored_states.specs.Views.{frame_of}
+use Rattle.machine_states.specs.Views.{frame_of}
 use Rattle.frame_codec.specs.Deltas.{Shares}
 use Rattle.frame_codec.proofs.Fronts.{goes_on, parts_here, ends_last}
 use Rattle.frame_codec.proofs.shared.shared_frames.Goals as goal

@@ -1,5 +1,5 @@
 use Rattle.std.proofs.Common.{map, drop}
-use Rattle.stored_states.specs.Views.{frame_of}
+use Rattle.machine_states.specs.Views.{frame_of}
 use Rattle.frame_codec.proofs.Fronts.{SoFar}
 use Rattle.frame_codec.proofs.shared.shared_frames.Given as goal
 

@@ -1,5 +1,5 @@
 use Rattle.std.proofs.Common.{sym, ap, ◌∙◌, option_map}
-use Rattle.stored_states.specs.Views.{suspended_of}
+use Rattle.machine_states.specs.Views.{suspended_of}
 use Rattle.frame_codec.proofs.States.{found_is_spelled, none_has_these}
 use Rattle.frame_codec.proofs.state.decode.Goals as goal
 

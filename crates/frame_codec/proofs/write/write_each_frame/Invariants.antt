@@ -1,6 +1,6 @@
 use Rattle.std.proofs.Common.{◌≡◌, ◌++◌, map, drop}
 use Rattle.std.specs.List.{AllByRecursion, flat_map}
-use Rattle.stored_states.specs.Views.{frame_of}
+use Rattle.machine_states.specs.Views.{frame_of}
 use Rattle.frame_codec.specs.Spelling.{frame_bytes, FrameHasBytes}
 use Rattle.frame_codec.proofs.write.write_each_frame.Given as goal
 

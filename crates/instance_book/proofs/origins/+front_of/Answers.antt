@@ -1,9 +1,9 @@
 use Rattle.std.proofs.Common.{◌≡◌, ◌∙◌, ap, sym, subst, suc, ◌-◌, Option, Some, option_map, refl, arith}
 use Rattle.std.proofs.lemmas.Option.{same_Some}
 use Rattle.script_nodes.specs.Views.{named_of}
-use Rattle.machine_spec.specs.Machine.{Suspended}
-use Rattle.stored_states.specs.declared.frame.Suspended as stored
-use Rattle.stored_states.specs.Views.{suspended_of}
+use Rattle.machine_states.specs.Machine.{Suspended}
+use Rattle.machine_states.specs.declared.frame.Suspended as stored
+use Rattle.machine_states.specs.Views.{suspended_of}
 use Rattle.frame_codec.specs.Deltas.{joined}
 use Rattle.frame_codec.specs.DeltaViews.{delta_of}
 use Rattle.frame_codec.specs.Fronts.{front, shared_need}

@@ -1,7 +1,7 @@
 use Rattle.std.proofs.Common.{ap, sym, subst, Some}
 use Rattle.script_nodes.specs.Arena.{Arena}
-use Rattle.stored_states.specs.Views.{suspended_of}
-use Rattle.machine_spec.specs.Fits.{Fits}
+use Rattle.machine_states.specs.Views.{suspended_of}
+use Rattle.machine_states.specs.Fits.{Fits}
 use Rattle.frame_codec.specs.Stored.{IsStored}
 use Rattle.instance_book.proofs.Behind.{arena_again}
 use Rattle.instance_book.proofs.origins.origin_at.Goals as goal

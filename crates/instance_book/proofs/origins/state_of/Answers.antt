@@ -2,7 +2,7 @@ use Rattle.std.proofs.Common.{◌-◌, ◌<◌, ◌^◌, List, length, ap, refl,
 use Rattle.std.proofs.lemmas.List.{length-map}
 use Rattle.script_value.specs.Val.{Val}
 use Rattle.script_value.specs.Views.{meaning}
-use Rattle.stored_states.specs.declared.frame.Frame.{Frame}
+use Rattle.machine_states.specs.declared.frame.Frame.{Frame}
 use Rattle.instance_book.proofs.Whole.{is_whole}
 use Rattle.instance_book.proofs.origins.state_of.Goals as goal
 

@@ -2,10 +2,10 @@ use Rattle.std.proofs.Common.{◌∙◌, ap}
 use Rattle.script_value.specs.Views.{meaning}
 use Rattle.segments.specs.Views.{outcome_of}
 use Rattle.segment_progress.specs.States.{state_of}
-use Rattle.machine_spec.specs.Machine.{inside_of, Suspended}
+use Rattle.machine_states.specs.Machine.{inside_of, Suspended}
 use Rattle.cek_machine.specs.Spots.{frames_of}
 use Rattle.cek_machine.specs.Machines.{machine_of, kept_of}
-use Rattle.stored_states.specs.declared.segment.Segment.{Segment}
+use Rattle.machine_states.specs.declared.segment.Segment.{Segment}
 use Rattle.send_suspend.specs.Segments.{newest}
 use Rattle.send_suspend.proofs.Law.{Came, came, is_stop}
 use Rattle.send_suspend.proofs.run.run_segment.Given as given

@@ -8,7 +8,7 @@ use Rattle.play_desk.specs.Opening.{IsClosedBy}
 use Rattle.server_command.specs.Output.{sinks_of}
 use Rattle.server_command.specs.Racks.{racks_of}
 use Rattle.server_command.specs.Telling.{TellsUnopened}
-use Rattle.load_run.proofs.Going.{told_by}
+use Rattle.measured_run.proofs.Going.{told_by}
 use Rattle.server_command.proofs.Opened.{again_outputs, first_outputs}
 use Rattle.server_command.proofs.Openings.{both_tell}
 use Rattle.server_command.proofs.Playing.{done_outputs, line_outputs, memory_outputs, write_outputs}

@@ -3,10 +3,10 @@ use Rattle.script_nodes.specs.Views.{scripts_of}
 use Rattle.page_journal.specs.Records.{stored}
 use Rattle.page_journal.specs.Settled.{bodies_in, length_of}
 use Rattle.journal_records.specs.Records.{begun_length}
-use Rattle.journal_books.specs.Before.{state_at}
-use Rattle.journal_books.specs.Making.{nothing, begun, book_of}
-use Rattle.journal_books.specs.Standing.{IsBook, Makes}
-use Rattle.journal_books.specs.Keeping.{first_body}
+use Rattle.journal_spec.specs.Before.{state_at}
+use Rattle.journal_spec.specs.Making.{nothing, begun, book_of}
+use Rattle.journal_spec.specs.Standing.{IsBook, Makes}
+use Rattle.journal_spec.specs.Keeping.{first_body}
 use Rattle.book_recovery.specs.declared.found.Found.{Found}
 use Rattle.book_recovery.specs.Found.{Finds, IsFoundInOrder, book_with}
 use Rattle.shelf.proofs.Openings.{none_read, nine, empty_in_order, begun_book, begun_fit, found_fit, found_begun, found_told}

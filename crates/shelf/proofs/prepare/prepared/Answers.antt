@@ -2,7 +2,7 @@ use Rattle.std.proofs.Common.{◌∙◌, ap, refl, ℕ, None, Result, IfOk}
 use Rattle.script_value.specs.declared.outcome.Reply.{Reply}
 use Rattle.script_nodes.specs.Views.{scripts_of}
 use Rattle.page_names.specs.Views.{target_of}
-use Rattle.stored_states.specs.Views.{segment_of}
+use Rattle.machine_states.specs.Views.{segment_of}
 use Rattle.replay_spec.specs.Admission.{refusal_of, admit}
 use Rattle.replay_spec.specs.Step.{publish_comes}
 use Rattle.instance_book.specs.declared.prepared.Prepared.{Prepared}
@@ -11,7 +11,7 @@ use Rattle.instance_book.specs.Changes.{HasDeadlineBy}
 use Rattle.instance_book.specs.Prepares.{Prepares, IsPrepared, KeepsItsState}
 use Rattle.instance_book.specs.Views.{book_of, ticket_of}
 use Rattle.shelf.specs.Views.{unmeasured}
-use Rattle.ticket_runs.proofs.Replayed.{if_ok}
+use Rattle.shelf.proofs.Replayed.{if_ok}
 use Rattle.shelf.proofs.Beside.{admit_same, fits_at, segment_at, prepares_by}
 use Rattle.shelf.proofs.Deciding.{decides, tells_of_run}
 use Rattle.shelf.proofs.Now.{both_ok}

@@ -2,7 +2,7 @@ use Rattle.std.proofs.Common.{Option, IfSome, subst, sym}
 use Rattle.instance_book.specs.declared.prepared.Change.{Change}
 use Rattle.instance_book.specs.declared.ticket.Ticket.{Ticket}
 use Rattle.instance_book.specs.Told.{AnswersGiven}
-use Rattle.ticket_runs.proofs.Replayed.{if_ok}
+use Rattle.shelf.proofs.Replayed.{if_ok}
 use Rattle.shelf.specs.Recording.{GoesOnAsGiven}
 use Rattle.shelf.proofs.Written.{goes_alike}
 use Rattle.shelf.proofs.recording.goes_on_from_book.Goals as goal

@@ -1,5 +1,5 @@
 use Rattle.std.proofs.Common.{◌≡◌, ◌∙◌, ◌∷◌, ap, sym, ℕ, Some, option_map}
-use Rattle.stored_states.specs.Views.{suspended_of}
+use Rattle.machine_states.specs.Views.{suspended_of}
 use Rattle.kept_states.specs.Kept.{bytes_of, kept_of}
 use Rattle.shelf.specs.Recording.{state_of}
 use Rattle.shelf.proofs.Told.{kept_told, kept_spelled, kept_binds}

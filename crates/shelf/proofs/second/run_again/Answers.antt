@@ -1,8 +1,8 @@
 use Rattle.std.proofs.Common.{◌≡◌, sym, subst}
 use Rattle.script_nodes.specs.Views.{scripts_of}
-use Rattle.stored_states.specs.declared.segment.Segment.{Segment}
-use Rattle.ticket_runs.specs.Runs.{IsRunOver}
-use Rattle.ticket_runs.proofs.Replayed.{if_ok}
+use Rattle.machine_states.specs.declared.segment.Segment.{Segment}
+use Rattle.shelf.specs.Runs.{IsRunOver}
+use Rattle.shelf.proofs.Replayed.{if_ok}
 use Rattle.shelf.proofs.second.run_again.Goals as goal
 
 pub returns-clause-run : goal.returns-clause-run

@@ -9,9 +9,9 @@ use Rattle.replay_spec.specs.Admission.{admit}
 use Rattle.instance_book.specs.Admissions.{book_under}
 use Rattle.instance_book.specs.Swept.{cells_in}
 use Rattle.instance_book.proofs.Seen.{cells_seen}
-use Rattle.stored_states.specs.Views.{segment_of}
+use Rattle.machine_states.specs.Views.{segment_of}
 use Rattle.shelf.specs.Holding.{AreHeld}
-use Rattle.ticket_runs.proofs.Replayed.{if_ok}
+use Rattle.shelf.proofs.Replayed.{if_ok}
 use Rattle.shelf.proofs.Now.{gone_segment, start_on, start_holds, keeps_state, held_segment, rerun_segment, page_held}
 use Rattle.shelf.proofs.second.segment_now.Goals as goal
 

@@ -19,7 +19,7 @@ use Rattle.site.specs.contracts.site.Site as Site
 use Rattle.site_serving.proofs.Crossings.{kept, row_pass, site_sync}
 use Rattle.request_workers.specs.Tallies.{count_of, IsBelow}
 use Rattle.request_workers.specs.declared.tally.Tally.{Tally}
-use Rattle.worker_threads.specs.Totals.{end_of, total}
+use Rattle.site_serving.specs.Totals.{end_of, total}
 use Rattle.site_serving.specs.Kept.{kept_of}
 use Rattle.site_serving.specs.Serving.{views}
 use Rattle.site_serving.proofs.Served.{all_small, as_many, door_rose, leaves_all}

@@ -1,5 +1,5 @@
 use Rattle.std.proofs.Common.{◌≡◌, sym, [], Some, refl, rules}
-use Rattle.journal_books.specs.Before.{state_at}
+use Rattle.journal_spec.specs.Before.{state_at}
 use Rattle.script_nodes.specs.Views.{scripts_of}
 use Rattle.journal_records.specs.Views.{logged_of}
 use Rattle.journal_records.specs.Reading.{read_record}

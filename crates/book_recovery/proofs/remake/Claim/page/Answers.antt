@@ -1,6 +1,6 @@
 use Rattle.std.proofs.Common.{◌≡◌, sym, subst, refl, Option, Some, None, IfSome, option_map}
-use Rattle.stored_states.specs.Views.{suspended_of}
-use Rattle.stored_states.specs.declared.frame.Suspended.{Suspended}
+use Rattle.machine_states.specs.Views.{suspended_of}
+use Rattle.machine_states.specs.declared.frame.Suspended.{Suspended}
 use Rattle.script_nodes.specs.Arena.{Arena}
 use Rattle.frame_codec.specs.Stored.{IsStored}
 use Rattle.frame_codec.specs.Forms.{read_form, IsStoredBefore}

@@ -1,7 +1,7 @@
 use Rattle.std.proofs.Common.{◌≡◌, ◌∙◌, suc, ap, subst, arith}
 use Rattle.script_nodes.specs.Arena.{Arena}
-use Rattle.machine_spec.specs.Machine.{goes, step}
-use Rattle.machine_spec.proofs.Replay.{steps_then}
+use Rattle.machine_states.specs.Machine.{goes, step}
+use Rattle.machine_states.proofs.Replay.{steps_then}
 use Rattle.cek_machine.specs.Machines.{machine_of}
 use Rattle.cek_machine.proofs.Standing.{fewer_left, within_on}
 use Rattle.cek_machine.proofs.machine.Machine.run.Goals as goal

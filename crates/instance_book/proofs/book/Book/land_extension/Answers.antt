@@ -1,7 +1,7 @@
 use Rattle.std.proofs.Common.{◌≡◌, ◌∙◌, ap, sym, subst, arith, refl, List, [], None, ℕ}
 use Rattle.replay_spec.specs.Book.{Instance}
 use Rattle.replay_spec.specs.Change.{mend}
-use Rattle.stored_states.specs.Views.{suspended_of}
+use Rattle.machine_states.specs.Views.{suspended_of}
 use Rattle.instance_book.specs.Views.{instance_of, instances_of}
 use Rattle.instance_book.specs.Places.{IsNextAt}
 use Rattle.instance_book.specs.Changes.{shown_with}

@@ -1,6 +1,6 @@
 use Rattle.std.proofs.Common.{◌≡◌, ◌∙◌, ◌<◌, length, ap, sym, subst, None, ℕ, refl}
 use Rattle.replay_spec.specs.Book as spec
-use Rattle.stored_states.specs.Views.{suspended_of}
+use Rattle.machine_states.specs.Views.{suspended_of}
 use Rattle.instance_book.specs.Changes.{changed_by, OpensKept}
 use Rattle.instance_book.specs.Told.{book_beside, effects_in}
 use Rattle.instance_book.specs.declared.prepared.Change.TheVariants.{Opens}

@@ -1,7 +1,7 @@
 use Rattle.std.proofs.Common.{◌∙◌, ap, sym, subst, arith, IfOk}
 use Rattle.page_names.specs.Views.{name_of, target_of}
 use Rattle.page_names.specs.declared.names.Target.{Target}
-use Rattle.stored_states.specs.Views.{segment_of}
+use Rattle.machine_states.specs.Views.{segment_of}
 use Rattle.replay_spec.specs.Admission.{admit}
 use Rattle.instance_book.specs.Views.{book_of}
 use Rattle.instance_book.specs.Prepares.{KeepsStateOf, IsOfSegment}

@@ -1,7 +1,7 @@
 use Rattle.std.proofs.Common.{◌≡◌, ◌∙◌, ap, sym, subst, ℕ, ◌+◌, ◌<◌, ◌^◌, [], length, Some, IfOk, nat_le, true, false, arith, inl}
 use Rattle.std.proofs.lemmas.Bool.Decides.{nat_tests}
 use Rattle.std.specs.Option.{option_copied}
-use Rattle.stored_states.specs.Views.{outcome_of, segment_of, state_of, suspended_of}
+use Rattle.machine_states.specs.Views.{outcome_of, segment_of, state_of, suspended_of}
 use Rattle.replay_spec.specs.Book.{Instance, instance_at}
 use Rattle.replay_spec.specs.Change.{done, shown_by}
 use Rattle.instance_book.specs.declared.prepared.Prepared.{Prepared}

@@ -1,6 +1,6 @@
 use Rattle.std.proofs.Common.{◌≡◌, ◌<◌, ◌^◌, ap, subst, ℕ, refl, length, nat_le, false, arith, inr}
 use Rattle.std.proofs.lemmas.Bool.Decides.{nat_tests}
-use Rattle.stored_states.specs.Views.{outcome_of, segment_of, state_of, suspended_of}
+use Rattle.machine_states.specs.Views.{outcome_of, segment_of, state_of, suspended_of}
 use Rattle.instance_book.specs.Views.{book_of, instance_of}
 use Rattle.instance_book.specs.Prepares.{IsOpening}
 use Rattle.instance_book.proofs.Seen.{length_seen}

@@ -6,7 +6,7 @@ use Rattle.instance_book.specs.declared.instance.KeptInstance.{KeptInstance}
 use Rattle.instance_book.specs.Places.{own, IsKept}
 use Rattle.script_nodes.specs.Views.{scripts_of}
 use Rattle.page_journal.specs.Settled.{bodies_in, length_of}
-use Rattle.journal_books.proofs.Standings.{stays_by, one_of}
+use Rattle.journal_spec.proofs.Standings.{stays_by, one_of}
 use Rattle.book_recovery.specs.Found.{book_with}
 use Rattle.page_journal.proofs.Mending.{leaves_then}
 use Rattle.shelf.specs.Owning.{HoldsOwnRecords}

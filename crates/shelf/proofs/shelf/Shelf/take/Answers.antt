@@ -10,7 +10,7 @@ use Rattle.replay_spec.specs.Admission.{refusal_of, admit}
 use Rattle.replay_spec.specs.Next as next
 use Rattle.replay_spec.specs.Step as step
 use Rattle.page_journal.specs.Settled.{length_of}
-use Rattle.journal_books.specs.Keeping.{HasWholeScripts}
+use Rattle.journal_spec.specs.Keeping.{HasWholeScripts}
 use Rattle.instance_book.specs.Fits.{FitsAs}
 use Rattle.instance_book.specs.Views.{book_of}
 use Rattle.instance_book.specs.Prepares.{HasItsScript}

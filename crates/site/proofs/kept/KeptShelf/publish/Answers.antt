@@ -7,7 +7,7 @@ use Rattle.instance_book.specs.Fits.{IsRunnable}
 use Rattle.instance_book.specs.Prepares.{HasItsScript}
 use Rattle.lock_row.proofs.Places.{map_snoc}
 use Rattle.shelf.specs.Views.{book_in}
-use Rattle.shelf_history.specs.Histories.{Entry}
+use Rattle.history_spec.specs.Histories.{Entry}
 use Rattle.site.specs.declared.entry.Did.TheVariants.{Publish}
 use Rattle.site.specs.Entries.{entry, entry_of, entries_of}
 use Rattle.site.specs.Sound.{IsSound}

@@ -2,7 +2,7 @@ use Rattle.std.proofs.Common.{◌≡◌, ◌∷◌, ◌++◌, [], List, rules, a
 use Rattle.replay_spec.specs.Step as step
 use Rattle.lock_row.proofs.Places.{map_snoc}
 use Rattle.shelf.specs.Views.{swept_of}
-use Rattle.shelf_history.specs.Histories.{Entry}
+use Rattle.history_spec.specs.Histories.{Entry}
 use Rattle.site.specs.declared.entry.Did.TheVariants.{Sweep}
 use Rattle.site.specs.Entries.{entry, entry_of, entries_of}
 use Rattle.site.specs.Sound.{IsSound}

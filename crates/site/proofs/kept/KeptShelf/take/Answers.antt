@@ -10,7 +10,7 @@ use Rattle.instance_book.specs.Makes.{HasItsStates}
 use Rattle.instance_book.specs.Prepares.{HasItsScript}
 use Rattle.lock_row.proofs.Places.{map_snoc}
 use Rattle.shelf.specs.Views.{IsEvent, book_in, rules_of, taken_of}
-use Rattle.shelf_history.specs.Histories.{Entry}
+use Rattle.history_spec.specs.Histories.{Entry}
 use Rattle.site.specs.declared.entry.Did.TheVariants.{Take}
 use Rattle.site.specs.Entries.{entry, entry_of, entries_of}
 use Rattle.site.specs.Sound.{IsSound, Holds}

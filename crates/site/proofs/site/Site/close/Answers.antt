@@ -2,8 +2,8 @@ use Rattle.std.proofs.Common.{rules, ◌≡◌, ◌++◌, ◌∷◌, [], length,
 use Rattle.lock_row.proofs.Ends.{zip_get, zip_length}
 use Rattle.lock_row.proofs.Lockings.{reverse_snoc}
 use Rattle.lock_row.proofs.Places.{map_snoc, map_length, map_get, get_map, one_of}
-use Rattle.shelf_history.specs.Histories.{own_of}
-use Rattle.shelf_history.specs.Passes.{IsSeenBy}
+use Rattle.history_spec.specs.Histories.{own_of}
+use Rattle.history_spec.specs.Passes.{IsSeenBy}
 use Rattle.site.specs.Entries.{entries_of}
 use Rattle.site.specs.Passes.{seen_by}
 use Rattle.site.specs.Sound.{StandsFor}

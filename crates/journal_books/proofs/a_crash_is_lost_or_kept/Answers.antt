@@ -1,5 +1,0 @@
-use Rattle.journal_books.proofs.Between as laws
-use Rattle.journal_books.proofs.a_crash_is_lost_or_kept.Goals as goal
-
-pub returns : goal.returns
-returns c = laws.lost_or_kept c.records_are_exact.ensures

@@ -1,5 +1,0 @@
-use Rattle.journal_books.proofs.Between as laws
-use Rattle.journal_books.proofs.books_stand_alike.Goals as goal
-
-pub returns : goal.returns
-returns c = laws.stand_alike

@@ -1,5 +1,0 @@
-use Rattle.journal_books.proofs.Kept as laws
-use Rattle.journal_books.proofs.landings_are_kept.Goals as goal
-
-pub returns : goal.returns
-returns c = laws.landing_kept c.records_are_exact.ensures

@@ -1,5 +1,0 @@
-use Rattle.journal_books.proofs.Between as laws
-use Rattle.journal_books.proofs.landings_stand_between.Goals as goal
-
-pub returns : goal.returns
-returns c = laws.landing_between c.records_are_exact.ensures

@@ -1,5 +1,0 @@
-use Rattle.journal_books.proofs.Fitting as laws
-use Rattle.journal_books.proofs.only_its_begin_begins.Goals as goal
-
-pub returns : goal.returns
-returns c = laws.only_begin

@@ -1,5 +1,0 @@
-use Rattle.journal_books.proofs.Telling.{own_are_told}
-use Rattle.journal_books.proofs.own_states_are_told.Goals as goal
-
-pub returns : goal.returns
-returns c = own_are_told

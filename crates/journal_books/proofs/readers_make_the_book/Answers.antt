@@ -1,5 +1,0 @@
-use Rattle.journal_books.proofs.Readings as laws
-use Rattle.journal_books.proofs.readers_make_the_book.Goals as goal
-
-pub returns : goal.returns
-returns g c = laws.make_the_book g.T.Take.takes

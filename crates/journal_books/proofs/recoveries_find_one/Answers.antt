@@ -1,5 +1,0 @@
-use Rattle.journal_books.proofs.Standings as laws
-use Rattle.journal_books.proofs.recoveries_find_one.Goals as goal
-
-pub returns : goal.returns
-returns g c = λ told scripts shelf disk m makes. laws.one_of scripts shelf (g.D.Disk.view disk) m (g.met.D.Disk.reads_image disk told) makes

@@ -1,5 +1,0 @@
-use Rattle.journal_books.proofs.Standings as laws
-use Rattle.journal_books.proofs.recoveries_stay.Goals as goal
-
-pub returns : goal.returns
-returns g c = λ scripts shelf old new may closed. laws.stays_by scripts shelf (g.D.Disk.view old) (g.D.Disk.view new) may closed

@@ -1,5 +1,0 @@
-use Rattle.journal_books.proofs.Runs as laws
-use Rattle.journal_books.proofs.runs_stay_shallow.Goals as goal
-
-pub returns : goal.returns
-returns c = laws.stay_shallow

@@ -1,0 +1,68 @@
+-- What holds of disks that stand for books, by the calls of their journals.
+use Rattle.std.specs.Prelude.{◌≡◌, ℕ, List, Some, None}
+use Rattle.script_nodes.specs.Setup.{Named}
+use Rattle.web_disk.specs.View.{View, NoNewImage, Elapses, LeavesOnly}
+use Rattle.page_journal.specs.Holding.{MayHold, MayHoldNowAndThroughout, ClosedNowAndThroughout}
+use Rattle.page_journal.specs.Settled.{IsSettled, view_of, bodies_in}
+use Rattle.page_journal.specs.declared.journal.Journal.{Journal}
+use Rattle.replay_spec.specs.Book.{Book, reopened}
+use Rattle.journal_spec.specs.Before.{Made}
+use Rattle.journal_spec.specs.Making.{made, begun, book_in_bytes}
+use Rattle.journal_spec.specs.Keeping.{Keeps}
+use Rattle.journal_spec.specs.Standing.{Makes, Between, if_kept, Stands, Throughout, StaysThroughout, IsOneOf}
+
+-- Whatever two books a disk stood between, at each moment of a recovery a crash leaves it there.
+abbrev pub RecoveriesStay : {D : Type 0} → (D → View) → Type 0
+RecoveriesStay {D} view =
+    (scripts : List Named) (shelf : ℕ) (old new : D)
+    → MayHoldNowAndThroughout (view old) (view new) → ClosedNowAndThroughout (view old) (view new)
+    → StaysThroughout scripts shelf (view old) (view new)
+
+-- The book that a recovery makes of what it reads is one of the two that the disk stood between.
+abbrev pub RecoveriesFindOne : {D : Type 0} → (D → View) → Type 0
+RecoveriesFindOne {D} view =
+    (scripts : List Named) (shelf : ℕ) (disk : D) (m : Made)
+    → begun scripts shelf (book_in_bytes scripts shelf (view disk).seen) ≡ made m
+    → IsOneOf scripts shelf (view disk) m.book
+
+-- A journal that can go on stands for the book that its records make, where nothing is in doubt.
+abbrev pub SettledJournalsStand : {D : Type 0} → (D → View) → Type 0
+SettledJournalsStand {D} view =
+    (scripts : List Named) (shelf : ℕ) (journal : Journal D) (b : Book) → IsSettled view journal
+    → Makes scripts shelf (bodies_in view journal) b → b.down ≡ None
+    → Stands scripts shelf (view_of view journal) b
+
+-- A call that leaves no new image leaves a disk standing for its book, at each moment.
+abbrev pub QuietCallsStand : {D : Type 0} → (D → View) → Type 0
+QuietCallsStand {D} view =
+    (scripts : List Named) (shelf : ℕ) (b : Book) (old new : D) → (s : Stands scripts shelf (view old) b)
+    → NoNewImage (view old) (view new) → Elapses (view old) (view new)
+    → Throughout scripts shelf b (if_kept s.0 b) (view old) (view new)
+    × ((t : Stands scripts shelf (view new) b) × (t.0 ≡ s.0))
+
+-- A settled journal that makes room for a record and then adds it stands between the book before and the one after it, at
+-- each moment, whatever the answer was.
+abbrev pub AppendsStandBetween : {D : Type 0} → (D → View) → Type 0
+AppendsStandBetween {D} view =
+    (scripts : List Named) (shelf : ℕ) (before after : Book) (old mid new : Journal D) (body : List ℕ)
+    → IsSettled view old
+    → (k : Between scripts shelf before after) → k.bodies ≡ bodies_in view old → k.more ≡ Some body
+    → NoNewImage (view_of view old) (view_of view mid) → Elapses (view_of view old) (view_of view mid)
+    → LeavesOnly (view_of view mid) (view_of view new) (MayHold (bodies_in view old) body)
+    → Throughout scripts shelf before after (view_of view old) (view_of view new)
+
+-- A call that stood between the book before and the one after it leaves the disk standing for the book that it left, also
+-- where it failed, with what is in doubt as long as it was there.
+abbrev pub CallsLeaveStanding : {D : Type 0} → (D → View) → Type 0
+CallsLeaveStanding {D} view =
+    (scripts : List Named) (shelf n : ℕ) (before after b : Book) (old new : D)
+    → Throughout scripts shelf before after (view old) (view new)
+    → reopened before ≡ reopened b → reopened after ≡ reopened (if_kept n b)
+    → (t : Stands scripts shelf (view new) b) × (t.0 ≡ n)
+
+-- What a shelf promises of its journal, and asks for: where nothing is in doubt, it can go on, and its records make the book;
+-- a crash leaves what makes the book, with what is in doubt or without it.
+pub record IsFit {D : Type 0} (view : D → View) (scripts : List Named) (shelf : ℕ) (journal : Journal D) (b : Book) : Type 0 where
+  pub settled : b.down ≡ None → IsSettled view journal
+  pub holds : b.down ≡ None → Keeps scripts shelf (bodies_in view journal) b
+  pub stands : Stands scripts shelf (view_of view journal) b

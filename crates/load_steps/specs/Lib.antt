@@ -1,6 +1,0 @@
-pub mod Scripts
-pub mod Generator
-pub mod Lines
-pub mod Tallies
-pub mod Laws
-pub mod Vectors

@@ -1,5 +1,0 @@
-use Rattle.std.proofs.Common.{◌≡◌}
-use Rattle.lock_tests.proofs.counting.count_up.Given as goal
-
-abbrev pub invariant-loop-turn : goal.invariant-loop-turn
-invariant-loop-turn g l = l.pass.seat.table_id ≡ l.fn.lock.board.shared.table_id

@@ -1,5 +1,0 @@
-use Rattle.machine_spec.proofs.Unbound.{none_is_unbound}
-use Rattle.machine_spec.proofs.no_cell_is_unbound.Goals as goal
-
-pub returns : goal.returns
-returns c = none_is_unbound

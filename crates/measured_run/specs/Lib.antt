@@ -1,0 +1,12 @@
+pub mod Scripts
+pub mod Generator
+pub mod Lines
+pub mod Tallies
+pub mod Laws
+pub mod Vectors
+pub mod Drawing
+pub mod Counting
+pub mod Course
+pub mod Setups
+pub mod Fnv
+pub mod FnvVectors
