@@ -1,14 +1,17 @@
 -- One clause of a `cond` after the other.
-use Rattle.std.proofs.Common.{◌≡◌, ℕ, zero, suc, ◌+◌, ◌<◌, Bool, List, [], ◌∷◌, ◌++◌, length, map, drop, get_or, Result, Err, refl, sym, subst, arith}
+use Rattle.std.proofs.Common.{◌≡◌, ℕ, zero, suc, ◌+◌, ◌<◌, Bool, List, [], ◌∷◌, ◌++◌, length, map, drop, get_or, Result, Ok, Err, refl, sym, subst, arith}
 use Rattle.script_value.specs.Val.{vals_of}
 use Rattle.script_value.specs.Views.{meaning}
 use Rattle.script_value.specs.declared.value.Value.{Value}
 use Rattle.core_syntax.specs.declared.faults.SyntaxKind.{SyntaxKind}
 use Rattle.core_syntax.specs.declared.faults.ReadFault.{ReadFault}
 use Rattle.core_syntax.specs.declared.faults.ReadFault.TheVariants.{Memory, Syntax}
-use Rattle.script_nodes.specs.Core.{Core}
+use Rattle.script_nodes.specs.Core.{Core, branch}
 use Rattle.core_syntax.specs.Names.{◌>>=◌, CellNames}
-use Rattle.core_syntax.specs.Forms.{choices, choice}
+use Rattle.core_syntax.specs.Forms.{choices, choice, choose, pair}
+use Rattle.std.specs.Prelude.{Vec}
+use Rattle.std.specs.declared.alloc.Global.{Global}
+use Rattle.core_syntax.specs.declared.tree.Choice.{Choice}
 use Rattle.core_syntax.specs.Trees.{pair_of}
 use Rattle.core_syntax.specs.Gives.{Gives}
 
@@ -32,3 +35,16 @@ clause_stops x d (Syntax k) r f q a b g h = rw (a, b, h, g) refl
 
 pub gives_same : (x : Result Core ReadFault) (q r : Result Core SyntaxKind) → q ≡ r → Gives (λ c. c) x r → Gives (λ c. c) x q
 gives_same x q r e h = subst (λ (p : Result Core SyntaxKind). Gives (λ c. c) x p) (sym e) h
+
+-- a choice of two is one choice and what is taken otherwise
+pub both_first : (r s q : Result Core SyntaxKind)
+    → (r >>= (λ x. s >>= (λ y. q >>= (λ z. Ok (branch x y z))))) ≡ ((pair r s >>= (λ p. Ok (p ∷ []))) >>= (λ cs. q >>= (λ z. Ok (choose cs z))))
+both_first (Ok x) (Ok y) q = refl
+both_first (Ok x) (Err k) q = refl
+both_first (Err k) s q = refl
+
+-- a fault of a choice is the fault of all
+pub both_stop : (x : Result Core ReadFault) (d e : ReadFault) (r : Result (List (Core × Core)) SyntaxKind) (f : List (Core × Core) → Result Core SyntaxKind) (q : Result Core SyntaxKind)
+    → x ≡ Err d → d ≡ e → Gives (λ (v : Vec Choice Global). map pair_of v.items) (Err e) r → q ≡ r >>= f → Gives (λ c. c) x q
+both_stop x d Memory r f q a b g h = rw (a, b) tt
+both_stop x d (Syntax k) r f q a b g h = rw (a, b, h, g) refl

@@ -11,7 +11,15 @@ use Rattle.script_nodes.specs.declared.script.Node.{Node}
 use Rattle.script_nodes.specs.declared.script.Node.TheVariants as node
 use Rattle.script_nodes.specs.Core.{Core, Cores, bind, branch, seq, no_cores, cores_of, count, count_all, height, height_all}
 use Rattle.script_nodes.specs.Layout.{layout, layout_all, starts, value_from}
-use Rattle.core_syntax.specs.Laid.{Lacks, Stands, StandAll, StandScript, Lays, LaysAll}
+use Rattle.core_syntax.specs.Laid.{Lacks, Stands, StandAll, StandScript, Lays, LaysAll, LaysGroup}
+use Rattle.core_syntax.specs.declared.tree.Group.{Group}
+use Rattle.core_syntax.specs.declared.tree.Group.TheVariants as group
+use Rattle.core_syntax.specs.declared.tree.Single.{Single}
+use Rattle.core_syntax.specs.declared.tree.Single.TheVariants as single
+use Rattle.core_syntax.specs.declared.heads.LastPage.TheVariants.{Finish, Back}
+use Rattle.core_syntax.specs.declared.heads.Store.TheVariants.{Shadow, Set, Add}
+use Rattle.core_syntax.specs.Groups.{group_node, single_node}
+use Rattle.core_syntax.specs.Trees.{over_part, over_parts}
 
 pub value_from-meaning : (v : Value) → value_from (meaning v) ≡ v
 value_from-meaning (value.Int n) = refl
@@ -81,6 +89,27 @@ pub group_of : {s0 s1 s2 s3 : List Node} {left n : ℕ} {ns : List ℕ} {x : Nod
 group_of {s0} {s1} {s2} {s3} {left} {n} {ns} {x} {cs} f a b w l =
     let numbers : ns ≡ starts (length s0 + 1) cs = b.first ∙ ap (λ k. starts k cs) a.grown in
     set_head (f (starts (length s0 + 1) cs)) (parts_behind a b) (w ∙ ap (λ r. slice_set s2 n (f r)) numbers) l
+
+-- a node over parts in a row is its tree's
+pub group_laid : (g : Group) (es : List Core) (r : Result ℕ LayFault) (old new : List Node) (left : ℕ)
+    → LaysGroup r old new left (group_node g) (cores_of es) → Lays r old new left (over_parts g es)
+group_laid group.Seq es r old new left h = h
+group_laid group.And es r old new left h = h
+group_laid group.Or es r old new left h = h
+group_laid (group.Prim o) es r old new left h = h
+group_laid (group.Call k) es r old new left h = h
+
+-- a node over one part is its tree's
+pub single_laid : (s : Single) (b : Core) (old new : List Node) (left n : ℕ)
+    → Stands old new left n (single_node s (length old + 1) ∷ layout (length old + 1) b) (suc (count b)) (suc (height b))
+    → Stands old new left n (layout (length old) (over_part s b)) (count (over_part s b)) (height (over_part s b))
+single_laid (single.Send kind) b old new left n h = h
+single_laid (single.Last Finish) b old new left n h = h
+single_laid (single.Last Back) b old new left n h = h
+single_laid single.Isolate b old new left n h = h
+single_laid (single.Store Shadow c) b old new left n h = h
+single_laid (single.Store Set c) b old new left n h = h
+single_laid (single.Store Add c) b old new left n h = h
 
 -- bindings and a body
 pub let_of : {s0 s1 s2 s3 s4 : List Node} {left n m k : ℕ} {ns : List ℕ} {x : Node} {es : Cores} (b : Core)

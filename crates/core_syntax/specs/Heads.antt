@@ -41,7 +41,7 @@ page_form_of s =
     if bytes_eq s (codes "isolate") then Some head.Isolate else
     if bytes_eq s (codes "call") then Some head.Call else None
 
--- the operations on numbers, and the tests of what a value is
+-- the operations on numbers
 unfoldable pub number_operation_of : List ℕ → Option Head
 number_operation_of s =
     if bytes_eq s (codes "+") then Some (head.Apply op.Add) else
@@ -53,7 +53,11 @@ number_operation_of s =
     if bytes_eq s (codes "<") then Some (head.Apply op.Less) else
     if bytes_eq s (codes ">") then Some (head.Apply op.Greater) else
     if bytes_eq s (codes "<=") then Some (head.Apply op.AtMost) else
-    if bytes_eq s (codes ">=") then Some (head.Apply op.AtLeast) else
+    if bytes_eq s (codes ">=") then Some (head.Apply op.AtLeast) else None
+
+-- the tests of truth, of sameness and of what a value is
+unfoldable pub test_of : List ℕ → Option Head
+test_of s =
     if bytes_eq s (codes "not") then Some (head.Apply op.Not) else
     if bytes_eq s (codes "equal?") then Some (head.Apply op.IsEqual) else
     if bytes_eq s (codes "number?") then Some (head.Apply op.IsNumber) else
@@ -63,9 +67,9 @@ number_operation_of s =
     if bytes_eq s (codes "list?") then Some (head.Apply op.IsList) else
     if bytes_eq s (codes "null?") then Some (head.Apply op.IsNull) else None
 
--- the operations on lists, texts and answers
-unfoldable pub data_operation_of : List ℕ → Option Head
-data_operation_of s =
+-- the operations on lists
+unfoldable pub list_operation_of : List ℕ → Option Head
+list_operation_of s =
     if bytes_eq s (codes "list") then Some (head.Apply op.List) else
     if bytes_eq s (codes "cons") then Some (head.Apply op.Cons) else
     if bytes_eq s (codes "car") then Some (head.Apply op.Car) else
@@ -73,7 +77,11 @@ data_operation_of s =
     if bytes_eq s (codes "append") then Some (head.Apply op.Append) else
     if bytes_eq s (codes "length") then Some (head.Apply op.Length) else
     if bytes_eq s (codes "reverse") then Some (head.Apply op.Reverse) else
-    if bytes_eq s (codes "list-ref") then Some (head.Apply op.ListRef) else
+    if bytes_eq s (codes "list-ref") then Some (head.Apply op.ListRef) else None
+
+-- the operations on texts and answers
+unfoldable pub text_operation_of : List ℕ → Option Head
+text_operation_of s =
     if bytes_eq s (codes "string-append") then Some (head.Apply op.StringAppend) else
     if bytes_eq s (codes "string-length") then Some (head.Apply op.StringLength) else
     if bytes_eq s (codes "string=?") then Some (head.Apply op.StringEqual) else
@@ -85,6 +93,10 @@ data_operation_of s =
     if bytes_eq s (codes "extract-bindings") then Some (head.Apply op.ExtractBindings) else
     if bytes_eq s (codes "exists-binding?") then Some (head.Apply op.ExistsBinding) else None
 
+-- the operation of a name
+abbrev pub operation_of : List ℕ → Option Head
+operation_of s = option_or (option_or (number_operation_of s) (test_of s)) (option_or (list_operation_of s) (text_operation_of s))
+
 -- the form or the operation of a name at the head of a list
 abbrev pub head_of : List ℕ → Option Head
-head_of s = option_or (option_or (syntax_of s) (page_form_of s)) (option_or (number_operation_of s) (data_operation_of s))
+head_of s = option_or (option_or (syntax_of s) (page_form_of s)) (operation_of s)

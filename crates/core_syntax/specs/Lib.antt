@@ -25,3 +25,4 @@ pub mod Views
 pub mod Laid
 pub mod Groups
 pub mod Expands
+pub mod ExpandsSeen

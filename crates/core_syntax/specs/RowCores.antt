@@ -6,10 +6,11 @@ use Rattle.core_syntax.specs.declared.faults.SyntaxKind.TheVariants.{Duplicate}
 use Rattle.core_syntax.specs.declared.heads.Store.{Store}
 use Rattle.core_syntax.specs.declared.heads.LastPage.{LastPage}
 use Rattle.script_nodes.specs.declared.script.SendKind.{SendKind}
+use Rattle.script_value.specs.declared.outcome.Op.{Op}
 use Rattle.script_nodes.specs.Core.{Core, lit, var, bind, repeat, send, isolate, cores_of}
 use Rattle.core_syntax.specs.Names.{◌>>=◌, CellNames, repeats}
 use Rattle.core_syntax.specs.Shapes.{bound_name}
-use Rattle.core_syntax.specs.Forms.{core_of, cores_from, body_of, bound_values, values_in_turn, if_form, choices, filled, nest, ref, store, last_page, of_op, of_task, conjunction, disjunction, made}
+use Rattle.core_syntax.specs.Forms.{core_of, cores_from, body_of, bound_values, values_in_turn, if_form, choices, filled, nest, ref, store, last_page, of_op, of_task, conjunction, disjunction, made, pair}
 use Rattle.core_syntax.specs.Rows.{Row}
 use Rattle.core_syntax.specs.Rows as row
 
@@ -68,6 +69,22 @@ isolate_core cells scope e = made isolate (core_of cells scope false e)
 abbrev pub call_core : CellNames → List (List ℕ) → ℕ → Vals → Result Core SyntaxKind
 call_core cells scope k vs = made (of_task k) (cores_from cells scope false [] vs)
 
+-- the tree of the first of these whose value is false, or the last
+abbrev pub and_core : CellNames → List (List ℕ) → Bool → Vals → Result Core SyntaxKind
+and_core cells scope in_page vs = made conjunction (cores_from cells scope in_page [] vs)
+
+-- the tree of the first of these whose value is not false, or the last
+abbrev pub or_core : CellNames → List (List ℕ) → Bool → Vals → Result Core SyntaxKind
+or_core cells scope in_page vs = made disjunction (cores_from cells scope in_page [] vs)
+
+-- the tree of an operation over its operands
+abbrev pub prim_core : CellNames → List (List ℕ) → Bool → Op → Vals → Result Core SyntaxKind
+prim_core cells scope in_page o vs = made (of_op o) (cores_from cells scope in_page [] vs)
+
+-- the choice of a test and of what is taken where it is not false
+abbrev pub both : CellNames → List (List ℕ) → Bool → Val → Val → Result (List (Core × Core)) SyntaxKind
+both cells scope in_page test chosen = pair (core_of cells scope in_page test) (core_of cells scope in_page chosen) >>= (λ p. Ok (p ∷ []))
+
 abbrev pub core_in_row : CellNames → List (List ℕ) → Bool → Row → Result Core SyntaxKind
 core_in_row cells scope in_page (row.literal v) = Ok (lit v)
 core_in_row cells scope in_page (row.variable k) = Ok (var k)
@@ -75,8 +92,8 @@ core_in_row cells scope in_page (row.template t) = filled cells scope in_page t
 core_in_row cells scope in_page (row.bind bs body) = bind_core cells scope in_page bs body
 core_in_row cells scope in_page (row.bind_in_turn bs body) = bind_in_turn_core cells scope in_page bs body
 core_in_row cells scope in_page (row.begin vs) = body_of cells scope in_page vs
-core_in_row cells scope in_page (row.all vs) = made conjunction (cores_from cells scope in_page [] vs)
-core_in_row cells scope in_page (row.any vs) = made disjunction (cores_from cells scope in_page [] vs)
+core_in_row cells scope in_page (row.all vs) = and_core cells scope in_page vs
+core_in_row cells scope in_page (row.any vs) = or_core cells scope in_page vs
 core_in_row cells scope in_page (row.choice t a b) = if_form cells scope in_page (val t (val a (val b no_vals)))
 core_in_row cells scope in_page (row.clauses vs) = choices cells scope in_page [] vs
 core_in_row cells scope in_page (row.turns x e body) = turns_core cells scope in_page x e body
@@ -86,4 +103,4 @@ core_in_row cells scope in_page (row.send kind x body) = send_core cells scope k
 core_in_row cells scope in_page (row.last kind e) = last_core cells scope kind e
 core_in_row cells scope in_page (row.isolate e) = isolate_core cells scope e
 core_in_row cells scope in_page (row.call k vs) = call_core cells scope k vs
-core_in_row cells scope in_page (row.apply o vs) = made (of_op o) (cores_from cells scope in_page [] vs)
+core_in_row cells scope in_page (row.apply o vs) = prim_core cells scope in_page o vs

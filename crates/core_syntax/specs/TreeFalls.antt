@@ -8,6 +8,8 @@ use Rattle.core_syntax.specs.declared.heads.Store.TheVariants.{Shadow, Set, Add}
 use Rattle.script_nodes.specs.Core.{Core, height, height_all, cores_of}
 use Rattle.core_syntax.specs.declared.tree.Form.{Form}
 use Rattle.core_syntax.specs.declared.tree.Form.TheVariants as form
+use Rattle.core_syntax.specs.declared.tree.Group.TheVariants as group
+use Rattle.core_syntax.specs.declared.tree.Single.TheVariants as single
 use Rattle.core_syntax.specs.declared.tree.Choice.{Choice}
 use Rattle.core_syntax.specs.declared.tree.Tree.TheDeep.{deep-Form, deep-Choice}
 use Rattle.core_syntax.specs.Forms.{nest, choose}
@@ -45,17 +47,17 @@ form_falls (form.Ref Web c) = omega arith
 form_falls (form.Ref Instance c) = omega arith
 form_falls (form.Let es b) = omega (arith, most_falls es.items)
 form_falls (form.Nest es b) = omega (arith, nested_falls es.items b.value)
-form_falls (form.Seq es) = omega (arith, most_falls es.items)
-form_falls (form.And es) = omega (arith, most_falls es.items)
-form_falls (form.Or es) = omega (arith, most_falls es.items)
-form_falls (form.Prim o es) = omega (arith, most_falls es.items)
-form_falls (form.Call k es) = omega (arith, most_falls es.items)
+form_falls (form.Group group.Seq es) = omega (arith, most_falls es.items)
+form_falls (form.Group group.And es) = omega (arith, most_falls es.items)
+form_falls (form.Group group.Or es) = omega (arith, most_falls es.items)
+form_falls (form.Group (group.Prim o) es) = omega (arith, most_falls es.items)
+form_falls (form.Group (group.Call k) es) = omega (arith, most_falls es.items)
 form_falls (form.Cond cs o) = omega (arith, chosen_falls cs.items o.value)
 form_falls (form.For n b) = omega arith
-form_falls (form.Send kind b) = omega arith
-form_falls (form.Last Finish b) = omega arith
-form_falls (form.Last Back b) = omega arith
-form_falls (form.Isolate b) = omega arith
-form_falls (form.Store Shadow c e) = omega arith
-form_falls (form.Store Set c e) = omega arith
-form_falls (form.Store Add c e) = omega arith
+form_falls (form.Single (single.Send kind) b) = omega arith
+form_falls (form.Single (single.Last Finish) b) = omega arith
+form_falls (form.Single (single.Last Back) b) = omega arith
+form_falls (form.Single single.Isolate b) = omega arith
+form_falls (form.Single (single.Store Shadow c) e) = omega arith
+form_falls (form.Single (single.Store Set c) e) = omega arith
+form_falls (form.Single (single.Store Add c) e) = omega arith

@@ -6,7 +6,7 @@ use Rattle.core_syntax.specs.declared.faults.SyntaxKind.{SyntaxKind}
 use Rattle.core_syntax.specs.declared.faults.SyntaxKind.TheVariants.{Shape, Unbound, Duplicate, Arity, NoElse, NestedSend, Effect}
 use Rattle.script_nodes.specs.declared.script.SendKind.TheVariants.{Suspend, Forward}
 use Rattle.script_nodes.specs.Core.{Core, lit, var, bind, branch, repeat, prim, seq, and_all, or_any, send, finish, back, isolate, cell_ref, cell_shadow, inst_ref, inst_set, inst_add, cores_of}
-use Rattle.core_syntax.specs.Heads.{syntax_of, page_form_of, number_operation_of, data_operation_of}
+use Rattle.core_syntax.specs.Heads.{syntax_of, page_form_of, number_operation_of, test_of, list_operation_of, text_operation_of}
 use Rattle.core_syntax.specs.Names.{CellNames}
 use Rattle.core_syntax.specs.Forms.{core_of}
 
@@ -56,7 +56,7 @@ pub faults_of_heads : map fault (
     (symbol (codes "list")) ∷
     (symbol (codes "w")) ∷ [])
     ≡ Some Shape ∷ Some Shape ∷ Some Shape ∷ Some Shape ∷ Some Shape ∷ Some Shape ∷ Some Shape ∷ Some Shape ∷ Some Shape ∷ Some Unbound ∷ Some Unbound ∷ Some Unbound ∷ []
-unfolding syntax_of page_form_of number_operation_of data_operation_of
+unfolding syntax_of page_form_of number_operation_of test_of list_operation_of text_operation_of
 faults_of_heads = refl
 
 -- quote: one datum
@@ -66,7 +66,7 @@ pub faults_of_quotes : map fault (
     (form (symbol (codes "quote") ∷ [])) ∷
     (form (symbol (codes "quote") ∷ number (pos 1) ∷ number (pos 2) ∷ [])) ∷ [])
     ≡ Some Shape ∷ Some Shape ∷ []
-unfolding syntax_of page_form_of number_operation_of data_operation_of
+unfolding syntax_of page_form_of number_operation_of test_of list_operation_of text_operation_of
 faults_of_quotes = refl
 
 -- let: the shape of all its parts, then its names, then its parts from left to right
@@ -110,7 +110,7 @@ pub faults_of_lets : map fault (
     (form (symbol (codes "let") ∷ form (form (symbol (codes "x") ∷ form (symbol (codes "quote") ∷ []) ∷ []) ∷ []) ∷ form (symbol (codes "list") ∷ symbol (codes "y") ∷ []) ∷ [])) ∷
     (form (symbol (codes "let") ∷ form (form (symbol (codes "x") ∷ number (pos 1) ∷ []) ∷ []) ∷ symbol (codes "y") ∷ form (symbol (codes "quote") ∷ []) ∷ [])) ∷ [])
     ≡ Some Shape ∷ Some Shape ∷ Some Shape ∷ Some Shape ∷ Some Shape ∷ Some Shape ∷ Some Shape ∷ Some Shape ∷ Some Shape ∷ Some Shape ∷ Some Duplicate ∷ Some Duplicate ∷ Some Duplicate ∷ Some Duplicate ∷ Some Duplicate ∷ Some Duplicate ∷ Some Unbound ∷ Some Shape ∷ Some Unbound ∷ []
-unfolding syntax_of page_form_of number_operation_of data_operation_of
+unfolding syntax_of page_form_of number_operation_of test_of list_operation_of text_operation_of
 faults_of_lets = refl
 
 -- let*: as let, but a name may stand twice, and what is bound sees the names before it, and not its own
@@ -136,7 +136,7 @@ pub faults_of_lets_in_turn : map fault (
     (form (symbol (codes "let*") ∷ form (form (symbol (codes "x") ∷ number (pos 1) ∷ []) ∷ form (symbol (codes "y") ∷ symbol (codes "z") ∷ []) ∷ []) ∷ form (symbol (codes "quote") ∷ []) ∷ [])) ∷
     (form (symbol (codes "let*") ∷ form (form (symbol (codes "x") ∷ number (pos 1) ∷ []) ∷ []) ∷ symbol (codes "y") ∷ [])) ∷ [])
     ≡ Some Shape ∷ Some Shape ∷ Some Shape ∷ Some Shape ∷ Some Duplicate ∷ Some Duplicate ∷ Some Duplicate ∷ Some Unbound ∷ Some Unbound ∷ Some Unbound ∷ []
-unfolding syntax_of page_form_of number_operation_of data_operation_of
+unfolding syntax_of page_form_of number_operation_of test_of list_operation_of text_operation_of
 faults_of_lets_in_turn = refl
 
 -- begin: one expression or more; if: three
@@ -156,7 +156,7 @@ pub faults_of_begins_and_ifs : map fault (
     (form (symbol (codes "if") ∷ symbol (codes "x") ∷ form (symbol (codes "quote") ∷ []) ∷ number (pos 1) ∷ [])) ∷
     (form (symbol (codes "if") ∷ number (pos 1) ∷ form (symbol (codes "quote") ∷ []) ∷ symbol (codes "x") ∷ [])) ∷ [])
     ≡ Some Shape ∷ Some Unbound ∷ Some Shape ∷ Some Shape ∷ Some Shape ∷ Some Unbound ∷ Some Shape ∷ []
-unfolding syntax_of page_form_of number_operation_of data_operation_of
+unfolding syntax_of page_form_of number_operation_of test_of list_operation_of text_operation_of
 faults_of_begins_and_ifs = refl
 
 -- cond: the shape of each clause, then its else
@@ -184,7 +184,7 @@ pub faults_of_conds : map fault (
     (form (symbol (codes "cond") ∷ form (number (pos 1) ∷ symbol (codes "x") ∷ []) ∷ form (symbol (codes "else") ∷ form (symbol (codes "quote") ∷ []) ∷ []) ∷ [])) ∷
     (form (symbol (codes "cond") ∷ form (number (pos 1) ∷ number (pos 2) ∷ []) ∷ form (symbol (codes "else") ∷ symbol (codes "x") ∷ []) ∷ [])) ∷ [])
     ≡ Some NoElse ∷ Some NoElse ∷ Some Shape ∷ Some Shape ∷ Some Shape ∷ Some Shape ∷ Some NoElse ∷ Some Unbound ∷ Some Unbound ∷ Some Unbound ∷ Some Unbound ∷ []
-unfolding syntax_of page_form_of number_operation_of data_operation_of
+unfolding syntax_of page_form_of number_operation_of test_of list_operation_of text_operation_of
 faults_of_conds = refl
 
 -- `and` and `or`: any number of parts
@@ -196,7 +196,7 @@ pub faults_of_junctions : map fault (
     (form (symbol (codes "or") ∷ form (symbol (codes "quote") ∷ []) ∷ [])) ∷
     (form (symbol (codes "or") ∷ symbol (codes "x") ∷ form (symbol (codes "quote") ∷ []) ∷ [])) ∷ [])
     ≡ Some Unbound ∷ Some Shape ∷ Some Unbound ∷ []
-unfolding syntax_of page_form_of number_operation_of data_operation_of
+unfolding syntax_of page_form_of number_operation_of test_of list_operation_of text_operation_of
 faults_of_junctions = refl
 
 -- for/list: one binding and a body
@@ -222,7 +222,7 @@ pub faults_of_loops : map fault (
     (form (symbol (codes "for/list") ∷ form (form (symbol (codes "x") ∷ symbol (codes "x") ∷ []) ∷ []) ∷ number (pos 1) ∷ [])) ∷
     (form (symbol (codes "for/list") ∷ form (form (symbol (codes "x") ∷ number (pos 1) ∷ []) ∷ []) ∷ symbol (codes "y") ∷ [])) ∷ [])
     ≡ Some Shape ∷ Some Shape ∷ Some Shape ∷ Some Shape ∷ Some Shape ∷ Some Shape ∷ Some Duplicate ∷ Some Duplicate ∷ Some Unbound ∷ Some Unbound ∷ []
-unfolding syntax_of page_form_of number_operation_of data_operation_of
+unfolding syntax_of page_form_of number_operation_of test_of list_operation_of text_operation_of
 faults_of_loops = refl
 
 -- cells: shape, then the cell, then what is written
@@ -260,7 +260,7 @@ pub faults_of_cells : map fault (
     (form (symbol (codes "instance-cell-add!") ∷ symbol (codes "w") ∷ number (pos 1) ∷ [])) ∷
     (form (symbol (codes "instance-cell-add!") ∷ symbol (codes "i") ∷ form (symbol (codes "quote") ∷ []) ∷ [])) ∷ [])
     ≡ Some Shape ∷ Some Shape ∷ Some Shape ∷ Some Unbound ∷ Some Unbound ∷ Some Unbound ∷ Some Shape ∷ Some Shape ∷ Some Unbound ∷ Some Unbound ∷ Some Shape ∷ Some Unbound ∷ Some Unbound ∷ Some Shape ∷ Some Unbound ∷ Some Shape ∷ []
-unfolding syntax_of page_form_of number_operation_of data_operation_of
+unfolding syntax_of page_form_of number_operation_of test_of list_operation_of text_operation_of
 faults_of_cells = refl
 
 -- send/suspend and send/forward: one function of one name, and a body
@@ -292,7 +292,7 @@ pub faults_of_sends : map fault (
     (form (symbol (codes "send/suspend") ∷ form (symbol (codes "lambda") ∷ form (symbol (codes "u") ∷ []) ∷ symbol (codes "x") ∷ []) ∷ [])) ∷
     (form (symbol (codes "send/suspend") ∷ form (symbol (codes "lambda") ∷ form (symbol (codes "u") ∷ []) ∷ symbol (codes "u") ∷ symbol (codes "x") ∷ []) ∷ [])) ∷ [])
     ≡ Some Shape ∷ Some Shape ∷ Some Shape ∷ Some Shape ∷ Some Shape ∷ Some Shape ∷ Some Shape ∷ Some Shape ∷ Some Shape ∷ Some Duplicate ∷ Some Duplicate ∷ Some Unbound ∷ Some Unbound ∷ []
-unfolding syntax_of page_form_of number_operation_of data_operation_of
+unfolding syntax_of page_form_of number_operation_of test_of list_operation_of text_operation_of
 faults_of_sends = refl
 
 -- send/finish, send/back and isolate: one expression
@@ -314,7 +314,7 @@ pub faults_of_last_pages : map fault (
     (form (symbol (codes "isolate") ∷ number (pos 1) ∷ number (pos 2) ∷ [])) ∷
     (form (symbol (codes "isolate") ∷ symbol (codes "x") ∷ [])) ∷ [])
     ≡ Some Shape ∷ Some Shape ∷ Some Unbound ∷ Some Shape ∷ Some Unbound ∷ Some Shape ∷ Some Shape ∷ Some Unbound ∷ []
-unfolding syntax_of page_form_of number_operation_of data_operation_of
+unfolding syntax_of page_form_of number_operation_of test_of list_operation_of text_operation_of
 faults_of_last_pages = refl
 
 -- a page body sends nothing, enters no transaction and writes no cell; this is told before the shape
@@ -342,7 +342,7 @@ pub faults_of_page_bodies : map fault (
     (form (symbol (codes "send/back") ∷ form (symbol (codes "instance-cell-add!") ∷ symbol (codes "i") ∷ number (pos 1) ∷ []) ∷ [])) ∷
     (form (symbol (codes "isolate") ∷ form (symbol (codes "send/finish") ∷ form (symbol (codes "instance-cell-add!") ∷ symbol (codes "i") ∷ number (pos 1) ∷ []) ∷ []) ∷ [])) ∷ [])
     ≡ Some NestedSend ∷ Some NestedSend ∷ Some NestedSend ∷ Some NestedSend ∷ Some NestedSend ∷ Some NestedSend ∷ Some NestedSend ∷ Some Effect ∷ Some Effect ∷ Some Effect ∷ Some Effect ∷ []
-unfolding syntax_of page_form_of number_operation_of data_operation_of
+unfolding syntax_of page_form_of number_operation_of test_of list_operation_of text_operation_of
 faults_of_page_bodies = refl
 
 -- operations: the number of their operands, then the operands
@@ -364,7 +364,7 @@ pub faults_of_operations : map fault (
     (form (symbol (codes "list") ∷ form (symbol (codes "quote") ∷ []) ∷ symbol (codes "x") ∷ [])) ∷
     (form (symbol (codes "append") ∷ number (pos 1) ∷ symbol (codes "x") ∷ [])) ∷ [])
     ≡ Some Arity ∷ Some Arity ∷ Some Arity ∷ Some Arity ∷ Some Arity ∷ Some Unbound ∷ Some Shape ∷ Some Unbound ∷ []
-unfolding syntax_of page_form_of number_operation_of data_operation_of
+unfolding syntax_of page_form_of number_operation_of test_of list_operation_of text_operation_of
 faults_of_operations = refl
 
 -- quasiquote: the shape of its whole template, then its expressions
@@ -400,7 +400,7 @@ pub faults_of_quasiquotes : map fault (
     (form (symbol (codes "quasiquote") ∷ form (symbol (codes "a") ∷ form (symbol (codes "b") ∷ form (symbol (codes "unquote") ∷ symbol (codes "x") ∷ []) ∷ []) ∷ []) ∷ [])) ∷
     (form (symbol (codes "quasiquote") ∷ form (symbol (codes "a") ∷ form (symbol (codes "unquote") ∷ form (symbol (codes "quasiquote") ∷ form (symbol (codes "b") ∷ form (symbol (codes "quasiquote") ∷ symbol (codes "c") ∷ []) ∷ []) ∷ []) ∷ []) ∷ []) ∷ [])) ∷ [])
     ≡ Some Shape ∷ Some Shape ∷ Some Shape ∷ Some Shape ∷ Some Shape ∷ Some Shape ∷ Some Shape ∷ Some Shape ∷ Some Shape ∷ Some Shape ∷ Some Unbound ∷ Some Shape ∷ Some Unbound ∷ Some Unbound ∷ Some Shape ∷ []
-unfolding syntax_of page_form_of number_operation_of data_operation_of
+unfolding syntax_of page_form_of number_operation_of test_of list_operation_of text_operation_of
 faults_of_quasiquotes = refl
 
 -- literals and quotations
@@ -426,7 +426,7 @@ pub literals : map tree (
     Ok (lit (symbol (codes "a"))) ∷
     Ok (lit (form (symbol (codes "a") ∷ form (number (pos 1) ∷ text (codes "b") ∷ []) ∷ form [] ∷ []))) ∷
     Ok (lit (form (symbol (codes "quasiquote") ∷ form (form (symbol (codes "unquote") ∷ symbol (codes "a") ∷ []) ∷ []) ∷ []))) ∷ []
-unfolding syntax_of page_form_of number_operation_of data_operation_of
+unfolding syntax_of page_form_of number_operation_of test_of list_operation_of text_operation_of
 literals = refl
 
 -- bindings at once, none of them too; the innermost of a name is meant
@@ -443,7 +443,7 @@ pub bindings : map tree (
     Ok (bind (cores_of (lit (number (pos 1)) ∷ lit (number (pos 2)) ∷ [])) (prim op.List (cores_of (var 0 ∷ var 1 ∷ [])))) ∷
     Ok (bind (cores_of (lit (number (pos 1)) ∷ [])) (bind (cores_of (var 0 ∷ [])) (var 1))) ∷
     Ok (bind (cores_of (lit (number (pos 1)) ∷ lit (number (pos 2)) ∷ [])) (seq (cores_of (lit (number (pos 3)) ∷ var 1 ∷ [])))) ∷ []
-unfolding syntax_of page_form_of number_operation_of data_operation_of
+unfolding syntax_of page_form_of number_operation_of test_of list_operation_of text_operation_of
 bindings = refl
 
 -- bindings one inside the other; without one the body
@@ -460,7 +460,7 @@ pub bindings_in_turn : map tree (
     Ok (seq (cores_of (lit (number (pos 1)) ∷ lit (number (pos 2)) ∷ []))) ∷
     Ok (bind (cores_of (lit (number (pos 1)) ∷ [])) (bind (cores_of (var 0 ∷ [])) (prim op.List (cores_of (var 0 ∷ var 1 ∷ []))))) ∷
     Ok (bind (cores_of (lit (number (pos 1)) ∷ [])) (bind (cores_of (var 0 ∷ [])) (bind (cores_of (var 1 ∷ [])) (var 2)))) ∷ []
-unfolding syntax_of page_form_of number_operation_of data_operation_of
+unfolding syntax_of page_form_of number_operation_of test_of list_operation_of text_operation_of
 bindings_in_turn = refl
 
 -- bodies of one and of more
@@ -474,7 +474,7 @@ pub bodies : map tree (
     ≡ Ok (lit (number (pos 1))) ∷
     Ok (seq (cores_of (lit (number (pos 1)) ∷ lit (number (pos 2)) ∷ lit (number (pos 3)) ∷ []))) ∷
     Ok (seq (cores_of (seq (cores_of (lit (number (pos 1)) ∷ lit (number (pos 2)) ∷ [])) ∷ lit (number (pos 3)) ∷ []))) ∷ []
-unfolding syntax_of page_form_of number_operation_of data_operation_of
+unfolding syntax_of page_form_of number_operation_of test_of list_operation_of text_operation_of
 bodies = refl
 
 -- if and cond; an else that is not the last is a variable
@@ -494,7 +494,7 @@ pub choices : map tree (
     Ok (seq (cores_of (lit (number (pos 1)) ∷ lit (number (pos 2)) ∷ []))) ∷
     Ok (branch (lit (number (pos 1))) (lit (number (pos 2))) (branch (lit (number (pos 3))) (seq (cores_of (lit (number (pos 4)) ∷ lit (number (pos 5)) ∷ []))) (lit (number (pos 6))))) ∷
     Ok (bind (cores_of (lit (number (pos 1)) ∷ [])) (branch (var 0) (lit (number (pos 2))) (lit (number (pos 3))))) ∷ []
-unfolding syntax_of page_form_of number_operation_of data_operation_of
+unfolding syntax_of page_form_of number_operation_of test_of list_operation_of text_operation_of
 choices = refl
 
 -- `and` and `or`
@@ -517,7 +517,7 @@ pub junctions_of : map tree (
     Ok (lit (number (pos 1))) ∷
     Ok (and_all (cores_of (lit (number (pos 1)) ∷ lit (number (pos 2)) ∷ []))) ∷
     Ok (or_any (cores_of (lit (number (pos 1)) ∷ lit (number (pos 2)) ∷ lit (number (pos 3)) ∷ []))) ∷ []
-unfolding syntax_of page_form_of number_operation_of data_operation_of
+unfolding syntax_of page_form_of number_operation_of test_of list_operation_of text_operation_of
 junctions_of = refl
 
 -- for/list
@@ -528,7 +528,7 @@ pub turns : map tree (
     (form (symbol (codes "let") ∷ form (form (symbol (codes "x") ∷ number (pos 2) ∷ []) ∷ []) ∷ form (symbol (codes "for/list") ∷ form (form (symbol (codes "x") ∷ symbol (codes "x") ∷ []) ∷ []) ∷ number (pos 1) ∷ symbol (codes "x") ∷ []) ∷ [])) ∷ [])
     ≡ Ok (repeat (lit (number (pos 3))) (var 0)) ∷
     Ok (bind (cores_of (lit (number (pos 2)) ∷ [])) (repeat (var 0) (seq (cores_of (lit (number (pos 1)) ∷ var 1 ∷ []))))) ∷ []
-unfolding syntax_of page_form_of number_operation_of data_operation_of
+unfolding syntax_of page_form_of number_operation_of test_of list_operation_of text_operation_of
 turns = refl
 
 -- cells by their numbers among their kind
@@ -545,7 +545,7 @@ pub cells_read_and_written : map tree (
     Ok (cell_shadow 1 (lit (number (pos 1)))) ∷
     Ok (inst_set 0 (lit (number (pos 2)))) ∷
     Ok (inst_add 0 (lit (number (negsuc 0)))) ∷ []
-unfolding syntax_of page_form_of number_operation_of data_operation_of
+unfolding syntax_of page_form_of number_operation_of test_of list_operation_of text_operation_of
 cells_read_and_written = refl
 
 -- pages: the name of a send is the innermost variable of its body; a page may read cells; a transaction may send
@@ -565,7 +565,7 @@ pub pages : map tree (
     Ok (finish (inst_ref 0)) ∷
     Ok (back (lit (number (pos 1)))) ∷
     Ok (isolate (prim op.List (cores_of (back (lit (number (pos 1))) ∷ isolate (inst_add 0 (lit (number (pos 1)))) ∷ [])))) ∷ []
-unfolding syntax_of page_form_of number_operation_of data_operation_of
+unfolding syntax_of page_form_of number_operation_of test_of list_operation_of text_operation_of
 pages = refl
 
 -- operations
@@ -579,7 +579,7 @@ pub operations_of : map tree (
     ≡ Ok (prim op.Add (cores_of [])) ∷
     Ok (prim op.Subtract (cores_of (lit (number (pos 1)) ∷ []))) ∷
     Ok (prim op.Cons (cores_of (lit (number (pos 1)) ∷ lit (form []) ∷ []))) ∷ []
-unfolding syntax_of page_form_of number_operation_of data_operation_of
+unfolding syntax_of page_form_of number_operation_of test_of list_operation_of text_operation_of
 operations_of = refl
 
 -- templates: what has no expression in it is one literal; a list with a direct unquote-splicing is joined
@@ -611,5 +611,5 @@ pub templates : map tree (
     Ok (prim op.Append (cores_of (prim op.List (cores_of (lit (symbol (codes "a")) ∷ [])) ∷ lit (form (number (pos 1) ∷ [])) ∷ prim op.List (cores_of (lit (symbol (codes "b")) ∷ [])) ∷ []))) ∷
     Ok (prim op.Append (cores_of (prim op.List (cores_of (prim op.List (cores_of (lit (number (pos 1)) ∷ [])) ∷ [])) ∷ lit (form []) ∷ prim op.List (cores_of (prim op.List (cores_of (lit (symbol (codes "c")) ∷ prim op.Append (cores_of (prim op.List (cores_of (lit (number (pos 2)) ∷ [])) ∷ lit (form (number (pos 3) ∷ [])) ∷ [])) ∷ [])) ∷ [])) ∷ []))) ∷
     Ok (prim op.List (cores_of (lit (symbol (codes "a")) ∷ prim op.List (cores_of (lit (symbol (codes "b")) ∷ lit (number (pos 1)) ∷ [])) ∷ []))) ∷ []
-unfolding syntax_of page_form_of number_operation_of data_operation_of
+unfolding syntax_of page_form_of number_operation_of test_of list_operation_of text_operation_of
 templates = refl

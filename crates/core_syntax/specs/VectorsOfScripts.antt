@@ -7,7 +7,7 @@ use Rattle.core_syntax.specs.declared.faults.SyntaxKind.TheVariants.{Shape, Unbo
 use Rattle.script_nodes.specs.declared.script.SendKind.TheVariants.{Suspend}
 use Rattle.script_nodes.specs.Core.{Core, lit, var, bind, branch, repeat, prim, seq, send, cell_ref, cell_shadow, inst_ref, inst_add, no_cores, cores_of}
 use Rattle.script_nodes.specs.Setup.{Script}
-use Rattle.core_syntax.specs.Heads.{syntax_of, page_form_of, number_operation_of, data_operation_of}
+use Rattle.core_syntax.specs.Heads.{syntax_of, page_form_of, number_operation_of, test_of, list_operation_of, text_operation_of}
 use Rattle.core_syntax.specs.Definitions.{expanded, are_too_many}
 use Rattle.core_syntax.specs.Vectors.{form}
 
@@ -27,7 +27,7 @@ pub faults_of_no_expression : map fault (
     (form (symbol (codes "define") ∷ symbol (codes "c") ∷ form (symbol (codes "make-web-cell") ∷ number (pos 1) ∷ []) ∷ []) ∷ []) ∷
     (form (symbol (codes "define") ∷ symbol (codes "c") ∷ form (symbol (codes "make-web-cell") ∷ number (pos 1) ∷ []) ∷ []) ∷ form (symbol (codes "define") ∷ symbol (codes "d") ∷ form (symbol (codes "make-instance-cell") ∷ number (pos 2) ∷ []) ∷ []) ∷ []) ∷ [])
     ≡ Some (Shape, 0) ∷ Some (Shape, 1) ∷ Some (Shape, 2) ∷ []
-unfolding expanded syntax_of page_form_of number_operation_of data_operation_of
+unfolding expanded syntax_of page_form_of number_operation_of test_of list_operation_of text_operation_of
 faults_of_no_expression = refl
 
 -- a form before the last that is no definition
@@ -41,7 +41,7 @@ pub faults_of_forms_before_the_last : map fault (
     (form (symbol (codes "define") ∷ symbol (codes "c") ∷ form (symbol (codes "make-web-cell") ∷ number (pos 1) ∷ []) ∷ []) ∷ number (pos 1) ∷ number (pos 2) ∷ []) ∷
     (number (pos 1) ∷ form (symbol (codes "define") ∷ symbol (codes "c") ∷ form (symbol (codes "make-web-cell") ∷ number (pos 1) ∷ []) ∷ []) ∷ []) ∷ [])
     ≡ Some (Shape, 0) ∷ Some (Shape, 0) ∷ Some (Shape, 1) ∷ Some (Shape, 0) ∷ []
-unfolding expanded syntax_of page_form_of number_operation_of data_operation_of
+unfolding expanded syntax_of page_form_of number_operation_of test_of list_operation_of text_operation_of
 faults_of_forms_before_the_last = refl
 
 -- definitions: their shape, and then their names
@@ -79,7 +79,7 @@ pub faults_of_definitions : map fault (
     (form (symbol (codes "define") ∷ symbol (codes "c") ∷ form (symbol (codes "make-web-cell") ∷ number (pos 1) ∷ []) ∷ []) ∷ form (symbol (codes "define") ∷ symbol (codes "c") ∷ form (symbol (codes "make-instance-cell") ∷ number (pos 1) ∷ []) ∷ []) ∷ number (pos 1) ∷ []) ∷
     (form (symbol (codes "define") ∷ symbol (codes "c") ∷ form (symbol (codes "make-instance-cell") ∷ number (pos 1) ∷ []) ∷ []) ∷ form (symbol (codes "define") ∷ symbol (codes "c") ∷ form (symbol (codes "make-instance-cell") ∷ number (pos 1) ∷ []) ∷ []) ∷ []) ∷ [])
     ≡ Some (Shape, 0) ∷ Some (Shape, 0) ∷ Some (Shape, 0) ∷ Some (Shape, 0) ∷ Some (Shape, 0) ∷ Some (Shape, 0) ∷ Some (Shape, 0) ∷ Some (Shape, 0) ∷ Some (Shape, 0) ∷ Some (Shape, 0) ∷ Some (Shape, 0) ∷ Some (Shape, 0) ∷ Some (Duplicate, 0) ∷ Some (Duplicate, 0) ∷ Some (Duplicate, 1) ∷ Some (Duplicate, 1) ∷ []
-unfolding expanded syntax_of page_form_of number_operation_of data_operation_of
+unfolding expanded syntax_of page_form_of number_operation_of test_of list_operation_of text_operation_of
 faults_of_definitions = refl
 
 -- faults of the expression have its number; a cell is no variable, and no variable has its name
@@ -95,27 +95,27 @@ pub faults_of_expressions_behind : map fault (
     (form (symbol (codes "define") ∷ symbol (codes "c") ∷ form (symbol (codes "make-web-cell") ∷ number (pos 1) ∷ []) ∷ []) ∷ form (symbol (codes "define") ∷ symbol (codes "d") ∷ form (symbol (codes "make-web-cell") ∷ number (pos 1) ∷ []) ∷ []) ∷ form (symbol (codes "quote") ∷ []) ∷ []) ∷
     (form (symbol (codes "web-cell-ref") ∷ symbol (codes "c") ∷ []) ∷ []) ∷ [])
     ≡ Some (Unbound, 1) ∷ Some (Duplicate, 1) ∷ Some (Unbound, 1) ∷ Some (Shape, 2) ∷ Some (Unbound, 0) ∷ []
-unfolding expanded syntax_of page_form_of number_operation_of data_operation_of
+unfolding expanded syntax_of page_form_of number_operation_of test_of list_operation_of text_operation_of
 faults_of_expressions_behind = refl
 
 -- cells are numbered by kind, and begin with what their definitions say
 --   (define a (make-instance-cell 1)) (define b (make-web-cell "t")) (define c (make-web-cell '(x 2))) (define d (make-instance-cell #f)) (list (web-cell-ref b) (web-cell-ref c) (instance-cell-ref a) (instance-cell-ref d))
 pub cells_of_each_kind : expanded (form (symbol (codes "define") ∷ symbol (codes "a") ∷ form (symbol (codes "make-instance-cell") ∷ number (pos 1) ∷ []) ∷ []) ∷ form (symbol (codes "define") ∷ symbol (codes "b") ∷ form (symbol (codes "make-web-cell") ∷ text (codes "t") ∷ []) ∷ []) ∷ form (symbol (codes "define") ∷ symbol (codes "c") ∷ form (symbol (codes "make-web-cell") ∷ form (symbol (codes "quote") ∷ form (symbol (codes "x") ∷ number (pos 2) ∷ []) ∷ []) ∷ []) ∷ []) ∷ form (symbol (codes "define") ∷ symbol (codes "d") ∷ form (symbol (codes "make-instance-cell") ∷ truth false ∷ []) ∷ []) ∷ form (symbol (codes "list") ∷ form (symbol (codes "web-cell-ref") ∷ symbol (codes "b") ∷ []) ∷ form (symbol (codes "web-cell-ref") ∷ symbol (codes "c") ∷ []) ∷ form (symbol (codes "instance-cell-ref") ∷ symbol (codes "a") ∷ []) ∷ form (symbol (codes "instance-cell-ref") ∷ symbol (codes "d") ∷ []) ∷ []) ∷ [])
     ≡ Ok (record { web = (text (codes "t") ∷ form (symbol (codes "x") ∷ number (pos 2) ∷ []) ∷ []); cells = (number (pos 1) ∷ truth false ∷ []); tasks = no_cores; body = prim op.List (cores_of (cell_ref 0 ∷ cell_ref 1 ∷ inst_ref 0 ∷ inst_ref 1 ∷ [])) })
-unfolding expanded syntax_of page_form_of number_operation_of data_operation_of
+unfolding expanded syntax_of page_form_of number_operation_of test_of list_operation_of text_operation_of
 cells_of_each_kind = refl
 
 -- a cell may have the name of what is no form
 --   (define lambda (make-web-cell 1)) (web-cell-ref lambda)
 pub names_that_are_free : expanded (form (symbol (codes "define") ∷ symbol (codes "lambda") ∷ form (symbol (codes "make-web-cell") ∷ number (pos 1) ∷ []) ∷ []) ∷ form (symbol (codes "web-cell-ref") ∷ symbol (codes "lambda") ∷ []) ∷ [])
     ≡ Ok (record { web = (number (pos 1) ∷ []); cells = []; tasks = no_cores; body = cell_ref 0 })
-unfolding expanded syntax_of page_form_of number_operation_of data_operation_of
+unfolding expanded syntax_of page_form_of number_operation_of test_of list_operation_of text_operation_of
 names_that_are_free = refl
 
 --   (let ((a (string->number (extract-binding/single 'n (send/suspend (lambda (u) (list 'a (list (list 'href u)) "1")))))) (b (string->number (extract-binding/single 'n (send/suspend (lambda (u) (list 'a (list (list 'href u)) "2"))))))) (list 'p (number->string (+ a b))))
 pub sum : expanded (form (symbol (codes "let") ∷ form (form (symbol (codes "a") ∷ form (symbol (codes "string->number") ∷ form (symbol (codes "extract-binding/single") ∷ form (symbol (codes "quote") ∷ symbol (codes "n") ∷ []) ∷ form (symbol (codes "send/suspend") ∷ form (symbol (codes "lambda") ∷ form (symbol (codes "u") ∷ []) ∷ form (symbol (codes "list") ∷ form (symbol (codes "quote") ∷ symbol (codes "a") ∷ []) ∷ form (symbol (codes "list") ∷ form (symbol (codes "list") ∷ form (symbol (codes "quote") ∷ symbol (codes "href") ∷ []) ∷ symbol (codes "u") ∷ []) ∷ []) ∷ text (codes "1") ∷ []) ∷ []) ∷ []) ∷ []) ∷ []) ∷ []) ∷ form (symbol (codes "b") ∷ form (symbol (codes "string->number") ∷ form (symbol (codes "extract-binding/single") ∷ form (symbol (codes "quote") ∷ symbol (codes "n") ∷ []) ∷ form (symbol (codes "send/suspend") ∷ form (symbol (codes "lambda") ∷ form (symbol (codes "u") ∷ []) ∷ form (symbol (codes "list") ∷ form (symbol (codes "quote") ∷ symbol (codes "a") ∷ []) ∷ form (symbol (codes "list") ∷ form (symbol (codes "list") ∷ form (symbol (codes "quote") ∷ symbol (codes "href") ∷ []) ∷ symbol (codes "u") ∷ []) ∷ []) ∷ text (codes "2") ∷ []) ∷ []) ∷ []) ∷ []) ∷ []) ∷ []) ∷ []) ∷ form (symbol (codes "list") ∷ form (symbol (codes "quote") ∷ symbol (codes "p") ∷ []) ∷ form (symbol (codes "number->string") ∷ form (symbol (codes "+") ∷ symbol (codes "a") ∷ symbol (codes "b") ∷ []) ∷ []) ∷ []) ∷ []) ∷ [])
     ≡ Ok (record { web = []; cells = []; tasks = no_cores; body = bind (cores_of (prim op.StringToNumber (cores_of (prim op.ExtractBindingSingle (cores_of (lit (symbol (codes "n")) ∷ send Suspend (prim op.List (cores_of (lit (symbol (codes "a")) ∷ prim op.List (cores_of (prim op.List (cores_of (lit (symbol (codes "href")) ∷ var 0 ∷ [])) ∷ [])) ∷ lit (text (codes "1")) ∷ []))) ∷ [])) ∷ [])) ∷ prim op.StringToNumber (cores_of (prim op.ExtractBindingSingle (cores_of (lit (symbol (codes "n")) ∷ send Suspend (prim op.List (cores_of (lit (symbol (codes "a")) ∷ prim op.List (cores_of (prim op.List (cores_of (lit (symbol (codes "href")) ∷ var 0 ∷ [])) ∷ [])) ∷ lit (text (codes "2")) ∷ []))) ∷ [])) ∷ [])) ∷ [])) (prim op.List (cores_of (lit (symbol (codes "p")) ∷ prim op.NumberToString (cores_of (prim op.Add (cores_of (var 0 ∷ var 1 ∷ [])) ∷ [])) ∷ []))) })
-unfolding expanded syntax_of page_form_of number_operation_of data_operation_of
+unfolding expanded syntax_of page_form_of number_operation_of test_of list_operation_of text_operation_of
 sum = refl
 
 --   (define picked (make-web-cell "none"))
@@ -125,7 +125,7 @@ sum = refl
 --     `(p ,(web-cell-ref picked)))
 pub hotel : expanded (form (symbol (codes "define") ∷ symbol (codes "picked") ∷ form (symbol (codes "make-web-cell") ∷ text (codes "none") ∷ []) ∷ []) ∷ form (symbol (codes "let") ∷ form (form (symbol (codes "b") ∷ form (symbol (codes "send/suspend") ∷ form (symbol (codes "lambda") ∷ form (symbol (codes "u") ∷ []) ∷ form (symbol (codes "quasiquote") ∷ form (symbol (codes "a") ∷ form (form (symbol (codes "href") ∷ form (symbol (codes "unquote") ∷ symbol (codes "u") ∷ []) ∷ []) ∷ []) ∷ text (codes "list") ∷ []) ∷ []) ∷ []) ∷ []) ∷ []) ∷ []) ∷ form (symbol (codes "web-cell-shadow") ∷ symbol (codes "picked") ∷ form (symbol (codes "extract-binding/single") ∷ form (symbol (codes "quote") ∷ symbol (codes "h") ∷ []) ∷ symbol (codes "b") ∷ []) ∷ []) ∷ form (symbol (codes "send/suspend") ∷ form (symbol (codes "lambda") ∷ form (symbol (codes "u") ∷ []) ∷ form (symbol (codes "quasiquote") ∷ form (symbol (codes "a") ∷ form (form (symbol (codes "href") ∷ form (symbol (codes "unquote") ∷ symbol (codes "u") ∷ []) ∷ []) ∷ []) ∷ text (codes "confirm") ∷ []) ∷ []) ∷ []) ∷ []) ∷ form (symbol (codes "quasiquote") ∷ form (symbol (codes "p") ∷ form (symbol (codes "unquote") ∷ form (symbol (codes "web-cell-ref") ∷ symbol (codes "picked") ∷ []) ∷ []) ∷ []) ∷ []) ∷ []) ∷ [])
     ≡ Ok (record { web = (text (codes "none") ∷ []); cells = []; tasks = no_cores; body = bind (cores_of (send Suspend (prim op.List (cores_of (lit (symbol (codes "a")) ∷ prim op.List (cores_of (prim op.List (cores_of (lit (symbol (codes "href")) ∷ var 0 ∷ [])) ∷ [])) ∷ lit (text (codes "list")) ∷ []))) ∷ [])) (seq (cores_of (cell_shadow 0 (prim op.ExtractBindingSingle (cores_of (lit (symbol (codes "h")) ∷ var 0 ∷ []))) ∷ send Suspend (prim op.List (cores_of (lit (symbol (codes "a")) ∷ prim op.List (cores_of (prim op.List (cores_of (lit (symbol (codes "href")) ∷ var 1 ∷ [])) ∷ [])) ∷ lit (text (codes "confirm")) ∷ []))) ∷ prim op.List (cores_of (lit (symbol (codes "p")) ∷ cell_ref 0 ∷ [])) ∷ []))) })
-unfolding expanded syntax_of page_form_of number_operation_of data_operation_of
+unfolding expanded syntax_of page_form_of number_operation_of test_of list_operation_of text_operation_of
 hotel = refl
 
 --   (define stock (make-instance-cell 1))
@@ -136,7 +136,7 @@ hotel = refl
 --         (begin (instance-cell-add! stock -1) '(p "bought"))))
 pub shop : expanded (form (symbol (codes "define") ∷ symbol (codes "stock") ∷ form (symbol (codes "make-instance-cell") ∷ number (pos 1) ∷ []) ∷ []) ∷ form (symbol (codes "begin") ∷ form (symbol (codes "send/suspend") ∷ form (symbol (codes "lambda") ∷ form (symbol (codes "u") ∷ []) ∷ form (symbol (codes "quasiquote") ∷ form (symbol (codes "a") ∷ form (form (symbol (codes "href") ∷ form (symbol (codes "unquote") ∷ symbol (codes "u") ∷ []) ∷ []) ∷ []) ∷ text (codes "buy") ∷ []) ∷ []) ∷ []) ∷ []) ∷ form (symbol (codes "if") ∷ form (symbol (codes "<") ∷ form (symbol (codes "instance-cell-ref") ∷ symbol (codes "stock") ∷ []) ∷ number (pos 1) ∷ []) ∷ form (symbol (codes "quote") ∷ form (symbol (codes "p") ∷ text (codes "sold out") ∷ []) ∷ []) ∷ form (symbol (codes "begin") ∷ form (symbol (codes "instance-cell-add!") ∷ symbol (codes "stock") ∷ number (negsuc 0) ∷ []) ∷ form (symbol (codes "quote") ∷ form (symbol (codes "p") ∷ text (codes "bought") ∷ []) ∷ []) ∷ []) ∷ []) ∷ []) ∷ [])
     ≡ Ok (record { web = []; cells = (number (pos 1) ∷ []); tasks = no_cores; body = seq (cores_of (send Suspend (prim op.List (cores_of (lit (symbol (codes "a")) ∷ prim op.List (cores_of (prim op.List (cores_of (lit (symbol (codes "href")) ∷ var 0 ∷ [])) ∷ [])) ∷ lit (text (codes "buy")) ∷ []))) ∷ branch (prim op.Less (cores_of (inst_ref 0 ∷ lit (number (pos 1)) ∷ []))) (lit (form (symbol (codes "p") ∷ text (codes "sold out") ∷ []))) (seq (cores_of (inst_add 0 (lit (number (negsuc 0))) ∷ lit (form (symbol (codes "p") ∷ text (codes "bought") ∷ [])) ∷ []))) ∷ [])) })
-unfolding expanded syntax_of page_form_of number_operation_of data_operation_of
+unfolding expanded syntax_of page_form_of number_operation_of test_of list_operation_of text_operation_of
 shop = refl
 
 --   (let ((b (send/suspend (lambda (u) `(a ((href ,u)) "k")))))
@@ -146,7 +146,7 @@ shop = refl
 --           (send/suspend (lambda (u) `(a ((href ,u)) ,(number->string i))))))))
 pub quiz : expanded (form (symbol (codes "let") ∷ form (form (symbol (codes "b") ∷ form (symbol (codes "send/suspend") ∷ form (symbol (codes "lambda") ∷ form (symbol (codes "u") ∷ []) ∷ form (symbol (codes "quasiquote") ∷ form (symbol (codes "a") ∷ form (form (symbol (codes "href") ∷ form (symbol (codes "unquote") ∷ symbol (codes "u") ∷ []) ∷ []) ∷ []) ∷ text (codes "k") ∷ []) ∷ []) ∷ []) ∷ []) ∷ []) ∷ []) ∷ form (symbol (codes "cons") ∷ form (symbol (codes "quote") ∷ symbol (codes "p") ∷ []) ∷ form (symbol (codes "for/list") ∷ form (form (symbol (codes "i") ∷ form (symbol (codes "string->number") ∷ form (symbol (codes "extract-binding/single") ∷ form (symbol (codes "quote") ∷ symbol (codes "k") ∷ []) ∷ symbol (codes "b") ∷ []) ∷ []) ∷ []) ∷ []) ∷ form (symbol (codes "extract-binding/single") ∷ form (symbol (codes "quote") ∷ symbol (codes "a") ∷ []) ∷ form (symbol (codes "send/suspend") ∷ form (symbol (codes "lambda") ∷ form (symbol (codes "u") ∷ []) ∷ form (symbol (codes "quasiquote") ∷ form (symbol (codes "a") ∷ form (form (symbol (codes "href") ∷ form (symbol (codes "unquote") ∷ symbol (codes "u") ∷ []) ∷ []) ∷ []) ∷ form (symbol (codes "unquote") ∷ form (symbol (codes "number->string") ∷ symbol (codes "i") ∷ []) ∷ []) ∷ []) ∷ []) ∷ []) ∷ []) ∷ []) ∷ []) ∷ []) ∷ []) ∷ [])
     ≡ Ok (record { web = []; cells = []; tasks = no_cores; body = bind (cores_of (send Suspend (prim op.List (cores_of (lit (symbol (codes "a")) ∷ prim op.List (cores_of (prim op.List (cores_of (lit (symbol (codes "href")) ∷ var 0 ∷ [])) ∷ [])) ∷ lit (text (codes "k")) ∷ []))) ∷ [])) (prim op.Cons (cores_of (lit (symbol (codes "p")) ∷ repeat (prim op.StringToNumber (cores_of (prim op.ExtractBindingSingle (cores_of (lit (symbol (codes "k")) ∷ var 0 ∷ [])) ∷ []))) (prim op.ExtractBindingSingle (cores_of (lit (symbol (codes "a")) ∷ send Suspend (prim op.List (cores_of (lit (symbol (codes "a")) ∷ prim op.List (cores_of (prim op.List (cores_of (lit (symbol (codes "href")) ∷ var 2 ∷ [])) ∷ [])) ∷ prim op.NumberToString (cores_of (var 1 ∷ [])) ∷ []))) ∷ []))) ∷ []))) })
-unfolding expanded syntax_of page_form_of number_operation_of data_operation_of
+unfolding expanded syntax_of page_form_of number_operation_of test_of list_operation_of text_operation_of
 quiz = refl
 
 -- `(define NAME (make-web-cell 0))` and `(define NAME (make-instance-cell 0))`
@@ -168,15 +168,15 @@ cells_before (suc n) vs = web_cell (name n) ∷ instance_cell (100 ∷ name n) �
 
 -- 64 cells, and the 65th: it is too many after its shape and its name
 pub cells_64 : fault (cells_before 32 (number (pos 1) ∷ [])) ≡ None
-unfolding expanded syntax_of page_form_of number_operation_of data_operation_of
+unfolding expanded syntax_of page_form_of number_operation_of test_of list_operation_of text_operation_of
 cells_64 = refl
 
 pub cells_65 : fault (cells_before 32 (web_cell (codes "e") ∷ number (pos 1) ∷ [])) ≡ Some (TooMany, 64)
-unfolding expanded syntax_of page_form_of number_operation_of data_operation_of
+unfolding expanded syntax_of page_form_of number_operation_of test_of list_operation_of text_operation_of
 cells_65 = refl
 
 pub cells_65_duplicate : fault (cells_before 32 (web_cell (codes "c") ∷ number (pos 1) ∷ [])) ≡ Some (Duplicate, 64)
-unfolding expanded syntax_of page_form_of number_operation_of data_operation_of
+unfolding expanded syntax_of page_form_of number_operation_of test_of list_operation_of text_operation_of
 cells_65_duplicate = refl
 
 -- `(+ (+ .. (+)))`
@@ -185,11 +185,11 @@ sums zero = form (symbol (codes "+") ∷ [])
 sums (suc n) = form (symbol (codes "+") ∷ sums n ∷ [])
 
 pub deepest : fault (sums 1023 ∷ []) ≡ None
-unfolding expanded syntax_of page_form_of number_operation_of data_operation_of
+unfolding expanded syntax_of page_form_of number_operation_of test_of list_operation_of text_operation_of
 deepest = refl
 
 pub too_deep : fault (sums 1024 ∷ []) ≡ Some (TooMany, 0)
-unfolding expanded syntax_of page_form_of number_operation_of data_operation_of
+unfolding expanded syntax_of page_form_of number_operation_of test_of list_operation_of text_operation_of
 too_deep = refl
 
 -- `(let* ((x 1) .. (x 1)) BODY)` with so many bindings
@@ -201,16 +201,16 @@ abbrev let_in_turn : ℕ → Val → Val
 let_in_turn n body = form (symbol (codes "let*") ∷ form (bindings n) ∷ body ∷ [])
 
 pub bindings_1023 : fault (let_in_turn 1023 (symbol (codes "x")) ∷ []) ≡ None
-unfolding expanded syntax_of page_form_of number_operation_of data_operation_of
+unfolding expanded syntax_of page_form_of number_operation_of test_of list_operation_of text_operation_of
 bindings_1023 = refl
 
 pub bindings_1024 : fault (let_in_turn 1024 (symbol (codes "x")) ∷ []) ≡ Some (TooMany, 0)
-unfolding expanded syntax_of page_form_of number_operation_of data_operation_of
+unfolding expanded syntax_of page_form_of number_operation_of test_of list_operation_of text_operation_of
 bindings_1024 = refl
 
 -- another fault is told in place of too many nodes
 pub bindings_1024_unbound : fault (let_in_turn 1024 (symbol (codes "y")) ∷ []) ≡ Some (Unbound, 0)
-unfolding expanded syntax_of page_form_of number_operation_of data_operation_of
+unfolding expanded syntax_of page_form_of number_operation_of test_of list_operation_of text_operation_of
 bindings_1024_unbound = refl
 
 -- `(cond [1 2] .. [1 2] [else 3])` with so many clauses before its else
@@ -219,11 +219,11 @@ clauses zero = form (symbol (codes "else") ∷ number (pos 3) ∷ []) ∷ []
 clauses (suc n) = form (number (pos 1) ∷ number (pos 2) ∷ []) ∷ clauses n
 
 pub clauses_1024 : fault (form (symbol (codes "cond") ∷ clauses 1023) ∷ []) ≡ None
-unfolding expanded syntax_of page_form_of number_operation_of data_operation_of
+unfolding expanded syntax_of page_form_of number_operation_of test_of list_operation_of text_operation_of
 clauses_1024 = refl
 
 pub clauses_1025 : fault (form (symbol (codes "cond") ∷ clauses 1024) ∷ []) ≡ Some (TooMany, 0)
-unfolding expanded syntax_of page_form_of number_operation_of data_operation_of
+unfolding expanded syntax_of page_form_of number_operation_of test_of list_operation_of text_operation_of
 clauses_1025 = refl
 
 -- `(list 1 .. 1)` with so many operands

@@ -6,7 +6,7 @@ use Rattle.core_syntax.specs.declared.faults.SyntaxKind.{SyntaxKind}
 use Rattle.core_syntax.specs.declared.faults.SyntaxKind.TheVariants.{Shape, Unbound, Arity, Duplicate, NestedSend, TooMany}
 use Rattle.script_nodes.specs.Core.{lit, var, bind, prim, call, seq, cell_ref, no_cores, cores_of}
 use Rattle.script_nodes.specs.Setup.{Script}
-use Rattle.core_syntax.specs.Heads.{syntax_of, page_form_of, number_operation_of, data_operation_of}
+use Rattle.core_syntax.specs.Heads.{syntax_of, page_form_of, number_operation_of, test_of, list_operation_of, text_operation_of}
 use Rattle.core_syntax.specs.Definitions.{expanded}
 use Rattle.core_syntax.specs.Vectors.{form}
 
@@ -62,7 +62,7 @@ pub faults_of_shape : map fault (
     (form (sym (codes "call") ∷ one ∷ []) ∷ []) ∷
     (task (sym f ∷ []) (one ∷ []) ∷ []) ∷ [])
     ≡ Some (Shape, 0) ∷ Some (Shape, 0) ∷ Some (Shape, 0) ∷ Some (Shape, 0) ∷ Some (Shape, 0) ∷ Some (Shape, 0) ∷ Some (Shape, 0) ∷ Some (Shape, 0) ∷ Some (Shape, 0) ∷ Some (Shape, 1) ∷ []
-unfolding expanded syntax_of page_form_of number_operation_of data_operation_of
+unfolding expanded syntax_of page_form_of number_operation_of test_of list_operation_of text_operation_of
 faults_of_shape = refl
 
 -- tasks that are not defined, or further down, or the task itself; as a variable; too few and too many operands
@@ -79,7 +79,7 @@ pub faults_of_calls : map fault (
     (task (sym f ∷ sym x ∷ []) (sym (codes "y") ∷ []) ∷ one ∷ []) ∷
     (task (sym f ∷ []) (form (sym (codes "web-cell-ref") ∷ sym x ∷ []) ∷ []) ∷ cell x ∷ one ∷ []) ∷ [])
     ≡ Some (Unbound, 0) ∷ Some (Unbound, 0) ∷ Some (Unbound, 0) ∷ Some (Unbound, 1) ∷ Some (Arity, 1) ∷ Some (Arity, 1) ∷ Some (Unbound, 0) ∷ Some (Unbound, 0) ∷ []
-unfolding expanded syntax_of page_form_of number_operation_of data_operation_of
+unfolding expanded syntax_of page_form_of number_operation_of test_of list_operation_of text_operation_of
 faults_of_calls = refl
 
 -- names that stand twice, or are those of forms, operations, cells and tasks, further down too; a cell that has a task's name, and the other way
@@ -98,7 +98,7 @@ pub faults_of_names : map fault (
     (task (sym f ∷ []) (form (sym (codes "let") ∷ form (form (sym g ∷ one ∷ []) ∷ []) ∷ one ∷ []) ∷ []) ∷ task (sym g ∷ []) (one ∷ []) ∷ one ∷ []) ∷
     (task (sym f ∷ []) (one ∷ []) ∷ form (sym (codes "let") ∷ form (form (sym f ∷ one ∷ []) ∷ []) ∷ one ∷ []) ∷ []) ∷ [])
     ≡ Some (Duplicate, 0) ∷ Some (Duplicate, 0) ∷ Some (Duplicate, 0) ∷ Some (Duplicate, 0) ∷ Some (Duplicate, 1) ∷ Some (Duplicate, 1) ∷ Some (Duplicate, 1) ∷ Some (Duplicate, 0) ∷ Some (Duplicate, 0) ∷ Some (Duplicate, 1) ∷ []
-unfolding expanded syntax_of page_form_of number_operation_of data_operation_of
+unfolding expanded syntax_of page_form_of number_operation_of test_of list_operation_of text_operation_of
 faults_of_names = refl
 
 -- a call in a page body, before its shape; a task's body may send
@@ -108,7 +108,7 @@ pub faults_of_pages : map fault (
     (task (sym f ∷ []) (one ∷ []) ∷ sends (calls f []) ∷ []) ∷
     (task (sym f ∷ []) (sends (sym (codes "u")) ∷ []) ∷ calls f [] ∷ []) ∷ [])
     ≡ Some (NestedSend, 0) ∷ Some (NestedSend, 1) ∷ None ∷ []
-unfolding expanded syntax_of page_form_of number_operation_of data_operation_of
+unfolding expanded syntax_of page_form_of number_operation_of test_of list_operation_of text_operation_of
 faults_of_pages = refl
 
 -- so many names a, aa, aaa, ..
@@ -126,7 +126,7 @@ pub faults_of_limits : map fault (
     (task (sym f ∷ names_of 17 (codes "a")) (one ∷ []) ∷ one ∷ []) ∷
     tasks_of 16 (codes "a") ∷ tasks_of 17 (codes "a") ∷ [])
     ≡ None ∷ Some (TooMany, 0) ∷ None ∷ Some (TooMany, 16) ∷ []
-unfolding expanded syntax_of page_form_of number_operation_of data_operation_of
+unfolding expanded syntax_of page_form_of number_operation_of test_of list_operation_of text_operation_of
 faults_of_limits = refl
 
 -- of two faults the first in the order of the rules: a shape and a taken name; a name that stands twice and an 18th parameter; a 17th
@@ -138,7 +138,7 @@ pub first_faults : map fault (
     (task (sym f ∷ names_of 17 (codes "a")) (sym (codes "y") ∷ []) ∷ one ∷ []) ∷
     (task (sym f ∷ []) (one ∷ []) ∷ calls f (sym (codes "y") ∷ []) ∷ []) ∷ [])
     ≡ Some (Shape, 0) ∷ Some (Duplicate, 0) ∷ Some (TooMany, 0) ∷ Some (Arity, 1) ∷ []
-unfolding expanded syntax_of page_form_of number_operation_of data_operation_of
+unfolding expanded syntax_of page_form_of number_operation_of test_of list_operation_of text_operation_of
 first_faults = refl
 
 -- what a task is: its first parameter is its outermost variable, and it calls tasks by their numbers
@@ -153,5 +153,5 @@ pub tasks_are : expanded (
       tasks = cores_of (prim op.List (cores_of (var 1 ∷ var 0 ∷ [])) ∷ seq (cores_of (call 0 (cores_of (lit one ∷ lit (number (pos 2)) ∷ [])) ∷ cell_ref 0 ∷ [])) ∷ []);
       body = bind (cores_of (lit one ∷ [])) (call 0 (cores_of (var 0 ∷ call 1 no_cores ∷ [])));
     })
-unfolding expanded syntax_of page_form_of number_operation_of data_operation_of
+unfolding expanded syntax_of page_form_of number_operation_of test_of list_operation_of text_operation_of
 tasks_are = refl

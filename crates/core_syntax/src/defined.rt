@@ -1,8 +1,8 @@
 //! The cells and tasks of a script.
 
-ghost use Rattle.std.specs.Prelude.{◌≡◌, ◌∷◌, false, ◌<◌, ◌+◌, Some, Err, IsOk, option_map};
+ghost use Rattle.std.specs.Prelude.{◌≡◌, ◌∷◌, false, ◌<◌, ◌+◌, Some, Err, IsOk, OnOk, option_map};
 ghost use Rattle.script_value.specs.Views.{meaning, meanings};
-ghost use Rattle.core_syntax.specs.Definitions.{definable, defined, nothing_defined, parameters_taken};
+ghost use Rattle.core_syntax.specs.Definitions.{definable, defined, nothing_defined, parameters_taken, with_value};
 ghost use Rattle.core_syntax.specs.Expands.{IsOpen};
 ghost use Rattle.core_syntax.specs.Forms.{body_of};
 ghost use Rattle.core_syntax.specs.Gives.{Reads};
@@ -20,7 +20,7 @@ use crate::shapes::{is_headed, symbol_in};
 use crate::task_forms::{TaskForm, parameter_names, task_of};
 use crate::tree::Tree;
 use script_value::{Items, Str, Value};
-use std::alloc::Global;
+use std::alloc::{AllocError, Global};
 
 /// The most cells of a script.
 const CELL_LIMIT: usize = 64;
@@ -127,9 +127,17 @@ impl<'a> Defined<'a> {
         ensures memory { result ≡ Err ReadFault.Memory → IsOk (definable (definition_of (meaning form.now)) (cells_of self.old)) }
     {
         let cell = self.checked(form)?;
-        let value = cell.value.try_clone(alloc)?;
         self.names.push(cell.kind, cell.name)?;
-        match cell.kind {
+        let value = cell.value.try_clone(alloc)?;
+        self.put(cell.kind, value)?;
+        Ok(())
+    }
+
+    /// Puts what one more cell begins with behind those of its kind.
+    fn put(&mut self, kind: CellKind, value: Value) -> Result<(), AllocError>
+        ensures { OnOk result (cells_of self.new ≡ with_value kind (meaning value) (cells_of self.old)) }
+    {
+        match kind {
             CellKind::Web => self.web.push(value)?,
             CellKind::Instance => self.instance.push(value)?,
         }

@@ -1,9 +1,11 @@
 //! A list of a template while its items are filled.
 
-ghost use Rattle.std.specs.Prelude.{◌≡◌, ◌++◌, ◌∷◌, ◌&&◌, [], true, IfOk, OnOk, option_map, is_none};
+ghost use Rattle.std.specs.Prelude.{◌≡◌, ◌++◌, ◌∷◌, ◌&&◌, [], false, true, IfOk, OnOk, option_map, is_none};
 ghost use Rattle.core_syntax.specs.Filling.{literals, or_literal, trees_of, has_no_tree, trees_or_none};
+ghost use Rattle.script_nodes.specs.Core.{lit};
+ghost use Rattle.script_value.specs.Views.{meaning};
 
-use crate::tree::{Form, Tree};
+use crate::tree::{Form, Tree, put};
 use script_value::Value;
 use std::alloc::{AllocError, Global};
 
@@ -39,12 +41,18 @@ impl<'a> FilledItems<'a> {
     {
         match tree {
             None => self.plain.push(item)?,
-            Some(tree) => {
-                self.settle(alloc)?;
-                self.trees.push(tree)?;
-            }
+            Some(tree) => self.add_tree(alloc, tree)?,
         }
         Ok(())
+    }
+
+    /// Puts the tree of one more item behind these.
+    fn add_tree(&mut self, alloc: Global, tree: Tree) -> Result<(), AllocError>
+        ensures trees { OnOk result (trees_of self.new ≡ trees_of self.old ++ tree ∷ []) }
+        ensures plain { OnOk result (has_no_tree self.new ≡ false) }
+    {
+        self.settle(alloc)?;
+        put(&mut self.trees, tree)
     }
 
     /// The trees of the items; none where each is plain, unless trees are wanted then too.
@@ -74,7 +82,13 @@ fn put_literals(alloc: Global, trees: &mut Vec<Tree>, values: &[&Value]) -> Resu
     ensures { OnOk result (trees.new.items ≡ trees.old.items ++ literals values.now) }
 {
     for value in values {
-        trees.push(Tree::new(Form::Lit(value.try_clone(alloc)?)))?;
+        put_literal(alloc, trees, value)?;
     }
     Ok(())
+}
+
+fn put_literal(alloc: Global, trees: &mut Vec<Tree>, value: &Value) -> Result<(), AllocError>
+    ensures { OnOk result (trees.new.items ≡ trees.old.items ++ lit (meaning value.now) ∷ []) }
+{
+    put(trees, Tree::new(Form::Lit(value.try_clone(alloc)?)))
 }

@@ -1,13 +1,18 @@
-ghost use Rattle.std.specs.Prelude.{◌≡◌, ◌∷◌, [], Err, IsOk, map};
+ghost use Rattle.std.specs.Prelude.{◌≡◌, ◌∷◌, [], Err, IfOk, IsOk, false, map};
+ghost use Rattle.script_nodes.specs.Arena.{IsScript};
 ghost use Rattle.script_nodes.specs.Core.{cores_of};
 ghost use Rattle.script_value.specs.Views.{meaning};
-ghost use Rattle.core_syntax.specs.Definitions.{begins_well, expanded, expression_at, first_seen};
+ghost use Rattle.core_syntax.specs.Definitions.{begins_well, expanded, expression_at, first_seen, nothing_defined};
 ghost use Rattle.core_syntax.specs.DefinitionsSeen.{cells_of};
 ghost use Rattle.core_syntax.specs.Expands.{Expands, ExpandsFault, IsLevel};
+ghost use Rattle.core_syntax.specs.ExpandsSeen.{ExpandsLast, LaysOut, arena_in};
+ghost use Rattle.core_syntax.specs.Forms.{core_of};
+ghost use Rattle.core_syntax.specs.Gives.{Reads};
 ghost use Rattle.core_syntax.specs.Headings.{is_definition};
 ghost use Rattle.core_syntax.specs.Laid.{LaysScript};
 ghost use Rattle.core_syntax.specs.TaskNames.{names_in};
 
+use crate::cell_names::CellNames;
 use crate::defined::Defined;
 use crate::faults::{ExpandFault, ReadFault, SyntaxError, SyntaxKind};
 use crate::layout::{lay, lay_all};
@@ -55,14 +60,31 @@ fn first_seen<'a>(
     requires { names_in forms.now ≡ names_in (first.now ∷ others.now) }
     ensures { result ≡ first_seen (meaning first.now) (map meaning others.now) }
 {
-    let defined = Defined::new(alloc);
+    let nothing = Defined::new(alloc);
+    let scope = Names::new(alloc);
+    seen_behind(&nothing, &scope, first, others, forms)
+}
+
+// The same, behind no definition and within no variable.
+fn seen_behind<'a>(
+    nothing: &Defined<'a>,
+    scope: &Names<'a>,
+    first: &'a Value,
+    others: &'a [Value],
+    forms: &'a [Value],
+) -> Result<(), SyntaxKind>
+    requires nothing { cells_of nothing.now ≡ nothing_defined }
+    requires scope { scope.now ≡ [] }
+    requires forms { names_in forms.now ≡ names_in (first.now ∷ others.now) }
+    ensures { result ≡ first_seen (meaning first.now) (map meaning others.now) }
+{
     if is_definition(first) {
-        return defined.seen(first, others, forms);
+        return nothing.seen(first, others, forms);
     }
     if !others.is_empty() {
         return Err(SyntaxKind::Shape);
     }
-    row_of(&defined.names, &Names::new(alloc), false, first)?;
+    row_of(&nothing.names, scope, false, first)?;
     Ok(())
 }
 
@@ -77,6 +99,29 @@ fn expand_forms(alloc: Global, forms: &[Value]) -> Result<Script, ExpandFault>
     ensures { Expands result (expanded (map meaning forms.now)) }
 {
     let mut defined = Defined::new(alloc);
+    match define_all(alloc, &mut defined, forms) {
+        Ok(last) => expand_expression(alloc, defined, last.number, last.form),
+        Err(fault) => Err(fault),
+    }
+}
+
+/// The expression of a script, and the number of its form.
+#[derive(Clone, Copy)]
+struct Last<'a> {
+    number: u32,
+    form: &'a Value,
+}
+
+/// Puts what is defined in front of the expression behind the rest, and gives the expression.
+fn define_all<'a>(
+    alloc: Global,
+    defined: &mut Defined<'a>,
+    forms: &'a [Value],
+) -> Result<Last<'a>, ExpandFault>
+    requires { cells_of defined.old ≡ nothing_defined }
+    ensures level { IfOk result (λ _. IsLevel (cells_of defined.new)) }
+    ensures table { ExpandsLast result (cells_of defined.new) (expanded (map meaning forms.now)) }
+{
     let mut left = forms;
     while let [form, others @ ..] = left {
         let number = defined.count();
@@ -84,7 +129,7 @@ fn expand_forms(alloc: Global, forms: &[Value]) -> Result<Script, ExpandFault>
             if !others.is_empty() {
                 return Err(at(number, SyntaxKind::Shape));
             }
-            return expand_expression(alloc, defined, number, form);
+            return Ok(Last { number, form });
         }
         match defined.define_form(alloc, form, others, left) {
             Ok(()) => {}
@@ -105,23 +150,57 @@ fn expand_expression<'a>(
     requires { IsLevel (cells_of defined) }
     ensures { Expands result (expression_at number (cells_of defined.entry) (meaning form.now) []) }
 {
-    let Defined {
-        names,
-        web,
-        instance,
-        tasks,
-    } = defined;
-    let mut reader = Reader::new(alloc, &names);
-    let tree = match reader.read(false, form) {
+    match lay_out(alloc, &defined, number, form) {
+        Ok(laid) => Ok(Script::from_parts(
+            laid.nodes.into_vec(),
+            defined.web,
+            defined.instance,
+            laid.starts,
+        )),
+        Err(fault) => Err(fault),
+    }
+}
+
+/// The nodes of a script, and the numbers of the first nodes of its tasks' bodies.
+#[derive(Drop)]
+struct Laid {
+    nodes: Nodes,
+    starts: Numbers,
+}
+
+/// The nodes of the expression that is the form of this number, and of the bodies of these tasks.
+fn lay_out<'a>(
+    alloc: Global,
+    defined: &Defined<'a>,
+    number: u32,
+    form: &'a Value,
+) -> Result<Laid, ExpandFault>
+    requires { IsLevel (cells_of defined.now) }
+    ensures script { IfOk result (λ laid. IsScript (arena_in laid (cells_of defined.now))) }
+    ensures table { LaysOut result (cells_of defined.now) number (meaning form.now) }
+{
+    let tree = match expression_tree(alloc, &defined.names, form) {
         Ok(tree) => tree,
         Err(fault) => return Err(at_number(number, fault)),
     };
     let mut nodes = Nodes::new(alloc);
-    match lay_script(alloc, &mut nodes, &tree, tasks.as_slice()) {
+    match lay_script(alloc, &mut nodes, &tree, defined.tasks.as_slice()) {
+        Ok(starts) => Ok(Laid { nodes, starts }),
         Err(LayFault::Memory) => Err(ExpandFault::Memory),
         Err(LayFault::TooMany) => Err(at(number, SyntaxKind::TooMany)),
-        Ok(starts) => Ok(Script::from_parts(nodes.into_vec(), web, instance, starts)),
     }
+}
+
+/// The tree of an expression with these cells and tasks.
+fn expression_tree<'a>(
+    alloc: Global,
+    names: &CellNames<'a>,
+    form: &'a Value,
+) -> Result<Tree, ReadFault>
+    ensures { Reads result (core_of names.now [] false (meaning form.now)) }
+{
+    let mut reader = Reader::new(alloc, names);
+    reader.read(false, form)
 }
 
 /// Puts the nodes of an expression and behind them those of tasks' bodies, and gives the numbers of the first nodes of

@@ -1,5 +1,5 @@
 ghost use Rattle.std.specs.Prelude.{◌≡◌};
-ghost use Rattle.core_syntax.specs.Heads.{head_of, syntax_of, page_form_of, number_operation_of, data_operation_of};
+ghost use Rattle.core_syntax.specs.Heads.{head_of, syntax_of, page_form_of, operation_of, number_operation_of, test_of, list_operation_of, text_operation_of};
 
 use script_nodes::SendKind;
 use script_value::Op;
@@ -105,7 +105,7 @@ fn page_form_of(name: &str) -> Option<Head>
     }
 }
 
-// The operation of a name on numbers, or its test of what a value is.
+// The operation of a name on numbers.
 #[tactic(auto, unfolding(crate::specs::Heads::number_operation_of))]
 fn number_operation_of(name: &str) -> Option<Head>
     ensures { result ≡ number_operation_of name.now }
@@ -121,6 +121,16 @@ fn number_operation_of(name: &str) -> Option<Head>
         ">" => Some(Head::Apply(Op::Greater)),
         "<=" => Some(Head::Apply(Op::AtMost)),
         ">=" => Some(Head::Apply(Op::AtLeast)),
+        _ => None,
+    }
+}
+
+// The test of truth, of sameness or of what a value is that has a name.
+#[tactic(auto, unfolding(crate::specs::Heads::test_of))]
+fn test_of(name: &str) -> Option<Head>
+    ensures { result ≡ test_of name.now }
+{
+    match name {
         "not" => Some(Head::Apply(Op::Not)),
         "equal?" => Some(Head::Apply(Op::IsEqual)),
         "number?" => Some(Head::Apply(Op::IsNumber)),
@@ -133,10 +143,10 @@ fn number_operation_of(name: &str) -> Option<Head>
     }
 }
 
-// The operation of a name on lists, texts or answers.
-#[tactic(auto, unfolding(crate::specs::Heads::data_operation_of))]
-fn data_operation_of(name: &str) -> Option<Head>
-    ensures { result ≡ data_operation_of name.now }
+// The operation of a name on lists.
+#[tactic(auto, unfolding(crate::specs::Heads::list_operation_of))]
+fn list_operation_of(name: &str) -> Option<Head>
+    ensures { result ≡ list_operation_of name.now }
 {
     match name {
         "list" => Some(Head::Apply(Op::List)),
@@ -147,6 +157,16 @@ fn data_operation_of(name: &str) -> Option<Head>
         "length" => Some(Head::Apply(Op::Length)),
         "reverse" => Some(Head::Apply(Op::Reverse)),
         "list-ref" => Some(Head::Apply(Op::ListRef)),
+        _ => None,
+    }
+}
+
+// The operation of a name on texts or answers.
+#[tactic(auto, unfolding(crate::specs::Heads::text_operation_of))]
+fn text_operation_of(name: &str) -> Option<Head>
+    ensures { result ≡ text_operation_of name.now }
+{
+    match name {
         "string-append" => Some(Head::Apply(Op::StringAppend)),
         "string-length" => Some(Head::Apply(Op::StringLength)),
         "string=?" => Some(Head::Apply(Op::StringEqual)),
@@ -161,11 +181,19 @@ fn data_operation_of(name: &str) -> Option<Head>
     }
 }
 
+fn operation_of(name: &str) -> Option<Head>
+    ensures { result ≡ operation_of name.now }
+{
+    number_operation_of(name)
+        .or(test_of(name))
+        .or(list_operation_of(name).or(text_operation_of(name)))
+}
+
 /// The form or the operation of a name.
 pub fn head_of(name: &str) -> Option<Head>
     ensures { result ≡ head_of name.now }
 {
     syntax_of(name)
         .or(page_form_of(name))
-        .or(number_operation_of(name).or(data_operation_of(name)))
+        .or(operation_of(name))
 }

@@ -5,28 +5,17 @@ ghost use Rattle.script_value.specs.Views.{meaning};
 ghost use Rattle.script_nodes.specs.Core.{lit, bind, seq, cores_of};
 ghost use Rattle.script_nodes.specs.Core as core;
 ghost use Rattle.core_syntax.specs.Forms as spec;
-ghost use Rattle.core_syntax.specs.Trees.{nested, chosen, pair_of};
+ghost use Rattle.core_syntax.specs.Trees.{nested, chosen, over_part, pair_of};
 ghost use Rattle.core_syntax.specs.Laid.{Puts, Lays, LaysAll, LaysGroup, last_node, store_node};
-ghost use Rattle.core_syntax.specs.Groups.{group_node};
+ghost use Rattle.core_syntax.specs.Groups.{group_node, single_node};
 ghost use Rattle.script_nodes.specs.declared.script.Node.TheVariants as node;
 
 use crate::heads::{CellKind, LastPage, Store};
 use crate::nodes::{LayFault, Nodes};
-use crate::tree::{Choice, Form, Tree};
-use script_nodes::{Node, Numbers, SendKind};
-use script_value::{Op, Value};
+use crate::tree::{Choice, Form, Group, Single, Tree};
+use script_nodes::{Node, Numbers};
+use script_value::Value;
 use std::alloc::{AllocError, Global};
-
-/// What stands over parts in a row.
-#[derive(Clone, Copy)]
-enum Group {
-    Seq,
-    And,
-    Or,
-    Prim(Op),
-    /// A task, by its number.
-    Call(u8),
-}
 
 /// Puts the nodes of a tree behind the others, where `left` levels may still nest, and gives the number of the first.
 #[cycle(lay)]
@@ -39,17 +28,7 @@ pub fn lay(alloc: Global, nodes: &mut Nodes, left: u32, tree: &Tree) -> Result<u
         Form::Ref(kind, cell) => lay_ref(nodes, left, *kind, *cell),
         Form::Let(values, body) => lay_let(alloc, nodes, left, values.as_slice(), body),
         Form::Nest(values, body) => lay_nested(alloc, nodes, left, values.as_slice(), body),
-        Form::Seq(parts) => lay_group(alloc, nodes, left, Group::Seq, parts.as_slice()),
-        Form::And(parts) => lay_group(alloc, nodes, left, Group::And, parts.as_slice()),
-        Form::Or(parts) => lay_group(alloc, nodes, left, Group::Or, parts.as_slice()),
-        Form::Prim(op, parts) => lay_group(alloc, nodes, left, Group::Prim(*op), parts.as_slice()),
-        Form::Call(task, operands) => lay_group(
-            alloc,
-            nodes,
-            left,
-            Group::Call(*task),
-            operands.as_slice(),
-        ),
+        Form::Group(group, parts) => lay_group(alloc, nodes, left, *group, parts.as_slice()),
         Form::Cond(choices, otherwise) => lay_chosen(
             alloc,
             nodes,
@@ -58,10 +37,7 @@ pub fn lay(alloc: Global, nodes: &mut Nodes, left: u32, tree: &Tree) -> Result<u
             otherwise,
         ),
         Form::For(count, body) => lay_for(alloc, nodes, left, count, body),
-        Form::Send(kind, body) => lay_send(alloc, nodes, left, *kind, body),
-        Form::Last(kind, body) => lay_last(alloc, nodes, left, *kind, body),
-        Form::Isolate(body) => lay_isolate(alloc, nodes, left, body),
-        Form::Store(kind, cell, value) => lay_store(alloc, nodes, left, *kind, *cell, value),
+        Form::Single(single, part) => lay_single(alloc, nodes, left, *single, part),
     }
 }
 
@@ -288,68 +264,31 @@ fn lay_for(
 }
 
 #[cycle(lay)]
-fn lay_send(
+fn lay_single(
     alloc: Global,
     nodes: &mut Nodes,
     left: u32,
-    kind: SendKind,
-    body: &Tree,
+    single: Single,
+    part: &Tree,
 ) -> Result<u32, LayFault>
-    ensures { Lays result nodes.old nodes.new left (core.send kind body.now) }
+    ensures { Lays result nodes.old nodes.new left (over_part single part.now) }
 {
-    let part_number = nodes.next_number() + 1;
-    let number = nodes.push(
-        left,
-        Node::Send {
-            kind,
-            body: part_number,
-        },
-    )?;
-    lay(alloc, nodes, left - 1, body)?;
+    let next = nodes.next_number();
+    let number = nodes.push(left, single_of(single, next + 1))?;
+    lay(alloc, nodes, left - 1, part)?;
     Ok(number)
 }
 
-#[cycle(lay)]
-fn lay_isolate(alloc: Global, nodes: &mut Nodes, left: u32, body: &Tree) -> Result<u32, LayFault>
-    ensures { Lays result nodes.old nodes.new left (core.isolate body.now) }
+/// The node over this part.
+fn single_of(single: Single, part: u32) -> Node
+    ensures { result ≡ single_node single part }
 {
-    let part_number = nodes.next_number() + 1;
-    let number = nodes.push(left, Node::Isolate { body: part_number })?;
-    lay(alloc, nodes, left - 1, body)?;
-    Ok(number)
-}
-
-#[cycle(lay)]
-fn lay_last(
-    alloc: Global,
-    nodes: &mut Nodes,
-    left: u32,
-    kind: LastPage,
-    body: &Tree,
-) -> Result<u32, LayFault>
-    ensures { Lays result nodes.old nodes.new left (spec.last_page kind body.now) }
-{
-    let part_number = nodes.next_number() + 1;
-    let number = nodes.push(left, last_page(kind, part_number))?;
-    lay(alloc, nodes, left - 1, body)?;
-    Ok(number)
-}
-
-#[cycle(lay)]
-fn lay_store(
-    alloc: Global,
-    nodes: &mut Nodes,
-    left: u32,
-    kind: Store,
-    cell: u8,
-    value: &Tree,
-) -> Result<u32, LayFault>
-    ensures { Lays result nodes.old nodes.new left (spec.store kind cell value.now) }
-{
-    let part_number = nodes.next_number() + 1;
-    let number = nodes.push(left, store(kind, cell, part_number))?;
-    lay(alloc, nodes, left - 1, value)?;
-    Ok(number)
+    match single {
+        Single::Send(kind) => Node::Send { kind, body: part },
+        Single::Last(kind) => last_page(kind, part),
+        Single::Isolate => Node::Isolate { body: part },
+        Single::Store(kind, cell) => store(kind, cell, part),
+    }
 }
 
 /// The node that sends a last page.

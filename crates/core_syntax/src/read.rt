@@ -5,7 +5,7 @@ ghost use Rattle.script_value.specs.Val.{list};
 ghost use Rattle.script_value.specs.Views.{meaning, meanings};
 ghost use Rattle.script_nodes.specs.Core.{lit};
 ghost use Rattle.core_syntax.specs.Forms as spec;
-ghost use Rattle.core_syntax.specs.RowCores.{core_in_row, store_core, send_core, last_core, isolate_core, call_core};
+ghost use Rattle.core_syntax.specs.RowCores.{core_in_row, and_core, or_core, prim_core, store_core, send_core, last_core, isolate_core, call_core};
 ghost use Rattle.core_syntax.specs.Rows.{row_of as spec_row_of};
 ghost use Rattle.core_syntax.specs.RowsSeen.{row_seen};
 ghost use Rattle.core_syntax.specs.ReaderSeen.{here};
@@ -20,9 +20,9 @@ use crate::faults::{ReadFault, SyntaxKind};
 use crate::heads::{LastPage, Store};
 use crate::names::Names;
 use crate::rows::{Row, row_of};
-use crate::tree::{Form, Tree, conjunction, disjunction, sequence};
+use crate::tree::{Form, Group, Single, Tree, conjunction, disjunction, over, put, sequence};
 use script_nodes::SendKind;
-use script_value::{Str, Value};
+use script_value::{Op, Str, Value};
 use std::alloc::Global;
 
 /// Reads expressions with these cells, within the variables in scope.
@@ -71,8 +71,8 @@ impl<'a, 'c> Reader<'a, 'c> {
             Row::Begin(body) => self.read_body(in_page, body),
             Row::If(test, chosen, otherwise) => self.read_if(in_page, test, chosen, otherwise),
             Row::Cond(clauses) => self.read_choices(in_page, clauses),
-            Row::And(parts) => Ok(conjunction(self.read_all(in_page, parts)?)),
-            Row::Or(parts) => Ok(disjunction(self.read_all(in_page, parts)?)),
+            Row::And(parts) => self.read_and(in_page, parts),
+            Row::Or(parts) => self.read_or(in_page, parts),
             Row::For(name, count, body) => self.read_for(in_page, name, count, body),
             Row::Ref(kind, cell) => Ok(Tree::new(Form::Ref(kind, cell))),
             Row::Store(kind, cell, value) => self.read_store(kind, cell, value),
@@ -80,7 +80,7 @@ impl<'a, 'c> Reader<'a, 'c> {
             Row::Last(kind, body) => self.read_last(kind, body),
             Row::Isolate(body) => self.read_isolate(body),
             Row::Call(task, operands) => self.read_call(task, operands),
-            Row::Apply(op, parts) => Ok(Tree::new(Form::Prim(op, self.read_all(in_page, parts)?))),
+            Row::Apply(op, parts) => self.read_prim(in_page, op, parts),
         }
     }
 
@@ -93,9 +93,35 @@ impl<'a, 'c> Reader<'a, 'c> {
         let mut trees = Vec::new(self.alloc);
         for part in parts {
             let tree = self.read(in_page, part)?;
-            trees.push(tree)?;
+            put(&mut trees, tree)?;
         }
         Ok(trees)
+    }
+
+    #[cycle(read)]
+    fn read_and(&mut self, in_page: bool, parts: &'a [Value]) -> Result<Tree, ReadFault>
+        ensures tree { Reads result (here self.old and_core in_page (meanings parts.now)) }
+        ensures kept { OnOk result (self.new ≡ self.old) }
+    {
+        Ok(conjunction(self.read_all(in_page, parts)?))
+    }
+
+    #[cycle(read)]
+    fn read_or(&mut self, in_page: bool, parts: &'a [Value]) -> Result<Tree, ReadFault>
+        ensures tree { Reads result (here self.old or_core in_page (meanings parts.now)) }
+        ensures kept { OnOk result (self.new ≡ self.old) }
+    {
+        Ok(disjunction(self.read_all(in_page, parts)?))
+    }
+
+    /// An operation over its operands.
+    #[cycle(read)]
+    fn read_prim(&mut self, in_page: bool, op: Op, parts: &'a [Value]) -> Result<Tree, ReadFault>
+        ensures tree { Reads result (here self.old prim_core in_page op (meanings parts.now)) }
+        ensures kept { OnOk result (self.new ≡ self.old) }
+    {
+        let parts = self.read_all(in_page, parts)?;
+        Ok(Tree::new(Form::Group(Group::Prim(op), parts)))
     }
 
     /// A body.
@@ -138,7 +164,7 @@ impl<'a, 'c> Reader<'a, 'c> {
         ensures kept { OnOk result (self.new ≡ self.old) }
     {
         let value = self.read(false, value)?;
-        Ok(Tree::new(Form::Store(kind, cell, Box::new(self.alloc, value)?)))
+        over(self.alloc, Single::Store(kind, cell), value)
     }
 
     #[cycle(read)]
@@ -152,7 +178,7 @@ impl<'a, 'c> Reader<'a, 'c> {
         ensures kept { OnOk result (self.new ≡ self.old) }
     {
         let body = self.read_within_one(true, name, body)?;
-        Ok(Tree::new(Form::Send(kind, Box::new(self.alloc, body)?)))
+        over(self.alloc, Single::Send(kind), body)
     }
 
     #[cycle(read)]
@@ -161,7 +187,7 @@ impl<'a, 'c> Reader<'a, 'c> {
         ensures kept { OnOk result (self.new ≡ self.old) }
     {
         let body = self.read(true, body)?;
-        Ok(Tree::new(Form::Last(kind, Box::new(self.alloc, body)?)))
+        over(self.alloc, Single::Last(kind), body)
     }
 
     #[cycle(read)]
@@ -170,7 +196,7 @@ impl<'a, 'c> Reader<'a, 'c> {
         ensures kept { OnOk result (self.new ≡ self.old) }
     {
         let body = self.read(false, body)?;
-        Ok(Tree::new(Form::Isolate(Box::new(self.alloc, body)?)))
+        over(self.alloc, Single::Isolate, body)
     }
 
     #[cycle(read)]
@@ -178,7 +204,7 @@ impl<'a, 'c> Reader<'a, 'c> {
         ensures tree { Reads result (here self.old call_core task (meanings operands.now)) }
         ensures kept { OnOk result (self.new ≡ self.old) }
     {
-        Ok(Tree::new(Form::Call(task, self.read_all(false, operands)?)))
+        Ok(Tree::new(Form::Group(Group::Call(task), self.read_all(false, operands)?)))
     }
 }
 

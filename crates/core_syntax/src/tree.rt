@@ -1,8 +1,10 @@
-ghost use Rattle.std.specs.Prelude.{◌≡◌, ◌∷◌, [], length, map, IfOk};
+ghost use Rattle.std.specs.Prelude.{◌≡◌, ◌∷◌, ◌++◌, [], length, map, IfOk, Ok, OnOk};
 ghost use Rattle.script_nodes.specs.Core as core;
 ghost use Rattle.core_syntax.specs.Forms as spec;
-ghost use Rattle.core_syntax.specs.Trees.{core_in, pair_of};
+ghost use Rattle.core_syntax.specs.Gives.{Gives, Reads};
+ghost use Rattle.core_syntax.specs.Trees.{core_in, over_part, pair_of};
 
+use crate::faults::ReadFault;
 use crate::heads::{CellKind, LastPage, Store};
 use script_nodes::SendKind;
 use script_value::{Op, Value};
@@ -28,20 +30,35 @@ pub enum Form {
     Let(Vec<Tree>, Box<Tree>),
     /// The bindings one inside the other, and the body.
     Nest(Vec<Tree>, Box<Tree>),
-    Seq(Vec<Tree>),
-    And(Vec<Tree>),
-    Or(Vec<Tree>),
-    Prim(Op, Vec<Tree>),
-    /// A task and its operands.
-    Call(u8, Vec<Tree>),
+    /// What stands over parts in a row, and the parts.
+    Group(Group, Vec<Tree>),
     /// The choices, and what is taken where each test is false.
     Cond(Vec<Choice>, Box<Tree>),
     /// The count and the body.
     For(Box<Tree>, Box<Tree>),
-    Send(SendKind, Box<Tree>),
-    Last(LastPage, Box<Tree>),
-    Isolate(Box<Tree>),
-    Store(Store, u8, Box<Tree>),
+    /// What stands over one part, and the part.
+    Single(Single, Box<Tree>),
+}
+
+/// What stands over parts in a row.
+#[derive(Clone, Copy)]
+pub enum Group {
+    Seq,
+    And,
+    Or,
+    Prim(Op),
+    /// A task, by its number.
+    Call(u8),
+}
+
+/// What stands over one part.
+#[derive(Clone, Copy)]
+pub enum Single {
+    Send(SendKind),
+    Last(LastPage),
+    Isolate,
+    /// A cell that is written, by its number.
+    Store(Store, u8),
 }
 
 /// A test, and what is taken where it is not false.
@@ -88,6 +105,35 @@ impl Tree {
     }
 }
 
+/// Puts a tree behind others.
+pub fn put(trees: &mut Vec<Tree>, tree: Tree) -> Result<(), AllocError>
+    ensures { OnOk result (trees.new.items ≡ trees.old.items ++ tree ∷ []) }
+{
+    trees.push(tree)?;
+    Ok(())
+}
+
+/// A tree in a box.
+fn boxed(alloc: Global, tree: Tree) -> Result<Box<Tree>, AllocError>
+    ensures { IfOk result (λ b. b.value ≡ tree) }
+{
+    Ok(Box::new(alloc, tree)?)
+}
+
+/// The tree that stands over one part.
+pub fn over(alloc: Global, single: Single, part: Tree) -> Result<Tree, ReadFault>
+    ensures { Reads result (Ok (over_part single part)) }
+{
+    Ok(Tree::new(Form::Single(single, boxed(alloc, part)?)))
+}
+
+/// Bindings at once, and their body.
+pub fn bind(alloc: Global, values: Vec<Tree>, body: Tree) -> Result<Tree, ReadFault>
+    ensures { Reads result (Ok (core.bind (core.cores_of values.items) body)) }
+{
+    Ok(Tree::new(Form::Let(values, boxed(alloc, body)?)))
+}
+
 /// Parts in order; a body of one is that one.
 pub fn sequence(parts: Vec<Tree>) -> Tree
     ensures { result ≡ spec.sequence parts.items }
@@ -95,7 +141,7 @@ pub fn sequence(parts: Vec<Tree>) -> Tree
     if parts.len() == 1 {
         only_of(parts)
     } else {
-        Tree::new(Form::Seq(parts))
+        Tree::new(Form::Group(Group::Seq, parts))
     }
 }
 
@@ -115,7 +161,7 @@ pub fn conjunction(parts: Vec<Tree>) -> Tree
     match parts.len() {
         0 => Tree::new(Form::Lit(Value::Truth(true))),
         1 => only_of(parts),
-        _ => Tree::new(Form::And(parts)),
+        _ => Tree::new(Form::Group(Group::And, parts)),
     }
 }
 
@@ -126,52 +172,52 @@ pub fn disjunction(parts: Vec<Tree>) -> Tree
     match parts.len() {
         0 => Tree::new(Form::Lit(Value::Truth(false))),
         1 => only_of(parts),
-        _ => Tree::new(Form::Or(parts)),
+        _ => Tree::new(Form::Group(Group::Or, parts)),
     }
 }
 
 /// Bindings one inside the other; without one the body alone.
-pub fn nest(alloc: Global, values: Vec<Tree>, body: Tree) -> Result<Tree, AllocError>
-    ensures { IfOk result (λ c. c ≡ spec.nest values.items body) }
+pub fn nest(alloc: Global, values: Vec<Tree>, body: Tree) -> Result<Tree, ReadFault>
+    ensures { Reads result (Ok (spec.nest values.items body)) }
 {
     if values.is_empty() {
         return Ok(body);
     }
-    Ok(Tree::new(Form::Nest(values, Box::new(alloc, body)?)))
+    Ok(Tree::new(Form::Nest(values, boxed(alloc, body)?)))
 }
 
 /// Choices one inside the other, and what is taken where each test is false; without a choice that alone.
-pub fn choose(alloc: Global, choices: Vec<Choice>, otherwise: Tree) -> Result<Tree, AllocError>
-    ensures { IfOk result (λ c. c ≡ spec.choose (map pair_of choices.items) otherwise) }
+pub fn choose(alloc: Global, choices: Vec<Choice>, otherwise: Tree) -> Result<Tree, ReadFault>
+    ensures { Reads result (Ok (spec.choose (map pair_of choices.items) otherwise)) }
 {
     if choices.is_empty() {
         return Ok(otherwise);
     }
-    Ok(Tree::new(Form::Cond(choices, Box::new(alloc, otherwise)?)))
+    Ok(Tree::new(Form::Cond(choices, boxed(alloc, otherwise)?)))
 }
 
-/// A choice of two.
-pub fn branch(alloc: Global, test: Tree, then: Tree, otherwise: Tree) -> Result<Tree, AllocError>
-    ensures { IfOk result (λ c. c ≡ core.branch test then otherwise) }
+/// One choice.
+pub fn only_choice(alloc: Global, test: Tree, body: Tree) -> Result<Vec<Choice>, ReadFault>
+    ensures { Gives (λ v. map pair_of v.items) result (Ok ((test, body) ∷ [])) }
 {
     let mut choices = Vec::new(alloc);
-    choices.push(Choice { test, body: then })?;
-    choose(alloc, choices, otherwise)
+    choices.push(Choice { test, body })?;
+    Ok(choices)
 }
 
 /// Turns of a body.
-pub fn turns(alloc: Global, count: Tree, body: Tree) -> Result<Tree, AllocError>
-    ensures { IfOk result (λ c. c ≡ core.repeat count body) }
+pub fn turns(alloc: Global, count: Tree, body: Tree) -> Result<Tree, ReadFault>
+    ensures { Reads result (Ok (core.repeat count body)) }
 {
-    let count = Box::new(alloc, count)?;
-    Ok(Tree::new(Form::For(count, Box::new(alloc, body)?)))
+    let count = boxed(alloc, count)?;
+    Ok(Tree::new(Form::For(count, boxed(alloc, body)?)))
 }
 
 /// A list of one item.
-pub fn alone(alloc: Global, item: Tree) -> Result<Tree, AllocError>
-    ensures { IfOk result (λ c. c ≡ spec.alone item) }
+pub fn alone(alloc: Global, item: Tree) -> Result<Tree, ReadFault>
+    ensures { Reads result (Ok (spec.alone item)) }
 {
     let mut items = Vec::new(alloc);
-    items.push(item)?;
-    Ok(Tree::new(Form::Prim(Op::List, items)))
+    put(&mut items, item)?;
+    Ok(Tree::new(Form::Group(Group::Prim(Op::List), items)))
 }

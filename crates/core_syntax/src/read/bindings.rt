@@ -11,7 +11,7 @@ use super::Reader;
 use crate::faults::{ReadFault, SyntaxKind};
 use crate::names::Names;
 use crate::shapes::{bound_name, names_in};
-use crate::tree::{Form, Tree, nest, sequence, turns};
+use crate::tree::{Tree, bind, nest, put, sequence, turns};
 use script_value::{Str, Value};
 use std::alloc::Global;
 
@@ -62,12 +62,28 @@ impl<'a, 'c> Reader<'a, 'c> {
         ensures kept { OnOk result (self.new ≡ self.old) }
     {
         let names = names_in(self.alloc, bindings)?;
+        self.read_let_of(in_page, &names, bindings, body)
+    }
+
+    /// The same, the names of the bindings being these.
+    #[cycle(read)]
+    fn read_let_of(
+        &mut self,
+        in_page: bool,
+        names: &Names<'a>,
+        bindings: &'a [Value],
+        body: &'a [Value],
+    ) -> Result<Tree, ReadFault>
+        requires { names.now ≡ spec_of.names_in (meanings bindings.now) [] }
+        ensures tree { Reads result (here self.old spec_of.bind_core in_page (meanings bindings.now) (meanings body.now)) }
+        ensures kept { OnOk result (self.new ≡ self.old) }
+    {
         if names.repeat() {
             return Err(ReadFault::Syntax(SyntaxKind::Duplicate));
         }
         let values = self.read_values(in_page, bindings)?;
-        let body = self.read_within(in_page, &names, body)?;
-        Ok(Tree::new(Form::Let(values, Box::new(self.alloc, body)?)))
+        let body = self.read_within(in_page, names, body)?;
+        bind(self.alloc, values, body)
     }
 
     /// The expressions of bindings.
@@ -78,7 +94,8 @@ impl<'a, 'c> Reader<'a, 'c> {
     {
         let mut values = Vec::new(self.alloc);
         for binding in bindings {
-            values.push(self.read_second(in_page, binding)?)?;
+            let tree = self.read_second(in_page, binding)?;
+            put(&mut values, tree)?;
         }
         Ok(values)
     }
@@ -95,9 +112,23 @@ impl<'a, 'c> Reader<'a, 'c> {
         ensures kept { OnOk result (self.new ≡ self.old) }
     {
         let values = self.read_values_in_turn(in_page, bindings)?;
+        let body = self.read_behind(in_page, bindings, body)?;
+        nest(self.alloc, values, body)
+    }
+
+    /// A body within the names of bindings.
+    #[cycle(read)]
+    fn read_behind(
+        &mut self,
+        in_page: bool,
+        bindings: &'a [Value],
+        body: &'a [Value],
+    ) -> Result<Tree, ReadFault>
+        ensures tree { Reads result (here_within (spec_of.names_in (meanings bindings.now) []) self.old spec.body_of in_page (meanings body.now)) }
+        ensures kept { OnOk result (self.new ≡ self.old) }
+    {
         let names = names_in(self.alloc, bindings)?;
-        let body = self.read_within(in_page, &names, body)?;
-        Ok(nest(self.alloc, values, body)?)
+        self.read_within(in_page, &names, body)
     }
 
     /// The expressions of bindings, each within the names before it.
@@ -113,11 +144,11 @@ impl<'a, 'c> Reader<'a, 'c> {
         let mut values = Vec::new(self.alloc);
         for binding in bindings {
             let value = self.read_second(in_page, binding)?;
+            put(&mut values, value)?;
             match bound_name(binding) {
                 None => return Err(ReadFault::Syntax(SyntaxKind::Shape)),
                 Some(name) => self.scope.push(name)?,
             }
-            values.push(value)?;
         }
         self.scope.leave(bindings.len());
         Ok(values)
@@ -137,6 +168,6 @@ impl<'a, 'c> Reader<'a, 'c> {
     {
         let count = self.read(in_page, count)?;
         let body = self.read_within_one(in_page, name, body)?;
-        Ok(turns(self.alloc, count, body)?)
+        turns(self.alloc, count, body)
     }
 }

@@ -1,9 +1,10 @@
 //! Forms that choose.
 
-ghost use Rattle.std.specs.Prelude.{◌≡◌, [], OnOk};
+ghost use Rattle.std.specs.Prelude.{◌≡◌, [], map, OnOk};
 ghost use Rattle.script_value.specs.Val.{list};
 ghost use Rattle.script_value.specs.Views.{meaning, meanings};
 ghost use Rattle.core_syntax.specs.Forms as spec;
+ghost use Rattle.core_syntax.specs.RowCores.{both};
 ghost use Rattle.core_syntax.specs.Trees.{pair_of};
 ghost use Rattle.core_syntax.specs.Gives.{Gives, Reads};
 ghost use Rattle.core_syntax.specs.ReaderSeen.{here};
@@ -11,7 +12,7 @@ ghost use Rattle.core_syntax.specs.Views.{if_parts};
 
 use super::Reader;
 use crate::faults::{ReadFault, SyntaxKind};
-use crate::tree::{Choice, Tree, branch, choose};
+use crate::tree::{Choice, Tree, choose, only_choice};
 use script_value::Value;
 
 impl<'a, 'c> Reader<'a, 'c> {
@@ -27,10 +28,25 @@ impl<'a, 'c> Reader<'a, 'c> {
         ensures tree { Reads result (here self.old spec.if_form in_page (if_parts test.now chosen.now otherwise.now)) }
         ensures kept { OnOk result (self.new ≡ self.old) }
     {
-        let test = self.read(in_page, test)?;
-        let chosen = self.read(in_page, chosen)?;
+        let choices = self.read_both(in_page, test, chosen)?;
         let otherwise = self.read(in_page, otherwise)?;
-        Ok(branch(self.alloc, test, chosen, otherwise)?)
+        choose(self.alloc, choices, otherwise)
+    }
+
+    /// The choice of a test and of what is taken where it is not false.
+    #[cycle(read)]
+    fn read_both(
+        &mut self,
+        in_page: bool,
+        test: &'a Value,
+        chosen: &'a Value,
+    ) -> Result<Vec<Choice>, ReadFault>
+        ensures tree { Gives (λ v. map pair_of v.items) result (here self.old both in_page (meaning test.now) (meaning chosen.now)) }
+        ensures kept { OnOk result (self.new ≡ self.old) }
+    {
+        let test = self.read(in_page, test)?;
+        let body = self.read(in_page, chosen)?;
+        only_choice(self.alloc, test, body)
     }
 
     /// The clauses of a `cond`, the last of which is its `else`.
@@ -47,7 +63,7 @@ impl<'a, 'c> Reader<'a, 'c> {
         for place in 0..clauses.len() {
             if place + 1 == clauses.len() {
                 let otherwise = self.read_choice_body(in_page, &clauses[place])?;
-                return Ok(choose(self.alloc, choices, otherwise)?);
+                return choose(self.alloc, choices, otherwise);
             }
             let choice = self.read_choice(in_page, &clauses[place])?;
             choices.push(choice)?;

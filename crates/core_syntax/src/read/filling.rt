@@ -13,7 +13,7 @@ use crate::faults::ReadFault;
 use crate::filled_items::FilledItems;
 use crate::shapes::begins;
 use crate::templates::{has_splice, is_splice};
-use crate::tree::{Form, Tree, alone};
+use crate::tree::{Form, Group, Tree, alone, put};
 use script_value::{Op, Value};
 use std::alloc::Global;
 
@@ -69,7 +69,7 @@ impl<'a, 'c> Reader<'a, 'c> {
         ensures kept { OnOk result (self.new ≡ self.old) }
     {
         let parts = self.splice_all(in_page, items)?;
-        Ok(Some(Tree::new(Form::Prim(Op::Append, parts))))
+        Ok(Some(Tree::new(Form::Group(Group::Prim(Op::Append), parts))))
     }
 
     /// The list of these items.
@@ -79,7 +79,7 @@ impl<'a, 'c> Reader<'a, 'c> {
         ensures kept { OnOk result (self.new ≡ self.old) }
     {
         match self.fill_all(in_page, items)? {
-            Some(trees) => Ok(Some(Tree::new(Form::Prim(Op::List, trees)))),
+            Some(trees) => Ok(Some(Tree::new(Form::Group(Group::Prim(Op::List), trees)))),
             None => Ok(None),
         }
     }
@@ -112,7 +112,7 @@ impl<'a, 'c> Reader<'a, 'c> {
         let mut trees = Vec::new(self.alloc);
         for item in items {
             let tree = self.splice(in_page, item)?;
-            trees.push(tree)?;
+            put(&mut trees, tree)?;
         }
         Ok(trees)
     }
@@ -127,7 +127,7 @@ impl<'a, 'c> Reader<'a, 'c> {
             return self.read_second(in_page, item);
         }
         let tree = self.fill(in_page, item)?;
-        Ok(alone(self.alloc, tree)?)
+        alone(self.alloc, tree)
     }
 }
 

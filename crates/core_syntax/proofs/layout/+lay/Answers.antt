@@ -1,13 +1,31 @@
-use Rattle.std.proofs.Common.{◌≡◌, ◌+◌, ◌∷◌, [], ◌++◌, take, map, ap, sym, ◌∙◌}
+use Rattle.std.proofs.Common.{◌≡◌, suc, ◌+◌, ◌∷◌, [], ◌++◌, length, take, map, ap, subst, sym, ◌∙◌}
 use Rattle.std.specs.Prelude.{slice_set}
 use Rattle.std.proofs.lemmas.List.{take_more}
 use Rattle.std.proofs.lemmas.Result.{err_from_is_err_and}
 use Rattle.core_syntax.specs.Forms.{nest, choose}
 use Rattle.core_syntax.specs.Trees.{pair_of}
 use Rattle.script_nodes.specs.declared.script.Node.TheVariants as node
-use Rattle.core_syntax.specs.Groups.{group_node}
-use Rattle.core_syntax.proofs.Lays.{group_of, let_of, two_parts, nest_of, alone_of, choice_of, all_none, all_more, all_stops}
+use Rattle.core_syntax.specs.Groups.{group_node, single_node}
+use Rattle.core_syntax.specs.Laid.{Stands}
+use Rattle.script_nodes.specs.Core.{count, height}
+use Rattle.script_nodes.specs.Layout.{layout}
+use Rattle.script_nodes.specs.declared.script.Node.{Node}
+use Rattle.core_syntax.proofs.Lays.{first_part, group_of, group_laid, single_laid, let_of, two_parts, nest_of, alone_of, choice_of, all_none, all_more, all_stops}
 use Rattle.core_syntax.proofs.layout.+lay.Goals as goal
+
+pub lay-returns-in-Group : goal.lay-returns-in-Group
+lay-returns-in-Group t c =
+    rw (c.form.ensures, c.in-Group.is)
+    (group_laid c.in-Group.group c.in-Group.parts.items c.lay_group.result c.args.nodes.now c.lay_group.new.nodes c.args.left (rw c.as_slice-in-Group.ensures.value at c.lay_group.ensures))
+
+pub lay_single-returns : goal.lay_single-returns
+lay_single-returns t c =
+    let old = c.args.nodes.now in
+    let part = c.args.part.now in
+    let node : c.single_of.result ≡ single_node c.args.single (length old + 1) = c.single_of.ensures ∙ ap (λ k. single_node c.args.single (k + 1)) c.next_number-next.ensures.number in
+    single_laid c.args.single part old c.lay.new.nodes c.args.left c.in_ok-number.number
+    (subst (λ (x : Node). Stands old c.lay.new.nodes c.args.left c.in_ok-number.number (x ∷ layout (length old + 1) part) (suc (count part)) (suc (height part))) node
+    (first_part part c.in_ok-number.ensures c.in_ok-lay.ensures))
 
 pub lay_group-returns : goal.lay_group-returns
 lay_group-returns t c =

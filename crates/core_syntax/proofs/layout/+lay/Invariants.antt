@@ -30,17 +30,8 @@ decreases-lay_choice l = 4 * l.left + 1
 abbrev pub decreases-lay_for : goal.decreases-lay_for
 decreases-lay_for l = 4 * l.left + 2
 
-abbrev pub decreases-lay_send : goal.decreases-lay_send
-decreases-lay_send l = 4 * l.left + 2
-
-abbrev pub decreases-lay_isolate : goal.decreases-lay_isolate
-decreases-lay_isolate l = 4 * l.left + 2
-
-abbrev pub decreases-lay_last : goal.decreases-lay_last
-decreases-lay_last l = 4 * l.left + 2
-
-abbrev pub decreases-lay_store : goal.decreases-lay_store
-decreases-lay_store l = 4 * l.left + 2
+abbrev pub decreases-lay_single : goal.decreases-lay_single
+decreases-lay_single l = 4 * l.left + 2
 
 abbrev pub decreases-lay_all : goal.decreases-lay_all
 decreases-lay_all l = 4 * l.left + 4

@@ -1,14 +1,19 @@
 use Rattle.std.proofs.Common.{ap, arith, sym, ◌∙◌, map, refl}
 use Rattle.std.proofs.lemmas.Result.{err_from_is_err_and}
+use Rattle.core_syntax.specs.Forms.{choose, core_of, if_form}
+use Rattle.core_syntax.specs.Names.{◌>>=◌}
+use Rattle.core_syntax.specs.RowCores.{both}
+use Rattle.core_syntax.specs.Views.{if_parts}
 use Rattle.core_syntax.specs.Trees.{pair_of}
 use Rattle.script_nodes.proofs.Places.{map_behind}
-use Rattle.core_syntax.proofs.Choices.{choices_next, clause_stops, gives_same}
+use Rattle.core_syntax.proofs.Choices.{both_first, both_stop, choices_next, clause_stops, gives_same}
 use Rattle.script_value.specs.Val.{weight}
 use Rattle.script_value.specs.Views.{meaning, meanings}
+use Rattle.script_value.specs.declared.value.Value.{Value}
 use Rattle.core_syntax.proofs.Filling.{splice_filled, part_stops, part_given, gives_too, unquote_is, joined_is, list_is, item_added, item_counted, item_stops, items_end, items_given}
 use Rattle.core_syntax.specs.Filling.{trees_of, has_no_tree, items_filled}
 use Rattle.core_syntax.specs.Shapes.{begins}
-use Rattle.std.specs.Prelude.{codes, option_map}
+use Rattle.std.specs.Prelude.{Ok, codes, option_map}
 use Rattle.core_syntax.proofs.Parts.{item_weight, split_off, exactly_two}
 use Rattle.core_syntax.specs.RowsSeen.{row_seen}
 use Rattle.core_syntax.proofs.ByRow.{row_stops, row_goes_on, part_of_form}
@@ -27,6 +32,15 @@ read-returns-in_err-row-clause-tree t c =
 pub read-returns-clause-tree : goal.read-returns-clause-tree
 read-returns-clause-tree t c =
     gives_same c.read_row.result _ _ (row_goes_on c.args.self.now.cells.now c.args.self.now.scope c.args.in_page (meaning c.args.form.now) (row_seen c.in_ok-row.row) c.in_ok-row.ensures) c.read_row.ensures.tree
+
+pub read_if-returns-in_err-choices-clause-tree : goal.read_if-returns-in_err-choices-clause-tree
+read_if-returns-in_err-choices-clause-tree t c =
+    let p = err_from_is_err_and c.from_residual.result c.from_residual.ensures.1 in
+    let part = λ (v : Value). core_of c.args.self.now.cells.now c.args.self.now.scope c.args.in_page (meaning v) in
+    both_stop c.from_residual.result p.0 c.in_err-choices.field-0.0 (both c.args.self.now.cells.now c.args.self.now.scope c.args.in_page (meaning c.args.test.now) (meaning c.args.chosen.now))
+    (λ cs. part c.args.otherwise.now >>= (λ z. Ok (choose cs z)))
+    (if_form c.args.self.now.cells.now c.args.self.now.scope c.args.in_page (if_parts c.args.test.now c.args.chosen.now c.args.otherwise.now))
+    p.1 p.2 c.in_err-choices.ensures.tree (both_first (part c.args.test.now) (part c.args.chosen.now) (part c.args.otherwise.now))
 
 pub read_row-returns-in-If-clause-tree : goal.read_row-returns-in-If-clause-tree
 read_row-returns-in-If-clause-tree t c = rw c.in-If.is c.read_if.ensures.tree

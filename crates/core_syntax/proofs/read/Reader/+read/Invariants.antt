@@ -31,6 +31,24 @@ decreases-read_within_one l = 8 * weight_all (meanings l.body.now) + 6
 abbrev pub decreases-read_let : goal.decreases-read_let
 decreases-read_let l = 8 * (weight_all (meanings l.bindings.now) + weight_all (meanings l.body.now)) + 8
 
+abbrev pub decreases-read_let_of : goal.decreases-read_let_of
+decreases-read_let_of l = 8 * (weight_all (meanings l.bindings.now) + weight_all (meanings l.body.now)) + 7
+
+abbrev pub decreases-read_behind : goal.decreases-read_behind
+decreases-read_behind l = 8 * weight_all (meanings l.body.now) + 7
+
+abbrev pub decreases-read_both : goal.decreases-read_both
+decreases-read_both l = 8 * (weight (meaning l.test.now) + weight (meaning l.chosen.now)) + 4
+
+abbrev pub decreases-read_and : goal.decreases-read_and
+decreases-read_and l = 8 * weight_all (meanings l.parts.now) + 6
+
+abbrev pub decreases-read_or : goal.decreases-read_or
+decreases-read_or l = 8 * weight_all (meanings l.parts.now) + 6
+
+abbrev pub decreases-read_prim : goal.decreases-read_prim
+decreases-read_prim l = 8 * weight_all (meanings l.parts.now) + 6
+
 abbrev pub decreases-read_let_in_turn : goal.decreases-read_let_in_turn
 decreases-read_let_in_turn l = 8 * (weight_all (meanings l.bindings.now) + weight_all (meanings l.body.now)) + 8
 

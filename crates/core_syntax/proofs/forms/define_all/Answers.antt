@@ -5,10 +5,10 @@ use Rattle.core_syntax.specs.Definitions.{expanded_from}
 use Rattle.core_syntax.specs.DefinitionsSeen.{cells_of}
 use Rattle.core_syntax.proofs.Parts.{split_off}
 use Rattle.core_syntax.proofs.Forming.{total, starts_level, next_form}
-use Rattle.core_syntax.proofs.forms.expand_forms.Goals as goal
+use Rattle.core_syntax.proofs.forms.define_all.Goals as goal
 
 pub loop-left-init : goal.loop-left-init
-loop-left-init c = starts_level (cells_of c.new-defined.result) (map meaning c.args.forms.now) c.new-defined.ensures
+loop-left-init c = starts_level (cells_of c.args.defined.now) (map meaning c.args.forms.now) c.requires
 
 pub loop-left-preserved : goal.loop-left-preserved
 loop-left-preserved c =

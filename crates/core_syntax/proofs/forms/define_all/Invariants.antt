@@ -3,7 +3,7 @@ use Rattle.script_value.specs.Views.{meaning}
 use Rattle.core_syntax.specs.Definitions.{expanded, expanded_from}
 use Rattle.core_syntax.specs.DefinitionsSeen.{cells_of}
 use Rattle.core_syntax.proofs.Forming.{Stays, total}
-use Rattle.core_syntax.proofs.forms.expand_forms.Given as goal
+use Rattle.core_syntax.proofs.forms.define_all.Given as goal
 
 abbrev pub decreases-loop-left : goal.decreases-loop-left
 decreases-loop-left l = length l.left
