@@ -1,13 +1,14 @@
 -- The machine of the program, and a step of it.
-use Rattle.std.specs.Prelude.{◌≡◌, ℕ, ◌+◌, ◌-◌, ◌*◌, ◌^◌, ◌<◌, [], Option, Some, None, unwrap_or, Result, IfOk}
+use Rattle.std.specs.Prelude.{◌≡◌, ℕ, ◌+◌, ◌-◌, ◌*◌, ◌^◌, ◌<◌, List, [], Option, Some, None, unwrap_or, Result, IfOk}
 use Rattle.std.specs.declared.alloc.AllocError.{AllocError}
 use Rattle.script_value.specs.declared.value.Value.{Value}
+use Rattle.script_value.specs.declared.outcome.TxName.{TxName}
 use Rattle.script_value.specs.Views.{meaning}
 use Rattle.machine_states.specs.declared.frame.Suspended.{Suspended}
 use Rattle.machine_states.specs.Views.{suspended_of}
 use Rattle.segments.specs.declared.ends.PlainEnd.{PlainEnd}
 use Rattle.segments.specs.Views.{outcome_of}
-use Rattle.segment_progress.specs.States.{state_of}
+use Rattle.segment_progress.specs.States.{state_of, inside_of as open_of}
 use Rattle.script_nodes.specs.Arena.{Arena, IsScript}
 use Rattle.replay_spec.specs.Tape.{State, Now, Reads, bound}
 use Rattle.machine_states.specs.Laws.{started, resumed}
@@ -21,6 +22,10 @@ use Rattle.cek_machine.specs.Spots.{point, frames_of, control_of, ControlTakesMe
 -- how far a machine has used its tape
 abbrev pub state_in : Machine → State
 state_in m = state_of m.spot.progress
+
+-- the transactions that are open in a machine, the outermost first
+abbrev pub open_in : Machine → List TxName
+open_in m = open_of m.spot.progress
 
 abbrev pub machine_of : Machine → spec.Machine
 machine_of m = record { point = point m.control m.spot; state = state_of m.spot.progress }

@@ -6,7 +6,7 @@ ghost use Rattle.machine_states.specs.Fits.{FitsAt, Fits};
 ghost use Rattle.cek_machine.specs.Kinds.{Stands};
 ghost use Rattle.cek_machine.specs.Spots.{Sound, Pops, Cuts, Nexts, frames_of, control_of};
 ghost use Rattle.machine_states.specs.Views.{suspended_of, frame_of};
-ghost use Rattle.cek_machine.specs.Machines.{Steps as StepsSo, Runs, Starts, Resumes, StepTakesMemory, RunTakesMemory, IsReady, IsWithin, machine_of, state_in, kept_of};
+ghost use Rattle.cek_machine.specs.Machines.{Steps as StepsSo, Runs, Starts, Resumes, StepTakesMemory, RunTakesMemory, IsReady, IsWithin, machine_of, state_in, open_in, kept_of};
 
 use crate::control::Control;
 use crate::nodes::node_of;
@@ -193,6 +193,7 @@ impl<'s> Machine<'s> {
     pub fn into_parts(self, alloc: Global, end: PlainEnd) -> (Rerun, Suspended)
         ensures end { outcome_of result.0.end ≡ outcome_of end }
         ensures effects { map effect_of result.0.effects.items ≡ (state_in self.entry).effects }
+        ensures entered { result.0.entered.items ≡ open_in self.entry }
         ensures left { result.0.left.items ≡ (state_in self.entry).left }
         ensures cost { result.0.cost ≡ (state_in self.entry).cost }
         ensures kept { suspended_of result.1 ≡ kept_of self.entry }

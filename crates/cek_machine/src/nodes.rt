@@ -1,4 +1,4 @@
-ghost use Rattle.std.specs.Prelude.{◌≡◌, ◌<◌, ◌≤◌, ◌+◌, drop, length, pos, suc, IfOk};
+ghost use Rattle.std.specs.Prelude.{◌≡◌, ◌<◌, ◌≤◌, ◌+◌, drop, length, pos, suc};
 ghost use Rattle.script_value.specs.Views.{meaning};
 ghost use Rattle.script_nodes.specs.Arena.{IsFull, IsOnTasks, parts};
 ghost use Rattle.machine_states.specs.Machine.{node_at};
@@ -6,7 +6,6 @@ ghost use Rattle.cek_machine.specs.Kinds.{IsRow};
 
 use script_nodes::{Node, Script};
 use script_value::{Items, Value};
-use std::alloc::AllocError;
 
 /// The node of a number.
 pub fn node_of(script: &Script, number: u32) -> &Node
@@ -40,14 +39,9 @@ pub fn behind(parts: &[u32], part: usize) -> &[u32]
     &parts[part + 1..]
 }
 
-/// The number of the turn behind those that are done; more values than an i64 counts find no memory.
-pub fn turn_behind(done: &Items) -> Result<i64, AllocError>
-    ensures { IfOk result (λ turn. turn ≡ pos (length done.now)) }
+/// The number of the turn behind those that are done.
+pub fn turn_behind(done: &Items) -> i64
+    ensures { result ≡ pos (length done.now) }
 {
-    let count = done.len();
-    if count <= i64::MAX as usize {
-        Ok(count as i64)
-    } else {
-        Err(AllocError)
-    }
+    done.as_slice().len() as i64
 }

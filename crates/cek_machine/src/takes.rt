@@ -237,7 +237,7 @@ impl<'t> Spot<'t> {
         ensures sound { OnOk result (Sound self.new) }
     {
         if (done.len() as u64) < turns {
-            let turn = turn_behind(&done)?;
+            let turn = turn_behind(&done);
             self.env.push(Value::Int(turn))?;
             self.work(Frame::Turn { node, turns, done }, body)
         } else {
