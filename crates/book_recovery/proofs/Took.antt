@@ -13,7 +13,7 @@ use Rattle.instance_book.specs.declared.book.Book as kept
 use Rattle.instance_book.specs.Told.{book_beside}
 use Rattle.journal_records.specs.Records.{Record, begins, changes}
 use Rattle.journal_records.specs.Reading.{read_record}
-use Rattle.journal_spec.specs.Before.{Earlier}
+use Rattle.journal_spec.specs.Before.{Earlier, state_at}
 use Rattle.journal_spec.specs.Retaking as books
 use Rattle.journal_spec.specs.Retaking.{Told, unread, misread, told}
 use Rattle.journal_spec.specs.Lengths.{state_by}
@@ -104,6 +104,7 @@ in_order law scripts shelf bodies whole bytes n (found.Made b) seen way is =
     let range : IsInRange (book_beside scripts n b) = subst IsInRange is.book (fits.range bytes) in
     record {
       placed = way.placed;
+      kept = ((λ k. state_at k way.tells.0.states), way.tells.1.states);
       shelf_is = way.shelf_is;
       orderly = λ k. orderly_beside scripts n k b orderly;
       whole = λ k. record { setup = scripts_are.setup; instances = scripts_are.instances };

@@ -6,7 +6,7 @@ use Rattle.replay_spec.specs.Book.{reopened}
 use Rattle.replay_spec.specs.Invariant.{IsOrderly}
 use Rattle.instance_book.specs.declared.book.Book.{Book}
 use Rattle.instance_book.specs.Views.{book_of}
-use Rattle.instance_book.specs.Makes.{HasPlaces, HasItsStates}
+use Rattle.instance_book.specs.Makes.{HasPlaces, HasSomeStates, HasItsStates}
 use Rattle.journal_spec.specs.Making.{Making, nothing, damaged, other}
 use Rattle.journal_spec.specs.Standing.{IsBook}
 use Rattle.journal_spec.specs.Keeping.{HasWholeScripts}
@@ -39,9 +39,10 @@ Finds scripts shelf length (Damaged place) making = making ≡ damaged place
 Finds scripts shelf length (Other place) making = making ≡ other place
 Finds scripts shelf length Memory making = ⊤
 
--- a book that a shelf of this number can go on with, whatever the records were
+-- a book that a shelf of this number can go on with, whatever the records were: each of its pages has a state that fits its script
 pub record IsBookInOrder (scripts : List Named) (shelf : ℕ) (b : Book) : Type 0 where
   pub placed : HasPlaces scripts b
+  pub kept : HasSomeStates scripts b
   pub shelf_is : b.shelf ≡ shelf
   pub orderly : (length : ℕ) → IsOrderly (book_with scripts length b)
   pub whole : (length : ℕ) → HasWholeScripts (book_with scripts length b)

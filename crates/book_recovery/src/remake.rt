@@ -6,7 +6,7 @@ ghost use Rattle.frame_codec.specs.FormViews.{before_of, ReadsForm};
 ghost use Rattle.script_nodes.specs.Setup.{Named};
 ghost use Rattle.script_nodes.specs.Views.{scripts_of};
 ghost use Rattle.instance_cells.specs.Views.{effect_of};
-ghost use Rattle.instance_book.specs.Makes.{HasPlaces, KeepsPlaces};
+ghost use Rattle.instance_book.specs.Makes.{HasPlaces, HasSomeStates, KeepsPlaces};
 ghost use Rattle.replay_spec.specs.Book.{ends, finishes};
 ghost use Rattle.journal_records.specs.Records.{IsInGrammar, PageFits, EndingFits, FinishFits};
 ghost use Rattle.journal_records.specs.Reading.{page_change};
@@ -155,6 +155,7 @@ fn remake_extension(
 ) -> Result<bool, AllocError>
     requires number { claim.number < 2 ^ 62 }
     requires placed { HasPlaces (scripts_of setup.now) book.old }
+    requires kept { HasSomeStates (scripts_of setup.now) book.old }
     ensures told { IfOk result (λ read. IsTold (scripts_of setup.now)
         (extension_told instance answered answer claim) (Some claim.state) seen read
         book.old book.new) }
@@ -203,6 +204,7 @@ fn remake_page(
 ) -> Result<bool, AllocError>
     requires fits { PageFits (page_of page) }
     requires placed { HasPlaces (scripts_of setup.now) book.old }
+    requires kept { HasSomeStates (scripts_of setup.now) book.old }
     ensures told { IfOk result (λ read. IsTold (scripts_of setup.now)
         (page_change (page_of page)) (Some page.state) seen read book.old book.new) }
     ensures placed { OnOk result (HasPlaces (scripts_of setup.now) book.new) }
@@ -251,6 +253,7 @@ pub fn remake(
     requires fits { IsInGrammar (logged_of logged) }
     requires unnumbered { number_by (logged_of logged) ≡ None → seen ≡ false }
     requires placed { HasPlaces (scripts_of setup.now) book.old }
+    requires kept { HasSomeStates (scripts_of setup.now) book.old }
     ensures made { IfOk result (λ read.
         IsMadeBy (scripts_of setup.now) (logged_of logged) seen read book.old book.new) }
     ensures placed { OnOk result (HasPlaces (scripts_of setup.now) book.new) }

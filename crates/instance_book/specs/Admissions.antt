@@ -27,7 +27,7 @@ use Rattle.instance_book.specs.declared.ticket.Ticket.{Ticket}
 use Rattle.machine_states.specs.Machine.{Suspended}
 use Rattle.instance_book.specs.Views.{page_of, pages_of, instance_of, instances_of, book_of, ticket_of}
 use Rattle.instance_book.specs.Places.{Source, own, given, source_in, kept_at, shown_in, HasState, HaveStates}
-use Rattle.instance_book.specs.Makes.{HasStatesFrom, HasItsStates}
+use Rattle.instance_book.specs.Makes.{shelf_from, HasStatesFrom, HasItsStates}
 use Rattle.instance_book.specs.Fits.{IsFor, FitsStart, FitsAs, FitsIfStart, IsStoredOrigin, GoesOnGiven}
 
 abbrev pub place_of : List Named → Place → spec.Place
@@ -67,16 +67,14 @@ script_at scripts n b = option_map (λ i. i.script) (book.instance_at n (instanc
 abbrev pub IsScriptOf : List Named → Numbered KeptInstance → Option (Bor NamedScript) → Type 0
 IsScriptOf scripts i s = named_if s ≡ Some (instance_of scripts i).script
 
--- where each page of the book has the state of its chain, so has each of the place's instance, if there is a place
-abbrev pub IsKeptWhere : Setup → Book → Option Place → Type 0
-IsKeptWhere setup b p = HasItsStates (scripts_of setup) b → IfSome p (IsKeptAt (scripts_of setup) (own b.shelf))
+-- each page of the place's instance has a state that was given to it
+abbrev pub IsKeptSome : List Named → Place → Type 0
+IsKeptSome scripts p = (states : ℕ → Option Suspended) × IsKeptAt scripts (given states) p
 
--- whichever states are given to the pages of the book, where each page has its own, so has each of the place's instance, if there is a
--- place
-abbrev pub IsGivenWhere : Setup → Book → Option Place → Type 0
-IsGivenWhere setup b p =
-    (states : ℕ → Option Suspended) → HasStatesFrom (given states) (scripts_of setup) b
-    → IfSome p (IsKeptAt (scripts_of setup) (given states))
+-- where each page of the book has its state, so has each of the place's instance, if there is a place
+abbrev pub IsKeptWhere : Setup → Book → Option Place → Type 0
+IsKeptWhere setup b p =
+    (source : Source ⊤) → HasStatesFrom source (scripts_of setup) b → IfSome p (IsKeptAt (scripts_of setup) (shelf_from source b.shelf))
 
 -- the book under this setup; admission looks at neither a journal nor a doubt
 abbrev pub book_under : Setup → Book → book.Book
@@ -163,11 +161,12 @@ abbrev pub ResumesPlaced : List Named → Admission → Type 0
 ResumesPlaced scripts (Resumes place) = IsPlacedAt scripts place
 ResumesPlaced scripts _ = ⊤
 
--- each page of the instance that an admission resumes, if any, has the state of its chain
-abbrev pub ResumesKept : List Named → (shelf : ℕ) → Admission → Type 0
-ResumesKept scripts shelf (Resumes place) = IsKeptAt scripts (own shelf) place
+-- each page of the instance that an admission resumes, if any, has its state
+abbrev pub ResumesKept : List Named → Source ℕ → Admission → Type 0
+ResumesKept scripts shelf (Resumes place) = IsKeptAt scripts shelf place
 ResumesKept scripts shelf _ = ⊤
 
--- where each page of the book has the state of its chain, so has each of the instance that an admission resumes, if any
+-- where each page of the book has its state, so has each of the instance that an admission resumes, if any
 abbrev pub ResumesWhereKept : Setup → Book → Admission → Type 0
-ResumesWhereKept setup b a = HasItsStates (scripts_of setup) b → ResumesKept (scripts_of setup) b.shelf a
+ResumesWhereKept setup b a =
+    (source : Source ⊤) → HasStatesFrom source (scripts_of setup) b → ResumesKept (scripts_of setup) (shelf_from source b.shelf) a

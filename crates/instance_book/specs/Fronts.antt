@@ -1,6 +1,5 @@
 -- Fronts of the states of pages.
-use Rattle.std.specs.Prelude.{◌≡◌, ℕ, Result, IfOk}
-use Rattle.std.specs.declared.alloc.AllocError.{AllocError}
+use Rattle.std.specs.Prelude.{◌≡◌}
 use Rattle.script_nodes.specs.Setup.{Named}
 use Rattle.machine_states.specs.Views.{suspended_of}
 use Rattle.machine_states.specs.declared.frame.Suspended as stored
@@ -14,7 +13,3 @@ use Rattle.instance_book.specs.Places.{AreStatesOf}
 -- this is so much of the page's state as is needed
 abbrev pub IsFrontIn : Named → InOrder KeptPage → Numbered KeptPage → Need → stored.Suspended → Type 0
 IsFrontIn s ps p n d = (are : AreStatesOf s ps p) → front n are.own.state ≡ suspended_of d
-
--- where the page has so many links, the result is so much of its state as is needed
-abbrev pub IsFrontAt : Named → InOrder KeptPage → Numbered KeptPage → Need → (links : ℕ) → Result stored.Suspended AllocError → Type 0
-IsFrontAt s ps p n links result = p.item.state.links ≡ links → IfOk result (IsFrontIn s ps p n)

@@ -72,6 +72,10 @@ HasStatesFrom source scripts b = AreKept scripts (shelf_from source b.shelf) b.i
 abbrev pub HasItsStates : List Named → Book → Type 0
 HasItsStates scripts b = AreKept scripts (own b.shelf) b.instances
 
+-- each instance of the book is of a script of the setup, and each page has a state that was given to it, which fits the script
+abbrev pub HasSomeStates : List Named → Book → Type 0
+HasSomeStates scripts b = (states : ℕ → Option Suspended) × HasStatesFrom (given states) scripts b
+
 -- whichever states are given to the pages of the book, they have them, as where there is no page
 abbrev pub HasWhatIsGiven : Book → Type 0
 HasWhatIsGiven b = (states : ℕ → Option Suspended) (scripts : List Named) → HasStatesFrom (given states) scripts b

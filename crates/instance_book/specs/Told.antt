@@ -37,6 +37,7 @@ use Rattle.instance_book.specs.declared.book.Book.{Book}
 use Rattle.instance_book.specs.declared.ticket.Ticket.{Ticket}
 use Rattle.instance_book.specs.Views.{instance_of, ticket_of, book_of}
 use Rattle.instance_book.specs.Places.{Source, own, given, IsGiven, arena_of}
+use Rattle.instance_book.specs.Lists.{HasNone}
 use Rattle.instance_book.specs.Makes.{Makes, HasPlaces, HasStatesFrom, HasItsStates}
 use Rattle.instance_book.specs.Changes.{opening_of, begun_with, extension_of}
 use Rattle.instance_book.specs.Prepares.{rules_with, first_instance, opening_by, extension_by, OpensAs, ExtendsAs}
@@ -182,6 +183,10 @@ abbrev pub LandsOpening : Ticket → ShownPage → (old new : Book) → Type 0
 LandsOpening t p old new =
     (scripts : List Named) (length : ℕ) (named : Named) → slice_get scripts t.script ≡ Some named → t.cells ≡ named.script.cells
     → book_beside scripts length new ≡ land no_rules (told_opening t p) p.inside.items (book_beside scripts length old)
+
+-- an instance of this number stands in the book
+abbrev pub Stands : (instance : ℕ) → Book → Type 0
+Stands n b = HasNone n b.instances → ⊥
 
 -- the extension by a ticket's page lands, where the instance is there
 abbrev pub LandsExtension : Ticket → (instance answered : ℕ) → ShownPage → (old new : Book) → Type 0

@@ -6,7 +6,8 @@ ghost use Rattle.replay_spec.specs.Admission as spec;
 ghost use Rattle.replay_spec.specs.Names.{first_closed};
 ghost use Rattle.instance_book.specs.Views.{instance_of, page_of};
 ghost use Rattle.instance_book.specs.Makes.{HasPlaces};
-ghost use Rattle.instance_book.specs.Admissions.{IsWhyNot, has_name, named_if, IsPlaceOf, IsPlaceAt, IsStartOf, IsAdmittedAs, IsPlacedAt, IsScriptOf, IsKeptWhere, IsGivenWhere, ResumesPlaced, ResumesKept, ResumesWhereKept};
+ghost use Rattle.instance_book.specs.Places.{Source};
+ghost use Rattle.instance_book.specs.Admissions.{IsWhyNot, has_name, named_if, IsPlaceOf, IsPlaceAt, IsStartOf, IsAdmittedAs, IsPlacedAt, IsScriptOf, IsKeptWhere, ResumesPlaced, ResumesKept, ResumesWhereKept};
 
 use crate::book::Book;
 use crate::instance::KeptInstance;
@@ -94,7 +95,6 @@ pub(crate) fn place_of_numbers<'a>(
     ensures place { IsPlaceOf setup.now book.now instance page result }
     ensures placed { IfSome result (IsPlacedAt (scripts_of setup.now)) }
     ensures states { IsKeptWhere setup.now book.now result }
-    ensures told { IsGivenWhere setup.now book.now result }
 {
     let instance = book.instances.instance(instance)?;
     let script = script_of(setup, instance)?;
@@ -144,7 +144,7 @@ fn place_at<'a>(
 fn admission_of_start<'a>(setup: &'a Setup, name: &ScriptName) -> Admission<'a>
     ensures admission { IsStartOf setup.now name.now result }
     ensures placed { ResumesPlaced (scripts_of setup.now) result }
-    ensures states { (shelf : ℕ) → ResumesKept (scripts_of setup.now) shelf result }
+    ensures states { (shelf : Source ℕ) → ResumesKept (scripts_of setup.now) shelf result }
 {
     let Some(place) = setup.place(name) else {
         return Admission::Refused(Refusal::Unknown);

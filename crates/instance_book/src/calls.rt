@@ -4,8 +4,8 @@ ghost use Rattle.script_nodes.specs.Views.{named_of, scripts_of};
 ghost use Rattle.replay_spec.specs.Book as spec;
 ghost use Rattle.instance_book.specs.Views.{IsTicketFor};
 ghost use Rattle.instance_book.specs.Fits.{IsRunnable};
-ghost use Rattle.instance_book.specs.Makes.{count_of, Makes, StaysSame, HasPlaces, KeepsPlaces, HasItsStates, HasWhatIsGiven, KeepsStates};
-ghost use Rattle.instance_book.specs.Admissions.{IsPlacedAt, named_if, script_at, HasCellsBy, FitsStartIn, FitsWhereKept, GoesOnAsGiven, GoesOnStored, admission_for, refusal_for, IsRefusalFor, FitsInKept, StartsIn};
+ghost use Rattle.instance_book.specs.Makes.{count_of, Makes, StaysSame, HasPlaces, KeepsPlaces, HasItsStates, HasSomeStates, HasWhatIsGiven, KeepsStates};
+ghost use Rattle.instance_book.specs.Admissions.{IsPlacedAt, IsKeptSome, named_if, script_at, HasCellsBy, FitsStartIn, FitsWhereKept, GoesOnAsGiven, GoesOnStored, admission_for, refusal_for, IsRefusalFor, FitsInKept, StartsIn};
 ghost use Rattle.instance_book.specs.Swept.{swept, cells_at, IsEmpty};
 
 use crate::admission::{Admission, Place, admission_to, script_of};
@@ -144,7 +144,8 @@ impl Book {
         number: u64,
         nonce: u64,
     ) -> Result<Ticket, AllocError>
-        requires { IsPlacedAt (scripts_of setup.now) place }
+        requires placed { IsPlacedAt (scripts_of setup.now) place }
+        requires kept { IsKeptSome (scripts_of setup.now) place }
         ensures ticket { IfOk result (IsTicketFor target.now answer number nonce) }
         ensures fits { FitsWhereKept setup.now self.now place.entry result }
         ensures told { GoesOnAsGiven setup.now place.entry result }
@@ -180,7 +181,9 @@ impl Book {
         number: u64,
         nonce: u64,
     ) -> Result<Ticket, AllocError>
-        requires { HasPlaces (scripts_of setup.now) self.now }
+        requires admitted { refusal_for setup.now self.now target.now ≡ None }
+        requires placed { HasPlaces (scripts_of setup.now) self.now }
+        requires kept { HasSomeStates (scripts_of setup.now) self.now }
         ensures ticket { IfOk result (IsTicketFor target.now answer number nonce) }
         ensures fits { FitsInKept setup.now self.now target.now result }
         ensures starts { IfOk result (StartsIn setup.now self.now target.now) }
@@ -194,7 +197,7 @@ impl Book {
             Admission::Resumes(place) => {
                 self.page_ticket(alloc, setup, place, target, answer, number, nonce)
             }
-            Admission::Refused(_) => Err(AllocError),
+            Admission::Refused(_) => unreachable!(),
         }
     }
 
@@ -213,6 +216,7 @@ impl Book {
         requires admitted { refusal_for setup.now self.old target.now ≡ None }
         requires numbers { self.old.drawn < 2 ^ 62 }
         requires placed { HasPlaces (scripts_of setup.now) self.old }
+        requires kept { HasSomeStates (scripts_of setup.now) self.old }
         ensures drawn { OnOk result (Makes spec.draw self.old self.new) }
         ensures ticket { IfOk result (IsTicketFor target.now answer self.old.drawn nonce) }
         ensures fits { FitsInKept setup.now self.old target.now result }

@@ -1,15 +1,15 @@
-ghost use Rattle.std.specs.Prelude.{IfOk};
+ghost use Rattle.std.specs.Prelude.{◌≡◌, IfOk};
 ghost use Rattle.script_nodes.specs.Views.{named_of};
 ghost use Rattle.machine_states.specs.Views.{suspended_of};
 ghost use Rattle.frame_codec.specs.Stored.{IsStored};
-ghost use Rattle.instance_book.specs.Places.{IsStateIn, IsOriginIn};
+ghost use Rattle.instance_book.specs.Places.{AreStatesOf, IsStateIn, IsOriginIn};
 ghost use Rattle.instance_book.specs.Fits.{IsOriginOf, IsStoredOrigin};
-ghost use Rattle.instance_book.specs.Fronts.{IsFrontAt};
+ghost use Rattle.instance_book.specs.Fronts.{IsFrontIn};
 
 use crate::in_order::InOrder;
 use crate::numbered::Numbered;
 use crate::page::KeptPage;
-use frame_codec::{Need, is_stored, join};
+use frame_codec::{Need, join};
 use kept_states::Found;
 use machine_states::{Origin, Suspended, each_page_has_one_state};
 use script_nodes::NamedScript;
@@ -17,8 +17,6 @@ use std::alloc::{AllocError, Global};
 
 // A front of the state of a page that is so many links from one whose state is kept by itself. Of the page before it reads what
 // this front shares, and no more. It recurses as deep, at most 32.
-//
-// Where each page has the state of its chain, each is found; what is not is told as want of memory.
 fn front_of(
     alloc: Global,
     script: &NamedScript,
@@ -27,22 +25,24 @@ fn front_of(
     need: Need,
     links: u8,
 ) -> Result<Suspended, AllocError>
-    ensures { IsFrontAt (named_of script.now) pages.now page.now need links result }
+    requires states { AreStatesOf (named_of script.now) pages.now page.now }
+    requires links { page.now.item.state.links ≡ links }
+    ensures { IfOk result (IsFrontIn (named_of script.now) pages.now page.now need) }
 {
     // A script's root tells that its nodes are its tree's.
     let _root = script.script.root();
     each_page_has_one_state();
     if links == 0 {
         let Some(front) = page.item.state.read_alone(alloc, &script.script, need)? else {
-            return Err(AllocError);
+            unreachable!()
         };
         return Ok(front);
     }
     let Some(parent) = page.item.parent else {
-        return Err(AllocError);
+        unreachable!()
     };
     let Some(before) = pages.page(parent) else {
-        return Err(AllocError);
+        unreachable!()
     };
     match page.item.state.read_behind(alloc, &script.script, need)? {
         Some(Found::Front(front)) => Ok(front),
@@ -50,21 +50,24 @@ fn front_of(
             let shared = front_of(alloc, script, pages, before, own.shared(), links - 1)?;
             Ok(join(alloc, shared, own)?)
         }
-        None => Err(AllocError),
+        None => unreachable!(),
     }
 }
 
-// The state of a page. Its callers know of a book only that the scripts of its instances stand in the setup; that each page has a
-// state of its script is a premise of what they promise of the state, and so it is tested here. What fails is told as want of memory.
+// The state of a page.
 fn state_of(
     alloc: Global,
     script: &NamedScript,
     pages: &InOrder<KeptPage>,
     page: &Numbered<KeptPage>,
 ) -> Result<Suspended, AllocError>
+    requires { AreStatesOf (named_of script.now) pages.now page.now }
     ensures stored { IfOk result (λ d. IsStored script.now.script (suspended_of d)) }
     ensures state { IfOk result (IsStateIn (named_of script.now) pages.now page.now) }
 {
+    // A script's root tells that its nodes are its tree's.
+    let _root = script.script.root();
+    each_page_has_one_state();
     let links = page.item.state.links;
     let state = front_of(alloc, script, pages, page, Need::ALL, links)?;
     // No list is as long as what is needed, so none of it is left out.
@@ -72,9 +75,6 @@ fn state_of(
     let frames = state.frames.as_slice().len();
     prove!(variables < usize::MAX);
     prove!(frames < usize::MAX);
-    if !is_stored(&script.script, &state) {
-        return Err(AllocError);
-    }
     Ok(state)
 }
 
@@ -85,6 +85,7 @@ pub fn origin_at(
     pages: &InOrder<KeptPage>,
     page: &Numbered<KeptPage>,
 ) -> Result<Origin, AllocError>
+    requires { AreStatesOf (named_of script.now) pages.now page.now }
     ensures fits { IfOk result (IsOriginOf (named_of script.now)) }
     ensures stored { IfOk result (IsStoredOrigin (named_of script.now)) }
     ensures origin { IfOk result (IsOriginIn (named_of script.now) pages.now page.now) }

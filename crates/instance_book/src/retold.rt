@@ -6,7 +6,7 @@ ghost use Rattle.replay_spec.specs.Book as spec;
 ghost use Rattle.instance_book.specs.Makes.{StaysSame, KeepsPlaces, KeepsStates};
 ghost use Rattle.instance_book.specs.Changes.{HasRoomToOpen};
 ghost use Rattle.instance_book.specs.Prepares.{IsOnCells};
-ghost use Rattle.instance_book.specs.Told.{IsRedone, IsRedoneEnding, IsRedoneFinish, Counts, IsReopened, IsOpenedBy, LandsOpening, LandsExtension, KeepsStartPlaces, KeepsStartStates, KeepsAnswerStates, EndsIn};
+ghost use Rattle.instance_book.specs.Told.{IsRedone, IsRedoneEnding, IsRedoneFinish, Counts, IsReopened, IsOpenedBy, LandsOpening, LandsExtension, KeepsStartPlaces, KeepsStartStates, KeepsAnswerStates, EndsIn, Stands};
 
 use crate::book::Book;
 use crate::instance::KeptInstance;
@@ -117,6 +117,7 @@ impl Book {
         answered: u64,
         page: ShownPage,
     ) -> Result<(), AllocError>
+        requires stands { Stands instance self.old }
         requires on { IsOnCells self.old instance (map effect_of page.effects.items) }
         requires number { ticket.now.number < 2 ^ 62 }
         ensures lands { OnOk result
@@ -126,7 +127,7 @@ impl Book {
             (KeepsAnswerStates ticket.now instance answered page self.old self.new) }
     {
         let Some(kept) = self.instances.get(instance) else {
-            return Err(AllocError);
+            unreachable!()
         };
         let extension = kept.extended(alloc, ticket, answered, page)?;
         self.instances.make_room_in(extension.instance)?;

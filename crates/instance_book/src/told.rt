@@ -1,6 +1,6 @@
 ghost use Rattle.std.specs.Prelude.{IfOk, IfSome, IfNone};
 ghost use Rattle.script_nodes.specs.Views.{scripts_of};
-ghost use Rattle.instance_book.specs.Makes.{HasPlaces};
+ghost use Rattle.instance_book.specs.Makes.{HasPlaces, HasSomeStates};
 ghost use Rattle.instance_book.specs.Fits.{IsRunnable};
 ghost use Rattle.instance_book.specs.Told.{LacksScript, LacksPage, StartsIfTold, AnswersIfTold, AnswersWhereKept, AnswersAsGiven, IsStoredIfTold};
 
@@ -50,7 +50,8 @@ impl Book {
         number: u64,
         nonce: u64,
     ) -> Result<Option<Ticket>, AllocError>
-        requires { HasPlaces (scripts_of setup.now) self.now }
+        requires placed { HasPlaces (scripts_of setup.now) self.now }
+        requires kept { HasSomeStates (scripts_of setup.now) self.now }
         ensures none { IfOk result (λ t. IfNone t (LacksPage setup.now self.now instance page)) }
         ensures some { IfOk result
             (AnswersIfTold setup.now self.now instance page answer number nonce) }

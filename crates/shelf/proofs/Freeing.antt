@@ -17,7 +17,7 @@ use Rattle.journal_spec.specs.Laws.{EventsAreKept, EventsStandBetween}
 use Rattle.instance_book.specs.declared.book.Book as kept
 use Rattle.instance_book.specs.Places as sources
 use Rattle.instance_book.specs.Swept.{swept}
-use Rattle.instance_book.specs.Makes.{Makes, KeepsPlaces, KeepsStates, count_of}
+use Rattle.instance_book.specs.Makes.{Makes, KeepsStates, count_of}
 use Rattle.instance_book.specs.Views.{book_of, instance_of}
 use Rattle.instance_book.proofs.Seen.{length_seen}
 use Rattle.shelf.specs.declared.doubt.Doubt as doubt_type
@@ -32,7 +32,7 @@ use Rattle.shelf.proofs.Steps.{Comes, doubting, landed_sweep, doubted_sweep}
 use Rattle.shelf.proofs.Sizes.{size_is, not_refused}
 use Rattle.shelf.proofs.Sweeping.{swept_comes, swept_whole}
 use Rattle.shelf.proofs.Recorded.{stake_landed, stake_doubted}
-use Rattle.shelf.proofs.Shelves.{quiet_order, quiet_run, quiet_own, quiet_own_moments, recorded_run, recorded_own_moments, added_order, doubted_order, added_own, doubted_own, kept_told}
+use Rattle.shelf.proofs.Shelves.{quiet_order, quiet_run, quiet_own, quiet_own_moments, recorded_run, recorded_own_moments, added_order, doubted_order, added_own, doubted_own, kept_told, some_kept}
 use Rattle.shelf.proofs.Tales.{swept_told}
 use Rattle.shelf.proofs.Leaving.{Serves}
 
@@ -94,7 +94,7 @@ module _ {D N : Type 0} (view : D → View) (tells : Bool) (coming : N → ℕ �
   short_tick = not_refused (length_of s.journal) (record_length change None) written.short
 
   -- its record was added
-  module _ (new : kept.Book) (frees : Makes (swept tick) s.book new) (count : ℕ) (counts : count ≡ count_of s.book - count_of new) (placing : KeepsPlaces s.book new) (keeps : KeepsStates s.book new)
+  module _ (new : kept.Book) (frees : Makes (swept tick) s.book new) (count : ℕ) (counts : count ≡ count_of s.book - count_of new) (keeps : KeepsStates s.book new)
       (long : length_of j ≡ length_of s.journal + 5 + length body) (unbroken : is_broken j ≡ false) (adds : IsTrue tells → IsSettled view j × (bodies_in view j ≡ bodies_in view mid ++ body ∷ [])) where
     abbrev swept_shelf : Shelf D N
     swept_shelf = record s { journal = j; book = new }
@@ -119,7 +119,7 @@ module _ {D N : Type 0} (view : D → View) (tells : Bool) (coming : N → ℕ �
     landed_sweeps = record {
       event = λ ss. quiet_event coming ss s swept_shelf sweep (step.swept count) (book_in ss swept_shelf) refl refl refl (λ given. refl) (swept_so ss).step;
       in_order = λ ss order. added_order view tells ss s swept_shelf order refl sweep step.plain (step.swept count) (book_in ss swept_shelf) refl ((swept_so ss).step 0) tt tt events up change (spelled_tick ss) tick_room (λ told. refl) mid call tick_run
-          serves.counts_now (placing ss) (whole_swept ss order) sound low (swept_so ss).landed none_doubted unbroken tick_added
+          serves.counts_now (some_kept ss s.book new keeps) (whole_swept ss order) sound low (swept_so ss).landed none_doubted unbroken tick_added
           (λ told m is. swept_told exact ss s.rules.number (bodies_in view s.journal) (book_in ss s) tick late ((order.fit told).holds none_doubted) written.spelled m is s.book new (kept_told ss s.book new keeps) (order.told told up));
       own = λ ss order own. added_own view tells ss s swept_shelf order refl sweep step.plain (step.swept count) (book_in ss swept_shelf) refl ((swept_so ss).step 0) tt tt events up change (spelled_tick ss) tick_room (λ told. refl) mid call tick_run
           serves.counts_now (keeps (sources.own tt) ss) serves.reads own (swept_so ss).landed none_doubted tick_added;

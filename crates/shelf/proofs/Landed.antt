@@ -29,7 +29,7 @@ use Rattle.journal_spec.specs.Laws.{LandingsAreKept, LandingsStandBetween}
 use Rattle.journal_spec.proofs.Fitting.{whole_by}
 use Rattle.journal_spec.proofs.Taking.{IsNew}
 use Rattle.journal_spec.proofs.Standings.{settled_stands, appended, left_standing}
-use Rattle.instance_book.specs.Makes.{HasPlaces}
+use Rattle.instance_book.specs.Makes.{HasSomeStates}
 use Rattle.book_recovery.specs.Remaking.{HasToldStates}
 use Rattle.shelf.specs.declared.doubt.Doubt as doubt_type
 use Rattle.shelf.specs.declared.shelf.Shelf.{Shelf}
@@ -148,7 +148,7 @@ module _ {D N : Type 0} (view : D → View) (tells : Bool) (ss : List Named) (s 
           appended bodies ss shelf b landed_book (view_of view s.journal) (view_of view mid) (view_of view new) body only_now (settled_images view s.journal (fit.settled none_down)) l.0 l.1 l.2 call.images call.time here
 
   module _ (t : Shelf D N) (limits : t.rules ≡ s.rules) (mid : Journal D) (call : IsQuietCall view tells s.journal mid)
-      (run : IsTrue tells → LeavesOnly (view_of view mid) (view_of view t.journal) (MayHold (bodies_in view mid) body)) (placed : HasPlaces ss t.book) (sound : journal.IsSound t.journal) where
+      (run : IsTrue tells → LeavesOnly (view_of view mid) (view_of view t.journal) (MayHold (bodies_in view mid) body)) (some : HasSomeStates ss t.book) (sound : journal.IsSound t.journal) where
     -- its record was added
     module _ (is : book_in ss t ≡ landed_book) where
       -- the records tell one state more
@@ -163,7 +163,7 @@ module _ {D N : Type 0} (view : D → View) (tells : Bool) (ss : List Named) (s 
       pub landed_order : AreRecordsExact → LandingsAreKept → is_broken t.journal ≡ false → (IsTrue tells → IsSettled view t.journal × (bodies_in view t.journal ≡ bodies_in view mid ++ body ∷ []))
           → ((told : IsTrue tells) → HasToldStates ss (with_state (Some k) x (there told).earlier.states) t.book) → IsInOrder view tells ss t
       landed_order exact law whole added stay =
-          order_of view tells ss s t landed_book order placed (published (rules_for (length body)) b k c inside order.orderly (among_of b.out k out) none_down change_fits is_its).orderly
+          order_of view tells ss s t landed_book order some (published (rules_for (length body)) b k c inside order.orderly (among_of b.out k out) none_down change_fits is_its).orderly
           whole_landed range_landed refl is limits (record {
             sound = sound;
             whole = λ _. whole;
@@ -198,7 +198,7 @@ module _ {D N : Type 0} (view : D → View) (tells : Bool) (ss : List Named) (s 
 
       pub doubted_order : LandingsStandBetween → OnlyNow (view s.journal.disk) → CountsNow (view t.journal.disk) → IsInOrder view tells ss t
       doubted_order law only_now counts =
-          order_of view tells ss s t d order placed (failed b count k c inside order.orderly (among_of b.out k out) change_fits is_its).orderly
+          order_of view tells ss s t d order some (failed b count k c inside order.orderly (among_of b.out k out) change_fits is_its).orderly
           (record { setup = order.scripts_are.setup; instances = order.scripts_are.instances }) (range_doubted count) refl is limits (record {
             sound = sound;
             whole = λ none. absurd (in_doubt none);

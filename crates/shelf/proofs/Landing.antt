@@ -38,7 +38,7 @@ use Rattle.instance_book.specs.declared.in_order.InOrder.{InOrder}
 use Rattle.instance_book.specs.declared.instance.KeptInstance.{KeptInstance}
 use Rattle.instance_book.specs.Views.{book_of, instances_of, ticket_of, reply_of}
 use Rattle.instance_book.specs.Places.{given}
-use Rattle.instance_book.specs.Changes.{HasStateIn, change_of, inside_of, decision_by, put_into, HasDeadlineIn, HasDeadlineBy, IsPlacedBy, IsSpelledIn}
+use Rattle.instance_book.specs.Changes.{HasStateIn, change_of, inside_of, decision_by, put_into, HasDeadlineIn, HasDeadlineBy, IsSpelledIn}
 use Rattle.instance_book.specs.Fits.{FitsAs}
 use Rattle.instance_book.specs.Makes.{Makes, MakesUnder}
 use Rattle.instance_book.specs.Prepares.{rules_with, KeepsStateOf, IsChangeBy, IsDecisionBy, IsCarriedOut, HasItsScript}
@@ -79,19 +79,6 @@ byte_there ss t (page name n) s (Opens o) few has is = absurd is
 byte_there ss t (page name n) s (Extends x) few has is = tt
 byte_there ss t (page name n) s (Ends e) few has is = tt
 byte_there ss t (page name n) s (Finishes f) few has is = tt
-
-placed_there : (ss : List Named) (t : Ticket) (d : Destination) (s : eval.Segment) (c : Change) → HasItsScript ss t d → IsChangeBy t s d (change_of c) → IsPlacedBy ss (Some c)
-placed_there ss t (start name) s (Opens o) (named, (found, cells)) is =
-    let within = slice_get_within ss t.script named found in
-    let place : o.instance.script ≡ t.script = ap (λ (x : spec.Opening). x.script) is.1.1 in
-    omega (arith, within, place)
-placed_there ss t (start name) s (Extends x) has is = tt
-placed_there ss t (start name) s (Ends e) has is = tt
-placed_there ss t (start name) s (Finishes f) has is = tt
-placed_there ss t (page name n) s (Opens o) has is = absurd is
-placed_there ss t (page name n) s (Extends x) has is = tt
-placed_there ss t (page name n) s (Ends e) has is = tt
-placed_there ss t (page name n) s (Finishes f) has is = tt
 
 script_there : (b : spec.Book) (t : Ticket) (d : Destination) (s : eval.Segment) (c : Change) → HasItsScript b.scripts t d → IsChangeBy t s d (change_of c) → has_script (length b.scripts) (change_of c) ≡ true
 script_there b t (start name) s (Opens o) (named, (found, cells)) is =
@@ -194,9 +181,6 @@ module _ {D N : Type 0} (view : D → View) (tells : Bool) (ss : List Named) (s 
     pub of_byte : IsOfByte c
     of_byte = byte_there ss t target (segment_of can.segment) c order.few has its
 
-    pub placed : IsPlacedBy ss p.change
-    placed = subst (IsPlacedBy ss) (sym some) (placed_there ss t target (segment_of can.segment) c has its)
-
     pub can_be_written : t.nonce < 2 ^ 64 → CanBeWritten (length_of s.journal) (changes told_change (told_in t c))
     can_be_written nonce short parts =
         in_grammar b order.orderly order.range order.few t.number out told_change (told_in t c) its_number (orderly_there b t target (segment_of can.segment) c admitted its)
@@ -220,6 +204,13 @@ module _ {D N : Type 0} (view : D → View) (tells : Bool) (ss : List Named) (s 
       pub taken : IsTakenAs b told_change (inside_of c) its_told
       taken = taken_so.0
 
+      -- so its page has the state that is given to its number, where the ticket goes on from what is given to the page before
+      pub shown_by : (f g : ℕ → Option Suspended) → ((n : ℕ) (d : Suspended) → f n ≡ Some d → g n ≡ Some d) → ((y : Suspended) → state_in c ≡ Some y → g t.number ≡ Some y) → GoesHere b f t c
+          → HasStateIn ss (given g) b.instances c
+      shown_by f g more now goes =
+          shown_given ss (length_of s.journal) down_now s.book order.orderly t out (segment_of can.segment) can.segment f g more target c admitted has its
+          (subst (KeepsStateOf t can.segment target) some can.state) whole_here spelled now goes
+
       module _ (earlier : Earlier) (goes : GoesHere b (λ n. state_at n earlier.states) t c) where
         pub read : BindsIn t c → books_told.told_in earlier b told_change (told_in t c) ≡ its_told
         read binds =
@@ -233,11 +224,10 @@ module _ {D N : Type 0} (view : D → View) (tells : Bool) (ss : List Named) (s 
           where
             by_state : (o : Option Suspended) → state_in c ≡ o → HasStateIn ss (given (λ n. state_at n (with_state (Some t.number) (told_own o) earlier.states))) b.instances c
             by_state None e =
-                shown_given ss (length_of s.journal) down_now s.book order.orderly t out (segment_of can.segment) can.segment (λ n. state_at n earlier.states) (λ n. state_at n earlier.states) (λ n d h. h) target c admitted has its
-                (subst (KeepsStateOf t can.segment target) some can.state) whole_here spelled (λ y f. absurd (let no : None ≡ Some y = sym e ∙ f in let not : ⊥ = cc in not)) goes
+                shown_by (λ n. state_at n earlier.states) (λ n. state_at n earlier.states) (λ n d h. h) (λ y f. absurd (let no : None ≡ Some y = sym e ∙ f in let not : ⊥ = cc in not)) goes
             by_state (Some y) e =
-                shown_given ss (length_of s.journal) down_now s.book order.orderly t out (segment_of can.segment) can.segment (λ n. state_at n earlier.states) (λ n. state_at n ((t.number, y) ∷ earlier.states)) (more y) target c admitted has its
-                (subst (KeepsStateOf t can.segment target) some can.state) whole_here spelled (λ z f. let same_state : y ≡ z = (let both : Some y ≡ Some z = sym e ∙ f in cc both) in now y ∙ ap (λ (w : Suspended). Some w) same_state) goes
+                shown_by (λ n. state_at n earlier.states) (λ n. state_at n ((t.number, y) ∷ earlier.states)) (more y)
+                (λ z f. let same_state : y ≡ z = (let both : Some y ≡ Some z = sym e ∙ f in cc both) in now y ∙ ap (λ (w : Suspended). Some w) same_state) goes
 
     -- its record is short
     module _ (body : List ℕ) (written : IsBody (length_of s.journal) (changes told_change (told_in t c)) (record_length told_change (told_in t c)) body) where

@@ -31,9 +31,9 @@ use Rattle.instance_book.specs.declared.prepared.Prepared.{Prepared}
 use Rattle.instance_book.specs.declared.prepared.Change.{Change}
 use Rattle.instance_book.specs.Places as sources
 use Rattle.instance_book.specs.Places.{Source}
-use Rattle.instance_book.specs.Makes.{Makes, MakesUnder, StaysSame, HasPlaces, KeepsPlaces, HasStatesFrom, HasItsStates, KeepsStates}
+use Rattle.instance_book.specs.Makes.{Makes, MakesUnder, StaysSame, HasStatesFrom, HasSomeStates, HasItsStates, KeepsStates}
 use Rattle.instance_book.specs.Views.{ticket_of, reply_of}
-use Rattle.instance_book.specs.Changes.{change_of, inside_of, put_into, HasStateBy, IsSpelledIn, IsSpelledBy, KeepsPlacesBy, KeepsStatesBy}
+use Rattle.instance_book.specs.Changes.{change_of, inside_of, put_into, HasStateBy, IsSpelledIn, IsSpelledBy, KeepsStatesBy}
 use Rattle.instance_book.specs.Fits.{FitsAs}
 use Rattle.instance_book.specs.Prepares.{HasItsScript}
 use Rattle.shelf.specs.declared.doubt.Doubt as doubt_type
@@ -48,11 +48,12 @@ use Rattle.shelf.proofs.Order.{quiet, quiet_event}
 use Rattle.shelf.proofs.Steps.{Comes, wanting}
 use Rattle.shelf.proofs.Recorded.{own_behind, stake_landed, stake_doubted}
 use Rattle.shelf.proofs.Shelves as shelves
-use Rattle.shelf.proofs.Shelves.{StayTold, quiet_order, quiet_run, quiet_own, quiet_own_moments, added_own, recorded_own_moments}
+use Rattle.shelf.proofs.Shelves.{StayTold, some_kept, quiet_order, quiet_run, quiet_own, quiet_own_moments, added_own, recorded_own_moments}
 use Rattle.shelf.proofs.Landed.{landed_order, landed_run, doubted_order, doubted_run, doubted_in}
 use Rattle.shelf.proofs.Landing as landing
 use Rattle.shelf.proofs.Landing.{down_there}
 use Rattle.shelf.proofs.Behind as behind
+use Rattle.shelf.proofs.Untold as untold
 use Rattle.shelf.proofs.Fitting.{event_from, moments_from, own_moments_from, own_at}
 use Rattle.shelf.proofs.Publishing.{not_wanting}
 
@@ -88,12 +89,12 @@ KeepsStatesIn ss old new = (source : Source ⊤) → HasStatesFrom source ss old
 -- nothing was recorded
 pub spent_publishes : {D N : Type 0} (view : D → View) (tells : Bool) (coming : N → ℕ → ℕ) (setup : Setup) (s u : Shelf D N) (t : Ticket) (x : Reply) → IsInOrder view tells (scripts_of setup) s → EventsAreKept
     → OnlyNow (view s.journal.disk) → Contains (book_in (scripts_of setup) s).out t.number → book_in (scripts_of setup) u ≡ spend t.number (book_in (scripts_of setup) s) → u.rules ≡ s.rules → u.nonces ≡ s.nonces
-    → IsQuietCall view tells s.journal u.journal → journal.IsSound u.journal → (u.down ≡ None → is_broken u.journal ≡ false) → (HasPlaces (scripts_of setup) s.book → HasPlaces (scripts_of setup) u.book)
+    → IsQuietCall view tells s.journal u.journal → journal.IsSound u.journal → (u.down ≡ None → is_broken u.journal ≡ false)
     → KeepsStatesIn (scripts_of setup) s.book u.book
     → (IsOwnVisit view tells setup s t
     → Comes (rules_of (scripts_of setup) s.rules) (book_in (scripts_of setup) s) (step.publish (ticket_of t)) (fate_by (reply_of x)) (reply_of x) (spend t.number (book_in (scripts_of setup) s)) None)
     → Publishes view tells coming setup s u t x
-spent_publishes view tells coming setup s u t x order events only_now out is limits source_stays call sound whole places states comes =
+spent_publishes view tells coming setup s u t x order events only_now out is limits source_stays call sound whole states comes =
     let ss = scripts_of setup in
     let b = book_in ss s in
     let event = step.publish (ticket_of t) in
@@ -101,12 +102,13 @@ spent_publishes view tells coming setup s u t x order events only_now out is lim
     let wants = wanting ss s.rules b (ticket_of t) in
     let scripts : HasWholeScripts d = record { setup = order.scripts_are.setup; instances = order.scripts_are.instances } in
     let stay : StayTold ss s.book u.book = λ told all. states (sources.given (λ n. state_at n told)) all in
+    let some : HasSomeStates ss s.book → HasSomeStates ss u.book = λ all. (all.0, states (sources.given all.0) all.1) in
     record {
       event = λ own. quiet_event coming ss s u event (reply_of x) d limits source_stays is (λ given. quiet x given) (comes own).step;
-      in_order = quiet_order view tells ss s u limits d is refl refl call order places stay sound event step.no_memory step.memory (wants.step 0) tt out tt events wants.landed scripts whole;
+      in_order = quiet_order view tells ss s u limits d is refl refl call order some stay sound event step.no_memory step.memory (wants.step 0) tt out tt events wants.landed scripts whole;
       own = λ own. quiet_own view tells ss s u limits d is refl refl call (states (sources.own tt)) own.own;
       spent = ap (λ (y : Book). y.out) is;
-      any_moment = λ told. quiet_run view tells ss s u limits d is refl refl call order places stay sound event step.no_memory step.memory (wants.step 0) tt out tt events wants.landed told only_now;
+      any_moment = λ told. quiet_run view tells ss s u limits d is refl refl call order some stay sound event step.no_memory step.memory (wants.step 0) tt out tt events wants.landed told only_now;
       own_moments = λ told own. quiet_own_moments view tells ss s u limits d is refl refl call told only_now own.own;
       memory = λ wanted. is;
     }
@@ -142,7 +144,7 @@ module _ {D N : Type 0} (view : D → View) (tells : Bool) (setup : Setup) (s : 
 module _ {D N : Type 0} (view : D → View) (tells : Bool) (coming : N → ℕ → ℕ) (setup : Setup) (s : Shelf D N) (order : IsInOrder view tells (scripts_of setup) s) (t : Ticket) (p : Prepared) (up : s.down ≡ None)
     (out : Contains (book_in (scripts_of setup) s).out t.number) (has : HasItsScript (scripts_of setup) t (target_of t.target)) (can : CanBeLanded (scripts_of setup) s.book t p) (plain : fate_by (reply_of p.reply) ≡ step.plain)
     (shows : IsOwnVisit view tells setup s t → ShowsItsState setup s p.change) (carries : IsOwnVisit view tells setup s t → CarriesOut setup s t p) (laws : Laws) (c : Change) (some : p.change ≡ Some c) (spent : kept.Book)
-    (spending : Makes (spend t.number) s.book spent) (same : spent.instances ≡ s.book.instances) (placing : KeepsPlaces s.book spent) (keeps : KeepsStates s.book spent) (whole : IsWholeIn (scripts_of setup) spent c)
+    (spending : Makes (spend t.number) s.book spent) (same : spent.instances ≡ s.book.instances) (keeps : KeepsStates s.book spent) (whole : IsWholeIn (scripts_of setup) spent c)
     (spelled : IsSpelledIn c) (goes : GoesOnAsGiven setup spent t c) (binds : BindsIn t c) (body : List ℕ)
     (written : IsBody (length_of s.journal) (changes (change_of c) (told_in t c)) (record_length (change_of c) (told_in t c)) body) (mid j : Journal D) (call : IsQuietCall view tells s.journal mid)
     (runs : IsTrue tells → LeavesOnly (view_of view mid) (view_of view j) (MayHold (bodies_in view mid) body)) (sound : journal.IsSound j) (serves : Serves view tells s.journal j) where
@@ -206,7 +208,7 @@ module _ {D N : Type 0} (view : D → View) (tells : Bool) (coming : N → ℕ �
   lands own x replied = landing.landed_comes view tells ss s order t p up out has can c some own.fits (carries own) body written x replied plain
 
   -- its record was added
-  module _ (new : kept.Book) (installing : MakesUnder (λ scripts. put_into scripts p) spent new) (placed_by : KeepsPlacesBy p.change spent new) (states_by : KeepsStatesBy p.change spent new) (x : Reply) (replied : x ≡ p.reply)
+  module _ (new : kept.Book) (installing : MakesUnder (λ scripts. put_into scripts p) spent new) (states_by : KeepsStatesBy p.change spent new) (x : Reply) (replied : x ≡ p.reply)
       (long : length_of j ≡ length_of s.journal + 5 + length body) (unbroken : is_broken j ≡ false) (adds : IsTrue tells → IsSettled view j × (bodies_in view j ≡ bodies_in view mid ++ body ∷ [])) where
     abbrev longer : Shelf D N
     longer = record s { journal = j; book = new }
@@ -226,8 +228,8 @@ module _ {D N : Type 0} (view : D → View) (tells : Bool) (coming : N → ℕ �
     landed_is : book_in ss longer ≡ after
     landed_is = landing.landed_is view tells ss s order t p up out has can c some body written spent new (length_of j) spending installing long
 
-    placed : HasPlaces ss new
-    placed = placed_by ss (landing.placed view tells ss s order t p up out has can c some) (placing ss order.placed)
+    had : HasSomeStates ss new
+    had = untold.had view tells setup s order t p up out has can c some spent same keeps whole spelled goes new states_by
 
     own_states : Mine → HasItsStates ss s.book → HasItsStates ss new
     own_states own all =
@@ -237,12 +239,12 @@ module _ {D N : Type 0} (view : D → View) (tells : Bool) (coming : N → ℕ �
     pub landed_publishes : Publishes view tells coming setup s longer t x
     landed_publishes = record {
       event = λ own. quiet_event coming ss s longer event (reply_of x) after refl refl landed_is (λ given. quiet x given) (lands own x replied).step;
-      in_order = landed_order view tells ss s order up t.number out told_change its_number (told_in t c) (inside_of c) written.spelled (told_own (state_in c)) taken read_there room longer refl mid call run placed sound landed_is laws.exact laws.landings unbroken added
+      in_order = landed_order view tells ss s order up t.number out told_change its_number (told_in t c) (inside_of c) written.spelled (told_own (state_in c)) taken read_there room longer refl mid call run had sound landed_is laws.exact laws.landings unbroken added
           (λ told. behind.installed view tells setup s order t p up out has can c some spent same keeps whole spelled goes told new states_by);
       own = λ own. added_own view tells ss s longer order refl event (fate_by (reply_of x)) (reply_of x) after landed_is ((lands own x replied).step 0) tt out laws.events up told_change (can_be_written own) (own_room own) (before_own own) mid call (own_run own)
           serves.counts_now (own_states own) serves.reads own.own (lands own x replied).landed none_down (own_added own);
       spent = ap (λ (y : Book). y.out) landed_is;
-      any_moment = λ told. landed_run view tells ss s order up t.number out told_change its_number (told_in t c) (inside_of c) written.spelled (told_own (state_in c)) taken read_there room longer refl mid call run placed sound landed_is laws.landings_between told
+      any_moment = λ told. landed_run view tells ss s order up t.number out told_change its_number (told_in t c) (inside_of c) written.spelled (told_own (state_in c)) taken read_there room longer refl mid call run had sound landed_is laws.landings_between told
           serves.only_now;
       own_moments = λ told own. recorded_own_moments view tells ss s longer order refl event (fate_by (reply_of x)) (reply_of x) after landed_is ((lands own x replied).step 0) tt out laws.events up told_change (can_be_written own) (own_room own) (before_own own) mid
           call (own_run own) serves.counts_now laws.between told serves.only_now (stake_landed (rules_of ss s.rules) b event (fate_by (reply_of x)) told_change (lands own x replied).landed) (fate_by (reply_of x)) (lands own x replied).landed (serves.reads told)
@@ -270,12 +272,12 @@ module _ {D N : Type 0} (view : D → View) (tells : Bool) (coming : N → ℕ �
     pub doubted_publishes : Publishes view tells coming setup s doubtful t (reply.DiskFault count)
     doubted_publishes = record {
       event = λ own. quiet_event coming ss s doubtful event (step.disk_failed count) in_doubt refl refl doubted_is (λ given. refl) (doubts own).step;
-      in_order = doubted_order view tells ss s order up t.number out told_change its_number (told_in t c) (inside_of c) written.spelled (told_own (state_in c)) taken read_there room doubtful refl mid call run (placing ss order.placed) sound count doubted_is
+      in_order = doubted_order view tells ss s order up t.number out told_change its_number (told_in t c) (inside_of c) written.spelled (told_own (state_in c)) taken read_there room doubtful refl mid call run (some_kept ss s.book spent keeps order.kept) sound count doubted_is
           (λ e. down_there doubt _ e (ap (λ (y : Book). y.down) doubted_is)) laws.landings_between serves.only_now serves.counts_now;
       own = λ own. shelves.doubted_own view tells ss s doubtful order refl event (step.disk_fault count) (step.disk_failed count) in_doubt doubted_is ((doubts own).step 0) tt out laws.events up told_change (can_be_written own) (own_room own) (before_own own) mid call
           (own_run own) serves.counts_now (keeps (sources.own tt) ss) serves.reads own.own laws.between serves.only_now (stake own) refl (fate_by (reply_of p.reply)) (lands own p.reply refl).landed;
       spent = ap (λ (y : Book). y.out) doubted_is;
-      any_moment = λ told. doubted_run view tells ss s order up t.number out told_change its_number (told_in t c) (inside_of c) written.spelled (told_own (state_in c)) taken read_there room doubtful refl mid call run (placing ss order.placed) sound count doubted_is
+      any_moment = λ told. doubted_run view tells ss s order up t.number out told_change its_number (told_in t c) (inside_of c) written.spelled (told_own (state_in c)) taken read_there room doubtful refl mid call run (some_kept ss s.book spent keeps order.kept) sound count doubted_is
           (λ e. down_there doubt _ e (ap (λ (y : Book). y.down) doubted_is)) laws.landings_between told serves.only_now;
       own_moments = λ told own. recorded_own_moments view tells ss s doubtful order refl event (step.disk_fault count) (step.disk_failed count) in_doubt doubted_is ((doubts own).step 0) tt out laws.events up told_change (can_be_written own) (own_room own)
           (before_own own) mid call (own_run own) serves.counts_now laws.between told serves.only_now (stake own) (fate_by (reply_of p.reply)) (lands own p.reply refl).landed (serves.reads told) own.own;

@@ -21,6 +21,7 @@ pub mod Landed
 pub mod Sweeping
 pub mod Landing
 pub mod Behind
+pub mod Untold
 pub mod Openings
 pub mod OwnOpenings
 pub mod Fitting

@@ -32,7 +32,7 @@ use Rattle.journal_spec.proofs.Between.{recovered_setup, read_as, make_books}
 use Rattle.journal_spec.proofs.Standings.{settled_stands}
 use Rattle.instance_book.specs.declared.book.Book.{Book as RustBook}
 use Rattle.instance_book.specs.Swept.{IsEmpty}
-use Rattle.instance_book.specs.Makes.{HasPlaces}
+use Rattle.instance_book.specs.Makes.{HasPlaces, HasSomeStates}
 use Rattle.book_recovery.specs.Remaking.{HasToldStates}
 use Rattle.book_recovery.specs.Found.{book_with, FindsBook, IsBookInOrder}
 use Rattle.shelf.specs.Views.{TellsStates}
@@ -93,9 +93,10 @@ module _ (scripts : List Named) (shelf : ℕ) (b : RustBook) (empty : IsEmpty sh
   empty_whole : (n : ℕ) → AreWhole scripts → HasWholeScripts (empty_book (rules_at n) scripts shelf)
   empty_whole n whole = record { setup = whole; instances = λ k i e. absurd (let no : ⊥ = cc e in no) }
 
-  pub empty_in_order : AreWhole scripts → HasPlaces scripts b → IsBookInOrder scripts shelf b
-  empty_in_order whole placed = record {
+  pub empty_in_order : AreWhole scripts → HasPlaces scripts b → HasSomeStates scripts b → IsBookInOrder scripts shelf b
+  empty_in_order whole placed some = record {
     placed = placed;
+    kept = some;
     shelf_is = ap (λ (x : Book). x.shelf) (is_at 0);
     orderly = λ n. subst IsOrderly (sym (is_at n)) (books_stay.0 (rules_at n) scripts shelf);
     whole = λ n. subst HasWholeScripts (sym (is_at n)) (empty_whole n whole);

@@ -17,7 +17,8 @@ use Rattle.journal_spec.specs.Keeping.{HasWholeScripts}
 use Rattle.journal_spec.specs.Disks.{IsFit}
 use Rattle.journal_spec.specs.Spelling.{IsInRange, GivesTick}
 use Rattle.journal_spec.proofs.Ranges.{ranges_kept}
-use Rattle.instance_book.specs.Makes.{HasPlaces}
+use Rattle.instance_book.specs.Makes.{HasSomeStates}
+use Rattle.instance_book.proofs.Given.{places_of}
 use Rattle.instance_book.specs.Views.{reply_of}
 use Rattle.shelf.specs.declared.rules.Rules as limits_of
 use Rattle.shelf.specs.declared.shelf.Shelf.{Shelf}
@@ -67,10 +68,11 @@ module _ {D N : Type 0} where
     pub told : IsTrue tells → new.down ≡ None → TellsStates view ss shelf new.journal new.book
 
   -- a shelf in order stays so where its book is orderly and in range
-  pub order_of : (view : D → View) (tells : Bool) (ss : List Named) (old new : Shelf D N) (after : Book) → IsInOrder view tells ss old → HasPlaces ss new.book → IsOrderly after → HasWholeScripts after
+  pub order_of : (view : D → View) (tells : Bool) (ss : List Named) (old new : Shelf D N) (after : Book) → IsInOrder view tells ss old → HasSomeStates ss new.book → IsOrderly after → HasWholeScripts after
       → IsInRange after → after.shelf ≡ old.book.shelf → book_in ss new ≡ after → new.rules ≡ old.rules → JournalStays view tells ss new old.rules.number after → IsInOrder view tells ss new
-  order_of view tells ss old new after order placed orderly scripts range shelf is limits stays = record {
-    placed = placed;
+  order_of view tells ss old new after order some orderly scripts range shelf is limits stays = record {
+    placed = places_of ss new.book some;
+    kept = some;
     orderly = subst IsOrderly (sym is) orderly;
     scripts_are = subst HasWholeScripts (sym is) scripts;
     range = subst IsInRange (sym is) range;
@@ -85,12 +87,12 @@ module _ {D N : Type 0} where
 
   -- so it stays behind an event
   pub order_behind : (view : D → View) (tells : Bool) (ss : List Named) (old new : Shelf D N) (event : step.Event) (fate : step.Fate) (r : step.Reply) (after : Book) → IsInOrder view tells ss old
-      → IsLawful event (book_in ss old) → GivesTick event → (HasPlaces ss old.book → HasPlaces ss new.book) → HasWholeScripts after → book_in ss new ≡ after
+      → IsLawful event (book_in ss old) → GivesTick event → (HasSomeStates ss old.book → HasSomeStates ss new.book) → HasWholeScripts after → book_in ss new ≡ after
       → new.rules ≡ old.rules → step.step (rules_of ss old.rules) (book_in ss old) 0 event fate ≡ (r, after) → JournalStays view tells ss new old.rules.number after → IsInOrder view tells ss new
-  order_behind view tells ss old new event fate r after order lawful tick places scripts is limits e stays =
+  order_behind view tells ss old new event fate r after order lawful tick states scripts is limits e stays =
       let rules = rules_of ss old.rules in
       let m : Moment = record { rules = rules; nonce = 0; event = event; fate = fate } in
       let there : (step.step rules (book_in ss old) 0 event fate).1 ≡ after = ap (λ (x : step.Reply × Book). x.1) e in
       let later = stepped m (book_in ss old) order.orderly lawful in
-      order_of view tells ss old new after order (places order.placed) (subst IsOrderly there later.orderly) scripts
+      order_of view tells ss old new after order (states order.kept) (subst IsOrderly there later.orderly) scripts
       (subst IsInRange there (ranges_kept rules (book_in ss old) 0 event fate order.orderly order.range tick)) (ap (λ (b : Book). b.shelf) (sym there) ∙ later.shelf) is limits stays

@@ -24,7 +24,8 @@ use Rattle.journal_spec.specs.Disks.{IsFit}
 use Rattle.journal_spec.specs.Spelling.{IsInRange, GivesTick}
 use Rattle.journal_spec.specs.Laws.{MeasuresDoubt, EventsAreKept, EventsStandBetween}
 use Rattle.instance_book.specs.Places.{given}
-use Rattle.instance_book.specs.Makes.{HasPlaces, HasItsStates, KeepsStates}
+use Rattle.instance_book.proofs.Given.{places_of}
+use Rattle.instance_book.specs.Makes.{HasSomeStates, HasItsStates, KeepsStates}
 use Rattle.instance_book.specs.declared.book.Book as kept
 use Rattle.instance_book.specs.Views.{book_of}
 use Rattle.book_recovery.specs.Remaking.{HasToldStates}
@@ -48,6 +49,10 @@ StayTold ss old new = (states : States) → HasToldStates ss states old → HasT
 pub kept_told : (ss : List Named) (old new : kept.Book) → KeepsStates old new → StayTold ss old new
 kept_told ss old new keeps states all = keeps (given (λ n. state_at n states)) ss all
 
+-- and the pages go on to have some states
+pub some_kept : (ss : List Named) (old new : kept.Book) → KeepsStates old new → HasSomeStates ss old → HasSomeStates ss new
+some_kept ss old new keeps all = (all.0, keeps (given all.0) ss all.1)
+
 not_doubted : (o : Option doubt_type.Doubt) → option_map doubt_of o ≡ None → o ≡ None
 not_doubted None e = refl
 not_doubted (Some d) e = absurd (let no : ⊥ = cc in no)
@@ -55,7 +60,7 @@ not_doubted (Some d) e = absurd (let no : ⊥ = cc in no)
 module _ {D N : Type 0} (view : D → View) (tells : Bool) (ss : List Named) (s t : Shelf D N) (limits : t.rules ≡ s.rules) (d : Book) (is : book_in ss t ≡ d) (same : reopened (book_in ss s) ≡ reopened d) (down : (book_in ss s).down ≡ d.down)
     (call : IsQuietCall view tells s.journal t.journal) where
   -- an event that leaves no record, behind which the book differs in what is out alone
-  module _ (order : IsInOrder view tells ss s) (places : HasPlaces ss s.book → HasPlaces ss t.book) (stay : StayTold ss s.book t.book) (sound : journal.IsSound t.journal) (event : step.Event) (fate : step.Fate) (x : step.Reply)
+  module _ (order : IsInOrder view tells ss s) (some : HasSomeStates ss s.book → HasSomeStates ss t.book) (stay : StayTold ss s.book t.book) (sound : journal.IsSound t.journal) (event : step.Event) (fate : step.Fate) (x : step.Reply)
       (stepped : step.step (rules_of ss s.rules) (book_in ss s) 0 event fate ≡ (x, d)) (setup : KeepsSetup event (book_in ss s)) (lawful : IsLawful event (book_in ss s)) (tick : GivesTick event)
       (events : EventsAreKept) (none : lands (rules_of ss s.rules) (book_in ss s) event fate ≡ None) where
     there : (step.step (rules_of ss s.rules) (book_in ss s) 0 event fate).1 ≡ d
@@ -65,7 +70,7 @@ module _ {D N : Type 0} (view : D → View) (tells : Bool) (ss : List Named) (s 
     still_up up = not_doubted s.down (down ∙ (ap (λ (b : Book). b.down) (sym is) ∙ ap (λ (o : Option doubt_type.Doubt). option_map doubt_of o) up))
 
     pub quiet_order : HasWholeScripts d → (t.down ≡ None → is_broken t.journal ≡ false) → IsInOrder view tells ss t
-    quiet_order scripts whole = order_behind view tells ss s t event fate x d order lawful tick places scripts is limits stepped (record {
+    quiet_order scripts whole = order_behind view tells ss s t event fate x d order lawful tick some scripts is limits stepped (record {
       sound = sound;
       whole = whole;
       fit = λ told. quiet_fit view tells ss s.rules.number (rules_of ss s.rules) (book_in ss s) event fate s.journal refl setup lawful events d there none same down t.journal call told (order.fit told);
@@ -148,11 +153,11 @@ module _ {D N : Type 0} (view : D → View) (tells : Bool) (ss : List Named) (s 
             (measured_moments view tells ss n rules b event s.journal refl setup lawful events none_down c spelled room (order.fit told) (before told) mid t.journal call (run told) counts fate d then_there stake between only_now);
       }
 
-  module _ (places : HasPlaces ss s.book → HasPlaces ss t.book) (scripts : HasWholeScripts d) (sound : journal.IsSound t.journal) (tick : GivesTick event) where
+  module _ (some : HasSomeStates ss s.book → HasSomeStates ss t.book) (scripts : HasWholeScripts d) (sound : journal.IsSound t.journal) (tick : GivesTick event) where
     pub added_order : lands rules b event fate ≡ Some c → d.down ≡ None → is_broken t.journal ≡ false
         → (IsTrue tells → IsSettled view t.journal × (bodies_in view t.journal ≡ bodies_in view mid ++ own_body b c ∷ []))
         → (IsTrue tells → (m : Made) → make.book_of ss s.rules.number (bodies_in view s.journal ++ own_body b c ∷ []) ≡ make.made m → HasToldStates ss m.earlier.states t.book) → IsInOrder view tells ss t
-    added_order landed still whole added says = order_behind view tells ss s t event fate x d order lawful tick places scripts is limits stepped (record {
+    added_order landed still whole added says = order_behind view tells ss s t event fate x d order lawful tick some scripts is limits stepped (record {
       sound = sound;
       whole = λ _. whole;
       fit = λ told. added_fit view tells ss s.rules.number rules b event s.journal refl setup lawful events none_down c spelled room (order.fit told) (before told) mid t.journal call fate d then_there landed still (added told).0 (added told).1;
@@ -161,7 +166,7 @@ module _ {D N : Type 0} (view : D → View) (tells : Bool) (ss : List Named) (s 
     })
 
     pub doubted_order : EventsStandBetween → OnlyNow (view s.journal.disk) → stake_of rules b 0 event fate ≡ Some c → (d.down ≡ None → ⊥) → (t.down ≡ None → ⊥) → reopened b ≡ reopened d → IsInOrder view tells ss t
-    doubted_order between only_now stake in_doubt in_doubt_there same = order_behind view tells ss s t event fate x d order lawful tick places scripts is limits stepped (record {
+    doubted_order between only_now stake in_doubt in_doubt_there same = order_behind view tells ss s t event fate x d order lawful tick some scripts is limits stepped (record {
       sound = sound;
       whole = λ none. absurd (in_doubt_there none);
       fit = λ told. doubted_fit view tells ss s.rules.number rules b event s.journal refl setup lawful events none_down c spelled room (order.fit told) (before told) mid t.journal call (run told) counts fate d then_there stake between only_now in_doubt same;
@@ -184,10 +189,11 @@ module _ {D N : Type 0} (view : D → View) (tells : Bool) (ss : List Named) (s 
     }
 
 -- a shelf whose book alone was made anew, the same
-pub same_order : {D N : Type 0} (view : D → View) (tells : Bool) (ss : List Named) (s t : Shelf D N) → IsInOrder view tells ss s → book_in ss t ≡ book_in ss s → HasPlaces ss t.book → StayTold ss s.book t.book → t.journal ≡ s.journal → t.down ≡ s.down → t.rules ≡ s.rules
+pub same_order : {D N : Type 0} (view : D → View) (tells : Bool) (ss : List Named) (s t : Shelf D N) → IsInOrder view tells ss s → book_in ss t ≡ book_in ss s → HasSomeStates ss t.book → StayTold ss s.book t.book → t.journal ≡ s.journal → t.down ≡ s.down → t.rules ≡ s.rules
     → IsInOrder view tells ss t
-same_order view tells ss s t order is placed stay journal_same down limits = record {
-  placed = placed;
+same_order view tells ss s t order is some stay journal_same down limits = record {
+  placed = places_of ss t.book some;
+  kept = some;
   orderly = subst IsOrderly (sym is) order.orderly;
   scripts_are = subst HasWholeScripts (sym is) order.scripts_are;
   range = subst IsInRange (sym is) order.range;

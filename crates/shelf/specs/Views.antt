@@ -38,7 +38,7 @@ use Rattle.instance_book.specs.declared.ticket.Ticket.{Ticket}
 use Rattle.instance_book.specs.Views.{book_of, ticket_of, reply_of}
 use Rattle.instance_book.specs.declared.prepared.Change.{Change}
 use Rattle.instance_book.specs.Changes.{change_of, inside_of}
-use Rattle.instance_book.specs.Makes.{HasPlaces, HasItsStates}
+use Rattle.instance_book.specs.Makes.{HasPlaces, HasSomeStates, HasItsStates}
 use Rattle.instance_book.specs.Swept.{cells_in}
 use Rattle.instance_book.specs.Fits.{FitsAs}
 use Rattle.instance_book.specs.Prepares.{rules_with, HasItsScript}
@@ -99,11 +99,12 @@ TellsStates view scripts shelf j b =
     (m : Made) → make.book_of scripts shelf (bodies_in view j) ≡ make.made m → HasToldStates scripts m.earlier.states b
 
 -- What holds of a shelf between its calls, on a disk of this view, whoever left the journal: each instance is of a script of the
--- setup; the book is orderly, of whole scripts and of numbers that records tell, and of the shelf's number; the limits are in their
+-- setup, and each page has a state that fits it; the book is orderly, of whole scripts and of numbers that records tell, and of the shelf's number; the limits are in their
 -- ranges; where nothing is in doubt, the journal can go on; and where the disk tells its bytes, it stands for the book, whose pages have
 -- the states that the records told.
 pub record IsInOrder {D N : Type 0} (view : D → View) (tells : Bool) (scripts : List Named) (s : Shelf D N) : Type 0 where
   pub placed : HasPlaces scripts s.book
+  pub kept : HasSomeStates scripts s.book
   pub orderly : IsOrderly (book_in scripts s)
   pub scripts_are : HasWholeScripts (book_in scripts s)
   pub range : IsInRange (book_in scripts s)

@@ -2,7 +2,7 @@ ghost use Rattle.std.specs.Prelude.{◌≡◌, length, IsTrue, IfOk, OnOk};
 ghost use Rattle.web_disk.specs.View.{NoNewImage, Elapses};
 ghost use Rattle.page_journal.specs.Settled.{IsSettled, IsReady, IsSound, view_of, length_of, is_broken};
 ghost use Rattle.script_nodes.specs.Views.{scripts_of};
-ghost use Rattle.instance_book.specs.Makes.{HasPlaces};
+ghost use Rattle.instance_book.specs.Makes.{HasPlaces, HasSomeStates};
 ghost use Rattle.instance_book.specs.Changes.{IsSpelledIn};
 ghost use Rattle.shelf.specs.Holding.{IsWholeIn};
 ghost use Rattle.shelf.specs.Recording.{CanBeTold, IsToldBody, IsOfByte, IsKeptIn, BindsIn, GoesOnAsGiven};
@@ -30,6 +30,7 @@ pub fn told_body<D: Disk>(
     requires sound { IsSound journal.old }
     requires settled { IsTrue D.tells → IsSettled D.view journal.old }
     requires placed { HasPlaces (scripts_of setup.now) book.now }
+    requires states { HasSomeStates (scripts_of setup.now) book.now }
     requires byte { IsOfByte change.now }
     requires kept { IsKeptIn ticket.now change.now }
     requires spelled { CanBeTold (length_of journal.old) ticket.now change.now }

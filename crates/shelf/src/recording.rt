@@ -6,7 +6,7 @@ ghost use Rattle.page_journal.specs.Settled.{IsSettled, IsReady, IsSound, view_o
 ghost use Rattle.journal_records.specs.Records.{changes};
 ghost use Rattle.journal_records.specs.Views.{recorded_of};
 ghost use Rattle.script_nodes.specs.Views.{scripts_of};
-ghost use Rattle.instance_book.specs.Makes.{HasPlaces};
+ghost use Rattle.instance_book.specs.Makes.{HasPlaces, HasSomeStates};
 ghost use Rattle.instance_book.specs.Views.{reply_of};
 ghost use Rattle.instance_book.specs.Changes.{change_of, IsSpelledIn};
 ghost use Rattle.frame_codec.specs.Spelling.{StateHasBytes};
@@ -96,7 +96,8 @@ fn goes_on_from_book(
     ticket: &Ticket,
     change: &Change,
 ) -> Result<bool, AllocError>
-    requires { HasPlaces (scripts_of setup.now) book.now }
+    requires placed { HasPlaces (scripts_of setup.now) book.now }
+    requires kept { HasSomeStates (scripts_of setup.now) book.now }
     ensures { WhereTrue result (GoesOnAsGiven setup.now book.now ticket.now change.now) }
 {
     let Change::Extends(extension) = change else {
@@ -180,6 +181,7 @@ pub fn told_state(
     change: &Change,
 ) -> Result<Option<Bytes>, AllocError>
     requires placed { HasPlaces (scripts_of setup.now) book.now }
+    requires states { HasSomeStates (scripts_of setup.now) book.now }
     requires kept { IsKeptIn ticket.now change.now }
     ensures told { IfOk result (λ bytes. bytes ≡ told_in ticket.now change.now) }
     ensures binds { WhereTold result (BindsIn ticket.now change.now) }

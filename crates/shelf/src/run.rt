@@ -66,7 +66,7 @@ pub fn run_ticket(
 {
     effects_are_on_cells();
     let Some(named) = setup.get(ticket.script) else {
-        return Err(AllocError);
+        unreachable!()
     };
     // A script's root tells that its nodes are its tree's.
     let _root = named.script.root();

@@ -82,7 +82,7 @@ pub fn segment_now(
     ensures held { IfOk result (AreHeldNow book.now ticket.now) }
 {
     let Some(named) = setup.get(ticket.script) else {
-        return Err(AllocError);
+        unreachable!()
     };
     // A script's root tells that the cells that its nodes name are there.
     let _root = named.script.root();

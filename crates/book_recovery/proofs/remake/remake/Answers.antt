@@ -33,3 +33,6 @@ returns-in-Sweep-clause-made c =
 
 pub returns-in-Sweep-clause-placed : goal.returns-in-Sweep-clause-placed
 returns-in-Sweep-clause-placed c = c.redo_sweep.ensures.placed (scripts_of c.args.setup.now) c.requires.placed
+
+pub remake_page-requires-clause-kept : goal.remake_page-requires-clause-kept
+remake_page-requires-clause-kept c = c.requires.kept

@@ -1,4 +1,5 @@
-use Rattle.std.proofs.Common.{◌≡◌, subst, true, false, List, None, length}
+use Rattle.std.proofs.Common.{◌≡◌, ◌∙◌, sym, subst, true, false, List, None, length}
+use Rattle.std.proofs.lemmas.Option.{none-some}
 use Rattle.script_value.specs.Val.{Val}
 use Rattle.script_nodes.specs.Views.{named_of, scripts_of}
 use Rattle.instance_cells.specs.Cells.{AreOn}
@@ -7,6 +8,7 @@ use Rattle.frame_codec.specs.FormViews.{before_of}
 use Rattle.replay_spec.specs.Recovery.{page_of_numbers}
 use Rattle.instance_book.specs.Told.{effects_in, book_beside}
 use Rattle.journal_spec.specs.Retaking.{arena_of}
+use Rattle.instance_book.proofs.Seen.{instance_none}
 use Rattle.book_recovery.specs.Remaking.{IsPageOf}
 use Rattle.book_recovery.proofs.Retold.{of_some, of_none, held_so, held_on, stands_at, answer_of, answer_fits, answer_stored, on_cells, extension_none, extension_misread, extension_seen, extension_not_held, extension_lands}
 use Rattle.book_recovery.proofs.remake.remake_extension.Goals as goal
@@ -95,6 +97,18 @@ land_extension-requires-clause-on c =
     on_cells scripts old c.args.instance a.at.instance es (stands_at (book_beside scripts 0 old) c.args.instance c.args.answered a.at a.found).here
     (subst (λ (cells : List Val). AreOn (length cells) es) a.cells (held_on es t.cells so))
 
+pub land_extension-requires-clause-stands : goal.land_extension-requires-clause-stands
+land_extension-requires-clause-stands c =
+    let setup = c.args.setup.now in
+    let scripts = scripts_of setup in
+    let old = c.args.book.now in
+    let claim = c.args.claim in
+    let t = c.in-Some.ticket in
+    let a = answer_of setup old c.args.instance c.args.answered c.args.answer claim.number claim.nonce _ t _ c.in-Some-script.named (before_of c.behind.result)
+    c.in-Some.is c.in_ok-ticket.ensures.some c.in_ok-ticket.ensures.told c.in-Some-script.is c.script.ensures c.behind.ensures in
+    λ none. none-some a.at.instance
+    (sym (instance_none scripts c.args.instance old.instances.things.items none) ∙ (stands_at (book_beside scripts 0 old) c.args.instance c.args.answered a.at a.found).here)
+
 pub returns-clause-told : goal.returns-clause-told
 returns-clause-told c =
     let setup = c.args.setup.now in
@@ -114,3 +128,6 @@ returns-clause-told c =
 
 pub returns-clause-placed : goal.returns-clause-placed
 returns-clause-placed c = c.in_ok-land_extension.ensures.placed (scripts_of c.args.setup.now) c.requires.placed
+
+pub told_answer-requires-clause-kept : goal.told_answer-requires-clause-kept
+told_answer-requires-clause-kept c = c.requires.kept

@@ -19,3 +19,6 @@ returns-in-Answer-clause-told c =
     subst (λ (o : Origin). IfOk c.remake_extension.result (λ read.
     IsTold (scripts_of c.args.setup.now) (page_change (page_of (record page { origin = o }))) (Some page.state) c.args.seen read c.args.book.now c.remake_extension.new.book))
     (sym c.in-Answer.is) c.remake_extension.ensures.told
+
+pub remake_extension-requires-clause-kept : goal.remake_extension-requires-clause-kept
+remake_extension-requires-clause-kept c = c.requires.kept

@@ -7,7 +7,8 @@ use Rattle.instance_book.specs.declared.numbered.Numbered.{Numbered}
 use Rattle.instance_book.specs.declared.page.KeptPage.{KeptPage}
 use Rattle.instance_book.specs.declared.instance.KeptInstance.{KeptInstance}
 use Rattle.instance_book.specs.Views.{page_of, pages_of, script_in}
-use Rattle.instance_book.specs.Places.{Source, own, given, source_in, kept_at, shown_of, shown_in, HasState, HaveStates, IsKept}
+use Rattle.instance_book.specs.Places.{Source, source_in, kept_at, shown_of, shown_in, HasState, HaveStates, IsKept}
+use Rattle.instance_book.specs.Makes.{shelf_from}
 use Rattle.instance_book.proofs.States.{state_found}
 use Rattle.instance_book.proofs.admission.place_of_numbers.Goals as goal
 
@@ -30,19 +31,9 @@ at_place scripts shelf named i p n its shown kept =
     )
 
 pub returns-clause-states : goal.returns-clause-states
-returns-clause-states c all =
+returns-clause-states c source all =
     let scripts = scripts_of c.args.setup.now in
-    let shelf : Source ℕ = own c.args.book.now.shelf in
-    let i = c.in_ok-instance.instance.now in
-    let named = named_of c.in_ok-script.script.now in
-    let both = at_place scripts shelf named i c.in_ok-shown.shown.now c.args.page (same_Some named (script_in scripts i.item.script) c.in_ok-script.ensures.its) c.in_ok-shown.ensures.shown
-    (c.in_ok-instance.ensures.states scripts shelf all) in
-    record { all = both.0; state = both.1 }
-
-pub returns-clause-told : goal.returns-clause-told
-returns-clause-told c states all =
-    let scripts = scripts_of c.args.setup.now in
-    let shelf : Source ℕ = given states in
+    let shelf = shelf_from source c.args.book.now.shelf in
     let i = c.in_ok-instance.instance.now in
     let named = named_of c.in_ok-script.script.now in
     let both = at_place scripts shelf named i c.in_ok-shown.shown.now c.args.page (same_Some named (script_in scripts i.item.script) c.in_ok-script.ensures.its) c.in_ok-shown.ensures.shown

@@ -1,5 +1,5 @@
 use Rattle.std.proofs.Common.{◌≡◌, ◌∙◌, ap, sym, subst, suc, ◌-◌, Option, Some, option_map, refl, arith}
-use Rattle.std.proofs.lemmas.Option.{same_Some}
+use Rattle.std.proofs.lemmas.Option.{same_Some, none-some}
 use Rattle.script_nodes.specs.Views.{named_of}
 use Rattle.machine_states.specs.Machine.{Suspended}
 use Rattle.machine_states.specs.declared.frame.Suspended as stored
@@ -33,7 +33,7 @@ module _ (n : Need) (p d : Suspended) (o : Option Found) where
       sym whole ∙ ap (λ (r : Suspended). joined r (delta_of x)) (ap (λ (m : Need). front m p) (sym need) ∙ read) ∙ sym join
 
 pub returns-then-links-eq0 : goal.returns-then-links-eq0
-returns-then-links-eq0 t c links =
+returns-then-links-eq0 t c =
     let law = c.each_page_has_one_state.ensures in
     let s = named_of c.args.script.now in
     let a = c.args.script.now.script in
@@ -41,15 +41,28 @@ returns-then-links-eq0 t c links =
     let same = arena_again a script in
     let ps = c.args.pages.now in
     let p = c.args.page.now in
-    let none : p.item.state.links ≡ 0 = links ∙ c.if-links-eq0.true in
+    let none : p.item.state.links ≡ 0 = c.requires.links ∙ c.if-links-eq0.true in
     λ are. found c.in_ok-front.field-0 c.in-Some.front (front c.args.need are.own.state) c.in-Some.is
     (c.in_ok-front.ensures are.own.state (fits_script a are.own.state (is_of_script law s a script same ps p are)) (is_alone law s a script same ps p are none))
 
-pub front_of-requires : goal.front_of-requires
-front_of-requires t c = omega (arith, c.decreases, c.if-links-eq0.false)
+-- a state that is kept by itself is found
+pub unreachable-requires : goal.unreachable-requires
+unreachable-requires t c =
+    let law = c.each_page_has_one_state.ensures in
+    let s = named_of c.args.script.now in
+    let a = c.args.script.now.script in
+    let script = c.root-root.ensures.script in
+    let same = arena_again a script in
+    let ps = c.args.pages.now in
+    let p = c.args.page.now in
+    let are = c.requires.states in
+    let none : p.item.state.links ≡ 0 = c.requires.links ∙ c.if-links-eq0.true in
+    none-some (front c.args.need are.own.state)
+    (ap (λ (o : Option stored.Suspended). option_map suspended_of o) (sym c.in_default.is)
+    ∙ c.in_ok-front.ensures are.own.state (fits_script a are.own.state (is_of_script law s a script same ps p are)) (is_alone law s a script same ps p are none))
 
-pub returns-in-Some-Front : goal.returns-in-Some-Front
-returns-in-Some-Front t c links =
+pub front_of-requires : goal.front_of-requires
+front_of-requires t c =
     let law = c.each_page_has_one_state.ensures in
     let s = named_of c.args.script.now in
     let a = c.args.script.now.script in
@@ -58,7 +71,54 @@ returns-in-Some-Front t c links =
     let ps = c.args.pages.now in
     let p = c.args.page.now in
     let n = c.args.links - 1 in
-    let more : p.item.state.links ≡ suc n = omega (arith, links, c.if-links-eq0.false) in
+    let more : p.item.state.links ≡ suc n = omega (arith, c.requires.links, c.if-links-eq0.false) in
+    let number = c.in-Some-parent.parent in
+    let is = c.in-Some-parent.is in
+    let x = c.in-Some-page.before.now in
+    let page = c.in-Some-page.ensures.page in
+    let shown = c.in-Some-page.ensures.shown in (
+      omega (arith, c.decreases, c.if-links-eq0.false),
+      (
+        parent_has law s a script same ps p n more x number is page shown c.requires.states,
+        links_before law s a script same ps p n more x number is page shown c.requires.states,
+      ),
+    )
+
+-- and so is one that is kept behind its parent's
+pub unreachable-requires-in-None : goal.unreachable-requires-in-None
+unreachable-requires-in-None t c =
+    let law = c.each_page_has_one_state.ensures in
+    let s = named_of c.args.script.now in
+    let a = c.args.script.now.script in
+    let script = c.root-root.ensures.script in
+    let same = arena_again a script in
+    let ps = c.args.pages.now in
+    let p = c.args.page.now in
+    let n = c.args.links - 1 in
+    let more : p.item.state.links ≡ suc n = omega (arith, c.requires.links, c.if-links-eq0.false) in
+    let number = c.in-Some-parent.parent in
+    let is = c.in-Some-parent.is in
+    let x = c.in-Some-page.before.now in
+    let page = c.in-Some-page.ensures.page in
+    let shown = c.in-Some-page.ensures.shown in
+    let are = c.requires.states in
+    let has = parent_has law s a script same ps p n more x number is page shown are in
+    let before = has.own.state in
+    subst (λ (o : Option Found). Makes c.args.need before are.own.state o) c.in-None.is
+    (c.in_ok-front-2.ensures before are.own.state (rises a before (is_of_script law s a script same ps x has)) (fits_script a are.own.state (is_of_script law s a script same ps p are))
+    (is_behind law s a script same ps p n more x number is page shown are before refl))
+
+pub returns-in-Some-Front : goal.returns-in-Some-Front
+returns-in-Some-Front t c =
+    let law = c.each_page_has_one_state.ensures in
+    let s = named_of c.args.script.now in
+    let a = c.args.script.now.script in
+    let script = c.root-root.ensures.script in
+    let same = arena_again a script in
+    let ps = c.args.pages.now in
+    let p = c.args.page.now in
+    let n = c.args.links - 1 in
+    let more : p.item.state.links ≡ suc n = omega (arith, c.requires.links, c.if-links-eq0.false) in
     let number = c.in-Some-parent.parent in
     let is = c.in-Some-parent.is in
     let x = c.in-Some-page.before.now in
@@ -73,7 +133,7 @@ returns-in-Some-Front t c links =
     front_found c.args.need before are.own.state c.in_ok-front-2.field-0 c.in-Some-Front.front some makes
 
 pub returns-in_ok-join-in-Some-Difference : goal.returns-in_ok-join-in-Some-Difference
-returns-in_ok-join-in-Some-Difference t c links =
+returns-in_ok-join-in-Some-Difference t c =
     let law = c.each_page_has_one_state.ensures in
     let s = named_of c.args.script.now in
     let a = c.args.script.now.script in
@@ -82,7 +142,7 @@ returns-in_ok-join-in-Some-Difference t c links =
     let ps = c.args.pages.now in
     let p = c.args.page.now in
     let n = c.args.links - 1 in
-    let more : p.item.state.links ≡ suc n = omega (arith, links, c.if-links-eq0.false) in
+    let more : p.item.state.links ≡ suc n = omega (arith, c.requires.links, c.if-links-eq0.false) in
     let number = c.in-Some-parent.parent in
     let is = c.in-Some-parent.is in
     let x = c.in-Some-page.before.now in
@@ -96,6 +156,5 @@ returns-in_ok-join-in-Some-Difference t c links =
     let before = has.own.state in
     let makes = c.in_ok-front-2.ensures before are.own.state (rises a before (is_of_script law s a script same ps x has))
     (fits_script a are.own.state (is_of_script law s a script same ps p are)) (is_behind law s a script same ps p n more x number is page shown are before refl) in
-    let mine = links_before law s a script same ps p n more x number is page shown are in
     difference_found c.args.need before are.own.state c.in_ok-front-2.field-0 c.in-Some-Difference.own c.shared.result shared joined some c.shared.ensures
-    (c.in_ok-shared-in-Some-Difference.ensures mine has) c.in_ok-join-in-Some-Difference.ensures makes
+    (c.in_ok-shared-in-Some-Difference.ensures has) c.in_ok-join-in-Some-Difference.ensures makes

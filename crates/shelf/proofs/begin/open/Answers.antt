@@ -1,4 +1,4 @@
-use Rattle.std.proofs.Common.{inr, ◌≡◌, ◌++◌, ◌∷◌, [], List, ℕ, sym, ◌∙◌, ap, subst, arith}
+use Rattle.std.proofs.Common.{inr, ◌≡◌, ◌++◌, ◌∷◌, [], List, ℕ, sym, ◌∙◌, ap, subst, arith, None}
 use Rattle.script_nodes.specs.Views.{scripts_of}
 use Rattle.page_journal.specs.Records.{stored}
 use Rattle.page_journal.specs.Settled.{bodies_in, length_of}
@@ -66,7 +66,7 @@ returns-in-Ok-start-clause-fit g c = λ told.
 pub returns-in-Ok-start-clause-in_order : goal.returns-in-Ok-start-clause-in_order
 returns-in-Ok-start-clause-in_order g c =
     let ss = scripts_of c.args.setup.now in
-    empty_in_order ss c.args.number c.empty.result c.empty.ensures.book c.scripts_are_whole.ensures (c.empty.ensures.placed ss)
+    empty_in_order ss c.args.number c.empty.result c.empty.ensures.book c.scripts_are_whole.ensures (c.empty.ensures.placed ss) ((λ n. None), c.empty.ensures.told (λ n. None) ss)
 
 pub returns-in_default-clause-own_moments : goal.returns-in_default-clause-own_moments
 returns-in_default-clause-own_moments g c = λ told own.

@@ -16,3 +16,6 @@ returns c = if_ok c.go_on_alike.result c.go_on_alike.ensures (λ same alike goes
     subst (λ (change : Change). GoesOnAsGiven setup b t change) (sym c.in-Extends.is) (λ states has.
     let given = subst (λ (o : Option Ticket). IfSome o (AnswersGiven setup b x.instance x.answered states)) c.in-Some.is (c.in_ok-there.ensures.told states has) in
     goes_alike setup b x.instance x.answered states c.in-Some.there t (alike goes) given))
+
+pub told_answer-requires-clause-kept : goal.told_answer-requires-clause-kept
+told_answer-requires-clause-kept c = c.requires.kept

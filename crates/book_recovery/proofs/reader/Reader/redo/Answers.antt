@@ -1,4 +1,4 @@
-use Rattle.std.proofs.Common.{◌≡◌, ◌∙◌, ◌≤◌, ◌^◌, ap, subst, arith, Bool, true, false, Option, ℕ, List}
+use Rattle.std.proofs.Common.{◌≡◌, ◌∙◌, ◌≤◌, ◌^◌, ap, sym, subst, arith, Bool, true, false, Option, ℕ, List}
 use Rattle.script_nodes.specs.Setup.{Named}
 use Rattle.script_nodes.specs.Views.{scripts_of}
 use Rattle.script_nodes.specs.declared.setup.Setup.{Setup}
@@ -6,8 +6,9 @@ use Rattle.journal_records.specs.Records.{Record}
 use Rattle.journal_records.specs.Views.{logged_of}
 use Rattle.replay_spec.specs.Book as spec
 use Rattle.replay_spec.specs.Recovery.{is_repeated}
+use Rattle.journal_spec.specs.Before.{state_at}
 use Rattle.instance_book.specs.Places.{own}
-use Rattle.instance_book.specs.Makes.{HasPlaces}
+use Rattle.instance_book.specs.Makes.{HasPlaces, HasSomeStates}
 use Rattle.instance_book.specs.declared.book.Book.{Book}
 use Rattle.book_recovery.specs.declared.reader.Reader.{Reader}
 use Rattle.book_recovery.specs.Remaking.{IsMadeBy, number_by}
@@ -34,6 +35,13 @@ remake-requires-clause-unnumbered c none =
     let ns = seen_by c.args.self.now.seen in
     seen_so c.number_of.result (logged_of c.args.logged) c.in_ok-seen.seen ns c.number_of.ensures.number c.in_ok-seen.ensures.seen
     ∙ ap (λ (o : Option ℕ). is_repeated o ns) none
+
+pub remake-requires-clause-kept : goal.remake-requires-clause-kept
+remake-requires-clause-kept c =
+    let old = c.args.self.now in
+    let tells = c.requires.kept.tells in
+    subst (λ (ss : List Named). HasSomeStates ss c.args.book) (sym (same_scripts old c.sees.new.self c.in_ok-seen.ensures.same))
+    ((λ n. state_at n tells.0.states), tells.1.states)
 
 pub reopen-requires : goal.reopen-requires
 reopen-requires c =

@@ -9,16 +9,21 @@ use Rattle.instance_book.specs.Admissions.{book_under, place_of}
 use Rattle.instance_book.proofs.States.{origin_goes_on, links_next}
 use Rattle.instance_book.proofs.book.Book.page_ticket.Goals as goal
 
+pub origin_at-requires : goal.origin_at-requires
+origin_at-requires c =
+    let kept = c.requires.kept in
+    record { home = given kept.0; all = kept.1.all; own = kept.1.state }
+
 pub returns-clause-fits : goal.returns-clause-fits
 returns-clause-fits c kept =
     let scripts = scripts_of c.args.setup.now in
     let place = c.args.place in
     let i = place.instance.now in
     let named = named_of place.script.now in
-    let its : script_in scripts i.item.script ≡ named = get_or_from_slice_get scripts i.item.script named no_script c.requires in
+    let its : script_in scripts i.item.script ≡ named = get_or_from_slice_get scripts i.item.script named no_script c.requires.placed in
     let at = place_of scripts place in
     record {
-      script = c.requires ∙ ap Some (sym its);
+      script = c.requires.placed ∙ ap Some (sym its);
       url = c.in_ok-url.ensures ∙ ap (λ (s : Named). next.url_of (next.home s c.args.self.now.shelf i.number) c.args.number c.args.nonce) (sym its);
       from = origin_goes_on (book_under c.args.setup.now c.args.self.now) _ at named _ (kept_at place.page.now) its kept.state
           (c.in_ok-origin_at.ensures.origin (record { home = own (next.home named c.args.self.now.shelf i.number); all = kept.all; own = kept.state }));
@@ -32,7 +37,7 @@ returns-clause-told c states kept =
     let place = c.args.place in
     let i = place.instance.now in
     let named = named_of place.script.now in
-    let its : script_in scripts i.item.script ≡ named = get_or_from_slice_get scripts i.item.script named no_script c.requires in
+    let its : script_in scripts i.item.script ≡ named = get_or_from_slice_get scripts i.item.script named no_script c.requires.placed in
     record {
       before = kept.state.state;
       from = c.in_ok-origin_at.ensures.origin (record { home = given states; all = kept.all; own = kept.state });
@@ -41,4 +46,4 @@ returns-clause-told c states kept =
     }
 
 pub returns-clause-runs : goal.returns-clause-runs
-returns-clause-runs c = record { named = named_of c.args.place.script.now; script = c.requires; from = c.in_ok-origin_at.ensures.fits }
+returns-clause-runs c = record { named = named_of c.args.place.script.now; script = c.requires.placed; from = c.in_ok-origin_at.ensures.fits }

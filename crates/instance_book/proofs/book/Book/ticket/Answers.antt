@@ -25,3 +25,6 @@ invariant_of-self-2 c =
       few = c.args.self.now.few;
       below = λ n h. one_more c.args.self.now.out.items c.args.self.now.drawn c.args.self.now.below n (subst (λ (ms : List ℕ). Contains ms n) items h);
     }
+
+pub made-requires-clause-kept : goal.made-requires-clause-kept
+made-requires-clause-kept c = c.requires.kept

@@ -6,9 +6,15 @@ use Rattle.script_nodes.specs.Views.{scripts_of, named_of}
 use Rattle.page_names.specs.Names.{start}
 use Rattle.replay_spec.specs.Next as next
 use Rattle.instance_book.specs.Views.{script_in, no_script}
+use Rattle.instance_book.specs.Places.{own, given}
 use Rattle.instance_book.specs.Fits.{IsStoredOrigin}
 use Rattle.instance_book.specs.Admissions.{place_of}
 use Rattle.instance_book.proofs.book.Book.told_answer.Goals as goal
+
+pub page_ticket-requires-clause-kept : goal.page_ticket-requires-clause-kept
+page_ticket-requires-clause-kept c =
+    let kept = c.requires.kept in
+    (kept.0, c.in-Some.ensures.states (given kept.0) kept.1)
 
 pub returns-clause-told : goal.returns-clause-told
 returns-clause-told c states has =
@@ -16,7 +22,7 @@ returns-clause-told c states has =
     record {
       at = place_of (scripts_of c.args.setup.now) place;
       found = sym c.in-Some.ensures.place;
-      goes = c.in_ok-ticket.ensures.told states (c.in-Some.ensures.told states has);
+      goes = c.in_ok-ticket.ensures.told states (c.in-Some.ensures.states (given states) has);
     }
 
 pub returns-clause-stored : goal.returns-clause-stored
@@ -33,7 +39,7 @@ returns-clause-stored c =
     }
 
 pub returns-clause-again : goal.returns-clause-again
-returns-clause-again c own =
+returns-clause-again c all =
     let scripts = scripts_of c.args.setup.now in
     let place = c.in-Some.place in
     let i = place.instance.now in
@@ -44,6 +50,6 @@ returns-clause-again c own =
       at = place_of scripts place;
       found = sym c.in-Some.ensures.place;
       ticket = c.in_ok-ticket.ensures.ticket ∙ ap (λ (s : Named). target_for s.name) (sym its);
-      fits = c.in_ok-ticket.ensures.fits (c.in-Some.ensures.states own);
+      fits = c.in_ok-ticket.ensures.fits (c.in-Some.ensures.states (own tt) all);
       cells = c.in_ok-ticket.ensures.cells;
     }

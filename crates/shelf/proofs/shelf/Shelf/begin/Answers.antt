@@ -53,6 +53,7 @@ returns-in-Ok-open-clause-in_order g c =
     let n = length_of c.open.new.journal in
     record {
       placed = o.placed;
+      kept = o.kept;
       orderly = o.orderly n;
       scripts_are = o.whole n;
       range = o.range n;

@@ -8,10 +8,11 @@ use Rattle.page_journal.specs.Settled.{length_of, bodies_in}
 use Rattle.journal_records.specs.Records.{changes, record_length}
 use Rattle.instance_book.specs.Makes.{shelf_from}
 use Rattle.instance_book.specs.Views.{reply_of, instances_of}
-use Rattle.instance_book.specs.Changes.{change_of, HasStateFrom, IsPlacedBy}
+use Rattle.instance_book.specs.Changes.{change_of, HasStateFrom}
 use Rattle.shelf.specs.Views.{fate_by}
 use Rattle.shelf.specs.Events.{decision_of, TellsReply}
 use Rattle.shelf.specs.Recording.{IsBody, told_in}
+use Rattle.shelf.proofs.Shelves.{some_kept}
 use Rattle.shelf.proofs.Standing.{no_call}
 use Rattle.shelf.proofs.Sizes.{unwritten_count}
 use Rattle.shelf.proofs.Publishing.{told_none, told_some, plain_count}
@@ -36,7 +37,6 @@ idle g c =
     let is = landing.idle_book view tells ss s q.in_order t p q.up q.out q.script q.landed c.spend.new.self c.install.new.self c.spend.ensures.book c.install.ensures.book c.in_default.is in
     spent_publishes view tells g.N.Nonces.nonce c.args.setup.now s (record s { book = c.install.new.self }) t c.install.result q.in_order c.events_are_kept.ensures (g.met.D.Disk.only_now s.journal.disk) q.out is refl refl (no_call view tells s.journal)
     q.in_order.sound q.in_order.whole
-    (λ all. c.install.ensures.placed ss (subst (IsPlacedBy ss) (sym c.in_default.is) tt) (c.spend.ensures.placed ss all))
     (λ source all. c.install.ensures.states source ss (subst (HasStateFrom ss (shelf_from source c.spend.new.self.shelf) (instances_of ss c.spend.new.self.instances)) (sym c.in_default.is) tt) (c.spend.ensures.states source ss all))
     (λ own. landing.idle_comes view tells ss s q.in_order t p q.up q.out q.script q.landed c.install.result c.install.ensures.reply c.in_default.is (q.decided own))
 
@@ -78,6 +78,9 @@ returns-in_default-clause-quiet g c = alone c.install.result (untouched (g.D.Dis
 pub told_body-requires-clause-settled : goal.told_body-requires-clause-settled
 told_body-requires-clause-settled g c told = (c.requires.in_order.fit told).settled (landing.none_down g.D.Disk.view g.D.Disk.tells (scripts_of c.args.setup.now) c.args.self.now c.requires.in_order c.args.ticket.now c.args.prepared c.requires.up c.requires.out c.requires.script c.requires.landed)
 
+pub told_body-requires-clause-states : goal.told_body-requires-clause-states
+told_body-requires-clause-states g c = some_kept (scripts_of c.args.setup.now) c.args.self.now.book c.spend.new.self c.spend.ensures.states c.requires.in_order.kept
+
 pub told_body-requires-clause-placed : goal.told_body-requires-clause-placed
 told_body-requires-clause-placed g c = c.spend.ensures.placed (scripts_of c.args.setup.now) c.requires.in_order.placed
 
@@ -113,7 +116,7 @@ unwritten g c =
     let told = c.told_body.ensures in
     let is = landing.spent_book view tells ss s q.in_order t p q.up q.out q.script q.landed c.spend.new.self (length_of c.told_body.new.journal) c.spend.ensures.book told.len in
     spent_publishes view tells g.N.Nonces.nonce c.args.setup.now s (record s { journal = c.told_body.new.journal; book = c.spend.new.self }) t c.in-Err.reply q.in_order c.events_are_kept.ensures (g.met.D.Disk.only_now s.journal.disk) q.out is refl refl
-    (record { settled = λ tells settled. told.settled tells; seen = told.seen; images = told.images; time = told.time }) told.sound (λ none. told.whole ∙ q.in_order.whole none) (c.spend.ensures.placed ss) (λ source. c.spend.ensures.states source ss)
+    (record { settled = λ tells settled. told.settled tells; seen = told.seen; images = told.images; time = told.time }) told.sound (λ none. told.whole ∙ q.in_order.whole none) (λ source. c.spend.ensures.states source ss)
     (λ own. landing.unwritten_comes view tells ss s q.in_order t p q.up q.out q.script q.landed c.in-Some.change c.in-Some.is own.fits (q.decided own) c.in-Err.reply c.in-Err.ensures.written)
 
 pub returns-in-Err-clause-event : goal.returns-in-Err-clause-event
@@ -188,11 +191,11 @@ landed g c =
       landings_between = c.landings_stand_between.ensures;
       exact = c.records_are_exact.ensures;
     })
-    c.in-Some.change c.in-Some.is c.spend.new.self c.spend.ensures.book c.spend.ensures.instances c.spend.ensures.placed c.spend.ensures.states c.in-Ok.ensures.state c.in-Ok.ensures.spelled c.in-Ok.ensures.goes c.in-Ok.ensures.binds body c.in-Ok.ensures.written mid new
+    c.in-Some.change c.in-Some.is c.spend.new.self c.spend.ensures.book c.spend.ensures.instances c.spend.ensures.states c.in-Ok.ensures.state c.in-Ok.ensures.spelled c.in-Ok.ensures.goes c.in-Ok.ensures.binds body c.in-Ok.ensures.written mid new
     (record { settled = λ tells settled. told.settled tells; seen = told.seen; images = told.images; time = told.time })
     (λ tells. subst (λ (x : List ℕ). LeavesOnly (view mid.disk) (view new.disk) (MayHold (bodies_in view mid) x)) c.as_slice.ensures (c.added.ensures.any_moment tells)) c.added.ensures.sound
     (record { only_now = g.met.D.Disk.only_now s.journal.disk; counts_now = g.met.D.Disk.counts_now new.disk; reads = λ tells. g.met.D.Disk.reads_image s.journal.disk tells })
-    c.install-in-Ok-added.new.self c.install-in-Ok-added.ensures.book c.install-in-Ok-added.ensures.placed c.install-in-Ok-added.ensures.states c.install-in-Ok-added.result c.install-in-Ok-added.ensures.reply long c.in-Ok-added.ensures.whole
+    c.install-in-Ok-added.new.self c.install-in-Ok-added.ensures.book c.install-in-Ok-added.ensures.states c.install-in-Ok-added.result c.install-in-Ok-added.ensures.reply long c.in-Ok-added.ensures.whole
     (λ tells. let both = c.in-Ok-added.ensures.ok tells in (both.0, subst (λ (x : List ℕ). bodies_in view new ≡ bodies_in view mid ++ x ∷ []) c.as_slice.ensures both.1))
 
 pub returns-in-Ok-added-clause-event : goal.returns-in-Ok-added-clause-event
@@ -242,7 +245,7 @@ doubted g c =
       landings_between = c.landings_stand_between.ensures;
       exact = c.records_are_exact.ensures;
     })
-    c.in-Some.change c.in-Some.is c.spend.new.self c.spend.ensures.book c.spend.ensures.instances c.spend.ensures.placed c.spend.ensures.states c.in-Ok.ensures.state c.in-Ok.ensures.spelled c.in-Ok.ensures.goes c.in-Ok.ensures.binds c.in-Ok.body c.in-Ok.ensures.written
+    c.in-Some.change c.in-Some.is c.spend.new.self c.spend.ensures.book c.spend.ensures.instances c.spend.ensures.states c.in-Ok.ensures.state c.in-Ok.ensures.spelled c.in-Ok.ensures.goes c.in-Ok.ensures.binds c.in-Ok.body c.in-Ok.ensures.written
     mid new (record { settled = λ tells settled. told.settled tells; seen = told.seen; images = told.images; time = told.time })
     (λ tells. subst (λ (x : List ℕ). LeavesOnly (view mid.disk) (view new.disk) (MayHold (bodies_in view mid) x)) c.as_slice.ensures (c.added.ensures.any_moment tells)) c.added.ensures.sound
     (record { only_now = g.met.D.Disk.only_now s.journal.disk; counts_now = g.met.D.Disk.counts_now new.disk; reads = λ tells. g.met.D.Disk.reads_image s.journal.disk tells })

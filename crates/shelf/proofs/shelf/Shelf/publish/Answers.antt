@@ -18,7 +18,7 @@ use Rattle.shelf.specs.Events.{decision_of, TellsReply, no_publish}
 use Rattle.shelf.proofs.Beside.{admit_same, fits_at, holds_at, orderly_at}
 use Rattle.shelf.proofs.Steps.{replied, down_publish}
 use Rattle.shelf.proofs.Standing.{no_call}
-use Rattle.shelf.proofs.Shelves.{same_order, kept_told, at_up}
+use Rattle.shelf.proofs.Shelves.{same_order, kept_told, some_kept, at_up}
 use Rattle.shelf.proofs.Publishing.{answered, told_answered, no_count, up_refusal, down_refusal, refused_ok, refused_err, not_refused_by, same_error}
 use Rattle.shelf.proofs.Fitting.{shown_at, landed_at}
 use Rattle.shelf.proofs.Leaving.{Publishes, spent_publishes, visit_anew, publishes_from}
@@ -43,7 +43,7 @@ turned g c =
     let order = c.requires.in_order in
     let answer = replied ss s.rules (book_in ss s) (ticket_of t) (step.down c.in-Some.doubt.count) (down_publish ss s.rules (book_in ss s) (ticket_of t) (doubt_of c.in-Some.doubt) (down g c)) in
     spent_publishes view tells g.N.Nonces.nonce c.args.setup.now s (record s { book = c.spend.new.self }) t (reply.Down c.in-Some.doubt.count) order c.events_are_kept.ensures (g.met.D.Disk.only_now s.journal.disk) c.requires.out
-    (c.spend.ensures.book ss (length_of s.journal) (option_map doubt_of s.down)) refl refl (no_call view tells s.journal) order.sound order.whole (c.spend.ensures.placed ss) (λ source. c.spend.ensures.states source ss) (λ own. answer)
+    (c.spend.ensures.book ss (length_of s.journal) (option_map doubt_of s.down)) refl refl (no_call view tells s.journal) order.sound order.whole (λ source. c.spend.ensures.states source ss) (λ own. answer)
 
 pub returns-in-Some-clause-event : goal.returns-in-Some-clause-event
 returns-in-Some-clause-event g c = (turned g (goal.at.returns-in-Some-clause-event g c).After-spend).event
@@ -105,7 +105,7 @@ pub land-requires-clause-in_order : goal.land-requires-clause-in_order
 land-requires-clause-in_order g c =
     let ss = scripts_of c.args.setup.now in
     let s = c.args.self.now in
-    same_order g.D.Disk.view g.D.Disk.tells ss s (record s { book = c.prepared.new.book }) c.requires.in_order (same_book g (goal.at.land-requires-clause-in_order g c).After-prepared) (c.prepared.ensures.placed ss c.requires.in_order.placed) (kept_told ss s.book c.prepared.new.book c.prepared.ensures.states) refl refl refl
+    same_order g.D.Disk.view g.D.Disk.tells ss s (record s { book = c.prepared.new.book }) c.requires.in_order (same_book g (goal.at.land-requires-clause-in_order g c).After-prepared) (some_kept ss s.book c.prepared.new.book c.prepared.ensures.states c.requires.in_order.kept) (kept_told ss s.book c.prepared.new.book c.prepared.ensures.states) refl refl refl
 
 pub land-requires-clause-out : goal.land-requires-clause-out
 land-requires-clause-out g c = subst (λ (y : Book). Contains y.out c.args.ticket.number) (sym (same_book g (goal.at.land-requires-clause-out g c).After-prepared)) c.requires.out
@@ -221,7 +221,7 @@ refused g c =
     let dn = option_map doubt_of s.down in
     let order = c.requires.in_order in
     spent_publishes view tells g.N.Nonces.nonce c.args.setup.now s (record s { book = c.spend-in-Err.new.self }) t c.in-Err.reply order c.events_are_kept.ensures (g.met.D.Disk.only_now s.journal.disk) c.requires.out
-    (c.spend-in-Err.ensures.book ss l dn ∙ ap (spend t.number) (c.prepared.ensures.book ss l dn)) refl refl (no_call view tells s.journal) order.sound order.whole (λ all. c.spend-in-Err.ensures.placed ss (c.prepared.ensures.placed ss all))
+    (c.spend-in-Err.ensures.book ss l dn ∙ ap (spend t.number) (c.prepared.ensures.book ss l dn)) refl refl (no_call view tells s.journal) order.sound order.whole
     (λ source all. c.spend-in-Err.ensures.states source ss (c.prepared.ensures.states source ss all))
     (λ own.
     let decided = c.in-Err.ensures.decided (fits_at ss s.book l 0 dn None t (target_of t.target) own.fits) l in

@@ -114,7 +114,7 @@ landed g c =
     (record { settled = λ told settled. done.settled told; seen = done.seen; images = done.images; time = done.time })
     (λ told. subst (λ (x : List ℕ). LeavesOnly (view mid.disk) (view new.disk) (MayHold (bodies_in view mid) x)) c.as_slice.ensures (c.added.ensures.any_moment told)) c.added.ensures.sound
     (record { only_now = g.met.D.Disk.only_now s.journal.disk; counts_now = g.met.D.Disk.counts_now new.disk; reads = λ told. g.met.D.Disk.reads_image s.journal.disk told })
-    c.free_expired.new.self c.free_expired.ensures.book c.free_expired.result c.free_expired.ensures.count c.free_expired.ensures.placed c.free_expired.ensures.states long c.in-Ok-added.ensures.whole
+    c.free_expired.new.self c.free_expired.ensures.book c.free_expired.result c.free_expired.ensures.count c.free_expired.ensures.states long c.in-Ok-added.ensures.whole
     (λ told. let both = c.in-Ok-added.ensures.ok told in (both.0, subst (λ (x : List ℕ). bodies_in view new ≡ bodies_in view mid ++ x ∷ []) c.as_slice.ensures both.1))
 
 pub returns-in-Ok-added-clause-event : goal.returns-in-Ok-added-clause-event

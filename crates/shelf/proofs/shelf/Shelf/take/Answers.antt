@@ -21,7 +21,7 @@ use Rattle.shelf.proofs.Steps.{down_take, worn_take, refused_take, free_take, no
 use Rattle.shelf.proofs.Standing.{no_call}
 use Rattle.shelf.proofs.Order.{follows, quiet_event}
 use Rattle.instance_book.specs.Places as sources
-use Rattle.shelf.proofs.Shelves.{quiet_order, quiet_own, same_order, kept_told}
+use Rattle.shelf.proofs.Shelves.{quiet_order, quiet_own, same_order, kept_told, some_kept}
 use Rattle.shelf.proofs.Fitting.{fits_drawn, start_has_script}
 use Rattle.shelf.proofs.shelf.Shelf.take.Goals as goal
 
@@ -98,7 +98,7 @@ returns-in-Ok-clause-in_order g c =
     let why : refusal_of (admit b d) ≡ None = ap refusal_of (admit_same ss s.book (length_of s.journal) 0 (option_map doubt_of s.down) None d) ∙ c.in_default-admit.ensures.admitted in
     let scripts : HasWholeScripts (draw b) = record { setup = c.requires.scripts_are.setup; instances = c.requires.scripts_are.instances } in
     quiet_order g.D.Disk.view g.D.Disk.tells ss s _ refl (draw b) (c.in-Ok.ensures.drawn ss (length_of s.journal) (option_map doubt_of s.down)) refl refl (no_call g.D.Disk.view g.D.Disk.tells s.journal)
-    c.requires (c.ticket.ensures.placed ss) (kept_told ss s.book c.ticket.new.self c.ticket.ensures.states) c.requires.sound (step.take d v) step.plain (step.taken b.drawn 0) (taken ss s.rules b d v 0 (free_take b d up low why)) tt tt tt c.events_are_kept.ensures refl scripts c.requires.whole
+    c.requires (some_kept ss s.book c.ticket.new.self c.ticket.ensures.states) (kept_told ss s.book c.ticket.new.self c.ticket.ensures.states) c.requires.sound (step.take d v) step.plain (step.taken b.drawn 0) (taken ss s.rules b d v 0 (free_take b d up low why)) tt tt tt c.events_are_kept.ensures refl scripts c.requires.whole
 
 pub returns-in-Ok-clause-own : goal.returns-in-Ok-clause-own
 returns-in-Ok-clause-own g c =
@@ -147,7 +147,7 @@ pub returns-in-Err-ticket-clause-in_order : goal.returns-in-Err-ticket-clause-in
 returns-in-Err-ticket-clause-in_order g c =
     let ss = scripts_of c.args.setup.now in
     let s = c.args.self.now in
-    same_order g.D.Disk.view g.D.Disk.tells ss s _ c.requires (c.in-Err-ticket.ensures.err ss (length_of s.journal) (option_map doubt_of s.down)) (c.ticket.ensures.placed ss c.requires.placed) (kept_told ss s.book c.ticket.new.self c.ticket.ensures.states) refl refl refl
+    same_order g.D.Disk.view g.D.Disk.tells ss s _ c.requires (c.in-Err-ticket.ensures.err ss (length_of s.journal) (option_map doubt_of s.down)) (some_kept ss s.book c.ticket.new.self c.ticket.ensures.states c.requires.kept) (kept_told ss s.book c.ticket.new.self c.ticket.ensures.states) refl refl refl
 
 pub returns-in-Err-ticket-clause-own : goal.returns-in-Err-ticket-clause-own
 returns-in-Err-ticket-clause-own g c =
@@ -155,3 +155,6 @@ returns-in-Err-ticket-clause-own g c =
     let s = c.args.self.now in
     let b = book_in ss s in
     quiet_own g.D.Disk.view g.D.Disk.tells ss s _ refl b (c.in-Err-ticket.ensures.err ss (length_of s.journal) (option_map doubt_of s.down)) refl refl (no_call g.D.Disk.view g.D.Disk.tells s.journal) (c.ticket.ensures.states (sources.own tt) ss)
+
+pub ticket-requires-clause-kept : goal.ticket-requires-clause-kept
+ticket-requires-clause-kept g c = c.requires.kept

@@ -1,0 +1,18 @@
+use Rattle.std.proofs.Common.{subst, IfOk}
+use Rattle.script_nodes.specs.Views.{scripts_of}
+use Rattle.replay_spec.specs.Admission.{Admission}
+use Rattle.instance_book.specs.Places.{own, given}
+use Rattle.instance_book.specs.Fits.{FitsAs}
+use Rattle.instance_book.specs.Admissions.{book_under}
+use Rattle.instance_book.proofs.book.Book.made.Goals as goal
+
+pub page_ticket-requires-clause-kept : goal.page_ticket-requires-clause-kept
+page_ticket-requires-clause-kept c =
+    let kept = c.requires.kept in
+    (kept.0, c.in-Resumes.ensures.states (given kept.0) kept.1)
+
+pub returns-in-Resumes-clause-fits : goal.returns-in-Resumes-clause-fits
+returns-in-Resumes-clause-fits c = λ all.
+    let setup = c.args.setup.now in
+    subst (λ (a : Admission). IfOk c.page_ticket.result (λ t. FitsAs (scripts_of setup) (book_under setup c.args.self.now) t a)) c.in-Resumes.ensures.admission
+    (c.page_ticket.ensures.fits (c.in-Resumes.ensures.states (own tt) all))
