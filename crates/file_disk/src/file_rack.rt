@@ -1,7 +1,7 @@
 ghost use Rattle.std.specs.Prelude.{◌≡◌, ◌≤◌, ℕ, false, IfOk, OnOk, OnErr, IsErrOf};
 ghost use Rattle.web_outside.specs.Causes.{Rose};
-ghost use Rattle.web_disk.specs.Racks.{faults_after_take};
-ghost use Rattle.file_disk.specs.Lendings.{is_out, Lends, SameOut, lending_view};
+ghost use Rattle.web_disk.specs.Failures.{failed_in};
+ghost use Rattle.file_disk.specs.Lendings.{is_out, CountsTake, Lends, SameOut, lending_view};
 
 use crate::FileDisk;
 use crate::lending::Lending;
@@ -22,6 +22,7 @@ impl<'r, R> FileRack<'r, R> {
     pub fn new(rt: &'r R, alloc: Global) -> FileRack<'r, R>
         ensures out { (number : ℕ) → is_out result.lending number ≡ false }
         ensures faults { result.lending.faults ≡ 0 }
+        ensures failed { (number : ℕ) → failed_in result.lending.failed number ≡ 0 }
     {
         FileRack {
             rt,
@@ -41,7 +42,7 @@ pub fn take_file<R: Files<File = File> + Eprint>(
     ensures fresh { IfOk result (λ disk. disk.faults ≡ 0) }
     ensures out { OnOk result (Lends lending.old lending.new number) }
     ensures err { OnErr result (SameOut lending.old lending.new) }
-    ensures faults { lending.new.faults ≡ faults_after_take result lending.old.faults }
+    ensures counted { CountsTake lending.old lending.new number result }
     ensures failed { IsErrOf result RackFault.Failed → Rose lending.old.faults lending.new.faults }
     ensures later { lending.old.faults ≤ lending.new.faults }
 {
@@ -58,7 +59,7 @@ pub fn take_file<R: Files<File = File> + Eprint>(
         Err(Refusal::Memory) => Err(RackFault::Memory),
         Err(refusal) => {
             let _ = eprintln!(rt; "hovgyelit: {path}: {refusal}");
-            Err(lending.fail())
+            Err(lending.fail(number))
         }
     }
 }

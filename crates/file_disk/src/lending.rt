@@ -1,17 +1,19 @@
 ghost use Rattle.std.specs.Prelude.{◌≡◌, ◌≢◌, ◌≤◌, ◌<◌, ◌+◌, ◌-◌, ◌^◌, ◌==◌, not, ℕ, true, false, min, [], OnOk, vec_len, vec_capacity};
 ghost use Rattle.std.specs.List.{filter};
 ghost use Rattle.web_outside.specs.Causes.{Rose};
+ghost use Rattle.web_disk.specs.Failures.{failed_in};
 ghost use Rattle.web_disk.specs.declared.rack.RackFault.TheVariants.{Failed as RackFailed};
-ghost use Rattle.file_disk.specs.Lendings.{is_out, Lends, SameOut};
+ghost use Rattle.file_disk.specs.Lendings.{is_out, Lends, SameOthers, SameOut};
 
 use std::alloc::{AllocError, Global};
-use web_disk::RackFault;
+use web_disk::{Failures, RackFault};
 
 /// Which disks of a rack are out, and how often a call failed.
 #[derive(Drop)]
 pub struct Lending {
     out: Vec<u32>,
     faults: u64,
+    failed: Failures,
 }
 
 // Takes out each such number.
@@ -26,10 +28,12 @@ impl Lending {
     pub fn new(alloc: Global) -> Lending
         ensures out { result.out.items ≡ [] }
         ensures faults { result.faults ≡ 0 }
+        ensures failed { (n : ℕ) → failed_in result.failed n ≡ 0 }
     {
         Lending {
             out: Vec::new(alloc),
             faults: 0,
+            failed: Failures::new(),
         }
     }
 
@@ -52,6 +56,7 @@ impl Lending {
         ensures room { OnOk result (vec_len self.new.out < vec_capacity self.new.out) }
         ensures out { SameOut self.old self.new }
         ensures faults { self.new.faults ≡ self.old.faults }
+        ensures failed { self.new.failed ≡ self.old.failed }
     {
         self.out.reserve(1)
     }
@@ -61,19 +66,23 @@ impl Lending {
         requires { vec_len self.old.out < vec_capacity self.old.out }
         ensures lends { Lends self.old self.new number }
         ensures faults { self.new.faults ≡ self.old.faults }
+        ensures failed { self.new.failed ≡ self.old.failed }
     {
         self.out.push_reserved(number);
     }
 
-    /// Counts a fault.
-    pub fn fail(&mut self) -> RackFault
+    /// Counts a take of the disk of this number that failed.
+    pub fn fail(&mut self, number: u32) -> RackFault
         ensures failed { result ≡ RackFailed }
         ensures out { SameOut self.old self.new }
         ensures faults { self.new.faults ≡ min (self.old.faults + 1) (2 ^ 64 - 1) }
         ensures rose { Rose self.old.faults self.new.faults }
         ensures later { self.old.faults ≤ self.new.faults }
+        ensures counted { failed_in self.new.failed number ≡ failed_in self.old.failed number + 1 }
+        ensures others_counted { SameOthers self.old self.new number }
     {
         self.faults = self.faults.saturating_add(1);
+        self.failed.count(number, 1);
         RackFault::Failed
     }
 
@@ -82,8 +91,12 @@ impl Lending {
         ensures home { is_out self.new number ≡ false }
         ensures others { (n : ℕ) → n ≢ number → is_out self.new n ≡ is_out self.old n }
         ensures faults { self.new.faults ≡ min (self.old.faults + faults) (2 ^ 64 - 1) }
+        ensures counted { failed_in self.new.failed number
+            ≡ failed_in self.old.failed number + faults }
+        ensures others_counted { SameOthers self.old self.new number }
     {
         remove(&mut self.out, number);
         self.faults = self.faults.saturating_add(faults);
+        self.failed.count(number, faults);
     }
 }

@@ -1,7 +1,7 @@
 ghost use Rattle.std.specs.Prelude.{◌≡◌, ◌≤◌, ℕ, false, IfOk, OnOk, OnErr, IsErrOf};
 ghost use Rattle.web_outside.specs.Causes.{Rose};
-ghost use Rattle.web_disk.specs.Racks.{faults_after_take};
-ghost use Rattle.file_disk.specs.Lendings.{is_out, Lends, SameOut, lending_view};
+ghost use Rattle.web_disk.specs.Failures.{failed_in};
+ghost use Rattle.file_disk.specs.Lendings.{is_out, CountsTake, Lends, SameOut, lending_view};
 ghost use Rattle.file_disk.specs.MemoryFiles.{memory_file_view};
 
 use crate::file_rack::take_file;
@@ -31,6 +31,7 @@ impl<'r, R> ServedRack<'r, R> {
     pub fn new(rt: &'r R, alloc: Global) -> ServedRack<'r, R>
         ensures out { (number : ℕ) → is_out result.lending number ≡ false }
         ensures faults { result.lending.faults ≡ 0 }
+        ensures failed { (number : ℕ) → failed_in result.lending.failed number ≡ 0 }
     {
         ServedRack {
             rt,
@@ -50,7 +51,7 @@ fn take_memory(
     ensures fresh { IfOk result (λ disk. (memory_file_view disk).faults ≡ 0) }
     ensures out { OnOk result (Lends lending.old lending.new number) }
     ensures err { OnErr result (SameOut lending.old lending.new) }
-    ensures faults { lending.new.faults ≡ faults_after_take result lending.old.faults }
+    ensures counted { CountsTake lending.old lending.new number result }
     ensures failed { IsErrOf result RackFault.Failed → Rose lending.old.faults lending.new.faults }
     ensures later { lending.old.faults ≤ lending.new.faults }
 {
@@ -61,7 +62,7 @@ fn take_memory(
             Ok(MemoryFile::new(disk))
         }
         Err(RackFault::Memory) => Err(RackFault::Memory),
-        Err(RackFault::Failed) => Err(lending.fail()),
+        Err(RackFault::Failed) => Err(lending.fail(number)),
     }
 }
 

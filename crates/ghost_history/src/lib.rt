@@ -1,4 +1,4 @@
-//! A history that clauses see and that takes no memory: for the site and for what is kept of a serving.
+//! A history that clauses see and that takes no memory: for racks, the site and what is kept of a serving.
 #![tactic(auto)]
 
 mod history;

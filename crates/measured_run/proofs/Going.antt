@@ -51,43 +51,43 @@ course_is r old new s source step told draws learned tallied hashed =
     (learned ∙ ap (λ (p : LoadStep × Source). learned_from told p.1) draws) tallied hashed
 
 -- a step that told nothing
-pub halts_on : (r : StageRules) (old new : Course) (s t : Spot r) (step : Step) (why : Halt)
-    → step ≡ step_over r old.generator s.state → fits r (step_over r old.generator s.state) s.state ≡ true → HaltsBy r step why s t
-    → GoesOn r (Some why) old new s t
-halts_on r old new s t step halt.Memory is fitting (inl (told, came)) =
+pub halts_on : (r : StageRules) (left : r.State → ℕ → Type 0) (old new : Course) (s t : Spot r) (step : Step) (why : Halt)
+    → step ≡ step_over r old.generator s.state → fits r (step_over r old.generator s.state) s.state ≡ true → HaltsBy r left step why s t
+    → GoesOn r left (Some why) old new s t
+halts_on r left old new s t step halt.Memory is fitting (inl (told, came)) =
     inr (inl (told, record { fitting = fitting; came = subst (λ (x : Step). Came r s x told t) is came }))
-halts_on r old new s t step halt.Memory is fitting (inr (shelf, (crash, later))) = inr (inr (shelf, (sym is ∙ crash, later)))
-halts_on r old new s t step (halt.Reopen shelf reopen.Memory) is fitting halts = halts
-halts_on r old new s t step (halt.Reopen shelf reopen.Disk) is fitting halts = ((sym is ∙ halts.0.0, halts.0.1), halts.1)
-halts_on r old new s t step (halt.Reopen shelf (reopen.Damaged place)) is fitting halts = (sym is ∙ halts.0, halts.1)
-halts_on r old new s t step (halt.Reopen shelf (reopen.Other place)) is fitting halts = (sym is ∙ halts.0, halts.1)
+halts_on r left old new s t step halt.Memory is fitting (inr (shelf, (crash, later, stands))) = inr (inr (shelf, (sym is ∙ crash, later, stands)))
+halts_on r left old new s t step (halt.Reopen shelf reopen.Memory) is fitting halts = halts
+halts_on r left old new s t step (halt.Reopen shelf reopen.Disk) is fitting halts = ((sym is ∙ halts.0.0, halts.0.1, halts.0.2), halts.1)
+halts_on r left old new s t step (halt.Reopen shelf (reopen.Damaged place)) is fitting halts = (sym is ∙ halts.0, halts.1, halts.2)
+halts_on r left old new s t step (halt.Reopen shelf (reopen.Other place)) is fitting halts = (sym is ∙ halts.0, halts.1, halts.2)
 
 -- a run that ended at such a step
-pub halted : (r : StageRules) (start here there : Spot r) (source : Source) (k count : ℕ) (course past : Course) (why : Halt) → k < count
-    → Reached r start source k here course → GoesOn r (Some why) course past here there → Measures r count source (Err why) start there
+pub halted : (r : StageRules) (left : r.State → ℕ → Type 0) (start here there : Spot r) (source : Source) (k count : ℕ) (course past : Course) (why : Halt) → k < count
+    → Reached r start source k here course → GoesOn r left (Some why) course past here there → Measures r left count source (Err why) start there
 unfolding lost
-halted r start here there source k count course past halt.Memory few reached (inl same) =
+halted r left start here there source k count course past halt.Memory few reached (inl same) =
     inl (subst (LoadsSome r count source start) (sym same) (some r start here source k count course (omega (arith, few)) reached))
-halted r start here there source k count course past halt.Memory few reached (inr (inl (told, goes))) =
+halted r left start here there source k count course past halt.Memory few reached (inr (inl (told, goes))) =
     inl (one_past r start here there source k count course told few goes reached)
-halted r start here there source k count course past halt.Memory few reached (inr (inr (shelf, crash))) =
-    inr (shelf, lost r start here there source k count shelf course few reached crash)
-halted r start here there source k count course past (halt.Reopen shelf reopen.Memory) few reached goes = goes
-halted r start here there source k count course past (halt.Reopen shelf reopen.Disk) few reached goes =
-    record { loses = lost r start here there source k count shelf course few reached goes.0; rose = goes.1 }
-halted r start here there source k count course past (halt.Reopen shelf (reopen.Damaged place)) few reached goes =
-    lost r start here there source k count shelf course few reached goes
-halted r start here there source k count course past (halt.Reopen shelf (reopen.Other place)) few reached goes =
-    lost r start here there source k count shelf course few reached goes
+halted r left start here there source k count course past halt.Memory few reached (inr (inr (shelf, crash))) =
+    inr (shelf, lost r left start here there source k count shelf course few reached crash)
+halted r left start here there source k count course past (halt.Reopen shelf reopen.Memory) few reached goes = goes
+halted r left start here there source k count course past (halt.Reopen shelf reopen.Disk) few reached goes =
+    record { loses = lost r left start here there source k count shelf course few reached goes.0; rose = goes.1 }
+halted r left start here there source k count course past (halt.Reopen shelf (reopen.Damaged place)) few reached goes =
+    lost r left start here there source k count shelf course few reached goes
+halted r left start here there source k count course past (halt.Reopen shelf (reopen.Other place)) few reached goes =
+    lost r left start here there source k count shelf course few reached goes
 
 measure_same : (a b : Measure) → a.tally ≡ b.tally → a.hash ≡ b.hash → a ≡ b
 measure_same a b t h = λ at. record { tally = t at; hash = h at }
 
 -- a run that went to its end
-pub measured : (r : StageRules) (start here : Spot r) (source : Source) (k count : ℕ) (course : Course) (measure : Measure) → k ≡ count
+pub measured : (r : StageRules) (left : r.State → ℕ → Type 0) (start here : Spot r) (source : Source) (k count : ℕ) (course : Course) (measure : Measure) → k ≡ count
     → measure.tally ≡ course.tally → measure.hash ≡ course.hash → Reached r start source k here course
-    → Measures r count source (Ok measure) start here
-measured r start here source k count course measure all tally hash reached = (
+    → Measures r left count source (Ok measure) start here
+measured r left start here source k count course measure all tally hash reached = (
   reached.told,
   subst (λ n. Loads r n source reached.told start here) all (ended r start here source k course reached),
   measure_same measure (measure_of count reached.told) (tally ∙ reached.tallied ∙ ap (λ n. tally_of n reached.told) all) (hash ∙ reached.hashed),

@@ -180,16 +180,17 @@ one_past r start here there source k count course told few goes reached =
     some r start there source (k + 1) count past (omega (arith, few)) (one_more r start here there source k course told goes reached past refl)
 
 -- the next step is the crash of a shelf that was not opened again
-unfoldable pub lost : (r : StageRules) (start here there : Spot r) (source : Source) (k count shelf : ℕ) (course : Course) → k < count
-    → Reached r start source k here course → Crashed r (step_over r course.generator here.state) shelf here there → LosesShelf r count source shelf start there
+unfoldable pub lost : (r : StageRules) (left : r.State → ℕ → Type 0) (start here there : Spot r) (source : Source) (k count shelf : ℕ) (course : Course) → k < count
+    → Reached r start source k here course → Crashed r left (step_over r course.generator here.state) shelf here there → LosesShelf r left count source shelf start there
 unfolding ended
-lost r start here there source k count shelf course few reached (is, later) = record {
+lost r left start here there source k count shelf course few reached (is, later, stands) = record {
   done = k;
   few = few;
   told = reached.told;
   middle = here;
   loads = ended r start here source k course reached;
   later = later;
+  stands = stands;
   next =
       and_next r start here source k course reached
       ∙ ap (λ (step : Step). reached.steps ++ step ∷ []) is

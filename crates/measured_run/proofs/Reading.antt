@@ -5,7 +5,7 @@ use Rattle.std.specs.Str.{is_utf8, chars}
 use Rattle.std.specs.Str.Lossy.{utf8_valid_len}
 use Rattle.std.proofs.Math.Utf8.{encode}
 use Rattle.core_syntax.specs.Definitions.{expanded}
-use Rattle.core_syntax.specs.Heads.{syntax_of, page_form_of, number_operation_of, data_operation_of}
+use Rattle.core_syntax.specs.Heads.{syntax_of, page_form_of, number_operation_of, test_of, list_operation_of, text_operation_of}
 use Rattle.setup_reader.specs.declared.setup.Ending.TheVariants.{Input}
 use Rattle.setup_reader.specs.Setup.{Parsed, Fault, section_in, setup_of}
 use Rattle.measured_run.specs.Scripts.{text_of, setup_text}
@@ -20,7 +20,7 @@ is_whole (Ok setup) = is_nil setup.steps
 is_whole (Err fault) = false
 
 whole : is_whole (setup_of Input setup_text) ≡ true
-unfolding is_whole is_nil setup_of section_in text_of digits is_utf8 chars encode utf8_valid_len expanded syntax_of page_form_of number_operation_of data_operation_of
+unfolding is_whole is_nil setup_of section_in text_of digits is_utf8 chars encode utf8_valid_len expanded syntax_of page_form_of number_operation_of test_of list_operation_of text_operation_of
 whole = refl
 
 no_bytes : (bytes : List ℕ) → is_nil bytes ≡ true → bytes ≡ []

@@ -2,7 +2,7 @@ ghost use Rattle.std.specs.Prelude.{◌≡◌, ◌<◌, ◌≤◌, ◌+◌, ◌^
 ghost use Rattle.web_outside.specs.Causes.{Rose};
 ghost use Rattle.measured_run.specs.Fnv.{fnv1a, goes_on};
 ghost use Rattle.play_steps.specs.Played.{spot};
-ghost use Rattle.play_steps.specs.Rules.{KeepsShelves};
+ghost use Rattle.play_steps.specs.Rules.{KeepsShelves, StaysUp};
 ghost use Rattle.play_steps.specs.Texts.{print};
 ghost use Rattle.measured_run.specs.Generator.{source_of};
 ghost use Rattle.measured_run.specs.Tallies.{grown};
@@ -90,7 +90,7 @@ fn go_on<T: Stage>(
     requires some { 0 < shelves_of T.rules (T.state stage.old) }
     requires clock { course.old.generator.clock + 59 < 2 ^ 62 }
     ensures went { IsTrue T.tells → T.own stage.old →
-        GoesOn T.rules (halt_in result) course.old course.new
+        GoesOn T.rules (T.left devices.new) (halt_in result) course.old course.new
         (spot T.rules (T.state stage.old) (T.faults stage.old devices.old))
         (spot T.rules (T.state stage.new) (T.faults stage.new devices.new)) }
     ensures shelves { OnOk result (KeepsShelves T.rules (T.state stage.old) (T.state stage.new)) }
@@ -101,6 +101,9 @@ fn go_on<T: Stage>(
     ensures later { T.faults stage.old devices.old ≤ T.faults stage.new devices.new }
     ensures disk { (shelf : ℕ) → IsErrOf result (Halt.Reopen shelf Reopen.Disk) →
         Rose (T.faults stage.old devices.old) (T.faults stage.new devices.new) }
+    ensures failed { (shelf : ℕ) → IsErrOf result (Halt.Reopen shelf Reopen.Disk) →
+        Rose (T.failed devices.old shelf) (T.failed devices.new shelf) }
+    ensures failed_later { StaysUp (T.failed devices.old) (T.failed devices.new) }
     ensures why { (shelf : ℕ) → IsErrOf result (Halt.Reopen shelf Reopen.Memory) → ⊥ }
     ensures damaged { IsTrue T.tells → (shelf place : ℕ) →
         IsErrOf result (Halt.Reopen shelf (Reopen.Damaged place)) → ⊥ }
@@ -156,7 +159,7 @@ pub fn load<T: Stage>(
     requires home { T.at_home stage.old devices.old }
     requires some { 0 < shelves_of T.rules (T.state stage.old) }
     ensures measured { IsTrue T.tells → T.own stage.old →
-        Measures T.rules steps (source_of number) result
+        Measures T.rules (T.left devices.new) steps (source_of number) result
         (spot T.rules (T.state stage.old) (T.faults stage.old devices.old))
         (spot T.rules (T.state stage.new) (T.faults stage.new devices.new)) }
     ensures sound { T.sound stage.new }
@@ -165,6 +168,9 @@ pub fn load<T: Stage>(
     ensures later { T.faults stage.old devices.old ≤ T.faults stage.new devices.new }
     ensures disk { (shelf : ℕ) → IsErrOf result (Halt.Reopen shelf Reopen.Disk) →
         Rose (T.faults stage.old devices.old) (T.faults stage.new devices.new) }
+    ensures failed { (shelf : ℕ) → IsErrOf result (Halt.Reopen shelf Reopen.Disk) →
+        Rose (T.failed devices.old shelf) (T.failed devices.new shelf) }
+    ensures failed_later { StaysUp (T.failed devices.old) (T.failed devices.new) }
     ensures why { (shelf : ℕ) → IsErrOf result (Halt.Reopen shelf Reopen.Memory) → ⊥ }
     ensures damaged { IsTrue T.tells → (shelf place : ℕ) →
         IsErrOf result (Halt.Reopen shelf (Reopen.Damaged place)) → ⊥ }

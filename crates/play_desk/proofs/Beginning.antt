@@ -15,13 +15,14 @@ use Rattle.shelf.specs.declared.rules.Rules.{Rules}
 use Rattle.shelf.specs.declared.shelf.Shelf.{Shelf}
 use Rattle.shelf.specs.Views.{IsOwnShelf}
 use Rattle.play_desk.specs.Desk.{Desk, first_desk, first_shelves}
-use Rattle.play_desk.specs.Opening.{AllKept, AllStayKept, AreHome, CountStays, GivesOne, HoldImages, IsClosedBy, IsKept, IsRefusedBy, LeaveOthers, OpensNext, numbered, rules_at}
+use Rattle.play_steps.specs.Rules.{StaysUp}
+use Rattle.play_desk.specs.Opening.{AllKept, AllStayKept, AreHome, CountStays, FailedFor, GivesOne, HoldImages, IsClosedBy, IsKept, IsRefusedBy, LeaveOthers, OpensNext, numbered, rules_at}
 use Rattle.play_desk.specs.Staff.{AreFit, HaveOwnNumbers, IsHome, IsServed, desk_with, faults_in, numbers_in, shelf_at, total}
 use Rattle.play_desk.specs.declared.opening.OpenCause.{OpenCause}
 use Rattle.play_desk.specs.declared.opening.OpenCause.TheVariants as cause
 use Rattle.play_desk.proofs.Places.{in_push, none_there, same_Some}
 use Rattle.play_desk.proofs.Closing.{at_last, in_front}
-use Rattle.play_desk.proofs.Fitting.{number_at}
+use Rattle.play_desk.proofs.Fitting.{number_at, own_numbers}
 use Rattle.play_desk.proofs.Keeping.{all_kept_in}
 
 -- Of a rack that was first so, these are the shelves of the numbers below this one, all empty; no disk beyond them was touched.
@@ -39,6 +40,7 @@ pub record AreOpened {D : Type 0} (view : D → View) (rack_tells tells : Bool) 
   pub shelves : IsTrue rack_tells → IsTrue tells → map (shelf_at scripts) xs ≡ first_shelves (rules_at scripts rules) scripts count
   pub later : first.faults ≤ total now.faults (faults_in view xs)
   pub rack_later : first.faults ≤ now.faults
+  pub failed_later : StaysUp first.failed now.failed
 
 -- at first there is none
 pub opened_none : {D : Type 0} (view : D → View) (rack_tells tells : Bool) (scripts : List Named) (rules : Rules) (first : RackView)
@@ -58,6 +60,7 @@ opened_none view rack_tells tells scripts rules first home few = record {
   shelves = λ rack_told told. refl;
   later = omega (arith, few);
   rack_later = omega arith;
+  failed_later = λ n. omega arith;
 }
 
 -- what stands in a list with one more stands at the place before the last, or last
@@ -88,7 +91,7 @@ module _ {D : Type 0} (view : D → View) (rack_tells tells : Bool) (scripts : L
       omega (arith, within, length-map xs (λ s. s.rules.number), o.size, o.numbers k n e)
 
   pub own_opened : AreOpened view rack_tells tells scripts rules first count xs now → HaveOwnNumbers xs
-  own_opened o j k n a b = sym (o.numbers j n a) ∙ o.numbers k n b
+  own_opened o = own_numbers xs o.numbers
 
   -- the next disk is at home
   pub next_home : AreOpened view rack_tells tells scripts rules first count xs now → now.out count ≡ false
@@ -128,18 +131,26 @@ module _ {D : Type 0} (view : D → View) (rack_tells tells : Bool) (scripts : L
   pub kept_all : (mid next : RackView) (why : OpenCause) → AreOpened view rack_tells tells scripts rules first count xs now → IsTrue rack_tells → IsTrue tells
       → GivesOne count now mid → (why ≢ cause.Disk → AllKept scripts count (now.holds count) [] (mid.holds count)) → HoldImages view xs next.holds
       → LeaveOthers xs mid next → AllStayKept scripts first.holds next.holds count why
-  kept_all mid next why o rack_told told given kept images others n but left is =
-      elim (below_or_not n (length xs)) [ inl low ↦ opened (there xs n low) | inr high ↦ beyond (omega (arith, o.size, high)) ]
+  kept_all mid next why o rack_told told given kept images others = record {
+    kept = λ n but left is.
+        elim (below_or_not n (length xs)) [
+          | inl low ↦ opened n left is (there xs n low)
+          | inr high ↦ beyond n but left is (omega (arith, o.size, high))
+        ];
+    behind = λ n above left is.
+        let held = others n (λ k e. let low = below o k n e in omega (arith, low, above)) left is in
+        o.rest n (omega (arith, above)) left (given.others n (λ same. omega (arith, same, above)) left held);
+  }
     where
       -- the disk of a shelf that was opened
-      opened : (x : Shelf D Counting) × (slice_get xs n ≡ Some x) → IsKept scripts n (first.holds n) [] left
-      opened (x, at) =
+      opened : (n : ℕ) (left : List ℕ) → next.holds n left → (x : Shelf D Counting) × (slice_get xs n ≡ Some x) → IsKept scripts n (first.holds n) [] left
+      opened n left is (x, at) =
           let number : x.rules.number ≡ n = o.numbers n x.rules.number (number_at xs n x at) in
           o.keeps rack_told told n x at left (images n x at left (subst (λ m. next.holds m left) (sym number) is))
 
       -- and of one that was not
-      beyond : count ≤ n → IsKept scripts n (first.holds n) [] left
-      beyond le =
+      beyond : (n : ℕ) → (why ≡ cause.Disk → n ≢ count) → (left : List ℕ) → next.holds n left → count ≤ n → IsKept scripts n (first.holds n) [] left
+      beyond n but left is le =
           let held = others n (λ k e. let low = below o k n e in omega (arith, low, le)) left is in
           dite (ℕ_discrete n count)
           (λ same.
@@ -153,6 +164,24 @@ module _ {D : Type 0} (view : D → View) (rack_tells tells : Bool) (scripts : L
   pub later_closed : (mid new : ℕ) → AreOpened view rack_tells tells scripts rules first count xs now → CountStays now.faults 0 mid 0
       → total mid (faults_in view xs) ≤ new → first.faults ≤ new
   later_closed mid new o stays le = (let beside = stays (faults_in view xs) in omega (arith, o.later, beside, le))
+
+  -- the count of each number stays where the next was not opened, but for its own
+  pub given_later : (mid new : RackView) → AreOpened view rack_tells tells scripts rules first count xs now → GivesOne count now mid → StaysUp mid.failed new.failed
+      → StaysUp first.failed new.failed
+  given_later mid new o given later n =
+      dite (ℕ_discrete n count)
+      (λ is. subst (λ m. first.failed m ≤ new.failed m) (sym is)
+      (let a = o.failed_later count in let b = given.failed in let d = later count in omega (arith, a, b, d)))
+      (λ other. let a = o.failed_later n in let b = given.others_failed n other in let d = later n in omega (arith, a, b, d))
+
+  -- the count of its number rose where a call for it failed
+  pub failed_closed : (mid new : RackView) → AreOpened view rack_tells tells scripts rules first count xs now → FailedFor count now mid
+      → CountStays now.faults 0 mid.faults 0 → total mid.faults (faults_in view xs) ≤ new.faults → StaysUp mid.failed new.failed → FailedFor count first new
+  failed_closed mid new o failed stays le later =
+      let a = o.failed_later count in let b = failed.here in let d = later count in record {
+        all = omega (arith, o.rack_later, failed.all, le);
+        here = omega (arith, a, b, d);
+      }
 
   -- with the next there is one more
   pub opened_more : (ys : List (Shelf D Counting)) (next : RackView) → AreOpened view rack_tells tells scripts rules first count xs now
@@ -241,6 +270,13 @@ module _ {D : Type 0} (view : D → View) (rack_tells tells : Bool) (scripts : L
           let last = sum_by-cons (λ (s : Shelf D Counting). (view s.journal.disk).faults) x [] in
           omega (arith, parts, last)
 
+      -- no count fell
+      none_fell : StaysUp first.failed next.failed
+      none_fell n =
+          dite (ℕ_discrete n count)
+          (λ is. subst (λ m. first.failed m ≤ next.failed m) (sym is) (let a = o.failed_later count in let b = h.taken.failed in omega (arith, a, b)))
+          (λ other. let a = o.failed_later n in let b = h.taken.others_failed n other in omega (arith, a, b))
+
       all_later : first.faults ≤ total next.faults (faults_in view (xs ++ x ∷ []))
       all_later = (let beside = h.later (faults_in view xs) in omega (arith, o.later, beside, sum_is))
 
@@ -259,6 +295,7 @@ module _ {D : Type 0} (view : D → View) (rack_tells tells : Bool) (scripts : L
         shelves = are_first;
         later = all_later;
         rack_later = omega (arith, o.rack_later, h.rack_later);
+        failed_later = none_fell;
       }
 
 -- where nobody holds a ticket they are fit, and the first desk
@@ -270,7 +307,7 @@ fit_opened view rack_tells tells scripts rules first count xs now ts o few none 
     λ w t h. none_there 16 w t (subst (λ (vs : List (Option Ticket)). slice_get vs w ≡ Some (Some t)) none h) in
     record {
       served = o.served;
-      numbers = own_opened view rack_tells tells scripts rules first count xs now o;
+      numbers = o.numbers;
       few = omega (arith, o.size, few);
       count = ap length none;
       unspent = λ w t h. absurd (nobody w t h);

@@ -1,5 +1,5 @@
 -- What is left where the last of the shelves goes home.
-use Rattle.std.proofs.Common.{◌≡◌, ◌≢◌, ◌∙◌, ap, sym, subst, refl, ℕ, ◌≤◌, zero, suc, Bool, List, [], ◌∷◌, ◌++◌, length, map, slice_get, Option, Some, None, arith, append_assoc}
+use Rattle.std.proofs.Common.{◌≡◌, ◌≢◌, ◌∙◌, ap, sym, subst, refl, ℕ, ◌≤◌, zero, suc, Bool, true, false, List, [], ◌∷◌, ◌++◌, length, map, slice_get, Option, Some, None, arith, append_assoc}
 use Rattle.std.specs.Prelude.{IsTrue}
 use Rattle.std.proofs.lemmas.List.{map-append}
 use mathlib.Core.Logic.{dite}
@@ -15,12 +15,15 @@ use Rattle.instance_book.specs.declared.ticket.Ticket.{Ticket}
 use Rattle.shelf.specs.declared.shelf.Shelf.{Shelf}
 use Rattle.shelf.specs.Owning.{StandsOwn}
 use Rattle.shelf.specs.Views.{book_in, rules_of}
-use Rattle.play_desk.specs.Opening.{CountStays, GivesOne, HoldImages, HoldTheBooks, HoldsTheBook}
+use Rattle.play_steps.specs.Rules.{StaysUp}
+use Rattle.play_desk.specs.Desk.{Desk}
+use Rattle.play_desk.specs.Opening.{AreHome, CountStays, GivesOne, HoldImages, HoldTheBooks, HoldsTheBook, IsLeft, IsPutBack, KeepsShelvesBut, LeaveOthers, LeavesLost, StandsLost}
 use Rattle.play_desk.specs.Staff.{AreFit, AreOwn, HaveOwnNumbers, IsHome, desk_with, faults_in, numbers_in, shelf_at, total}
 use Rattle.play_desk.proofs.Places.{same_Some}
 use Rattle.play_desk.proofs.Fitting.{number_at}
 use Rattle.play_desk.proofs.Outage.{home_out, stays_out}
 use Rattle.play_desk.proofs.Removing.{out_of}
+use Rattle.play_desk.proofs.Reopening.{lost_fewer}
 
 -- what stands last, and the others
 pub at_last : {A : Type 0} (xs : List A) (x : A) → slice_get (xs ++ x ∷ []) (length xs) ≡ Some x
@@ -81,6 +84,13 @@ images_last {D = D} view xs all x old new p own given held others k s le e =
     other (own k (length xs) x.rules.number (number_at all k s e ∙ ap Some is) (number_at all (length xs) x here)) in
     λ image h. others k s (omega arith) e image (given.others s.rules.number apart image h))
 
+-- no count fell where one disk more went home
+pub fell_with : (first old new : RackView) (number : ℕ) → StaysUp first.failed old.failed → GivesOne number old new → StaysUp first.failed new.failed
+fell_with first old new number before given n =
+    dite (ℕ_discrete n number)
+    (λ is. subst (λ m. first.failed m ≤ new.failed m) (sym is) (let a = before number in let b = given.failed in omega (arith, a, b)))
+    (λ other. let a = before n in let b = given.others_failed n other in omega (arith, a, b))
+
 -- ---- books
 
 -- what was mapped to what stands in a place
@@ -110,3 +120,51 @@ books_stand view tells scripts xs ts holds told fit own images k s e =
     ((own.own k x.0 x.1).own told) (images k x.0 x.1) in
     subst (λ (z : runs.Shelf). HoldsTheBook z.rules scripts z.book.shelf (holds z.book.shelf) z.book) x.2
     (subst (λ n. HoldsTheBook (rules_of scripts x.0.rules) scripts n (holds n) b) (sym number) stands)
+
+-- ---- behind a shelf that is lost
+
+book_fewer : (rules : Rules) (scripts : List Named) (shelf : ℕ) (held holds : List ℕ → Type 0) (b : Book) → HoldsTheBook rules scripts shelf held b
+    → AreAmong holds held → HoldsTheBook rules scripts shelf holds b
+book_fewer rules scripts shelf held holds b h among = record {
+  own = (h.own.0, λ image is. h.own.1 image (among image is));
+  stands = (h.stands.0, (h.stands.1.0, (λ image is. h.stands.1.1.0 image (among image is), h.stands.1.1.1)));
+}
+
+-- the disks stand for the books where those of the other shelves went home behind it
+pub left_behind : {D : Type 0} (view : D → View) (tells : Bool) (scripts : List Named) (xs ys : List (Shelf D Counting)) (ts : List (Option Ticket)) (place : ℕ)
+    (mid after : RackView) → IsTrue tells → AreFit view tells scripts xs ts → AreOwn view tells scripts xs ts → KeepsShelvesBut place xs ys
+    → LeavesLost scripts xs place mid.holds → IsPutBack xs place mid.out → IsHome ys mid.out → HoldImages view ys after.holds → LeaveOthers ys mid after
+    → AreHome after.out → IsLeft after (desk_with scripts xs ts) place
+left_behind {D = D} view tells scripts xs ys ts place mid after told fit own kept lost back home images others all_home = record {
+  home = all_home;
+  others = λ k s e other.
+      let x = from_mapped (shelf_at scripts) xs k s e in
+      let there = kept k x.0 other x.1 in
+      let number = (fit.served k x.0 x.1).in_order.number in
+      let b = book_in scripts x.0 in
+      let stands = holds_book (rules_of scripts x.0.rules) scripts (view x.0.journal.disk) x.0.rules.number b (after.holds x.0.rules.number)
+      ((own.own k x.0 x.1).own told) (images there.0 x.0 there.1) in
+      subst (λ (z : runs.Shelf). HoldsTheBook z.rules scripts z.book.shelf (after.holds z.book.shelf) z.book) x.2
+      (subst (λ n. HoldsTheBook (rules_of scripts x.0.rules) scripts n (after.holds n) b) (sym number) stands);
+  lost = λ s e.
+      let x = from_mapped (shelf_at scripts) xs place s e in
+      let n = x.0.rules.number in
+      let number = (fit.served place x.0 x.1).in_order.number in
+      let b = book_in scripts x.0 in
+      let fewer : AreAmong (after.holds n) (mid.holds n) = others n (λ k is. absurd (let no : true ≡ false = sym (home.ours k n is) ∙ back x.0 x.1 in cc)) in
+      let stands = lost_fewer (rules_of scripts x.0.rules) scripts n (mid.holds n) (after.holds n) b (lost x.0 x.1) fewer in
+      subst (λ (z : runs.Shelf). StandsLost z.rules scripts z.book.shelf (after.holds z.book.shelf) z.book) x.2
+      (subst (λ m. StandsLost (rules_of scripts x.0.rules) scripts m (after.holds m) b) (sym number) stands);
+}
+
+-- and where what was left there went home
+pub left_home : {D : Type 0} (xs : List (Shelf D Counting)) (mid after : RackView) (d : Desk) (shelf : ℕ) → IsHome xs mid.out → LeaveOthers xs mid after
+    → AreHome after.out → IsLeft mid d shelf → IsLeft after d shelf
+left_home xs mid after d shelf home others back left = record {
+  home = back;
+  others = λ k s e other. book_fewer s.rules d.scripts s.book.shelf (mid.holds s.book.shelf) (after.holds s.book.shelf) s.book (left.others k s e other) (fewer s.book.shelf);
+  lost = λ s e. lost_fewer s.rules d.scripts s.book.shelf (mid.holds s.book.shelf) (after.holds s.book.shelf) s.book (left.lost s e) (fewer s.book.shelf);
+}
+  where
+    fewer : (n : ℕ) → AreAmong (after.holds n) (mid.holds n)
+    fewer n = others n (λ k is. absurd (let no : true ≡ false = sym (home.ours k n is) ∙ left.home n in cc))

@@ -20,7 +20,7 @@ use Rattle.shelf.specs.Views.{book_in, swept_of, IsInOrder}
 use Rattle.shelf.specs.declared.rules.Rules.{Rules}
 use Rattle.shelf.specs.Ranges.{AreInRange}
 use Rattle.journal_records.specs.Records.{IsInGrammar, begin_of}
-use Rattle.play_desk.specs.Staff.{IsUnspent, IsServed, HoldsAt, OfEachTicket, AreFit, KeepsOthers, numbers_in, place_of}
+use Rattle.play_desk.specs.Staff.{IsUnspent, IsServed, HoldsAt, OfEachTicket, AreFit, AreNumbered, HaveOwnNumbers, KeepsOthers, numbers_in, place_of}
 use Rattle.play_desk.proofs.Places.{at_set, get_other, get_set, same_set, same_Some}
 use Rattle.play_desk.proofs.Kept.{swept}
 use Rattle.play_desk.proofs.Open.{still_out}
@@ -37,6 +37,10 @@ pub numbers_set : {D : Type 0} (xs : List (Shelf D Counting)) (k : ℕ) (x y : S
 numbers_set xs k x y here same =
     map-set (λ s. s.rules.number) xs k y ∙ ap (λ (r : Rules). slice_set (numbers_in xs) k r.number) same
     ∙ same_set (numbers_in xs) k x.rules.number (number_at xs k x here)
+
+-- the place of a number is its own
+pub own_numbers : {D : Type 0} (xs : List (Shelf D Counting)) → AreNumbered xs → HaveOwnNumbers xs
+own_numbers xs are j k n a b = sym (are j n a) ∙ are k n b
 
 -- a shelf goes on to be served
 pub served_on : {D : Type 0} (view : D → View) (tells : Bool) (scripts : List Named) (x y : Shelf D Counting)
@@ -98,8 +102,7 @@ fit_with {D = D} view tells scripts xs ts us k x y fit here served_y rules count
         | inl p ↦ subst (λ (s : Shelf D Counting). IsServed view tells scripts s) p.1 served_y
         | inr p ↦ fit.served j z p.1
       ];
-      numbers = λ i j n a b.
-          fit.numbers i j n (subst (λ (ns : List ℕ). slice_get ns i ≡ Some n) same a) (subst (λ (ns : List ℕ). slice_get ns j ≡ Some n) same b);
+      numbers = λ k n e. fit.numbers k n (subst (λ (ns : List ℕ). slice_get ns k ≡ Some n) same e);
       few = omega (arith, len, fit.few);
       count = count;
       unspent = each_with (IsUnspent scripts) scripts xs ts us k x y fit.unspent here mine others;

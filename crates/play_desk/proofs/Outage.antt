@@ -1,5 +1,5 @@
 -- A crash of one of the shelves.
-use Rattle.std.proofs.Common.{◌≡◌, ◌≢◌, ◌∙◌, ap, sym, subst, ⊎_elim, ℕ, ◌<◌, ◌≤◌, Bool, true, List, length, replicate, slice_get, slice_set, Some, None, Option, option_map, map, arith}
+use Rattle.std.proofs.Common.{◌≡◌, ◌≢◌, ◌∙◌, ap, sym, subst, ⊎_elim, ℕ, ◌<◌, ◌≤◌, Bool, true, List, [], length, replicate, slice_get, slice_set, Some, None, Option, option_map, map, arith}
 use Rattle.std.proofs.lemmas.Bool.{cases_eq}
 use Rattle.std.proofs.lemmas.List.{length-map, map-set}
 use Rattle.play_desk.proofs.Stepping.{crashes, is_event, shelf_there}
@@ -33,21 +33,28 @@ use Rattle.play_desk.proofs.Removing.{out_of, skip, at_out, skip_apart, skip_not
 numbers_out : {D : Type 0} (xs : List (Shelf D Counting)) (k j : ℕ) → slice_get (numbers_in (out_of xs k)) j ≡ slice_get (numbers_in xs) (skip k j)
 numbers_out xs k j = ap (λ (ns : List ℕ). slice_get ns j) (map_out (λ s. s.rules.number) xs k) ∙ at_out (numbers_in xs) k j
 
--- the others stay fit where nobody holds a ticket
-pub fit_out : {D : Type 0} (view : D → View) (tells : Bool) (scripts : List Named) (xs : List (Shelf D Counting)) (ts us : List (Option Ticket))
-    (k : ℕ) → AreFit view tells scripts xs ts → k < length xs → us ≡ replicate 16 None → AreFit view tells scripts (out_of xs k) us
-fit_out view tells scripts xs ts us k fit low none =
-    let nobody : (w : ℕ) (t : Ticket) → slice_get us w ≡ Some (Some t) → ⊥ =
+-- a desk without shelves is fit where nobody holds a ticket
+pub fit_none : {D : Type 0} (view : D → View) (tells : Bool) (scripts : List Named) (xs : List (Shelf D Counting)) (ts : List (Option Ticket))
+    → xs ≡ [] → ts ≡ replicate 16 None → AreFit view tells scripts xs ts
+fit_none {D = D} view tells scripts xs ts empty none =
+    let nobody : (w : ℕ) (t : Ticket) → slice_get ts w ≡ Some (Some t) → ⊥ =
     λ w t h. none_there 16 w t (subst (λ (vs : List (Option Ticket)). slice_get vs w ≡ Some (Some t)) none h) in
     record {
-      served = λ j x e. fit.served (skip k j) x (sym (at_out xs k j) ∙ e);
-      numbers = λ i j n a b.
-          skip_apart k i j (fit.numbers (skip k i) (skip k j) n (sym (numbers_out xs k i) ∙ a) (sym (numbers_out xs k j) ∙ b));
-      few = (let one = length_out xs k low in omega (arith, one, fit.few));
+      served = λ k x e. absurd (nowhere k x e);
+      numbers = λ k n e. absurd (let no = subst (λ (ys : List (Shelf D Counting)). slice_get (numbers_in ys) k ≡ Some n) empty e in let never : ⊥ = cc in never);
+      few = (let size = ap length empty in omega (arith, size));
       count = ap length none;
       unspent = λ w t h. absurd (nobody w t h);
       apart = λ v w t u hv hw at same. absurd (nobody v t hv);
     }
+  where
+    nowhere : (k : ℕ) (x : Shelf D Counting) → slice_get xs k ≡ Some x → ⊥
+    nowhere k x e = let no = subst (λ (ys : List (Shelf D Counting)). slice_get ys k ≡ Some x) empty e in cc
+
+-- the others have numbers of their own still
+pub own_numbers_out : {D : Type 0} (xs : List (Shelf D Counting)) (k : ℕ) → HaveOwnNumbers xs → HaveOwnNumbers (out_of xs k)
+own_numbers_out xs k own i j n a b =
+    skip_apart k i j (own (skip k i) (skip k j) n (sym (numbers_out xs k i) ∙ a) (sym (numbers_out xs k j) ∙ b))
 
 -- the disk of the shelf went home, and those of the others are out
 pub home_out : {D : Type 0} (xs : List (Shelf D Counting)) (k : ℕ) (x : Shelf D Counting) (old new : RackView) → slice_get xs k ≡ Some x

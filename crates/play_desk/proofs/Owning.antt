@@ -25,7 +25,6 @@ use Rattle.play_desk.proofs.Places.{at_set, none_there, same_Some}
 use Rattle.play_desk.proofs.Open.{fits_now, leads_here, stays_open}
 use Rattle.play_desk.proofs.Happening.{Happens, moment_of, then_is}
 use Rattle.play_desk.proofs.Fitting.{each_with, left_held, of_held}
-use Rattle.play_desk.proofs.Removing.{at_out, out_of, skip}
 
 -- a ticket of an own shelf is for the visit of its target, where that is admitted now
 pub fits_there : {D : Type 0} (view : D → View) (tells : Bool) (scripts : List Named) (xs : List (Shelf D Counting)) (ts : List (Option Ticket))
@@ -128,9 +127,3 @@ own_alone view tells scripts xs ts own none = record {
   own = own;
   are_open = λ w t h. absurd (none_there 16 w t (subst (λ (vs : List (Option Ticket)). slice_get vs w ≡ Some (Some t)) none h));
 }
-
--- the others stay own without a shelf, where nobody holds a ticket
-pub own_out : {D : Type 0} (view : D → View) (tells : Bool) (scripts : List Named) (xs : List (Shelf D Counting)) (ts us : List (Option Ticket))
-    (k : ℕ) → AreOwn view tells scripts xs ts → us ≡ replicate 16 None → AreOwn view tells scripts (out_of xs k) us
-own_out view tells scripts xs ts us k own none =
-    own_alone view tells scripts (out_of xs k) us (λ j x e. own.own (skip k j) x (sym (at_out xs k j) ∙ e)) none

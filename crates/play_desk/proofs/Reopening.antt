@@ -1,22 +1,23 @@
 -- What a shelf is that is opened again on what a crash left.
-use Rattle.std.proofs.Common.{◌≡◌, ◌⊎◌, ⊎_elim, refl, subst, ℕ, List, [], Result, Ok, Err, IfOk, arith}
+use Rattle.std.proofs.Common.{◌≡◌, ◌⊎◌, ⊎_elim, refl, subst, ℕ, ◌≤◌, List, [], Result, Ok, Err, IfOk, arith}
 use Rattle.std.specs.Prelude.{IsErrOf}
 use Rattle.web_outside.specs.Causes.{Rose}
 use Rattle.web_outside.specs.declared.nonces.Counting.{Counting}
 use Rattle.web_disk.specs.View.{View, AreAmong}
 use Rattle.script_nodes.specs.Setup.{Named}
 use Rattle.replay_spec.specs.Book.{Book}
+use Rattle.replay_spec.specs.Rules.{Rules}
 use Rattle.journal_spec.specs.Making.{Making, damaged, other, book_in_bytes}
-use Rattle.journal_spec.specs.Standing.{IsBook, Stands, if_kept}
+use Rattle.journal_spec.specs.Standing.{IsBook, Stands, StaysThroughout, if_kept}
 use Rattle.journal_spec.specs.Laws.{ImagesMakeBooks}
 use Rattle.shelf.specs.Views.{book_in, rules_of}
 use Rattle.shelf.specs.Opening.{AReopenedShelfHasCrashed}
-use Rattle.shelf.specs.Owning.{StandsMeasured, IsOwnImage}
+use Rattle.shelf.specs.Owning.{HasOwnImages, StandsMeasured, StandsOwn, StaysOwnThroughout, IsOwnImage}
 use Rattle.page_journal.specs.Records.{Intact, records}
 use Rattle.shelf.specs.declared.shelf.Shelf.{Shelf}
 use Rattle.play_steps.specs.declared.stage.Reopen.{Reopen}
 use Rattle.play_steps.specs.declared.stage.Reopen.TheVariants as reopen
-use Rattle.play_desk.specs.Opening.{CountRose, CountStays, Finds, HasCrashed, cause_of}
+use Rattle.play_desk.specs.Opening.{CountRose, CountStays, Finds, HasCrashed, StandsLost, StaysLost, cause_of}
 use Rattle.play_desk.specs.declared.opening.OpenCause.TheVariants as cause
 
 pub reopened_ok : {D : Type 0} (view : D → View) → AReopenedShelfHasCrashed view → (scripts : List Named) (old : Shelf D Counting)
@@ -74,3 +75,41 @@ disk_cause reopen.Memory e = absurd (let no : ⊥ = cc in no)
 
 pub rose_after : (old mid new disk : ℕ) → CountStays old 0 mid disk → CountRose mid disk new 0 → Rose old new
 rose_after old mid new disk stays rose = (let a = stays 0 in let b = rose 0 in omega (arith, a, b))
+
+-- ---- a shelf that is lost
+
+-- a disk that holds what the disk of an own shelf may hold is one of an own shelf
+pub own_among : (rules : Rules) (scripts : List Named) (shelf : ℕ) (v w : View) (b : Book) → StandsOwn rules scripts shelf v b → AreAmong w.images v.images
+    → StandsOwn rules scripts shelf w b
+own_among rules scripts shelf v w b s among = record {
+  images = (s.images.0, λ image h. s.images.1 image (among image h));
+  stands = (s.stands.0, (s.stands.1.0, (λ image h. s.stands.1.1.0 image (among image h), s.stands.1.1.1)));
+}
+
+-- what the disk of an own shelf may hold stands for its book
+pub lost_among : (rules : Rules) (scripts : List Named) (shelf : ℕ) (v : View) (holds : List ℕ → Type 0) (b : Book) → StandsOwn rules scripts shelf v b
+    → AreAmong holds v.images → StandsLost rules scripts shelf holds b
+lost_among rules scripts shelf v holds b s among = record {
+  own = λ image h. (s.images.0, s.images.1 image (among image h));
+  stands = (s.stands.0, (s.stands.1.0, (λ image h. s.stands.1.1.0 image (among image h), s.stands.1.1.1)));
+}
+
+-- so does what may be left of it
+pub lost_fewer : (rules : Rules) (scripts : List Named) (shelf : ℕ) (held holds : List ℕ → Type 0) (b : Book) → StandsLost rules scripts shelf held b
+    → AreAmong holds held → StandsLost rules scripts shelf holds b
+lost_fewer rules scripts shelf held holds b s among = record {
+  own = λ image h. s.own image (among image h);
+  stands = (s.stands.0, (s.stands.1.0, (λ image h. s.stands.1.1.0 image (among image h), s.stands.1.1.1)));
+}
+
+-- a crash at any moment of an opening leaves the disk of an own shelf standing for its book, so it does at its end
+pub stays_lost : (scripts : List Named) (shelf : ℕ) (old new : View) (holds : List ℕ → Type 0)
+    → ((t : ℕ) (image : List ℕ) → t ≤ new.moment → new.images image → new.since t image) → StaysThroughout scripts shelf old new
+    → (HasOwnImages scripts shelf old → StaysOwnThroughout scripts shelf old new) → AreAmong holds new.images → StaysLost scripts shelf old holds
+stays_lost scripts shelf old new holds now throughout owns among rules b s =
+    let own = owns s.images in
+    let stands = throughout b (if_kept s.stands.0 b) s.stands.1.0 s.stands.1.1.0 in
+    record {
+      own = λ image h. own.each image (now old.moment image own.later (among image h));
+      stands = (s.stands.0, (s.stands.1.0, (λ image h. stands.each image (now old.moment image stands.later (among image h)), s.stands.1.1.1)));
+    }

@@ -19,7 +19,7 @@ use Rattle.journal_spec.specs.Standing.{Between, HoldIn, IsOneOf, if_kept}
 use Rattle.journal_spec.specs.Laws.{MeasuresDoubt}
 use Rattle.shelf.specs.Views.{book_in, rules_of, IsOwnShelf}
 use Rattle.shelf.specs.Opening.{IsCrashed, KeepsRecords}
-use Rattle.shelf.specs.Owning.{OwnRecords, HoldOwn}
+use Rattle.shelf.specs.Owning.{OwnRecords, HoldOwn, HoldsOwnRecords, StandsOwn}
 use Rattle.shelf.specs.declared.begin.BeginFault.{BeginFault}
 use Rattle.shelf.specs.declared.begin.BeginFault.TheVariants as begin
 use Rattle.shelf.specs.declared.rules.Rules.{Rules}
@@ -45,9 +45,10 @@ rules_at scripts rules number = rules_of scripts (numbered rules number)
 abbrev pub CanBegin : List Named → (shelves : ℕ) → Type 0
 CanBegin scripts shelves = (k : ℕ) → k < shelves → IsInGrammar (begin_of k scripts)
 
--- a call of the rack failed, or of a disk that went back to it
-abbrev pub RackFailed : (old new : RackView) → Type 0
-RackFailed old new = Rose old.faults new.faults
+-- a take of the disk of this number failed, or a call of that disk, which went back to the rack
+pub record FailedFor (number : ℕ) (old new : RackView) : Type 0 where
+  pub all : Rose old.faults new.faults
+  pub here : Rose (old.failed number) (new.failed number)
 
 -- the answer is not that a record on the disk is at fault
 abbrev pub IsNeverDamaged : {T : Type 0} → Result T Reopen → Type 0
@@ -61,26 +62,32 @@ IsNeverOther result = (place : ℕ) → IsErrOf result (reopen.Other place) → 
 abbrev pub AreHome : (out : ℕ → Bool) → Type 0
 AreHome out = (n : ℕ) → out n ≡ false
 
--- the disk of this number was taken, and no other was taken or given back
+-- the disk of this number was taken, and no other was taken or given back; calls are counted for this one alone
 pub record TakesOne (number : ℕ) (old new : RackView) : Type 0 where
   pub out : new.out number ≡ true
   pub others_out : (n : ℕ) → n ≢ number → new.out n ≡ old.out n
   pub others : (n : ℕ) → n ≢ number → AreAmong (new.holds n) (old.holds n)
+  pub failed : old.failed number ≤ new.failed number
+  pub others_failed : (n : ℕ) → n ≢ number → new.failed n ≡ old.failed n
 
--- the disk of this number was given back, and no other was taken or given back
+-- the disk of this number was given back, and no other was taken or given back; calls are counted for this one alone
 pub record GivesOne (number : ℕ) (old new : RackView) : Type 0 where
   pub home : new.out number ≡ false
   pub others_out : (n : ℕ) → n ≢ number → new.out n ≡ old.out n
   pub others : (n : ℕ) → n ≢ number → AreAmong (new.holds n) (old.holds n)
+  pub failed : old.failed number ≤ new.failed number
+  pub others_failed : (n : ℕ) → n ≢ number → new.failed n ≡ old.failed n
 
--- no disk was taken or given back
-pub record LeavesAll (old new : RackView) : Type 0 where
+-- no disk was taken or given back; calls are counted for this number alone
+pub record LeavesAll (number : ℕ) (old new : RackView) : Type 0 where
   pub out : (n : ℕ) → new.out n ≡ old.out n
   pub holds : (n : ℕ) → AreAmong (new.holds n) (old.holds n)
+  pub failed : old.failed number ≤ new.failed number
+  pub others_failed : (n : ℕ) → n ≢ number → new.failed n ≡ old.failed n
 
 abbrev pub TakesOrLeaves : {T E : Type 0} → (number : ℕ) → Result T E → (old new : RackView) → Type 0
 TakesOrLeaves number (Ok disk) old new = TakesOne number old new
-TakesOrLeaves number (Err why) old new = LeavesAll old new
+TakesOrLeaves number (Err why) old new = LeavesAll number old new
 
 -- the disk of a shelf is out where the shelf is opened, and else at home
 abbrev pub OpensOne : {T E : Type 0} → (number : ℕ) → Result T E → (old new : RackView) → Type 0
@@ -185,10 +192,11 @@ abbrev pub KeepsClosed : {T : Type 0} → List Named → (number : ℕ) → (hel
 KeepsClosed scripts number held holds result =
     IfErr result (λ why. why ≢ cause.Disk → AllKept scripts number held [] holds)
 
--- No step was performed, as a shelf was not opened for this: nothing was lost on any disk, but on the one of which a call failed.
-abbrev pub AllStayKept : List Named → (before after : ℕ → List ℕ → Type 0) → (shelf : ℕ) → OpenCause → Type 0
-AllStayKept scripts before after shelf why =
-    (n : ℕ) → (why ≡ cause.Disk → n ≢ shelf) → AllKept scripts n (before n) [] (after n)
+-- No step was performed, as a shelf was not opened for this: nothing was lost on any disk, but on the one of which a call failed, and
+-- nothing was written on those behind it.
+pub record AllStayKept (scripts : List Named) (before after : ℕ → List ℕ → Type 0) (shelf : ℕ) (why : OpenCause) : Type 0 where
+  pub kept : (n : ℕ) → (why ≡ cause.Disk → n ≢ shelf) → AllKept scripts n (before n) [] (after n)
+  pub behind : (n : ℕ) → shelf < n → AreAmong (after n) (before n)
 
 -- the cause for which a shelf was not opened
 abbrev pub cause_of : Reopen → OpenCause
@@ -225,6 +233,12 @@ HasCrashed scripts old new =
     → IsCrashed (rules_of scripts old.rules) (book_in scripts old) nonce scripts lost (book_in scripts new)
     ⊎ IsCrashed (rules_of scripts old.rules) (book_in scripts old) nonce scripts kept (book_in scripts new)
 
+-- the count of a shelf's number rose over what its disk had failed
+abbrev pub FailsAt : {D : Type 0} → (D → View) → List (Shelf D Counting) → (place : ℕ) → (old new : RackView) → Type 0
+FailsAt {D = D} view shelves place old new =
+    (s : Shelf D Counting) → slice_get shelves place ≡ Some s
+    → Rose (old.failed s.rules.number + (view s.journal.disk).faults) (new.failed s.rules.number)
+
 -- a crash of a shelf is the desk's, and the disk does not fail by it
 abbrev pub CrashesShelf : {D : Type 0} → Setup → (old : Staff D) → (place live : ℕ) → (new : Staff D) → Type 0
 CrashesShelf setup old place live new = Crashes desk_rules ⊥ (desk_of setup old) place live (desk_of setup new)
@@ -260,8 +274,46 @@ pub record HoldsTheBook (rules : runs.Rules) (scripts : List Named) (shelf : ℕ
   pub own : (o : OwnRecords scripts shelf) × ((image : List ℕ) → holds image → HoldOwn o image)
   pub stands : (n : ℕ) × ((k : Between scripts shelf b (if_kept n b)) × (HoldIn k holds × MeasuresDoubt rules n b))
 
+-- What the disk of this shelf may hold, which crashed and was not opened again, whatever failed then: it has own records, and makes the
+-- book, with what is in doubt or without it.
+pub record StandsLost (rules : runs.Rules) (scripts : List Named) (shelf : ℕ) (holds : List ℕ → Type 0) (b : Book) : Type 0 where
+  pub own : (image : List ℕ) → holds image → HoldsOwnRecords scripts shelf image
+  pub stands : (n : ℕ) × ((k : Between scripts shelf b (if_kept n b)) × (HoldIn k holds × MeasuresDoubt rules n b))
+
+-- what a disk may hold now stands for each book that the disk of an own shelf stood for
+abbrev pub StaysLost : List Named → (shelf : ℕ) → View → (holds : List ℕ → Type 0) → Type 0
+StaysLost scripts shelf v holds = (rules : runs.Rules) (b : Book) → StandsOwn rules scripts shelf v b → StandsLost rules scripts shelf holds b
+
+-- what a crash may leave of the disk of a shelf that was opened, or what the rack holds of it where it was not
+abbrev pub left_on : {D E : Type 0} → (D → View) → (number : ℕ) → (holds : ℕ → List ℕ → Type 0) → Result (Shelf D Counting) E → List ℕ → Type 0
+left_on view number holds (Ok s) = (view s.journal.disk).images
+left_on view number holds (Err why) = holds number
+
 -- the disks that are given back stand for the books of a desk
 abbrev pub HoldTheBooks : (desk : Desk) → (holds : ℕ → List ℕ → Type 0) → Type 0
 HoldTheBooks d holds =
     (k : ℕ) (s : runs_spec.Shelf) → slice_get d.shelves k ≡ Some s
     → HoldsTheBook s.rules d.scripts s.book.shelf (holds s.book.shelf) s.book
+
+-- What a rack holds where this shelf of a desk crashed and was not opened again: each disk is home, and stands for the book of its shelf.
+pub record IsLeft (rack : RackView) (d : Desk) (shelf : ℕ) : Type 0 where
+  pub home : AreHome rack.out
+  pub others : (k : ℕ) (s : runs_spec.Shelf) → slice_get d.shelves k ≡ Some s → k ≢ shelf
+      → HoldsTheBook s.rules d.scripts s.book.shelf (rack.holds s.book.shelf) s.book
+  pub lost : (s : runs_spec.Shelf) → slice_get d.shelves shelf ≡ Some s
+      → StandsLost s.rules d.scripts s.book.shelf (rack.holds s.book.shelf) s.book
+
+-- each shelf but the one at this place stands among these
+abbrev pub KeepsShelvesBut : {D : Type 0} → (place : ℕ) → (old new : List (Shelf D Counting)) → Type 0
+KeepsShelvesBut {D = D} place old new =
+    (k : ℕ) (s : Shelf D Counting) → k ≢ place → slice_get old k ≡ Some s → (j : ℕ) × (slice_get new j ≡ Some s)
+
+-- the disk of the shelf that was at this place is home
+abbrev pub IsPutBack : {D : Type 0} → List (Shelf D Counting) → (place : ℕ) → (out : ℕ → Bool) → Type 0
+IsPutBack {D = D} shelves place out = (s : Shelf D Counting) → slice_get shelves place ≡ Some s → out s.rules.number ≡ false
+
+-- what a rack holds of the disk of the shelf that was at this place stands for its book
+abbrev pub LeavesLost : {D : Type 0} → List Named → List (Shelf D Counting) → (place : ℕ) → (holds : ℕ → List ℕ → Type 0) → Type 0
+LeavesLost {D = D} scripts shelves place holds =
+    (s : Shelf D Counting) → slice_get shelves place ≡ Some s
+    → StandsLost (rules_of scripts s.rules) scripts s.rules.number (holds s.rules.number) (book_in scripts s)

@@ -104,12 +104,16 @@ abbrev pub HaveOwnNumbers : {D : Type 0} → List (Shelf D Counting) → Type 0
 HaveOwnNumbers shelves =
     (j k n : ℕ) → slice_get (numbers_in shelves) j ≡ Some n → slice_get (numbers_in shelves) k ≡ Some n → j ≡ k
 
--- Each shelf is served, under a number of its own. What workers hold are tickets that their shelves can publish, on each of
+-- the number of each of these shelves is its place
+abbrev pub AreNumbered : {D : Type 0} → List (Shelf D Counting) → Type 0
+AreNumbered shelves = (k n : ℕ) → slice_get (numbers_in shelves) k ≡ Some n → n ≡ k
+
+-- Each shelf is served, under the number that is its place. What workers hold are tickets that their shelves can publish, on each of
 -- different numbers.
 pub record AreFit {D : Type 0} (view : D → View) (tells : Bool) (scripts : List Named) (shelves : List (Shelf D Counting))
     (tickets : List (Option Ticket)) : Type 0 where
   pub served : (k : ℕ) (x : Shelf D Counting) → slice_get shelves k ≡ Some x → IsServed view tells scripts x
-  pub numbers : HaveOwnNumbers shelves
+  pub numbers : AreNumbered shelves
   pub few : length shelves ≤ most_shelves
   pub count : length tickets ≡ 16
   pub unspent : OfEachTicket (IsUnspent scripts) scripts shelves tickets

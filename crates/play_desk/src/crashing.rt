@@ -1,19 +1,81 @@
-ghost use Rattle.std.specs.Prelude.{◌≡◌, ◌≤◌, ◌<◌, IsTrue, IfOk, OnOk, IsErrOf, length};
+ghost use Rattle.std.specs.Prelude.{◌≡◌, ◌≤◌, ◌<◌, ◌+◌, [], IsTrue, IfOk, OnErr, OnOk, IsErrOf, length};
 ghost use Rattle.web_outside.specs.Causes.{Rose};
 ghost use Rattle.script_nodes.specs.Views.{scripts_of};
-ghost use Rattle.play_desk.specs.Opening.{CrashesShelf, IsNeverDamaged, IsNeverOther};
-ghost use Rattle.play_desk.specs.Staff.{IsFit, IsHome, IsOwn, KeepsOwn, faults_in, total};
+ghost use Rattle.play_steps.specs.Rules.{StaysUp};
+ghost use Rattle.play_desk.specs.Opening.{CrashesShelf, FailsAt, IsLeft, IsNeverDamaged, IsNeverOther, IsPutBack, KeepsShelvesBut, LeavesLost};
+ghost use Rattle.play_desk.specs.Staff.{HaveOwnNumbers, IsFit, IsHome, IsOwn, KeepsOwn, desk_of, faults_in, total};
 
+use crate::desk_disks::put_all_back;
 use crate::opening::{put_back, reopened};
 use crate::staff::{Staff, lose_tickets, no_tickets};
 use play_steps::Reopen;
 use script_nodes::Setup;
 use std::alloc::Global;
+use std::mem;
 use web_disk::{Disk, Rack};
 
+// Lets the disk of the shelf at this place crash, and opens the shelf again on what is left there; its
+// tickets are lost. A shelf that is not opened again stands there no longer, and its disk is in the rack.
+fn reopen_at<D: Disk, R: Rack<D>>(
+    alloc: Global,
+    setup: &Setup,
+    directory: &str,
+    staff: &mut Staff<D>,
+    rack: &mut R,
+    place: u32,
+) -> Result<u32, Reopen>
+    requires place { place < length staff.old.shelves.items }
+    requires fit { IsFit D.view D.tells (scripts_of setup.now) staff.old }
+    requires home { IsHome staff.old.shelves.items (R.view rack.old).out }
+    ensures step { IsTrue R.tells → IsTrue D.tells →
+        IsOwn D.view D.tells (scripts_of setup.now) staff.old →
+        IfOk result (λ live. CrashesShelf setup.now staff.old place live staff.new) }
+    ensures count { OnOk result (length staff.new.shelves.items ≡ length staff.old.shelves.items) }
+    ensures fit { OnOk result (IsFit D.view D.tells (scripts_of setup.now) staff.new) }
+    ensures own { IsTrue R.tells → IsTrue D.tells →
+        OnOk result (KeepsOwn D.view D.tells setup.now staff.old staff.new) }
+    ensures numbers { OnErr result (HaveOwnNumbers staff.new.shelves.items) }
+    ensures gone { OnErr result
+        (IsPutBack staff.old.shelves.items place (R.view rack.new).out) }
+    ensures others { OnErr result
+        (KeepsShelvesBut place staff.old.shelves.items staff.new.shelves.items) }
+    ensures left { IsTrue R.tells → IsTrue D.tells →
+        IsOwn D.view D.tells (scripts_of setup.now) staff.old → OnErr result (LeavesLost
+        (scripts_of setup.now) staff.old.shelves.items place (R.view rack.new).holds) }
+    ensures home { IsHome staff.new.shelves.items (R.view rack.new).out }
+    ensures damaged { IsTrue R.tells → IsTrue D.tells → IsNeverDamaged result }
+    ensures other { IsTrue R.tells → IsTrue D.tells → IsNeverOther result }
+    ensures disk { IsErrOf result Reopen.Disk →
+        Rose (total (R.view rack.old).faults (faults_in D.view staff.old.shelves.items))
+        (total (R.view rack.new).faults (faults_in D.view staff.new.shelves.items)) }
+    ensures here { IsErrOf result Reopen.Disk →
+        FailsAt D.view staff.old.shelves.items place (R.view rack.old) (R.view rack.new) }
+    ensures later { total (R.view rack.old).faults (faults_in D.view staff.old.shelves.items)
+        ≤ total (R.view rack.new).faults (faults_in D.view staff.new.shelves.items) }
+    ensures failed_later { StaysUp (R.view rack.old).failed (R.view rack.new).failed }
+{
+    let count = staff.shelves.len();
+    let shelf = staff.shelves.remove(place as usize);
+    let shelf = match reopened(alloc, setup, directory, rack, shelf) {
+        Ok(shelf) => shelf,
+        Err(why) => return Err(why),
+    };
+    let live = shelf.live();
+    match staff.shelves.insert(place as usize, shelf) {
+        Ok(()) => {
+            lose_tickets(&mut staff.tickets, count, place as usize);
+            Ok(live)
+        }
+        Err(refused) => {
+            put_back(rack, refused.value);
+            Err(Reopen::Memory)
+        }
+    }
+}
+
 /// Lets the disk of the shelf at this place crash, and opens the shelf again on what is left there; its
-/// tickets are lost. A shelf that is not opened again stands there no longer, and nobody holds a ticket
-/// then.
+/// tickets are lost. Where it is not opened again, all shelves are closed, their disks go back to the
+/// rack, and nobody holds a ticket.
 pub fn crash<D: Disk, R: Rack<D>>(
     alloc: Global,
     setup: &Setup,
@@ -29,37 +91,33 @@ pub fn crash<D: Disk, R: Rack<D>>(
         IsOwn D.view D.tells (scripts_of setup.now) staff.old →
         IfOk result (λ live. CrashesShelf setup.now staff.old place live staff.new) }
     ensures count { OnOk result (length staff.new.shelves.items ≡ length staff.old.shelves.items) }
+    ensures closed { OnErr result (staff.new.shelves.items ≡ []) }
     ensures fit { IsFit D.view D.tells (scripts_of setup.now) staff.new }
     ensures own { IsTrue R.tells → IsTrue D.tells →
         KeepsOwn D.view D.tells setup.now staff.old staff.new }
+    ensures left { IsTrue R.tells → IsTrue D.tells →
+        IsOwn D.view D.tells (scripts_of setup.now) staff.old →
+        OnErr result (IsLeft (R.view rack.new) (desk_of setup.now staff.old) place) }
     ensures home { IsHome staff.new.shelves.items (R.view rack.new).out }
     ensures damaged { IsTrue R.tells → IsTrue D.tells → IsNeverDamaged result }
     ensures other { IsTrue R.tells → IsTrue D.tells → IsNeverOther result }
     ensures disk { IsErrOf result Reopen.Disk →
         Rose (total (R.view rack.old).faults (faults_in D.view staff.old.shelves.items))
         (total (R.view rack.new).faults (faults_in D.view staff.new.shelves.items)) }
+    ensures here { IsErrOf result Reopen.Disk →
+        FailsAt D.view staff.old.shelves.items place (R.view rack.old) (R.view rack.new) }
+    ensures failed { IsErrOf result Reopen.Disk →
+        Rose ((R.view rack.old).failed place) ((R.view rack.new).failed place) }
     ensures later { total (R.view rack.old).faults (faults_in D.view staff.old.shelves.items)
         ≤ total (R.view rack.new).faults (faults_in D.view staff.new.shelves.items) }
+    ensures failed_later { StaysUp (R.view rack.old).failed (R.view rack.new).failed }
 {
-    let count = staff.shelves.len();
-    let shelf = staff.shelves.remove(place as usize);
-    let shelf = match reopened(alloc, setup, directory, rack, shelf) {
-        Ok(shelf) => shelf,
+    match reopen_at(alloc, setup, directory, staff, rack, place) {
+        Ok(live) => Ok(live),
         Err(why) => {
             staff.tickets = no_tickets();
-            return Err(why);
-        }
-    };
-    let live = shelf.live();
-    match staff.shelves.insert(place as usize, shelf) {
-        Ok(()) => {
-            lose_tickets(&mut staff.tickets, count, place as usize);
-            Ok(live)
-        }
-        Err(refused) => {
-            put_back(rack, refused.value);
-            staff.tickets = no_tickets();
-            Err(Reopen::Memory)
+            put_all_back(rack, mem::replace(&mut staff.shelves, Vec::new(alloc)));
+            Err(why)
         }
     }
 }

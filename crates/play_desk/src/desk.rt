@@ -22,6 +22,7 @@ pub struct Desk<'s, D: Disk, R> {
 impl<'s, D: Disk, R: Rack<D>> Stage for Desk<'s, D, R> {
     ghost use Rattle.script_nodes.specs.Views.{scripts_of};
     ghost use Rattle.play_desk.specs.Desk.{desk_rules};
+    ghost use Rattle.play_desk.specs.Opening.{IsLeft};
     ghost use Rattle.play_desk.specs.Staff.{IsFit, IsHome, IsOwn, desk_of, faults_in, total};
 
     type Devices = R;
@@ -40,6 +41,10 @@ impl<'s, D: Disk, R: Rack<D>> Stage for Desk<'s, D, R> {
 
     ghost faults = { λ d rack.
         total (R.view rack).faults (faults_in D.view d.staff.shelves.items) };
+
+    ghost failed = { λ rack. (R.view rack).failed };
+
+    ghost left = { λ rack. IsLeft (R.view rack) };
 
     fn shelves(&self) -> u32 {
         self.staff.shelves.len() as u32

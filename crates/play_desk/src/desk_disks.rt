@@ -1,10 +1,11 @@
-ghost use Rattle.std.specs.Prelude.{◌≡◌, ◌≤◌, ◌<◌, ℕ, [], false, length, IsTrue, IfOk, IfErr, IsErrAnd, IsErrOf, OnErr, OnOk};
+ghost use Rattle.std.specs.Prelude.{◌≡◌, ◌≤◌, ◌<◌, ℕ, [], false, length, IsTrue, IfOk, IfErr, IsErrOf, OnErr, OnOk};
 ghost use Rattle.script_nodes.specs.Views.{scripts_of};
 ghost use Rattle.journal_records.specs.Records.{IsInGrammar, begin_of};
 ghost use Rattle.shelf.specs.Ranges.{AreInRange};
+ghost use Rattle.play_steps.specs.Rules.{StaysUp};
 ghost use Rattle.play_desk.specs.Desk.{first_desk};
 ghost use Rattle.play_desk.specs.Staff.{HaveOwnNumbers, IsFit, IsHome, IsOwn, desk_of, faults_in, total};
-ghost use Rattle.play_desk.specs.Opening.{AllStayKept, AreHome, CanBegin, CountStays, GivesOne, HoldImages, HoldTheBooks, IsClosedBy, IsRefusedBy, KeepsClosed, LeaveOthers, OpensNext, RackFailed, numbered, rules_at};
+ghost use Rattle.play_desk.specs.Opening.{AllStayKept, AreHome, CanBegin, CountStays, FailedFor, GivesOne, HoldImages, HoldTheBooks, IsClosedBy, IsRefusedBy, KeepsClosed, LeaveOthers, OpensNext, numbered, rules_at};
 
 use crate::desk::Desk;
 use crate::opening::{OpenCause, OpenFault, opened, put_back};
@@ -30,8 +31,8 @@ fn numbered(rules: Rules, number: u32) -> Rules
     }
 }
 
-// Closes shelves, and gives their disks back.
-fn put_all_back<D: Disk, R: Rack<D>>(rack: &mut R, shelves: Vec<Shelf<D, Counting>>)
+/// Closes shelves, and gives their disks back.
+pub(crate) fn put_all_back<D: Disk, R: Rack<D>>(rack: &mut R, shelves: Vec<Shelf<D, Counting>>)
     requires numbers { HaveOwnNumbers shelves.items }
     requires home { IsHome shelves.items (R.view rack.old).out }
     ensures home { AreHome (R.view rack.new).out }
@@ -39,6 +40,7 @@ fn put_all_back<D: Disk, R: Rack<D>>(rack: &mut R, shelves: Vec<Shelf<D, Countin
     ensures others { LeaveOthers shelves.items (R.view rack.old) (R.view rack.new) }
     ensures later { total (R.view rack.old).faults (faults_in D.view shelves.items)
         ≤ (R.view rack.new).faults }
+    ensures failed_later { StaysUp (R.view rack.old).failed (R.view rack.new).failed }
 {
     let mut shelves = shelves;
     while let Some(shelf) = shelves.pop() {
@@ -69,7 +71,8 @@ fn open_next<D: Disk, R: Rack<D>>(
         IfErr result (IsRefusedBy ((R.view rack.old).holds rules.number)) }
     ensures keeps { IsTrue R.tells → IsTrue D.tells → KeepsClosed (scripts_of setup.now) rules.number
         ((R.view rack.old).holds rules.number) ((R.view rack.new).holds rules.number) result }
-    ensures disk { IsErrOf result OpenCause.Disk → RackFailed (R.view rack.old) (R.view rack.new) }
+    ensures disk { IsErrOf result OpenCause.Disk →
+        FailedFor rules.number (R.view rack.old) (R.view rack.new) }
     ensures later { OnErr result
         (CountStays (R.view rack.old).faults 0 (R.view rack.new).faults 0) }
 {
@@ -87,7 +90,8 @@ fn open_next<D: Disk, R: Rack<D>>(
 /// workers that hold nothing. The limits are those of each shelf, but for its number.
 ///
 /// A disk that is not empty, or that fails, is told with the number of its shelf, and then all disks go
-/// back to the rack. Nothing was lost on any then, but on one of which a call failed.
+/// back to the rack. Nothing was lost on any then, but on one of which a call failed, and nothing was
+/// written on those behind it.
 pub fn open_desk<'s, D: Disk, R: Rack<D>>(
     alloc: Global,
     rack: &mut R,
@@ -115,9 +119,10 @@ pub fn open_desk<'s, D: Disk, R: Rack<D>>(
         IfErr result (λ e. AllStayKept (scripts_of setup.now)
         (R.view rack.old).holds (R.view rack.new).holds e.shelf e.why) }
     ensures all_home { IfErr result (λ e. AreHome (R.view rack.new).out) }
-    ensures disk { IsErrAnd result (λ e. e.why ≡ OpenCause.Disk) →
-        RackFailed (R.view rack.old) (R.view rack.new) }
+    ensures disk { IfErr result (λ e. e.why ≡ OpenCause.Disk →
+        FailedFor e.shelf (R.view rack.old) (R.view rack.new)) }
     ensures later { (R.view rack.old).faults ≤ (R.view rack.new).faults }
+    ensures failed_later { StaysUp (R.view rack.old).failed (R.view rack.new).failed }
     ensures later_open { IfOk result (λ d. (R.view rack.old).faults
         ≤ total (R.view rack.new).faults (faults_in D.view d.staff.shelves.items)) }
 {
@@ -155,6 +160,8 @@ impl<'s, D: Disk, R: Rack<D>> Desk<'s, D, R> {
             HoldTheBooks (desk_of self.entry.setup.now self.entry.staff) (R.view rack.new).holds }
         ensures later { total (R.view rack.old).faults (faults_in D.view self.entry.staff.shelves.items)
             ≤ (R.view rack.new).faults }
+        ensures failed_later { StaysUp (R.view rack.old).failed (R.view rack.new).failed }
+        ensures others { LeaveOthers self.entry.staff.shelves.items (R.view rack.old) (R.view rack.new) }
     {
         let Desk {
             alloc: _,

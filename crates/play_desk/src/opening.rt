@@ -1,12 +1,13 @@
-ghost use Rattle.std.specs.Prelude.{◌≡◌, ◌≤◌, [], length, true, false, IsTrue, IfOk, IfErr, OnOk, OnErr, IsErrOf};
+ghost use Rattle.std.specs.Prelude.{◌≡◌, ◌≤◌, ◌+◌, [], length, true, false, IsTrue, IfOk, IfErr, OnOk, OnErr, IsErrOf};
 ghost use Rattle.script_nodes.specs.Views.{scripts_of};
 ghost use Rattle.journal_records.specs.Records.{IsInGrammar, begin_of};
 ghost use Rattle.web_disk.specs.View.{AreAmong};
+ghost use Rattle.web_outside.specs.Causes.{Rose};
 ghost use Rattle.shelf.specs.Ranges.{AreInRange};
-ghost use Rattle.play_desk.specs.Opening.{BeginsEmpty, CountRose, CountStays, Finds, GivesOne, GivesUnread, HasCrashed, IsNeverDamaged, IsNeverOther, IsOutside, KeepsBegun, KeepsOpened, OpensEmpty, OpensOne, RackFailed, TakesEmpty, TakesOrLeaves, cause_of, disk_faults, faults_left, reopen_of};
+ghost use Rattle.play_desk.specs.Opening.{BeginsEmpty, CountRose, CountStays, FailedFor, Finds, GivesOne, GivesUnread, HasCrashed, IsNeverDamaged, IsNeverOther, IsOutside, KeepsBegun, KeepsOpened, OpensEmpty, OpensOne, StandsLost, StaysLost, TakesEmpty, TakesOrLeaves, cause_of, disk_faults, faults_left, left_on, reopen_of};
 ghost use Rattle.play_desk.specs.Staff.{IsServed};
 ghost use Rattle.shelf.specs.Owning.{IsOwnImage};
-ghost use Rattle.shelf.specs.Views.{IsOwnShelf};
+ghost use Rattle.shelf.specs.Views.{IsOwnShelf, book_in, rules_of};
 
 use journal_spec::images_make_books;
 use play_steps::Reopen;
@@ -63,7 +64,8 @@ fn taken<D: Disk, R: Rack<D>>(
         IfOk result (λ disk. AreAmong (D.view disk).images ((R.view rack.old).holds number)) }
     ensures fresh { IfOk result (λ disk. (D.view disk).faults ≡ 0) }
     ensures rack { TakesOrLeaves number result (R.view rack.old) (R.view rack.new) }
-    ensures disk { IsErrOf result Reopen.Disk → RackFailed (R.view rack.old) (R.view rack.new) }
+    ensures disk { IsErrOf result Reopen.Disk →
+        FailedFor number (R.view rack.old) (R.view rack.new) }
     ensures later { (R.view rack.old).faults ≤ (R.view rack.new).faults }
     ensures whole { IfErr result IsOutside }
 {
@@ -111,11 +113,17 @@ fn begun<D: Disk, R: Rack<D>>(
     ensures keeps { IsTrue R.tells → IsTrue D.tells → (R.view rack.old).out rules.number ≡ true →
         KeepsBegun D.view (scripts_of setup.now) rules.number
         (D.view disk) (R.view rack.new).holds result }
+    ensures left { IsTrue R.tells → IsTrue D.tells → (R.view rack.old).out rules.number ≡ true →
+        StaysLost (scripts_of setup.now) rules.number (D.view disk)
+        (left_on D.view rules.number (R.view rack.new).holds result) }
     ensures kept { OnOk result (rack.new ≡ rack.old) }
     ensures given { OnErr result (GivesOne rules.number (R.view rack.old) (R.view rack.new)) }
     ensures disk { IsErrOf result Reopen.Disk →
         CountRose (R.view rack.old).faults (D.view disk).faults
         (R.view rack.new).faults (faults_left D.view result) }
+    ensures here { IsErrOf result Reopen.Disk →
+        Rose ((R.view rack.old).failed rules.number + (D.view disk).faults)
+        ((R.view rack.new).failed rules.number) }
     ensures later { CountStays (R.view rack.old).faults (D.view disk).faults
         (R.view rack.new).faults (faults_left D.view result) }
 {
@@ -134,6 +142,8 @@ pub fn put_back<D: Disk, R: Rack<D>>(rack: &mut R, shelf: Shelf<D, Counting>) ->
     ensures nonces { result ≡ shelf.nonces }
     ensures images { IsTrue R.tells →
         AreAmong ((R.view rack.new).holds shelf.rules.number) (D.view shelf.journal.disk).images }
+    ensures counted { (R.view rack.new).failed shelf.rules.number
+        ≡ (R.view rack.old).failed shelf.rules.number + (D.view shelf.journal.disk).faults }
     ensures given { GivesOne shelf.rules.number (R.view rack.old) (R.view rack.new) }
     ensures later { CountStays (R.view rack.old).faults (D.view shelf.journal.disk).faults
         (R.view rack.new).faults 0 }
@@ -164,12 +174,20 @@ pub fn reopened<D: Disk, R: Rack<D>>(
     ensures own { IsTrue R.tells → IsTrue D.tells →
         IsOwnShelf D.view D.tells (scripts_of setup.now) shelf →
         IfOk result (IsOwnShelf D.view D.tells (scripts_of setup.now)) }
+    ensures left { IsTrue R.tells → IsTrue D.tells →
+        IsOwnShelf D.view D.tells (scripts_of setup.now) shelf →
+        StandsLost (rules_of (scripts_of setup.now) shelf.rules) (scripts_of setup.now)
+        shelf.rules.number (left_on D.view shelf.rules.number (R.view rack.new).holds result)
+        (book_in (scripts_of setup.now) shelf) }
     ensures damaged { IsTrue R.tells → IsTrue D.tells → IsNeverDamaged result }
     ensures other { IsTrue R.tells → IsTrue D.tells → IsNeverOther result }
     ensures rack { OpensOne shelf.rules.number result (R.view rack.old) (R.view rack.new) }
     ensures disk { IsErrOf result Reopen.Disk →
         CountRose (R.view rack.old).faults (D.view shelf.journal.disk).faults
         (R.view rack.new).faults (faults_left D.view result) }
+    ensures here { IsErrOf result Reopen.Disk →
+        Rose ((R.view rack.old).failed shelf.rules.number + (D.view shelf.journal.disk).faults)
+        ((R.view rack.new).failed shelf.rules.number) }
     ensures later { CountStays (R.view rack.old).faults (D.view shelf.journal.disk).faults
         (R.view rack.new).faults (faults_left D.view result) }
 {
@@ -194,7 +212,8 @@ fn taken_empty<D: Disk, R: Rack<D>>(
     ensures images { IsTrue R.tells → GivesUnread D.view
         ((R.view rack.old).holds number) ((R.view rack.new).holds number) result }
     ensures rack { OpensOne number result (R.view rack.old) (R.view rack.new) }
-    ensures disk { IsErrOf result OpenCause.Disk → RackFailed (R.view rack.old) (R.view rack.new) }
+    ensures disk { IsErrOf result OpenCause.Disk →
+        FailedFor number (R.view rack.old) (R.view rack.new) }
     ensures later { CountStays (R.view rack.old).faults 0
         (R.view rack.new).faults (disk_faults D.view result) }
     ensures rack_later { OnOk result ((R.view rack.old).faults ≤ (R.view rack.new).faults) }
@@ -238,7 +257,8 @@ pub fn opened<D: Disk, R: Rack<D>>(
         KeepsOpened D.view (scripts_of setup.now) rules.number
         ((R.view rack.old).holds rules.number) (R.view rack.new).holds result }
     ensures rack { OpensOne rules.number result (R.view rack.old) (R.view rack.new) }
-    ensures disk { IsErrOf result OpenCause.Disk → RackFailed (R.view rack.old) (R.view rack.new) }
+    ensures disk { IsErrOf result OpenCause.Disk →
+        FailedFor rules.number (R.view rack.old) (R.view rack.new) }
     ensures later { CountStays (R.view rack.old).faults 0
         (R.view rack.new).faults (faults_left D.view result) }
     ensures rack_later { OnOk result ((R.view rack.old).faults ≤ (R.view rack.new).faults) }

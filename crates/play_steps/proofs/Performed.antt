@@ -1,5 +1,5 @@
 -- The steps of a worker, by their calls.
-use Rattle.std.proofs.Common.{◌≡◌, ◌≤◌, inl, inr, ℕ, List, [], ◌∷◌, ◌++◌, append_assoc, Bool, true, false, Result, Ok, Err, Vec, ap, sym, ◌∙◌, refl, subst, MatchResult, IfOk, IsErrOf, IsTrue, Some, arith}
+use Rattle.std.proofs.Common.{◌≡◌, ◌≤◌, inl, inr, ℕ, List, [], ◌∷◌, ◌++◌, append_assoc, Bool, true, false, Result, Ok, Err, Vec, ap, sym, ◌∙◌, refl, subst, MatchResult, IfOk, OnErr, IsErrOf, IsTrue, Some, arith}
 use Rattle.std.specs.declared.alloc.Global.{Global}
 use Rattle.web_outside.specs.Causes.{Rose}
 use Rattle.script_value.specs.declared.outcome.Reply.{Reply}
@@ -71,11 +71,11 @@ crashed r s t shelf live call =
     record { fates = call.fates; is = call.is (λ x. went r (Reopened shelf x ∷ [])); risen = call.risen }
 
 -- what a step told is told, or there was no memory for it
-pub tells : (r : StageRules) (s t : Spot r) (step : Step) (told : List Report) (result : Result (Vec Report Global) Halt)
-    → MatchResult result (λ reports. reports.items ≡ told) (λ why. why ≡ halt.Memory) → Came r s step told t → Performs r step result s t
-tells r s t step told (Ok reports) is came = subst (λ (x : List Report). Came r s step x t) (sym is) came
-tells r s t step told (Err halt.Memory) is came = inl (told, came)
-tells r s t step told (Err (halt.Reopen shelf why)) is came = absurd (let no : ⊥ = cc in no)
+pub tells : (r : StageRules) (left : r.State → ℕ → Type 0) (s t : Spot r) (step : Step) (told : List Report) (result : Result (Vec Report Global) Halt)
+    → MatchResult result (λ reports. reports.items ≡ told) (λ why. why ≡ halt.Memory) → Came r s step told t → Performs r left step result s t
+tells r left s t step told (Ok reports) is came = subst (λ (x : List Report). Came r s step x t) (sym is) came
+tells r left s t step told (Err halt.Memory) is came = inl (told, came)
+tells r left s t step told (Err (halt.Reopen shelf why)) is came = absurd (let no : ⊥ = cc in no)
 
 -- what is known of a crash is known of a disk that tells
 pub told_crash : (disk_tells : Bool) (step : Step) (shelf : ℕ) → crash shelf ≡ step → is_told disk_tells (Some step ∷ []) ≡ true → IsTrue disk_tells
@@ -84,17 +84,18 @@ told_crash false step shelf is known =
     absurd (let no = subst (λ (x : Step). is_told false (Some x ∷ []) ≡ true) (sym is) known in let never : ⊥ = cc in never)
 
 -- a shelf that crashed was opened again or not
-pub crash_performs : (r : StageRules) (s t : Spot r) (shelf : ℕ) (opened : Result ℕ Reopen) (result : Result (Vec Report Global) Halt)
+pub crash_performs : (r : StageRules) (left : r.State → ℕ → Type 0) (s t : Spot r) (shelf : ℕ) (opened : Result ℕ Reopen) (result : Result (Vec Report Global) Halt)
     → TellsCrash shelf opened result → IfOk opened (λ live. Crashes r (Rose s.faults t.faults) s.state shelf live t.state)
-    → (IsErrOf opened reopen.Disk → Rose s.faults t.faults) → s.faults ≤ t.faults → Performs r (crash shelf) result s t
-crash_performs r s t shelf (Ok live) result told comes rose le =
-    tells r s t (crash shelf) _ result told
+    → (IsErrOf opened reopen.Disk → Rose s.faults t.faults) → s.faults ≤ t.faults → OnErr opened (left s.state shelf)
+    → Performs r left (crash shelf) result s t
+crash_performs r left s t shelf (Ok live) result told comes rose le stands =
+    tells r left s t (crash shelf) _ result told
     (crashed r s t shelf live (comes_called r (r.crash s.state shelf) s t (Rose s.faults t.faults) live comes le (λ up. up)))
-crash_performs r s t shelf (Err reopen.Memory) result told comes rose le =
-    subst (λ (x : Result (Vec Report Global) Halt). Performs r (crash shelf) x s t) (sym told) (inr (shelf, (refl, le)))
-crash_performs r s t shelf (Err reopen.Disk) result told comes rose le =
-    subst (λ (x : Result (Vec Report Global) Halt). Performs r (crash shelf) x s t) (sym told) ((refl, le), rose refl)
-crash_performs r s t shelf (Err (reopen.Damaged place)) result told comes rose le =
-    subst (λ (x : Result (Vec Report Global) Halt). Performs r (crash shelf) x s t) (sym told) (refl, le)
-crash_performs r s t shelf (Err (reopen.Other place)) result told comes rose le =
-    subst (λ (x : Result (Vec Report Global) Halt). Performs r (crash shelf) x s t) (sym told) (refl, le)
+crash_performs r left s t shelf (Err reopen.Memory) result told comes rose le stands =
+    subst (λ (x : Result (Vec Report Global) Halt). Performs r left (crash shelf) x s t) (sym told) (inr (shelf, (refl, le, stands)))
+crash_performs r left s t shelf (Err reopen.Disk) result told comes rose le stands =
+    subst (λ (x : Result (Vec Report Global) Halt). Performs r left (crash shelf) x s t) (sym told) ((refl, le, stands), rose refl)
+crash_performs r left s t shelf (Err (reopen.Damaged place)) result told comes rose le stands =
+    subst (λ (x : Result (Vec Report Global) Halt). Performs r left (crash shelf) x s t) (sym told) (refl, le, stands)
+crash_performs r left s t shelf (Err (reopen.Other place)) result told comes rose le stands =
+    subst (λ (x : Result (Vec Report Global) Halt). Performs r left (crash shelf) x s t) (sym told) (refl, le, stands)

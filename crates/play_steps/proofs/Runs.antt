@@ -244,10 +244,10 @@ halted r all start here there number step left told g reached shown hidden split
     }
 
 -- the run lost a shelf, which crashed
-pub lost : (r : StageRules) (all : List (Option Step)) (start here there : Scene r) (number shelf : ℕ) (left : List (Option Step))
-    → fits r (crash shelf) here.spot.state ≡ true → here.spot.faults ≤ there.spot.faults
-    → Reached r all start here number (Some (crash shelf) ∷ left) → there.written ≡ here.written → Loses r all shelf start there
-lost r all start here there number shelf left fitting later reached same = record {
+pub lost : (r : StageRules) (left_of : r.State → ℕ → Type 0) (all : List (Option Step)) (start here there : Scene r) (number shelf : ℕ) (left : List (Option Step))
+    → fits r (crash shelf) here.spot.state ≡ true → here.spot.faults ≤ there.spot.faults → left_of here.spot.state shelf
+    → Reached r all start here number (Some (crash shelf) ∷ left) → there.written ≡ here.written → Loses r left_of all shelf start there
+lost r left_of all start here there number shelf left fitting later stands reached same = record {
   front = reached.front;
   rest = left;
   cut = reached.cut;
@@ -258,34 +258,35 @@ lost r all start here there number shelf left fitting later reached same = recor
   risen = reached.risen;
   later = later;
   fitting = fitting;
+  stands = stands;
   written = subst (λ w. Appends start.written w (print reached.told)) (sym same) reached.written;
 }
 
-lost_at : (r : StageRules) (all : List (Option Step)) (start here there : Scene r) (number : ℕ) (step : Step) (shelf : ℕ)
-    (left : List (Option Step)) → Crashed r step shelf here.spot there.spot → fits r step here.spot.state ≡ true
-    → Reached r all start here number (Some step ∷ left) → there.written ≡ here.written → Loses r all shelf start there
-lost_at r all start here there number step shelf left is fitting reached same =
-    lost r all start here there number shelf left (ap (λ (x : Step). fits r x here.spot.state) (sym is.0) ∙ fitting) is.1
+lost_at : (r : StageRules) (left_of : r.State → ℕ → Type 0) (all : List (Option Step)) (start here there : Scene r) (number : ℕ) (step : Step) (shelf : ℕ)
+    (left : List (Option Step)) → Crashed r left_of step shelf here.spot there.spot → fits r step here.spot.state ≡ true
+    → Reached r all start here number (Some step ∷ left) → there.written ≡ here.written → Loses r left_of all shelf start there
+lost_at r left_of all start here there number step shelf left is fitting reached same =
+    lost r left_of all start here there number shelf left (ap (λ (x : Step). fits r x here.spot.state) (sym is.0) ∙ fitting) is.1 is.2
     (subst (λ (x : Step). Reached r all start here number (Some x ∷ left)) is.0 reached) same
 
 -- the run halted at a step, of which nothing was told
-pub stops : (r : StageRules) (all : List (Option Step)) (start here there : Scene r) (number : ℕ) (step : Step)
-    (left : List (Option Step)) (why : Halt) → fits r step here.spot.state ≡ true → HaltsBy r step why here.spot there.spot
-    → there.written ≡ here.written → Reached r all start here number (Some step ∷ left) → Leaves r all (end_of why) start there
+pub stops : (r : StageRules) (left_of : r.State → ℕ → Type 0) (all : List (Option Step)) (start here there : Scene r) (number : ℕ) (step : Step)
+    (left : List (Option Step)) (why : Halt) → fits r step here.spot.state ≡ true → HaltsBy r left_of step why here.spot there.spot
+    → there.written ≡ here.written → Reached r all start here number (Some step ∷ left) → Leaves r left_of all (end_of why) start there
 unfolding lost lost_at
-stops r all start here there number step left halt.Memory fitting halts same reached =
+stops r left_of all start here there number step left halt.Memory fitting halts same reached =
     ⊎_elim
     (λ tells.
     let nothing = subst (λ w. Appends here.written w []) (sym same) (appends_none here.written) in
     inl (halted r all start here there number step left tells.0 (record { fitting = fitting; came = tells.1 }) reached [] (print tells.0) refl nothing))
-    (λ crashes. inr (crashes.0, lost_at r all start here there number step crashes.0 left crashes.1 fitting reached same)) halts
-stops r all start here there number step left (halt.Reopen shelf reopen.Memory) fitting halts same reached = absurd halts
-stops r all start here there number step left (halt.Reopen shelf reopen.Disk) fitting halts same reached =
-    record { loses = lost_at r all start here there number step shelf left halts.0 fitting reached same; rose = halts.1 }
-stops r all start here there number step left (halt.Reopen shelf (reopen.Damaged place)) fitting halts same reached =
-    lost_at r all start here there number step shelf left halts fitting reached same
-stops r all start here there number step left (halt.Reopen shelf (reopen.Other place)) fitting halts same reached =
-    lost_at r all start here there number step shelf left halts fitting reached same
+    (λ crashes. inr (crashes.0, lost_at r left_of all start here there number step crashes.0 left crashes.1 fitting reached same)) halts
+stops r left_of all start here there number step left (halt.Reopen shelf reopen.Memory) fitting halts same reached = absurd halts
+stops r left_of all start here there number step left (halt.Reopen shelf reopen.Disk) fitting halts same reached =
+    record { loses = lost_at r left_of all start here there number step shelf left halts.0 fitting reached same; rose = halts.1 }
+stops r left_of all start here there number step left (halt.Reopen shelf (reopen.Damaged place)) fitting halts same reached =
+    lost_at r left_of all start here there number step shelf left halts fitting reached same
+stops r left_of all start here there number step left (halt.Reopen shelf (reopen.Other place)) fitting halts same reached =
+    lost_at r left_of all start here there number step shelf left halts fitting reached same
 
 first_told : (step : Step) (left : List (Option Step)) → is_told false (Some step ∷ left) ≡ true → is_told false (Some step ∷ []) ≡ true
 first_told (take worker target) left known = refl

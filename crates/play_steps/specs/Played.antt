@@ -58,22 +58,23 @@ Lengthens list more longer = IfOk longer (λ whole. IsOkAnd list (λ front. whol
 abbrev pub Tells : (r : StageRules) → Step → Spot r → Spot r → Type 0
 Tells r step s t = (told : List Report) × Came r s step told t
 
--- the step was a crash of this shelf, which was not opened again
-abbrev pub Crashed : (r : StageRules) → Step → (shelf : ℕ) → Spot r → Spot r → Type 0
-Crashed r step shelf s t = (step ≡ crash shelf) × (s.faults ≤ t.faults)
+-- the step was a crash of this shelf, which was not opened again, and this is left of the state before
+abbrev pub Crashed : (r : StageRules) → (left : r.State → (shelf : ℕ) → Type 0) → Step → (shelf : ℕ) → Spot r → Spot r → Type 0
+Crashed r left step shelf s t = (step ≡ crash shelf) × (s.faults ≤ t.faults) × left s.state shelf
 
 -- Why a step was not told: there was no memory for that, or none to open a shelf again that crashed, or another cause not to open
 -- it.
-abbrev pub HaltsBy : (r : StageRules) → Step → Halt → Spot r → Spot r → Type 0
-HaltsBy r step halt.Memory s t = Tells r step s t ⊎ ((shelf : ℕ) × Crashed r step shelf s t)
-HaltsBy r step (halt.Reopen shelf reopen.Memory) s t = ⊥
-HaltsBy r step (halt.Reopen shelf reopen.Disk) s t = Crashed r step shelf s t × Rose s.faults t.faults
-HaltsBy r step (halt.Reopen shelf _) s t = Crashed r step shelf s t
+abbrev pub HaltsBy : (r : StageRules) → (left : r.State → (shelf : ℕ) → Type 0) → Step → Halt → Spot r → Spot r → Type 0
+HaltsBy r left step halt.Memory s t = Tells r step s t ⊎ ((shelf : ℕ) × Crashed r left step shelf s t)
+HaltsBy r left step (halt.Reopen shelf reopen.Memory) s t = ⊥
+HaltsBy r left step (halt.Reopen shelf reopen.Disk) s t = Crashed r left step shelf s t × Rose s.faults t.faults
+HaltsBy r left step (halt.Reopen shelf _) s t = Crashed r left step shelf s t
 
 -- what came of performing a step: it told these reports, or this is why it told nothing
-abbrev pub Performs : (r : StageRules) → Step → Result (Vec Report Global) Halt → Spot r → Spot r → Type 0
-Performs r step (Ok reports) s t = Came r s step reports.items t
-Performs r step (Err halt) s t = HaltsBy r step halt s t
+abbrev pub Performs : (r : StageRules) → (left : r.State → (shelf : ℕ) → Type 0) → Step → Result (Vec Report Global) Halt → Spot r → Spot r
+    → Type 0
+Performs r left step (Ok reports) s t = Came r s step reports.items t
+Performs r left step (Err halt) s t = HaltsBy r left step halt s t
 
 -- this report alone was told, or there was no memory for it
 abbrev pub TellsOne : Report → Result (Vec Report Global) Halt → Type 0
@@ -123,8 +124,9 @@ pub record Halts (r : StageRules) (steps : List (Option Step)) (shown : List ℕ
   pub all : text_of (transcript r before.spot.state 1 steps (fates ++ came.fates)) ≡ (print told ++ shown) ++ (hidden ++ later)
 
 -- For some fates the run came to a crash of this shelf, which fits, and the shelf was not opened again. The sink grew by the whole
--- transcript of the steps before it, and by nothing of that step.
-pub record Loses (r : StageRules) (steps : List (Option Step)) (shelf : ℕ) (before after : Scene r) : Type 0 where
+-- transcript of the steps before it, and by nothing of that step; and this is left of the state before.
+pub record Loses (r : StageRules) (left : r.State → (shelf : ℕ) → Type 0) (steps : List (Option Step)) (shelf : ℕ) (before after : Scene r)
+    : Type 0 where
   pub front : List (Option Step)
   pub rest : List (Option Step)
   pub cut : steps ≡ front ++ Some (crash shelf) ∷ rest
@@ -135,22 +137,24 @@ pub record Loses (r : StageRules) (steps : List (Option Step)) (shelf : ℕ) (be
   pub risen : HasRisen r fates before.spot.faults middle.faults
   pub later : middle.faults ≤ after.spot.faults
   pub fitting : fits r (crash shelf) middle.state ≡ true
+  pub stands : left middle.state shelf
   pub written : Appends before.written after.written (print told)
 
 -- the run lost this shelf at a crash of it, as its disk failed, or a call for it
-pub record LosesDisk (r : StageRules) (steps : List (Option Step)) (shelf : ℕ) (before after : Scene r) : Type 0 where
-  pub loses : Loses r steps shelf before after
+pub record LosesDisk (r : StageRules) (left : r.State → (shelf : ℕ) → Type 0) (steps : List (Option Step)) (shelf : ℕ) (before after : Scene r)
+    : Type 0 where
+  pub loses : Loses r left steps shelf before after
   pub rose : Rose loses.middle.faults after.spot.faults
 
 -- what a run of steps leaves, by its end; where a text could not be written, some of it is missing
-abbrev pub Leaves : (r : StageRules) → List (Option Step) → PlayEnd → Scene r → Scene r → Type 0
-Leaves r steps Done before after = Plays r steps done before after
-Leaves r steps (Line number) before after = Plays r steps (bad_line number) before after
-Leaves r steps Write before after = (shown : List ℕ) × (h : Halts r steps shown before after) × (0 < length h.hidden)
-Leaves r steps Memory before after = Halts r steps [] before after ⊎ ((shelf : ℕ) × Loses r steps shelf before after)
-Leaves r steps (Lost shelf reopen.Memory) before after = ⊥
-Leaves r steps (Lost shelf reopen.Disk) before after = LosesDisk r steps shelf before after
-Leaves r steps (Lost shelf _) before after = Loses r steps shelf before after
+abbrev pub Leaves : (r : StageRules) → (left : r.State → (shelf : ℕ) → Type 0) → List (Option Step) → PlayEnd → Scene r → Scene r → Type 0
+Leaves r left steps Done before after = Plays r steps done before after
+Leaves r left steps (Line number) before after = Plays r steps (bad_line number) before after
+Leaves r left steps Write before after = (shown : List ℕ) × (h : Halts r steps shown before after) × (0 < length h.hidden)
+Leaves r left steps Memory before after = Halts r steps [] before after ⊎ ((shelf : ℕ) × Loses r left steps shelf before after)
+Leaves r left steps (Lost shelf reopen.Memory) before after = ⊥
+Leaves r left steps (Lost shelf reopen.Disk) before after = LosesDisk r left steps shelf before after
+Leaves r left steps (Lost shelf _) before after = Loses r left steps shelf before after
 
 -- the end of a run that halts for this cause
 abbrev pub end_of : Halt → PlayEnd
@@ -163,11 +167,11 @@ pub record Goes (r : StageRules) (step : Step) (told : List Report) (s t : Spot 
   pub came : Came r s step told t
 
 -- what one step leaves, by what it came to
-abbrev pub Turns : (r : StageRules) → Step → Turn → Scene r → Scene r → Type 0
-Turns r step Went before after =
+abbrev pub Turns : (r : StageRules) → (left : r.State → (shelf : ℕ) → Type 0) → Step → Turn → Scene r → Scene r → Type 0
+Turns r left step Went before after =
     (told : List Report) × Goes r step told before.spot after.spot × Appends before.written after.written (print told)
-Turns r step NoFit before after = (fits r step before.spot.state ≡ false) × (after ≡ before)
-Turns r step TurnWrite before after =
+Turns r left step NoFit before after = (fits r step before.spot.state ≡ false) × (after ≡ before)
+Turns r left step TurnWrite before after =
     (told : List Report) × Goes r step told before.spot after.spot × IsCutShort before.written after.written (print told)
-Turns r step (Halted why) before after =
-    (fits r step before.spot.state ≡ true) × HaltsBy r step why before.spot after.spot × (after.written ≡ before.written)
+Turns r left step (Halted why) before after =
+    (fits r step before.spot.state ≡ true) × HaltsBy r left step why before.spot after.spot × (after.written ≡ before.written)

@@ -120,7 +120,7 @@ pub fn perform<T: Stage>(
     requires fitting { fits T.rules (meaning step.now) (T.state stage.old) ≡ true }
     requires home { T.at_home stage.old devices.old }
     ensures came { IsTold T.tells (meaning step.now) → T.own stage.old →
-        Performs T.rules (meaning step.now) result
+        Performs T.rules (T.left devices.new) (meaning step.now) result
         (spot T.rules (T.state stage.old) (T.faults stage.old devices.old))
         (spot T.rules (T.state stage.new) (T.faults stage.new devices.new)) }
     ensures shelves { OnOk result (KeepsShelves T.rules (T.state stage.old) (T.state stage.new)) }
@@ -130,6 +130,9 @@ pub fn perform<T: Stage>(
     ensures later { T.faults stage.old devices.old ≤ T.faults stage.new devices.new }
     ensures disk { (shelf : ℕ) → IsErrOf result (Halt.Reopen shelf Reopen.Disk) →
         Rose (T.faults stage.old devices.old) (T.faults stage.new devices.new) }
+    ensures failed { (shelf : ℕ) → IsErrOf result (Halt.Reopen shelf Reopen.Disk) →
+        Rose (T.failed devices.old shelf) (T.failed devices.new shelf) }
+    ensures failed_later { StaysUp (T.failed devices.old) (T.failed devices.new) }
     ensures why { (shelf : ℕ) → IsErrOf result (Halt.Reopen shelf Reopen.Memory) → ⊥ }
     ensures damaged { IsTrue T.tells → (shelf place : ℕ) →
         IsErrOf result (Halt.Reopen shelf (Reopen.Damaged place)) → ⊥ }

@@ -2,6 +2,7 @@ ghost use Rattle.std.specs.Prelude.{◌≡◌, ◌≤◌, ◌∷◌, [], ℕ, Is
 ghost use Rattle.web_outside.specs.Causes.{Rose};
 ghost use Rattle.play_steps.specs.Step.{IsTold, IsWithin, is_told, steps_of};
 ghost use Rattle.play_steps.specs.Played.{end_of, scene, Leaves, Turns};
+ghost use Rattle.play_steps.specs.Rules.{StaysUp};
 ghost use Rattle.play_steps.specs.Views.{meaning};
 
 use crate::performing::{Halt, fits, perform};
@@ -58,7 +59,7 @@ fn play_step<T: Stage, O: Sink>(
     requires range { IsWithin (meaning step.now) }
     requires home { T.at_home stage.old devices.old }
     ensures turned { IsTold T.tells (meaning step.now) → T.own stage.old →
-        Turns T.rules (meaning step.now) result
+        Turns T.rules (T.left devices.new) (meaning step.now) result
         (scene T.rules (O.view sink.old).written (T.state stage.old)
         (T.faults stage.old devices.old))
         (scene T.rules (O.view sink.new).written (T.state stage.new)
@@ -71,6 +72,9 @@ fn play_step<T: Stage, O: Sink>(
     ensures devices_later { T.faults stage.old devices.old ≤ T.faults stage.new devices.new }
     ensures disk { (shelf : ℕ) → result ≡ Turn.Halted (Halt.Reopen shelf Reopen.Disk) →
         Rose (T.faults stage.old devices.old) (T.faults stage.new devices.new) }
+    ensures failed { (shelf : ℕ) → result ≡ Turn.Halted (Halt.Reopen shelf Reopen.Disk) →
+        Rose (T.failed devices.old shelf) (T.failed devices.new shelf) }
+    ensures failed_later { StaysUp (T.failed devices.old) (T.failed devices.new) }
     ensures why { (shelf : ℕ) → result ≡ Turn.Halted (Halt.Reopen shelf Reopen.Memory) → ⊥ }
     ensures damaged { IsTrue T.tells → (shelf place : ℕ) →
         result ≡ Turn.Halted (Halt.Reopen shelf (Reopen.Damaged place)) → ⊥ }
@@ -111,7 +115,7 @@ pub fn play<T: Stage, O: Sink>(
     requires sound { T.sound stage.old }
     requires home { T.at_home stage.old devices.old }
     ensures ended { is_told T.tells (steps_of text.now) ≡ true → T.own stage.old →
-        Leaves T.rules (steps_of text.now) result
+        Leaves T.rules (T.left devices.new) (steps_of text.now) result
         (scene T.rules (O.view sink.old).written (T.state stage.old)
         (T.faults stage.old devices.old))
         (scene T.rules (O.view sink.new).written (T.state stage.new)
@@ -125,6 +129,9 @@ pub fn play<T: Stage, O: Sink>(
     ensures devices_later { T.faults stage.old devices.old ≤ T.faults stage.new devices.new }
     ensures disk { (shelf : ℕ) → result ≡ PlayEnd.Reopen shelf Reopen.Disk →
         Rose (T.faults stage.old devices.old) (T.faults stage.new devices.new) }
+    ensures failed { (shelf : ℕ) → result ≡ PlayEnd.Reopen shelf Reopen.Disk →
+        Rose (T.failed devices.old shelf) (T.failed devices.new shelf) }
+    ensures failed_later { StaysUp (T.failed devices.old) (T.failed devices.new) }
     ensures why { (shelf : ℕ) → result ≡ PlayEnd.Reopen shelf Reopen.Memory → ⊥ }
     ensures damaged { IsTrue T.tells → (shelf place : ℕ) →
         result ≡ PlayEnd.Reopen shelf (Reopen.Damaged place) → ⊥ }

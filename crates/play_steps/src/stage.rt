@@ -1,4 +1,4 @@
-ghost use Rattle.std.specs.Prelude.{◌≡◌, ◌≤◌, ℕ, ◌<◌, ◌^◌, Bool, true, false, IsTrue, IfOk, OnOk, IsErrOf};
+ghost use Rattle.std.specs.Prelude.{◌≡◌, ◌≤◌, ℕ, ◌<◌, ◌^◌, Bool, true, false, IsTrue, IfOk, OnOk, OnErr, IsErrOf};
 ghost use Rattle.web_outside.specs.Causes.{Rose};
 ghost use Rattle.play_steps.specs.Rules.{StageRules, Takes, Publishes, Sweeps, Crashes, KeepsShelves, RoseOver, StaysUp, StaysHome};
 ghost use Rattle.play_steps.specs.Step.{workers};
@@ -43,6 +43,12 @@ pub trait Stage {
 
     /// How often its disks and its devices failed, up to the type's end.
     ghost faults: { Self → Self.Devices → ℕ };
+
+    /// How often its devices have failed for the disk of each shelf.
+    ghost failed: { Self.Devices → ℕ → ℕ };
+
+    /// What its devices hold where this shelf of a state crashed and was not opened again.
+    ghost left: { Self.Devices → rules.State → ℕ → Type 0 };
 
     /// How many shelves there are.
     fn shelves(&self) -> u32
@@ -109,10 +115,15 @@ pub trait Stage {
         ensures shelves { OnOk result (KeepsShelves rules (state self.old) (state self.new)) }
         ensures sound { sound self.new }
         ensures own { IsTrue tells → own self.old → own self.new }
+        ensures left { IsTrue tells → own self.old →
+            OnErr result (left devices.new (state self.old) shelf) }
         ensures home { at_home self.new devices.new }
         ensures later { faults self.old devices.old ≤ faults self.new devices.new }
         ensures disk { IsErrOf result Reopen.Disk →
             Rose (faults self.old devices.old) (faults self.new devices.new) }
+        ensures failed { IsErrOf result Reopen.Disk →
+            Rose (failed devices.old shelf) (failed devices.new shelf) }
+        ensures failed_later { StaysUp (failed devices.old) (failed devices.new) }
         ensures damaged { IsTrue tells → (place : ℕ) → IsErrOf result (Reopen.Damaged place) → ⊥ }
         ensures other { IsTrue tells → (place : ℕ) → IsErrOf result (Reopen.Other place) → ⊥ };
 }

@@ -1,10 +1,12 @@
 pub mod Change
 pub mod Disks
+pub mod Failures
 pub mod Fates
 pub mod Memory
 pub mod Racks
 pub mod Repeated
 pub mod Since
+pub mod Takes
 pub mod Vectors
 pub mod View
 pub mod Wrecks

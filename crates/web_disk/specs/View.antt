@@ -25,8 +25,10 @@ pub record RackView : Type 1 where
   pub holds : ℕ → List ℕ → Type 0
   -- whether the disk of a number was taken and not given back
   pub out : ℕ → Bool
-  -- how often a call failed, of the rack or of a disk that was given back
+  -- how often a call failed, of the rack or of a disk that was given back, up to the type's end
   pub faults : ℕ
+  -- how often a take of the disk of a number failed, or a call of that disk, which counts once it was given back
+  pub failed : ℕ → ℕ
 
 -- each image has this byte at this place
 abbrev pub IsSure : (List ℕ → Type 0) → ℕ → ℕ → Type 0

@@ -2,6 +2,7 @@
 #![tactic(auto)]
 
 mod disk;
+mod failures;
 mod memory;
 mod memory_rack;
 mod plan;
@@ -11,6 +12,7 @@ mod trace;
 mod wreck;
 
 pub use disk::Disk;
+pub use failures::Failures;
 pub use memory::MemoryDisk;
 pub use memory_rack::MemoryRack;
 pub use rack::{Rack, RackFault};

@@ -2,9 +2,12 @@ ghost use Rattle.std.specs.Prelude.{◌≡◌, ◌≢◌, ◌≤◌, ◌<◌, �
 ghost use Rattle.web_outside.specs.Causes.{Rose};
 ghost use Rattle.web_disk.specs.View.{AreAmong};
 ghost use Rattle.web_disk.specs.Disks.{memory_view};
+ghost use Rattle.web_disk.specs.Failures.{failed_in};
+ghost use Rattle.web_disk.specs.Takes.{failed_after};
+ghost use Rattle.web_disk.specs.declared.rack.RackFault.TheVariants.{Failed as RackFailed};
 ghost use Rattle.web_disk.specs.Racks.{place_of, disk_in, emptied, may_hold, is_lent, rack_view, bytes_at, take_fails, faults_after_take, IsTakenFrom, SameRules};
 
-use crate::{Disk, MemoryDisk, Rack, RackFault, Wreck};
+use crate::{Disk, Failures, MemoryDisk, Rack, RackFault, Wreck};
 use std::alloc::{AllocError, Global};
 use std::mem;
 
@@ -17,6 +20,7 @@ pub struct MemoryRack {
     failing: Vec<u64>,
     takes: u64,
     faults: u64,
+    failed: Failures,
 }
 
 impl MemoryRack {
@@ -27,6 +31,7 @@ impl MemoryRack {
         ensures failing { result.failing.items ≡ failing.items }
         ensures takes { result.takes ≡ 0 }
         ensures faults { result.faults ≡ 0 }
+        ensures failed { (n : ℕ) → failed_in result.failed n ≡ 0 }
     {
         MemoryRack {
             disks: Vec::new(alloc),
@@ -34,6 +39,7 @@ impl MemoryRack {
             failing,
             takes: 0,
             faults: 0,
+            failed: Failures::new(),
         }
     }
 
@@ -45,6 +51,7 @@ impl MemoryRack {
         ensures failing { self.new.failing.items ≡ self.old.failing.items }
         ensures takes { self.new.takes ≡ self.old.takes }
         ensures faults { self.new.faults ≡ self.old.faults }
+        ensures failed { self.new.failed ≡ self.old.failed }
     {
         self.disks.push(Some(disk))?;
         Ok(())
@@ -69,6 +76,7 @@ impl MemoryRack {
         ensures failing { self.new.failing.items ≡ self.old.failing.items }
         ensures takes { self.new.takes ≡ self.old.takes }
         ensures faults { self.new.faults ≡ self.old.faults }
+        ensures failed { self.new.failed ≡ self.old.failed }
     {
         let index = number as usize;
         if index >= self.disks.len() {
@@ -87,11 +95,30 @@ impl MemoryRack {
         ensures failing { self.new.failing.items ≡ self.old.failing.items }
         ensures takes { self.new.takes ≡ self.old.takes }
         ensures faults { self.new.faults ≡ self.old.faults }
+        ensures failed { self.new.failed ≡ self.old.failed }
     {
         let index = number as usize;
         if index < self.disks.len() {
             drop(mem::replace(&mut self.disks[index], Some(disk)));
         }
+    }
+
+    // Counts a take of the disk of this number that failed.
+    fn fail(&mut self, number: u32) -> RackFault
+        ensures answer { result ≡ RackFailed }
+        ensures disks { self.new.disks.items ≡ self.old.disks.items }
+        ensures wreck { self.new.wreck ≡ self.old.wreck }
+        ensures failing { self.new.failing.items ≡ self.old.failing.items }
+        ensures takes { self.new.takes ≡ self.old.takes }
+        ensures faults { self.new.faults ≡ min (self.old.faults + 1) (2 ^ 64 - 1) }
+        ensures later { self.old.faults ≤ self.new.faults }
+        ensures counted { failed_in self.new.failed number ≡ failed_in self.old.failed number + 1 }
+        ensures others { (n : ℕ) → n ≢ number →
+            failed_in self.new.failed n ≡ failed_in self.old.failed n }
+    {
+        self.faults = self.faults.saturating_add(1);
+        self.failed.count(number, 1);
+        RackFault::Failed
     }
 }
 
@@ -120,6 +147,10 @@ impl Rack<MemoryDisk> for MemoryRack {
         ensures err_out { OnErr result ((n : ℕ) → is_lent self.new n ≡ is_lent self.old n) }
         ensures failed { IsErrOf result RackFault.Failed → Rose self.old.faults self.new.faults }
         ensures later { self.old.faults ≤ self.new.faults }
+        ensures counted { failed_in self.new.failed number
+            ≡ failed_after result (failed_in self.old.failed number) }
+        ensures others_counted { (n : ℕ) → n ≢ number →
+            failed_in self.new.failed n ≡ failed_in self.old.failed n }
         ensures fails { take_fails self.old number ≡ true → IsErrOf result RackFault.Failed }
         ensures fails_only { IsErrOf result RackFault.Failed → take_fails self.old number ≡ true }
         ensures faults { self.new.faults ≡ faults_after_take result self.old.faults }
@@ -130,12 +161,10 @@ impl Rack<MemoryDisk> for MemoryRack {
         let take = self.takes;
         self.takes = take.saturating_add(1);
         if self.failing.contains(&take) {
-            self.faults = self.faults.saturating_add(1);
-            return Err(RackFault::Failed);
+            return Err(self.fail(number));
         }
         let Some(mut disk) = self.take_out(number) else {
-            self.faults = self.faults.saturating_add(1);
-            return Err(RackFault::Failed);
+            return Err(self.fail(number));
         };
         match disk.begin_anew(alloc, self.wreck) {
             Ok(()) => Ok(disk),
@@ -157,10 +186,16 @@ impl Rack<MemoryDisk> for MemoryRack {
         ensures others_out { (n : ℕ) → n ≢ number → is_lent self.new n ≡ is_lent self.old n }
         ensures faults { self.new.faults ≡ min (self.old.faults + (memory_view disk).faults)
             (2 ^ 64 - 1) }
+        ensures counted { failed_in self.new.failed number
+            ≡ failed_in self.old.failed number + (memory_view disk).faults }
+        ensures others_counted { (n : ℕ) → n ≢ number →
+            failed_in self.new.failed n ≡ failed_in self.old.failed n }
         ensures takes { self.new.takes ≡ self.old.takes }
         ensures rules { SameRules self.old self.new }
     {
-        self.faults = self.faults.saturating_add(disk.faults());
+        let faults = disk.faults();
+        self.faults = self.faults.saturating_add(faults);
+        self.failed.count(number, faults);
         self.put_back(number, disk);
     }
 }

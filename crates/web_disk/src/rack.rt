@@ -1,6 +1,7 @@
 ghost use Rattle.std.specs.Prelude.{◌≡◌, ◌≢◌, ◌≤◌, ◌+◌, ◌-◌, ◌^◌, Bool, true, false, IsTrue, List, ℕ, min, IfOk, OnOk, OnErr, IsErrOf};
 ghost use Rattle.web_outside.specs.Causes.{Rose};
 ghost use Rattle.web_disk.specs.View.{View, RackView, AreAmong};
+ghost use Rattle.web_disk.specs.Takes.{failed_after};
 ghost use Rattle.web_disk.specs.declared.rack.RackFault.TheVariants.{Failed as RackFailed, Memory as RackMemory};
 
 use crate::Disk;
@@ -61,9 +62,13 @@ pub trait Rack<D: Disk> {
         ensures err_out { OnErr result ((n : ℕ) → (view self.new).out n ≡ (view self.old).out n) }
         ensures failed { IsErrOf result RackFault.Failed →
             Rose (view self.old).faults (view self.new).faults }
-        ensures later { (view self.old).faults ≤ (view self.new).faults };
+        ensures later { (view self.old).faults ≤ (view self.new).faults }
+        ensures counted { (view self.new).failed number
+            ≡ failed_after result ((view self.old).failed number) }
+        ensures others_counted { (n : ℕ) → n ≢ number →
+            (view self.new).failed n ≡ (view self.old).failed n };
 
-    /// Gives back the disk of this number. The faults of the disk since it was taken count as the rack's.
+    /// Gives back the disk of this number. The faults of the disk since it was taken count as the rack's, for this number.
     fn give(&mut self, number: u32, disk: D)
         ensures images { IsTrue tells → (view self.old).out number ≡ true →
             AreAmong ((view self.new).holds number) (D.view disk).images }
@@ -72,5 +77,9 @@ pub trait Rack<D: Disk> {
         ensures home { (view self.new).out number ≡ false }
         ensures others_out { (n : ℕ) → n ≢ number → (view self.new).out n ≡ (view self.old).out n }
         ensures faults { (view self.new).faults ≡ min
-            ((view self.old).faults + (D.view disk).faults) (2 ^ 64 - 1) };
+            ((view self.old).faults + (D.view disk).faults) (2 ^ 64 - 1) }
+        ensures counted { (view self.new).failed number
+            ≡ (view self.old).failed number + (D.view disk).faults }
+        ensures others_counted { (n : ℕ) → n ≢ number →
+            (view self.new).failed n ≡ (view self.old).failed n };
 }

@@ -40,7 +40,7 @@ returns-in-Err-clause-went g c known own =
     let few : r.shelves s ≤ 2 ^ 32 = first_of (omega (arith, c.shelves-shelves.ensures), grind (arith, c.shelves-shelves.ensures)) in
     let draws = drawn_is r s c.shelves-shelves.result c.holders-workers.result source c.next.new.self c.in-Ok.step c.shelves-shelves.ensures c.holders-workers.ensures c.in-Ok.ensures.drawn in
     let is = step_is r s source c.next.new.self c.in-Ok.step (meaning c.as_step.result) draws c.as_step.ensures in
-    halts_on r c.args.course.now (record { generator = c.next.new.self; tally = c.args.course.now.tally; hash = c.args.course.now.hash }) (spot r s (g.T.Stage.faults c.args.stage.now c.args.devices.now))
+    halts_on r (g.T.Stage.left c.perform.new.devices) c.args.course.now (record { generator = c.next.new.self; tally = c.args.course.now.tally; hash = c.args.course.now.hash }) (spot r s (g.T.Stage.faults c.args.stage.now c.args.devices.now))
     (spot r (g.T.Stage.state c.perform.new.stage) (g.T.Stage.faults c.perform.new.stage c.perform.new.devices)) (meaning c.as_step.result) c.in-Err.halt is (drawn_fits r s source c.requires.some few c.requires.clock)
     (c.in-Err.ensures.came (told_by g.T.Stage.tells (Some (meaning c.as_step.result) ∷ []) known) own)
 

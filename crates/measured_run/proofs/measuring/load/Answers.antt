@@ -19,12 +19,13 @@ loop-done-init g c =
       own = λ known own. own;
       home = c.requires.home;
       later = omega arith;
+      failed_later = λ n. omega arith;
     }
 
 pub returns-in-Err-clause-measured : goal.returns-in-Err-clause-measured
 returns-in-Err-clause-measured g c known own =
     let r = g.T.Stage.rules in
-    halted r (spot r (g.T.Stage.state c.args.stage.now) (g.T.Stage.faults c.args.stage.now c.args.devices.now))
+    halted r (g.T.Stage.left c.go_on.new.devices) (spot r (g.T.Stage.state c.args.stage.now) (g.T.Stage.faults c.args.stage.now c.args.devices.now))
     (spot r (g.T.Stage.state c.loop-done.stage) (g.T.Stage.faults c.loop-done.stage c.loop-done.devices))
     (spot r (g.T.Stage.state c.go_on.new.stage) (g.T.Stage.faults c.go_on.new.stage c.go_on.new.devices)) (source_of c.args.number)
     c.loop-done.done c.args.steps c.loop-done.course c.go_on.new.course c.in-Err.halt c.loop-done-test.true
@@ -47,13 +48,14 @@ loop-done-preserved g c =
       own = λ known own. went.own known (c.loop-done.invariant.own known own);
       home = went.home;
       later = omega (arith, went.later, c.loop-done.invariant.later);
+      failed_later = λ n. (let a = c.loop-done.invariant.failed_later n in let b = went.failed_later n in omega (arith, a, b));
     }
 
 pub returns-clause-measured : goal.returns-clause-measured
 returns-clause-measured g c known own =
     let r = g.T.Stage.rules in
     let all : c.loop-done.done ≡ c.args.steps = omega arith in
-    measured r (spot r (g.T.Stage.state c.args.stage.now) (g.T.Stage.faults c.args.stage.now c.args.devices.now))
+    measured r (g.T.Stage.left c.loop-done.devices) (spot r (g.T.Stage.state c.args.stage.now) (g.T.Stage.faults c.args.stage.now c.args.devices.now))
     (spot r (g.T.Stage.state c.loop-done.stage) (g.T.Stage.faults c.loop-done.stage c.loop-done.devices)) (source_of c.args.number)
     c.loop-done.done c.args.steps c.loop-done.course (record { tally = c.loop-done.course.tally; hash = c.value.result }) all refl c.value.ensures
     (c.loop-done.invariant.reached known own)

@@ -1,4 +1,5 @@
 use Rattle.std.proofs.Common.{◌≡◌, ◌≤◌, ◌<◌, ◌*◌, IsTrue}
+use Rattle.play_steps.specs.Rules.{StaysUp}
 use Rattle.play_steps.specs.Played.{spot}
 use Rattle.measured_run.specs.Generator.{source_of}
 use Rattle.measured_run.specs.Course.{shelves_of}
@@ -18,4 +19,5 @@ invariant-loop-done g l =
       own : IsTrue stage.tells → stage.own l.initial.stage → stage.own l.stage;
       home : stage.at_home l.stage l.devices;
       later : stage.faults l.initial.stage l.initial.devices ≤ stage.faults l.stage l.devices;
+      failed_later : StaysUp (stage.failed l.initial.devices) (stage.failed l.devices);
     }

@@ -1,159 +1,101 @@
-use Rattle.std.proofs.Common.{◌≡◌, ◌≤◌, ◌∙◌, ap, sym, subst, List, length, map, option_map, Err}
+use Rattle.std.proofs.Common.{◌≡◌, ◌≤◌, ◌∙◌, ap, sym, subst, ℕ, List, [], slice_get, Some, None, true, false, Err, Vec, arith}
+use Rattle.std.specs.declared.alloc.Global.{Global}
 use Rattle.web_outside.specs.Causes.{Rose}
-use Rattle.script_nodes.specs.Views.{scripts_of}
 use Rattle.web_outside.specs.declared.nonces.Counting.{Counting}
+use Rattle.script_nodes.specs.Views.{scripts_of}
 use Rattle.shelf.specs.declared.shelf.Shelf.{Shelf}
-use Rattle.std.specs.Prelude.{insert}
-use Rattle.std.proofs.lemmas.List.{length-map, length-set}
-use Rattle.instance_book.specs.Views.{instance_of, ticket_of}
-use Rattle.play_steps.specs.Rules.{Comes}
 use Rattle.play_steps.specs.declared.stage.Reopen.{Reopen}
 use Rattle.play_steps.specs.declared.stage.Reopen.TheVariants.{Disk}
-use Rattle.play_desk.specs.Desk.{desk_crash, is_fault, without_shelf}
-use Rattle.play_desk.specs.Staff.{AreFit, AreOwn, IsHome, KeepsOthers, desk_with, faults_in, total}
-use Rattle.play_desk.proofs.Places.{at_index}
-use Rattle.play_desk.proofs.Fitting.{fit_crash, number_at}
-use Rattle.play_desk.proofs.Owning.{own_crash, own_out}
-use Rattle.play_desk.proofs.Removing.{put_in, taken_out}
-use Rattle.play_desk.proofs.Outage.{crash_comes, fit_out, home_out, home_set, rises_out, stays_out, stays_set}
+use Rattle.play_desk.specs.Opening.{HoldImages, LeaveOthers}
+use Rattle.play_desk.specs.Staff.{HaveOwnNumbers, IsHome, faults_in, numbers_in, total}
+use Rattle.play_desk.proofs.Closing.{left_behind}
+use Rattle.play_desk.proofs.Fitting.{number_at}
+use Rattle.play_desk.proofs.Outage.{fit_none}
+use Rattle.play_desk.proofs.Owning.{own_alone}
+use Rattle.play_desk.proofs.Places.{some_at}
 use Rattle.play_desk.proofs.crashing.crash.Goals as goal
 
-pub reopened-requires-clause-served : goal.reopened-requires-clause-served
-reopened-requires-clause-served g c =
-    c.requires.fit.served c.args.place c.remove-shelf.result
-    (at_index c.args.staff.now.shelves.items c.args.place c.remove-shelf.result c.remove-shelf.result c.requires.place c.remove-shelf.ensures.value)
+pub put_all_back-requires-clause-numbers : goal.put_all_back-requires-clause-numbers
+put_all_back-requires-clause-numbers g c =
+    subst (λ (v : Vec (Shelf g.row.D.Denot Counting) Global). HaveOwnNumbers v.items) (sym c.replace.ensures.value) c.in-Err.ensures.numbers
 
-pub reopened-requires-clause-out : goal.reopened-requires-clause-out
-reopened-requires-clause-out g c =
-    c.requires.home.ours c.args.place c.remove-shelf.result.rules.number
-    (number_at c.args.staff.now.shelves.items c.args.place c.remove-shelf.result
-    (at_index c.args.staff.now.shelves.items c.args.place c.remove-shelf.result c.remove-shelf.result c.requires.place c.remove-shelf.ensures.value))
+pub put_all_back-requires-clause-home : goal.put_all_back-requires-clause-home
+put_all_back-requires-clause-home g c =
+    subst (λ (v : Vec (Shelf g.row.D.Denot Counting) Global). IsHome v.items (g.R.Rack.view c.reopen_at.new.rack).out) (sym c.replace.ensures.value)
+    c.in-Err.ensures.home
+
+pub returns-in-Err-clause-closed : goal.returns-in-Err-clause-closed
+returns-in-Err-clause-closed g c = ap (λ (v : Vec (Shelf g.row.D.Denot Counting) Global). v.items) c.replace.ensures.after ∙ c.new.ensures.items
 
 pub returns-in-Err-clause-fit : goal.returns-in-Err-clause-fit
 returns-in-Err-clause-fit g c =
-    let xs = c.args.staff.now.shelves.items in
-    let k = c.args.place in
-    let left = c.remove-shelf.ensures.by_index.2 ∙ taken_out xs k c.requires.place in
-    subst (λ (ys : List (Shelf g.row.D.Denot Counting)). AreFit g.D.Disk.view g.D.Disk.tells (scripts_of c.args.setup.now) ys c.no_tickets.result) (sym left)
-    (fit_out g.D.Disk.view g.D.Disk.tells (scripts_of c.args.setup.now) xs c.args.staff.now.tickets c.no_tickets.result k c.requires.fit c.requires.place c.no_tickets.ensures)
+    let none = ap (λ (v : Vec (Shelf g.row.D.Denot Counting) Global). v.items) c.replace.ensures.after ∙ c.new.ensures.items in
+    fit_none g.D.Disk.view g.D.Disk.tells (scripts_of c.args.setup.now) c.replace.new.dest.items c.no_tickets.result none c.no_tickets.ensures
 
 pub returns-in-Err-clause-own : goal.returns-in-Err-clause-own
 returns-in-Err-clause-own g c rack_tells disk_tells own =
-    let xs = c.args.staff.now.shelves.items in
-    let k = c.args.place in
-    let left = c.remove-shelf.ensures.by_index.2 ∙ taken_out xs k c.requires.place in
-    subst (λ (ys : List (Shelf g.row.D.Denot Counting)). AreOwn g.D.Disk.view g.D.Disk.tells (scripts_of c.args.setup.now) ys c.no_tickets.result) (sym left)
-    (own_out g.D.Disk.view g.D.Disk.tells (scripts_of c.args.setup.now) xs c.args.staff.now.tickets c.no_tickets.result k own c.no_tickets.ensures)
+    let none = ap (λ (v : Vec (Shelf g.row.D.Denot Counting) Global). v.items) c.replace.ensures.after ∙ c.new.ensures.items in
+    own_alone g.D.Disk.view g.D.Disk.tells (scripts_of c.args.setup.now) c.replace.new.dest.items c.no_tickets.result
+    (λ k x e. absurd (let no : None ≡ Some x = sym (ap (λ (ys : List (Shelf g.row.D.Denot Counting)). slice_get ys k) none) ∙ e in cc)) c.no_tickets.ensures
 
 pub returns-in-Err-clause-home : goal.returns-in-Err-clause-home
 returns-in-Err-clause-home g c =
-    let xs = c.args.staff.now.shelves.items in
-    let k = c.args.place in
-    let x = c.remove-shelf.result in
-    let here = at_index xs k x x c.requires.place c.remove-shelf.ensures.value in
-    let left = c.remove-shelf.ensures.by_index.2 ∙ taken_out xs k c.requires.place in
-    subst (λ (ys : List (Shelf g.row.D.Denot Counting)). IsHome ys (g.R.Rack.view c.reopened.new.rack).out) (sym left)
-    (home_out xs k x _ _ here c.requires.fit.numbers c.requires.home c.in-Err.ensures.rack)
+    let none = ap (λ (v : Vec (Shelf g.row.D.Denot Counting) Global). v.items) c.replace.ensures.after ∙ c.new.ensures.items in
+    record {
+      ours = λ k n e. absurd (let no : None ≡ Some n = sym (ap (λ (ys : List (Shelf g.row.D.Denot Counting)). slice_get (numbers_in ys) k) none) ∙ e in cc);
+      only = λ n out. absurd (let no : true ≡ false = sym out ∙ c.put_all_back.ensures.home n in cc);
+    }
 
 pub returns-in-Err-clause-disk : goal.returns-in-Err-clause-disk
 returns-in-Err-clause-disk g c is =
-    let xs = c.args.staff.now.shelves.items in
-    let k = c.args.place in
-    let x = c.remove-shelf.result in
-    let here = at_index xs k x x c.requires.place c.remove-shelf.ensures.value in
-    let left = c.remove-shelf.ensures.by_index.2 ∙ taken_out xs k c.requires.place in
-    subst (λ (ys : List (Shelf g.row.D.Denot Counting)). Rose (total (g.R.Rack.view c.args.rack.now).faults (faults_in g.D.Disk.view xs)) (total (g.R.Rack.view c.reopened.new.rack).faults (faults_in g.D.Disk.view ys))) (sym left)
-    (rises_out g.D.Disk.view xs k x _ _ here (c.in-Err.ensures.disk (let e : c.in-Err.why ≡ Disk = cc in ap (λ (w : Reopen). Err w) e)))
+    let none = ap (λ (v : Vec (Shelf g.row.D.Denot Counting) Global). v.items) c.replace.ensures.after ∙ c.new.ensures.items in
+    let zero = ap (λ (ys : List (Shelf g.row.D.Denot Counting)). faults_in g.D.Disk.view ys) none in
+    let rose = c.in-Err.ensures.disk (let e : c.in-Err.why ≡ Disk = cc in ap (λ (w : Reopen). Err w) e) in
+    let mid = (g.R.Rack.view c.reopen_at.new.rack).faults in
+    let new = (g.R.Rack.view c.put_all_back.new.rack).faults in
+    let up = subst (λ (v : Vec (Shelf g.row.D.Denot Counting) Global). total mid (faults_in g.D.Disk.view v.items) ≤ new) c.replace.ensures.value c.put_all_back.ensures.later in
+    omega (arith, zero, rose, up)
 
 pub returns-in-Err-clause-later : goal.returns-in-Err-clause-later
 returns-in-Err-clause-later g c =
+    let none = ap (λ (v : Vec (Shelf g.row.D.Denot Counting) Global). v.items) c.replace.ensures.after ∙ c.new.ensures.items in
+    let zero = ap (λ (ys : List (Shelf g.row.D.Denot Counting)). faults_in g.D.Disk.view ys) none in
+    let le = c.in-Err.ensures.later in
+    let mid = (g.R.Rack.view c.reopen_at.new.rack).faults in
+    let new = (g.R.Rack.view c.put_all_back.new.rack).faults in
+    let up = subst (λ (v : Vec (Shelf g.row.D.Denot Counting) Global). total mid (faults_in g.D.Disk.view v.items) ≤ new) c.replace.ensures.value c.put_all_back.ensures.later in
+    omega (arith, zero, le, up)
+
+pub returns-in-Err-clause-here : goal.returns-in-Err-clause-here
+returns-in-Err-clause-here g c is s at =
+    let rose = c.in-Err.ensures.here (let e : c.in-Err.why ≡ Disk = cc in ap (λ (w : Reopen). Err w) e) s at in
+    let up = c.put_all_back.ensures.failed_later s.rules.number in
+    omega (arith, rose, up)
+
+-- the number of the shelf is its place
+pub returns-in-Err-clause-failed : goal.returns-in-Err-clause-failed
+returns-in-Err-clause-failed g c is =
     let xs = c.args.staff.now.shelves.items in
     let k = c.args.place in
-    let x = c.remove-shelf.result in
-    let here = at_index xs k x x c.requires.place c.remove-shelf.ensures.value in
-    let left = c.remove-shelf.ensures.by_index.2 ∙ taken_out xs k c.requires.place in
-    subst (λ (ys : List (Shelf g.row.D.Denot Counting)). total (g.R.Rack.view c.args.rack.now).faults (faults_in g.D.Disk.view xs) ≤ total (g.R.Rack.view c.reopened.new.rack).faults (faults_in g.D.Disk.view ys)) (sym left)
-    (stays_out g.D.Disk.view xs k x _ _ here c.in-Err.ensures.later)
+    let x = some_at xs k c.requires.place in
+    let number : x.0.rules.number ≡ k = c.requires.fit.numbers k x.0.rules.number (number_at xs k x.0 x.1) in
+    let old = (g.R.Rack.view c.args.rack.now).failed in
+    let new = (g.R.Rack.view c.put_all_back.new.rack).failed in
+    let rose = c.in-Err.ensures.here (let e : c.in-Err.why ≡ Disk = cc in ap (λ (w : Reopen). Err w) e) x.0 x.1 in
+    let up = c.put_all_back.ensures.failed_later x.0.rules.number in
+    subst (λ n. Rose (old n) (new n)) number (omega (arith, rose, up))
 
-pub returns-in-Ok-insert-clause-fit : goal.returns-in-Ok-insert-clause-fit
-returns-in-Ok-insert-clause-fit g c =
-    let s = c.args.staff.now in
-    let xs = s.shelves.items in
-    let k = c.args.place in
-    let x = c.remove-shelf.result in
-    let y = c.in-Ok.shelf in
-    let scripts = scripts_of c.args.setup.now in
-    let here = at_index xs k x x c.requires.place c.remove-shelf.ensures.value in
-    let left = c.remove-shelf.ensures.by_index.2 ∙ taken_out xs k c.requires.place in
-    let now = c.in-Ok-insert.ensures.items ∙ ap (λ (ys : List (Shelf g.row.D.Denot Counting)). insert ys k y) left ∙ put_in xs k y c.requires.place in
-    let kept = subst (λ n. KeepsOthers n k s.tickets c.lose_tickets.new.tickets) (c.len-count.ensures ∙ s.shelves.ok.0) c.lose_tickets.ensures.kept in
-    subst (λ (ys : List (Shelf g.row.D.Denot Counting)). AreFit g.D.Disk.view g.D.Disk.tells scripts ys c.lose_tickets.new.tickets) (sym now)
-    (fit_crash g.D.Disk.view g.D.Disk.tells scripts xs s.tickets c.lose_tickets.new.tickets k x y c.requires.fit here c.in-Ok.ensures.served
-    c.in-Ok.ensures.rules c.lose_tickets.ensures.workers kept)
+pub returns-in-Err-clause-failed_later : goal.returns-in-Err-clause-failed_later
+returns-in-Err-clause-failed_later g c n = (let a = c.in-Err.ensures.failed_later n in let b = c.put_all_back.ensures.failed_later n in omega (arith, a, b))
 
-pub returns-in-Ok-insert-clause-own : goal.returns-in-Ok-insert-clause-own
-returns-in-Ok-insert-clause-own g c rack_tells disk_tells own =
-    let s = c.args.staff.now in
-    let xs = s.shelves.items in
-    let k = c.args.place in
-    let x = c.remove-shelf.result in
-    let y = c.in-Ok.shelf in
-    let scripts = scripts_of c.args.setup.now in
-    let here = at_index xs k x x c.requires.place c.remove-shelf.ensures.value in
-    let left = c.remove-shelf.ensures.by_index.2 ∙ taken_out xs k c.requires.place in
-    let now = c.in-Ok-insert.ensures.items ∙ ap (λ (ys : List (Shelf g.row.D.Denot Counting)). insert ys k y) left ∙ put_in xs k y c.requires.place in
-    let kept = subst (λ n. KeepsOthers n k s.tickets c.lose_tickets.new.tickets) (c.len-count.ensures ∙ s.shelves.ok.0) c.lose_tickets.ensures.kept in
-    subst (λ (ys : List (Shelf g.row.D.Denot Counting)). AreOwn g.D.Disk.view g.D.Disk.tells scripts ys c.lose_tickets.new.tickets) (sym now)
-    (own_crash g.D.Disk.view g.D.Disk.tells scripts xs s.tickets c.lose_tickets.new.tickets k x y own here
-    (c.in-Ok.ensures.own rack_tells disk_tells (own.own k x here)) kept)
-
-pub returns-in-Ok-insert-clause-home : goal.returns-in-Ok-insert-clause-home
-returns-in-Ok-insert-clause-home g c =
-    let xs = c.args.staff.now.shelves.items in
-    let k = c.args.place in
-    let x = c.remove-shelf.result in
-    let y = c.in-Ok.shelf in
-    let here = at_index xs k x x c.requires.place c.remove-shelf.ensures.value in
-    let left = c.remove-shelf.ensures.by_index.2 ∙ taken_out xs k c.requires.place in
-    let now = c.in-Ok-insert.ensures.items ∙ ap (λ (ys : List (Shelf g.row.D.Denot Counting)). insert ys k y) left ∙ put_in xs k y c.requires.place in
-    subst (λ (ys : List (Shelf g.row.D.Denot Counting)). IsHome ys (g.R.Rack.view c.reopened.new.rack).out) (sym now)
-    (home_set xs k x y (g.R.Rack.view c.args.rack.now) (g.R.Rack.view c.reopened.new.rack) here c.in-Ok.ensures.rules c.requires.home c.in-Ok.ensures.rack)
-
-pub returns-in-Ok-insert-clause-later : goal.returns-in-Ok-insert-clause-later
-returns-in-Ok-insert-clause-later g c =
-    let xs = c.args.staff.now.shelves.items in
-    let k = c.args.place in
-    let x = c.remove-shelf.result in
-    let y = c.in-Ok.shelf in
-    let here = at_index xs k x x c.requires.place c.remove-shelf.ensures.value in
-    let left = c.remove-shelf.ensures.by_index.2 ∙ taken_out xs k c.requires.place in
-    let now = c.in-Ok-insert.ensures.items ∙ ap (λ (ys : List (Shelf g.row.D.Denot Counting)). insert ys k y) left ∙ put_in xs k y c.requires.place in
-    subst (λ (ys : List (Shelf g.row.D.Denot Counting)). total (g.R.Rack.view c.args.rack.now).faults (faults_in g.D.Disk.view xs) ≤ total (g.R.Rack.view c.reopened.new.rack).faults (faults_in g.D.Disk.view ys)) (sym now)
-    (stays_set g.D.Disk.view xs k x y _ _ here c.in-Ok.ensures.later)
-
-pub returns-in-Ok-insert-clause-step : goal.returns-in-Ok-insert-clause-step
-returns-in-Ok-insert-clause-step g c rack_tells disk_tells own =
-    let s = c.args.staff.now in
-    let xs = s.shelves.items in
-    let k = c.args.place in
-    let x = c.remove-shelf.result in
-    let y = c.in-Ok.shelf in
-    let scripts = scripts_of c.args.setup.now in
-    let here = at_index xs k x x c.requires.place c.remove-shelf.ensures.value in
-    let left = c.remove-shelf.ensures.by_index.2 ∙ taken_out xs k c.requires.place in
-    let now = c.in-Ok-insert.ensures.items ∙ ap (λ (ys : List (Shelf g.row.D.Denot Counting)). insert ys k y) left ∙ put_in xs k y c.requires.place in
-    let held = subst (λ n. map (option_map ticket_of) c.lose_tickets.new.tickets ≡ without_shelf n k 0 (map (option_map ticket_of) s.tickets))
-    (c.len-count.ensures ∙ s.shelves.ok.0) c.lose_tickets.ensures.held in
-    subst (λ (ys : List (Shelf g.row.D.Denot Counting)). Comes is_fault ⊥ (desk_crash (desk_with scripts xs s.tickets) k) (desk_with scripts xs s.tickets) c.live-live.result
-    (desk_with scripts ys c.lose_tickets.new.tickets)) (sym now)
-    (crash_comes scripts xs s.tickets c.lose_tickets.new.tickets k c.live-live.result x y here (c.in-Ok.ensures.crashed rack_tells disk_tells (own.own k x here))
-    c.in-Ok.ensures.rules c.in-Ok.ensures.nonces (length-map y.book.instances.things.items (instance_of scripts) ∙ sym c.live-live.ensures) held)
-
-pub returns-in-Ok-insert-clause-count : goal.returns-in-Ok-insert-clause-count
-returns-in-Ok-insert-clause-count g c =
-    let xs = c.args.staff.now.shelves.items in
-    let k = c.args.place in
-    let y = c.in-Ok.shelf in
-    let left = c.remove-shelf.ensures.by_index.2 ∙ taken_out xs k c.requires.place in
-    let now = c.in-Ok-insert.ensures.items ∙ ap (λ (ys : List (Shelf g.row.D.Denot Counting)). insert ys k y) left ∙ put_in xs k y c.requires.place in
-    ap length now ∙ length-set xs k y
+pub returns-in-Err-clause-left : goal.returns-in-Err-clause-left
+returns-in-Err-clause-left g c rack_tells disk_tells own =
+    let staff = c.args.staff.now in
+    let ys = c.reopen_at.new.staff.shelves.items in
+    let mid = g.R.Rack.view c.reopen_at.new.rack in
+    let new = g.R.Rack.view c.put_all_back.new.rack in
+    left_behind g.D.Disk.view g.D.Disk.tells (scripts_of c.args.setup.now) staff.shelves.items ys staff.tickets c.args.place mid new disk_tells
+    c.requires.fit own c.in-Err.ensures.others (c.in-Err.ensures.left rack_tells disk_tells own) c.in-Err.ensures.gone c.in-Err.ensures.home
+    (subst (λ (v : Vec (Shelf g.row.D.Denot Counting) Global). HoldImages g.D.Disk.view v.items new.holds) c.replace.ensures.value (c.put_all_back.ensures.images rack_tells))
+    (subst (λ (v : Vec (Shelf g.row.D.Denot Counting) Global). LeaveOthers v.items mid new) c.replace.ensures.value c.put_all_back.ensures.others)
+    c.put_all_back.ensures.home

@@ -5,9 +5,10 @@ use Rattle.web_outside.specs.declared.nonces.Counting.{Counting}
 use Rattle.shelf.specs.declared.rules.Rules.{Rules}
 use Rattle.shelf.specs.declared.shelf.Shelf.{Shelf}
 use Rattle.play_desk.specs.Desk.{first_desk}
-use Rattle.play_desk.specs.Opening.{GivesOne, HoldImages, IsRefusedBy, KeepsClosed, LeaveOthers, OpensNext, rules_at}
+use Rattle.play_desk.specs.Opening.{FailedFor, GivesOne, HoldImages, IsRefusedBy, KeepsClosed, LeaveOthers, OpensNext, rules_at}
 use Rattle.play_desk.specs.Staff.{HaveOwnNumbers, IsHome, desk_with, faults_in, total}
-use Rattle.play_desk.proofs.Beginning.{closed_by, desk_opened, fit_opened, kept_all, later_closed, next_home, opened_more, own_opened, still_home}
+use Rattle.play_desk.specs.declared.opening.OpenCause.{OpenCause}
+use Rattle.play_desk.proofs.Beginning.{closed_by, desk_opened, failed_closed, fit_opened, given_later, kept_all, later_closed, next_home, opened_more, own_opened, still_home}
 use Rattle.play_desk.proofs.Owning.{own_alone}
 use Rattle.play_desk.proofs.desk_disks.open_desk.Goals as goal
 
@@ -60,6 +61,24 @@ returns-in-Err-clause-later g c =
     let new = (g.R.Rack.view c.put_all_back.new.rack).faults in
     later_closed _ _ _ _ _ _ _ _ _ mid new c.loop-number.invariant c.in-Err.ensures.later
     (subst (λ (ys : List (Shelf g.row.D.Denot Counting)). total mid (faults_in g.D.Disk.view ys) ≤ new) c.in-Err.ensures.same c.put_all_back.ensures.later)
+
+pub returns-in-Err-clause-failed_later : goal.returns-in-Err-clause-failed_later
+returns-in-Err-clause-failed_later g c =
+    let old = g.R.Rack.view c.loop-number.rack in
+    let mid = g.R.Rack.view c.open_next.new.rack in
+    given_later _ _ _ _ _ _ _ _ _ mid (g.R.Rack.view c.put_all_back.new.rack) c.loop-number.invariant
+    (subst (λ (r : Rules). GivesOne r.number old mid) c.numbered-next.ensures c.in-Err.ensures.given) c.put_all_back.ensures.failed_later
+
+pub returns-in-Err-clause-disk : goal.returns-in-Err-clause-disk
+returns-in-Err-clause-disk g c is =
+    let old = g.R.Rack.view c.loop-number.rack in
+    let mid = g.R.Rack.view c.open_next.new.rack in
+    let new = g.R.Rack.view c.put_all_back.new.rack in
+    failed_closed _ _ _ _ _ _ _ _ _ mid new c.loop-number.invariant
+    (subst (λ (r : Rules). FailedFor r.number old mid) c.numbered-next.ensures (c.in-Err.ensures.disk (ap (λ (w : OpenCause). Err w) is)))
+    c.in-Err.ensures.later
+    (subst (λ (ys : List (Shelf g.row.D.Denot Counting)). total mid.faults (faults_in g.D.Disk.view ys) ≤ new.faults) c.in-Err.ensures.same c.put_all_back.ensures.later)
+    c.put_all_back.ensures.failed_later
 
 pub loop-number-preserved : goal.loop-number-preserved
 loop-number-preserved g c =

@@ -5,7 +5,7 @@ use Rattle.std.proofs.lemmas.Option.{slice_get_within}
 use Rattle.web_outside.specs.declared.nonces.Counting.{Counting}
 use Rattle.shelf.specs.declared.shelf.Shelf.{Shelf}
 use Rattle.play_desk.specs.Staff.{IsHome, faults_in, total}
-use Rattle.play_desk.proofs.Closing.{at_front, at_last, front_less, home_last, images_last, stays_last}
+use Rattle.play_desk.proofs.Closing.{at_front, at_last, fell_with, front_less, home_last, images_last, stays_last}
 use Rattle.play_desk.proofs.Fitting.{number_at}
 use Rattle.play_desk.proofs.desk_disks.put_all_back.Goals as goal
 
@@ -16,6 +16,7 @@ loop-shelf-init g c = (
   λ told k s le e. absurd (let within = slice_get_within c.args.shelves.items k s e in omega (arith, within, le)),
   omega arith,
   λ n other image h. h,
+  λ n. omega arith,
 )
 
 pub put_back-requires : goal.put_back-requires
@@ -47,4 +48,5 @@ loop-shelf-preserved g c =
       omega (arith, sum, stays),
       λ n other image h. i.4 n other image
           (given.others n (λ is. other (length xs) (number_at all (length xs) x (at_front xs all x front) ∙ ap Some (sym is))) image h),
+      fell_with (g.R.Rack.view c.args.rack.now) old new x.rules.number i.5 given,
     )

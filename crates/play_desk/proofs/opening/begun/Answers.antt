@@ -8,6 +8,7 @@ use Rattle.shelf.specs.declared.begin.BeginFault.{BeginFault}
 use Rattle.shelf.specs.declared.begin.BeginFault.TheVariants as begin
 use Rattle.play_desk.specs.Opening.{Finds, KeepsBegun, reopen_of}
 use Rattle.play_desk.proofs.Keeping.{not_begun}
+use Rattle.play_desk.proofs.Reopening.{stays_lost}
 use Rattle.play_desk.proofs.opening.begun.Goals as goal
 
 pub returns-in-Ok-clause-found : goal.returns-in-Ok-clause-found
@@ -39,3 +40,19 @@ returns-in-Err-clause-keeps g c rack_tells tells out =
     subst (λ r. KeepsBegun v ss c.args.rules.number (v c.args.disk) holds (Err r)) (sym c.why_not.ensures)
     (not_begun v ss c.args.rules.number (v c.args.disk) (v c.in-Err.disk) holds c.in-Err.fault (λ other. c.in-Err.ensures.keeps tells (λ e. other cc))
     (c.give.ensures.images rack_tells out))
+
+-- an opening leaves the disk of an own shelf standing for its book, whatever came of it
+pub returns-in-Ok-clause-left : goal.returns-in-Ok-clause-left
+returns-in-Ok-clause-left g c rack_tells tells out =
+    let v = g.D.Disk.view in
+    let now = c.in-Ok.shelf.journal.disk in
+    stays_lost (scripts_of c.args.setup.now) c.args.rules.number (v c.args.disk) (v now) (v now).images (λ t image. g.met.D.Disk.counts_now now t image)
+    (c.in-Ok.ensures.any_moment tells) (c.in-Ok.ensures.own_moments tells) (λ image h. h)
+
+pub returns-in-Err-clause-left : goal.returns-in-Err-clause-left
+returns-in-Err-clause-left g c rack_tells tells out =
+    let v = g.D.Disk.view in
+    let now = c.in-Err.disk in
+    stays_lost (scripts_of c.args.setup.now) c.args.rules.number (v c.args.disk) (v now) ((g.R.Rack.view c.give.new.self).holds c.args.rules.number)
+    (λ t image. g.met.D.Disk.counts_now now t image)
+    (c.in-Err.ensures.any_moment tells) (c.in-Err.ensures.own_moments tells) (c.give.ensures.images rack_tells out)

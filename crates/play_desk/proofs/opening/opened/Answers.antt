@@ -1,4 +1,4 @@
-use Rattle.std.proofs.Common.{◌≡◌, ◌∙◌, ap, sym, subst, ℕ, List, [], Err, rules}
+use Rattle.std.proofs.Common.{◌≡◌, ◌∙◌, ap, sym, subst, ℕ, List, [], Err, rules, arith}
 use Rattle.play_steps.specs.declared.stage.Reopen.{Reopen}
 use Rattle.script_nodes.specs.Views.{scripts_of}
 use Rattle.play_desk.specs.declared.opening.OpenCause.TheVariants.{Disk}
@@ -9,7 +9,15 @@ use Rattle.play_desk.proofs.opening.opened.Goals as goal
 
 pub returns-in-Err-clause-disk : goal.returns-in-Err-clause-disk
 returns-in-Err-clause-disk g c is =
-    rose_after _ _ _ _ c.in_ok-disk.ensures.later (c.in-Err.ensures.disk (ap (λ (w : Reopen). Err w) (disk_cause c.in-Err.why (sym c.of.ensures ∙ (let e : c.of.result ≡ Disk = cc in e)))))
+    let old = g.R.Rack.view c.args.rack.now in
+    let disk = g.D.Disk.view c.in_ok-disk.disk in
+    let why = ap (λ (w : Reopen). Err w) (disk_cause c.in-Err.why (sym c.of.ensures ∙ (let e : c.of.result ≡ Disk = cc in e))) in
+    let taken = c.in_ok-disk.ensures.rack.failed in
+    let here = c.in-Err.ensures.here why in
+    record {
+      all = rose_after _ _ _ _ c.in_ok-disk.ensures.later (c.in-Err.ensures.disk why);
+      here = omega (arith, taken, here);
+    }
 
 -- no record is on a disk without bytes
 pub returns-in-Ok-clause-own : goal.returns-in-Ok-clause-own

@@ -1,12 +1,15 @@
-use Rattle.std.proofs.Common.{subst, sym}
+use Rattle.std.proofs.Common.{◌≡◌, ◌∙◌, ◌≤◌, ◌+◌, Err, ap, arith, rules, subst, sym}
+use Rattle.web_outside.specs.Causes.{Rose}
+use Rattle.play_steps.specs.declared.stage.Reopen.{Reopen}
+use Rattle.play_steps.specs.declared.stage.Reopen.TheVariants.{Disk}
 use Rattle.script_nodes.specs.Views.{scripts_of}
 use Rattle.web_disk.specs.View.{AreAmong}
-use Rattle.shelf.specs.Owning.{IsOwnImage}
-use Rattle.shelf.specs.Views.{book_in}
+use Rattle.shelf.specs.Owning.{IsOwnImage, StandsOwn}
+use Rattle.shelf.specs.Views.{book_in, rules_of}
 use Rattle.shelf.proofs.Owned.{images_own}
 use Rattle.shelf.specs.declared.rules.Rules.{Rules}
-use Rattle.play_desk.specs.Opening.{Finds}
-use Rattle.play_desk.proofs.Reopening.{none_other, reopened_ok, undamaged}
+use Rattle.play_desk.specs.Opening.{Finds, StandsLost, left_on}
+use Rattle.play_desk.proofs.Reopening.{lost_among, none_other, own_among, reopened_ok, undamaged}
 use Rattle.play_desk.proofs.opening.reopened.Goals as goal
 
 pub returns-clause-crashed : goal.returns-clause-crashed
@@ -52,3 +55,54 @@ returns-clause-other g c rack_tells disk_tells =
     (c.requires.served.in_order.fit disk_tells).stands images
     (λ image here. c.put_back-nonces.ensures.images rack_tells image (held image here)) c.begun.result
     (subst (λ (r : Rules). Finds g.D.Disk.view scripts r.number images c.begun.result) c.rules-rules.ensures.rules (c.begun.ensures.found disk_tells))
+
+-- the disk was not taken again
+pub returns-in_err-disk-clause-left : goal.returns-in_err-disk-clause-left
+returns-in_err-disk-clause-left g c rack_tells disk_tells own =
+    let old = c.args.shelf in
+    let scripts = scripts_of c.args.setup.now in
+    let why = c.in_err-disk.field-0.0 in
+    let told : c.from_residual.result ≡ Err why = search rules in
+    rw told (lost_among (rules_of scripts old.rules) scripts old.rules.number (g.D.Disk.view old.journal.disk)
+    ((g.R.Rack.view c.taken.new.rack).holds old.rules.number) (book_in scripts old) (own.own disk_tells)
+    (λ image h. c.put_back-nonces.ensures.images rack_tells image (c.in_err-disk.ensures.rack.holds old.rules.number image h)))
+
+-- the shelf was opened on it or not
+pub returns-clause-left : goal.returns-clause-left
+returns-clause-left g c rack_tells disk_tells own =
+    let old = c.args.shelf in
+    let scripts = scripts_of c.args.setup.now in
+    let r = rules_of scripts old.rules in
+    let b = book_in scripts old in
+    let disk = g.D.Disk.view c.in_ok-disk.disk in
+    let holds = (g.R.Rack.view c.begun.new.rack).holds in
+    let held = subst (λ (l : Rules). AreAmong disk.images ((g.R.Rack.view c.put_back-nonces.new.rack).holds l.number)) c.rules-rules.ensures.rules (c.in_ok-disk.ensures.images rack_tells) in
+    let here = own_among r scripts old.rules.number (g.D.Disk.view old.journal.disk) disk b (own.own disk_tells)
+    (λ image h. c.put_back-nonces.ensures.images rack_tells image (held image h)) in
+    subst (λ (l : Rules). StandsLost r scripts l.number (left_on g.D.Disk.view l.number holds c.begun.result) b) c.rules-rules.ensures.rules
+    (c.begun.ensures.left rack_tells disk_tells c.in_ok-disk.ensures.rack.out r b
+    (subst (λ (l : Rules). StandsOwn r scripts l.number disk b) (sym c.rules-rules.ensures.rules) here))
+
+-- the count of its number rose over what its disk had failed
+pub returns-in_err-disk-clause-here : goal.returns-in_err-disk-clause-here
+returns-in_err-disk-clause-here g c is =
+    let why = c.in_err-disk.field-0.0 in
+    let told : c.from_residual.result ≡ Err why = search rules in
+    let same = sym told ∙ is in
+    let mid = (g.R.Rack.view c.put_back-nonces.new.rack).failed in
+    let new = (g.R.Rack.view c.taken.new.rack).failed in
+    let failed = c.in_err-disk.ensures.disk (let e : why ≡ Disk = cc in ap (λ (w : Reopen). Err w) e) in
+    let here = subst (λ (l : Rules). Rose (mid l.number) (new l.number)) c.rules-rules.ensures.rules failed.here in
+    let counted = c.put_back-nonces.ensures.counted in
+    omega (arith, here, counted)
+
+pub returns-clause-here : goal.returns-clause-here
+returns-clause-here g c is =
+    let mid = (g.R.Rack.view c.put_back-nonces.new.rack).failed in
+    let taken = (g.R.Rack.view c.taken.new.rack).failed in
+    let new = (g.R.Rack.view c.begun.new.rack).failed in
+    let faults = (g.D.Disk.view c.in_ok-disk.disk).faults in
+    let here = subst (λ (l : Rules). Rose (taken l.number + faults) (new l.number)) c.rules-rules.ensures.rules (c.begun.ensures.here is) in
+    let up = subst (λ (l : Rules). mid l.number ≤ taken l.number) c.rules-rules.ensures.rules c.in_ok-disk.ensures.rack.failed in
+    let counted = c.put_back-nonces.ensures.counted in
+    omega (arith, here, up, counted)

@@ -16,9 +16,9 @@ returns-in-Take-clause-came g c known own =
     let new = c.take-taken.new.self in
     let call = c.take-taken.ensures in
     let told = subst (λ (x : Report). MatchResult c.one.result (λ reports. reports.items ≡ x ∷ []) (λ (why : Halt). why ≡ halt.Memory)) c.of_take.ensures c.one.ensures in
-    subst (λ (s : Step). Performs r s c.one.result (spot r (g.T.Stage.state c.args.stage.now) (g.T.Stage.faults c.args.stage.now devices))
+    subst (λ (s : Step). Performs r (g.T.Stage.left devices) s c.one.result (spot r (g.T.Stage.state c.args.stage.now) (g.T.Stage.faults c.args.stage.now devices))
     (spot r (g.T.Stage.state new) (g.T.Stage.faults new devices))) step
-    (tells r _ _ _ _ c.one.result told (took r _ _ _ _ _ (comes_called r _ _ _ _ _ (call.step own) (call.later devices) (λ rose. rose devices))))
+    (tells r (g.T.Stage.left devices) _ _ _ _ c.one.result told (took r _ _ _ _ _ (comes_called r _ _ _ _ _ (call.step own) (call.later devices) (λ rose. rose devices))))
 
 pub returns-in-Publish-clause-came : goal.returns-in-Publish-clause-came
 returns-in-Publish-clause-came g c known own =
@@ -27,9 +27,9 @@ returns-in-Publish-clause-came g c known own =
     let new = c.publish-reply.new.self in
     let step : publish c.in-Publish.worker ≡ meaning c.args.step.now = search rules in
     let call = c.publish-reply.ensures in
-    subst (λ (s : Step). Performs r s c.one-in-Publish.result (spot r (g.T.Stage.state c.args.stage.now) (g.T.Stage.faults c.args.stage.now devices))
+    subst (λ (s : Step). Performs r (g.T.Stage.left devices) s c.one-in-Publish.result (spot r (g.T.Stage.state c.args.stage.now) (g.T.Stage.faults c.args.stage.now devices))
     (spot r (g.T.Stage.state new) (g.T.Stage.faults new devices))) step
-    (tells r _ _ _ _ c.one-in-Publish.result c.one-in-Publish.ensures
+    (tells r (g.T.Stage.left devices) _ _ _ _ c.one-in-Publish.result c.one-in-Publish.ensures
     (published r _ _ _ _ (comes_called r _ _ _ _ _ (call.step own) (call.later devices) (λ rose. rose devices))))
 
 pub returns-in-Ok-clause-came : goal.returns-in-Ok-clause-came
@@ -40,9 +40,9 @@ returns-in-Ok-clause-came g c known own =
     let step : get c.in-Get.worker c.in-Get.target.now ≡ meaning c.args.step.now = search rules in
     let first = c.in-Ok.ensures in
     let second = c.publish-shown.ensures in
-    subst (λ (s : Step). Performs r s c.one-in-Ok.result (spot r (g.T.Stage.state c.args.stage.now) (g.T.Stage.faults c.args.stage.now devices))
+    subst (λ (s : Step). Performs r (g.T.Stage.left devices) s c.one-in-Ok.result (spot r (g.T.Stage.state c.args.stage.now) (g.T.Stage.faults c.args.stage.now devices))
     (spot r (g.T.Stage.state new) (g.T.Stage.faults new devices))) step
-    (tells r _ _ _ _ c.one-in-Ok.result c.one-in-Ok.ensures
+    (tells r (g.T.Stage.left devices) _ _ _ _ c.one-in-Ok.result c.one-in-Ok.ensures
     (got_number r _ (spot r (g.T.Stage.state c.take.new.self) (g.T.Stage.faults c.take.new.self devices)) _ _ _ _ _
     (comes_called r _ _ _ _ _ (first.step own) (first.later devices) (λ rose. rose devices))
     (comes_called r _ _ _ _ _ (second.step (first.own own)) (second.later devices) (λ rose. rose devices))))
@@ -54,9 +54,9 @@ returns-in-Err-clause-came g c known own =
     let new = c.take.new.self in
     let step : get c.in-Get.worker c.in-Get.target.now ≡ meaning c.args.step.now = search rules in
     let call = c.in-Err.ensures in
-    subst (λ (s : Step). Performs r s c.one-in-Err.result (spot r (g.T.Stage.state c.args.stage.now) (g.T.Stage.faults c.args.stage.now devices))
+    subst (λ (s : Step). Performs r (g.T.Stage.left devices) s c.one-in-Err.result (spot r (g.T.Stage.state c.args.stage.now) (g.T.Stage.faults c.args.stage.now devices))
     (spot r (g.T.Stage.state new) (g.T.Stage.faults new devices))) step
-    (tells r _ _ _ _ c.one-in-Err.result c.one-in-Err.ensures
+    (tells r (g.T.Stage.left devices) _ _ _ _ c.one-in-Err.result c.one-in-Err.ensures
     (got_refusal r _ _ _ _ _ (comes_called r _ _ _ _ _ (call.step own) (call.later devices) (λ rose. rose devices))))
 
 pub returns-in-Crash-clause-came : goal.returns-in-Crash-clause-came
@@ -65,9 +65,9 @@ returns-in-Crash-clause-came g c known own =
     let step : crash c.in-Crash.shelf ≡ meaning c.args.step.now = search rules in
     let call = c.crash-opened.ensures in
     let new = c.crash-opened.new in
-    subst (λ (s : Step). Performs r s c.crash_report.result (spot r (g.T.Stage.state c.args.stage.now) (g.T.Stage.faults c.args.stage.now c.args.devices.now))
+    subst (λ (s : Step). Performs r (g.T.Stage.left new.devices) s c.crash_report.result (spot r (g.T.Stage.state c.args.stage.now) (g.T.Stage.faults c.args.stage.now c.args.devices.now))
     (spot r (g.T.Stage.state new.self) (g.T.Stage.faults new.self new.devices))) step
-    (crash_performs r _ _ _ _ _ c.crash_report.ensures (call.step (told_crash g.T.Stage.tells _ _ step known) own) call.disk call.later)
+    (crash_performs r (g.T.Stage.left new.devices) _ _ _ _ _ c.crash_report.ensures (call.step (told_crash g.T.Stage.tells _ _ step known) own) call.disk call.later (call.left (told_crash g.T.Stage.tells _ _ step known) own))
 
 pub returns-in-Crash-clause-own : goal.returns-in-Crash-clause-own
 returns-in-Crash-clause-own g c known own =

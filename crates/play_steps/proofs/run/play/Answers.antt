@@ -33,6 +33,7 @@ loop-rest-init g c =
       own = λ known own. own;
       home = c.requires.home;
       devices_later = omega arith;
+      failed_later = λ n. omega arith;
     }
 
 pub returns-in_default-clause-ended : goal.returns-in_default-clause-ended
@@ -72,11 +73,11 @@ returns-in-Halted-clause-ended g c known own =
     let first : first_step c.loop-rest.rest.now ≡ Some (step, c.in-Some.after.now) = search rules in
     let reached = at_first _ _ _ _ _ _ _ (steps_first c.loop-rest.rest.now step c.in-Some.after.now first) (c.loop-rest.invariant.reached known own) in
     let turned = c.in-Halted.ensures.turned (next_told _ reached.front _ _ step reached.cut known) (c.loop-rest.invariant.own known own) in
-    subst (λ (end : PlayEnd). Leaves g.T.Stage.rules (steps_of c.args.text.now) end
+    subst (λ (end : PlayEnd). Leaves g.T.Stage.rules (g.T.Stage.left c.play_step.new.devices) (steps_of c.args.text.now) end
     (scene g.T.Stage.rules (g.O.Sink.view c.args.sink.now).written (g.T.Stage.state c.args.stage.now) (g.T.Stage.faults c.args.stage.now c.args.devices.now))
     (scene g.T.Stage.rules (g.O.Sink.view c.play_step.new.sink).written (g.T.Stage.state c.play_step.new.stage) (g.T.Stage.faults c.play_step.new.stage c.play_step.new.devices)))
     (sym c.of.ensures)
-    (stops _ _ _ _ _ _ step (steps_of c.in-Some.after.now) c.in-Halted.halt turned.0 turned.1 turned.2 reached)
+    (stops _ (g.T.Stage.left c.play_step.new.devices) _ _ _ _ _ step (steps_of c.in-Some.after.now) c.in-Halted.halt turned.0 turned.1 turned.2 reached)
 
 pub loop-rest-preserved : goal.loop-rest-preserved
 loop-rest-preserved g c =
@@ -98,6 +99,7 @@ loop-rest-preserved g c =
           went.own (next_told _ reached.front _ _ step reached.cut known) (c.loop-rest.invariant.own known own);
       home = went.home;
       devices_later = omega (arith, went.devices_later);
+      failed_later = λ n. (let a = c.loop-rest.invariant.failed_later n in let b = went.failed_later n in omega (arith, a, b));
     }
 
 pub loop-rest-smaller : goal.loop-rest-smaller

@@ -1,5 +1,6 @@
 use Rattle.std.proofs.Common.{◌≡◌, ◌≤◌, ◌+◌, length, true}
 use Rattle.play_steps.specs.Step.{steps_of, is_told}
+use Rattle.play_steps.specs.Rules.{StaysUp}
 use Rattle.play_steps.specs.Played.{scene}
 use Rattle.play_steps.proofs.Runs.{Reached}
 use Rattle.play_steps.proofs.run.play.Given as goal
@@ -18,6 +19,7 @@ invariant-loop-rest g l =
       own : is_told stage.tells (steps_of l.text) ≡ true → stage.own l.initial.stage → stage.own l.stage;
       home : stage.at_home l.stage l.devices;
       devices_later : stage.faults l.initial.stage l.initial.devices ≤ stage.faults l.stage l.devices;
+      failed_later : StaysUp (stage.failed l.initial.devices) (stage.failed l.devices);
     }
 
 abbrev pub decreases-loop-rest : goal.decreases-loop-rest
