@@ -1,7 +1,7 @@
-ghost use Rattle.std.specs.Prelude.{◌≡◌, ◌<◌, ◌^◌, ℕ};
+ghost use Rattle.std.specs.Prelude.{◌≡◌, ◌<◌, ◌^◌, ℕ, IfOk};
 ghost use Rattle.script_value.specs.Views.{meaning};
 ghost use Rattle.page_names.specs.Views.{target_of};
-ghost use Rattle.http_forms.specs.Passes.{PassRules, swept};
+ghost use Rattle.http_forms.specs.Passes.{PassRules, AreSwept, KeepsSkips, MaySkip, swept};
 
 use page_names::Target;
 use script_value::{Reply, Value};
@@ -28,10 +28,12 @@ pub trait Answering {
         requires { (rules self.now).IsOwn pass.old }
         ensures own { (rules self.now).IsOwn pass.new }
         ensures visit { (rules self.now).Visits pass.old (target_of target.now)
-            (meaning answer) result pass.new };
+            (meaning answer) result pass.new }
+        ensures skips { KeepsSkips (rules self.now) pass.old pass.new };
 
     /// Sweeps each shelf at the tick, in seconds: how many instances it freed, or the reply that says why none, in the
-    /// order of the shelves. An error is want of memory for their list.
+    /// order of the shelves. An error is want of memory for their list. Where none refused, a sweep at the same tick has
+    /// nothing to do from then on.
     fn tick(
         &self,
         alloc: Global,
@@ -41,5 +43,7 @@ pub trait Answering {
         requires own { (rules self.now).IsOwn pass.old }
         requires tick { tick < 2 ^ 62 }
         ensures own { (rules self.now).IsOwn pass.new }
-        ensures tick { (rules self.now).Ticks pass.old tick (swept result) pass.new };
+        ensures tick { (rules self.now).Ticks pass.old tick (swept result) pass.new }
+        ensures skip { IfOk result (λ answers. AreSwept answers.items →
+            MaySkip (rules self.now) pass.new tick) };
 }

@@ -1,5 +1,5 @@
 -- What the buffers keep, and what they tell.
-use Rattle.std.specs.Prelude.{ℕ, List, drop, take, slice_range}
+use Rattle.std.specs.Prelude.{ℕ, List, drop, slice_range}
 use Rattle.std.specs.Io.KnownBytes.{append_known, prepend_known}
 use Rattle.web_outside.specs.View.{SourceView, SinkView}
 use Rattle.machine_outside.specs.declared.buffers.ReadAhead.{ReadAhead}
@@ -15,7 +15,7 @@ ahead_view view s = record (view s.source) { left = prepend_known (kept_ahead s)
 
 -- the bytes that were taken and not yet written
 abbrev pub kept_together : {O : Type 0} → Together O → List ℕ
-kept_together s = drop s.start (take s.end s.bytes)
+kept_together s = drop s.start s.bytes.items
 
 -- the bytes that were written are those that were written below, and then those that are kept
 abbrev pub together_view : {O : Type 0} → (view : O → SinkView) → Together O → SinkView

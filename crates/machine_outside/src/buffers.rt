@@ -1,13 +1,14 @@
-// A source that reads ahead, and a sink that keeps its bytes together, without taking memory.
-ghost use Rattle.std.specs.Prelude.{◌≡◌, ◌≤◌, ◌<◌, ◌++◌, [], length, take, OnOk, OnErr};
-ghost use Rattle.std.specs.Io.KnownBytes.{IsAtEnd, Keeps};
+// A source that reads ahead, and a sink that keeps its bytes together.
+ghost use Rattle.std.specs.Prelude.{◌≡◌, ◌≤◌, ◌<◌, ◌++◌, [], length, vec_len, take, OnOk, OnErr};
+ghost use Rattle.std.specs.Io.{WritesAtMost};
+ghost use Rattle.std.specs.Io.KnownBytes.{IsAtEnd, Keeps, WriteAppends};
 ghost use Rattle.web_outside.specs.Causes.{HasCause};
+ghost use Rattle.web_outside.specs.Pieces.{TakesSome};
 
+use std::alloc::{AllocError, Global};
 use web_outside::{Failed, Sink, Source};
 
 const AHEAD: usize = 4_096;
-
-const TOGETHER: usize = 8_192;
 
 /// A source that is read in large pieces, and gives them in whatever pieces it is asked for.
 #[derive(Drop)]
@@ -80,30 +81,29 @@ impl<S: Source> Source for ReadAhead<S> {
     }
 }
 
-/// A sink that writes what it is given in large pieces, the last of them at a flush.
+/// A sink that keeps what it is given until a flush, and then writes it in one piece. Without memory for more it writes what
+/// it has before.
 #[derive(Drop)]
 pub struct Together<O> {
     sink: O,
-    bytes: [u8; TOGETHER],
+    bytes: Vec<u8>,
+    // So many of the bytes are written.
     start: usize,
-    end: usize,
-    ghost ordered: { start ≤ end },
-    ghost within: { end ≤ 8192 },
+    ghost ordered: { start ≤ vec_len bytes },
 }
 
 impl<O: Sink> Together<O> {
     ghost use Rattle.machine_outside.specs.Buffers.{kept_together, together_view};
 
     /// Nothing is kept yet.
-    pub fn new(sink: O) -> Together<O>
+    pub fn new(alloc: Global, sink: O) -> Together<O>
         ensures kept { kept_together result ≡ [] }
         ensures below { result.sink ≡ sink }
     {
         Together {
             sink,
-            bytes: [0u8; TOGETHER],
+            bytes: Vec::new(alloc),
             start: 0,
-            end: 0,
         }
     }
 
@@ -116,54 +116,49 @@ impl<O: Sink> Together<O> {
 
     // Writes below what it takes of what is kept.
     fn pour_some(&mut self) -> Result<(), Failed>
-        requires { self.old.start < self.old.end }
+        requires { self.old.start < vec_len self.old.bytes }
         ensures same { Keeps (together_view O.view self.old).written (together_view O.view self.new).written }
         ensures moves { OnOk result (self.old.start < self.new.start) }
-        ensures end { self.new.end ≡ self.old.end }
+        ensures bytes { self.new.bytes ≡ self.old.bytes }
         ensures cause { HasCause (O.view self.old.sink).faults (O.view self.new.sink).faults result }
     {
-        let kept = &self.bytes[..self.end];
-        self.start += self.sink.write(&kept[self.start..])?;
+        self.start += self.sink.write(&self.bytes[self.start..])?;
         Ok(())
     }
 
-    // Keeps the front of a piece, as far as there is room for it.
-    fn keep(&mut self, piece: &[u8]) -> usize
-        ensures room { result ≤ length piece.now }
-        ensures some { self.old.end < 8192 → 0 < length piece.now → 0 < result }
-        ensures kept { kept_together self.new ≡ kept_together self.old ++ take result piece.now }
+    // Keeps a piece. Without memory for it nothing changes.
+    fn keep(&mut self, piece: &[u8]) -> Result<(), AllocError>
+        ensures kept { OnOk result (kept_together self.new ≡ kept_together self.old ++ piece.now) }
+        ensures memory { OnErr result (kept_together self.new ≡ kept_together self.old) }
         ensures below { self.new.sink ≡ self.old.sink }
     {
-        let count = piece.len().min(TOGETHER - self.end);
-        self.bytes[self.end..self.end + count].copy_from_slice(&piece[..count]);
-        self.end += count;
-        count
+        self.bytes.extend_from_slice(piece)
     }
 
     // Writes below all that is kept. Where that fails, what was not taken is kept on.
     fn pour(&mut self) -> Result<(), Failed>
         ensures same { Keeps (together_view O.view self.old).written (together_view O.view self.new).written }
-        ensures empty { OnOk result (self.new.end ≡ 0) }
+        ensures empty { OnOk result (kept_together self.new ≡ []) }
         ensures cause { HasCause (O.view self.old.sink).faults (O.view self.new.sink).faults result }
     {
-        while self.start < self.end {
+        while self.start < self.bytes.len() {
             self.pour_some()?;
         }
         self.start = 0;
-        self.end = 0;
+        self.bytes.clear();
         Ok(())
     }
 
-    // Writes below what is kept where there is no room for another byte.
-    fn make_room(&mut self) -> Result<(), Failed>
-        ensures same { Keeps (together_view O.view self.old).written (together_view O.view self.new).written }
-        ensures room { OnOk result (self.new.end < 8192) }
+    // Writes below what is kept, and then what it takes of this piece.
+    fn pass_on(&mut self, piece: &[u8]) -> Result<usize, Failed>
+        ensures bound { WritesAtMost result piece.now }
+        ensures moves { TakesSome result piece.now }
+        ensures bytes { WriteAppends (together_view O.view self.old).written
+            (together_view O.view self.new).written result piece.now }
         ensures cause { HasCause (O.view self.old.sink).faults (O.view self.new.sink).faults result }
     {
-        if self.end == TOGETHER {
-            self.pour()?;
-        }
-        Ok(())
+        self.pour()?;
+        self.sink.write(piece)
     }
 }
 
@@ -177,8 +172,10 @@ impl<O: Sink> Sink for Together<O> {
     }
 
     fn write(&mut self, piece: &[u8]) -> Result<usize, Failed> {
-        self.make_room()?;
-        Ok(self.keep(piece))
+        match self.keep(piece) {
+            Ok(()) => Ok(piece.len()),
+            Err(AllocError) => self.pass_on(piece),
+        }
     }
 
     fn flush(&mut self) -> Result<(), Failed> {

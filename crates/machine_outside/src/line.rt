@@ -30,6 +30,8 @@ pub struct Patience {
     pub reply: Duration,
     /// How long nothing may come between two requests.
     pub idle: Duration,
+    /// How long a link of which no byte came yet keeps its worker from another that waits for one.
+    pub grace: Duration,
 }
 
 /// A socket of a listener.
@@ -88,6 +90,11 @@ impl<C: Clock + Net + Drop> Line<C> {
         Ok(())
     }
 
+    // Whether another connection waits, and no worker is free for it.
+    fn is_pressed(&self) -> bool {
+        self.lobby.is_pressed(&self.rt, self.alloc)
+    }
+
     /// Ends the line so that what was written reaches the other side even if that is still sending.
     pub fn close_gently(&self) -> io::Result<()> {
         if self.ended.load(Ordering::SeqCst) {
@@ -123,6 +130,8 @@ fn found_nothing<T>(outcome: &io::Result<T>) -> bool {
 pub struct Heard<C> {
     line: Arc<Line<C>>,
     course: Course,
+    // A byte came.
+    asked: bool,
     // What is waited for, and since when.
     stage: Stage,
     begun: Instant,
@@ -136,6 +145,7 @@ impl<C: Clock + Net + Drop> Heard<C> {
         Ok(Heard {
             line,
             course,
+            asked: false,
             stage: Stage::Head,
             begun,
         })
@@ -169,10 +179,13 @@ impl<C: Clock + Net + Drop> Heard<C> {
     // Whether the line is to end since it is idle.
     fn yields(&self) -> io::Result<bool> {
         let line = &*self.line;
+        if !self.asked {
+            return Ok(line.is_over(self.begun, line.patience.grace)? && line.is_pressed());
+        }
         if self.stage != Stage::Between {
             return Ok(false);
         }
-        Ok(line.lobby.is_pressed(&line.rt, line.alloc) || line.is_over(self.begun, self.time())?)
+        Ok(line.is_pressed() || line.is_over(self.begun, self.time())?)
     }
 
     // These bytes came.
@@ -180,7 +193,10 @@ impl<C: Clock + Net + Drop> Heard<C> {
         self.course.pass(bytes)?;
         if bytes.is_empty() {
             self.line.ended.store(true, Ordering::SeqCst);
-        } else if self.course.stage() != self.stage {
+            return Ok(());
+        }
+        self.asked = true;
+        if self.course.stage() != self.stage {
             self.begin()?;
         }
         Ok(())
@@ -188,7 +204,8 @@ impl<C: Clock + Net + Drop> Heard<C> {
 }
 
 impl<C: Clock + Net + Drop> Read for Heard<C> {
-    // Between two requests the end comes also where another connection is pressing, or nothing came for long.
+    // Before the first byte, and between two requests, the end comes also where another connection is pressing, and
+    // between two requests where nothing came for long.
     fn read(&mut self, buf: &mut [u8]) -> io::Result<usize> {
         if self.line.replied.swap(false, Ordering::SeqCst) {
             self.begin()?;

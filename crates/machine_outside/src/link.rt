@@ -72,7 +72,7 @@ impl<C: Clock + Net + Drop> SocketLink<C> {
         };
         Ok(SocketLink {
             input: ReadAhead::new(input),
-            output: Together::new(output),
+            output: Together::new(alloc, output),
             line,
         })
     }

@@ -1,7 +1,6 @@
 // Where connections wait to be accepted.
-ghost use Rattle.std.specs.Prelude.{◌≡◌, Some, All, pos};
-ghost use Rattle.machine_outside.specs.Accepts.{connection_errors, room_errors};
-ghost use Rattle.machine_outside.specs.declared.lobby.AcceptFault.TheVariants.{Connection as OfConnection, Room as OfRoom};
+ghost use Rattle.std.specs.Prelude.{◌≡◌};
+ghost use Rattle.machine_outside.specs.Accepts.{fault_of};
 
 use mio::unix::SourceFd;
 use mio::{Events, Interest, Poll, Token};
@@ -30,20 +29,21 @@ pub enum AcceptFault {
 impl AcceptFault {
     /// What the machine's number of an error says.
     pub fn of(code: Option<i32>) -> AcceptFault
-        ensures connection { All (λ number. code ≡ Some (pos number) →
-            result ≡ OfConnection) connection_errors }
-        ensures room { All (λ number. code ≡ Some (pos number) → result ≡ OfRoom) room_errors }
+        ensures { result ≡ fault_of code }
     {
-        match code {
-            // EPERM, EINTR, ENONET, EPROTO, ENOPROTOOPT, EOPNOTSUPP, ENETDOWN, ENETUNREACH, ECONNABORTED, ECONNRESET,
-            // ETIMEDOUT, EHOSTDOWN, EHOSTUNREACH
-            Some(1 | 4 | 64 | 71 | 92 | 95 | 100 | 101 | 103 | 104 | 110 | 112 | 113) => {
-                AcceptFault::Connection
-            }
-            // ENOMEM, ENFILE, EMFILE, ENOBUFS
-            Some(12 | 23 | 24 | 105) => AcceptFault::Room,
-            _ => AcceptFault::Listener,
+        let Some(number) = code else {
+            return AcceptFault::Listener;
+        };
+        // EPERM, EINTR, ENONET, EPROTO, ENOPROTOOPT, EOPNOTSUPP, ENETDOWN, ENETUNREACH, ECONNABORTED, ECONNRESET, ETIMEDOUT,
+        // EHOSTDOWN, EHOSTUNREACH
+        if [1, 4, 64, 71, 92, 95, 100, 101, 103, 104, 110, 112, 113].contains(&number) {
+            return AcceptFault::Connection;
         }
+        // ENOMEM, ENFILE, EMFILE, ENOBUFS
+        if [12, 23, 24, 105].contains(&number) {
+            return AcceptFault::Room;
+        }
+        AcceptFault::Listener
     }
 }
 

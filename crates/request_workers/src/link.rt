@@ -1,4 +1,5 @@
-ghost use Rattle.std.specs.Prelude.{◌≡◌, ◌≤◌, ◌<◌, ◌+◌, []};
+ghost use Rattle.std.specs.Prelude.{◌≡◌, ◌≤◌, ◌<◌, ◌+◌, [], true, IfSome};
+ghost use Rattle.http_forms.specs.Passes.{AreSwept, KeepsSkips, MaySkip};
 ghost use Rattle.http_forms.specs.Reader.{kept};
 ghost use Rattle.request_workers.specs.Linking as spec;
 ghost use Rattle.request_workers.specs.Linking.{Linked, TurnsLink, Answered, links_count, HasRoom};
@@ -68,22 +69,44 @@ impl Links {
     }
 }
 
-// Sweeps the shelves at the clock's tick. Says whether there was memory for their answers.
+// Whether each shelf was swept.
+fn are_swept(answers: &[Result<u32, Reply>]) -> bool
+    ensures { result ≡ true → AreSwept answers.now }
+{
+    match answers {
+        [] => true,
+        [Ok(_), rest @ ..] => are_swept(rest),
+        [Err(_), ..] => false,
+    }
+}
+
+// Sweeps the shelves at the clock's tick, unless they were swept at this tick before: then there is nothing to do, and no
+// lock is taken. Says whether there was memory for their answers.
 fn sweep<A: Answering, C: Clock>(
     alloc: Global,
     answering: &A,
     pass: &mut A::Pass,
     clock: &C,
+    ticked: &mut Option<u64>,
 ) -> bool
-    requires { (A.rules answering.now).IsOwn pass.old }
+    requires own { (A.rules answering.now).IsOwn pass.old }
+    requires ticked { IfSome ticked.old (MaySkip (A.rules answering.now) pass.old) }
     ensures own { (A.rules answering.now).IsOwn pass.new }
+    ensures ticked { IfSome ticked.new (MaySkip (A.rules answering.now) pass.new) }
     ensures swept { spec.SweptBy (A.rules answering.now) (C.shows clock.now) pass.old result pass.new }
 {
     let tick = clock.now().min(LAST_TICK);
-    match answering.tick(alloc, pass, tick) {
-        Ok(_) => true,
-        Err(_) => false,
+    if *ticked == Some(tick) {
+        return true;
     }
+    *ticked = None;
+    let Ok(answers) = answering.tick(alloc, pass, tick) else {
+        return false;
+    };
+    if are_swept(&answers) {
+        *ticked = Some(tick);
+    }
+    true
 }
 
 // Makes the visit that a request asks for, and writes its reply. Says why the link is served no further, if so.
@@ -102,6 +125,7 @@ fn answer_request<A: Answering, L: Link, G: Gate>(
     ensures own { (A.rules answering.now).IsOwn pass.new }
     ensures answered { Answered (A.rules answering.now) pass.old pass.new request last
         (L.view link.old) (L.view link.new) (links_count links.old) (links_count links.new) result }
+    ensures skips { KeepsSkips (A.rules answering.now) pass.old pass.new }
     ensures later { IsLater (L.view link.old) (L.view link.new) }
 {
     let Request {
@@ -144,18 +168,21 @@ fn take_request<A: Answering, L: Link, C: Clock, G: Gate>(
     clock: &C,
     gate: &G,
     left: u32,
+    ticked: &mut Option<u64>,
     links: &mut Links,
 ) -> Option<LinkEnd>
     requires own { (A.rules answering.now).IsOwn pass.old }
     requires room { HasRoom links.old }
     requires some { 0 < left }
+    requires ticked { IfSome ticked.old (MaySkip (A.rules answering.now) pass.old) }
     ensures own { (A.rules answering.now).IsOwn pass.new }
+    ensures ticked { IfSome ticked.new (MaySkip (A.rules answering.now) pass.new) }
     ensures turn { TurnsLink (A.rules answering.now) (C.shows clock.now) left pass.old pass.new
         (kept reader.old) (kept reader.new) (L.view link.old) (L.view link.new)
         (links_count links.old) (links_count links.new) result }
     ensures later { IsLater (L.view link.old) (L.view link.new) }
 {
-    if sweep(alloc, answering, pass, clock) {
+    if sweep(alloc, answering, pass, clock, ticked) {
         match reader.next(alloc, link.input()) {
             Ok(Incoming::Visit(request)) => {
                 answer_request(
@@ -181,7 +208,7 @@ fn take_request<A: Answering, L: Link, C: Clock, G: Gate>(
 
 /// Serves one link: the requests that come over it, so many at most, each behind the one before, until one closes the
 /// connection, the next bytes are refused, no more come, or something fails. Before each the shelves are swept at the
-/// clock's tick. Bytes read past a request are kept for the next.
+/// clock's tick, which does nothing where they were at that tick before. Bytes read past a request are kept for the next.
 pub fn serve_link<A: Answering, L: Link, C: Clock, G: Gate>(
     alloc: Global,
     answering: &A,
@@ -203,6 +230,7 @@ pub fn serve_link<A: Answering, L: Link, C: Clock, G: Gate>(
     let mut reader = RequestReader::new(alloc);
     let mut links = Links::nothing();
     let mut left = requests;
+    let mut ticked = None;
     loop {
         let end = take_request(
             alloc,
@@ -213,6 +241,7 @@ pub fn serve_link<A: Answering, L: Link, C: Clock, G: Gate>(
             clock,
             gate,
             left,
+            &mut ticked,
             &mut links,
         );
         match end {

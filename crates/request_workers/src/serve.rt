@@ -3,6 +3,7 @@ ghost use Rattle.script_value.specs.Views.{meaning};
 ghost use Rattle.page_names.specs.Views.{target_of};
 ghost use Rattle.request_workers.specs.Scenes.{IsLater};
 ghost use Rattle.request_workers.specs.Serving.{Replies, Answers, ServesOrDrops, served_by};
+ghost use Rattle.http_forms.specs.Passes.{KeepsSkips};
 
 use crate::request::read_request;
 use http_forms::{Answer, Answering, Incoming, ReadStop, Refused, Request, write_reply};
@@ -55,6 +56,7 @@ pub(crate) fn visit<A: Answering, G: Gate>(
     ensures own { (A.rules answering.now).IsOwn pass.new }
     ensures reply { Replies (A.rules answering.now) pass.old (option_map target_of target)
         (meaning answer) result pass.new }
+    ensures skips { KeepsSkips (A.rules answering.now) pass.old pass.new }
 {
     match target {
         Some(target) => answering.visit(alloc, pass, &target, answer, gate),

@@ -28,6 +28,9 @@ const PATIENCE: u64 = 30;
 // How long a link may be idle between two requests, in seconds.
 const IDLE: u64 = 5;
 
+// How long one that has not asked yet keeps its worker from others that wait, in seconds.
+const GRACE: u64 = 1;
+
 // The process's words; none where one of them is no text, since no command has such a word.
 fn words_of<R: Env + AllocGlobal>(rt: &R) -> Result<Vec<String>, AllocError> {
     let mut words = Vec::new(rt.alloc());
@@ -85,6 +88,7 @@ where
             body: patience,
             reply: patience,
             idle: Duration::from_secs(IDLE),
+            grace: Duration::from_secs(GRACE),
         },
         faults: 0,
     };

@@ -1,4 +1,4 @@
-use Rattle.std.proofs.Common.{◌≤◌, ◌-◌}
+use Rattle.std.proofs.Common.{◌≤◌, ◌-◌, vec_len}
 use Rattle.std.specs.Io.KnownBytes.{Keeps}
 use Rattle.machine_outside.specs.Buffers.{together_view}
 use Rattle.machine_outside.proofs.buffers.Together.pour.Given as goal
@@ -10,4 +10,4 @@ invariant-loop-self g l = record {
 }
 
 abbrev pub decreases-loop-self : goal.decreases-loop-self
-decreases-loop-self g l = l.self.end - l.self.start
+decreases-loop-self g l = vec_len l.self.bytes - l.self.start
