@@ -8,3 +8,4 @@ pub mod Seats
 pub mod Ticks
 pub mod Endings
 pub mod Begins
+pub mod Skips

@@ -249,22 +249,26 @@ module _ {D N : Type 0} (view : D → View) (tells : Bool) (coming : N → ℕ �
       let ss = scripts_in o in
       let v0 = view o.shelf.value.journal.disk in
       record {
-        opened = p.opened;
+        ended = record {
+          opened = p.opened;
+          stands = λ told. (
+            book_in ss s,
+            subst (λ d. Stands ss o.shelf.value.rules.number (view d) (book_in ss s)) (sym disk_is)
+                (subst (λ (r : limits_of.Rules). Stands ss r.number (view s.journal.disk) (book_in ss s)) p.rules (p.in_order.fit told).stands),
+          );
+          ever = λ told. subst (λ d. LeavesOnly v0 (view d) (MakesSome view tells coming o)) (sym disk_is) (p.ever told);
+          history = λ own.
+              let h = p.history own in
+              record {
+                legal = subst (λ d. HasLegal view coming o (view d).faults es) (sym disk_is) h.kept.legal;
+                stands = λ told.
+                    subst (λ d. StandsOwn (start_of o).rules ss o.shelf.value.rules.number (view d) (book_then coming o es)) (sym disk_is)
+                    (subst (λ b. StandsOwn (start_of o).rules ss o.shelf.value.rules.number (view s.journal.disk) b) (ap (λ z. z.book) h.kept.shelf)
+                    (subst (λ (r : limits_of.Rules). StandsOwn (rules_of ss r) ss r.number (view s.journal.disk) (book_in ss s)) p.rules (h.own.own told)));
+                ever = λ told. subst (λ d. LeavesOnly v0 (view d) (IsLeft view tells coming o es)) (sym disk_is) (h.ever told);
+              };
+          later = (let low = p.later in let same = ap (λ d. (view d).faults) disk_is in omega arith);
+        };
         coming_is = λ k. ap (λ n. coming n k) nonces_are ∙ p.nonces k;
-        stands = λ told. (
-          book_in ss s,
-          subst (λ d. Stands ss o.shelf.value.rules.number (view d) (book_in ss s)) (sym disk_is)
-              (subst (λ (r : limits_of.Rules). Stands ss r.number (view s.journal.disk) (book_in ss s)) p.rules (p.in_order.fit told).stands),
-        );
-        ever = λ told. subst (λ d. LeavesOnly v0 (view d) (MakesSome view tells coming o)) (sym disk_is) (p.ever told);
-        history = λ own.
-            let h = p.history own in
-            record {
-              legal = subst (λ d. HasLegal view coming o (view d).faults es) (sym disk_is) h.kept.legal;
-              stands = λ told.
-                  subst (λ d. StandsOwn (start_of o).rules ss o.shelf.value.rules.number (view d) (book_then coming o es)) (sym disk_is)
-                  (subst (λ b. StandsOwn (start_of o).rules ss o.shelf.value.rules.number (view s.journal.disk) b) (ap (λ z. z.book) h.kept.shelf)
-                  (subst (λ (r : limits_of.Rules). StandsOwn (rules_of ss r) ss r.number (view s.journal.disk) (book_in ss s)) p.rules (h.own.own told)));
-              ever = λ told. subst (λ d. LeavesOnly v0 (view d) (IsLeft view tells coming o es)) (sym disk_is) (h.ever told);
-            };
+        untouched = λ none. disk_is ∙ ap (λ (x : Shelf D N). x.journal.disk) (p.untouched none);
       }

@@ -1,17 +1,18 @@
 -- What a turn at one lock tells its pass.
-use Rattle.std.proofs.Common.{◌≡◌, ◌==◌, ◌≤◌, inl, inr, ℕ, Bool, true, false, cond, List, [], ◌∷◌, ◌++◌, map, refl, sym, ◌∙◌, ap, subst}
-use Rattle.std.specs.Prelude.{Result, Ok, Err, IfOk, MatchResult}
-use Rattle.std.proofs.lemmas.List.{append-nil}
+use Rattle.std.proofs.Common.{arith, ◌+◌, ◌≡◌, ◌==◌, ◌≤◌, inl, inr, ℕ, Bool, true, false, cond, List, [], ◌∷◌, ◌++◌, map, refl, sym, ◌∙◌, ap, subst}
+use Rattle.std.specs.Prelude.{length, Result, Ok, Err, IfOk, MatchResult}
+use Rattle.std.proofs.lemmas.List.{append-nil, length-map}
 use Rattle.std.proofs.lemmas.List.Elements.{Contains-push}
 use Rattle.std.specs.Fn.{Once, FnOnceReturnsAtMut}
 use denote.Ref.{MutBor}
 use mathlib.Core.List.{IsPrefix}
 use Rattle.web_disk.specs.View.{View}
 use Rattle.shelf_lock.specs.declared.view.Role.TheVariants.{Outside}
-use Rattle.shelf_lock.specs.Order.{posed, made_by, Adds}
+use Rattle.shelf_lock.specs.Order.{posed, made_by, Adds, entry_limit}
 use Rattle.lock_row.proofs.Places.{map_snoc}
 use Rattle.script_value.specs.Val.{Val}
 use Rattle.script_value.specs.declared.outcome.Reply as answers
+use Rattle.script_value.specs.declared.outcome.Reply.TheVariants.{Worn}
 use Rattle.page_names.specs.Names.{Destination}
 use Rattle.replay_spec.specs.Step as step
 use Rattle.replay_spec.specs.Step.{Event}
@@ -32,7 +33,7 @@ use Rattle.site.specs.Entries.{entry, done_by, entry_of, entries_of, Comes, Swee
 use Rattle.site.specs.Openings.{scripts_in, IsOwnOpening, start_of, source_of, count_of, book_then}
 use Rattle.site.proofs.Outs.{own_more}
 use Rattle.site.specs.Sound.{IsSound, Holds, Gives}
-use Rattle.site.specs.Passes.{Known, seen_by, Grows, GoesFrom, HoldsTicket, Took, Published, HasReached, Swept}
+use Rattle.site.specs.Passes.{Known, seen_by, Grows, GoesFrom, HoldsTicket, IsWorn, Took, Published, HasReached, Swept}
 
 -- an entry is its caller's
 caller_done : (caller : ℕ) (d : Did) → (done_by caller d).caller ≡ caller
@@ -114,6 +115,7 @@ module _ {D N : Type 0} (view : D → View) (tells : Bool) (coming : N → ℕ �
         record {
           opening = o;
           opening_is = t.opening_is;
+          opened = t.sound.opened;
           is = posed_so;
           grows = subst (Grows v.caller (entries_of v.seen) []) seen (grows_none v.caller (entries_of v.seen) es known);
           now = count_of view y.shelf;
@@ -126,6 +128,12 @@ module _ {D N : Type 0} (view : D → View) (tells : Bool) (coming : N → ℕ �
               (turn source opened now (start_of o) v.caller (entries_of v.seen) es known legal).0;
         }
 
+    -- the number of the first entry is 0
+    pub worn : 0 + length x.history ≡ entry_limit → y.history ≡ x.history → IsWorn view tells coming v Worn w
+    worn full same =
+        let whole : length x.history ≡ entry_limit = omega (arith, full) in
+        (refl, ap length (sym seen_now) ∙ (length-map y.history entry_of ∙ (ap length same ∙ whole)), goes_none same)
+
     pub goes_one : (by : ℕ) (event : Event) (r : step.Reply) → v.caller ≡ by → Comes by event r x.history y.history → GoesFrom view tells coming v (entry v.caller event r ∷ []) w
     goes_one by event r is c =
         let o = x.opened in
@@ -136,6 +144,7 @@ module _ {D N : Type 0} (view : D → View) (tells : Bool) (coming : N → ℕ �
         record {
           opening = o;
           opening_is = t.opening_is;
+          opened = t.sound.opened;
           is = posed_so;
           grows = subst (Grows v.caller (entries_of v.seen) (e ∷ [])) seen (grows_one v.caller (entries_of v.seen) es e known refl);
           now = count_of view y.shelf;

@@ -1,4 +1,5 @@
 pub mod Entries
+pub mod Opened
 pub mod Openings
 pub mod Sound
 pub mod Keeping

@@ -5,10 +5,10 @@ use Rattle.script_nodes.specs.Views.{scripts_of}
 use Rattle.web_disk.specs.View.{View}
 use Rattle.replay_spec.specs.Book.{Book}
 use Rattle.replay_spec.specs.Runs as runs
-use Rattle.replay_spec.specs.Step.{kept, recovered}
 use Rattle.history_spec.specs.Histories.{Entry, IsLegal, book_behind}
 use Rattle.shelf.specs.declared.shelf.Shelf.{Shelf}
 use Rattle.shelf.specs.Views.{shelf_of, IsOwnShelf}
+use Rattle.site.specs.Opened.{Opened}
 use Rattle.site.specs.declared.opening.Opening.{Opening}
 
 -- the scripts of the setup that a shelf was opened under
@@ -32,6 +32,17 @@ source_of coming o = coming o.shelf.value.nonces
 abbrev pub count_of : {D N : Type 0} → (D → View) → Shelf D N → ℕ
 count_of view s = (view s.journal.disk).faults
 
+-- what an opening is, in the words of histories
+abbrev pub opened_of : {D N : Type 0} → (D → View) → Bool → (N → ℕ → ℕ) → Opening D N → Opened
+opened_of view tells coming o = record {
+  scripts = scripts_in o;
+  number = o.shelf.value.rules.number;
+  start = start_of o;
+  nonces = source_of coming o;
+  disk = view o.shelf.value.journal.disk;
+  IsOwn = IsOwnOpening view tells o;
+}
+
 -- the history is legal from the opening on, by when the disk's count of faults is this
 abbrev pub HasLegal : {D N : Type 0} → (D → View) → (N → ℕ → ℕ) → Opening D N → (now : ℕ) → List Entry → Type 0
 HasLegal view coming o now es = IsLegal (source_of coming o) (count_of view o.shelf.value) now (start_of o) es
@@ -39,7 +50,3 @@ HasLegal view coming o now es = IsLegal (source_of coming o) (count_of view o.sh
 -- the book of a shelf after this history since its opening
 abbrev pub book_then : {D N : Type 0} → (N → ℕ → ℕ) → Opening D N → List Entry → Book
 book_then coming o es = book_behind (source_of coming o) (start_of o) es
-
--- a book where what is in doubt is kept, as the limits of the shelf measure it
-abbrev pub with_doubt : {D N : Type 0} → Opening D N → Book → Book
-with_doubt o b = recovered (start_of o).rules kept b.down b

@@ -1,5 +1,5 @@
 -- What a pass has seen of a shelf, and what a call of it does there.
-use Rattle.std.specs.Prelude.{◌≡◌, ◌⊎◌, ◌≤◌, ℕ, Bool, List, [], ◌∷◌, ◌++◌, Result, Ok, Err}
+use Rattle.std.specs.Prelude.{◌≡◌, ◌⊎◌, ◌≤◌, ℕ, Bool, List, [], ◌∷◌, ◌++◌, length, Result, Ok, Err}
 use Rattle.script_value.specs.Val.{Val}
 use Rattle.script_value.specs.declared.outcome.Reply.{Reply}
 use Rattle.script_value.specs.declared.outcome.Reply.TheVariants.{Worn}
@@ -8,12 +8,12 @@ use Rattle.page_names.specs.Names.{Destination}
 use Rattle.web_disk.specs.View.{View}
 use Rattle.shelf_lock.specs.declared.view.View as lock
 use Rattle.shelf_lock.specs.declared.view.Role.TheVariants.{Outside}
-use Rattle.shelf_lock.specs.Order.{posed}
+use Rattle.shelf_lock.specs.Order.{posed, entry_limit}
 use Rattle.lock_row.specs.Spots.{Spot}
 use Rattle.replay_spec.specs.Step as step
 use Rattle.instance_book.specs.declared.ticket.Ticket.{Ticket}
 use Rattle.instance_book.specs.Views.{ticket_of, reply_of}
-use Rattle.history_spec.specs.Histories.{Entry, own_of}
+use Rattle.history_spec.specs.Histories.{Entry, own_of, IsOpened}
 use Rattle.history_spec.specs.Laws.{take_of}
 use Rattle.history_spec.specs.Passes.{Goes, publish_of}
 use Rattle.site.specs.declared.entry.KeptEntry.{KeptEntry}
@@ -50,12 +50,13 @@ pub record Grows (caller : ℕ) (seen added es : List Entry) : Type 0 where
   pub own : own_of caller es ≡ own_of caller seen ++ added
 
 module _ {D N : Type 0} (view : D → View) (tells : Bool) (coming : N → ℕ → ℕ) where
-  -- A call that ends with these entries: the pass has then seen a history of the shelf since its opening, which is legal where it
-  -- was opened as an own shelf. It begins with what the pass had seen and ends with the entries added, which are all new ones of
+  -- A call that ends with these entries: the pass has then seen a history of the shelf since its opening, with a book as it may be
+  -- there. The history is legal where the shelf was opened as an own one. It begins with what the pass had seen and ends with the entries added, which are all new ones of
   -- its caller; what stands between are entries of others.
   pub record GoesFrom (v : Known D N) (added : List Entry) (w : Known D N) : Type 0 where
     pub opening : Opening D N
     pub opening_is : v.opening ≡ opening ∷ []
+    pub opened : IsOpened (start_of opening).book
     pub is : w ≡ posed Outside w.seen v
     pub grows : Grows v.caller (seen_by v) added (seen_by w)
     pub now : ℕ
@@ -68,9 +69,9 @@ module _ {D N : Type 0} (view : D → View) (tells : Bool) (coming : N → ℕ �
     pub opening_is : v.opening ≡ opening ∷ []
     pub holds : Holds view tells coming opening (seen_by v) v.caller t
 
-  -- the lock was worn, and no entry was made
+  -- the history that was found is as long as a history may be, and no entry was made
   abbrev pub IsWorn : Known D N → Reply → Known D N → Type 0
-  IsWorn v r w = (r ≡ Worn) × GoesFrom v [] w
+  IsWorn v r w = (r ≡ Worn) × (length (seen_by w) ≡ entry_limit) × GoesFrom v [] w
 
   -- a take is one entry of the caller, with its answer; where that is a ticket, the pass holds it
   pub record Takes (v : Known D N) (target : Destination) (answer : Val) (t : Ticket) (w : Known D N) : Type 0 where

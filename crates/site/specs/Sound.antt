@@ -1,5 +1,5 @@
 -- What holds of a shelf between turns.
-use Rattle.std.specs.Prelude.{◌≡◌, ◌⊎◌, ◌≤◌, ◌<◌, ◌^◌, ◌+◌, length, ℕ, Bool, IsTrue, List, [], map, Contains, None, Result, IfOk, IfErr, ⊤}
+use Rattle.std.specs.Prelude.{◌≡◌, ◌≤◌, ◌<◌, ◌^◌, ◌+◌, length, ℕ, Bool, IsTrue, List, [], map, Contains, None, Result, IfOk, IfErr, ⊤}
 use Rattle.script_value.specs.Val.{Val}
 use Rattle.script_value.specs.declared.outcome.Reply.{Reply}
 use Rattle.script_value.specs.declared.outcome.Reply.TheVariants as reply
@@ -7,8 +7,6 @@ use Rattle.page_names.specs.Names.{Destination}
 use mathlib.Core.List.{IsPrefix}
 use Rattle.page_names.specs.Views.{target_of}
 use Rattle.web_disk.specs.View.{View, LeavesOnly}
-use Rattle.journal_spec.specs.Standing.{MakesIn, Stands}
-use Rattle.replay_spec.specs.Book.{Book}
 use Rattle.replay_spec.specs.Next as next
 use Rattle.replay_spec.specs.Admission.{refusal_of, admit}
 use Rattle.instance_book.specs.declared.ticket.Ticket.{Ticket}
@@ -19,10 +17,11 @@ use Rattle.history_spec.specs.Histories.{Entry, Owes, IsOpened, tickets_left}
 use Rattle.history_spec.specs.Laws.{tickets_taken}
 use Rattle.history_spec.specs.Kept.{IsKept}
 use Rattle.shelf.specs.declared.shelf.Shelf.{Shelf}
-use Rattle.shelf.specs.Owning.{HoldsOwnRecords, StandsOwn}
 use Rattle.shelf.specs.Views.{IsInOrder, IsOwnShelf, HasGiven, book_in, shelf_of}
 use Rattle.site.specs.declared.opening.Opening.{Opening}
-use Rattle.site.specs.Openings.{scripts_in, IsOwnOpening, start_of, source_of, count_of, HasLegal, book_then, with_doubt}
+use Rattle.site.specs.Opened as left
+use Rattle.site.specs.Opened.{HasEnded}
+use Rattle.site.specs.Openings.{scripts_in, IsOwnOpening, opened_of, start_of, source_of, count_of, book_then}
 
 -- The numbers that are out are those of the tickets that the entries leave. What a caller owes is among these, and no other caller
 -- owes a ticket of its number.
@@ -42,16 +41,11 @@ IsNoTicket _ = ⊥
 module _ {D N : Type 0} (view : D → View) (tells : Bool) (coming : N → ℕ → ℕ) where
   -- an image of the disk makes some book of the shelf
   abbrev pub MakesSome : Opening D N → (image : List ℕ) → Type 0
-  MakesSome o image = (b : Book) × MakesIn (scripts_in o) o.shelf.value.rules.number image b
+  MakesSome o image = left.MakesSome (opened_of view tells coming o) image
 
-  -- An image of the disk has own records, and makes the book after a beginning of the history, with what is in doubt there or
-  -- without it.
-  pub record IsLeft (o : Opening D N) (es : List Entry) (image : List ℕ) : Type 0 where
-    pub own : HoldsOwnRecords (scripts_in o) o.shelf.value.rules.number image
-    pub front : List Entry
-    pub begins : IsPrefix front es
-    pub makes : MakesIn (scripts_in o) o.shelf.value.rules.number image (book_then coming o front)
-        ⊎ MakesIn (scripts_in o) o.shelf.value.rules.number image (with_doubt o (book_then coming o front))
+  -- an image of the disk makes the book after a beginning of the history
+  abbrev pub IsLeft : Opening D N → List Entry → (image : List ℕ) → Type 0
+  IsLeft o es image = left.IsLeft (opened_of view tells coming o) es image
 
   -- A shelf that was opened as an own one is one still, and has this legal history since. Where the disk tells its bytes, a crash at
   -- any moment since the opening left what makes the book of a beginning of the history.
@@ -99,18 +93,9 @@ module _ {D N : Type 0} (view : D → View) (tells : Bool) (coming : N → ℕ �
     pub ticket : IfOk result (λ t. ((ticket_of t).target ≡ target) × ((ticket_of t).answer ≡ answer))
     pub refused : IfErr result IsNoTicket
 
-  -- A shelf that was opened as an own one has a legal history, and the disk stands for its book and is an own one; a crash at any
-  -- moment since the opening left what makes the book of a beginning of it.
-  pub record StandsForBook (o : Opening D N) (disk : D) (es : List Entry) : Type 0 where
-    pub legal : HasLegal view coming o (view disk).faults es
-    pub stands : IsTrue tells → StandsOwn (start_of o).rules (scripts_in o) o.shelf.value.rules.number (view disk) (book_then coming o es)
-    pub ever : IsTrue tells → LeavesOnly (view o.shelf.value.journal.disk) (view disk) (IsLeft o es)
-
-  -- What is handed back with a history: the nonces go on, and the disk stands for a book; a crash at any moment since the opening
-  -- left what makes one. Of a shelf that was opened as an own one this is the book of the history, which is legal.
+  -- What is handed back with a history: the nonces go on, and the disk stands for the book. Without an entry the disk is the one of the
+  -- opening, as it was then.
   pub record StandsFor (o : Opening D N) (disk : D) (nonces : N) (es : List Entry) : Type 0 where
-    pub opened : IsOpened (start_of o).book
+    pub ended : HasEnded (IsTrue tells) (opened_of view tells coming o) (view disk) es
     pub coming_is : (k : ℕ) → coming nonces k ≡ source_of coming o (length (tickets_taken es) + k)
-    pub stands : IsTrue tells → (b : Book) × Stands (scripts_in o) o.shelf.value.rules.number (view disk) b
-    pub ever : IsTrue tells → LeavesOnly (view o.shelf.value.journal.disk) (view disk) (MakesSome o)
-    pub history : IsOwnOpening view tells o → StandsForBook o disk es
+    pub untouched : es ≡ [] → disk ≡ o.shelf.value.journal.disk

@@ -33,7 +33,12 @@ use Rattle.site.specs.Sound.{IsNoTicket}
 use Rattle.site.specs.Passes.{Known, Spots, seen_by, GoesFrom, Took, Published, Swept}
 use Rattle.site.specs.Sites.{shelf_for, TakesOn, VisitsAt, Ticks}
 use Rattle.site.specs.Rules.{TicksAs, site_rules}
-use Rattle.site_serving.specs.Pages.{page_count, pages_in, own_pages}
+use Rattle.site_serving.specs.Pages.{page_count, pages_in}
+
+-- how many publishes of its own caller, of those answered with a page, a pass has seen at all shelves
+abbrev pub own_pages : {D N : Type 0} → Spots D N → ℕ
+own_pages [] = 0
+own_pages (a ∷ pass) = pages_in (own_of a.known.caller (seen_by a.known)) + own_pages pass
 
 pub pages_append : (xs ys : List Entry) → pages_in (xs ++ ys) ≡ pages_in xs + pages_in ys
 pages_append [] ys = omega arith
@@ -141,7 +146,7 @@ module _ {D N : Type 0} (view : D → View) (tells : Bool) (coming : N → ℕ �
   took_adds : (v w : Known D N) (target : Destination) (answer : Val) (r : Result Ticket Reply) → Took view tells coming v target answer r w → AddsAt 0 v w
   took_adds v w target answer (Ok t) took = goes_adds v w (take_of v.caller (ticket_of t) ∷ []) took.goes
   took_adds v w target answer (Err r) (told, inl g) = goes_adds v w (entry v.caller (step.take target answer) (reply_of r) ∷ []) g
-  took_adds v w target answer (Err r) (told, inr worn) = goes_adds v w [] worn.1
+  took_adds v w target answer (Err r) (told, inr worn) = goes_adds v w [] worn.2
 
   -- a take that gave no ticket was answered with no page
   took_counts : (v w : Known D N) (target : Destination) (answer : Val) (r : Reply) → Took view tells coming v target answer (Err r) w → (visited r).pages ≡ 0
@@ -151,7 +156,7 @@ module _ {D N : Type 0} (view : D → View) (tells : Bool) (coming : N → ℕ �
   published_adds v w t r (inl g) =
       subst (λ n. AddsAt n v w) (let told = counts_as_told r in let sum : page_count (reply_of r) + 0 ≡ (visited r).pages = omega arith in sum)
       (goes_adds v w (publish_of v.caller (ticket_of t) (reply_of r) ∷ []) g)
-  published_adds v w t r (inr worn) = subst (λ x. AddsAt (visited x).pages v w) (sym worn.0) (goes_adds v w [] worn.1)
+  published_adds v w t r (inr worn) = subst (λ x. AddsAt (visited x).pages v w) (sym worn.0) (goes_adds v w [] worn.2)
 
   swept_adds : (v w : Known D N) (tick : ℕ) (r : Result ℕ Reply) → Swept view tells coming v tick r w → AddsAt 0 v w
   swept_adds v w tick (Ok n) s = by_cases s.0
@@ -160,7 +165,7 @@ module _ {D N : Type 0} (view : D → View) (tells : Bool) (coming : N → ℕ �
       by_cases (inl g) = goes_adds v w (entry v.caller (step.sweep tick) (step.swept n) ∷ []) g
       by_cases (inr g) = goes_adds v w [] g.1
   swept_adds v w tick (Err r) (inl g) = goes_adds v w (entry v.caller (step.sweep tick) (reply_of r) ∷ []) g
-  swept_adds v w tick (Err r) (inr worn) = goes_adds v w [] worn.1
+  swept_adds v w tick (Err r) (inr worn) = goes_adds v w [] worn.2
 
   takes_adds : (place : Option ℕ) (old new : Spots D N) (target : Destination) (answer : Val) (r : Result Ticket Reply)
       → TakesOn view tells coming place old target answer r new → Adds old new 0

@@ -1,13 +1,14 @@
 -- What workers left of a site and of their porches.
-use Rattle.std.proofs.Common.{◌≡◌, ◌≢◌, ◌⊎◌, inl, inr, ◌≤◌, ◌<◌, ◌∷◌, ◌++◌, ◌∙◌, [], ℕ, zero, suc, List, length, Bool, Option, Some, slice_get, get_or, refl, sym, ap, subst, arith}
+use Rattle.std.proofs.Common.{IsTrue, ◌==◌, ◌≡◌, ◌≢◌, ◌⊎◌, inl, inr, ◌≤◌, ◌<◌, ◌∷◌, ◌++◌, ◌∙◌, [], ℕ, zero, suc, List, length, Bool, Option, Some, slice_get, get_or, refl, sym, ap, subst, arith}
 use Rattle.std.specs.Prelude.{IfSome, sum_by}
 use Rattle.std.specs.List.{AllZip}
 use Rattle.std.proofs.lemmas.List.Sums.{sum_by-cons}
+use Rattle.std.proofs.lemmas.Bool.{eq-eqb}
 use Rattle.std.proofs.lemmas.Option.{slice_get_within}
 use Rattle.web_outside.specs.Causes.{Rose}
 use Rattle.web_outside.specs.Doors.{counts_with}
 use Rattle.web_outside.specs.View.{LinkView, PorchView, DoorView}
-use Rattle.web_disk.specs.View.{View}
+use Rattle.web_disk.specs.View.{AreAmong, View}
 use Rattle.http_forms.specs.Passes.{PassRules}
 use Rattle.request_workers.specs.Tallies.{count_of, IsBelow}
 use Rattle.request_workers.specs.Working.{EndsBy}
@@ -18,7 +19,7 @@ use Rattle.lock_row.specs.Rows.{IsNewPass}
 use Rattle.lock_row.specs.Spots.{Spot, Home, home_of, caller_at}
 use Rattle.lock_row.proofs.Ends.{zip_length}
 use Rattle.lock_row.proofs.Places.{get_there, get_map, map_get, map_length, one_of}
-use Rattle.history_spec.specs.Histories.{own_of}
+use Rattle.history_spec.specs.Histories.{Entry, IsOpened, own_of}
 use Rattle.history_spec.specs.Passes.{IsSeenBy}
 use Rattle.site.specs.declared.entry.KeptEntry.{KeptEntry}
 use Rattle.site.specs.declared.opening.Opening.{Opening}
@@ -26,6 +27,9 @@ use Rattle.site.specs.declared.site.Site.{Site}
 use Rattle.site.specs.Beginnings.{IsFirstPass}
 use Rattle.site.specs.Ends.{IsBack}
 use Rattle.site.specs.Entries.{entries_of}
+use Rattle.site.specs.Opened.{HasEnded, Opened}
+use Rattle.site.specs.Openings.{count_of as disk_count, opened_of, source_of, start_of}
+use Rattle.site.specs.Sound.{StandsFor}
 use Rattle.site.specs.Passes.{Spots, seen_by}
 use Rattle.site.specs.Rules.{site_rules}
 use Rattle.site.specs.Sites.{IsOwn}
@@ -33,10 +37,13 @@ use Rattle.site_serving.specs.Totals.{end_of, end_with, total}
 use Rattle.site_serving.specs.Workers.{AreServed, WorksAs, porches_of, tallies_of}
 use Rattle.site_serving.specs.declared.worker.Worker.{Worker}
 use Rattle.site_serving.specs.Kept.{kept_of}
-use Rattle.site_serving.specs.Pages.{pages_in, pages_of, own_pages}
-use Rattle.site_serving.specs.Serving.{AreEnded, HasServed, LeavesAll, ServesPorches, Views, openings_of}
-use Rattle.site_serving.proofs.Counting.{works_adds}
-use Rattle.site_serving.proofs.Sums.{NoneFrom, caller_pages, callers_sum, sum_below, tallies_sum}
+use Rattle.site_serving.specs.Pages.{pages_in, pages_of}
+use Rattle.site_serving.specs.Serving.{AreEnded, AreUntouched, HasServed, IsEnded, IsManned, IsUntouched, LeavesAll, ServesPorches, Views, opened_as, openings_in, openings_of}
+use Rattle.site_serving.specs.Visits.{unseen}
+use Rattle.site_serving.proofs.Counting.{own_pages, works_adds}
+use Rattle.site_serving.proofs.Faults.{risen}
+use Rattle.site_serving.proofs.Refining.{KnowsAll, first_knows, last_seen, worked_so}
+use Rattle.site_serving.proofs.Sums.{NoneFrom, caller_pages, none_first, callers_sum, sum_below, tallies_sum}
 
 -- what a zip says of a place
 pub zip_at : {A B : Type 0} (R : A → B → Type 0) (xs : List A) (ys : List B) (k : ℕ) (x : A) (y : B) → AllZip R xs ys → slice_get xs k ≡ Some x → slice_get ys k ≡ Some y → R x y
@@ -75,12 +82,22 @@ module _ {D N : Type 0} where
       omega arith
 
 module _ {D N : Type 0} (view : D → View) (tells : Bool) (coming : N → ℕ → ℕ) where
+  -- a shelf that was handed back
+  ended_one : (given : ℕ) (o : Opening D N) (d : D) (n : N) (es : List Entry) → StandsFor view tells coming o d n es
+      → ((who : ℕ) → given ≤ who → own_of who es ≡ []) → IsEnded (IsTrue tells) given (opened_of view tells coming o) (view d) es
+  ended_one given o d n es stands none = record {
+    ended = stands.ended;
+    callers = none;
+    risen = λ own.
+        risen (source_of coming o) (disk_count view o.shelf.value) (view d).faults (start_of o) es stands.ended.later (stands.ended.history own).legal;
+  }
+
   -- the shelves that were handed back, one after the other
   ended_from : (homes : List (Home (Opening D N))) (given : ℕ) (disks : List D) (nonces : List N) (histories : List (List KeptEntry))
       → length disks ≡ length homes → length nonces ≡ length homes → length histories ≡ length homes
       → ((k : ℕ) (h : Home (Opening D N)) (d : D) (n : N) (es : List KeptEntry) → slice_get homes k ≡ Some h → slice_get disks k ≡ Some d → slice_get nonces k ≡ Some n
       → slice_get histories k ≡ Some es → IsBack view tells coming h.opening given d n (entries_of es))
-      → AreEnded view tells coming given (openings_of homes) disks histories
+      → AreEnded view (IsTrue tells) given (opened_as view tells coming (openings_of homes)) disks histories
   ended_from [] given [] [] [] ds ns es each = tt
   ended_from [] given (d ∷ disks) nonces histories ds ns es each = absurd (omega (arith, ds))
   ended_from [] given [] nonces (h ∷ histories) ds ns es each = absurd (omega (arith, es))
@@ -92,8 +109,40 @@ module _ {D N : Type 0} (view : D → View) (tells : Bool) (coming : N → ℕ �
       let back = each 0 h d n e refl refl refl refl in
       let rest = ended_from homes given disks nonces histories (omega (arith, ds)) (omega (arith, ns)) (omega (arith, es))
       (λ k x y z w a b c f. each (suc k) x y z w a b c f) in
-      subst (λ os. AreEnded view tells coming given (os ++ openings_of homes) (d ∷ disks) (e ∷ histories)) (sym back.opening_is)
-      (record { nonces = n; stands = back.stands; callers = back.callers }, rest)
+      subst (λ os. AreEnded view (IsTrue tells) given (opened_as view tells coming (os ++ openings_of homes)) (d ∷ disks) (e ∷ histories)) (sym back.opening_is)
+      (ended_one given back.opened d n (entries_of e) back.stands back.callers, rest)
+
+  -- a shelf that was handed back without an entry is as it was opened
+  untouched_one : (o : Opening D N) (d : D) (n : N) (es : List Entry) → StandsFor view tells coming o d n es → es ≡ []
+      → IsUntouched (IsTrue tells) (opened_of view tells coming o) (view d)
+  untouched_one o d n es stands none =
+      let same : d ≡ o.shelf.value.journal.disk = stands.untouched none in
+      record {
+        ended = subst (λ (l : List Entry). HasEnded (IsTrue tells) (opened_of view tells coming o) (view d) l) none stands.ended;
+        seen = ap (λ x. (view x).seen) same;
+        images = subst (λ x. AreAmong (view d).images (view x).images) same (λ image h. h);
+        faults = ap (λ x. (view x).faults) same;
+      }
+
+  untouched_from : (homes : List (Home (Opening D N))) (given : ℕ) (disks : List D) (nonces : List N) (histories : List (List KeptEntry))
+      → length disks ≡ length homes → length nonces ≡ length homes → length histories ≡ length homes
+      → ((k : ℕ) (h : Home (Opening D N)) (d : D) (n : N) (es : List KeptEntry) → slice_get homes k ≡ Some h → slice_get disks k ≡ Some d → slice_get nonces k ≡ Some n
+      → slice_get histories k ≡ Some es → IsBack view tells coming h.opening given d n (entries_of es))
+      → ((k : ℕ) (es : List KeptEntry) → slice_get histories k ≡ Some es → entries_of es ≡ [])
+      → AreUntouched view (IsTrue tells) (opened_as view tells coming (openings_of homes)) disks
+  untouched_from [] given [] [] [] ds ns es each none = tt
+  untouched_from [] given (d ∷ disks) nonces histories ds ns es each none = absurd (omega (arith, ds))
+  untouched_from [] given [] nonces (h ∷ histories) ds ns es each none = absurd (omega (arith, es))
+  untouched_from [] given [] (n ∷ nonces) [] ds ns es each none = absurd (omega (arith, ns))
+  untouched_from (h ∷ homes) given [] nonces histories ds ns es each none = absurd (omega (arith, ds))
+  untouched_from (h ∷ homes) given (d ∷ disks) [] histories ds ns es each none = absurd (omega (arith, ns))
+  untouched_from (h ∷ homes) given (d ∷ disks) (n ∷ nonces) [] ds ns es each none = absurd (omega (arith, es))
+  untouched_from (h ∷ homes) given (d ∷ disks) (n ∷ nonces) (e ∷ histories) ds ns es each none =
+      let back = each 0 h d n e refl refl refl refl in
+      let rest = untouched_from homes given disks nonces histories (omega (arith, ds)) (omega (arith, ns)) (omega (arith, es))
+      (λ k x y z w a b c f. each (suc k) x y z w a b c f) (λ k x is. none (suc k) x is) in
+      subst (λ os. AreUntouched view (IsTrue tells) (opened_as view tells coming (os ++ openings_of homes)) (d ∷ disks)) (sym back.opening_is)
+      (untouched_one back.opened d n (entries_of e) back.stands (none 0 e refl), rest)
 
   none_from : (homes : List (Home (Opening D N))) (given : ℕ) (disks : List D) (nonces : List N) (histories : List (List KeptEntry))
       → length disks ≡ length homes → length nonces ≡ length homes → length histories ≡ length homes
@@ -107,26 +156,78 @@ module _ {D N : Type 0} (view : D → View) (tells : Bool) (coming : N → ℕ �
       let n = get_there nonces k (omega (arith, low, es, ns)) in
       (each k h.0 d.0 n.0 e h.1 d.1 n.1 e_is).callers
 
+-- where no caller has an entry there is none
+no_entry : (es : List Entry) → ((who : ℕ) → own_of who es ≡ []) → es ≡ []
+no_entry [] none = refl
+no_entry (e ∷ es) none =
+    let is = (none_first (e.caller == e.caller) e (own_of e.caller es) (none e.caller)).0 in
+    let same = eq-eqb e.caller e.caller refl in absurd (let no : ⊥ = cc (is, same) in no)
+
+module _ {D N : Type 0} (view : D → View) (tells : Bool) (coming : N → ℕ → ℕ) (site : Site D N) where
+  as_long : (p : Spots D N) → IsOwn site p → length p ≡ length site.row.homes
+  as_long p own = sym (map_length (λ (s : Spot (Opening D N) KeptEntry). home_of s) p) ∙ ap length own.of
+
+  -- a site of which no pass was used has no entry
+  none_made : (passes : List (Spots D N)) (workers k : ℕ) (es : List KeptEntry) → IsManned site workers passes → k < length site.row.homes
+      → ((who : ℕ) → site.row.seats ≤ who → own_of who (entries_of es) ≡ [])
+      → ((j : ℕ) (p : Spots D N) → slice_get passes j ≡ Some p → (a : Spot (Opening D N) KeptEntry) → slice_get p k ≡ Some a
+      → IsSeenBy a.known.caller (seen_by a.known) (entries_of es))
+      → entries_of es ≡ []
+  none_made passes workers k es manned within none told =
+      no_entry (entries_of es) (λ who. elim (lt_or who (length passes)) [
+        | inl low ↦
+            let p = get_there passes who low in
+            let first = manned.first who p.0 p.1 in
+            let a = get_there p.0 k (let size = as_long p.0 first.own in omega (arith, within, size)) in
+            let new = first.fresh k a.0 a.1 in
+            let seen : own_of a.0.known.caller (seen_by a.0.known) ≡ [] = ap (λ l. own_of a.0.known.caller (entries_of l)) new.1 in
+            ap (λ c. own_of c (entries_of es)) (sym new.0) ∙ ((told who p.0 p.1 a.0 a.1).own ∙ seen)
+        | inr high ↦ none who (let size = manned.many in let seats = manned.given in omega (arith, high, size, seats))
+      ])
+    where
+      lt_or : (a b : ℕ) → (a < b) ⊎ (b ≤ a)
+      lt_or a b = grind arith
+
+  -- so each of its disks is as it was when its shelf was opened
+  pub all_untouched : (passes : List (Spots D N)) (workers : ℕ) (disks : List D) (nonces : List N) (histories : List (List KeptEntry)) → IsManned site workers passes
+      → length disks ≡ length site.row.homes → length nonces ≡ length site.row.homes → length histories ≡ length site.row.homes
+      → ((k : ℕ) (h : Home (Opening D N)) (d : D) (n : N) (es : List KeptEntry) → slice_get site.row.homes k ≡ Some h → slice_get disks k ≡ Some d → slice_get nonces k ≡ Some n
+      → slice_get histories k ≡ Some es → IsBack view tells coming h.opening site.row.seats d n (entries_of es))
+      → ((k : ℕ) (es : List KeptEntry) → slice_get histories k ≡ Some es → (j : ℕ) (p : Spots D N) → slice_get passes j ≡ Some p
+      → (a : Spot (Opening D N) KeptEntry) → slice_get p k ≡ Some a → IsSeenBy a.known.caller (seen_by a.known) (entries_of es))
+      → AreUntouched view (IsTrue tells) (openings_in view tells coming site) disks
+  all_untouched passes workers disks nonces histories manned ds ns es back told =
+      untouched_from view tells coming site.row.homes site.row.seats disks nonces histories ds ns es back
+      (λ k h h_is.
+      let low = slice_get_within histories k h h_is in
+      none_made passes workers k h manned (omega (arith, low, es))
+      (none_from view tells coming site.row.homes site.row.seats disks nonces histories ds ns es back k h h_is) (told k h h_is))
+
 module _ {D P L N : Type 0} (v : Views D P L N) (site : Site D N) (requests : ℕ) where
+  abbrev rules : PassRules (Spots D N)
+  rules = site_rules v.disk v.told v.nonce site
+
+  abbrev openings : List Opened
+  openings = openings_in v.disk v.told v.nonce site
+
   -- what is known of the passes and porches of workers, and of the histories, when all is over
   pub record Facts (passes : List (Spots D N)) (porches : List P) (passes' : List (Spots D N)) (porches' : List P) (tallies : List Tally)
       (histories : List (List KeptEntry)) : Type 0 where
-    pub served : AreServed (site_rules v.disk v.told v.nonce site) v.link v.porch v.shown requests passes porches passes' porches' tallies
+    pub served : AreServed rules v.link v.porch v.shown requests passes porches passes' porches' tallies
     pub own : (k : ℕ) (p : Spots D N) → slice_get passes' k ≡ Some p → IsOwn site p
     pub first : (k : ℕ) (p : Spots D N) → slice_get passes k ≡ Some p → IsFirstPass site k p
     pub many : length histories ≡ length site.row.homes
+    pub opened : (k : ℕ) (h : Home (Opening D N)) → slice_get site.row.homes k ≡ Some h
+        → (o : Opening D N) × (h.opening ≡ o ∷ []) × IsOpened (start_of o).book
     pub told : (k : ℕ) (es : List KeptEntry) → slice_get histories k ≡ Some es → (j : ℕ) (p : Spots D N) → slice_get passes' j ≡ Some p
         → (a : Spot (Opening D N) KeptEntry) → slice_get p k ≡ Some a → IsSeenBy a.known.caller (seen_by a.known) (entries_of es)
-
-  as_long : (p : Spots D N) → IsOwn site p → length p ≡ length site.row.homes
-  as_long p own = sym (map_length (λ (s : Spot (Opening D N) KeptEntry). home_of s) p) ∙ ap length own.of
 
   module _ (passes : List (Spots D N)) (porches : List P) (passes' : List (Spots D N)) (porches' : List P) (tallies : List Tally)
       (histories : List (List KeptEntry)) (f : Facts passes porches passes' porches' tallies histories) where
     -- the worker of a place
     module _ (number : ℕ) (a b : Worker (Spots D N) P) (a_is : slice_get f.served.before number ≡ Some a) (b_is : slice_get f.served.after number ≡ Some b) where
-      works : WorksAs (site_rules v.disk v.told v.nonce site) v.link v.porch v.shown requests a b
-      works = zip_at (WorksAs (site_rules v.disk v.told v.nonce site) v.link v.porch v.shown requests) f.served.before f.served.after number a b f.served.works a_is b_is
+      works : WorksAs rules v.link v.porch v.shown requests a b
+      works = zip_at (WorksAs rules v.link v.porch v.shown requests) f.served.before f.served.after number a b f.served.works a_is b_is
 
       was : IsFirstPass site number a.pass
       was = f.first number a.pass (ap (λ ps. slice_get ps number) (sym f.served.had_passes) ∙ get_map (λ (w : Worker (Spots D N) P). w.pass) f.served.before number a a_is)
@@ -143,36 +244,74 @@ module _ {D P L N : Type 0} (v : Views D P L N) (site : Site D N) (requests : �
           let adds = works_adds v.disk v.told v.nonce site v.link v.shown requests a.pass b.pass works.worked.given works.worked.back (count_of b.tally) works.worked.works in
           let low = slice_get_within b.pass k s s_is in
           let caller : s.known.caller ≡ number =
-          (is.seats k s s_is).caller_is ∙ (adds.caller ∙ new_caller number a.pass was.fresh (omega (arith, low, as_long b.pass is, as_long a.pass was.own))) in
+          (is.seats k s s_is).caller_is
+          ∙ (adds.caller ∙ new_caller number a.pass was.fresh (let x = as_long v.disk v.told v.nonce site b.pass is in let y = as_long v.disk v.told v.nonce site a.pass was.own in omega (arith, low, x, y))) in
           (caller, subst (λ c. IsSeenBy c (seen_by s.known) (entries_of h)) caller (f.told k h h_is number b.pass there s s_is))
 
-      has_served : HasServed v site requests histories number a b
-      has_served = record { first = was; works = works; seen = λ k s h s_is h_is. (seen k s h s_is h_is).1 }
+      -- the pass knew nothing at first
+      knew : KnowsAll v.disk v.told v.nonce number (openings_of site.row.homes) a.pass (unseen openings)
+      knew =
+          subst (λ (hs : List (Home (Opening D N))). KnowsAll v.disk v.told v.nonce number (openings_of hs) a.pass (unseen (opened_as v.disk v.told v.nonce (openings_of hs)))) was.own.of
+          (first_knows v.disk v.told v.nonce number a.pass was.fresh
+          (λ k s s_is. f.opened k (home_of s) (ap (λ hs. slice_get hs k) (sym was.own.of) ∙ get_map (λ (x : Spot (Opening D N) KeptEntry). home_of x) a.pass k s s_is)))
+
+      has_served : HasServed v openings requests histories number a.porch b.porch b.tally
+      has_served =
+          let w = worked_so v.disk v.told v.nonce number (openings_of site.row.homes) site v.link v.shown requests a.pass b.pass (unseen openings)
+          (v.porch a.porch) (v.porch b.porch) (count_of b.tally) knew works.worked in
+          record {
+            last = w.0;
+            worked = w.2;
+            seen = last_seen v.disk v.told v.nonce number (openings_of site.row.homes) b.pass w.0 histories w.1 (f.many ∙ sym (as_long v.disk v.told v.nonce site b.pass is))
+                (λ k s h s_is h_is. (seen k s h s_is h_is).1);
+            ended = works.ended;
+            small = works.small;
+            most = works.most;
+            later = works.later;
+          }
 
       counted : b.tally.pages ≡ caller_pages number histories
       counted =
           let adds = works_adds v.disk v.told v.nonce site v.link v.shown requests a.pass b.pass works.worked.given works.worked.back (count_of b.tally) works.worked.works in
           let none = new_none number a.pass was.fresh in
-          let all = caller_all number b.pass histories (f.many ∙ sym (as_long b.pass is)) seen in
+          let all = caller_all number b.pass histories (f.many ∙ sym (as_long v.disk v.told v.nonce site b.pass is)) seen in
           let sum = adds.pages in
           omega arith
 
+    long : length f.served.after ≡ length f.served.before
+    long = zip_length (WorksAs rules v.link v.porch v.shown requests) f.served.before f.served.after f.served.works
+
     one_before : (number : ℕ) (b : Worker (Spots D N) P) → slice_get f.served.after number ≡ Some b → (a : Worker (Spots D N) P) × (slice_get f.served.before number ≡ Some a)
     one_before number b b_is =
-        let long = zip_length (WorksAs (site_rules v.disk v.told v.nonce site) v.link v.porch v.shown requests) f.served.before f.served.after f.served.works in
         get_there f.served.before number (let low = slice_get_within f.served.after number b b_is in omega (arith, low, long))
 
+    -- the worker of a porch, by the porch that it had and the porch and the tally that it has
+    porch_served : (number : ℕ) (p q : P) (t : Tally) → slice_get porches number ≡ Some p → slice_get porches' number ≡ Some q → slice_get tallies number ≡ Some t
+        → HasServed v openings requests histories number p q t
+    porch_served number p q t p_is q_is t_is =
+        let a = map_get (λ (w : Worker (Spots D N) P). w.porch) f.served.before number p (ap (λ ps. slice_get ps number) f.served.had_porches ∙ p_is) in
+        let b = map_get (λ (w : Worker (Spots D N) P). w.porch) f.served.after number q (ap (λ ps. slice_get ps number) f.served.has_porches ∙ q_is) in
+        let tally : b.0.tally ≡ t = one_of (sym (get_map (λ (w : Worker (Spots D N) P). w.tally) f.served.after number b.0 b.1) ∙ (ap (λ ts. slice_get ts number) f.served.counted ∙ t_is)) in
+        subst (λ x. HasServed v openings requests histories number x q t) a.2
+        (subst (λ x. HasServed v openings requests histories number a.0.porch x t) b.2
+        (subst (λ x. HasServed v openings requests histories number a.0.porch b.0.porch x) tally (has_served number a.0 b.0 a.1 b.1)))
+
     -- each worker served its porch
-    pub porches_served : (left : DoorView P L) → IfSome left.closed (λ kept. kept ≡ porches') → ServesPorches v site requests porches left (kept_of histories tallies)
-    porches_served left closed = record {
-      before = f.served.before;
-      after = f.served.after;
-      had = f.served.had_porches;
-      many = zip_length (WorksAs (site_rules v.disk v.told v.nonce site) v.link v.porch v.shown requests) f.served.before f.served.after f.served.works;
-      served = has_served;
-      counted = f.served.counted;
-      closed = subst (λ ps. IfSome left.closed (λ kept. kept ≡ ps)) (sym f.served.has_porches) closed;
-    }
+    pub porches_served : (left : DoorView P L) → IfSome left.closed (λ kept. kept ≡ porches') → ServesPorches v openings requests porches left (kept_of histories tallies)
+    porches_served left closed =
+        let had = map_length (λ (w : Worker (Spots D N) P). w.porch) f.served.before in
+        let has = map_length (λ (w : Worker (Spots D N) P). w.porch) f.served.after in
+        let counts = map_length (λ (w : Worker (Spots D N) P). w.tally) f.served.after in
+        let first = ap length f.served.had_porches in
+        let last = ap length f.served.has_porches in
+        let told = ap length f.served.counted in
+        record {
+          after = porches';
+          many = omega (arith, long, had, has, first, last);
+          tallied = omega (arith, long, had, counts, first, told);
+          served = porch_served;
+          closed = closed;
+        }
 
     -- the pages that were counted are the publishes of the histories that were answered with a page
     pub pages_are : (workers : ℕ) → length tallies ≡ workers → NoneFrom workers histories → (total tallies).pages ≡ pages_of histories
@@ -184,6 +323,20 @@ module _ {D P L N : Type 0} (v : Views D P L N) (site : Site D N) (requests : �
         tallies_sum tallies (λ k. caller_pages k histories) each
         ∙ (ap (λ n. sum_below n (λ k. caller_pages k histories)) many ∙ callers_sum workers histories none)
 
+-- what each shelf of a site was opened as, by what it handed back
+pub opened_all : {D N : Type 0} (view : D → View) (tells : Bool) (coming : N → ℕ → ℕ) (homes : List (Home (Opening D N))) (given : ℕ) (disks : List D) (nonces : List N)
+    (histories : List (List KeptEntry)) → length disks ≡ length homes → length nonces ≡ length homes → length histories ≡ length homes
+    → ((k : ℕ) (h : Home (Opening D N)) (d : D) (n : N) (es : List KeptEntry) → slice_get homes k ≡ Some h → slice_get disks k ≡ Some d → slice_get nonces k ≡ Some n
+    → slice_get histories k ≡ Some es → IsBack view tells coming h.opening given d n (entries_of es))
+    → (k : ℕ) (h : Home (Opening D N)) → slice_get homes k ≡ Some h → (o : Opening D N) × (h.opening ≡ o ∷ []) × IsOpened (start_of o).book
+opened_all view tells coming homes given disks nonces histories ds ns es each k h h_is =
+    let low = slice_get_within homes k h h_is in
+    let d = get_there disks k (omega (arith, low, ds)) in
+    let n = get_there nonces k (omega (arith, low, ns)) in
+    let e = get_there histories k (omega (arith, low, es)) in
+    let back = each k h d.0 n.0 e.0 h_is d.1 n.1 e.1 in
+    (back.opened, back.opening_is, back.stands.ended.opened)
+
 -- what is left of porches and shelves, by what the calls say
 pub leaves_all : {D P L N : Type 0} (v : Views D P L N) (site : Site D N) (requests : ℕ) (passes : List (Spots D N)) (porches : List P) (passes' : List (Spots D N)) (porches' : List P)
     (tallies : List Tally) (disks : List D) (nonces : List N) (histories : List (List KeptEntry)) (left : DoorView P L) (workers : ℕ)
@@ -191,7 +344,7 @@ pub leaves_all : {D P L N : Type 0} (v : Views D P L N) (site : Site D N) (reque
     → length disks ≡ length site.row.homes → length nonces ≡ length site.row.homes
     → ((k : ℕ) (h : Home (Opening D N)) (d : D) (n : N) (es : List KeptEntry) → slice_get site.row.homes k ≡ Some h → slice_get disks k ≡ Some d → slice_get nonces k ≡ Some n
     → slice_get histories k ≡ Some es → IsBack v.disk v.told v.nonce h.opening site.row.seats d n (entries_of es))
-    → IfSome left.closed (λ kept. kept ≡ porches') → LeavesAll v site requests porches left workers disks (kept_of histories tallies)
+    → IfSome left.closed (λ kept. kept ≡ porches') → LeavesAll v (openings_in v.disk v.told v.nonce site) requests porches left workers disks (kept_of histories tallies)
 leaves_all {D = D} {P = P} {L = L} {N = N} v site requests passes porches passes' porches' tallies disks nonces histories left workers f many seats ds ns back closed =
     let long = zip_length (WorksAs (site_rules v.disk v.told v.nonce site) v.link v.porch v.shown requests) f.served.before f.served.after f.served.works in
     let first = ap length f.served.had_passes in
@@ -201,7 +354,7 @@ leaves_all {D = D} {P = P} {L = L} {N = N} v site requests passes porches passes
     let count : length tallies ≡ workers = omega arith in
     record {
       works = porches_served v site requests passes porches passes' porches' tallies histories f left closed;
-      shelves = subst (λ n. AreEnded v.disk v.told v.nonce n (openings_of site.row.homes) disks histories) seats
+      shelves = subst (λ n. AreEnded v.disk (IsTrue v.told) n (openings_in v.disk v.told v.nonce site) disks histories) seats
           (ended_from v.disk v.told v.nonce site.row.homes site.row.seats disks nonces histories ds ns f.many back);
       pages = pages_are v site requests passes porches passes' porches' tallies histories f workers count
           (subst (λ n. NoneFrom n histories) seats (none_from v.disk v.told v.nonce site.row.homes site.row.seats disks nonces histories ds ns f.many back));

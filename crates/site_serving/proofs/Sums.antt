@@ -47,7 +47,7 @@ own_other true e own is = absurd (let no : ⊥ = cc is in no)
 own_other false e own is = refl
 
 -- No caller from n on has an entry. Then none has among the later ones, and the first one's caller is below n.
-none_first : (b : Bool) (e : Entry) (own : List Entry) → (if b then e ∷ own else own) ≡ [] → (b ≡ false) × (own ≡ [])
+pub none_first : (b : Bool) (e : Entry) (own : List Entry) → (if b then e ∷ own else own) ≡ [] → (b ≡ false) × (own ≡ [])
 none_first true e own is = absurd (let no : ⊥ = cc is in no)
 none_first false e own is = (refl, is)
 

@@ -1,10 +1,9 @@
--- Which entries of a history are counted as pages.
+-- Which entries of a history are counted as pages, and which as faults of a disk.
 use Rattle.std.specs.Prelude.{ℕ, ◌+◌, List, [], ◌∷◌}
-use Rattle.replay_spec.specs.Step.{Event, publish, Reply, shown, finished, ended}
-use Rattle.history_spec.specs.Histories.{Entry, own_of}
+use Rattle.replay_spec.specs.Step.{Event, publish, Reply, shown, finished, ended, disk_failed}
+use Rattle.history_spec.specs.Histories.{Entry}
 use Rattle.site.specs.declared.entry.KeptEntry.{KeptEntry}
 use Rattle.site.specs.Entries.{entries_of}
-use Rattle.site.specs.Passes.{Spots, seen_by}
 
 -- how many pages a reply is: one where a page was shown, or an instance finished or a visit ended with it, and else none
 abbrev pub page_count : Reply → ℕ
@@ -28,7 +27,17 @@ abbrev pub pages_of : List (List KeptEntry) → ℕ
 pages_of [] = 0
 pages_of (h ∷ histories) = pages_in (entries_of h) + pages_of histories
 
--- how many publishes of its own caller, of those answered with a page, a pass has seen at all shelves
-abbrev pub own_pages : {D N : Type 0} → Spots D N → ℕ
-own_pages [] = 0
-own_pages (a ∷ pass) = pages_in (own_of a.known.caller (seen_by a.known)) + own_pages pass
+-- how many faults of a disk a reply tells
+abbrev pub fault_count : Reply → ℕ
+fault_count (disk_failed count) = 1
+fault_count _ = 0
+
+-- how many entries of a history were answered with a fault of the disk
+abbrev pub faults_in : List Entry → ℕ
+faults_in [] = 0
+faults_in (e ∷ es) = fault_count e.reply + faults_in es
+
+-- how many entries in the histories of all shelves were answered with a fault of the disk
+abbrev pub faults_told : List (List KeptEntry) → ℕ
+faults_told [] = 0
+faults_told (h ∷ histories) = faults_in (entries_of h) + faults_told histories

@@ -1,9 +1,8 @@
 //! Links of a door, served from the shelves of a site.
-ghost use Rattle.std.specs.Prelude.{◌≡◌, ◌≤◌, ℕ, Some, length, slice_get, vec_len, IfOk, IsErrOf};
+ghost use Rattle.std.specs.Prelude.{◌≡◌, ◌≤◌, ℕ, Some, length, slice_get, vec_len, IfOk, IsErrOf, IsTrue, OnErr};
 ghost use Rattle.site_serving.specs.Workers.{IsRoomFor};
-ghost use Rattle.site.specs.Beginnings.{IsReady, IsWhole, most_passes};
-ghost use Rattle.site.specs.Sites.{IsOwn};
-ghost use Rattle.site_serving.specs.Serving.{ComesTo, EndsAs, HasFailed, IsManned, fault_of, most_requests, openings_of, pasts_of, views};
+ghost use Rattle.site.specs.Beginnings.{IsFirstPass, IsReady, IsWhole, most_passes};
+ghost use Rattle.site_serving.specs.Serving.{AreUntouched, ComesTo, EndsAs, HasFailed, IsManned, fault_of, most_requests, openings_in, pasts_of, views};
 
 use crate::keeping::Past;
 use crate::{Room, serve_all, total};
@@ -64,6 +63,7 @@ fn gather<D: Disk, N: Nonces + Drop, P>(
     ensures whole { IsWhole site.new }
     ensures homes { site.new.row.homes ≡ site.old.row.homes }
     ensures manned { IfOk result (λ c. IsManned site.new count c.passes.items) }
+    ensures none { OnErr result (site.new.row.seats ≡ 0) }
     ensures count { IfOk result (λ c. vec_len c.passes ≡ count) }
     ensures room { IfOk result (λ c. IsRoomFor count c.room) }
 {
@@ -77,15 +77,18 @@ fn gather<D: Disk, N: Nonces + Drop, P>(
     }
 }
 
-// Closes a site of which nothing was served, and gives back its disks.
+// Closes a site of which nothing was served, and gives back its disks, as they were when the shelves were opened.
 fn give_up<R: Wait, D: Disk, N: Nonces + Drop>(
     rt: &R,
     site: Site<D, N>,
     passes: Vec<SitePass<D, N>>,
 ) -> Vec<D>
     requires whole { IsWhole site }
-    requires own { (j : ℕ) (p : _) → slice_get passes.items j ≡ Some p → IsOwn site p }
-    ensures { length result.items ≡ length site.row.homes }
+    requires given { site.row.seats ≡ vec_len passes }
+    requires first { (k : ℕ) (p : _) → slice_get passes.items k ≡ Some p → IsFirstPass site k p }
+    ensures disks { length result.items ≡ length site.row.homes }
+    ensures untouched { AreUntouched D.view (IsTrue D.tells)
+        (openings_in D.view D.tells N.nonce site) result.items }
 {
     let (disks, nonces, histories) = site.close(rt, passes);
     drop(nonces);
@@ -129,7 +132,7 @@ where
     ensures disks { length result.0.items ≡ length site.row.homes }
     ensures ends { EndsAs
         (views D.view D.tells A.Porch.Link.view A.Porch.view N.nonce (C.shows clock.now))
-        site requests porches.items (A.view door.new)
+        (openings_in D.view D.tells N.nonce site) requests porches.items (A.view door.new)
         (pasts_of (P.told past.old) (P.told past.new)) (vec_len passes) result.0.items result.1 }
     ensures failed { result.1.end ≡ WorkEnd.Failed → HasFailed (A.view door.old) (A.view door.new) }
     ensures later { (A.view door.old).faults ≤ (A.view door.new).faults }
@@ -192,7 +195,7 @@ where
     ensures disks { length result.0.items ≡ length site.row.homes }
     ensures comes { ComesTo
         (views D.view D.tells A.Porch.Link.view A.Porch.view N.nonce (C.shows clock.now))
-        (openings_of site.row.homes) (A.view door.old) (A.view door.new)
+        (openings_in D.view D.tells N.nonce site) (A.view door.old) (A.view door.new)
         (pasts_of (P.told past.old) (P.told past.new)) watch.now result.0.items result.1 }
     ensures door { IsErrOf result.1 ServingFault.Door
         → HasFailed (A.view door.old) (A.view door.new) }

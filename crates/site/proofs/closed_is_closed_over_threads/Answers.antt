@@ -10,5 +10,5 @@ returns g c o disk nonces es stands own sound before between more leaving next n
     let opened = count_of {D = g.row.D.Denot} {N = g.row.N.Denot} g.D.Disk.view o.shelf.value in
     let now = (g.D.Disk.view disk).faults in
     let until = before ++ leaving ∷ between in
-    let legal = (c.histories_go_on.ensures source opened now start (until ++ next ∷ [])).2 more (subst (IsLegal source opened now start) is (stands.history own).legal) in
-    c.closed_is_closed.ensures source opened now start before between leaving next name stands.opened sound legal leaves
+    let legal = (c.histories_go_on.ensures source opened now start (until ++ next ∷ [])).2 more (subst (IsLegal source opened now start) is (stands.ended.history own).legal) in
+    c.closed_is_closed.ensures source opened now start before between leaving next name stands.ended.opened sound legal leaves

@@ -7,7 +7,7 @@ returns g c o p disk nonces es told stands own sound one =
     let start = start_of {D = g.row.D.Denot} {N = g.row.N.Denot} o in
     let opened = count_of {D = g.row.D.Denot} {N = g.row.N.Denot} g.D.Disk.view o.shelf.value in
     let book = book_then {D = g.row.D.Denot} {N = g.row.N.Denot} g.N.Nonces.nonce o es in
-    let its = stands.history own in
-    let here = (c.books_behind_are_sound.ensures source opened (g.D.Disk.view disk).faults start es stands.opened sound its.legal).0 in
+    let its = stands.ended.history own in
+    let here = (c.books_behind_are_sound.ensures source opened (g.D.Disk.view disk).faults start es stands.ended.opened sound its.legal).0 in
     c.a_reopened_shelf_is_sound.ensures (scripts_in {D = g.row.D.Denot} {N = g.row.N.Denot} o) o.shelf.value.rules.number start.rules book
     (start_of {D = g.row.D.Denot} {N = g.row.N.Denot} p).book disk disk here (its.stands told).stands (λ image left. left) one

@@ -22,7 +22,7 @@ use Rattle.request_workers.specs.declared.tally.Tally.{Tally}
 use Rattle.site_serving.specs.Totals.{end_of, total}
 use Rattle.site_serving.specs.Kept.{kept_of}
 use Rattle.site_serving.specs.Serving.{views}
-use Rattle.site_serving.proofs.Served.{all_small, as_many, door_rose, leaves_all}
+use Rattle.site_serving.proofs.Served.{all_small, as_many, door_rose, leaves_all, opened_all}
 use Rattle.site_serving.proofs.serving.serve_porches.Goals as goal
 
 shelf_send : (D N : RattleType) → IsSend D → IsSend N → IsSend (KeptShelf.the_row D N)
@@ -81,20 +81,23 @@ returns-clause-ends g c =
     let v = views g.D.Disk.view g.D.Disk.tells g.A.Porch.Link.Link.view g.A.Porch.Porch.view g.N.Nonces.nonce (g.C.Clock.shows c.args.clock.now) in
     let tallies = c.serve_all-tallies.result.items in
     let histories = c.close-disks.result.2.items in
+    let closed = c.close-disks.ensures in
     let value : c.deref.result.now ≡ tallies = c.deref.ensures.value in
     record {
       kept = kept_of histories tallies;
       told = c.keep.ensures;
-      leaves = leaves_all v c.args.site c.args.requests c.args.passes.items c.args.porches.items c.serve_all-tallies.new.passes.items c.serve_all-tallies.new.porches.items tallies
-          c.close-disks.result.0.items c.close-disks.result.1.items histories (g.A.Door.view c.close.new.self) (vec_len c.args.passes)
+      leaves = leaves_all v c.args.site c.args.requests c.args.passes.items c.args.porches.items c.serve_all-tallies.new.passes.items c.serve_all-tallies.new.porches.items
+          tallies c.close-disks.result.0.items c.close-disks.result.1.items histories (g.A.Door.view c.close.new.self) (vec_len c.args.passes)
           (record {
             served = c.serve_all-tallies.ensures.served;
             own = c.serve_all-tallies.ensures.own;
             first = c.requires.manned.first;
-            many = c.close-disks.ensures.histories;
-            told = c.close-disks.ensures.told;
+            many = closed.histories;
+            opened = opened_all g.D.Disk.view g.D.Disk.tells g.N.Nonces.nonce c.args.site.row.homes c.args.site.row.seats c.close-disks.result.0.items c.close-disks.result.1.items
+                histories closed.disks closed.nonces closed.histories closed.back;
+            told = closed.told;
           })
-          c.requires.manned.many c.requires.manned.given c.close-disks.ensures.disks c.close-disks.ensures.nonces c.close-disks.ensures.back c.close.ensures.closed;
+          c.requires.manned.many c.requires.manned.given closed.disks closed.nonces closed.back c.close.ensures.closed;
       count = c.total-tally.ensures.count ∙ ap total value;
       end = c.total-tally.ensures.end ∙ ap end_of value;
     }

@@ -6,7 +6,7 @@ use Rattle.script_nodes.specs.Views.{scripts_of}
 use Rattle.site.specs.Entries.{entries_of, Comes}
 use Rattle.site.specs.Sound.{IsSound, Holds}
 use Rattle.site.proofs.Holding.{holds_on}
-use Rattle.site.proofs.Turns.{Turn, published, goes_none, adds_one, match_ok, match_err, seen_so, from_did}
+use Rattle.site.proofs.Turns.{Turn, published, adds_one, match_ok, match_err, seen_so, from_did, worn}
 use Rattle.site.proofs.Seats.{setup_at, own_on, same_opening}
 use Rattle.site.proofs.site.Site.publish_at.Goals as goal
 
@@ -95,4 +95,4 @@ returns-in-Err-clause-published g c =
     let t = at.4 in
     let x = t.0 in
     let turn : Turn {D = g.row.D.Denot} {N = g.row.N.Denot} view tells coming at.0.known at.1 x x = record { opening_is = t.2.0; begins = t.3.0; own_is = t.3.1; sound = t.1; seen_is = t.5 } in
-    (at.0, at.1, at.2, at.3, inr (refl, goes_none {D = g.row.D.Denot} {N = g.row.N.Denot} view tells coming at.0.known at.1 x x turn refl))
+    (at.0, at.1, at.2, at.3, inr (worn {D = g.row.D.Denot} {N = g.row.N.Denot} view tells coming at.0.known at.1 x x turn t.4 refl))

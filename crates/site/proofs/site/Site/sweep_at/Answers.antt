@@ -3,7 +3,7 @@ use Rattle.site.specs.Entries.{entries_of, Sweeps}
 use Rattle.shelf.specs.Views.{book_in}
 use Rattle.site.specs.Openings.{scripts_in}
 use Rattle.site.specs.Sound.{IsSound}
-use Rattle.site.proofs.Turns.{Turn, swept, goes_none, adds_swept, match_ok, match_err, from_did}
+use Rattle.site.proofs.Turns.{Turn, swept, adds_swept, match_ok, match_err, from_did, worn}
 use Rattle.site.proofs.Seats.{setup_at, own_on}
 use Rattle.site.proofs.site.Site.sweep_at.Goals as goal
 
@@ -83,4 +83,4 @@ returns-in-Err-clause-swept g c =
     let t = at.4 in
     let x = t.0 in
     let turn : Turn {D = g.row.D.Denot} {N = g.row.N.Denot} view tells coming at.0.known at.1 x x = record { opening_is = t.2.0; begins = t.3.0; own_is = t.3.1; sound = t.1; seen_is = t.5 } in
-    (at.0, at.1, at.2, at.3, inr (refl, goes_none {D = g.row.D.Denot} {N = g.row.N.Denot} view tells coming at.0.known at.1 x x turn refl))
+    (at.0, at.1, at.2, at.3, inr (worn {D = g.row.D.Denot} {N = g.row.N.Denot} view tells coming at.0.known at.1 x x turn t.4 refl))

@@ -5,7 +5,7 @@ use Rattle.replay_spec.specs.Step as step
 use Rattle.shelf.specs.Views.{taken_of}
 use Rattle.site.specs.Entries.{entries_of, Comes}
 use Rattle.site.specs.Sound.{IsSound, Gives}
-use Rattle.site.proofs.Turns.{Turn, took, goes_none, adds_one, match_ok, match_err, from_did}
+use Rattle.site.proofs.Turns.{Turn, took, adds_one, match_ok, match_err, from_did, worn}
 use Rattle.site.proofs.Seats.{setup_at, own_on}
 use Rattle.site.proofs.site.Site.take_at.Goals as goal
 
@@ -86,4 +86,4 @@ returns-in-Err-clause-took g c =
     let t = at.4 in
     let x = t.0 in
     let turn : Turn {D = g.row.D.Denot} {N = g.row.N.Denot} view tells coming at.0.known at.1 x x = record { opening_is = t.2.0; begins = t.3.0; own_is = t.3.1; sound = t.1; seen_is = t.5 } in
-    (at.0, at.1, at.2, at.3, (tt, inr (refl, goes_none {D = g.row.D.Denot} {N = g.row.N.Denot} view tells coming at.0.known at.1 x x turn refl)))
+    (at.0, at.1, at.2, at.3, (tt, inr (worn {D = g.row.D.Denot} {N = g.row.N.Denot} view tells coming at.0.known at.1 x x turn t.4 refl)))

@@ -1,0 +1,215 @@
+-- A tick that was swept has nothing to do when it comes again.
+use Rattle.std.proofs.Common.{◌≡◌, ◌⊎◌, ◌≤◌, ◌+◌, ℕ, Bool, List, [], ◌∷◌, ◌++◌, inl, inr, map, length, length-append, length-set, Some, None, Option, slice_get, set, refl, ap, sym, ◌∙◌, subst, arith, append_assoc}
+use Rattle.std.specs.Prelude.{Result, Ok, Err, IfOk, Vec, zero, suc}
+use Rattle.std.specs.declared.alloc.Global.{Global}
+use Rattle.std.specs.declared.alloc.AllocError.{AllocError}
+use Rattle.std.proofs.lemmas.List.{append-nil}
+use Rattle.std.proofs.lemmas.Option.{slice_get_within}
+use Rattle.web_disk.specs.View.{View}
+use Rattle.shelf_lock.specs.declared.view.Role.TheVariants.{Outside}
+use Rattle.shelf_lock.specs.Order.{posed}
+use Rattle.script_value.specs.Val.{Val}
+use Rattle.script_value.specs.declared.outcome.Reply.{Reply}
+use Rattle.page_names.specs.Names.{Destination}
+use Rattle.http_forms.specs.Passes.{AreSwept}
+use Rattle.lock_row.specs.Spots.{Spot, spot, home_of, At, caller_at}
+use Rattle.lock_row.proofs.Places.{one_of, get_there, map_length}
+use Rattle.replay_spec.specs.Step as step
+use Rattle.instance_book.specs.declared.ticket.Ticket.{Ticket}
+use Rattle.instance_book.specs.Views.{reply_of}
+use Rattle.replay_spec.specs.Runs.{Shelf}
+use Rattle.history_spec.specs.Histories.{Entry, own_of, book_behind, IsLegal, IsOpened}
+use Rattle.history_spec.specs.Passes.{Goes}
+use Rattle.history_spec.proofs.Behind.{never_back}
+use Rattle.site.specs.declared.entry.KeptEntry.{KeptEntry}
+use Rattle.site.specs.declared.opening.Opening.{Opening}
+use Rattle.site.specs.Entries.{entry}
+use Rattle.site.specs.Openings.{IsOwnOpening, start_of, source_of, count_of}
+use Rattle.site.specs.Passes.{Spots, Known, seen_by, GoesFrom, Took, Published, HasReached, Swept}
+use Rattle.site.specs.declared.site.Site.{Site}
+use Rattle.site.specs.Sites.{IsOwn, TakesOn, VisitsAt, Ticks, AnswersTick, shelf_for}
+
+-- where an answer stands among those of shelves that were swept, the shelf was
+swept_at : (answers : List (Result ℕ Reply)) (k : ℕ) (r : Result ℕ Reply) → AreSwept answers → slice_get answers k ≡ Some r → (n : ℕ) × (r ≡ Ok n)
+swept_at [] k r all e = absurd (let no : ⊥ = cc e in no)
+swept_at (Ok n ∷ answers) zero r all e = (n, sym (one_of e))
+swept_at (Ok n ∷ answers) (suc k) r all e = swept_at answers k r all e
+swept_at (Err x ∷ answers) k r all e = absurd all
+
+-- the same place, where nothing was done
+abbrev nothings : List (Result ℕ Reply) → List (Result ℕ Reply)
+nothings answers = map (λ (r : Result ℕ Reply). Ok 0) answers
+
+none_refused : (answers : List (Result ℕ Reply)) → AreSwept (nothings answers)
+none_refused [] = tt
+none_refused (x ∷ answers) = none_refused answers
+
+nothing_at : (answers : List (Result ℕ Reply)) (k : ℕ) (r : Result ℕ Reply) → slice_get (nothings answers) k ≡ Some r → (u : Result ℕ Reply) × (slice_get answers k ≡ Some u) × (r ≡ Ok 0)
+nothing_at [] k r e = absurd (let no : ⊥ = cc e in no)
+nothing_at (x ∷ answers) zero r e = (x, refl, sym (one_of e))
+nothing_at (x ∷ answers) (suc k) r e = nothing_at answers k r e
+
+-- what stands in a list where one place was changed
+set_cases : {A : Type 0} (xs : List A) (k j : ℕ) (x a : A) → slice_get (set xs k x) j ≡ Some a → ((j ≡ k) × (x ≡ a)) ⊎ (slice_get xs j ≡ Some a)
+set_cases [] k j x a e = inr e
+set_cases (y ∷ ys) zero zero x a e = inl (refl, one_of e)
+set_cases (y ∷ ys) zero (suc j) x a e = inr e
+set_cases (y ∷ ys) (suc k) zero x a e = inr e
+set_cases (y ∷ ys) (suc k) (suc j) x a e = elim (set_cases ys k j x a e) [
+  | inl is ↦ inl (ap suc is.0, is.1)
+  | inr is ↦ inr is
+]
+
+-- where a history goes on the clock does not fall
+risen : (source : ℕ → ℕ) (opened now : ℕ) (s : Shelf) (caller : ℕ) (seen added es : List Entry) → IsOpened s.book → Goes source opened now s caller seen added es
+    → (book_behind source s seen).clock ≤ (book_behind source s es).clock
+risen source opened now s caller seen added es is goes =
+    let more = goes.between ++ added in
+    let all : es ≡ seen ++ more = goes.is ∙ append_assoc seen goes.between added in
+    subst (λ l. (book_behind source s seen).clock ≤ (book_behind source s l).clock) (sym all)
+    (never_back source opened now s seen more is (subst (IsLegal source opened now s) all goes.legal)).0
+
+-- no list is longer by an element than itself
+no_longer : (xs : List Entry) (e : Entry) → xs ≡ xs ++ e ∷ [] → ⊥
+no_longer xs e is = let long = ap length is ∙ length-append xs (e ∷ []) in absurd (omega arith)
+
+module _ {D N : Type 0} (view : D → View) (tells : Bool) (coming : N → ℕ → ℕ) where
+  -- what was seen was seen
+  stays : (v w : Known D N) (added : List Entry) → GoesFrom view tells coming v added w → GoesFrom view tells coming w [] w
+  stays v w added g =
+      let whole : seen_by w ≡ (seen_by w ++ []) ++ [] = sym (append-nil (seen_by w ++ []) ∙ append-nil (seen_by w)) in
+      let own : own_of w.caller (seen_by w) ≡ own_of w.caller (seen_by w) ++ [] = sym (append-nil (own_of w.caller (seen_by w))) in
+      record {
+        opening = g.opening;
+        opening_is = ap (λ (z : Known D N). z.opening) g.is ∙ g.opening_is;
+        opened = g.opened;
+        is = subst (λ (z : Known D N). z ≡ posed Outside w.seen z) (sym g.is) refl;
+        grows = record { between = []; is = whole; own = own };
+        now = g.now;
+        goes = λ mine. record { between = []; is = whole; legal = (g.goes mine).legal; own = own };
+      }
+
+  -- a clock that was at the tick stays there
+  reached : (v w : Known D N) (added : List Entry) (tick : ℕ) → GoesFrom view tells coming v added w → HasReached view tells coming v tick → HasReached view tells coming w tick
+  reached v w added tick g h o is mine =
+      let same : g.opening ≡ o = cc (sym g.opening_is ∙ (sym (ap (λ (z : Known D N). z.opening) g.is) ∙ is)) in
+      let before : v.opening ≡ o ∷ [] = g.opening_is ∙ ap (λ (z : Opening D N). z ∷ []) same in
+      let goes = subst (λ (z : Opening D N). Goes (source_of coming z) (count_of view z.shelf.value) g.now (start_of z) v.caller (seen_by v) added (seen_by w)) same (g.goes (subst (IsOwnOpening view tells) (sym same) mine)) in
+      let opened = subst (λ (z : Opening D N). IsOpened (start_of z).book) same g.opened in
+      let up = risen (source_of coming o) (count_of view o.shelf.value) g.now (start_of o) v.caller (seen_by v) added (seen_by w) opened goes in
+      let low = h o before mine in
+      omega (arith, up, low)
+
+  -- what a sweep that did nothing was answered, if not a refusal, another is answered after whatever its caller did
+  same_answer : (v w : Known D N) (added : List Entry) (tick n : ℕ) → GoesFrom view tells coming v added w
+      → Swept view tells coming v tick (Ok n) v → Swept view tells coming w tick (Ok n) w
+  same_answer v w added tick n g (inl one, h) = absurd (no_longer (own_of v.caller (seen_by v)) (entry v.caller (step.sweep tick) (step.swept n)) one.grows.own)
+  same_answer v w added tick n g (inr none, h) = (inr (none.0, stays v w added g), reached v w added tick g h)
+
+  -- after a sweep that was answered another one does nothing
+  again : (v w : Known D N) (tick n : ℕ) → Swept view tells coming v tick (Ok n) w → Swept view tells coming w tick (Ok 0) w
+  again v w tick n (inl one, h) = (inr (refl, stays v w (entry v.caller (step.sweep tick) (step.swept n) ∷ []) one), h)
+  again v w tick n (inr none, h) = (inr (refl, stays v w [] none.1), h)
+
+  -- a tick at this time may be left out
+  abbrev pub Skips : Spots D N → ℕ → Type 0
+  Skips pass tick = (answers : List (Result ℕ Reply)) × AreSwept answers × Ticks view tells coming pass tick answers pass
+
+  -- behind a tick that no shelf refused, another at the same time does nothing
+  skips_next : (old new : Spots D N) (tick : ℕ) (answers : List (Result ℕ Reply)) → length new ≡ length old → Ticks view tells coming old tick answers new → AreSwept answers → Skips new tick
+  skips_next old new tick answers long ticks all = (
+    nothings answers,
+    none_refused answers,
+    record {
+      all = map_length (λ (r : Result ℕ Reply). Ok 0) answers ∙ (ticks.all ∙ sym long);
+      so = record {
+        swept = λ k r e a is.
+            let u = nothing_at answers k r e in
+            let within = slice_get_within answers k u.0 u.1 in
+            let before = get_there old k (omega (arith, within, ticks.all)) in
+            let did = ticks.so.swept k u.0 u.1 before.0 before.1 in
+            let n = swept_at answers k u.0 all u.1 in
+            let same : a ≡ spot before.0.table did.0 = one_of (sym is ∙ did.1) in
+            let now = again before.0.known did.0 tick n.0 (subst (λ (x : Result ℕ Reply). Swept view tells coming before.0.known tick x did.0) n.1 did.2) in (
+              a.known,
+              is,
+              subst (λ (x : Result ℕ Reply). Swept view tells coming a.known tick x a.known) (sym u.2)
+                  (subst (λ (z : Spot (Opening D N) KeptEntry). Swept view tells coming z.known tick (Ok 0) z.known) (sym same) now),
+            );
+        others = λ k le. refl;
+      };
+    },
+  )
+
+  -- the same of an answered tick of a site's own pass
+  pub tick_skips : (site : Site D N) (old new : Spots D N) (tick : ℕ) (result : Result (Vec (Result ℕ Reply) Global) AllocError) → IsOwn site old → IsOwn site new
+      → IfOk result (AnswersTick view tells coming tick old new) → IfOk result (λ answers. AreSwept answers.items → Skips new tick)
+  tick_skips site old new tick (Ok answers) before after h = λ all.
+      let long : length new ≡ length old =
+      sym (map_length (λ (s : Spot (Opening D N) KeptEntry). home_of s) new) ∙ (ap length (after.of ∙ sym before.of) ∙ map_length (λ (s : Spot (Opening D N) KeptEntry). home_of s) old) in
+      skips_next old new tick answers.items long h all
+  tick_skips site old new tick (Err e) before after h = tt
+
+  -- what may be left out on one shelf may be after a call there, and on another one as before
+  one_place : (k : ℕ) (old new : Spots D N) (tick : ℕ) (answers : List (Result ℕ Reply)) (s : Spot (Opening D N) KeptEntry) (w : Known D N) → AreSwept answers
+      → Ticks view tells coming old tick answers old → slice_get old k ≡ Some s
+      → ((n : ℕ) → Swept view tells coming s.known tick (Ok n) s.known → Swept view tells coming w tick (Ok n) w)
+      → (j : ℕ) (r : Result ℕ Reply) (a : Spot (Opening D N) KeptEntry) → slice_get answers j ≡ Some r → ((j ≡ k) × (spot s.table w ≡ a)) ⊎ (slice_get old j ≡ Some a)
+      → Swept view tells coming a.known tick r a.known
+  one_place k old new tick answers s w all ticks at goes j r a e (inl here) =
+      let n = swept_at answers j r all e in
+      let did = ticks.so.swept j r e s (ap (slice_get old) here.0 ∙ at) in
+      let same : s ≡ spot s.table did.0 = one_of (sym (ap (slice_get old) here.0 ∙ at) ∙ did.1) in
+      let before = subst (λ (z : Known D N). Swept view tells coming s.known tick r z) (sym (ap (λ (z : Spot (Opening D N) KeptEntry). z.known) same)) did.2 in
+      let then = goes n.0 (subst (λ (u : Result ℕ Reply). Swept view tells coming s.known tick u s.known) n.1 before) in
+      subst (λ (z : Spot (Opening D N) KeptEntry). Swept view tells coming z.known tick r z.known) here.1
+      (subst (λ (u : Result ℕ Reply). Swept view tells coming w tick u w) (sym n.1) then)
+  one_place k old new tick answers s w all ticks at goes j r a e (inr apart) =
+      let did = ticks.so.swept j r e a apart in
+      let same : a ≡ spot a.table did.0 = one_of (sym apart ∙ did.1) in
+      subst (λ (z : Known D N). Swept view tells coming a.known tick r z) (sym (ap (λ (z : Spot (Opening D N) KeptEntry). z.known) same)) did.2
+
+  -- a call on one shelf keeps what may be left out
+  skips_at : (k : ℕ) (R : Known D N → Known D N → Type 0) (old new : Spots D N) (tick : ℕ) → ((v w : Known D N) → R v w → (added : List Entry) × GoesFrom view tells coming v added w)
+      → At k R old new → Skips old tick → Skips new tick
+  skips_at k R old new tick goes at s =
+      let put = spot at.0.table at.1 in
+      let g = goes at.0.known at.1 at.4 in (
+        s.0,
+        s.1,
+        record {
+          all = s.2.all ∙ (sym (length-set old k put) ∙ ap length (sym at.3));
+          so = record {
+            swept = λ j r e a is. (
+              a.known,
+              is,
+              one_place k old new tick s.0 at.0 at.1 s.1 s.2 at.2 (λ n before. same_answer at.0.known at.1 g.0 tick n g.1 before) j r a e
+                  (set_cases old k j put a (ap (λ l. slice_get l j) (sym at.3) ∙ is)),
+            );
+            others = λ j le. refl;
+          };
+        },
+      )
+
+  took_goes : (target : Destination) (answer : Val) (result : Result Ticket Reply) (v w : Known D N) → Took view tells coming v target answer result w → (added : List Entry) × GoesFrom view tells coming v added w
+  took_goes target answer (Ok t) v w h = (_, h.goes)
+  took_goes target answer (Err r) v w (why, inl one) = (_, one)
+  took_goes target answer (Err r) v w (why, inr worn) = (_, worn.2)
+
+  published_goes : (t : Ticket) (r : Reply) (v w : Known D N) → Published view tells coming v t r w → (added : List Entry) × GoesFrom view tells coming v added w
+  published_goes t r v w (inl one) = (_, one)
+  published_goes t r v w (inr worn) = (_, worn.2)
+
+  takes_skips : (place : Option ℕ) (old new : Spots D N) (target : Destination) (answer : Val) (result : Result Ticket Reply) (tick : ℕ) → TakesOn view tells coming place old target answer result new
+      → Skips old tick → Skips new tick
+  takes_skips None old new target answer result tick h s = subst (λ (p : Spots D N). Skips p tick) (sym h.1) s
+  takes_skips (Some k) old new target answer result tick h s =
+      skips_at k (λ v w. Took view tells coming v target answer result w) old new tick (λ v w. took_goes target answer result v w) h s
+
+  -- a visit keeps what may be left out
+  pub visits_skips : (old new : Spots D N) (target : Destination) (answer : Val) (reply : Reply) → VisitsAt view tells coming old target answer reply new → (tick : ℕ) → Skips old tick → Skips new tick
+  visits_skips old new target answer reply (inl (t, middle, taken, (k, on, published))) tick s =
+      skips_at k (λ v w. Published view tells coming v t reply w) middle new tick (λ v w. published_goes t reply v w) published
+      (takes_skips (shelf_for (length old) (caller_at old) target) old middle target answer (Ok t) tick taken s)
+  visits_skips old new target answer reply (inr refused) tick s =
+      takes_skips (shelf_for (length old) (caller_at old) target) old new target answer (Err reply) tick refused s
