@@ -17,15 +17,15 @@ use Rattle.command_words.specs.declared.Service.{Service}
 use Rattle.command_words.specs.declared.Command.{Command}
 use Rattle.command_words.specs.Reads.{asked_from}
 use Rattle.command_words.proofs.PlainWords.{plain_means}
-use Rattle.server_command.specs.declared.program.Job.{Job}
-use Rattle.server_command.specs.declared.program.Job.TheVariants as job
+use Rattle.server_command.specs.declared.jobs.Job.{Job}
+use Rattle.server_command.specs.declared.jobs.Job.TheVariants as job
 use Rattle.server_command.specs.declared.program.Status.{Status}
 use Rattle.server_command.specs.declared.program.Status.TheVariants as status
 use Rattle.setup_reader.specs.Setup.{Parsed, Fault, setup_of}
 use Rattle.server_command.specs.Output.{Chances, ending_of, nothing}
 use Rattle.server_command.specs.Racks.{AtRest}
 use Rattle.server_command.specs.Remains.{IsAny, Remains}
-use Rattle.server_command.specs.Command.{Met, Prints, Untouched, ReadToEnd, HasDone, HasServed, Leaves, Outputs, Comes, ComesServing, CameServing, ComesTo, Came, Refuses, Explains, Explained, IsUnread, ReadsInput, asked_of, asked_unless, asked_in, unread_line, unread_status}
+use Rattle.server_command.specs.Command.{Met, Prints, Untouched, ReadToEnd, HasDone, HasServed, Leaves, Outputs, Comes, ComesServing, CameServing, ComesTo, Came, Explained, IsUnread, ReadsInput, asked_of, asked_unless, asked_in, unread_line, unread_status}
 use Rattle.server_command.specs.Serving.{Serves, RackFailed, LeavesInput}
 use Rattle.server_command.proofs.Endings.{whole_input, always, tells, no_chances}
 
@@ -49,7 +49,7 @@ comes asked status.Write met bytes chances read end short p = (has_done asked st
 comes asked status.Memory met bytes chances read end short p =
     (whole_input met.input met.unread bytes (λ b. Leaves met.rack asked b status.Memory chances met.output) read end p, (bytes, read))
 comes asked status.Long met bytes chances read end short p = absurd p
-comes asked status.Disk met bytes chances read end short p = (has_done asked status.Disk met bytes chances read end short p, p.0)
+comes asked status.Disk met bytes chances read end short p = (has_done asked status.Disk met bytes chances read end short p, p.1.all)
 comes asked status.Journal met bytes chances read end short p = has_done asked status.Journal met bytes chances read end short p
 comes asked status.Door met bytes chances read end short p = absurd p
 comes asked status.Key met bytes chances read end short p = absurd p
@@ -126,7 +126,7 @@ served_comes serves v status.Memory met bytes chances same read end short p =
     ((p.0, (bytes, read)), inr (has_served serves v status.Memory met bytes chances read end short p))
 served_comes serves v status.Long met bytes chances same read end short p = absurd p
 served_comes serves v status.Disk met bytes chances same read end short p =
-    (has_served serves v status.Disk met bytes chances read end short p, subst RackFailed same p.2.1)
+    (has_served serves v status.Disk met bytes chances read end short p, subst RackFailed same p.2.1.all)
 served_comes serves v status.Journal met bytes chances same read end short p = has_served serves v status.Journal met bytes chances read end short p
 served_comes serves v status.Door met bytes chances same read end short p =
     (has_served serves v status.Door met bytes chances read end short p, p.2.0)
@@ -164,22 +164,11 @@ asks_nothing words some = none_unless (faults_in app words) _ some
 pub plain_asks : (words : List (List ℕ)) (asked : Command) → IsPlain words asked → asked_in words ≡ Some asked
 plain_asks words asked p = let m = plain_means words asked p in asks words asked m.0 m.1
 
--- words that ask for something are not told that they are no command
-not_refused : (o : Option Command) (asked : Command) (met : Met) → o ≡ Some asked → Refuses o status.Usage met → ⊥
-not_refused o asked met is h = let none : None ≡ Some asked = sym h.0 ∙ is in cc
-
-never_usage : (serves : Serves) (asked : Command) (chances : Chances) (met : Met) → ComesTo serves asked chances status.Usage met → ⊥
+pub never_usage : (serves : Serves) (asked : Command) (chances : Chances) (met : Met) → ComesTo serves asked chances status.Usage met → ⊥
 never_usage serves Check chances met h = h
 never_usage serves (Play o) chances met h = h
 never_usage serves (Serve v) chances met h = h
 never_usage serves (Load l) chances met h = h.1
-
-refuted : (serves : Serves) (met : Met) (asked : Command) (chances : Chances) → asked_in met.words ≡ Some asked → Explains serves status.Usage chances met → ⊥
-refuted serves met asked chances is (inl h) = not_refused (asked_in met.words) asked met is h
-refuted serves met asked chances is (inr h) = never_usage serves h.0 chances met h.1.1
-
-pub understood : (serves : Serves) (s : Status) (met : Met) (asked : Command) → asked_in met.words ≡ Some asked → Explained serves s met → s ≢ status.Usage
-understood serves s met asked is h e = refuted serves met asked h.0 is (subst (λ x. Explains serves x h.0 met) e h.1)
 
 -- memory ran out as the words were read
 pub unworded : (serves : Serves) (s : Status) (met : Met) → s ≡ status.Memory → Prints met (codes "error 10 memory\n") → Untouched met → AtRest met.rack

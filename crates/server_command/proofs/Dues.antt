@@ -1,5 +1,5 @@
 -- Which status is due, and what lawful inputs end with.
-use Rattle.std.proofs.Common.{◌≡◌, ◌≢◌, ◌≤◌, ◌<◌, ◌⊎◌, ℕ, List, [], length, nat_le, true, false, Option, Some, None, Result, Ok, Err, IfSome, IsTrue, refl, sym, ap, ◌∙◌, subst, inl, inr, ⊎_elim, arith, length-append}
+use Rattle.std.proofs.Common.{◌≡◌, ◌≤◌, ◌<◌, ◌⊎◌, ℕ, List, [], length, nat_le, true, false, Option, Some, None, Result, Ok, Err, IfSome, IsTrue, refl, sym, ap, ◌∙◌, subst, inl, inr, ⊎_elim, arith, length-append}
 use Rattle.std.proofs.lemmas.Bool.{le-leb, lt-leb}
 use Rattle.std.specs.Io.KnownBytes.{Consumes}
 use Rattle.web_outside.specs.Causes.{Rose}
@@ -14,19 +14,16 @@ use Rattle.setup_reader.specs.Setup.{Parsed, Fault, setup_of}
 use Rattle.setup_reader.proofs.Sections.{setup_found}
 use Rattle.play_steps.specs.Step.{steps_of}
 use Rattle.play_steps.specs.Transcript.{End, done, bad_line}
-use Rattle.play_desk.specs.Laws.{TranscriptsAreRuns}
 use Rattle.server_command.specs.declared.program.Status.{Status}
 use Rattle.server_command.specs.declared.program.Status.TheVariants as status
 use Rattle.server_command.specs.Racks.{Racks, AreTaken, Unfit, first_unfit, unfit_new, unfit_left}
 use Rattle.server_command.specs.Output.{Chances, output_of, counted, ending_of, ended, finished, served, written, run_of, unless_shut, loaded, run_loaded, BeforeOpening, at_first, at_crash}
 use Rattle.measured_run.specs.Drawing.{most_steps}
 use Rattle.measured_run.specs.Counting.{line_for}
-use Rattle.server_command.proofs.Loads.{loads_events}
-use Rattle.server_command.specs.Command.{Met, ReadToEnd, Gives, HasDone, HasServed, Leaves, Settles, TakesDisks, Comes, ComesLoading, ComesServing, ComesTo, EndsAsLoad, ReadsInput, Refuses, Explains, Explained, IsDue, EndsAs, Ends, EndsWell, IsLawful, AreFit, JournalsOpen, GoesWell, asked_in, code_of, due, due_to, reached_by, with_setup}
+use Rattle.server_command.specs.Command.{Met, ReadToEnd, Gives, HasDone, HasServed, Leaves, Settles, TakesDisks, Comes, ComesLoading, ComesServing, ComesTo, EndsAsLoad, ReadsInput, Refuses, Explains, Explained, IsDue, EndsAs, EndsWell, IsLawful, AreFit, JournalsOpen, GoesWell, asked_in, code_of, due, due_to, reached_by, with_setup}
 use Rattle.server_command.specs.Serving.{Serves, HaveRisen, LeavesInput, Opens, RackFailed, Shuts}
 use Rattle.setup_reader.specs.declared.setup.Ending.TheVariants.{Input}
 use Rattle.server_command.proofs.Racks.{fit_opens}
-use Rattle.server_command.proofs.Playing.{plays_events}
 
 known : (P : List ℕ → Type 0) (left : Option (List ℕ)) (bytes : List ℕ) → left ≡ Some bytes → IfSome left P → P bytes
 known P left bytes e h = subst (λ w. IfSome w P) e h
@@ -201,7 +198,7 @@ exact : (serves : Serves) (s : Status) (met : Met) (bytes : List ℕ) (chances :
 exact serves s met bytes chances reads same e settles (inl h) = refused_exact s met bytes chances h
 exact serves s met bytes chances reads same e settles (inr h) = exact_to serves h.0 s met bytes chances reads same e h.1.0 settles h.1.1
 
-exact_if : (serves : Serves) (s : Status) (met : Met) (chances : Chances) (o : Option (List ℕ)) → serves.rack ≡ met.rack → met.input ≡ o → Explains serves s chances met
+pub exact_if : (serves : Serves) (s : Status) (met : Met) (chances : Chances) (o : Option (List ℕ)) → serves.rack ≡ met.rack → met.input ≡ o → Explains serves s chances met
     → IfSome o (λ bytes. ReadsInput (asked_in met.words) → Settles met.rack (reached_by (asked_in met.words) bytes) → EndsAs (code_of s) met bytes chances)
 exact_if serves s met chances None same e h = tt
 exact_if serves s met chances (Some bytes) same e h = λ reads settles. exact serves s met bytes chances reads same e settles h
@@ -216,7 +213,7 @@ load_due : (l : LoadOptions) (s : Status) (met : Met) (chances : Chances) → Is
     → EndsAsLoad (code_of s) met l chances
 load_due l status.Done met chances t h = (let g = (h.1 t).0 in inl (record { same = sym g.answered.0; taken = g.taken }))
 load_due l status.Write met chances t h = inr (inl (refl, h.1.0))
-load_due l status.Disk met chances t h = inr (inr (inl (refl, h.1.0)))
+load_due l status.Disk met chances t h = inr (inr (inl (refl, h.1.1.all)))
 load_due l status.Journal met chances t h = (let g = (h.1 t).0 in inl (record { same = sym g.answered.0; taken = g.taken }))
 load_due l status.Memory met chances t h = inr (inr (inr refl))
 load_due l _ met chances t h = absurd h.1
@@ -229,24 +226,10 @@ load_came serves l s met chances is (inr h) =
     let one = same_asked (asked_in met.words) h.0 (Load l) h.1.0 is in
     inl (subst (λ a. ComesTo serves a chances s met) one h.1.1)
 
-load_exact : (serves : Serves) (l : LoadOptions) (s : Status) (met : Met) (chances : Chances) → asked_in met.words ≡ Some (Load l)
+pub load_exact : (serves : Serves) (l : LoadOptions) (s : Status) (met : Met) (chances : Chances) → asked_in met.words ≡ Some (Load l)
     → IsTrue met.rack.tells → Explains serves s chances met → EndsAsLoad (code_of s) met l chances
 load_exact serves l s met chances is t h =
     ⊎_elim (λ came. load_due l s met chances t came) (λ memory. inr (inr (inr memory))) (load_came serves l s met chances is h)
-
-pub ends : (serves : Serves) → TranscriptsAreRuns → (result : ℕ) (s : Status) (met : Met) → serves.rack ≡ met.rack → result ≡ code_of s → Explained serves s met
-    → Ends serves result met
-ends serves law result s met same code h = record {
-  chances = h.0;
-  status = s;
-  code = code;
-  explained = h.1;
-  events = λ o bytes setup asked input is none. plays_events law o bytes setup h.0 is none;
-  load_events = λ l asked. loads_events law l h.0.fates;
-  exact = subst (λ n. IfSome met.input (λ bytes. ReadsInput (asked_in met.words) → Settles met.rack (reached_by (asked_in met.words) bytes) → EndsAs n met bytes h.0)) (sym code)
-      (exact_if serves s met h.0 met.input same refl h.1);
-  exact_load = λ l asked t. subst (λ n. EndsAsLoad n met l h.0) (sym code) (load_exact serves l s met h.0 asked t h.1);
-}
 
 -- ---- lawful inputs
 
@@ -383,8 +366,9 @@ check_complete status.Memory met bytes chances e l read write h = inr refl
 check_complete status.Long met bytes chances e l read write h =
     let long = past_length met.input met.unread bytes most_of_input e h.0 in absurd (omega (arith, long, l.short))
 check_complete status.Disk met bytes chances e l read write h =
-    let loses = (left Check status.Disk met bytes chances e h.0).1 (open_settles Check met bytes l tt) in
-    absurd (check_loses bytes chances loses.0 loses.1 loses.2)
+    let disk = left Check status.Disk met bytes chances e h.0 in
+    let loses = disk.2 (open_settles Check met bytes l tt) in
+    absurd (check_loses bytes chances disk.0 loses.0 loses.1)
 check_complete status.Journal met bytes chances e l read write h =
     absurd (not_8 8 (lawful_gives Check met bytes chances 8 l tt ((left Check status.Journal met bytes chances e h) (open_settles Check met bytes l tt)).0) refl)
 check_complete status.Door met bytes chances e l read write h = absurd h
@@ -395,7 +379,7 @@ loading_complete : (l : LoadOptions) (s : Status) (met : Met) (chances : Chances
     → (Rose met.output.before met.output.after → ⊥) → (RackFailed met.rack → ⊥) → ComesLoading l chances s met → (code_of s ≡ 0) ⊎ (code_of s ≡ 10)
 loading_complete l status.Done met chances opens write well h = inl refl
 loading_complete l status.Write met chances opens write well h = absurd (write h.1.0)
-loading_complete l status.Disk met chances opens write well h = absurd (well h.1.0)
+loading_complete l status.Disk met chances opens write well h = absurd (well h.1.1.all)
 loading_complete l status.Journal met chances opens write well h =
     let g = (h.1 opens.0).0 in
     let fine = opens_fine l chances (fit_opens unfit_new met.rack.before.holds 0 chances.disks opens.1 g.taken.held) in
@@ -458,7 +442,7 @@ disk_of : (serves : Serves) (asked : Command) (chances : Chances) (met : Met) �
 disk_of serves Check chances met h = h.1
 disk_of serves (Play o) chances met h = h.1
 disk_of serves (Serve v) chances met h = h.1
-disk_of serves (Load l) chances met h = h.1.0
+disk_of serves (Load l) chances met h = h.1.1.all
 
 is_door : (s : Status) → code_of s ≡ 9 → s ≡ status.Door
 is_door s e = grind (arith, e)
@@ -489,7 +473,3 @@ key_cause serves s met h e = key_rose serves h.0 met (subst (λ x. Explains serv
 
 pub disk_cause : (serves : Serves) (s : Status) (met : Met) → Explained serves s met → code_of s ≡ 7 → RackFailed met.rack
 disk_cause serves s met h e = disk_rose serves h.0 met (subst (λ x. Explains serves x h.0 met) (is_disk s e) h.1)
-
-pub usage_code : (s : Status) → s ≢ status.Usage → code_of s ≢ 2
-usage_code status.Usage n e = n refl
-usage_code s n e = grind (arith, e)

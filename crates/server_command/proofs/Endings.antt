@@ -68,12 +68,12 @@ abbrev pub no_chances : Chances
 no_chances = record { disks = []; fates = [] }
 
 pub at_rest : (told : Bool) (rack : RackView) → AtRest (racks_of told rack rack)
-at_rest told rack = record { faults = refl; out = λ n. refl; holds = λ n image h. h }
+at_rest told rack = record { faults = refl; out = λ n. refl; holds = λ n image h. h; failed = λ n. refl }
 
 -- no steps were begun, and the rack was not touched; or no setup was read
 pub untouched : (told : Bool) (rack : RackView) (asked : Command) (setup : Result Parsed Fault) → Remains (racks_of told rack rack) asked setup no_chances [] IsAny 0
 untouched told rack (Play o) (Ok setup) =
-    (unopened 0 cause.Memory tt refl (record { before = λ k low. absurd (omega (arith, low)); failed = λ e. let no : ⊥ = cc in absurd no; kept = λ n but left is. inl is }), (let none : count_by is_fault [] ≡ 0 = refl in omega (arith, none)))
+    (unopened 0 cause.Memory tt refl (record { before = λ k low. absurd (omega (arith, low)); failed = λ e. let no : ⊥ = cc in absurd no; kept = record { kept = λ n but left is. inl is; behind = λ n above left is. is } }), (let none : count_by is_fault [] ≡ 0 = refl in omega (arith, none)))
 untouched told rack (Play o) (Err e) = tt
 untouched told rack Check setup = at_rest told rack
 untouched told rack (Serve v) setup = tt

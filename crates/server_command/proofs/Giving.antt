@@ -1,10 +1,12 @@
 -- Disks that are given back, from the last to the first.
 use Rattle.std.proofs.Common.{◌≡◌, ◌≢◌, ◌<◌, ◌≤◌, ◌+◌, ◌-◌, ◌^◌, ◌++◌, ◌∷◌, ◌∙◌, inl, inr, ℕ, suc, List, [], length, true, Some, append-nil, refl, sym, ap, subst, arith}
-use Rattle.std.specs.Prelude.{slice_get}
+use Rattle.std.specs.Prelude.{slice_get, sum_by}
+use Rattle.std.proofs.lemmas.List.Sums.{sum_by-cons}
+use Rattle.play_steps.specs.Played.{RoseBy}
 use Rattle.std.proofs.lemmas.List.{append_assoc, length-append}
 use Rattle.std.proofs.lemmas.Option.{slice_get_within}
-use Rattle.web_outside.specs.Causes.{Rose}
 use Rattle.web_disk.specs.View.{View, RackView, AreAmong}
+use Rattle.play_desk.specs.Opening.{FailedFor}
 use Rattle.server_command.specs.Opening.{AreGiven, AreOut, LeavesFrom, TakesBack}
 use Rattle.server_command.proofs.Openings.{Gives, GivesDownTo, gives_before, gives_down, gives_last, same_or_not}
 
@@ -24,7 +26,8 @@ pub record GivenAll {D : Type 0} (view : D → View) (told : Type 0) (all front 
   pub down : GivesDownTo before now (length front) (length all)
   pub held : told → AreOut before (length all) → (k : ℕ) (d : D) → length front ≤ k → slice_get all k ≡ Some d → AreAmong (now.holds k) (view d).images
   pub others : LeavesFrom (length all) before now
-  pub faults : (k : ℕ) (d : D) → length front ≤ k → slice_get all k ≡ Some d → 1 ≤ (view d).faults → Rose before.faults now.faults
+  pub faults : (k : ℕ) (d : D) → length front ≤ k → slice_get all k ≡ Some d → 1 ≤ (view d).faults → FailedFor k before now
+  pub counts : RoseBy (sum_by (λ d. (view d).faults) back) before.faults now.faults
 
 pub given_none : {D : Type 0} (view : D → View) (told : Type 0) (all : List D) (before : RackView) → before.faults ≤ 2 ^ 64 - 1 → GivenAll view told all all before before
 given_none view told all before low = record {
@@ -34,6 +37,7 @@ given_none view told all before low = record {
   held = λ t out k d above here. absurd (let within = slice_get_within all k d here in omega (arith, within, above));
   others = λ n le image h. h;
   faults = λ k d above here some. absurd (let within = slice_get_within all k d here in omega (arith, within, above));
+  counts = (let none : sum_by (λ d. (view d).faults) [] ≡ 0 = refl in omega (arith, none));
 }
 
 pub given_next : {D : Type 0} (view : D → View) (told : Type 0) (all old front : List D) (d : D) (before now after : RackView) → old ≡ front ++ d ∷ []
@@ -56,12 +60,22 @@ given_next {D = D} view told all old front d before now after popped p gives hol
         let same = ap (λ y. (view y).faults) (this k x e here) in
         let later = p.down.later in
         let now_is = gives.counts in
-        omega (arith, same, some, later, now_is)
+        let up = p.down.failed_later (length front) in
+        let counted = gives.counted in
+        subst (λ n. FailedFor n before after) (sym e)
+        (record { all = omega (arith, same, some, later, now_is); here = omega (arith, same, some, up, counted) })
     | inr ne ↦
         let rose = p.faults k x (omega (arith, above, ne, count)) here some in
         let now_is = gives.counts in
-        omega (arith, rose, now_is)
+        let others = gives.others_counted k ne in
+        let here_rose = rose.here in
+        record { all = omega (arith, rose.all, now_is); here = omega (arith, here_rose, others) }
   ];
+  counts =
+      (let sum = sum_by-cons (λ x. (view x).faults) d p.back in
+      let before_is = p.counts in
+      let now_is = gives.counts in
+      omega (arith, sum, before_is, now_is));
 }
   where
     count : length front + 1 ≡ length old
@@ -83,5 +97,5 @@ pub given_back : {D : Type 0} (view : D → View) (told : Type 0) (all : List D)
     → TakesBack before now 0 (length all) × AreGiven view told before now all
 given_back view told all before now p = (
   gives_down before now (length all) p.down,
-  record { held = λ t out k d here. p.held t out k d (omega arith) here; others = p.others; faults = λ k d here some. p.faults k d (omega arith) here some },
+  record { held = λ t out k d here. p.held t out k d (omega arith) here; others = p.others; faults = λ k d here some. p.faults k d (omega arith) here some; counts = subst (λ l. RoseBy (sum_by (λ d. (view d).faults) l) before.faults now.faults) (sym p.is) p.counts },
 )

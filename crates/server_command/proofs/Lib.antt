@@ -11,3 +11,5 @@ pub mod Short
 pub mod Opened
 pub mod Runs
 pub mod Loads
+pub mod Orders
+pub mod Whole

@@ -1,5 +1,5 @@
 -- From what a measured run comes to, to what a command answers.
-use Rattle.std.proofs.Common.{◌≡◌, ◌≤◌, ◌<◌, ◌++◌, ◌∷◌, ◌⊎◌, ◌∙◌, ℕ, Bool, List, [], map, IsTrue, Option, Some, None, Result, Ok, Err, IsErrOf, sym, ap, refl, subst, inl, inr, arith, codes}
+use Rattle.std.proofs.Common.{◌≡◌, ◌≤◌, ◌<◌, ◌++◌, ◌∷◌, ◌⊎◌, ◌∙◌, ℕ, Bool, List, [], length, map, IsTrue, Option, Some, None, Result, Ok, Err, IsErrOf, sym, ap, refl, subst, inl, inr, arith, codes}
 use Rattle.std.specs.Prelude.{count_by, replicate}
 use Rattle.std.specs.Io.KnownBytes.{Appends, Keeps}
 use Rattle.std.proofs.lemmas.Option.{same_Some}
@@ -19,10 +19,10 @@ use Rattle.play_steps.specs.declared.stage.Reopen.TheVariants as reopen
 use Rattle.web_disk.specs.View.{RackView}
 use Rattle.play_desk.specs.Desk.{Desk, desk_rules, is_fault}
 use Rattle.play_desk.specs.Laws.{TranscriptsAreRuns}
-use Rattle.play_desk.specs.Opening.{AllStayKept, HoldTheBooks, IsClosedBy}
+use Rattle.play_desk.specs.Opening.{AllStayKept, HoldTheBooks, IsClosedBy, IsLeft}
 use Rattle.play_desk.specs.declared.opening.OpenCause.{OpenCause}
 use Rattle.play_desk.specs.declared.opening.OpenCause.TheVariants as first
-use Rattle.measured_run.specs.Generator.{source_of}
+use Rattle.measured_run.specs.Generator.{Source, source_of}
 use Rattle.measured_run.specs.Tallies.{summary_text}
 use Rattle.measured_run.specs.declared.measuring.Measure.{Measure}
 use Rattle.measured_run.specs.Drawing.{most_steps, run_drawn, steps_drawn}
@@ -32,14 +32,13 @@ use Rattle.measured_run.specs.Setups.{load_scripts}
 use Rattle.command_words.specs.declared.LoadOptions.{LoadOptions}
 use Rattle.server_command.specs.declared.program.Status.{Status}
 use Rattle.server_command.specs.declared.program.Status.TheVariants as status
-use Rattle.server_command.specs.Racks.{Racks, racks_of, AreTaken, disk_line, first_unfit, not_empty, unfit_line, unfit_new}
-use Rattle.server_command.specs.Serving.{RackFailed}
+use Rattle.server_command.specs.Racks.{Racks, racks_of, AreTaken, ShelfFailed, disk_line, first_unfit, not_empty, unfit_line, unfit_new}
 use Rattle.server_command.specs.Output.{Answers, BreaksOff, Chances, Output, Sinks, desk_for, loaded, run_loaded, sinks, unless_shut}
 use Rattle.server_command.specs.Loading.{GivesLoad, HasLeft, HasLoaded, IsLoaded, IsLost, IsLostBehind, LoadsEvents, RemainsLoaded, TellsMeasure, at_crash, at_first, told_measure}
 use Rattle.server_command.specs.Remains.{AreAllKept, HaveFailed, IsAny, IsThis, IsUnopened, lost, performed, unopened}
 use Rattle.server_command.specs.Telling.{TellsUnopened, told, untold, unopened_again, unopened_by}
 use Rattle.server_command.proofs.Endings.{no_chances, since, tells, tells_nothing}
-use Rattle.server_command.proofs.Playing.{Begins, IsFull, are_taken, chances_of, decided, full_held, full_unfit, have_failed, have_failed_once, is_unopened, none_unfit}
+use Rattle.server_command.proofs.Playing.{Begins, IsFull, all_stay, are_taken, chances_of, decided, full_held, full_unfit, have_failed, have_failed_once, is_unopened, none_unfit}
 use Rattle.server_command.proofs.Opened.{is_full}
 
 -- the line of a run was written, and handed on or not
@@ -68,10 +67,10 @@ pub record Loaded (rack : Racks) (l : LoadOptions) (m : Measure) : Type 0 where
   pub from : rack.before.faults ≤ before
   pub to : after ≤ rack.after.faults
 
-pub loaded_by : (rack : Racks) (l : LoadOptions) (m : Measure) (start last : Desk) (before after : ℕ) → Begins rack l.options load_scripts start
-    → Measures desk_rules most_steps (source_of l.number) (Ok m) (spot desk_rules start before) (spot desk_rules last after)
+pub loaded_by : (rack : Racks) (l : LoadOptions) (lost_so : Desk → ℕ → Type 0) (m : Measure) (start last : Desk) (before after : ℕ) → Begins rack l.options load_scripts start
+    → Measures desk_rules lost_so most_steps (source_of l.number) (Ok m) (spot desk_rules start before) (spot desk_rules last after)
     → HoldTheBooks last rack.after.holds → rack.before.faults ≤ before → after ≤ rack.after.faults → Loaded rack l m
-loaded_by rack l m start last before after b h left from to = record {
+loaded_by rack l lost_so m start last before after b h left from to = record {
   start = start;
   last = last;
   begins = b;
@@ -174,18 +173,18 @@ none_loaded rack l shelf why is later =
 pub untouched : (known : Bool) (rack : RackView) (l : LoadOptions) → (chances : Chances) × RemainsLoaded (racks_of known rack rack) l chances IsAny 0
 untouched known rack l =
     none_loaded (racks_of known rack rack) l 0 first.Memory
-    (record { before = λ k low. absurd (omega (arith, low)); failed = λ e. let no : ⊥ = cc in absurd no; kept = λ n but left is. inl is }) (omega arith)
+    (record { before = λ k low. absurd (omega (arith, low)); failed = λ e. let no : ⊥ = cc in absurd no; kept = record { kept = λ n but left is. inl is; behind = λ n above left is. is } }) (omega arith)
 
 -- a disk holds something
 full_leaves : (rack : Racks) (l : LoadOptions) (shelf : ℕ) (old new : Option (List ℕ)) (before after : ℕ) → (IsTrue rack.tells → IsFull rack l.options shelf)
     → (IsTrue rack.tells → AllStayKept load_scripts rack.before.holds rack.after.holds shelf first.NotEmpty)
     → AppendsUnlessFault old new (unfit_line shelf not_empty) before after → HasLeft rack l status.Journal (sinks old new before after)
 full_leaves rack l shelf old new before after full kept line =
-    decided rack.tells (λ chances. GivesLoad rack l chances 8 (sinks old new before after) × AreAllKept rack load_scripts) no_chances
+    decided rack.tells (λ chances. GivesLoad rack l chances 8 (sinks old new before after) × AreAllKept rack load_scripts (length chances.disks)) no_chances
     (λ t. shut (full t) (kept t))
   where
     shut : IsFull rack l.options shelf → AllStayKept load_scripts rack.before.holds rack.after.holds shelf first.NotEmpty
-        → (chances : Chances) × (GivesLoad rack l chances 8 (sinks old new before after) × AreAllKept rack load_scripts)
+        → (chances : Chances) × (GivesLoad rack l chances 8 (sinks old new before after) × AreAllKept rack load_scripts (length chances.disks))
     shut p stay =
         let images : List (List ℕ) = replicate shelf [] ++ (p.byte ∷ p.bytes) ∷ [] in
         let chances : Chances = record { disks = images; fates = [] } in
@@ -203,13 +202,13 @@ full_leaves rack l shelf old new before after full kept line =
                   (refl, tells old old new [] (unfit_line shelf not_empty) before after (appends_none old) line);
               taken = taken;
             },
-            λ n. stay n (λ e. let no : ⊥ = cc in absurd no),
+            all_stay rack load_scripts shelf (p.byte ∷ p.bytes) stay,
           ),
         )
 
 -- the run did not begin
 pub first_leaves : (rack : Racks) (l : LoadOptions) (shelf : ℕ) (why : OpenCause) (s : Status) (old new : Option (List ℕ)) (before after : ℕ)
-    → (IsTrue rack.tells → IsClosedBy rack.before.holds l.options.shelves shelf why) → (why ≡ first.Disk → RackFailed rack)
+    → (IsTrue rack.tells → IsClosedBy rack.before.holds l.options.shelves shelf why) → (why ≡ first.Disk → ShelfFailed rack shelf)
     → (IsTrue rack.tells → AllStayKept load_scripts rack.before.holds rack.after.holds shelf why) → rack.before.faults ≤ rack.after.faults
     → TellsUnopened (unopened_by shelf why) s (sinks old new before after) → HasLeft rack l s (sinks old new before after)
 first_leaves rack l shelf why s old new before after closed failed kept later (untold is line) =
@@ -218,12 +217,12 @@ first_leaves rack l shelf first.Disk s old new before after closed failed kept l
     subst (λ x. HasLeft rack l x (sinks old new before after)) (sym same) (
       no_chances,
       (
+        shelf,
         failed refl,
+        subst (λ w. AppendsUnlessFault old new w before after) (sym (same_Some _ _ is)) p,
         λ t. (
-          shelf,
           at_first,
-          subst (λ w. AppendsUnlessFault old new w before after) (sym (same_Some _ _ is)) p,
-          (unopened shelf first.Disk refl refl (is_unopened rack load_scripts l.options.shelves shelf first.Disk (closed t) failed (kept t)), (let rose = failed refl in let none : count_by is_fault [] ≡ 0 = refl in omega (arith, none, rose))),
+          (unopened shelf first.Disk refl refl (is_unopened rack load_scripts l.options.shelves shelf first.Disk (closed t) failed (kept t)), (let rose = (failed refl).all in let none : count_by is_fault [] ≡ 0 = refl in omega (arith, none, rose))),
         ),
       ),
     )
@@ -236,9 +235,23 @@ first_leaves rack l shelf (first.Other place) s old new before after closed fail
     subst (λ x. HasLeft rack l x (sinks old new before after)) (sym same) (no_chances, λ t. absurd (closed t))
 first_leaves rack l shelf first.Memory s old new before after closed failed kept later (told line is same p) = absurd (let no : None ≡ Some line = is in cc)
 
+-- what was left by it is left behind the closing too
+unfoldable shelf_with : (left left' : Desk → ℕ → Type 0) → ((d : Desk) (k : ℕ) → left d k → left' d k) → (count : ℕ) (source : Source) (shelf : ℕ)
+    (s t : Spot desk_rules) → LosesShelf desk_rules left count source shelf s t → LosesShelf desk_rules left' count source shelf s t
+shelf_with left left' f count source shelf s t p = record {
+  done = p.done;
+  few = p.few;
+  told = p.told;
+  middle = p.middle;
+  loads = p.loads;
+  later = p.later;
+  stands = f p.middle.state shelf p.stands;
+  next = p.next;
+}
+
 -- from this desk on a run came to a crash behind which the shelf was not opened, for this
-pub record LosesLoad (l : LoadOptions) (shelf : ℕ) (why : Reopen) (before : ℕ) (left : Spot desk_rules) (start : Desk) : Type 0 where
-  pub loses : LosesShelf desk_rules most_steps (source_of l.number) shelf (spot desk_rules start before) left
+pub record LosesLoad (rack : Racks) (l : LoadOptions) (shelf : ℕ) (why : Reopen) (before : ℕ) (left : Spot desk_rules) (start : Desk) : Type 0 where
+  pub loses : LosesShelf desk_rules (IsLeft rack.after) most_steps (source_of l.number) shelf (spot desk_rules start before) left
   pub rose : why ≡ reopen.Disk → Rose loses.middle.faults left.faults
 
 pub record LostLoad (rack : Racks) (l : LoadOptions) (shelf : ℕ) (why : Reopen) : Type 0 where
@@ -246,89 +259,106 @@ pub record LostLoad (rack : Racks) (l : LoadOptions) (shelf : ℕ) (why : Reopen
   pub left : Spot desk_rules
   pub begins : Begins rack l.options load_scripts start
   pub before : ℕ
-  pub loses : LosesLoad l shelf why before left start
+  pub loses : LosesLoad rack l shelf why before left start
   pub from : rack.before.faults ≤ before
   pub to : left.faults ≤ rack.after.faults
 
-loses_by : (l : LoadOptions) (shelf : ℕ) (why : Reopen) (start : Desk) (before : ℕ) (t : Spot desk_rules)
-    → Measures desk_rules most_steps (source_of l.number) (Err (halt.Reopen shelf why)) (spot desk_rules start before) t
-    → LosesLoad l shelf why before t start
-loses_by l shelf reopen.Disk start before t h = record { loses = h.loses; rose = λ e. h.rose }
-loses_by l shelf (reopen.Damaged place) start before t h = record { loses = h; rose = λ e. let no : ⊥ = cc in absurd no }
-loses_by l shelf (reopen.Other place) start before t h = record { loses = h; rose = λ e. let no : ⊥ = cc in absurd no }
-loses_by l shelf reopen.Memory start before t h = absurd h
+module _ (rack : Racks) (l : LoadOptions) (left : Desk → ℕ → Type 0) (f : (d : Desk) (k : ℕ) → left d k → IsLeft rack.after d k) where
+  loses_by : (shelf : ℕ) (why : Reopen) (start : Desk) (before : ℕ) (t : Spot desk_rules)
+      → Measures desk_rules left most_steps (source_of l.number) (Err (halt.Reopen shelf why)) (spot desk_rules start before) t
+      → LosesLoad rack l shelf why before t start
+  unfolding shelf_with
+  loses_by shelf reopen.Disk start before t h =
+      record { loses = shelf_with left (IsLeft rack.after) f most_steps (source_of l.number) shelf (spot desk_rules start before) t h.loses; rose = λ e. h.rose }
+  loses_by shelf (reopen.Damaged place) start before t h = record {
+    loses = shelf_with left (IsLeft rack.after) f most_steps (source_of l.number) shelf (spot desk_rules start before) t h;
+    rose = λ e. let no : ⊥ = cc in absurd no;
+  }
+  loses_by shelf (reopen.Other place) start before t h = record {
+    loses = shelf_with left (IsLeft rack.after) f most_steps (source_of l.number) shelf (spot desk_rules start before) t h;
+    rose = λ e. let no : ⊥ = cc in absurd no;
+  }
+  loses_by shelf reopen.Memory start before t h = absurd h
 
 -- what remains behind it
 remains_lost : (rack : Racks) (l : LoadOptions) (shelf : ℕ) (why : Reopen) (q : LostLoad rack l shelf why) → (x : (fates : List Fate)
-    × IsLostBehind l (chances_of l.options fates) shelf)
+    × (last : Desk) × IsLostBehind rack l (chances_of l.options fates) shelf last × IsLeft rack.after last shelf)
     × (HaveFailed rack x.0 0 × (why ≡ reopen.Disk → HaveFailed rack x.0 1))
 remains_lost rack l shelf why q =
-    let p = subst (LosesLoad l shelf why q.before q.left) q.begins.first q.loses in
+    let p = subst (LosesLoad rack l shelf why q.before q.left) q.begins.first q.loses in
     let loads = p.loses.loads in
     let later = p.loses.later in
     let to = q.to in (
-      (loads.fates, record { faults = q.before; left = q.left; lost = p.loses; fates = refl }),
+      (
+        loads.fates,
+        p.loses.middle.state,
+        record { faults = q.before; left = q.left; lost = p.loses; fates = refl; state = refl },
+        p.loses.stands,
+      ),
       (
         have_failed rack loads.fates q.before p.loses.middle.faults q.from loads.risen (omega (arith, later, to)),
         λ e. have_failed_once rack loads.fates q.before p.loses.middle.faults q.left.faults q.from loads.risen (p.rose e) to,
       ),
     )
 
-pub lost_by : (rack : Racks) (l : LoadOptions) (shelf : ℕ) (why : Reopen) (start last : Desk) (before after : ℕ) → Begins rack l.options load_scripts start
-    → Measures desk_rules most_steps (source_of l.number) (Err (halt.Reopen shelf why)) (spot desk_rules start before) (spot desk_rules last after)
+pub lost_by : (rack : Racks) (l : LoadOptions) (left : Desk → ℕ → Type 0) → ((d : Desk) (k : ℕ) → left d k → IsLeft rack.after d k) → (shelf : ℕ) (why : Reopen) (start last : Desk) (before after : ℕ) → Begins rack l.options load_scripts start
+    → Measures desk_rules left most_steps (source_of l.number) (Err (halt.Reopen shelf why)) (spot desk_rules start before) (spot desk_rules last after)
     → rack.before.faults ≤ before → after ≤ rack.after.faults → LostLoad rack l shelf why
-lost_by rack l shelf why start last before after b h from to = record {
+lost_by rack l left f shelf why start last before after b h from to = record {
   start = start;
   left = spot desk_rules last after;
   begins = b;
   before = before;
-  loses = loses_by l shelf why start before (spot desk_rules last after) h;
+  loses = loses_by rack l left f shelf why start before (spot desk_rules last after) h;
   from = from;
   to = to;
 }
 
 -- the same of a result that is this error
-pub lost_if : (rack : Racks) (l : LoadOptions) (shelf : ℕ) (why : Reopen) (result : Result Measure Halt) (start last : Desk) (before after : ℕ)
+pub lost_if : (rack : Racks) (l : LoadOptions) (left : Desk → ℕ → Type 0) → ((d : Desk) (k : ℕ) → left d k → IsLeft rack.after d k) → (shelf : ℕ) (why : Reopen) (result : Result Measure Halt) (start last : Desk) (before after : ℕ)
     → result ≡ Err (halt.Reopen shelf why) → Begins rack l.options load_scripts start
-    → Measures desk_rules most_steps (source_of l.number) result (spot desk_rules start before) (spot desk_rules last after)
+    → Measures desk_rules left most_steps (source_of l.number) result (spot desk_rules start before) (spot desk_rules last after)
     → rack.before.faults ≤ before → after ≤ rack.after.faults → LostLoad rack l shelf why
-lost_if rack l shelf why result start last before after is b h from to =
-    lost_by rack l shelf why start last before after b
-    (subst (λ (r : Result Measure Halt). Measures desk_rules most_steps (source_of l.number) r (spot desk_rules start before) (spot desk_rules last after)) is h)
+lost_if rack l left f shelf why result start last before after is b h from to =
+    lost_by rack l left f shelf why start last before after b
+    (subst (λ (r : Result Measure Halt). Measures desk_rules left most_steps (source_of l.number) r (spot desk_rules start before) (spot desk_rules last after)) is h)
     from to
 
 -- memory ran out, behind some of the steps
-pub short_load : (rack : Racks) (l : LoadOptions) (start last : Desk) (before after : ℕ) → Begins rack l.options load_scripts start
-    → Measures desk_rules most_steps (source_of l.number) (Err halt.Memory) (spot desk_rules start before) (spot desk_rules last after)
+pub short_load : (rack : Racks) (l : LoadOptions) (left : Desk → ℕ → Type 0) → ((d : Desk) (k : ℕ) → left d k → IsLeft rack.after d k) → (start last : Desk) (before after : ℕ) → Begins rack l.options load_scripts start
+    → Measures desk_rules left most_steps (source_of l.number) (Err halt.Memory) (spot desk_rules start before) (spot desk_rules last after)
     → HoldTheBooks last rack.after.holds → rack.before.faults ≤ before → after ≤ rack.after.faults → (chances : Chances) × RemainsLoaded rack l chances IsAny 0
-short_load rack l start last before after b (inl h) left from to = (
+short_load rack l left f start last before after b (inl h) books from to = (
   chances_of l.options h.loads.fates,
   (
-    performed last (loaded_behind l start last h.loads.fates h.done h.told h.few b.first h.loads.is) left,
+    performed last (loaded_behind l start last h.loads.fates h.done h.told h.few b.first h.loads.is) books,
     have_failed rack h.loads.fates before after from h.loads.risen to,
   ),
 )
-short_load rack l start last before after b (inr (shelf, h)) left from to =
+short_load rack l left f start last before after b (inr (shelf, h)) books from to =
     let q : LostLoad rack l shelf reopen.Memory = record {
       start = start;
       left = spot desk_rules last after;
       begins = b;
       before = before;
-      loses = record { loses = h; rose = λ e. let no : ⊥ = cc in absurd no };
+      loses = record {
+        loses = shelf_with left (IsLeft rack.after) f most_steps (source_of l.number) shelf (spot desk_rules start before) (spot desk_rules last after) h;
+        rose = λ e. let no : ⊥ = cc in absurd no;
+      };
       from = from;
       to = to;
     } in
-    let x = remains_lost rack l shelf reopen.Memory q in (chances_of l.options x.0.0, (lost shelf tt x.0.1, x.1.0))
+    let x = remains_lost rack l shelf reopen.Memory q in (chances_of l.options x.0.0, (lost shelf x.0.1 tt x.0.2 x.0.3, x.1.0))
 
 -- the same of a result that is that
-pub short_if : (rack : Racks) (l : LoadOptions) (result : Result Measure Halt) (start last : Desk) (before after : ℕ) → result ≡ Err halt.Memory
+pub short_if : (rack : Racks) (l : LoadOptions) (left : Desk → ℕ → Type 0) → ((d : Desk) (k : ℕ) → left d k → IsLeft rack.after d k) → (result : Result Measure Halt) (start last : Desk) (before after : ℕ) → result ≡ Err halt.Memory
     → Begins rack l.options load_scripts start
-    → Measures desk_rules most_steps (source_of l.number) result (spot desk_rules start before) (spot desk_rules last after)
+    → Measures desk_rules left most_steps (source_of l.number) result (spot desk_rules start before) (spot desk_rules last after)
     → HoldTheBooks last rack.after.holds → rack.before.faults ≤ before → after ≤ rack.after.faults → (chances : Chances) × RemainsLoaded rack l chances IsAny 0
-short_if rack l result start last before after is b h left from to =
-    short_load rack l start last before after b
-    (subst (λ (r : Result Measure Halt). Measures desk_rules most_steps (source_of l.number) r (spot desk_rules start before) (spot desk_rules last after)) is h)
-    left from to
+short_if rack l left f result start last before after is b h books from to =
+    short_load rack l left f start last before after b
+    (subst (λ (r : Result Measure Halt). Measures desk_rules left most_steps (source_of l.number) r (spot desk_rules start before) (spot desk_rules last after)) is h)
+    books from to
 
 -- its error
 pub error_is : (result : Result Measure Halt) (shelf : ℕ) (why other : Reopen) → result ≡ Err (halt.Reopen shelf why) → why ≡ other
@@ -337,31 +367,30 @@ error_is result shelf why other is e =
     let made : Reopen → Result Measure Halt = λ w. Err (halt.Reopen shelf w) in is ∙ ap made e
 
 -- what is told of that
-abbrev LosesTold : (rack : Racks) (l : LoadOptions) (old new : Option (List ℕ)) (before after : ℕ) → Chances → Type 0
-LosesTold rack l old new before after chances =
-    (k : ℕ) × IsLost l chances k × AppendsUnlessFault old new (disk_line k) before after × RemainsLoaded rack l chances (IsThis k) 1
+abbrev LosesTold : (rack : Racks) (l : LoadOptions) (k : ℕ) → Chances → Type 0
+LosesTold rack l k chances = IsLost rack l chances k × RemainsLoaded rack l chances (IsThis k) 1
 
 -- a shelf was not opened again
 pub again_leaves : (rack : Racks) (l : LoadOptions) (shelf : ℕ) (why : Reopen) (s : Status) (old new : Option (List ℕ)) (before after : ℕ)
-    → (IsTrue rack.tells → LostLoad rack l shelf why) → (why ≡ reopen.Disk → RackFailed rack) → (IsTrue rack.tells → (place : ℕ) → why ≡ reopen.Damaged place → ⊥)
+    → (IsTrue rack.tells → LostLoad rack l shelf why) → (why ≡ reopen.Disk → ShelfFailed rack shelf) → (IsTrue rack.tells → (place : ℕ) → why ≡ reopen.Damaged place → ⊥)
     → (IsTrue rack.tells → (place : ℕ) → why ≡ reopen.Other place → ⊥) → TellsUnopened (unopened_again shelf why) s (sinks old new before after)
     → HasLeft rack l s (sinks old new before after)
 again_leaves rack l shelf why s old new before after lost_so failed damaged other (untold is line) =
     memory_leaves rack l s old new before after is line
-    (λ t. let x = remains_lost rack l shelf why (lost_so t) in (chances_of l.options x.0.0, (lost shelf tt x.0.1, x.1.0)))
+    (λ t. let x = remains_lost rack l shelf why (lost_so t) in (chances_of l.options x.0.0, (lost shelf x.0.1 tt x.0.2 x.0.3, x.1.0)))
 again_leaves rack l shelf reopen.Disk s old new before after lost_so failed damaged other (told line is same p) =
-    subst (λ x. HasLeft rack l x (sinks old new before after)) (sym same) (x.0, (failed refl, x.1))
+    subst (λ x. HasLeft rack l x (sinks old new before after)) (sym same) (x.0, (shelf, failed refl, shown, x.1))
   where
     shown : AppendsUnlessFault old new (disk_line shelf) before after
     shown = subst (λ w. AppendsUnlessFault old new w before after) (sym (same_Some _ _ is)) p
 
-    here : LostLoad rack l shelf reopen.Disk → (chances : Chances) × LosesTold rack l old new before after chances
+    here : LostLoad rack l shelf reopen.Disk → (chances : Chances) × LosesTold rack l shelf chances
     here q =
         let x = remains_lost rack l shelf reopen.Disk q in
-        (chances_of l.options x.0.0, (shelf, at_crash x.0.1, shown, (lost shelf refl x.0.1, x.1.1 refl)))
+        (chances_of l.options x.0.0, (at_crash x.0.1 x.0.2, (lost shelf x.0.1 refl x.0.2 x.0.3, x.1.1 refl)))
 
-    x : (chances : Chances) × (IsTrue rack.tells → LosesTold rack l old new before after chances)
-    x = decided rack.tells (LosesTold rack l old new before after) no_chances (λ t. here (lost_so t))
+    x : (chances : Chances) × (IsTrue rack.tells → LosesTold rack l shelf chances)
+    x = decided rack.tells (LosesTold rack l shelf) no_chances (λ t. here (lost_so t))
 again_leaves rack l shelf (reopen.Damaged place) s old new before after lost_so failed damaged other (told line is same p) =
     subst (λ x. HasLeft rack l x (sinks old new before after)) (sym same) (no_chances, λ t. absurd (damaged t place refl))
 again_leaves rack l shelf (reopen.Other place) s old new before after lost_so failed damaged other (told line is same p) =

@@ -15,8 +15,7 @@ use Rattle.play_desk.specs.declared.opening.OpenCause.TheVariants as first
 use Rattle.server_command.specs.declared.program.Status.{Status}
 use Rattle.server_command.specs.Command.{Outputs}
 use Rattle.server_command.specs.Output.{sinks}
-use Rattle.server_command.specs.Racks.{Racks}
-use Rattle.server_command.specs.Serving.{RackFailed}
+use Rattle.server_command.specs.Racks.{Racks, ShelfFailed}
 use Rattle.server_command.specs.Telling.{TellsUnopened, told, untold, unopened_again, unopened_by}
 use Rattle.server_command.proofs.Playing.{IsFull, Lost, full_outputs, is_unopened, lost_outputs, memory_outputs, never_outputs, unopened_early, unread_outputs}
 
@@ -29,7 +28,7 @@ is_full rack o shelf h = by_image h.1.image h.1.held h.1.some
 
 -- a run of steps did not begin
 pub first_outputs : (rack : Racks) (o : Options) (bytes : List ℕ) (setup : Parsed) (shelf : ℕ) (why : OpenCause) (s : Status) (old new : Option (List ℕ)) (before after : ℕ)
-    → setup_of Steps bytes ≡ Ok setup → (IsTrue rack.tells → IsClosedBy rack.before.holds o.shelves shelf why) → (why ≡ first.Disk → RackFailed rack)
+    → setup_of Steps bytes ≡ Ok setup → (IsTrue rack.tells → IsClosedBy rack.before.holds o.shelves shelf why) → (why ≡ first.Disk → ShelfFailed rack shelf)
     → (IsTrue rack.tells → AllStayKept setup.scripts rack.before.holds rack.after.holds shelf why) → rack.before.faults ≤ rack.after.faults
     → TellsUnopened (unopened_by shelf why) s (sinks old new before after) → Outputs rack (Play o) bytes s (sinks old new before after)
 first_outputs rack o bytes setup shelf why s old new before after h closed failed kept later (untold is line) =
@@ -51,7 +50,7 @@ first_outputs rack o bytes setup shelf first.Memory s old new before after h clo
 -- a shelf was not opened again
 pub again_outputs : (rack : Racks) (o : Options) (bytes : List ℕ) (setup : Parsed) (shelf : ℕ) (why : Reopen) (s : Status) (old mid new : Option (List ℕ)) (before between after : ℕ)
     → setup_of Steps bytes ≡ Ok setup → (IsTrue rack.tells → Lost rack o setup.scripts (steps_of setup.steps) shelf why old mid)
-    → (why ≡ reopen.Disk → RackFailed rack) → (IsTrue rack.tells → (place : ℕ) → why ≡ reopen.Damaged place → ⊥) → (IsTrue rack.tells → (place : ℕ) → why ≡ reopen.Other place → ⊥)
+    → (why ≡ reopen.Disk → ShelfFailed rack shelf) → (IsTrue rack.tells → (place : ℕ) → why ≡ reopen.Damaged place → ⊥) → (IsTrue rack.tells → (place : ℕ) → why ≡ reopen.Other place → ⊥)
     → before ≤ between → TellsUnopened (unopened_again shelf why) s (sinks mid new between after) → Outputs rack (Play o) bytes s (sinks old new before after)
 again_outputs rack o bytes setup shelf why s old mid new before between after h lost failed damaged other le (untold is line) =
     memory_outputs rack o bytes setup s old mid new before between after h (λ t. inr (shelf, why, lost t)) le is line

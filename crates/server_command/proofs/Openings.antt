@@ -1,16 +1,18 @@
 -- What opening and closing the shelves of a server leaves of its rack.
-use Rattle.std.proofs.Common.{◌≡◌, ◌≢◌, ◌<◌, ◌≤◌, ◌+◌, ◌-◌, ◌^◌, ◌++◌, ◌∷◌, ◌∙◌, ◌⊎◌, inl, inr, ℕ, zero, suc, List, [], length, Bool, true, false, IsTrue, Some, None, refl, sym, ap, subst, arith}
+use Rattle.std.proofs.Common.{◌≡◌, ◌≢◌, ◌<◌, ◌≤◌, ◌+◌, ◌-◌, ◌^◌, ◌++◌, ◌∷◌, ◌∙◌, ◌⊎◌, inl, inr, ℕ, zero, suc, List, [], length, Bool, true, false, IsTrue, Some, refl, sym, ap, subst, arith}
 use Rattle.std.specs.Prelude.{min, slice_get, ◌&&◌}
 use Rattle.std.proofs.lemmas.Bool.{and_parts}
 use Rattle.std.proofs.lemmas.List.{length-append}
 use Rattle.web_outside.specs.Causes.{Rose}
 use Rattle.web_disk.specs.View.{View, RackView, AreAmong}
 use Rattle.script_nodes.specs.Setup.{Named}
+use Rattle.play_steps.specs.Rules.{StaysUp}
+use Rattle.play_desk.specs.Opening.{FailedFor}
 use Rattle.server_command.specs.Racks.{KeepsHome, damaged, other, first_unfit, unfit_left}
-use Rattle.server_command.specs.Opening.{AreFrom, HasTaken, IsRefused, IsUntaken, LeavesFrom, TakesBack, seen_on}
+use Rattle.server_command.specs.Opening.{AreFrom, HasTaken, IsRefused, IsUntaken, LeavesFrom, RefusesInOrder, TakesBack, seen_on}
 use Rattle.server_command.specs.declared.opening.Unopened.{Unopened}
 use Rattle.server_command.specs.declared.opening.Unopened.TheVariants as unopened
-use Rattle.server_command.proofs.Racks.{held_more, unfit_behind}
+use Rattle.server_command.proofs.Racks.{held_more}
 
 -- ---- what one disk does that is given back
 
@@ -19,6 +21,8 @@ pub record Gives (before after : RackView) (number faults : ℕ) : Type 0 where
   pub home : after.out number ≡ false
   pub others_out : (n : ℕ) → n ≢ number → after.out n ≡ before.out n
   pub counts : after.faults ≡ min (before.faults + faults) (2 ^ 64 - 1)
+  pub counted : after.failed number ≡ before.failed number + faults
+  pub others_counted : (n : ℕ) → n ≢ number → after.failed n ≡ before.failed n
 
 pub same_or_not : (m n : ℕ) → (m ≡ n) ⊎ (m ≢ n)
 same_or_not zero zero = inl refl
@@ -33,12 +37,21 @@ keeps_home before now after number faults kept g k home =
       | inr d ↦ g.others_out k d ∙ kept k home
     ]
 
+-- no count of a number fell where one more was given back
+counts_up : (before now after : RackView) (number faults : ℕ) → StaysUp before.failed now.failed → Gives now after number faults → StaysUp before.failed after.failed
+counts_up before now after number faults up g k =
+    elim (same_or_not k number) [
+      | inl e ↦ subst (λ n. before.failed n ≤ after.failed n) (sym e) (let was = up number in let is = g.counted in omega (arith, was, is))
+      | inr d ↦ (let was = up k in let is = g.others_counted k d in omega (arith, was, is))
+    ]
+
 -- the numbers from this one up to the count are home, and those below it as they were
 pub record GivesDownTo (before now : RackView) (number count : ℕ) : Type 0 where
   pub home : KeepsHome before now
   pub back : (k : ℕ) → number ≤ k → k < count → now.out k ≡ false
   pub lower : (k : ℕ) → k < number → now.out k ≡ before.out k
   pub later : before.faults ≤ now.faults
+  pub failed_later : StaysUp before.failed now.failed
   pub low : now.faults ≤ 2 ^ 64 - 1
 
 pub gives_last : (before : RackView) (count : ℕ) → before.faults ≤ 2 ^ 64 - 1 → GivesDownTo before before count count
@@ -47,6 +60,7 @@ gives_last before count low = record {
   back = λ k above below. absurd (omega (arith, above, below));
   lower = λ k below. refl;
   later = omega arith;
+  failed_later = λ n. omega arith;
   low = low;
 }
 
@@ -60,6 +74,7 @@ gives_before before now after number next count faults is p g = record {
   ];
   lower = λ k below. g.others_out k (λ e. omega (arith, e, below)) ∙ p.lower k (omega (arith, below, is));
   later = omega (arith, p.later, p.low, g.counts);
+  failed_later = counts_up before now after number faults p.failed_later g;
   low = omega (arith, g.counts);
 }
 
@@ -68,6 +83,7 @@ gives_down before after count p = record {
   home = p.home;
   back = λ k above below. p.back k above (omega (arith, below));
   later = p.later;
+  failed_later = p.failed_later;
 }
 
 -- ---- what was refused
@@ -76,12 +92,11 @@ gives_down before after count p = record {
 pub rose_since : (before mid after : ℕ) → before ≤ mid → Rose mid after → Rose before after
 rose_since before mid after le rose = omega (arith, le, rose)
 
-pub untaken_since : (before mid after : ℕ) (why : Unopened) → mid ≤ after → IsUntaken (λ shelf. Rose before mid) why → IsUntaken (λ shelf. Rose before after) why
-untaken_since before mid after (unopened.Disk shelf) le risen = omega (arith, le, risen)
-untaken_since before mid after (unopened.NotEmpty shelf) le h = h
-untaken_since before mid after (unopened.Damaged shelf place) le h = h
-untaken_since before mid after (unopened.Other shelf place) le h = h
-untaken_since before mid after unopened.Memory le h = tt
+-- nor had those of a number, before the calls failed that were made for it
+pub failed_since : (number : ℕ) (before mid after : RackView) → before.faults ≤ mid.faults → StaysUp before.failed mid.failed → FailedFor number mid after
+    → FailedFor number before after
+failed_since number before mid after le up failed =
+    let here = up number in let rose = failed.here in record { all = rose_since before.faults mid.faults after.faults le failed.all; here = omega (arith, here, rose) }
 
 -- no disk that holds something was looked at
 pub untaken_refused : (told : Type 0) (risen : ℕ → Type 0) (scripts : List Named) (images : List (List ℕ)) (why : Unopened) → IsUntaken risen why → IsRefused told risen scripts images why
@@ -90,14 +105,6 @@ untaken_refused told risen scripts images (unopened.NotEmpty shelf) h = h
 untaken_refused told risen scripts images (unopened.Damaged shelf place) h = absurd h
 untaken_refused told risen scripts images (unopened.Other shelf place) h = absurd h
 untaken_refused told risen scripts images unopened.Memory h = tt
-
-pub refused_since : (told : Type 0) (before mid after : ℕ) (scripts : List Named) (images : List (List ℕ)) (why : Unopened) → before ≤ mid
-    → IsRefused told (λ shelf. Rose mid after) scripts images why → IsRefused told (λ shelf. Rose before after) scripts images why
-refused_since told before mid after scripts images (unopened.Disk shelf) le h = rose_since before mid after le h
-refused_since told before mid after scripts images (unopened.NotEmpty shelf) le h = h
-refused_since told before mid after scripts images (unopened.Damaged shelf place) le h = h
-refused_since told before mid after scripts images (unopened.Other shelf place) le h = h
-refused_since told before mid after scripts images unopened.Memory le h = tt
 
 below_or_not : (k n : ℕ) → (k < n) ⊎ (n ≤ k)
 below_or_not zero zero = inr (omega arith)
@@ -122,6 +129,8 @@ pub record TakesOne (before after : RackView) (number : ℕ) : Type 0 where
   pub others_out : (n : ℕ) → n ≢ number → after.out n ≡ before.out n
   pub others : (n : ℕ) → n ≢ number → AreAmong (after.holds n) (before.holds n)
   pub later : before.faults ≤ after.faults
+  pub failed : after.failed number ≡ before.failed number
+  pub others_failed : (n : ℕ) → n ≢ number → after.failed n ≡ before.failed n
 
 -- so many were taken; those above are as they were
 pub record TakesUpTo (told : Type 0) (before now : RackView) (number : ℕ) (images : List (List ℕ)) : Type 0 where
@@ -141,6 +150,7 @@ takes_none told before = record {
     others = λ k above home. home;
     rest = λ n le image h. h;
     later = omega arith;
+    failed_later = λ n. omega arith;
   };
   above = λ n le image h. h;
   home = λ n le. refl;
@@ -159,6 +169,10 @@ takes_next told before now after number images image p one here = record {
     others = λ k above home. one.others_out k (λ e. omega (arith, e, above)) ∙ (p.home k (omega (arith, above)) ∙ home);
     rest = λ n le x h. p.above n (omega (arith, le)) x (one.others n (λ e. omega (arith, e, le)) x h);
     later = omega (arith, p.taken.later, one.later);
+    failed_later = λ n. elim (same_or_not n number) [
+      | inl e ↦ subst (λ m. before.failed m ≤ after.failed m) (sym e) (let was = p.taken.failed_later number in let is = one.failed in omega (arith, was, is))
+      | inr d ↦ (let was = p.taken.failed_later n in let is = one.others_failed n d in omega (arith, was, is))
+    ];
   };
   above = λ n le x h. p.above n (omega (arith, le)) x (one.others n (λ e. omega (arith, e, le)) x h);
   home = λ n le. one.others_out n (λ e. omega (arith, e, le)) ∙ p.home n (omega (arith, le));
@@ -208,3 +222,12 @@ kept_home {D = D} view told before mid after last count images disks p many from
 -- both the rack and its disks tell
 pub both_tell : (a b : Bool) → IsTrue (a && b) → IsTrue a × IsTrue b
 both_tell a b h = and_parts a b h
+
+-- a disk was not taken, and nothing was written on any
+pub untaken_in_order : (scripts : List Named) (before after : RackView) (count : ℕ) (risen : ℕ → Type 0) (why : Unopened) → IsUntaken risen why
+    → LeavesFrom 0 before after → RefusesInOrder scripts before after count [] why
+untaken_in_order scripts before after count risen (unopened.Disk shelf) h left = inl (λ n. left n (omega arith))
+untaken_in_order scripts before after count risen (unopened.NotEmpty shelf) h left = absurd h
+untaken_in_order scripts before after count risen (unopened.Damaged shelf place) h left = absurd h
+untaken_in_order scripts before after count risen (unopened.Other shelf place) h left = absurd h
+untaken_in_order scripts before after count risen unopened.Memory h left = tt

@@ -1,7 +1,7 @@
 -- From what a run of steps leaves to what a command answers.
 use Rattle.std.proofs.Common.{◌≡◌, ◌≤◌, ◌<◌, ◌+◌, ◌++◌, ◌∷◌, ◌⊎◌, ◌∙◌, ℕ, zero, suc, List, [], length, Bool, true, false, IsTrue, Option, Some, None, Result, Ok, append-nil, append_assoc, sym, ap, refl, subst, inl, inr, arith, codes}
 use Rattle.std.specs.Prelude.{count_by, replicate}
-use Rattle.std.proofs.lemmas.List.{length-append}
+use Rattle.std.proofs.lemmas.List.{length-append, length-replicate}
 use Rattle.std.specs.Fmt.{decimal}
 use Rattle.std.specs.Io.KnownBytes.{Appends, Keeps}
 use Rattle.web_outside.specs.Causes.{Rose}
@@ -24,14 +24,13 @@ use Rattle.play_steps.specs.Played as played
 use Rattle.play_steps.specs.Played.{Scene, Plays, Halts, HasRisen, RoseBy}
 use Rattle.play_desk.specs.Desk.{Desk, desk_rules, is_fault}
 use Rattle.play_desk.specs.Laws.{TranscriptsAreRuns}
-use Rattle.play_desk.specs.Opening.{AllStayKept, HoldTheBooks, IsClosedBy}
+use Rattle.play_desk.specs.Opening.{AllStayKept, HoldTheBooks, IsClosedBy, IsLeft}
 use Rattle.play_desk.specs.declared.opening.OpenCause.{OpenCause}
 use Rattle.play_desk.specs.declared.opening.OpenCause.TheVariants as cause
-use Rattle.server_command.specs.Racks.{Racks, AreHeld, AreTaken, not_empty, first_unfit, unfit_new, disk_line, unfit_line}
+use Rattle.server_command.specs.Racks.{Racks, AreHeld, AreTaken, ShelfFailed, not_empty, first_unfit, unfit_new, disk_line, unfit_line}
 use Rattle.server_command.specs.Output.{Chances, Output, output_of, desk_for, run_of, finished, ended, sinks, Tells, BreaksOff, at_line, replies, at_first, at_crash, unless_shut, Replied}
-use Rattle.server_command.specs.Remains.{HaveFailed, IsAny, IsBehind, IsThis, IsUnopened, Loses, Pauses, Remains, RemainsShut, RemainsUnwritten, unopened, performed, lost}
+use Rattle.server_command.specs.Remains.{AreAllKept, HaveFailed, IsAny, IsBehind, IsLostBehind, IsThis, IsUnopened, Loses, Pauses, Remains, RemainsShut, RemainsUnwritten, unopened, performed, lost}
 use Rattle.server_command.specs.Command.{Gives, Known, Outputs, PlaysEvents, Settles, StandFor, TakesDisks, TellsLine, with_setup}
-use Rattle.server_command.specs.Serving.{RackFailed}
 use Rattle.server_command.specs.declared.program.Status.{Status}
 use Rattle.server_command.specs.declared.program.Status.TheVariants as status
 use Rattle.server_command.proofs.Endings.{IsWhole, early, no_chances, whole_text, tells, since}
@@ -301,7 +300,7 @@ pub record Lost (rack : Racks) (o : Options) (scripts : List Named) (steps : Lis
   pub begins : Begins rack o scripts first
   pub before : ℕ
   pub after : ℕ
-  pub loses : played.Loses desk_rules steps shelf (played.scene desk_rules old first before) (played.scene desk_rules mid last after)
+  pub loses : played.Loses desk_rules (IsLeft rack.after) steps shelf (played.scene desk_rules old first before) (played.scene desk_rules mid last after)
   pub rose : why ≡ reopen.Disk → Rose loses.middle.faults after
   pub from : rack.before.faults ≤ before
   pub to : after ≤ rack.after.faults
@@ -309,19 +308,21 @@ pub record Lost (rack : Racks) (o : Options) (scripts : List Named) (steps : Lis
 -- whole replies to the steps before the crash
 is_replied : (rack : Racks) (o : Options) (setup : Parsed) (shelf : ℕ) (why : Reopen) (old mid : Option (List ℕ))
     (p : Lost rack o setup.scripts (steps_of setup.steps) shelf why old mid)
-    → Replied o setup p.loses.fates (λ step. step ≡ crash shelf) (print p.loses.told)
+    → IsLostBehind o setup p.loses.fates (print p.loses.told) shelf p.loses.middle.state
 is_replied rack o setup shelf why old mid p =
     let q = p.loses in
-    let run = ap (λ (x : Desk). transcript desk_rules x 1 q.front q.fates) (sym p.begins.first) ∙ q.is in
-    record {
-      front = q.front;
-      step = crash shelf;
-      next = refl;
-      rest = q.rest;
-      cut = q.cut;
-      text_is = ap (λ (r : Run desk_rules). text_of r) run;
-      goes_on = ap (λ (r : Run desk_rules). r.end) run;
-    }
+    let run = ap (λ (x : Desk). transcript desk_rules x 1 q.front q.fates) (sym p.begins.first) ∙ q.is in (
+      record {
+        front = q.front;
+        step = crash shelf;
+        next = refl;
+        rest = q.rest;
+        cut = q.cut;
+        text_is = ap (λ (r : Run desk_rules). text_of r) run;
+        goes_on = ap (λ (r : Run desk_rules). r.end) run;
+      },
+      ap (λ (r : Run desk_rules). r.state) run,
+    )
 
 pub memory_outputs : (rack : Racks) (o : Options) (bytes : List ℕ) (setup : Parsed) (s : Status) (old mid new : Option (List ℕ)) (before between after : ℕ)
     → setup_of Steps bytes ≡ Ok setup
@@ -374,7 +375,7 @@ memory_outputs rack o bytes setup s old mid new before between after h halted le
             }),
             tells old mid new (print q.told) (codes "error 10 memory\n") before after q.written (since mid new _ before between after le told),
             subst (λ (r : Result Parsed Fault). Remains rack (Play o) r (chances_of o q.fates) (print q.told) IsAny 0) (sym h) (
-              lost shelf tt (is_replied rack o setup shelf why old mid p),
+              lost shelf q.middle.state tt (is_replied rack o setup shelf why old mid p) q.stands,
               have_failed rack q.fates p.before q.middle.faults p.from q.risen (let later = q.later in let to = p.to in omega (arith, later, to)),
             ),
           ),
@@ -382,44 +383,43 @@ memory_outputs rack o bytes setup s old mid new before between after h halted le
 
 pub lost_outputs : (rack : Racks) (o : Options) (bytes : List ℕ) (setup : Parsed) (shelf : ℕ) (old mid new : Option (List ℕ)) (before between after : ℕ)
     → setup_of Steps bytes ≡ Ok setup → (IsTrue rack.tells → Lost rack o setup.scripts (steps_of setup.steps) shelf reopen.Disk old mid) → before ≤ between
-    → RackFailed rack → AppendsUnlessFault mid new (disk_line shelf) between after → Outputs rack (Play o) bytes status.Disk (sinks old new before after)
+    → ShelfFailed rack shelf → AppendsUnlessFault mid new (disk_line shelf) between after → Outputs rack (Play o) bytes status.Disk (sinks old new before after)
 lost_outputs rack o bytes setup shelf old mid new before between after h lost_so le failed told =
-    let x = by_tells rack o bytes setup h (λ chances. Loses rack (Play o) bytes chances (sinks old new before after)) (λ t. loses (lost_so t)) in
-    (x.0, (failed, x.1))
+    let x = by_tells rack o bytes setup h (λ chances. Loses rack (Play o) bytes chances shelf (sinks old new before after)) (λ t. loses (lost_so t)) in
+    (x.0, (shelf, failed, x.1))
   where
     loses : Lost rack o setup.scripts (steps_of setup.steps) shelf reopen.Disk old mid
-        → (chances : Chances) × Loses rack (Play o) bytes chances (sinks old new before after)
+        → (chances : Chances) × Loses rack (Play o) bytes chances shelf (sinks old new before after)
     loses p =
         let q = p.loses in
         let replied = is_replied rack o setup shelf reopen.Disk old mid p in (
           chances_of o q.fates,
           (
-            shelf,
             print q.told,
-            at_crash o setup (print q.told) refl h replied,
+            at_crash o setup (print q.told) refl h replied.0,
             tells old mid new (print q.told) (disk_line shelf) before after q.written (since mid new _ before between after le told),
             subst (λ (r : Result Parsed Fault). Remains rack (Play o) r (chances_of o q.fates) (print q.told) (IsThis shelf) 1) (sym h)
-                (lost shelf refl replied, have_failed_once rack q.fates p.before q.middle.faults p.after p.from q.risen (p.rose refl) p.to),
+                (lost shelf q.middle.state refl replied q.stands, have_failed_once rack q.fates p.before q.middle.faults p.after p.from q.risen (p.rose refl) p.to),
           ),
         )
 
 -- ---- a run of steps that does not begin
 
 pub unread_outputs : (rack : Racks) (o : Options) (bytes : List ℕ) (setup : Parsed) (shelf : ℕ) (old new : Option (List ℕ)) (before after : ℕ)
-    → setup_of Steps bytes ≡ Ok setup → RackFailed rack → (IsTrue rack.tells → IsUnopened rack setup.scripts shelf cause.Disk)
+    → setup_of Steps bytes ≡ Ok setup → ShelfFailed rack shelf → (IsTrue rack.tells → IsUnopened rack setup.scripts shelf cause.Disk)
     → AppendsUnlessFault old new (disk_line shelf) before after → Outputs rack (Play o) bytes status.Disk (sinks old new before after)
 unread_outputs rack o bytes setup shelf old new before after h failed kept told = (
   no_chances,
   (
+    shelf,
     failed,
     λ settles. (
-      shelf,
       [],
       at_first o refl,
       tells old old new [] (disk_line shelf) before after (appends_none old) told,
       subst (λ (r : Result Parsed Fault). Remains rack (Play o) r no_chances [] (IsThis shelf) 1) (sym h) (
         unopened shelf cause.Disk refl refl (kept (tells_of rack o bytes setup h settles)),
-        (let none : count_by is_fault [] ≡ 0 = refl in omega (arith, none, failed)),
+        (let none : count_by is_fault [] ≡ 0 = refl in let rose = failed.all in omega (arith, none, rose)),
       ),
     ),
   ),
@@ -434,7 +434,7 @@ closed_before holds count shelf cause.Disk h = h.1
 closed_before holds count shelf cause.Memory h = h.1
 
 pub is_unopened : (rack : Racks) (scripts : List Named) (count shelf : ℕ) (why : OpenCause) → IsClosedBy rack.before.holds count shelf why
-    → (why ≡ cause.Disk → RackFailed rack) → AllStayKept scripts rack.before.holds rack.after.holds shelf why → IsUnopened rack scripts shelf why
+    → (why ≡ cause.Disk → ShelfFailed rack shelf) → AllStayKept scripts rack.before.holds rack.after.holds shelf why → IsUnopened rack scripts shelf why
 is_unopened rack scripts count shelf why closed failed kept =
     record { before = closed_before rack.before.holds count shelf why closed; failed = failed; kept = kept }
 
@@ -470,16 +470,26 @@ full_held holds zero k image m is each here = (subst (λ j. holds j image) (sym 
 full_held holds (suc n) k image m is each here =
     (each k (omega (arith, is)), full_held holds n (k + 1) image m (omega (arith, is)) each here)
 
+-- nothing was lost where one disk is not empty, and those behind it were not taken
+pub all_stay : (rack : Racks) (scripts : List Named) (shelf : ℕ) (image : List ℕ) → AllStayKept scripts rack.before.holds rack.after.holds shelf cause.NotEmpty
+    → AreAllKept rack scripts (length (replicate shelf [] ++ image ∷ []))
+all_stay rack scripts shelf image stay = record {
+  kept = λ n. stay.kept n (λ e. let no : ⊥ = cc in absurd no);
+  behind = λ n le.
+      let empties : List (List ℕ) = replicate shelf [] in
+      stay.behind n (omega (arith, le, length-append empties (image ∷ []), length-replicate {A = List ℕ} shelf []));
+}
+
 pub full_outputs : (rack : Racks) (o : Options) (bytes : List ℕ) (setup : Parsed) (shelf : ℕ) (old new : Option (List ℕ)) (before after : ℕ)
     → setup_of Steps bytes ≡ Ok setup → (IsTrue rack.tells → IsFull rack o shelf)
     → (IsTrue rack.tells → AllStayKept setup.scripts rack.before.holds rack.after.holds shelf cause.NotEmpty)
     → AppendsUnlessFault old new (unfit_line shelf not_empty) before after → Outputs rack (Play o) bytes status.Journal (sinks old new before after)
 full_outputs rack o bytes setup shelf old new before after h full kept told =
-    by_tells rack o bytes setup h (λ chances. Gives rack (Play o) bytes chances 8 (sinks old new before after) × RemainsShut rack (Play o) (setup_of Steps bytes))
+    by_tells rack o bytes setup h (λ chances. Gives rack (Play o) bytes chances 8 (sinks old new before after) × RemainsShut rack (Play o) (setup_of Steps bytes) chances)
     (λ t. shut (full t) (kept t))
   where
     shut : IsFull rack o shelf → AllStayKept setup.scripts rack.before.holds rack.after.holds shelf cause.NotEmpty
-        → (chances : Chances) × (Gives rack (Play o) bytes chances 8 (sinks old new before after) × RemainsShut rack (Play o) (setup_of Steps bytes))
+        → (chances : Chances) × (Gives rack (Play o) bytes chances 8 (sinks old new before after) × RemainsShut rack (Play o) (setup_of Steps bytes) chances)
     shut p stay =
         let images : List (List ℕ) = replicate shelf [] ++ (p.byte ∷ p.bytes) ∷ [] in
         let chances : Chances = record { disks = images; fates = [] } in
@@ -497,7 +507,7 @@ full_outputs rack o bytes setup shelf old new before after h full kept told =
                   (refl, tells old old new [] (unfit_line shelf not_empty) before after (appends_none old) told);
               taken = subst (λ (r : Result Parsed Fault). TakesDisks rack (with_setup (Play o) r) images) (sym h) taken;
             },
-            subst (λ (r : Result Parsed Fault). RemainsShut rack (Play o) r) (sym h) (λ n. stay n (λ e. let no : ⊥ = cc in absurd no)),
+            subst (λ (r : Result Parsed Fault). RemainsShut rack (Play o) r chances) (sym h) (all_stay rack setup.scripts shelf (p.byte ∷ p.bytes) stay),
           ),
         )
 

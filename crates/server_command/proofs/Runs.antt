@@ -13,7 +13,7 @@ use Rattle.play_steps.specs.declared.run.PlayEnd.TheVariants.{Reopen as Lost_at}
 use Rattle.play_steps.specs.declared.stage.Reopen.{Reopen}
 use Rattle.play_steps.specs.declared.stage.Reopen.TheVariants as reopen
 use Rattle.play_desk.specs.Desk.{Desk, desk_rules, first_desk}
-use Rattle.play_desk.specs.Opening.{HoldTheBooks, rules_at}
+use Rattle.play_desk.specs.Opening.{HoldTheBooks, IsLeft, rules_at}
 use Rattle.server_command.specs.Opening.{AreAsked}
 use Rattle.server_command.specs.Output.{desk_for}
 use Rattle.server_command.specs.Racks.{Racks}
@@ -41,9 +41,27 @@ begins rack o scripts r d a is empty = record {
 }
 
 -- a run came to a crash of this shelf, which was not opened again for this
-pub record LosesBy (steps : List (Option Step)) (shelf : ℕ) (why : Reopen) (before after : Scene desk_rules) : Type 0 where
-  pub loses : played.Loses desk_rules steps shelf before after
+pub record LosesBy (left : Desk → ℕ → Type 0) (steps : List (Option Step)) (shelf : ℕ) (why : Reopen) (before after : Scene desk_rules) : Type 0 where
+  pub loses : played.Loses desk_rules left steps shelf before after
   pub rose : why ≡ reopen.Disk → Rose loses.middle.faults after.spot.faults
+
+-- what was left by it is left behind the closing too
+unfoldable pub loses_with : (left left' : Desk → ℕ → Type 0) → ((d : Desk) (k : ℕ) → left d k → left' d k) → (steps : List (Option Step)) (shelf : ℕ)
+    (before after : Scene desk_rules) → played.Loses desk_rules left steps shelf before after → played.Loses desk_rules left' steps shelf before after
+loses_with left left' f steps shelf before after p = record {
+  front = p.front;
+  rest = p.rest;
+  cut = p.cut;
+  fates = p.fates;
+  told = p.told;
+  middle = p.middle;
+  is = p.is;
+  risen = p.risen;
+  later = p.later;
+  fitting = p.fitting;
+  stands = f p.middle.state shelf p.stands;
+  written = p.written;
+}
 
 pub ran : (rack : Racks) (o : Options) (scripts : List Named) (steps : List (Option Step)) (end : End) (old mid : Option (List ℕ)) (first last : Desk) (before after : ℕ)
     → Begins rack o scripts first → Plays desk_rules steps end (played.scene desk_rules old first before) (played.scene desk_rules mid last after)
@@ -60,31 +78,42 @@ halted rack o scripts steps old mid first last before after b (shown, h, some) l
     (shown, record { first = first; last = last; begins = b; before = before; after = after; halts = h; left = left; from = from; to = to }, some)
 
 pub lost : (rack : Racks) (o : Options) (scripts : List Named) (steps : List (Option Step)) (shelf : ℕ) (why : Reopen) (old mid : Option (List ℕ)) (first last : Desk) (before after : ℕ)
-    → Begins rack o scripts first → LosesBy steps shelf why (played.scene desk_rules old first before) (played.scene desk_rules mid last after)
+    → Begins rack o scripts first → (left : Desk → ℕ → Type 0) → ((d : Desk) (k : ℕ) → left d k → IsLeft rack.after d k)
+    → LosesBy left steps shelf why (played.scene desk_rules old first before) (played.scene desk_rules mid last after)
     → rack.before.faults ≤ before → after ≤ rack.after.faults → Lost rack o scripts steps shelf why old mid
-lost rack o scripts steps shelf why old mid first last before after b p from to =
-    record { first = first; last = last; begins = b; before = before; after = after; loses = p.loses; rose = p.rose; from = from; to = to }
+unfolding loses_with
+lost rack o scripts steps shelf why old mid first last before after b left f p from to = record {
+  first = first;
+  last = last;
+  begins = b;
+  before = before;
+  after = after;
+  loses = loses_with left (IsLeft rack.after) f steps shelf (played.scene desk_rules old first before) (played.scene desk_rules mid last after) p.loses;
+  rose = p.rose;
+  from = from;
+  to = to;
+}
 
 pub paused : (rack : Racks) (o : Options) (scripts : List Named) (steps : List (Option Step)) (old mid : Option (List ℕ)) (first last : Desk) (before after : ℕ)
-    → Begins rack o scripts first
+    → Begins rack o scripts first → (left : Desk → ℕ → Type 0) → ((d : Desk) (k : ℕ) → left d k → IsLeft rack.after d k)
     → Halts desk_rules steps [] (played.scene desk_rules old first before) (played.scene desk_rules mid last after)
-    ⊎ ((shelf : ℕ) × played.Loses desk_rules steps shelf (played.scene desk_rules old first before) (played.scene desk_rules mid last after))
+    ⊎ ((shelf : ℕ) × played.Loses desk_rules left steps shelf (played.scene desk_rules old first before) (played.scene desk_rules mid last after))
     → HoldTheBooks last rack.after.holds → rack.before.faults ≤ before → after ≤ rack.after.faults
     → Halted rack o scripts steps [] old mid ⊎ ((shelf : ℕ) × (why : Reopen) × Lost rack o scripts steps shelf why old mid)
-paused rack o scripts steps old mid first last before after b (inl h) left from to =
-    inl (record { first = first; last = last; begins = b; before = before; after = after; halts = h; left = left; from = from; to = to })
-paused rack o scripts steps old mid first last before after b (inr (shelf, p)) left from to =
+paused rack o scripts steps old mid first last before after b left f (inl h) books from to =
+    inl (record { first = first; last = last; begins = b; before = before; after = after; halts = h; left = books; from = from; to = to })
+paused rack o scripts steps old mid first last before after b left f (inr (shelf, p)) books from to =
     inr (
       shelf,
       reopen.Memory,
-      lost rack o scripts steps shelf reopen.Memory old mid first last before after b
+      lost rack o scripts steps shelf reopen.Memory old mid first last before after b left f
           (record { loses = p; rose = λ e. let no : ⊥ = cc in absurd no }) from to,
     )
 
 -- a shelf was not opened again, for whatever cause
-pub loses : (steps : List (Option Step)) (shelf : ℕ) (why : Reopen) (before after : Scene desk_rules) → Leaves desk_rules steps (Lost_at shelf why) before after
-    → LosesBy steps shelf why before after
-loses steps shelf reopen.Disk before after p = record { loses = p.loses; rose = λ e. p.rose }
-loses steps shelf (reopen.Damaged place) before after p = record { loses = p; rose = λ e. let no : ⊥ = cc in absurd no }
-loses steps shelf (reopen.Other place) before after p = record { loses = p; rose = λ e. let no : ⊥ = cc in absurd no }
-loses steps shelf reopen.Memory before after p = absurd p
+pub loses : (left : Desk → ℕ → Type 0) (steps : List (Option Step)) (shelf : ℕ) (why : Reopen) (before after : Scene desk_rules)
+    → Leaves desk_rules left steps (Lost_at shelf why) before after → LosesBy left steps shelf why before after
+loses left steps shelf reopen.Disk before after p = record { loses = p.loses; rose = λ e. p.rose }
+loses left steps shelf (reopen.Damaged place) before after p = record { loses = p; rose = λ e. let no : ⊥ = cc in absurd no }
+loses left steps shelf (reopen.Other place) before after p = record { loses = p; rose = λ e. let no : ⊥ = cc in absurd no }
+loses left steps shelf reopen.Memory before after p = absurd p

@@ -1,13 +1,15 @@
 -- What a serving came to, by what its calls say.
 use Rattle.std.proofs.Common.{◌≡◌, ◌≤◌, ◌<◌, ◌^◌, ◌∷◌, ◌∙◌, [], inl, inr, ap, subst, sym, ℕ, List, length, Option, Some, None, IfSome, IsTrue, Result, Ok, refl, arith, codes}
-use Rattle.std.specs.Prelude.{Err, slice_get}
-use Rattle.std.proofs.lemmas.Option.{same_Some}
+use Rattle.std.specs.Prelude.{Err, IsErrOf, slice_get, sum_by}
+use Rattle.std.proofs.lemmas.Option.{same_Some, slice_get_within}
+use Rattle.lock_row.proofs.Places.{get_there}
+use Rattle.play_steps.specs.Played.{RoseBy}
 use Rattle.web_disk.specs.View.{RackView, AreAmong}
-use Rattle.web_outside.specs.Causes.{Rose}
 use Rattle.web_outside.specs.Pieces.{AppendsUnlessFault}
 use Rattle.web_outside.proofs.Writes.{appends_none}
 use Rattle.script_nodes.specs.Setup.{Named}
 use Rattle.command_words.specs.declared.Service.{Service}
+use Rattle.request_workers.specs.Tallies.{count_of}
 use Rattle.request_workers.specs.declared.tally.Tally.{Tally}
 use Rattle.request_workers.specs.declared.tally.WorkEnd.{WorkEnd}
 use Rattle.request_workers.specs.declared.tally.WorkEnd.TheVariants as ends
@@ -19,21 +21,23 @@ use Rattle.site.specs.declared.opening.Opening.{Opening}
 use Rattle.site_serving.specs.declared.serving.ServingFault.{ServingFault}
 use Rattle.site_serving.specs.declared.serving.ServingFault.TheVariants as faults
 use Rattle.site_serving.specs.Kept.{Kept}
-use Rattle.site_serving.specs.Serving.{ComesTo, IsUnserved, Leaves}
+use Rattle.site.specs.Opened.{Opened}
+use Rattle.site_serving.specs.Serving.{AreUntouched, ComesTo, IsUnserved, Leaves, opened_as}
 use Rattle.server_command.specs.declared.program.Status.{Status}
 use Rattle.server_command.specs.declared.program.Status.TheVariants as status
+use Rattle.server_command.specs.declared.serving.ServeFault.{ServeFault}
 use Rattle.server_command.specs.declared.serving.ServeFault.TheVariants as fault
 use Rattle.server_command.specs.declared.opening.Unopened.{Unopened}
 use Rattle.server_command.specs.declared.opening.Unopened.TheVariants as unopened
-use Rattle.server_command.specs.Command.{TellsFaultLine}
-use Rattle.server_command.specs.Opening.{FailsAt, IsRefused, LeavesFrom, OpensOn, RefusesOn}
+use Rattle.server_command.specs.Command.{TellsFaultLine, TellsNoSetup}
+use Rattle.server_command.specs.Opening.{FailsAt, IsRefused, LeavesFrom, OpensOn, RefusesInOrder, RefusesOn}
 use Rattle.server_command.specs.Output.{Answers, Chances, PrintsTo, Sinks, rules_for, served, sinks}
-use Rattle.server_command.specs.Telling.{TellsUnopened, told, untold}
+use Rattle.server_command.specs.Telling.{TellsOutcome, TellsUnopened, told, untold}
 use Rattle.play_desk.specs.Opening.{IsKept}
-use Rattle.server_command.specs.Racks.{AtRest, damaged, other}
-use Rattle.server_command.specs.Serving.{Faults, LeavesInput, LeavesServing, Opens, Outside, Served, Serves, ServesBy, ShutsBy, serves_over, told_as, watch_of}
+use Rattle.server_command.specs.Racks.{AtRest, Racks, damaged, other}
+use Rattle.server_command.specs.Serving.{Faults, HaveRisen, KeepsAll, KeepsAllBut, LeavesInput, LeavesServing, NoneIsLost, Opens, Outside, Served, Serves, ServesBy, ShutsBy, serves_over, told_as, watch_of}
 use Rattle.server_command.proofs.Endings.{no_chances, tells}
-use Rattle.server_command.proofs.Shelves.{opened_fits, stands_from}
+use Rattle.server_command.proofs.Shelves.{faults_sum, opened_fits, stands_from, untouched_at}
 
 -- the shelves were opened on what their disks held
 opens_of : {D P L N : Type 0} (o : Outside D P L N) (s : Service) (scripts : List Named) (sources : List N) (middle : RackView) (openings : List (Opening D N))
@@ -49,12 +53,29 @@ opens_of o s scripts sources middle openings count p = λ t. (
 pub serves_of : {D P L N : Type 0} (o : Outside D P L N) (s : Service) (scripts : List Named) (sources : List N) (middle : RackView) (openings : List (Opening D N))
     (disks : List D) (result : Result Tally ServingFault) → length sources ≡ s.options.shelves → IfSome (o.seeds.gives s.options.shelves) (λ given. given ≡ sources)
     → (p : OpensOn o.views.disk o.views.told (IsTrue o.rack.tells) o.views.nonce (λ k. rules_for s.options k scripts) scripts sources o.rack.before middle openings)
-    → (IsTrue o.rack.tells → IsTrue o.views.told)
+    → (IsTrue o.rack.tells → IsTrue o.views.told) → length disks ≡ length sources
     → (IsTrue o.rack.tells → (k : ℕ) (d : D) → slice_get disks k ≡ Some d → AreAmong (o.rack.after.holds k) (o.views.disk d).images)
-    → ComesTo o.views openings o.before o.after o.past (watch_of s) disks result → ServesBy (serves_over o) s scripts p.images (told_as result)
-serves_of {D = D} {P = P} {L = L} {N = N} o s scripts sources middle openings disks result count drawn p tells held comes = by_result result comes
+    → LeavesFrom (length disks) middle o.rack.after → RoseBy (sum_by (λ d. (o.views.disk d).faults) disks) middle.faults o.rack.after.faults
+    → ComesTo o.views (opened_as o.views.disk o.views.told o.views.nonce openings) o.before o.after o.past (watch_of s) disks result
+    → ServesBy (serves_over o) s scripts p.images (told_as result)
+serves_of {D = D} {P = P} {L = L} {N = N} o s scripts sources middle openings disks result count drawn p tells many held others counts comes = by_result result comes
   where
-    whole : (end : WorkEnd) (kept : Kept) → Leaves o.views openings o.before o.after o.past (watch_of s) disks end kept → Served o s scripts p.images end kept
+    opened : List Opened
+    opened = opened_as o.views.disk o.views.told o.views.nonce openings
+
+    -- the disks of shelves of which nothing was served
+    keeps : AreUntouched o.views.disk (IsTrue o.views.told) opened disks → KeepsAll o.rack scripts p.images
+    keeps u t = record {
+      held = p.taken.held t;
+      read = λ k read left read_is left_is.
+          let low = slice_get_within p.images k read read_is in
+          let d = get_there disks k (omega (arith, low, p.taken.many, many)) in
+          let at = untouched_at o.views.disk o.views.told o.views.nonce (IsTrue o.views.told) openings disks k d.0 u d.1 in
+          p.kept t k at.0 read left at.1 read_is (at.2 left (held t k d.0 d.1 left left_is));
+      unread = λ k left le is. p.taken.rest k (omega (arith, le, p.taken.many)) left (others k (omega (arith, le, p.taken.many, many)) left is);
+    }
+
+    whole : (end : WorkEnd) (kept : Kept) → Leaves o.views opened o.before o.after o.past (watch_of s) disks end kept → Served o s scripts p.images end kept
     whole end kept left = record {
       sources = sources;
       openings = openings;
@@ -63,51 +84,97 @@ serves_of {D = D} {P = P} {L = L} {N = N} o s scripts sources middle openings di
       drawn = drawn;
       opened = p.opened;
       leaves = left;
+      counted = λ own.
+          let sum = faults_sum o.views.disk o.views.told o.views.nonce (IsTrue o.views.told) s.workers openings disks kept.histories own left.served.shelves in
+          let later = p.taken.later in
+          let rose = counts in
+          omega (arith, sum, later, rose);
       stands = λ t k x h x_is h_is. stands_from o.views.disk o.views.told (IsTrue o.rack.tells) o.views.nonce (λ j. rules_for s.options j scripts) scripts 0 s.workers
           o.rack.after.holds p.images sources openings disks kept.histories (tells t) p.opened left.served.shelves
           (λ i j d at d_is. subst (λ m. AreAmong (o.rack.after.holds m) (o.views.disk d).images) (let same : i ≡ j = omega (arith, at) in same) (held t i d d_is))
           k k x h (omega arith) x_is h_is;
     }
 
-    by_result : (r : Result Tally ServingFault) → ComesTo o.views openings o.before o.after o.past (watch_of s) disks r
+    by_result : (r : Result Tally ServingFault) → ComesTo o.views opened o.before o.after o.past (watch_of s) disks r
         → ServesBy (serves_over o) s scripts p.images (told_as r)
     by_result (Ok tally) f =
         (record { kept = f.0; served = whole ends.Done f.0 f.1; counted = f.2 }, opens_of o s scripts sources middle openings count p)
-    by_result (Err faults.Door) (inl none) = inl (none, opens_of o s scripts sources middle openings count p)
+    by_result (Err faults.Door) (inl none) = inl (none.0, opens_of o s scripts sources middle openings count p, keeps none.1)
     by_result (Err faults.Door) (inr f) =
         inr (total f.0.tallies, record { kept = f.0; served = whole ends.Failed f.0 f.1; counted = refl }, opens_of o s scripts sources middle openings count p)
-    by_result (Err faults.Memory) f = f
+    by_result (Err faults.Memory) f = (f.0, keeps f.1)
+
+-- no sources were drawn, and nothing was asked of the rack
+pub undrawn : {D P L N : Type 0} (o : Outside D P L N) (s : Service) (scripts : List Named) (why : ServeFault) → IsUnserved o.before o.after o.past → o.rack.after ≡ o.rack.before
+    → (why ≡ fault.Door → ⊥) → ((w : Unopened) → why ≡ fault.Shelf w → ⊥) → ServesBy (serves_over o) s scripts [] (Err why)
+undrawn o s scripts why none same door shelf = by_why why door shelf
+  where
+    keeps : KeepsAll o.rack scripts []
+    keeps t = record {
+      held = tt;
+      read = λ k read left none is. absurd (let no : ⊥ = cc none in no);
+      unread = λ k left le is. subst (λ (r : RackView). r.holds k left) same is;
+    }
+
+    by_why : (w : ServeFault) → (w ≡ fault.Door → ⊥) → ((x : Unopened) → w ≡ fault.Shelf x → ⊥) → ServesBy (serves_over o) s scripts [] (Err w)
+    by_why fault.Key door shelf = (
+      none,
+      record {
+        faults = ap (λ (r : RackView). r.faults) same;
+        out = λ n. ap (λ (r : RackView). r.out n) same;
+        holds = λ n image h. subst (λ (r : RackView). r.holds n image) same h;
+        failed = λ n. ap (λ (r : RackView). r.failed n) same;
+      },
+    )
+    by_why (fault.Shelf x) door shelf = absurd (shelf x refl)
+    by_why fault.Door door shelf = absurd (door refl)
+    by_why fault.Memory door shelf = (none, keeps)
 
 -- a shelf was not opened
 pub refuses_of : {D P L N : Type 0} (o : Outside D P L N) (s : Service) (scripts : List Named) (why : Unopened) → IsUnserved o.before o.after o.past
     → (p : RefusesOn (IsTrue o.rack.tells) scripts s.options.shelves o.rack.before o.rack.after why) → ServesBy (serves_over o) s scripts p.images (Err (fault.Shelf why))
-refuses_of o s scripts why none p = (none, by_why why p.refused p.kept p.unread)
+refuses_of o s scripts why none p = (none, by_why why p.refused p.in_order p.kept p.unread)
   where
+    all_kept : {w : Unopened} → IsTrue o.rack.tells
+        → (IsTrue o.rack.tells → (k : ℕ) (read left : List ℕ) → slice_get p.images k ≡ Some read → o.rack.after.holds k left → (w ≡ unopened.Disk k → ⊥)
+        → IsKept scripts k (o.rack.before.holds k) read left)
+        → (IsTrue o.rack.tells → LeavesFrom (length p.images) o.rack.before o.rack.after) → ((k : ℕ) → w ≡ unopened.Disk k → ⊥)
+        → NoneIsLost o.rack scripts p.images
+    all_kept t kept rest not = record {
+      held = p.held t;
+      read = λ k read left read_is left_is. kept t k read left read_is left_is (not k);
+      unread = λ k left le is. rest t k le left is;
+    }
+
     by_why : (w : Unopened) → IsRefused (IsTrue o.rack.tells) (FailsAt s.options.shelves o.rack.before o.rack.after) scripts p.images w
+        → (IsTrue o.rack.tells → RefusesInOrder scripts o.rack.before o.rack.after s.options.shelves p.images w)
         → (IsTrue o.rack.tells → (k : ℕ) (read left : List ℕ) → slice_get p.images k ≡ Some read → o.rack.after.holds k left → (w ≡ unopened.Disk k → ⊥)
         → IsKept scripts k (o.rack.before.holds k) read left)
         → (IsTrue o.rack.tells → LeavesFrom (length p.images) o.rack.before o.rack.after)
         → ShutsBy o.rack s scripts p.images w
-    by_why (unopened.Disk shelf) h kept rest = (
+    by_why (unopened.Disk shelf) h order kept rest = (
       h.0,
       h.1,
       λ t. record {
         read = λ k read left read_is left_is other. kept t k read left read_is left_is (λ e. other (let same : k ≡ shelf = cc in same));
         unread = λ k left le is. rest t k le left is;
       },
+      order,
     )
-    by_why (unopened.NotEmpty shelf) h kept rest = h
-    by_why (unopened.Damaged shelf place) h kept rest = λ t. (
+    by_why (unopened.NotEmpty shelf) h order kept rest = h
+    by_why (unopened.Damaged shelf place) h order kept rest = λ t. (
       record { held = p.held t; all = λ none. absurd (let no : None ≡ Some (shelf, damaged place) = sym none ∙ h t in cc) },
       h t,
-      λ k read left read_is left_is. kept t k read left read_is left_is (λ e. let no : ⊥ = cc e in no),
+      all_kept t kept rest (λ k e. let no : ⊥ = cc e in no),
+      order t,
     )
-    by_why (unopened.Other shelf place) h kept rest = λ t. (
+    by_why (unopened.Other shelf place) h order kept rest = λ t. (
       record { held = p.held t; all = λ none. absurd (let no : None ≡ Some (shelf, other place) = sym none ∙ h t in cc) },
       h t,
-      λ k read left read_is left_is. kept t k read left read_is left_is (λ e. let no : ⊥ = cc e in no),
+      all_kept t kept rest (λ k e. let no : ⊥ = cc e in no),
+      order t,
     )
-    by_why unopened.Memory h kept rest = tt
+    by_why unopened.Memory h order kept rest = λ t. all_kept t kept rest (λ k e. let no : ⊥ = cc e in no)
 
 -- the line of a setup's fault
 pub tells_fault_line : (line : List ℕ) (e : Fault) (old new : Option (List ℕ)) (before after : ℕ) → line ≡ fault_line e → AppendsUnlessFault old new line before after
@@ -119,28 +186,59 @@ pub fault_left : (serves : Serves) (v : Service) (bytes : List ℕ) (fault : Fau
     → TellsFaultLine fault s out → serves.unopened → AtRest serves.rack → (chances : Chances) × LeavesInput serves v bytes chances s out door seeds
 fault_left serves v bytes fault status.Setup out door seeds is line none rest =
     (no_chances, (subst (λ r. Answers (served r no_chances) 3 out) (sym is) (refl, tells out.held out.held out.holds [] (fault_line fault) out.before out.after (appends_none out.held) line), none, rest))
-fault_left serves v bytes fault status.Memory out door seeds is line none rest = (no_chances, (line, inl none))
+fault_left serves v bytes fault status.Memory out door seeds is line none rest = (no_chances, (line, inl (none, rest)))
 fault_left serves v bytes fault s out door seeds is line none rest = absurd line
 
 -- memory ran out before a setup was served
 pub memory_left : (serves : Serves) (v : Service) (bytes : List ℕ) (s : Status) (out : Sinks) (door seeds : Faults) → s ≡ status.Memory
-    → PrintsTo out (codes "error 10 memory\n") → serves.unopened → (chances : Chances) × LeavesInput serves v bytes chances s out door seeds
-memory_left serves v bytes s out door seeds is line none =
-    subst (λ (x : Status). (chances : Chances) × LeavesInput serves v bytes chances x out door seeds) (sym is) (no_chances, (line, inl none))
+    → PrintsTo out (codes "error 10 memory\n") → serves.unopened → AtRest serves.rack → (chances : Chances) × LeavesInput serves v bytes chances s out door seeds
+memory_left serves v bytes s out door seeds is line none rest =
+    subst (λ (x : Status). (chances : Chances) × LeavesInput serves v bytes chances x out door seeds) (sym is) (no_chances, (line, inl (none, rest)))
+
+-- what is kept where a shelf was not opened
+keeps_but : (rack : Racks) (v : Service) (scripts : List Named) (images : List (List ℕ)) (why : Unopened) → ShutsBy rack v scripts images why
+    → KeepsAllBut rack scripts images
+keeps_but rack v scripts images (unopened.Disk shelf) h = inr (shelf, h.1, h.2)
+keeps_but rack v scripts images (unopened.NotEmpty shelf) h = absurd h
+keeps_but rack v scripts images (unopened.Damaged shelf place) h = inl (λ t. (h t).2)
+keeps_but rack v scripts images (unopened.Other shelf place) h = inl (λ t. (h t).2)
+keeps_but rack v scripts images unopened.Memory h = inl h
 
 -- a shelf was not opened, and that was told
 pub shuts_told : (serves : Serves) (v : Service) (scripts : List Named) (images : List (List ℕ)) (why : Unopened) (s : Status) (out : Sinks) (door seeds : Faults)
     → ServesBy serves v scripts images (Err (fault.Shelf why)) → TellsUnopened why s out → LeavesServing serves v scripts images s out door seeds
 shuts_told serves v scripts images why s out door seeds by (untold is line) =
-    subst (λ x. LeavesServing serves v scripts images x out door seeds) (sym is) (line, inl by.0)
+    subst (λ x. LeavesServing serves v scripts images x out door seeds) (sym is) (line, inl (by.0, keeps_but serves.rack v scripts images why by.1))
 shuts_told serves v scripts images (unopened.Disk shelf) s out door seeds by (told line is same p) =
-    subst (λ x. LeavesServing serves v scripts images x out door seeds) (sym same) (shelf, by.1.1, by.1.0, subst (PrintsTo out) (sym (same_Some _ _ is)) p, by.0, by.1.2)
+    subst (λ x. LeavesServing serves v scripts images x out door seeds) (sym same) (shelf, by.1.1, by.1.0, subst (PrintsTo out) (sym (same_Some _ _ is)) p, by.0, by.1.2, by.1.3)
 shuts_told serves v scripts images (unopened.NotEmpty shelf) s out door seeds by (told line is same p) = absurd by.1
 shuts_told serves v scripts images (unopened.Damaged shelf place) s out door seeds by (told line is same p) =
     subst (λ x. LeavesServing serves v scripts images x out door seeds) (sym same) (shelf, damaged place, by.1, subst (PrintsTo out) (sym (same_Some _ _ is)) p, by.0)
 shuts_told serves v scripts images (unopened.Other shelf place) s out door seeds by (told line is same p) =
     subst (λ x. LeavesServing serves v scripts images x out door seeds) (sym same) (shelf, other place, by.1, subst (PrintsTo out) (sym (same_Some _ _ is)) p, by.0)
 shuts_told serves v scripts images unopened.Memory s out door seeds by (told line is same p) = absurd (let no : None ≡ Some line = is in cc)
+
+-- what a serving came to was told
+pub told_left : (serves : Serves) (v : Service) (scripts : List Named) (images : List (List ℕ)) (outcome : Result Tally ServeFault) (s : Status) (out : Sinks)
+    (door seeds : Faults) → ServesBy serves v scripts images outcome → (IsErrOf outcome fault.Key → HaveRisen seeds)
+    → (IsErrOf outcome fault.Door → HaveRisen door) → TellsOutcome outcome s out → LeavesServing serves v scripts images s out door seeds
+told_left serves v scripts images (Ok tally) status.Done out door seeds by key opened p = (count_of tally, by.0, by.1, p)
+told_left serves v scripts images (Ok tally) status.Write out door seeds by key opened p = (count_of tally, by.0, by.1, p)
+told_left serves v scripts images (Ok tally) status.Memory out door seeds by key opened p = (p, inr (count_of tally, by.0, by.1))
+told_left serves v scripts images (Ok tally) s out door seeds by key opened p = absurd p
+told_left serves v scripts images (Err fault.Key) s out door seeds by key opened p =
+    subst (λ x. LeavesServing serves v scripts images x out door seeds) (sym p.0) (key refl, p.1, by.0, by.1)
+told_left serves v scripts images (Err (fault.Shelf why)) s out door seeds by key opened p = shuts_told serves v scripts images why s out door seeds by p
+told_left serves v scripts images (Err fault.Door) s out door seeds by key opened p =
+    subst (λ x. LeavesServing serves v scripts images x out door seeds) (sym p.0) (opened refl, p.1, by)
+told_left serves v scripts images (Err fault.Memory) s out door seeds by key opened p =
+    subst (λ x. LeavesServing serves v scripts images x out door seeds) (sym p.0) (p.1, inl (by.0, inl by.1))
+
+-- no setup was read, and that was told
+pub unread_left : (serves : Serves) (v : Service) (bytes : List ℕ) (s : Status) (out : Sinks) (door seeds : Faults) → TellsNoSetup bytes out s → serves.unopened
+    → AtRest serves.rack → (chances : Chances) × LeavesInput serves v bytes chances s out door seeds
+unread_left serves v bytes s out door seeds (inl h) none rest = fault_left serves v bytes h.0 s out door seeds h.1 h.2 none rest
+unread_left serves v bytes s out door seeds (inr h) none rest = memory_left serves v bytes s out door seeds h.0 h.1 none rest
 
 -- the same of the input that is the setup
 pub input_served : (serves : Serves) (v : Service) (bytes : List ℕ) (setup : Parsed) (s : Status) (out : Sinks) (door seeds : Faults) → setup_of Input bytes ≡ Ok setup

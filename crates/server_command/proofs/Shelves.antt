@@ -1,10 +1,10 @@
 -- The shelves of a site: opened one behind the other, and standing when they were given back.
-use Rattle.std.proofs.Common.{◌≡◌, ◌≢◌, ◌<◌, ◌≤◌, ◌+◌, ◌++◌, ◌∷◌, ◌∙◌, ℕ, zero, suc, List, [], length, Bool, IsTrue, Option, Some, None, refl, sym, ap, subst, arith}
-use Rattle.std.specs.Prelude.{slice_get}
+use Rattle.std.proofs.Common.{◌≡◌, ◌≢◌, ◌<◌, ◌≤◌, ◌+◌, ◌-◌, ◌^◌, ◌++◌, ◌∷◌, ◌∙◌, inr, ℕ, zero, suc, List, [], length, Bool, IsTrue, Option, Some, None, refl, sym, ap, subst, arith}
+use Rattle.std.specs.Prelude.{min, slice_get, sum_by, take}
+use Rattle.std.proofs.lemmas.List.Sums.{sum_by-cons}
 use Rattle.std.proofs.lemmas.Option.{same_Some, slice_get_within}
 use Rattle.lock_row.specs.Spots.{Home}
-use Rattle.web_outside.specs.Causes.{Rose}
-use Rattle.web_disk.specs.View.{View, AreAmong}
+use Rattle.web_disk.specs.View.{View, RackView, AreAmong}
 use Rattle.script_nodes.specs.Setup.{Named}
 use Rattle.script_nodes.specs.Views.{scripts_of}
 use Rattle.script_nodes.specs.declared.setup.Setup.{Setup}
@@ -26,16 +26,17 @@ use Rattle.site.specs.declared.fault.SiteFault.{SiteFault}
 use Rattle.site.specs.Beginnings.{IsBegunAt, IsNotBegun}
 use Rattle.site.specs.Beginnings as site
 use Rattle.site.specs.Entries.{entries_of}
-use Rattle.site.specs.Openings.{book_then}
-use Rattle.site_serving.specs.Serving.{AreEnded, IsEnded, openings_of}
+use Rattle.site.specs.Openings.{book_then, opened_of}
+use Rattle.site_serving.specs.Pages.{faults_told}
+use Rattle.site_serving.specs.Serving.{AreEnded, AreUntouched, IsEnded, opened_as, openings_of}
 use Rattle.command_words.specs.declared.Options.{Options}
-use Rattle.server_command.specs.Opening.{AreAsked, IsRefused, seen_on, unopened_by}
+use Rattle.server_command.specs.Opening.{AreAsked, IsRefused, RefusesInOrder, seen_on, unopened_by}
 use Rattle.server_command.specs.declared.opening.Unopened.TheVariants as unopened
 use Rattle.server_command.specs.Output.{rules_for}
 use Rattle.play_desk.specs.Opening.{IsKept}
 use Rattle.play_desk.proofs.Keeping.{is_kept}
 use Rattle.server_command.specs.Racks.{Unfit, found_unfit, first_unfit, unfit_left, unfit_making, damaged, other}
-use Rattle.server_command.specs.Serving.{AreOpened, IsOpened, StandsBehind}
+use Rattle.server_command.specs.Serving.{AreOpened, AreOwn, IsOpened, StandsBehind}
 use Rattle.server_command.proofs.Racks.{made_fits}
 
 -- ---- opened
@@ -76,6 +77,31 @@ module _ {D N : Type 0} (view : D → View) (tells : Bool) (told : Type 0) (nonc
       subst (λ os. AreOpened view tells told nonce (λ j. rules_for o j (scripts_of setup)) (scripts_of setup) k (seen_on view (d ∷ disks)) (n ∷ nonces) (os ++ openings_of homes))
       (sym b.opening_is) (opened_one k d n h knows asked b, rest)
 
+  -- nothing was lost on the disks of a site that was begun
+  pub kept_from : (k : ℕ) (disks : List D) (nonces : List N) (homes : List (Home (Opening D N))) (holds : ℕ → List ℕ → Type 0) → length nonces ≡ length disks
+      → length homes ≡ length disks → IsTrue tells
+      → ((i j : ℕ) (d : D) (n : N) (h : Home (Opening D N)) → j ≡ k + i → slice_get disks i ≡ Some d → slice_get nonces i ≡ Some n → slice_get homes i ≡ Some h
+      → IsBegunAt view tells setup rules j d n h × AreAmong (view d).images (holds j))
+      → (i j : ℕ) (x : Opening D N) (read left : List ℕ) → j ≡ k + i → slice_get (openings_of homes) i ≡ Some x → slice_get (seen_on view disks) i ≡ Some read
+      → (view x.shelf.value.journal.disk).images left → IsKept (scripts_of setup) j (holds j) read left
+  kept_from k [] nonces homes holds ns hs t each i j x read left is x_is read_is left_is = absurd (let no : ⊥ = cc read_is in no)
+  kept_from k (d ∷ disks) [] homes holds ns hs t each i j x read left is x_is read_is left_is = absurd (omega (arith, ns))
+  kept_from k (d ∷ disks) (n ∷ nonces) [] holds ns hs t each i j x read left is x_is read_is left_is = absurd (omega (arith, hs))
+  kept_from k (d ∷ disks) (n ∷ nonces) (h ∷ homes) holds ns hs t each zero j x read left is x_is read_is left_is =
+      let at = each 0 j d n h is refl refl refl in
+      let b = at.0 in
+      let first : Some b.opening ≡ Some x = ap (λ os. slice_get (os ++ openings_of homes) 0) (sym b.opening_is) ∙ x_is in
+      let same : b.opening ≡ x = same_Some b.opening x first in
+      let bytes : (view d).seen ≡ read = same_Some (view d).seen read read_is in
+      subst (λ r. IsKept (scripts_of setup) j (holds j) r left) bytes
+      (is_kept (scripts_of setup) j (view d) (view b.opening.shelf.value.journal.disk) (holds j) at.1 (b.shelf.keeps t) left
+      (subst (λ y. (view y.shelf.value.journal.disk).images left) (sym same) left_is))
+  kept_from k (d ∷ disks) (n ∷ nonces) (h ∷ homes) holds ns hs t each (suc i) j x read left is x_is read_is left_is =
+      let b = (each 0 k d n h (omega arith) refl refl refl).0 in
+      kept_from (k + 1) disks nonces homes holds (omega (arith, ns)) (omega (arith, hs)) t
+      (λ a c y z w at y_is z_is w_is. each (suc a) c y z w (omega (arith, at)) y_is z_is w_is) i j x read left (omega (arith, is))
+      (ap (λ os. slice_get (os ++ openings_of homes) (suc i)) (sym b.opening_is) ∙ x_is) read_is left_is
+
 -- each disk of a shelf that was opened is fit
 pub opened_fits : {D N : Type 0} (view : D → View) (tells : Bool) (told : Type 0) (nonce : N → ℕ → ℕ) (rules : ℕ → spec.Rules) (scripts : List Named) (k : ℕ) (images : List (List ℕ)) (sources : List N)
     (openings : List (Opening D N)) → AreOpened view tells told nonce rules scripts k images sources openings → told → first_unfit (unfit_left scripts) k images ≡ None
@@ -104,10 +130,10 @@ first_bad view scripts k (suc i) n (x ∷ disks) d why is fit here bad =
 
 -- a site was not begun, and why is told as the first shelf that is not opened
 pub refused_at : {D N : Type 0} (view : D → View) (tells : Bool) (setup : Setup) (told : Type 0) (disks : List D) (nonces : List N)
-    (f : SiteFault D N) (before after : ℕ) → (told → IsTrue tells) → IsNotBegun view tells setup disks nonces f
-    → ((k : ℕ) (e : D) → slice_get f.disks.items k ≡ Some e → 1 ≤ (view e).faults → Rose before after)
-    → IsRefused told (λ k. (k < length disks) × Rose before after) (scripts_of setup) (seen_on view disks) (unopened_by f.shelf f.fault)
-refused_at {D = D} view tells setup told disks nonces f before after knows not risen = by_fault f.fault refl
+    (f : SiteFault D N) (risen : ℕ → Type 0) → (told → IsTrue tells) → IsNotBegun view tells setup disks nonces f
+    → ((k : ℕ) (e : D) → slice_get f.disks.items k ≡ Some e → 1 ≤ (view e).faults → risen k)
+    → IsRefused told (λ k. (k < length disks) × risen k) (scripts_of setup) (seen_on view disks) (unopened_by f.shelf f.fault)
+refused_at {D = D} view tells setup told disks nonces f risen knows not rises = by_fault f.fault refl
   where
     scripts : List Named
     scripts = scripts_of setup
@@ -124,14 +150,44 @@ refused_at {D = D} view tells setup told disks nonces f before after knows not r
         (λ j m x low at x_is. let same : j ≡ m = omega (arith, at) in
         subst (λ n. (b : Book) × MakesBook scripts n (view x) b) same (not.disks_back.earlier (knows t) j x low x_is)) there.1 bad
 
-    by_fault : (e : BeginFault) → f.fault ≡ e → IsRefused told (λ k. (k < length disks) × Rose before after) scripts (seen_on view disks) (unopened_by f.shelf e)
+    by_fault : (e : BeginFault) → f.fault ≡ e → IsRefused told (λ k. (k < length disks) × risen k) scripts (seen_on view disks) (unopened_by f.shelf e)
     by_fault (fault.Damaged place) is = λ t.
         found t (damaged place) (ap unfit_making (subst (IsFaultOf scripts f.shelf (view there.0)) is (not.disks_back.why (knows t) there.0 there.1)))
     by_fault (fault.Other place) is = λ t.
         found t (other place) (ap unfit_making (subst (IsFaultOf scripts f.shelf (view there.0)) is (not.disks_back.why (knows t) there.0 there.1)))
     by_fault fault.DiskFault is =
-        let rose = not.disks_back.cause is there.0 back.0 there.1 back.1 in (not.disks_back.within, risen f.shelf back.0 back.1 (omega (arith, rose)))
+        let rose = not.disks_back.cause is there.0 back.0 there.1 back.1 in (not.disks_back.within, rises f.shelf back.0 back.1 (omega (arith, rose)))
     by_fault fault.Memory is = tt
+
+-- the disks before a shelf, of which books are made, are fit
+fit_front : {D : Type 0} (view : D → View) (scripts : List Named) (k i : ℕ) (disks : List D)
+    → ((j m : ℕ) (x : D) → j < i → m ≡ k + j → slice_get disks j ≡ Some x → (b : Book) × MakesBook scripts m (view x) b)
+    → first_unfit (unfit_left scripts) k (take i (seen_on view disks)) ≡ None
+fit_front view scripts k zero disks fit = refl
+fit_front view scripts k (suc i) [] fit = refl
+fit_front view scripts k (suc i) (x ∷ disks) fit =
+    let first = fit 0 k x (omega arith) (omega arith) refl in
+    let rest = fit_front view scripts (k + 1) i disks (λ j m y low at e. fit (suc j) m y (omega (arith, low)) (omega (arith, at)) e) in
+    ap (λ f. found_unfit k f (first_unfit (unfit_left scripts) (k + 1) (take i (seen_on view disks))))
+    (made_fits scripts k (book_in_bytes scripts k (view x).seen) first.0 first.1) ∙ rest
+
+-- a site was not begun, of which all disks had been taken
+pub refused_in_order : {D N : Type 0} (view : D → View) (tells : Bool) (setup : Setup) (disks : List D) (nonces : List N) (f : SiteFault D N)
+    (before after : RackView) (count : ℕ) → IsTrue tells → IsNotBegun view tells setup disks nonces f → length (seen_on view disks) ≡ count
+    → RefusesInOrder (scripts_of setup) before after count (seen_on view disks) (unopened_by f.shelf f.fault)
+refused_in_order view tells setup disks nonces f before after count t not many = by_fault f.fault
+  where
+    by_fault : (e : BeginFault) → RefusesInOrder (scripts_of setup) before after count (seen_on view disks) (unopened_by f.shelf e)
+    by_fault (fault.Damaged place) = many
+    by_fault (fault.Other place) = many
+    by_fault fault.DiskFault =
+        inr (
+          many,
+          fit_front view (scripts_of setup) 0 f.shelf disks
+              (λ j m x low at x_is. let same : j ≡ m = omega (arith, at) in
+              subst (λ n. (b : Book) × MakesBook (scripts_of setup) n (view x) b) same (not.disks_back.earlier t j x low x_is)),
+        )
+    by_fault fault.Memory = tt
 
 -- ---- handed back
 
@@ -156,17 +212,17 @@ kept_at view tells setup told disks nonces f before after knows not held given t
 module _ {D N : Type 0} (view : D → View) (tells : Bool) (told : Type 0) (nonce : N → ℕ → ℕ) (rules : ℕ → spec.Rules) (scripts : List Named) where
   -- a disk that stands for the book of a history, and what may be held of it
   stands_one : (k workers : ℕ) (holds : List ℕ → Type 0) (image : List ℕ) (source : N) (o : Opening D N) (d : D) (h : List KeptEntry) → IsTrue tells
-      → IsOpened view tells told nonce (rules k) scripts k image source o → IsEnded view tells nonce workers o d h → AreAmong holds (view d).images
+      → IsOpened view tells told nonce (rules k) scripts k image source o → IsEnded (IsTrue tells) workers (opened_of view tells nonce o) (view d) (entries_of h) → AreAmong holds (view d).images
       → StandsBehind view tells nonce scripts k holds o h
   stands_one k workers holds image source o d h t opened ended among = record {
     some =
-        let stands = ended.stands.stands t in
+        let stands = ended.ended.stands t in
         let there = subst (λ s. Stands s o.shelf.value.rules.number (view d) stands.0) opened.setup stands.1 in
         let here = subst (λ m. Stands scripts m (view d) stands.0) opened.number there in
         (stands.0, (here.0, (here.1.0, λ y y_is. here.1.1 y (among y y_is))));
     own = λ own.
         let b = book_then nonce o (entries_of h) in
-        let stands = (ended.stands.history own).stands t in
+        let stands = (ended.ended.history own).stands t in
         let there = subst (λ s. StandsOwn (rules_of s o.shelf.value.rules) s o.shelf.value.rules.number (view d) b) opened.setup stands in
         let here = subst (λ m. StandsOwn (rules_of scripts o.shelf.value.rules) scripts m (view d) b) opened.number there in
         holds_book (rules_of scripts o.shelf.value.rules) scripts (view d) k b holds here among;
@@ -175,7 +231,7 @@ module _ {D N : Type 0} (view : D → View) (tells : Bool) (told : Type 0) (nonc
   -- disks that stand for the books of histories, and what may be held of them
   pub stands_from : (k workers : ℕ) (holds : ℕ → List ℕ → Type 0) (images : List (List ℕ)) (sources : List N) (openings : List (Opening D N)) (disks : List D)
       (histories : List (List KeptEntry)) → IsTrue tells → AreOpened view tells told nonce rules scripts k images sources openings
-      → AreEnded view tells nonce workers openings disks histories
+      → AreEnded view (IsTrue tells) workers (opened_as view tells nonce openings) disks histories
       → ((i j : ℕ) (d : D) → j ≡ k + i → slice_get disks i ≡ Some d → AreAmong (holds j) (view d).images)
       → (i j : ℕ) (o : Opening D N) (h : List KeptEntry) → j ≡ k + i → slice_get openings i ≡ Some o → slice_get histories i ≡ Some h
       → StandsBehind view tells nonce scripts j (holds j) o h
@@ -198,3 +254,33 @@ module _ {D N : Type 0} (view : D → View) (tells : Bool) (told : Type 0) (nonc
   stands_from k workers holds (image ∷ images) (n ∷ sources) (x ∷ openings) (d ∷ disks) (e ∷ histories) t opened ended held (suc i) j o h is o_is h_is =
       stands_from (k + 1) workers holds images sources openings disks histories t opened.1 ended.1 (λ a b y at y_is. held (suc a) b y (omega (arith, at)) y_is) i j o h
       (omega (arith, is)) o_is h_is
+
+-- ---- untouched
+
+-- what the disk of each shelf may hold that was given back untouched, it might hold when it was opened
+pub untouched_at : {D N : Type 0} (view : D → View) (tells : Bool) (nonce : N → ℕ → ℕ) (told : Type 0) (openings : List (Opening D N)) (disks : List D) (k : ℕ) (d : D)
+    → AreUntouched view told (opened_as view tells nonce openings) disks → slice_get disks k ≡ Some d
+    → (o : Opening D N) × (slice_get openings k ≡ Some o) × AreAmong (view d).images (view o.shelf.value.journal.disk).images
+untouched_at view tells nonce told [] [] k d all d_is = absurd (let no : ⊥ = cc d_is in no)
+untouched_at view tells nonce told [] (x ∷ disks) k d all d_is = absurd all
+untouched_at view tells nonce told (o ∷ openings) [] k d all d_is = absurd all
+untouched_at view tells nonce told (o ∷ openings) (x ∷ disks) zero d all d_is =
+    (o, refl, subst (λ y. AreAmong (view y).images (view o.shelf.value.journal.disk).images) (same_Some x d d_is) all.0.images)
+untouched_at view tells nonce told (o ∷ openings) (x ∷ disks) (suc k) d all d_is = untouched_at view tells nonce told openings disks k d all.1 d_is
+
+-- ---- the faults of disks
+
+-- the disks of shelves that were opened as own ones count each fault that the histories tell
+pub faults_sum : {D N : Type 0} (view : D → View) (tells : Bool) (nonce : N → ℕ → ℕ) (told : Type 0) (workers : ℕ) (openings : List (Opening D N)) (disks : List D)
+    (histories : List (List KeptEntry)) → AreOwn view tells openings → AreEnded view told workers (opened_as view tells nonce openings) disks histories
+    → min (faults_told histories) (2 ^ 64 - 1) ≤ sum_by (λ d. (view d).faults) disks
+faults_sum view tells nonce told workers [] [] [] own ended = omega arith
+faults_sum view tells nonce told workers [] [] (h ∷ histories) own ended = absurd ended
+faults_sum view tells nonce told workers [] (d ∷ disks) histories own ended = absurd ended
+faults_sum view tells nonce told workers (o ∷ openings) [] histories own ended = absurd ended
+faults_sum view tells nonce told workers (o ∷ openings) (d ∷ disks) [] own ended = absurd ended
+faults_sum view tells nonce told workers (o ∷ openings) (d ∷ disks) (h ∷ histories) own ended =
+    let one = ended.0.risen (own 0 o refl) in
+    let rest = faults_sum view tells nonce told workers openings disks histories (λ k x x_is. own (suc k) x x_is) ended.1 in
+    let sum = sum_by-cons (λ x. (view x).faults) d disks in
+    omega (arith, one, rest, sum)

@@ -1,7 +1,10 @@
--- What the command answers.
-use Rattle.std.specs.Prelude.{⊤, ◌≡◌, ◌⊎◌, ◌≤◌, ◌++◌, ◌∷◌, [], ℕ, List, length, map, nat_le, Option, Some, None, IfSome, IsTrue, Result, Ok, Err, codes, if◌then◌else◌}
+-- What the command answers. Read from `Ends` on, which says how a command ended: its status is one that `Explains` names, with what is
+-- written and left then, and it is the one that is due (`EndsAs`). Behind it stand what lawful inputs end with (`IsComplete`), the cause of
+-- each status (`HasCause`) and what holds whatever a command comes to (`IsTidy`). Before it, from the bottom up, stands what `Explains`
+-- says: `Leaves` of a check and of steps, `LeavesInput` of a serving, `LeavesLoad` of a measured run, by status. `Met` is what all this
+-- speaks of.
+use Rattle.std.specs.Prelude.{⊤, ◌≡◌, ◌⊎◌, ◌≤◌, ◌∷◌, [], ℕ, List, length, map, nat_le, Option, Some, None, IfSome, IsTrue, Result, Ok, Err, codes, if◌then◌else◌}
 use Rattle.std.specs.Borrow.{Bor}
-use Rattle.std.specs.Fmt.{decimal}
 use Rattle.std.specs.Io.KnownBytes.{IsAtEnd}
 use Rattle.clap.specs.Faults.{fault_of}
 use Rattle.clap.specs.Simple.{subcommand_of}
@@ -10,8 +13,8 @@ use Rattle.web_outside.specs.declared.source.InputFault.{InputFault}
 use Rattle.web_outside.specs.declared.source.InputFault.TheVariants as fault
 use Rattle.web_outside.specs.Causes.{Rose}
 use Rattle.web_outside.specs.Limits.{most_of_input}
-use Rattle.web_outside.specs.Pieces.{ReadsPast, ReadsUpTo, ConsumesSome}
-use Rattle.web_outside.specs.View.{SourceView}
+use Rattle.web_outside.specs.Pieces.{ConsumesSome, HandsAllOn, HandsOn, ReadsPast, ReadsUpTo}
+use Rattle.web_outside.specs.View.{DoorView, SeedsView, SinkView, SourceView}
 use Rattle.script_nodes.specs.Setup.{Named}
 use Rattle.command_words.specs.App.{app}
 use Rattle.command_words.specs.Plain.{IsPlain}
@@ -21,7 +24,7 @@ use Rattle.command_words.specs.declared.Options.{Options}
 use Rattle.command_words.specs.declared.LoadOptions.{LoadOptions}
 use Rattle.command_words.specs.declared.Service.{Service}
 use Rattle.command_words.specs.Reads.{asked_from}
-use Rattle.setup_reader.specs.declared.setup.Ending.TheVariants.{Steps}
+use Rattle.setup_reader.specs.declared.setup.Ending.TheVariants.{Input, Steps}
 use Rattle.setup_reader.specs.Setup.{Parsed, Fault, setup_of}
 use Rattle.setup_reader.specs.Faults.{fault_line}
 use Rattle.setup_reader.specs.Sections.{IsSetup}
@@ -29,14 +32,16 @@ use Rattle.replay_spec.specs.Step.{Fate, Reply}
 use Rattle.play_steps.specs.Step.{Step, steps_of, lines_of, AreSteps}
 use Rattle.server_command.specs.declared.program.Status.{Status}
 use Rattle.server_command.specs.declared.program.Status.TheVariants as status
-use Rattle.server_command.specs.declared.program.Job.{Job}
-use Rattle.server_command.specs.declared.program.Job.TheVariants as job
-use Rattle.server_command.specs.Racks.{Racks, AreTaken, AtRest, Unfit, first_unfit, unfit_new, unfit_left}
-use Rattle.server_command.specs.Serving.{Serves, Faults, HaveRisen, RackFailed, LeavesInput}
+use Rattle.server_command.specs.declared.jobs.Job.{Job}
+use Rattle.server_command.specs.declared.jobs.Job.TheVariants as job
+use Rattle.server_command.specs.Racks.{Racks, AreTaken, AtRest, ShelfFailed, Unfit, first_unfit, unfit_new, unfit_left}
+use Rattle.server_command.specs.Serving.{Serves, Faults, HaveRisen, RackFailed, LeavesInput, faults_of, outside, serves_over}
+use Rattle.server_command.specs.Order.{Asks, AsksInOrder, Both, asks_of}
+use Rattle.site_serving.specs.Serving.{Pasts, Views}
 use Rattle.play_desk.specs.Ledger.{print_of}
 use Rattle.play_desk.specs.Laws.{IsRunOfEvents}
-use Rattle.play_desk.specs.Opening.{HoldTheBooks}
-use Rattle.server_command.specs.Output.{memory_line, step_line, Chances, Output, output_of, told_scripts, desk_for, loaded, run_of, Sinks, PrintsTo, Answers, BreaksOff, ending_of}
+use Rattle.play_desk.specs.Opening.{AreHome, HoldTheBooks}
+use Rattle.server_command.specs.Output.{memory_line, sinks_of, step_line, Chances, Output, output_of, told_scripts, desk_for, loaded, run_of, Sinks, PrintsTo, Answers, BreaksOff, ending_of}
 use Rattle.server_command.specs.Remains.{HaveFailed, Loses, Pauses, RemainsShut, RemainsUnwritten}
 use Rattle.server_command.specs.Loading.{LeavesLoad, LoadsEvents}
 
@@ -98,6 +103,44 @@ met_of words old new output rack door seeds = record {
   door = door;
   seeds = seeds;
 }
+
+-- all that contracts see of what a command met, before it and after it
+pub record Around (D P L N : Type 0) : Type 1 where
+  pub words : List (List ℕ)
+  pub views : Views D P L N
+  pub input : Both SourceView
+  pub output : Both SinkView
+  pub rack : Racks
+  pub door : Both (DoorView P L)
+  pub seeds : Both (SeedsView N)
+  pub past : Pasts
+
+abbrev pub around : {D P L N : Type 0} → (words : List (List ℕ)) → Views D P L N → (input : Both SourceView) → (output : Both SinkView) → Racks
+    → (door : Both (DoorView P L)) → (seeds : Both (SeedsView N)) → Pasts → Around D P L N
+around words views input output rack door seeds past = record {
+  words = words;
+  views = views;
+  input = input;
+  output = output;
+  rack = rack;
+  door = door;
+  seeds = seeds;
+  past = past;
+}
+
+-- what a command met, without what a serving sees of the door, of the seeds and of the past
+abbrev pub met_in : {D P L N : Type 0} → Around D P L N → Met
+met_in a =
+    met_of a.words a.input.before a.input.after (sinks_of a.output.before a.output.after) a.rack
+    (faults_of a.door.before.faults a.door.after.faults) (faults_of a.seeds.before.faults a.seeds.after.faults)
+
+-- what a serving may come to
+abbrev pub serves_in : {D P L N : Type 0} → Around D P L N → Serves
+serves_in a = serves_over (outside a.views a.rack a.door.before a.door.after a.seeds.before a.past)
+
+-- what was asked of the seeds, of the door and of the past
+abbrev pub asks_in : {D P L N : Type 0} → Around D P L N → Asks
+asks_in a = asks_of a.door a.seeds a.past
 
 -- the output grew by this line, or by a part of it where the output failed
 abbrev pub Prints : Met → List ℕ → Type 0
@@ -187,9 +230,10 @@ Leaves rack asked bytes status.Line chances out =
 Leaves rack asked bytes status.Write chances out =
     Rose out.before out.after × Known rack asked bytes (BreaksOff (output_of asked bytes chances) out
     × RemainsUnwritten rack asked (setup_of (ending_of asked) bytes) chances out.held out.holds)
-Leaves rack asked bytes status.Disk chances out = RackFailed rack × Known rack asked bytes (Loses rack asked bytes chances out)
+Leaves rack asked bytes status.Disk chances out =
+    (shelf : ℕ) × ShelfFailed rack shelf × Known rack asked bytes (Loses rack asked bytes chances shelf out)
 Leaves rack asked bytes status.Journal chances out =
-    Known rack asked bytes (Gives rack asked bytes chances 8 out × RemainsShut rack asked (setup_of (ending_of asked) bytes))
+    Known rack asked bytes (Gives rack asked bytes chances 8 out × RemainsShut rack asked (setup_of (ending_of asked) bytes) chances)
 Leaves rack asked bytes status.Memory chances out = Known rack asked bytes (Pauses rack asked bytes chances memory_line out)
 Leaves rack asked bytes _ chances out = ⊥
 
@@ -303,31 +347,97 @@ pub record PlaysEvents (o : Options) (setup : Parsed) (fates : List Fate) (outpu
   pub text : output.text ≡ print_of (desk_for o setup.scripts) 1 (steps_of setup.steps) fates replies
   pub run : IsRunOfEvents (desk_for o setup.scripts) 1 (steps_of setup.steps) fates replies
 
--- How the command ended, by what its disks held and the fates of its visits: why; that the output which is due to steps, or to a
--- measured run, is that of a run of events, where each shelf begins on an empty disk; and that the status is due but for faults of
--- the outside and want of memory.
-pub record Ends (serves : Serves) (result : ℕ) (met : Met) : Type 0 where
+-- How the command ended, by what its disks held and the fates of its visits: why; in which order the outside was asked; that the output
+-- which is due to steps, or to a measured run, is that of a run of events, where each shelf begins on an empty disk; and that the status
+-- is due but for faults of the outside and want of memory.
+pub record Ends {D P L N : Type 0} (result : ℕ) (a : Around D P L N) : Type 0 where
   pub chances : Chances
   pub status : Status
   pub code : result ≡ code_of status
-  pub explained : Explains serves status chances met
-  pub events : (o : Options) (bytes : List ℕ) (setup : Parsed) → asked_in met.words ≡ Some (Play o) → met.input ≡ Some bytes
+  pub explained : Explains (serves_in a) status chances (met_in a)
+  pub order : AsksInOrder (asks_in a) a.rack (asked_in a.words) status
+  pub events : (o : Options) (bytes : List ℕ) (setup : Parsed) → asked_in a.words ≡ Some (Play o) → a.input.before.left ≡ Some bytes
       → setup_of Steps bytes ≡ Ok setup → first_unfit unfit_new 0 chances.disks ≡ None
       → PlaysEvents o setup chances.fates (output_of (Play o) bytes chances)
-  pub load_events : (l : LoadOptions) → asked_in met.words ≡ Some (Load l) → LoadsEvents l chances.fates
-  pub exact : IfSome met.input (λ bytes. ReadsInput (asked_in met.words) → Settles met.rack (reached_by (asked_in met.words) bytes)
-      → EndsAs result met bytes chances)
-  pub exact_load : (l : LoadOptions) → asked_in met.words ≡ Some (Load l) → IsTrue met.rack.tells → EndsAsLoad result met l chances
+  pub load_events : (l : LoadOptions) → asked_in a.words ≡ Some (Load l) → LoadsEvents l chances.fates
+  pub exact : IfSome a.input.before.left (λ bytes. ReadsInput (asked_in a.words) → Settles a.rack (reached_by (asked_in a.words) bytes)
+      → EndsAs result (met_in a) bytes chances)
+  pub exact_load : (l : LoadOptions) → asked_in a.words ≡ Some (Load l) → IsTrue a.rack.tells → EndsAsLoad result (met_in a) l chances
+
+-- the input spells a setup, and after it, where it is played, a line for each of some steps; and it is not too long
+pub record IsLawful (asked : Command) (bytes : List ℕ) : Type 0 where
+  pub setup : Parsed
+  pub spelled : IsSetup (ending_of asked) bytes setup
+  pub steps : List Step
+  pub are : AreSteps steps
+  pub lines : setup.steps ≡ lines_of steps
+  pub short : length bytes ≤ most_of_input
+
+-- each disk that may be taken holds what its shelf is opened on: nothing, where steps are played
+abbrev pub AreFit : (ℕ → List ℕ → Option Unfit) → (ℕ → List ℕ → Type 0) → Type 0
+AreFit unfit holds = (shelf : ℕ) (image : List ℕ) → holds shelf image → unfit shelf image ≡ None
+
+abbrev pub JournalsOpen : Command → List Named → Racks → Type 0
+JournalsOpen Check scripts rack = ⊤
+JournalsOpen (Play o) scripts rack = IsTrue rack.tells × AreFit unfit_new rack.before.holds
+JournalsOpen (Load l) scripts rack = IsTrue rack.tells × AreFit unfit_new rack.before.holds
+JournalsOpen (Serve s) scripts rack = IsTrue rack.tells × AreFit (unfit_left scripts) rack.before.holds
+
+-- neither the rack nor the door nor the seeds failed, where they are asked for
+abbrev pub GoesWell : Command → Met → Type 0
+GoesWell Check met = ⊤
+GoesWell (Play o) met = ¬ (RackFailed met.rack)
+GoesWell (Load l) met = ¬ (RackFailed met.rack)
+GoesWell (Serve s) met = ¬ (RackFailed met.rack) × ¬ (HaveRisen met.door) × ¬ (HaveRisen met.seeds)
+
+-- a command ended well, at a step that does not fit, or for want of memory
+abbrev pub EndsWell : Command → (result : ℕ) → Type 0
+EndsWell (Play o) result = (result ≡ 0) ⊎ ((result ≡ 4) ⊎ (result ≡ 10))
+EndsWell _ result = (result ≡ 0) ⊎ (result ≡ 10)
+
+-- plain words ask for the command that they spell
+abbrev pub AreUnderstood : List (List ℕ) → Type 0
+AreUnderstood words = (asked : Command) → IsPlain words asked → asked_in words ≡ Some asked
+
+-- Plain words over a lawful input end well, at a step that does not fit, or for want of memory, where nothing outside fails and the
+-- journals open; and so does a measured run that plain words ask for, whatever the input is.
+pub record IsComplete (result : ℕ) (met : Met) : Type 0 where
+  pub plain : AreUnderstood met.words
+  pub lawful : (asked : Command) (bytes : List ℕ) → IsPlain met.words asked → met.input ≡ Some bytes → (l : IsLawful asked bytes)
+      → JournalsOpen asked l.setup.scripts met.rack
+      → ¬ (Rose met.input_before met.input_after) → ¬ (Rose met.output.before met.output.after) → GoesWell asked met
+      → EndsWell asked result
+  pub load : (l : LoadOptions) → IsPlain met.words (Load l) → JournalsOpen (Load l) [] met.rack
+      → ¬ (Rose met.output.before met.output.after) → GoesWell (Load l) met → EndsWell (Load l) result
+
+-- A status that tells a fault of the outside comes only where a call of that failed, and 2 only of words that are no command.
+pub record HasCause (result : ℕ) (met : Met) : Type 0 where
+  pub usage : result ≡ 2 → asked_in met.words ≡ None
+  pub read : result ≡ 5 → Rose met.input_before met.input_after
+  pub write : result ≡ 6 → Rose met.output.before met.output.after
+  pub disk : result ≡ 7 → RackFailed met.rack
+  pub door : result ≡ 9 → HaveRisen met.door
+  pub key : result ≡ 14 → HaveRisen met.seeds
+
+-- Whatever a command came to: what was written was handed on, unless the output failed, and where it ended well in any case; each disk is
+-- home again; and no count of faults fell.
+pub record IsTidy {D P L N : Type 0} (result : ℕ) (a : Around D P L N) : Type 0 where
+  pub handed : HandsAllOn a.output.before a.output.after
+  pub done : result ≡ 0 → HandsOn a.output.after.written a.output.after.handed
+  pub home : AreHome a.rack.after.out
+  pub input : a.input.before.faults ≤ a.input.after.faults
+  pub output : a.output.before.faults ≤ a.output.after.faults
+  pub rack : a.rack.before.faults ≤ a.rack.after.faults
+  pub door : a.door.before.faults ≤ a.door.after.faults
+  pub seeds : a.seeds.before.faults ≤ a.seeds.after.faults
+
+-- ---- what the functions inside say
 
 -- telling a line of the steps leaves its error's line, or that of want of memory
 abbrev pub TellsLine : (number : ℕ) → Status → Sinks → Type 0
 TellsLine number status.Line out = PrintsTo out (step_line number)
 TellsLine number status.Memory out = PrintsTo out memory_line
 TellsLine number _ out = ⊥
-
--- plain words ask for the command that they spell
-abbrev pub AreUnderstood : List (List ℕ) → Type 0
-AreUnderstood words = (asked : Command) → IsPlain words asked → asked_in words ≡ Some asked
 
 -- what a command leaves over each input that reads so: as this setup or with this fault
 abbrev pub OutputsFor : Racks → Command → Result Parsed Fault → Status → Sinks → Type 0
@@ -368,48 +478,11 @@ CameServing serves s status met = (chances : Chances) × ComesServing serves s c
 abbrev pub Explained : Serves → Status → Met → Type 0
 Explained serves status met = (chances : Chances) × Explains serves status chances met
 
--- the input spells a setup, and after it, where it is played, a line for each of some steps; and it is not too long
-pub record IsLawful (asked : Command) (bytes : List ℕ) : Type 0 where
-  pub setup : Parsed
-  pub spelled : IsSetup (ending_of asked) bytes setup
-  pub steps : List Step
-  pub are : AreSteps steps
-  pub lines : setup.steps ≡ lines_of steps
-  pub short : length bytes ≤ most_of_input
+-- the bytes are a setup with these scripts
+abbrev pub IsSetupOf : (bytes : List ℕ) → List Named → Type 0
+IsSetupOf bytes scripts = (setup : Parsed) × (setup_of Input bytes ≡ Ok setup) × (setup.scripts ≡ scripts)
 
--- each disk that may be taken holds what its shelf is opened on: nothing, where steps are played
-abbrev pub AreFit : (ℕ → List ℕ → Option Unfit) → (ℕ → List ℕ → Type 0) → Type 0
-AreFit unfit holds = (shelf : ℕ) (image : List ℕ) → holds shelf image → unfit shelf image ≡ None
-
-abbrev pub JournalsOpen : Command → List Named → Racks → Type 0
-JournalsOpen Check scripts rack = ⊤
-JournalsOpen (Play o) scripts rack = IsTrue rack.tells × AreFit unfit_new rack.before.holds
-JournalsOpen (Load l) scripts rack = IsTrue rack.tells × AreFit unfit_new rack.before.holds
-JournalsOpen (Serve s) scripts rack = IsTrue rack.tells × AreFit (unfit_left scripts) rack.before.holds
-
--- neither the rack nor the door nor the seeds failed, where they are asked for
-abbrev pub GoesWell : Command → Met → Type 0
-GoesWell Check met = ⊤
-GoesWell (Play o) met = ¬ (RackFailed met.rack)
-GoesWell (Load l) met = ¬ (RackFailed met.rack)
-GoesWell (Serve s) met = ¬ (RackFailed met.rack) × ¬ (HaveRisen met.door) × ¬ (HaveRisen met.seeds)
-
--- a command ended well, at a step that does not fit, or for want of memory
-abbrev pub EndsWell : Command → (result : ℕ) → Type 0
-EndsWell (Play o) result = (result ≡ 0) ⊎ ((result ≡ 4) ⊎ (result ≡ 10))
-EndsWell _ result = (result ≡ 0) ⊎ (result ≡ 10)
-
--- Plain words over a lawful input end well, at a step that does not fit, or for want of memory, where nothing outside fails and the
--- journals open.
-abbrev pub IsComplete : (result : ℕ) → Met → Type 0
-IsComplete result met =
-    (asked : Command) (bytes : List ℕ) → IsPlain met.words asked → met.input ≡ Some bytes → (l : IsLawful asked bytes)
-    → JournalsOpen asked l.setup.scripts met.rack
-    → ¬ (Rose met.input_before met.input_after) → ¬ (Rose met.output.before met.output.after) → GoesWell asked met
-    → EndsWell asked result
-
--- A measured run that plain words ask for ends well, or for want of memory, whatever the input is.
-abbrev pub IsCompleteLoad : (result : ℕ) → Met → Type 0
-IsCompleteLoad result met =
-    (l : LoadOptions) → IsPlain met.words (Load l) → JournalsOpen (Load l) [] met.rack
-    → ¬ (Rose met.output.before met.output.after) → GoesWell (Load l) met → EndsWell (Load l) result
+-- the bytes are no setup, or there was no memory for it; and that was told
+abbrev pub TellsNoSetup : (bytes : List ℕ) → Sinks → Status → Type 0
+TellsNoSetup bytes out how =
+    ((e : Fault) × (setup_of Input bytes ≡ Err e) × TellsFaultLine e how out) ⊎ ((how ≡ status.Memory) × PrintsTo out memory_line)

@@ -3,6 +3,7 @@ pub mod Output
 pub mod Serving
 pub mod Opening
 pub mod Remains
+pub mod Order
 pub mod Command
 pub mod Telling
 pub mod Loading

@@ -1,12 +1,12 @@
 -- What a measured run leaves.
-use Rattle.std.specs.Prelude.{◌≡◌, ◌≤◌, ℕ, List, [], map, Some, IsTrue}
+use Rattle.std.specs.Prelude.{◌≡◌, ◌≤◌, ℕ, List, [], length, map, Some, IsTrue}
 use Rattle.web_outside.specs.Causes.{Rose}
 use Rattle.replay_spec.specs.Step.{Fate, Reply}
 use Rattle.play_steps.specs.Played.{Spot, spot}
 use Rattle.play_steps.specs.Transcript.{done}
 use Rattle.play_desk.specs.Desk.{Desk, desk_rules}
 use Rattle.play_desk.specs.Laws.{IsRunOfEvents}
-use Rattle.play_desk.specs.Opening.{HoldTheBooks}
+use Rattle.play_desk.specs.Opening.{HoldTheBooks, IsLeft}
 use Rattle.measured_run.specs.Generator.{source_of}
 use Rattle.measured_run.specs.Tallies.{summary_text}
 use Rattle.measured_run.specs.declared.measuring.Measure.{Measure}
@@ -16,8 +16,7 @@ use Rattle.measured_run.specs.Setups.{load_scripts}
 use Rattle.command_words.specs.declared.LoadOptions.{LoadOptions}
 use Rattle.server_command.specs.declared.program.Status.{Status}
 use Rattle.server_command.specs.declared.program.Status.TheVariants as status
-use Rattle.server_command.specs.Racks.{Racks, AreTaken, disk_line, unfit_new}
-use Rattle.server_command.specs.Serving.{RackFailed}
+use Rattle.server_command.specs.Racks.{Racks, AreTaken, ShelfFailed, disk_line, unfit_new}
 use Rattle.server_command.specs.Remains.{AreAllKept, AreLeft, HaveFailed, IsAny, IsThis}
 use Rattle.server_command.specs.Output.{memory_line, Answers, BreaksOff, Chances, Output, PrintsTo, Sinks, desk_for, loaded, run_loaded}
 
@@ -43,17 +42,19 @@ pub record HasLoaded (rack : Racks) (l : LoadOptions) (chances : Chances) : Type
   pub books : HoldTheBooks (run_loaded l chances.fates).state rack.after.holds
   pub counted : HaveFailed rack chances.fates 0
 
--- this shelf crashed at the step after some steps of a measured run, and was not opened again
-pub record IsLostBehind (l : LoadOptions) (chances : Chances) (shelf : ℕ) : Type 0 where
+-- this shelf crashed at the step after some steps of a measured run, which left this desk, and was not opened again
+pub record IsLostBehind (rack : Racks) (l : LoadOptions) (chances : Chances) (shelf : ℕ) (last : Desk) : Type 0 where
   pub faults : ℕ
   pub left : Spot desk_rules
-  pub lost : LosesShelf desk_rules most_steps (source_of l.number) shelf (spot desk_rules (desk_for l.options load_scripts) faults) left
+  pub lost : LosesShelf desk_rules (IsLeft rack.after) most_steps (source_of l.number) shelf
+      (spot desk_rules (desk_for l.options load_scripts) faults) left
   pub fates : lost.loads.fates ≡ chances.fates
+  pub state : lost.middle.state ≡ last
 
 -- this shelf was not opened: at first; or after it crashed at a step of a measured run
-pub data IsLost (l : LoadOptions) (chances : Chances) (shelf : ℕ) : Type 0 where
-  at_first : IsLost l chances shelf
-  at_crash : IsLostBehind l chances shelf → IsLost l chances shelf
+pub data IsLost (rack : Racks) (l : LoadOptions) (chances : Chances) (shelf : ℕ) : Type 0 where
+  at_first : IsLost rack l chances shelf
+  at_crash : (last : Desk) → IsLostBehind rack l chances shelf last → IsLost rack l chances shelf
 
 -- this is the desk after some first steps of a measured run, or after all
 pub record IsLoaded (l : LoadOptions) (fates : List Fate) (last : Desk) : Type 0 where
@@ -65,7 +66,7 @@ pub record IsLoaded (l : LoadOptions) (fates : List Fate) (last : Desk) : Type 0
 -- what remains where not all steps of a measured run were performed, where such a shelf is told and so many calls failed besides
 abbrev pub RemainsLoaded : Racks → LoadOptions → Chances → (ℕ → Type 0) → (more : ℕ) → Type 0
 RemainsLoaded rack l chances IsTold more =
-    AreLeft rack load_scripts [] IsTold (IsLoaded l chances.fates) (IsLostBehind l chances) × HaveFailed rack chances.fates more
+    AreLeft rack load_scripts [] IsTold (IsLoaded l chances.fates) (IsLostBehind rack l chances) × HaveFailed rack chances.fates more
 
 -- What a measured run leaves, by its status. Nothing is told before want of memory.
 abbrev pub LeavesLoad : Racks → LoadOptions → Status → Chances → Sinks → Type 0
@@ -73,9 +74,10 @@ LeavesLoad rack l status.Done chances out = IsTrue rack.tells → GivesLoad rack
 LeavesLoad rack l status.Write chances out =
     Rose out.before out.after × (IsTrue rack.tells → BreaksOff (loaded l chances) out × HasLoaded rack l chances)
 LeavesLoad rack l status.Disk chances out =
-    RackFailed rack × (IsTrue rack.tells → (shelf : ℕ) × IsLost l chances shelf × PrintsTo out (disk_line shelf)
-    × RemainsLoaded rack l chances (IsThis shelf) 1)
-LeavesLoad rack l status.Journal chances out = IsTrue rack.tells → GivesLoad rack l chances 8 out × AreAllKept rack load_scripts
+    (shelf : ℕ) × ShelfFailed rack shelf × PrintsTo out (disk_line shelf)
+    × (IsTrue rack.tells → IsLost rack l chances shelf × RemainsLoaded rack l chances (IsThis shelf) 1)
+LeavesLoad rack l status.Journal chances out =
+    IsTrue rack.tells → GivesLoad rack l chances 8 out × AreAllKept rack load_scripts (length chances.disks)
 LeavesLoad rack l status.Memory chances out = PrintsTo out memory_line × (IsTrue rack.tells → RemainsLoaded rack l chances IsAny 0)
 LeavesLoad rack l _ chances out = ⊥
 

@@ -1,6 +1,5 @@
 -- What opening the shelves of a server comes to.
-use Rattle.std.specs.Prelude.{⊤, ◌≡◌, ◌≤◌, ◌<◌, ◌+◌, ℕ, Bool, true, false, List, map, length, Some, slice_get}
-use Rattle.web_outside.specs.Causes.{Rose}
+use Rattle.std.specs.Prelude.{⊤, ◌≡◌, ◌≤◌, ◌<◌, ◌+◌, ℕ, Bool, true, false, List, map, length, sum_by, Some, slice_get}
 use Rattle.web_disk.specs.View.{View, RackView, AreAmong}
 use Rattle.script_nodes.specs.Setup.{Named}
 use Rattle.replay_spec.specs.Rules.{Rules}
@@ -14,8 +13,10 @@ use Rattle.command_words.specs.declared.Options.{Options}
 use Rattle.server_command.specs.declared.opening.Unopened.{Unopened}
 use Rattle.server_command.specs.declared.opening.Unopened.TheVariants as unopened
 use Rattle.server_command.specs.Output.{rules_for}
-use Rattle.play_desk.specs.Opening.{IsKept}
-use Rattle.server_command.specs.Racks.{AreHeld, KeepsHome, damaged, other, first_unfit, unfit_left}
+use Rattle.play_steps.specs.Rules.{StaysUp}
+use Rattle.play_steps.specs.Played.{RoseBy}
+use Rattle.play_desk.specs.Opening.{FailedFor, IsKept}
+use Rattle.server_command.specs.Racks.{AreHeld, FailsInOrder, KeepsHome, damaged, other, first_unfit, unfit_left}
 use Rattle.server_command.specs.Serving.{AreOpened}
 
 -- what reads of disks give
@@ -46,11 +47,12 @@ pub record AreAsked (o : Options) (r : Limits) : Type 0 where
 abbrev pub AreRulesFor : Options → (number : ℕ) → Limits → Type 0
 AreRulesFor o number r = (scripts : List Named) → rules_of scripts r ≡ rules_for o number scripts
 
--- the disks of so many numbers came home, and no disk went out; and the rack's count of faults did not fall
+-- the disks of so many numbers came home, and no disk went out; and no count of faults fell
 pub record TakesBack (before after : RackView) (first count : ℕ) : Type 0 where
   pub home : KeepsHome before after
   pub back : AreHome after first count
   pub later : before.faults ≤ after.faults
+  pub failed_later : StaysUp before.failed after.failed
 
 -- the disks of the numbers from this one on may hold nothing that they might not hold
 abbrev pub LeavesFrom : (first : ℕ) → (before after : RackView) → Type 0
@@ -64,6 +66,7 @@ pub record HasTaken (told : Type 0) (before after : RackView) (count : ℕ) (ima
   pub others : (k : ℕ) → count ≤ k → before.out k ≡ false → after.out k ≡ false
   pub rest : LeavesFrom count before after
   pub later : before.faults ≤ after.faults
+  pub failed_later : StaysUp before.failed after.failed
 
 -- each of these disks holds what the disk of its number might hold in the rack
 abbrev pub AreFrom : {D : Type 0} → (D → View) → RackView → List D → Type 0
@@ -76,9 +79,9 @@ unopened_by shelf (fault.Other place) = unopened.Other shelf place
 unopened_by shelf fault.DiskFault = unopened.Disk shelf
 unopened_by shelf fault.Memory = unopened.Memory
 
--- a call of the rack or of a disk failed, and this is one of so many shelves
+-- this is one of so many shelves, and a take of its disk failed, or a call of that disk
 abbrev pub FailsAt : (count : ℕ) → (before after : RackView) → (shelf : ℕ) → Type 0
-FailsAt count before after shelf = (shelf < count) × Rose before.faults after.faults
+FailsAt count before after shelf = (shelf < count) × FailedFor shelf before after
 
 -- why disks were not taken
 abbrev pub IsUntaken : (risen : ℕ → Type 0) → Unopened → Type 0
@@ -96,26 +99,37 @@ IsRefused told risen scripts images (unopened.Other shelf place) =
     told → first_unfit (unfit_left scripts) 0 images ≡ Some (shelf, other place)
 IsRefused told risen scripts images unopened.Memory = ⊤
 
+-- in which order disks were asked for until a shelf was not opened: all were taken before one was opened
+abbrev pub RefusesInOrder : List Named → (before after : RackView) → (count : ℕ) → (images : List (List ℕ)) → Unopened → Type 0
+RefusesInOrder scripts before after count images (unopened.Disk shelf) = FailsInOrder scripts before after count images shelf
+RefusesInOrder scripts before after count images unopened.Memory = ⊤
+RefusesInOrder scripts before after count images why = length images ≡ count
+
 -- each of these disks was given back to the place of its number: the rack holds what a crash may leave on it, where both tell
--- that; and a fault of one is a fault of the rack
+-- that; and a fault of one is a fault of the rack, counted for its number
 pub record AreGiven {D : Type 0} (view : D → View) (told : Type 0) (before after : RackView) (disks : List D) : Type 0 where
   pub held : told → AreOut before (length disks) → (k : ℕ) (d : D) → slice_get disks k ≡ Some d → AreAmong (after.holds k) (view d).images
   pub others : LeavesFrom (length disks) before after
-  pub faults : (k : ℕ) (d : D) → slice_get disks k ≡ Some d → 1 ≤ (view d).faults → Rose before.faults after.faults
+  pub faults : (k : ℕ) (d : D) → slice_get disks k ≡ Some d → 1 ≤ (view d).faults → FailedFor k before after
+  pub counts : RoseBy (sum_by (λ d. (view d).faults) disks) before.faults after.faults
 
--- the shelves were opened on the disks that were taken from a rack, under these rules and with these sources of nonces
+-- The shelves were opened on the disks that were taken from a rack, under these rules and with these sources of nonces. Nothing was lost
+-- on any of the disks.
 pub record OpensOn {D N : Type 0} (view : D → View) (tells : Bool) (told : Type 0) (nonce : N → ℕ → ℕ) (rules : ℕ → Rules)
     (scripts : List Named) (sources : List N) (before after : RackView) (openings : List (Opening D N)) : Type 0 where
   pub images : List (List ℕ)
   pub taken : HasTaken told before after (length sources) images
   pub opened : AreOpened view tells told nonce rules scripts 0 images sources openings
+  pub kept : told → (k : ℕ) (o : Opening D N) (read left : List ℕ) → slice_get openings k ≡ Some o → slice_get images k ≡ Some read
+      → (view o.shelf.value.journal.disk).images left → IsKept scripts k (before.holds k) read left
 
--- A shelf was not opened. Nothing was lost on any disk, but on the one of which a call failed; a disk of which nothing was read holds
+-- A shelf was not opened, in the order of the disks. Nothing was lost on any disk, but on the one of which a call failed; a disk of which nothing was read holds
 -- what it might hold.
 pub record RefusesOn (told : Type 0) (scripts : List Named) (count : ℕ) (before after : RackView) (why : Unopened) : Type 0 where
   pub images : List (List ℕ)
   pub held : told → AreHeld before.holds 0 images
   pub refused : IsRefused told (FailsAt count before after) scripts images why
+  pub in_order : told → RefusesInOrder scripts before after count images why
   pub kept : told → (k : ℕ) (read left : List ℕ) → slice_get images k ≡ Some read → after.holds k left → (why ≡ unopened.Disk k → ⊥)
       → IsKept scripts k (before.holds k) read left
   pub unread : told → LeavesFrom (length images) before after

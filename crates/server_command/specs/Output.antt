@@ -1,9 +1,9 @@
 -- What the program writes for its input, and how it may end.
-use Rattle.std.specs.Prelude.{⊤, ◌≡◌, ◌⊎◌, ℕ, List, [], ◌∷◌, ◌++◌, length, Option, Some, None, Result, Ok, Err, codes}
+use Rattle.std.specs.Prelude.{⊤, ◌≡◌, ◌≤◌, ◌⊎◌, ℕ, List, [], ◌∷◌, ◌++◌, length, Option, Some, None, Result, Ok, Err, codes}
 use Rattle.std.specs.Fmt.{decimal}
 use Rattle.std.specs.Io.KnownBytes.{Appends}
 use Rattle.web_outside.specs.Causes.{Rose}
-use Rattle.web_outside.specs.Pieces.{HandsOn, IsCutShort, AppendsUnlessFault}
+use Rattle.web_outside.specs.Pieces.{HandsAllOn, HandsOn, IsCutShort, AppendsUnlessFault}
 use Rattle.web_outside.specs.View.{SinkView}
 use Rattle.script_nodes.specs.Setup.{Named}
 use Rattle.replay_spec.specs.Rules.{Rules}
@@ -142,6 +142,13 @@ sinks_of old new = sinks old.written new.written old.faults new.faults
 -- where all was done, all that was written was handed on
 abbrev pub HandsOnIfDone : Status → SinkView → Type 0
 HandsOnIfDone s sink = s ≡ status.Done → HandsOn sink.written sink.handed
+
+-- However a command ends, what it wrote was handed on, unless the output failed, and where all was done in any case; and the output's
+-- count of faults did not fall.
+pub record Hands (how : Status) (old new : SinkView) : Type 0 where
+  pub on : HandsAllOn old new
+  pub done : HandsOnIfDone how new
+  pub later : old.faults ≤ new.faults
 
 -- the sink grew by this line, or by a part of it where the output failed
 abbrev pub PrintsTo : Sinks → List ℕ → Type 0

@@ -1,5 +1,5 @@
 -- What the disks of a rack are to the shelves that stand on them.
-use Rattle.std.specs.Prelude.{⊤, ◌≡◌, ℕ, ◌+◌, ◌++◌, ◌∷◌, List, [], length, Bool, false, Option, Some, None, slice_get, codes}
+use Rattle.std.specs.Prelude.{⊤, ◌≡◌, ◌≤◌, ◌⊎◌, ℕ, ◌+◌, ◌++◌, ◌∷◌, List, [], length, Bool, false, Option, Some, None, slice_get, take, codes}
 use Rattle.std.specs.Fmt.{decimal}
 use Rattle.web_disk.specs.View.{RackView, AreAmong}
 use Rattle.script_nodes.specs.Setup.{Named}
@@ -7,7 +7,7 @@ use Rattle.replay_spec.specs.Book.{Book}
 use Rattle.journal_spec.specs.Making as making
 use Rattle.journal_spec.specs.Making.{Making, book_in_bytes}
 use Rattle.journal_spec.specs.Standing.{Between, HoldIn, if_kept}
-use Rattle.play_desk.specs.Opening.{IsKept}
+use Rattle.play_desk.specs.Opening.{AreHome, FailedFor, IsKept}
 
 -- a rack and its disks: whether they tell their bytes, and what contracts see of the rack before and after
 pub record Racks : Type 1 where
@@ -18,11 +18,21 @@ pub record Racks : Type 1 where
 abbrev pub racks_of : (tells : Bool) → (before after : RackView) → Racks
 racks_of tells before after = record { tells = tells; before = before; after = after }
 
+-- a take of the disk of this shelf failed, or a call of that disk
+abbrev pub ShelfFailed : Racks → (shelf : ℕ) → Type 0
+ShelfFailed rack shelf = FailedFor shelf rack.before rack.after
+
 -- nothing was asked of the rack
 pub record AtRest (rack : Racks) : Type 0 where
   pub faults : rack.after.faults ≡ rack.before.faults
   pub out : (number : ℕ) → rack.after.out number ≡ rack.before.out number
   pub holds : (number : ℕ) → AreAmong (rack.after.holds number) (rack.before.holds number)
+  pub failed : (number : ℕ) → rack.after.failed number ≡ rack.before.failed number
+
+-- each disk is home, and the rack's count of faults did not fall
+pub record AreBack (old new : RackView) : Type 0 where
+  pub home : AreHome new.out
+  pub later : old.faults ≤ new.faults
 
 -- each disk that is home stays so, or comes back
 abbrev pub KeepsHome : (before after : RackView) → Type 0
@@ -77,6 +87,13 @@ StandsForSome scripts shelf images = (b : Book) × ((n : ℕ) × ((t : Between s
 abbrev pub AreKept : List Named → (before after : RackView) → (images : List (List ℕ)) → Type 0
 AreKept scripts before after images =
     (k : ℕ) (read left : List ℕ) → slice_get images k ≡ Some read → after.holds k left → IsKept scripts k (before.holds k) read left
+
+-- The disk of this shelf failed when it was taken, and nothing was written on any disk; or all disks had been taken, and the shelves
+-- before this one were opened.
+abbrev pub FailsInOrder : List Named → (before after : RackView) → (count : ℕ) → (images : List (List ℕ)) → (shelf : ℕ) → Type 0
+FailsInOrder scripts before after count images shelf =
+    ((number : ℕ) → AreAmong (after.holds number) (before.holds number))
+    ⊎ ((length images ≡ count) × (first_unfit (unfit_left scripts) 0 (take shelf images) ≡ None))
 
 -- ---- the lines
 

@@ -1,7 +1,8 @@
 -- What remains on disks after steps that were performed, and how often calls of these failed.
-use Rattle.std.specs.Prelude.{⊤, ◌≡◌, ◌<◌, ℕ, ◌+◌, List, [], ◌++◌, count_by, Option, Result, Ok}
+use Rattle.std.specs.Prelude.{⊤, ◌≡◌, ◌≤◌, ◌<◌, ℕ, ◌+◌, List, [], ◌++◌, length, count_by, Option, Result, Ok}
 use Rattle.std.specs.Io.KnownBytes.{Appends}
 use mathlib.Core.List.{IsPrefix}
+use Rattle.web_disk.specs.View.{AreAmong}
 use Rattle.script_nodes.specs.Setup.{Named}
 use Rattle.replay_spec.specs.Step.{Fate}
 use Rattle.setup_reader.specs.Setup.{Parsed, Fault, setup_of}
@@ -9,39 +10,41 @@ use Rattle.play_steps.specs.Step.{Step, crash, steps_of}
 use Rattle.play_steps.specs.Played.{RoseBy}
 use Rattle.play_steps.specs.Transcript.{text_of}
 use Rattle.play_desk.specs.Desk.{Desk, is_fault}
-use Rattle.play_desk.specs.Opening.{AllKept, AllStayKept, HoldTheBooks}
+use Rattle.play_desk.specs.Opening.{AllKept, AllStayKept, HoldTheBooks, IsLeft}
 use Rattle.play_desk.specs.declared.opening.OpenCause.{OpenCause}
 use Rattle.play_desk.specs.declared.opening.OpenCause.TheVariants as cause
 use Rattle.command_words.specs.declared.Command.{Command}
 use Rattle.command_words.specs.declared.Command.TheVariants.{Check, Play}
 use Rattle.command_words.specs.declared.Options.{Options}
-use Rattle.server_command.specs.Racks.{Racks, AtRest, disk_line}
-use Rattle.server_command.specs.Serving.{RackFailed}
+use Rattle.server_command.specs.Racks.{Racks, AtRest, ShelfFailed, disk_line}
 use Rattle.server_command.specs.Output.{Before, BeforeOpening, Chances, Replied, Sinks, Tells, ending_of, run_of}
 
 -- The rack's count rose by one at least for each of these fates that is a fault of a disk, and by so many more.
 abbrev pub HaveFailed : Racks → List Fate → (more : ℕ) → Type 0
 HaveFailed rack fates more = RoseBy (count_by is_fault fates + more) rack.before.faults rack.after.faults
 
--- nothing was lost on any disk
-abbrev pub AreAllKept : Racks → List Named → Type 0
-AreAllKept rack scripts = (n : ℕ) → AllKept scripts n (rack.before.holds n) [] (rack.after.holds n)
+-- nothing was lost on any disk, and nothing was written on those behind so many that were taken
+pub record AreAllKept (rack : Racks) (scripts : List Named) (taken : ℕ) : Type 0 where
+  pub kept : (n : ℕ) → AllKept scripts n (rack.before.holds n) [] (rack.after.holds n)
+  pub behind : (n : ℕ) → taken ≤ n → AreAmong (rack.after.holds n) (rack.before.holds n)
 
 -- a shelf was not opened at first, for this, and no step was performed: the disks before its own may hold nothing, and nothing was lost
 -- on any, but on the one of which a call failed
 pub record IsUnopened (rack : Racks) (scripts : List Named) (shelf : ℕ) (why : OpenCause) : Type 0 where
   pub before : (k : ℕ) → k < shelf → rack.before.holds k []
-  pub failed : why ≡ cause.Disk → RackFailed rack
+  pub failed : why ≡ cause.Disk → ShelfFailed rack shelf
   pub kept : AllStayKept scripts rack.before.holds rack.after.holds shelf why
 
 -- What is left on the disks, by which shelf is told: that one was not opened at first; or each disk stands for the book of its shelf,
--- as the last of some steps left it; or that one crashed, and was not opened again.
-pub data AreLeft (rack : Racks) (scripts : List Named) (text : List ℕ) (IsTold : ℕ → Type 0) (IsLast : Desk → Type 0) (IsLost : ℕ → Type 0)
-    : Type 0 where
+-- as the last of some steps left it; or that one crashed, and was not opened again: each disk stands for the book that its shelf had
+-- before that crash.
+pub data AreLeft (rack : Racks) (scripts : List Named) (text : List ℕ) (IsTold : ℕ → Type 0) (IsLast : Desk → Type 0)
+    (IsLost : ℕ → Desk → Type 0) : Type 0 where
   unopened : (shelf : ℕ) (why : OpenCause) → IsTold shelf → text ≡ [] → IsUnopened rack scripts shelf why
       → AreLeft rack scripts text IsTold IsLast IsLost
   performed : (last : Desk) → IsLast last → HoldTheBooks last rack.after.holds → AreLeft rack scripts text IsTold IsLast IsLost
-  lost : (shelf : ℕ) → IsTold shelf → IsLost shelf → AreLeft rack scripts text IsTold IsLast IsLost
+  lost : (shelf : ℕ) (last : Desk) → IsTold shelf → IsLost shelf last → IsLeft rack.after last shelf
+      → AreLeft rack scripts text IsTold IsLast IsLost
 
 -- any shelf may be meant, where none is told
 abbrev pub IsAny : (shelf : ℕ) → Type 0
@@ -59,9 +62,10 @@ pub record IsBehind (o : Options) (setup : Parsed) (fates : List Fate) (text : L
   pub printed : IsPrefix text (text_of (run_of o setup.scripts front fates))
   pub state : (run_of o setup.scripts front fates).state ≡ last
 
--- this shelf crashed after steps of which this is printed, and was not opened again
-abbrev pub IsLostBehind : Options → Parsed → List Fate → (text : List ℕ) → (shelf : ℕ) → Type 0
-IsLostBehind o setup fates text shelf = Replied o setup fates (λ step. step ≡ crash shelf) text
+-- this shelf crashed after steps of which this is printed, which left this desk, and was not opened again
+abbrev pub IsLostBehind : Options → Parsed → List Fate → (text : List ℕ) → (shelf : ℕ) → Desk → Type 0
+IsLostBehind o setup fates text shelf last =
+    (replied : Replied o setup fates (λ step. step ≡ crash shelf) text) × ((run_of o setup.scripts replied.front fates).state ≡ last)
 
 -- what remains on the disks where the steps of a setup were told up to this text, and such a shelf, and so many calls failed besides; a
 -- check takes no disks
@@ -80,10 +84,10 @@ RemainsUnwritten rack (Play o) (Ok setup) chances old new =
 RemainsUnwritten rack Check setup chances old new = AtRest rack
 RemainsUnwritten rack asked setup chances old new = ⊤
 
--- what remains where a disk is not empty: nothing was lost on any disk
-abbrev pub RemainsShut : Racks → Command → Result Parsed Fault → Type 0
-RemainsShut rack (Play o) (Ok setup) = AreAllKept rack setup.scripts
-RemainsShut rack asked setup = ⊤
+-- what remains where a disk is not empty: nothing was lost on any disk, and those behind it were not taken
+abbrev pub RemainsShut : Racks → Command → Result Parsed Fault → Chances → Type 0
+RemainsShut rack (Play o) (Ok setup) chances = AreAllKept rack setup.scripts (length chances.disks)
+RemainsShut rack asked setup chances = ⊤
 
 -- the sink grew by what stands before want of memory, and then by the line
 abbrev pub Pauses : Racks → Command → (input : List ℕ) → Chances → (line : List ℕ) → Sinks → Type 0
@@ -91,8 +95,8 @@ Pauses rack asked input chances line out =
     (text : List ℕ) × Before asked input chances text × Tells text line out
     × Remains rack asked (setup_of (ending_of asked) input) chances text IsAny 0
 
--- the sink grew by what stands before a shelf is not opened, and then by the line that its disk failed
-abbrev pub Loses : Racks → Command → (input : List ℕ) → Chances → Sinks → Type 0
-Loses rack asked input chances out =
-    (shelf : ℕ) × (text : List ℕ) × BeforeOpening asked input chances shelf text × Tells text (disk_line shelf) out
+-- the sink grew by what stands before this shelf is not opened, and then by the line that its disk failed
+abbrev pub Loses : Racks → Command → (input : List ℕ) → Chances → (shelf : ℕ) → Sinks → Type 0
+Loses rack asked input chances shelf out =
+    (text : List ℕ) × BeforeOpening asked input chances shelf text × Tells text (disk_line shelf) out
     × Remains rack asked (setup_of (ending_of asked) input) chances text (IsThis shelf) 1

@@ -4,6 +4,7 @@ use Rattle.std.specs.Fmt.{decimal}
 use Rattle.web_outside.specs.Causes.{Rose}
 use Rattle.web_outside.specs.View.{DoorView, SeedsView}
 use Rattle.web_disk.specs.View.{View}
+use Rattle.play_steps.specs.Played.{RoseBy}
 use Rattle.play_desk.specs.Opening.{HoldsTheBook, IsKept}
 use Rattle.script_nodes.specs.Setup.{Named}
 use Rattle.command_words.specs.declared.Service.{Service}
@@ -29,7 +30,8 @@ use Rattle.site_serving.specs.declared.serving.Watch.{Watch}
 use Rattle.site_serving.specs.declared.serving.ServingFault.{ServingFault}
 use Rattle.site_serving.specs.declared.serving.ServingFault.TheVariants as faults
 use Rattle.site_serving.specs.Kept.{Kept}
-use Rattle.site_serving.specs.Serving.{IsUnserved, Leaves, Pasts, Views}
+use Rattle.site_serving.specs.Pages.{faults_told}
+use Rattle.site_serving.specs.Serving.{IsUnserved, Leaves, Pasts, Views, opened_as}
 use Rattle.server_command.specs.declared.program.Status.{Status}
 use Rattle.server_command.specs.declared.program.Status.TheVariants as status
 use Rattle.server_command.specs.declared.opening.Unopened.{Unopened}
@@ -37,7 +39,7 @@ use Rattle.server_command.specs.declared.opening.Unopened.TheVariants as unopene
 use Rattle.server_command.specs.declared.serving.ServeFault.{ServeFault}
 use Rattle.server_command.specs.declared.serving.ServeFault.TheVariants as fault
 use Rattle.server_command.specs.Output.{memory_line, Chances, Output, Sinks, PrintsTo, Answers, BreaksOff, rules_for, served}
-use Rattle.server_command.specs.Racks.{Racks, AreKept, AreTaken, AtRest, StandsForSome, Unfit, damaged, other, disk_line, first_unfit, unfit_left, unfit_line}
+use Rattle.server_command.specs.Racks.{Racks, AreHeld, AreKept, FailsInOrder, AreTaken, AtRest, ShelfFailed, StandsForSome, Unfit, damaged, other, disk_line, first_unfit, unfit_left, unfit_line}
 
 -- ---- what is told
 
@@ -100,6 +102,10 @@ module _ {D N : Type 0} (view : D → View) (tells : Bool) where
       IsOpened view tells told nonce (rules k) scripts k image source o × AreOpened told nonce rules scripts (k + 1) images sources openings
   AreOpened told nonce rules scripts k images sources openings = ⊥
 
+  -- each of these shelves was opened as an own one
+  abbrev pub AreOwn : List (Opening D N) → Type 0
+  AreOwn openings = (k : ℕ) (o : Opening D N) → slice_get openings k ≡ Some o → IsOwnOpening view tells o
+
   -- What the disk of a shelf may hold makes some book. Of a shelf that was opened as an own one it is the book of its history.
   pub record StandsBehind (nonce : N → ℕ → ℕ) (scripts : List Named) (shelf : ℕ) (images : List ℕ → Type 0) (o : Opening D N) (h : List KeptEntry)
       : Type 0 where
@@ -113,9 +119,14 @@ module _ {D N : Type 0} (view : D → View) (tells : Bool) where
       (k : ℕ) (o : Opening D N) (h : List KeptEntry) → slice_get openings k ≡ Some o → slice_get histories k ≡ Some h
       → StandsBehind nonce scripts k (holds k) o h
 
+-- the rack's count rose by so many, at least
+abbrev pub HaveRisenBy : ℕ → Racks → Type 0
+HaveRisenBy count rack = RoseBy count rack.before.faults rack.after.faults
+
 -- Links were served from shelves that were opened on disks which held this, with nonces of the sources that the seeds gave, and this
 -- was kept of it: a history of each shelf, and what each worker counted. Where the shelf was opened as an own one, the history is
--- legal, and ends with the book that its disk stands for.
+-- legal, and ends with the book that its disk stands for. Where all were, the rack's count rose by one at least for each fault of a
+-- disk that the histories tell.
 pub record Served {D P L N : Type 0} (o : Outside D P L N) (s : Service) (scripts : List Named) (images : List (List ℕ)) (end : WorkEnd)
     (kept : Kept) : Type 0 where
   pub sources : List N
@@ -125,7 +136,8 @@ pub record Served {D P L N : Type 0} (o : Outside D P L N) (s : Service) (script
   pub drawn : AreDrawn o.seeds s.options.shelves sources
   pub opened : AreOpened o.views.disk o.views.told (IsTrue o.rack.tells) o.views.nonce (λ k. rules_for s.options k scripts) scripts 0
       images sources openings
-  pub leaves : Leaves o.views openings o.before o.after o.past (watch_of s) disks end kept
+  pub leaves : Leaves o.views (opened_as o.views.disk o.views.told o.views.nonce openings) o.before o.after o.past (watch_of s) disks end kept
+  pub counted : AreOwn o.views.disk o.views.told openings → HaveRisenBy (faults_told kept.histories) o.rack
   pub stands : IsTrue o.rack.tells → AllStand o.views.disk o.views.told o.views.nonce scripts o.rack.after.holds openings kept.histories
 
 -- serving links from the shelves of a setup ended so, and this was counted
@@ -156,11 +168,23 @@ abbrev pub Opens : Racks → Service → List Named → List (List ℕ) → Type
 Opens rack s scripts images =
     IsTrue rack.tells → AreTaken (unfit_left scripts) rack.before.holds s.options.shelves images × (first_unfit (unfit_left scripts) 0 images ≡ None)
 
--- this shelf is the first that was not opened, for what its disk held; and nothing was lost on any disk
+-- Nothing was lost on any disk. Of those that were read, each held what was read; of the others each may hold nothing that it might not
+-- hold.
+pub record NoneIsLost (rack : Racks) (scripts : List Named) (images : List (List ℕ)) : Type 0 where
+  pub held : AreHeld rack.before.holds 0 images
+  pub read : AreKept scripts rack.before rack.after images
+  pub unread : (k : ℕ) (left : List ℕ) → length images ≤ k → rack.after.holds k left → rack.before.holds k left
+
+-- where the disks tell what they hold, nothing was lost on any
+abbrev pub KeepsAll : Racks → List Named → List (List ℕ) → Type 0
+KeepsAll rack scripts images = IsTrue rack.tells → NoneIsLost rack scripts images
+
+-- all disks were taken, and this shelf is the first that was not opened, for what its disk held; and nothing was lost on any disk
 abbrev pub Shuts : Racks → Service → List Named → List (List ℕ) → (shelf : ℕ) → Unfit → Type 0
 Shuts rack s scripts images shelf why =
     IsTrue rack.tells → AreTaken (unfit_left scripts) rack.before.holds s.options.shelves images
-    × (first_unfit (unfit_left scripts) 0 images ≡ Some (shelf, why)) × AreKept scripts rack.before rack.after images
+    × (first_unfit (unfit_left scripts) 0 images ≡ Some (shelf, why)) × NoneIsLost rack scripts images
+    × (length images ≡ s.options.shelves)
 
 -- ---- how it ended
 
@@ -185,15 +209,21 @@ pub record AreKeptBut (rack : Racks) (scripts : List Named) (images : List (List
       → IsKept scripts k (rack.before.holds k) read left
   pub unread : (k : ℕ) (left : List ℕ) → length images ≤ k → rack.after.holds k left → rack.before.holds k left
 
+-- nothing was lost on any disk, or on one alone, of which a call failed
+abbrev pub KeepsAllBut : Racks → List Named → List (List ℕ) → Type 0
+KeepsAllBut rack scripts images =
+    KeepsAll rack scripts images ⊎ ((shelf : ℕ) × ShelfFailed rack shelf × (IsTrue rack.tells → AreKeptBut rack scripts images shelf))
+
 -- why a shelf was not opened
 abbrev pub ShutsBy : Racks → Service → List Named → List (List ℕ) → Unopened → Type 0
 ShutsBy rack s scripts images (unopened.Disk shelf) =
-    (shelf < s.options.shelves) × RackFailed rack
+    (shelf < s.options.shelves) × ShelfFailed rack shelf
     × (IsTrue rack.tells → AreKeptBut rack scripts images shelf)
+    × (IsTrue rack.tells → FailsInOrder scripts rack.before rack.after s.options.shelves images shelf)
 ShutsBy rack s scripts images (unopened.NotEmpty shelf) = ⊥
 ShutsBy rack s scripts images (unopened.Damaged shelf place) = Shuts rack s scripts images shelf (damaged place)
 ShutsBy rack s scripts images (unopened.Other shelf place) = Shuts rack s scripts images shelf (other place)
-ShutsBy rack s scripts images unopened.Memory = ⊤
+ShutsBy rack s scripts images unopened.Memory = KeepsAll rack scripts images
 
 -- what was counted, or why nothing was, as the command tells it
 abbrev pub told_as : Result Tally ServingFault → Result Tally ServeFault
@@ -201,10 +231,11 @@ told_as (Ok tally) = Ok tally
 told_as (Err faults.Door) = Err fault.Door
 told_as (Err faults.Memory) = Err fault.Memory
 
--- the door failed after all shelves were opened: at once; or a porch at last, and until then links were served and counted
+-- the door failed after all shelves were opened: at once, and then nothing was lost on any disk; or a porch at last, and until then links
+-- were served and counted
 abbrev pub FailsAtDoor : Serves → Service → List Named → List (List ℕ) → Type 0
 FailsAtDoor serves s scripts images =
-    (serves.unopened × Opens serves.rack s scripts images)
+    (serves.unopened × Opens serves.rack s scripts images × KeepsAll serves.rack scripts images)
     ⊎ ((count : Count) × serves.fails s scripts images count × Opens serves.rack s scripts images)
 
 -- what was served, by how a serving ended
@@ -212,12 +243,13 @@ abbrev pub ServesBy : Serves → Service → List Named → List (List ℕ) → 
 ServesBy serves s scripts images (Ok tally) = serves.can s scripts images (count_of tally) × Opens serves.rack s scripts images
 ServesBy serves s scripts images (Err fault.Door) = FailsAtDoor serves s scripts images
 ServesBy serves s scripts images (Err (fault.Shelf why)) = serves.unopened × ShutsBy serves.rack s scripts images why
-ServesBy serves s scripts images (Err e) = serves.unopened
+ServesBy serves s scripts images (Err fault.Key) = serves.unopened × AtRest serves.rack
+ServesBy serves s scripts images (Err fault.Memory) = serves.unopened × KeepsAll serves.rack scripts images
 
--- links were served to their end, and counted so; or no door was opened
+-- links were served to their end, and counted so; or no door was opened, and nothing was lost but on a disk of which a call failed
 abbrev pub HasServedIfAny : Serves → Service → List Named → List (List ℕ) → Type 0
 HasServedIfAny serves s scripts images =
-    serves.unopened ⊎ ((count : Count) × serves.can s scripts images count × Opens serves.rack s scripts images)
+    (serves.unopened × KeepsAllBut serves.rack scripts images) ⊎ ((count : Count) × serves.can s scripts images count × Opens serves.rack s scripts images)
 
 -- the links of a setup were served and their counts told; or the seeds, the disks or the door failed, at once or at last; or a disk
 -- holds no journal of its shelf; or memory ran out
@@ -229,14 +261,15 @@ LeavesServing serves s scripts images status.Write out door seeds =
 LeavesServing serves s scripts images status.Memory out door seeds =
     PrintsTo out memory_line × HasServedIfAny serves s scripts images
 LeavesServing serves s scripts images status.Disk out door seeds =
-    (shelf : ℕ) × RackFailed serves.rack × (shelf < s.options.shelves) × PrintsTo out (disk_line shelf) × serves.unopened
+    (shelf : ℕ) × ShelfFailed serves.rack shelf × (shelf < s.options.shelves) × PrintsTo out (disk_line shelf) × serves.unopened
     × (IsTrue serves.rack.tells → AreKeptBut serves.rack scripts images shelf)
+    × (IsTrue serves.rack.tells → FailsInOrder scripts serves.rack.before serves.rack.after s.options.shelves images shelf)
 LeavesServing serves s scripts images status.Journal out door seeds =
     (shelf : ℕ) × (why : Unfit) × Shuts serves.rack s scripts images shelf why × PrintsTo out (unfit_line shelf why) × serves.unopened
 LeavesServing serves s scripts images status.Door out door seeds =
     HaveRisen door × PrintsTo out (codes "error 9 door\n") × FailsAtDoor serves s scripts images
 LeavesServing serves s scripts images status.Key out door seeds =
-    HaveRisen seeds × PrintsTo out (codes "error 14 key\n") × serves.unopened
+    HaveRisen seeds × PrintsTo out (codes "error 14 key\n") × serves.unopened × AtRest serves.rack
 LeavesServing serves s scripts images _ out door seeds = ⊥
 
 -- the input is a setup, and this is what serving its links left
@@ -255,5 +288,6 @@ LeavesInput serves s bytes chances status.Key out door seeds = ServesInput serve
 LeavesInput serves s bytes chances status.Setup out door seeds =
     Answers (served (setup_of Input bytes) chances) 3 out × serves.unopened × AtRest serves.rack
 LeavesInput serves s bytes chances status.Memory out door seeds =
-    PrintsTo out memory_line × (serves.unopened ⊎ ServesInput serves s bytes chances.disks status.Memory out door seeds)
+    PrintsTo out memory_line
+    × ((serves.unopened × AtRest serves.rack) ⊎ ServesInput serves s bytes chances.disks status.Memory out door seeds)
 LeavesInput serves s bytes chances _ out door seeds = ⊥

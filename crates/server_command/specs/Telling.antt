@@ -1,14 +1,18 @@
 -- How it is told that a shelf was not opened, or that a run of steps ended.
-use Rattle.std.specs.Prelude.{◌≡◌, ℕ, List, Option, Some, None, codes}
+use Rattle.std.specs.Prelude.{◌≡◌, ℕ, List, Option, Some, None, Result, Ok, Err, codes}
 use Rattle.play_steps.specs.declared.stage.Reopen.{Reopen}
-use Rattle.play_steps.specs.declared.stage.Reopen.TheVariants as reopen
-use Rattle.play_desk.specs.declared.opening.OpenFault.{OpenFault}
+use Rattle.request_workers.specs.declared.tally.Tally.{Tally}
+use Rattle.request_workers.specs.Tallies.{count_of}
+use Rattle.play_desk.specs.Opening.{cause_of}
 use Rattle.play_desk.specs.declared.opening.OpenCause.{OpenCause}
 use Rattle.play_desk.specs.declared.opening.OpenCause.TheVariants as first
 use Rattle.server_command.specs.declared.program.Status.{Status}
 use Rattle.server_command.specs.declared.program.Status.TheVariants as status
 use Rattle.server_command.specs.declared.opening.Unopened.{Unopened}
 use Rattle.server_command.specs.declared.opening.Unopened.TheVariants as unopened
+use Rattle.server_command.specs.declared.serving.ServeFault.{ServeFault}
+use Rattle.server_command.specs.declared.serving.ServeFault.TheVariants as fault
+use Rattle.server_command.specs.Serving.{TellsCount}
 use Rattle.server_command.specs.Output.{memory_line, Sinks, PrintsTo}
 use Rattle.server_command.specs.Racks.{not_empty, damaged, other, disk_line, unfit_line}
 
@@ -41,13 +45,14 @@ unopened_by shelf (first.Damaged place) = unopened.Damaged shelf place
 unopened_by shelf (first.Other place) = unopened.Other shelf place
 unopened_by shelf first.Memory = unopened.Memory
 
--- the shelf that was not opened at first, and why
-abbrev pub unopened_first : OpenFault → Unopened
-unopened_first fault = unopened_by fault.shelf fault.why
-
--- this shelf was not opened again, and this is why
+-- this shelf was not opened again, for this cause
 abbrev pub unopened_again : (shelf : ℕ) → Reopen → Unopened
-unopened_again shelf reopen.Disk = unopened.Disk shelf
-unopened_again shelf (reopen.Damaged place) = unopened.Damaged shelf place
-unopened_again shelf (reopen.Other place) = unopened.Other shelf place
-unopened_again shelf reopen.Memory = unopened.Memory
+unopened_again shelf why = unopened_by shelf (cause_of why)
+
+-- what a serving came to was told: its counts, or why there are none
+abbrev pub TellsOutcome : Result Tally ServeFault → Status → Sinks → Type 0
+TellsOutcome (Ok tally) s out = TellsCount (count_of tally) s out
+TellsOutcome (Err fault.Key) s out = (s ≡ status.Key) × PrintsTo out (codes "error 14 key\n")
+TellsOutcome (Err (fault.Shelf why)) s out = TellsUnopened why s out
+TellsOutcome (Err fault.Door) s out = (s ≡ status.Door) × PrintsTo out (codes "error 9 door\n")
+TellsOutcome (Err fault.Memory) s out = (s ≡ status.Memory) × PrintsTo out memory_line

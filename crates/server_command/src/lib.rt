@@ -1,9 +1,11 @@
 //! The commands `check`, `play`, `serve` and `load`, over any streams, disks, sockets and clock: for `main`.
 #![tactic(auto)]
 
+mod jobs;
 mod loading;
 mod opening;
 mod program;
+mod service;
 mod serving;
 mod telling;
 

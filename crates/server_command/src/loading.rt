@@ -3,15 +3,15 @@ ghost use Rattle.web_outside.specs.Pieces.{HandsAllOn};
 ghost use Rattle.command_words.specs.Plain.{CanLoad};
 ghost use Rattle.play_desk.specs.Opening.{AreHome};
 ghost use Rattle.server_command.specs.Loading.{HasLeft, TellsMeasure};
-ghost use Rattle.server_command.specs.Output.{HandsOnIfDone, sinks_of};
-ghost use Rattle.server_command.specs.Racks.{racks_of};
+ghost use Rattle.server_command.specs.Output.{Hands, HandsOnIfDone, sinks_of};
+ghost use Rattle.server_command.specs.Racks.{AreBack, racks_of};
 
 use crate::opening::rules_of;
-use crate::program::{Status, unopened_again, unopened_first};
-use crate::telling::{hand_on, no_memory, tell_unopened};
+use crate::program::Status;
+use crate::telling::{hand_on, no_memory, tell_unopened, unopened_by};
 use command_words::LoadOptions;
 use measured_run::{LOAD_STEPS, Measure, load, load_setup};
-use play_desk::open_desk;
+use play_desk::{OpenCause, open_desk};
 use play_steps::Halt;
 use std::alloc::Global;
 use web_disk::{Disk, Rack};
@@ -45,11 +45,8 @@ pub fn load_all<O: Sink, D: Disk, R: Rack<D>>(
     requires home { AreHome (R.view rack.old).out }
     ensures leaves { HasLeft (racks_of (R.tells && D.tells) (R.view rack.old) (R.view rack.new))
         options.now result (sinks_of (O.view output.old) (O.view output.new)) }
-    ensures handed { HandsAllOn (O.view output.old) (O.view output.new) }
-    ensures later { (O.view output.old).faults ≤ (O.view output.new).faults }
-    ensures done { HandsOnIfDone result (O.view output.new) }
-    ensures home { AreHome (R.view rack.new).out }
-    ensures rack_later { (R.view rack.old).faults ≤ (R.view rack.new).faults }
+    ensures hands { Hands result (O.view output.old) (O.view output.new) }
+    ensures back { AreBack (R.view rack.old) (R.view rack.new) }
 {
     let Ok(setup) = load_setup(alloc) else {
         return no_memory(output);
@@ -58,7 +55,7 @@ pub fn load_all<O: Sink, D: Disk, R: Rack<D>>(
     let directory = options.options.journal.as_str();
     let mut desk = match open_desk(alloc, rack, directory, &setup, rules) {
         Ok(desk) => desk,
-        Err(fault) => return tell_unopened(alloc, unopened_first(fault), output),
+        Err(fault) => return tell_unopened(alloc, unopened_by(fault.shelf, fault.why), output),
     };
     let end = load(alloc, &mut desk, rack, options.number, LOAD_STEPS);
     desk.close(rack);
@@ -67,7 +64,7 @@ pub fn load_all<O: Sink, D: Disk, R: Rack<D>>(
         Err(Halt::Memory) => no_memory(output),
         Err(Halt::Reopen { shelf, why }) => tell_unopened(
             alloc,
-            unopened_again(shelf, why),
+            unopened_by(shelf, OpenCause::of(why)),
             output,
         ),
     }

@@ -5,6 +5,7 @@ ghost use Rattle.setup_reader.specs.Limits.{most_scripts};
 ghost use Rattle.command_words.specs.Plain.{CanServe};
 ghost use Rattle.site_serving.specs.Serving.{pasts_of, views};
 ghost use Rattle.server_command.specs.Opening.{CanBegin};
+ghost use Rattle.server_command.specs.Order.{ComesInOrder, asks_of, both};
 ghost use Rattle.server_command.specs.Racks.{KeepsHome, racks_of};
 ghost use Rattle.server_command.specs.Serving.{AreDrawn, ServesBy, outside, serves_over, told_as, watch_of};
 
@@ -117,6 +118,10 @@ where
         (pasts_of (P.told past.old) (P.told past.new)) in
         (images : List (List ℕ)) ×
         ServesBy (serves_over o) service.now (scripts_of setup) images result }
+    ensures order { ComesInOrder (asks_of (both (A.view door.old) (A.view door.new))
+        (both (S.view seeds.old) (S.view seeds.new)) (pasts_of (P.told past.old) (P.told past.new)))
+        (racks_of (R.tells && D.tells) (R.view rack.old) (R.view rack.new))
+        service.now.options.shelves result }
     ensures key { IsErrOf result ServeFault.Key →
         Rose (S.view seeds.old).faults (S.view seeds.new).faults }
     ensures door { IsErrOf result ServeFault.Door →

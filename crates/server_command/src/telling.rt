@@ -7,13 +7,15 @@ ghost use Rattle.setup_reader.specs.Views.{fault_of};
 ghost use Rattle.request_workers.specs.Tallies.{count_of};
 ghost use Rattle.server_command.specs.declared.program.Status.{Status};
 ghost use Rattle.server_command.specs.Command.{Counts, IsDoneUnlessFault, TellsFaultLine, TellsLine, unread_line, unread_status};
-ghost use Rattle.server_command.specs.Output.{HandsOnIfDone, PrintsTo, memory_line, sinks_of, step_line};
+ghost use Rattle.server_command.specs.Output.{Hands, HandsOnIfDone, PrintsTo, memory_line, sinks_of, step_line};
 ghost use Rattle.server_command.specs.Racks.{damaged, disk_line, not_empty, other, unfit_line};
 ghost use Rattle.server_command.specs.Serving.{TellsCount, count_line};
-ghost use Rattle.server_command.specs.Telling.{TellsUnopened, unopened_line, unopened_status};
+ghost use Rattle.server_command.specs.Telling.{TellsOutcome, TellsUnopened, unopened_by, unopened_line, unopened_status};
 
 use crate::opening::Unopened;
 use crate::program::Status;
+use crate::serving::ServeFault;
+use play_desk::OpenCause;
 use request_workers::Tally;
 use script_nodes::Setup;
 use setup_reader::{SetupError, fault_line};
@@ -230,5 +232,42 @@ pub fn tell_unopened<O: Sink>(alloc: Global, why: Unopened, output: &mut O) -> S
             unopened_status(why)
         }
         Err(_) => no_memory(output),
+    }
+}
+
+/// What a shelf that was not opened on a desk is told as.
+pub fn unopened_by(shelf: u32, why: OpenCause) -> Unopened
+    ensures { result ≡ unopened_by shelf why }
+{
+    match why {
+        OpenCause::Disk => Unopened::Disk { shelf },
+        OpenCause::NotEmpty => Unopened::NotEmpty { shelf },
+        OpenCause::Damaged { place } => Unopened::Damaged { shelf, place },
+        OpenCause::Other { place } => Unopened::Other { shelf, place },
+        OpenCause::Memory => Unopened::Memory,
+    }
+}
+
+/// Tells what a serving came to: its counts, or why there are none.
+pub fn tell_outcome<O: Sink>(
+    alloc: Global,
+    outcome: Result<Tally, ServeFault>,
+    output: &mut O,
+) -> Status
+    ensures tells { TellsOutcome outcome result (sinks_of (O.view output.old) (O.view output.new)) }
+    ensures hands { Hands result (O.view output.old) (O.view output.new) }
+{
+    match outcome {
+        Ok(tally) => tell_tally(alloc, &tally, output),
+        Err(ServeFault::Key) => {
+            write_or_drop(output, b"error 14 key\n");
+            Status::Key
+        }
+        Err(ServeFault::Shelf(why)) => tell_unopened(alloc, why, output),
+        Err(ServeFault::Door) => {
+            write_or_drop(output, b"error 9 door\n");
+            Status::Door
+        }
+        Err(ServeFault::Memory) => no_memory(output),
     }
 }

@@ -1,15 +1,16 @@
-use Rattle.std.proofs.Common.{◌≡◌, ◌<◌, Err, subst, List, arith, rules}
+use Rattle.std.proofs.Common.{◌≡◌, ◌<◌, ◌∙◌, ap, Err, subst, List, arith, rules}
 use Rattle.std.specs.Prelude.{◌&&◌}
 use Rattle.std.proofs.lemmas.List.{length-map}
 use Rattle.script_nodes.specs.Setup.{Named}
 use Rattle.script_nodes.specs.Views.{scripts_of}
 use Rattle.play_steps.specs.declared.performing.Halt.TheVariants.{Memory, Reopen}
-use Rattle.play_desk.specs.Opening.{AllStayKept, IsClosedBy}
+use Rattle.play_desk.specs.Opening.{AllStayKept, IsClosedBy, IsLeft}
+use Rattle.play_desk.proofs.Closing.{left_home}
 use Rattle.play_steps.specs.declared.stage.Reopen.TheVariants as again
 use Rattle.play_desk.specs.Staff.{desk_of, faults_in, shelf_at, total}
 use Rattle.server_command.specs.Output.{sinks_of}
 use Rattle.server_command.specs.Racks.{racks_of}
-use Rattle.server_command.specs.Telling.{TellsUnopened}
+use Rattle.server_command.specs.Telling.{TellsUnopened, unopened_by}
 use Rattle.server_command.proofs.Loads.{again_leaves, error_is, first_leaves, loaded_by, lost_if, measure_leaves, memory_leaves, short_if, untouched}
 use Rattle.server_command.proofs.Openings.{both_tell}
 use Rattle.server_command.proofs.Playing.{Begins}
@@ -45,7 +46,7 @@ returns-in-Err-clause-leaves g c =
     (λ t. let b = both_tell g.R.Rack.tells g.D.Disk.tells t in
     subst (λ (ss : List Named). AllStayKept ss rack.before.holds rack.after.holds fault.shelf fault.why) c.in-Ok.ensures.scripts (c.in-Err.ensures.keeps b.0 b.1))
     c.in-Err.ensures.later
-    (subst (λ why. TellsUnopened why c.tell_unopened.result (sinks_of old new)) c.unopened_first.ensures c.tell_unopened.ensures.tells)
+    (subst (λ why. TellsUnopened why c.tell_unopened.result (sinks_of old new)) c.unopened_by.ensures c.tell_unopened.ensures.tells)
 
 pub returns-in-Ok-end-clause-leaves : goal.returns-in-Ok-end-clause-leaves
 returns-in-Ok-end-clause-leaves g c =
@@ -55,7 +56,7 @@ returns-in-Ok-end-clause-leaves g c =
     let last = c.load-end.new.stage in
     measure_leaves rack l c.in-Ok-end.measure c.tell_measure.result (sinks_of (g.O.Sink.view c.args.output.now) (g.O.Sink.view c.tell_measure.new.output))
     (λ t. let b = both_tell g.R.Rack.tells g.D.Disk.tells t in
-    loaded_by rack l c.in-Ok-end.measure (desk_of first.setup.now first.staff) (desk_of last.setup.now last.staff)
+    loaded_by rack l (IsLeft (g.R.Rack.view c.load-end.new.devices)) c.in-Ok-end.measure (desk_of first.setup.now first.staff) (desk_of last.setup.now last.staff)
     (total (g.R.Rack.view c.open_desk.new.rack).faults (faults_in g.D.Disk.view first.staff.shelves.items))
     (total (g.R.Rack.view c.load-end.new.devices).faults (faults_in g.D.Disk.view last.staff.shelves.items))
     (subst (λ (ss : List Named). Begins rack l.options ss (desk_of first.setup.now first.staff)) c.in-Ok.ensures.scripts
@@ -74,7 +75,9 @@ returns-in-Err-Memory-clause-leaves g c =
     let is : c.load-end.result ≡ Err Memory = search rules in
     memory_leaves rack l _ _ _ _ _ c.no_memory-in-Err-Memory.ensures.status c.no_memory-in-Err-Memory.ensures.line
     (λ t. let b = both_tell g.R.Rack.tells g.D.Disk.tells t in
-    short_if rack l c.load-end.result (desk_of first.setup.now first.staff) (desk_of last.setup.now last.staff)
+    short_if rack l (IsLeft (g.R.Rack.view c.load-end.new.devices))
+    (λ d k. left_home last.staff.shelves.items (g.R.Rack.view c.load-end.new.devices) rack.after d k c.load-end.ensures.home c.close.ensures.others c.close.ensures.home)
+    c.load-end.result (desk_of first.setup.now first.staff) (desk_of last.setup.now last.staff)
     (total (g.R.Rack.view c.open_desk.new.rack).faults (faults_in g.D.Disk.view first.staff.shelves.items))
     (total (g.R.Rack.view c.load-end.new.devices).faults (faults_in g.D.Disk.view last.staff.shelves.items)) is
     (subst (λ (ss : List Named). Begins rack l.options ss (desk_of first.setup.now first.staff)) c.in-Ok.ensures.scripts
@@ -97,7 +100,9 @@ returns-clause-leaves g c =
     let is : c.load-end.result ≡ Err (Reopen c.in-Err-Reopen.shelf c.in-Err-Reopen.why) = search rules in
     again_leaves rack l shelf why c.tell_unopened-in-Err-Reopen.result old.written new.written old.faults new.faults
     (λ t. let b = both_tell g.R.Rack.tells g.D.Disk.tells t in
-    lost_if rack l shelf why c.load-end.result (desk_of first.setup.now first.staff) (desk_of last.setup.now last.staff)
+    lost_if rack l (IsLeft (g.R.Rack.view c.load-end.new.devices))
+    (λ d k. left_home last.staff.shelves.items (g.R.Rack.view c.load-end.new.devices) rack.after d k c.load-end.ensures.home c.close.ensures.others c.close.ensures.home)
+    shelf why c.load-end.result (desk_of first.setup.now first.staff) (desk_of last.setup.now last.staff)
     (total (g.R.Rack.view c.open_desk.new.rack).faults (faults_in g.D.Disk.view first.staff.shelves.items))
     (total (g.R.Rack.view c.load-end.new.devices).faults (faults_in g.D.Disk.view last.staff.shelves.items)) is
     (subst (λ (ss : List Named). Begins rack l.options ss (desk_of first.setup.now first.staff)) c.in-Ok.ensures.scripts
@@ -105,7 +110,10 @@ returns-clause-leaves g c =
     (c.in-Ok-open_desk.ensures.desk b.0 b.1) (c.in-Ok-open_desk.ensures.empty b.0 b.1)))
     (c.load-end.ensures.measured t (c.in-Ok-open_desk.ensures.own b.0 b.1)) c.in-Ok-open_desk.ensures.later_open c.close.ensures.later)
     (λ e. let rose = c.load-end.ensures.disk shelf (error_is c.load-end.result shelf why again.Disk is e) in
-    omega (arith, rose, c.in-Ok-open_desk.ensures.later_open, c.close.ensures.later))
+    let here = c.load-end.ensures.failed shelf (error_is c.load-end.result shelf why again.Disk is e) in
+    let first = c.in-Ok-open_desk.ensures.failed_later shelf in
+    let last = c.close.ensures.failed_later shelf in
+    record { all = omega (arith, rose, c.in-Ok-open_desk.ensures.later_open, c.close.ensures.later); here = omega (arith, here, first, last) })
     (λ t place e. c.load-end.ensures.damaged t shelf place (error_is c.load-end.result shelf why (again.Damaged place) is e))
     (λ t place e. c.load-end.ensures.other t shelf place (error_is c.load-end.result shelf why (again.Other place) is e))
-    (subst (λ u. TellsUnopened u c.tell_unopened-in-Err-Reopen.result (sinks_of old new)) c.unopened_again.ensures c.tell_unopened-in-Err-Reopen.ensures.tells)
+    (subst (λ u. TellsUnopened u c.tell_unopened-in-Err-Reopen.result (sinks_of old new)) (c.unopened_by-in-Err-Reopen.ensures ∙ ap (unopened_by shelf) c.of.ensures) c.tell_unopened-in-Err-Reopen.ensures.tells)

@@ -1,21 +1,28 @@
-use Rattle.std.proofs.Common.{◌≡◌, ◌<◌, ◌≤◌, ◌+◌, ◌∙◌, [], length, Some, slice_get, Err, sym, subst, arith, rules}
+use Rattle.std.proofs.Common.{◌≡◌, ◌<◌, ◌∙◌, [], length, Err, sym, subst, arith, rules}
 use Rattle.std.specs.Prelude.{IsTrue, ◌&&◌}
 use Rattle.script_nodes.specs.Views.{scripts_of}
-use Rattle.web_outside.specs.Causes.{Rose}
+use Rattle.web_disk.specs.View.{AreAmong}
+use Rattle.play_desk.specs.Opening.{FailedFor}
 use Rattle.site.specs.Beginnings.{IsBegunAt}
-use Rattle.server_command.specs.Opening.{AreOut, FailsAt, HasTaken, IsRefused, TakesBack, seen_on, unopened_by}
-use Rattle.server_command.proofs.Openings.{all_home, both_tell, rose_since, seen_size, untaken_refused}
-use Rattle.server_command.proofs.Shelves.{kept_at, opened_from, refused_at}
+use Rattle.server_command.specs.Opening.{AreOut, FailsAt, HasTaken, IsRefused, RefusesInOrder, TakesBack, seen_on, unopened_by}
+use Rattle.server_command.proofs.Openings.{all_home, both_tell, failed_since, seen_size, untaken_in_order, untaken_refused}
+use Rattle.server_command.proofs.Shelves.{kept_at, kept_from, opened_from, refused_at, refused_in_order}
 use Rattle.server_command.proofs.opening.open_site.Goals as goal
 
 pub returns-in_err-disks-clause-refused : goal.returns-in_err-disks-clause-refused
 returns-in_err-disks-clause-refused g c =
     let why = c.in_err-disks.field-0.0 in
+    let shelves = c.args.options.now.shelves in
+    let before = g.R.Rack.view c.args.rack.now in
+    let last = g.R.Rack.view c.take_all.new.rack in
     let told : c.from_residual.result ≡ Err why = search rules in
     rw told (record {
       images = [];
       held = λ t. tt;
       refused = untaken_refused _ _ (scripts_of c.args.setup) [] why c.in_err-disks.ensures.refused;
+      in_order = λ t.
+          untaken_in_order (scripts_of c.args.setup) before last shelves (FailsAt shelves before last) why c.in_err-disks.ensures.refused
+          (c.in_err-disks.ensures.kept (both_tell _ _ t).0);
       kept = λ t k read left none. absurd (let no : ⊥ = cc none in no);
       unread = λ t. c.in_err-disks.ensures.kept (both_tell _ _ t).0;
       home = c.in_err-disks.ensures.home;
@@ -36,6 +43,14 @@ returns-in-Ok-clause-opened g c =
           (omega (arith, sources, taken.many, size)) begun.many (λ t. (both_tell _ _ t).1) c.rules_of-rules.ensures.asked
           (λ i j d n h at d_is n_is h_is. let same : i ≡ j = omega (arith, at) in
           subst (λ m. IsBegunAt {D = g.row.D.Denot} {N = g.row.N.Denot} g.D.Disk.view g.D.Disk.tells c.args.setup c.rules_of-rules.result m d n h) same (begun.each i d n h d_is n_is h_is));
+      kept = λ t k x read left x_is read_is left_is.
+          kept_from g.D.Disk.view g.D.Disk.tells told g.N.Nonces.nonce c.args.options.now c.args.setup c.rules_of-rules.result 0 disks c.args.sources.items c.in-Ok.site.row.homes
+          (g.R.Rack.view c.args.rack.now).holds (omega (arith, sources, taken.many, size)) begun.many (both_tell _ _ t).1
+          (λ i j d n h at d_is n_is h_is. let same : i ≡ j = omega (arith, at) in (
+            subst (λ m. IsBegunAt {D = g.row.D.Denot} {N = g.row.N.Denot} g.D.Disk.view g.D.Disk.tells c.args.setup c.rules_of-rules.result m d n h) same (begun.each i d n h d_is n_is h_is),
+            subst (λ m. AreAmong (g.D.Disk.view d).images ((g.R.Rack.view c.args.rack.now).holds m)) same (c.in_ok-disks.ensures.from (both_tell _ _ t).0 i d d_is),
+          ))
+          k k x read left (omega arith) x_is read_is left_is;
     }
 
 pub returns-in-Ok-clause-count : goal.returns-in-Ok-clause-count
@@ -58,14 +73,18 @@ returns-in-Err-clause-refused g c =
     let size = seen_size g.D.Disk.view disks in
     let many : length c.in-Err.field-0.disks.items ≡ c.args.options.now.shelves = omega (arith, not.disks_back.returned.many, size, taken.many) in
     let why : unopened_by c.in-Err.field-0.shelf c.in-Err.field-0.fault ≡ c.why_unopened.result = sym c.why_unopened.ensures in
-    let refused = refused_at g.D.Disk.view g.D.Disk.tells c.args.setup told disks c.args.sources.items c.in-Err.field-0 before.faults last.faults
+    let refused = refused_at g.D.Disk.view g.D.Disk.tells c.args.setup told disks c.args.sources.items c.in-Err.field-0 (λ k. FailedFor k before last)
     (λ t. (both_tell _ _ t).1) not
-    (λ k e e_is some. rose_since before.faults middle.faults last.faults taken.later (c.give_all.ensures.given.faults k e e_is some)) in
+    (λ k e e_is some. failed_since k before middle last taken.later taken.failed_later (c.give_all.ensures.given.faults k e e_is some)) in
     record {
       images = seen_on g.D.Disk.view disks;
       held = taken.held;
       refused = subst (IsRefused told (FailsAt c.args.options.now.shelves before last) scripts (seen_on g.D.Disk.view disks)) why
-          (subst (λ n. IsRefused told (λ k. (k < n) × Rose before.faults last.faults) scripts (seen_on g.D.Disk.view disks) (unopened_by c.in-Err.field-0.shelf c.in-Err.field-0.fault)) (sym size ∙ taken.many) refused);
+          (subst (λ n. IsRefused told (λ k. (k < n) × FailedFor k before last) scripts (seen_on g.D.Disk.view disks) (unopened_by c.in-Err.field-0.shelf c.in-Err.field-0.fault)) (sym size ∙ taken.many) refused);
+      in_order = λ t.
+          subst (RefusesInOrder scripts before last c.args.options.now.shelves (seen_on g.D.Disk.view disks)) why
+          (refused_in_order g.D.Disk.view g.D.Disk.tells c.args.setup disks c.args.sources.items c.in-Err.field-0 before last c.args.options.now.shelves
+          (both_tell _ _ t).1 not taken.many);
       kept = λ t k read left read_is left_is but. kept_at g.D.Disk.view g.D.Disk.tells c.args.setup told disks c.args.sources.items c.in-Err.field-0 before.holds last.holds
           (λ u. (both_tell _ _ u).1) not (λ u. c.in_ok-disks.ensures.from (both_tell _ _ u).0)
           (λ u j e e_is. c.give_all.ensures.given.held (both_tell _ _ u).0 (subst (AreOut middle) (sym many) taken.out) j e e_is)

@@ -13,7 +13,7 @@ taking-preserved g c =
     let after = g.R.Rack.view c.take.new.self in
     let disk = c.in-Ok.disk in
     let next = takes_next told before (g.R.Rack.view l.rack) after l.number (seen_on g.D.Disk.view l.disks.items) (g.D.Disk.view disk).seen l.invariant.taken
-    (record { out = c.in-Ok.ensures.out; others_out = c.in-Ok.ensures.others_out; others = c.in-Ok.ensures.others; later = c.in-Ok.ensures.later })
+    (record { out = c.in-Ok.ensures.out; others_out = c.in-Ok.ensures.others_out; others = c.in-Ok.ensures.others; later = c.in-Ok.ensures.later; failed = c.in-Ok.ensures.counted; others_failed = c.in-Ok.ensures.others_counted })
     (λ t. c.in-Ok.ensures.images (both_tell g.R.Rack.tells g.D.Disk.tells t).0 (g.D.Disk.view disk).seen (g.met.D.Disk.reads_image disk (both_tell g.R.Rack.tells g.D.Disk.tells t).1)) in
     record {
       size = omega (arith, l.invariant.size, c.push_reserved.ensures.len);

@@ -1,12 +1,16 @@
-use Rattle.std.proofs.Common.{◌≡◌, ◌≤◌, ◌<◌, ◌∙◌, ℕ, length, Some, slice_get, refl, subst, sym, arith}
+use Rattle.std.proofs.Common.{◌≡◌, ◌≤◌, ◌<◌, ◌∙◌, ℕ, [], length, Some, slice_get, Err, ap, refl, subst, sym, arith, rules}
 use Rattle.std.specs.Prelude.{IsTrue, ◌&&◌}
 use Rattle.script_nodes.specs.Views.{scripts_of}
-use Rattle.site_serving.specs.Serving.{ComesTo, openings_of, pasts_of, views}
+use Rattle.site_serving.specs.Serving.{ComesTo, openings_in, openings_of, pasts_of, views}
+use Rattle.server_command.specs.declared.serving.ServeFault.{ServeFault}
+use Rattle.server_command.specs.Order.{ComesInOrder, asks_of, both}
 use Rattle.server_command.specs.Opening.{AreOut, TakesBack}
 use Rattle.server_command.specs.Racks.{racks_of}
 use Rattle.server_command.specs.Serving.{ServesBy, outside, serves_over}
 use Rattle.server_command.proofs.Openings.{all_home, both_tell}
-use Rattle.server_command.proofs.Servings.{refuses_of, serves_of}
+use Rattle.server_command.proofs.Servings.{refuses_of, serves_of, undrawn}
+use Rattle.server_command.proofs.Endings.{at_rest}
+use Rattle.server_command.proofs.Orders.{told_order, undrawn_order}
 use Rattle.server_command.proofs.serving.serve.Goals as goal
 
 pub returns-clause-served : goal.returns-clause-served
@@ -23,12 +27,12 @@ returns-clause-served g c =
     let p = c.in-Ok.ensures.opened in
     let count = c.in_ok-sources.ensures.count in
     let many : length disks ≡ length sources = c.serve_site-disks.ensures.disks ∙ (c.in-Ok.ensures.count ∙ sym count) in
-    let comes = subst (λ w. ComesTo o.views (openings_of c.in-Ok.site.row.homes) o.before o.after o.past w disks c.serve_site-disks.result.1)
+    let comes = subst (λ w. ComesTo o.views (openings_in g.D.Disk.view g.D.Disk.tells g.N.Nonces.nonce c.in-Ok.site) o.before o.after o.past w disks c.serve_site-disks.result.1)
     c.watch_of.ensures c.serve_site-disks.ensures.comes in
     let served = serves_of o c.args.service.now scripts sources middle (openings_of c.in-Ok.site.row.homes) disks c.serve_site-disks.result.1 count c.in_ok-sources.ensures.drawn p
-    (λ t. (both_tell _ _ t).1)
+    (λ t. (both_tell _ _ t).1) many
     (λ t k d d_is. c.give_all.ensures.given.held (both_tell _ _ t).0 (subst (AreOut middle) (sym many) p.taken.out) k d d_is)
-    comes in
+    c.give_all.ensures.given.others c.give_all.ensures.given.counts comes in
     (p.images, subst (ServesBy (serves_over o) c.args.service.now scripts p.images) (sym c.told_as.ensures) served)
 
 pub returns-in-Err-clause-served : goal.returns-in-Err-clause-served
@@ -52,3 +56,45 @@ returns-clause-home g c =
     c.serve_site-disks.ensures.disks ∙ (c.in-Ok.ensures.count ∙ sym c.in_ok-sources.ensures.count) in
     all_home (IsTrue (g.R.Rack.tells && g.D.Disk.tells)) before middle last (length c.in_ok-sources.sources.items) p.images p.taken
     (subst (TakesBack middle last 0) many c.give_all.ensures.back)
+
+pub returns-in_err-sources-clause-order : goal.returns-in_err-sources-clause-order
+returns-in_err-sources-clause-order g c =
+    let asks = asks_of (both (g.A.Door.view c.args.door.now) (g.A.Door.view c.args.door.now)) (both (g.S.Seeds.view c.args.seeds.now) (g.S.Seeds.view c.draw_sources.new.seeds))
+    (pasts_of (g.P.Past.told c.args.past.now) (g.P.Past.told c.args.past.now)) in
+    let rack = racks_of (g.R.Rack.tells && g.D.Disk.tells) (g.R.Rack.view c.args.rack.now) (g.R.Rack.view c.args.rack.now) in
+    let shelves = c.args.service.now.options.shelves in
+    let why = c.in_err-sources.field-0.0 in
+    let told : c.from_residual.result ≡ Err why = search rules in
+    rw told (undrawn_order asks rack shelves why (at_rest _ _) (refl, refl)
+    (λ e. c.in_err-sources.ensures.other (ap (λ (w : ServeFault). Err w) e)) (λ u e. c.in_err-sources.ensures.none u (ap (λ (w : ServeFault). Err w) e)))
+
+pub returns-in-Err-clause-order : goal.returns-in-Err-clause-order
+returns-in-Err-clause-order g c =
+    (record { sources = c.in_ok-sources.sources.items; many = c.in_ok-sources.ensures.count; drawn = c.in_ok-sources.ensures.drawn }, (refl, refl))
+
+pub returns-clause-order : goal.returns-clause-order
+returns-clause-order g c =
+    let asks = asks_of (both (g.A.Door.view c.args.door.now) (g.A.Door.view c.serve_site-disks.new.door)) (both (g.S.Seeds.view c.args.seeds.now) (g.S.Seeds.view c.draw_sources.new.seeds))
+    (pasts_of (g.P.Past.told c.args.past.now) (g.P.Past.told c.serve_site-disks.new.past)) in
+    let rack = racks_of (g.R.Rack.tells && g.D.Disk.tells) (g.R.Rack.view c.args.rack.now) (g.R.Rack.view c.give_all.new.rack) in
+    let shelves = c.args.service.now.options.shelves in
+    subst (ComesInOrder asks rack shelves) (sym c.told_as.ensures)
+    (told_order asks rack shelves c.serve_site-disks.result.1
+    (record { sources = c.in_ok-sources.sources.items; many = c.in_ok-sources.ensures.count; drawn = c.in_ok-sources.ensures.drawn }))
+
+pub returns-in_err-sources-clause-served : goal.returns-in_err-sources-clause-served
+returns-in_err-sources-clause-served g c =
+    let why = c.in_err-sources.field-0.0 in
+    let told : c.from_residual.result ≡ Err why = search rules in
+    let rack = g.R.Rack.view c.args.rack.now in
+    let door = g.A.Door.view c.args.door.now in
+    let past = g.P.Past.told c.args.past.now in
+    let o = outside (views g.D.Disk.view g.D.Disk.tells g.A.Porch.Link.Link.view g.A.Porch.Porch.view g.N.Nonces.nonce (g.C.Clock.shows c.args.clock.now))
+    (racks_of (g.R.Rack.tells && g.D.Disk.tells) rack rack) door door (g.S.Seeds.view c.args.seeds.now) (pasts_of past past) in
+    let s = c.args.service.now in
+    let scripts = scripts_of c.args.setup in (
+      [],
+      subst (ServesBy (serves_over o) s scripts []) (sym told)
+          (undrawn o s scripts why (refl, refl) refl (λ e. c.in_err-sources.ensures.other (ap (λ (w : ServeFault). Err w) e))
+          (λ u e. c.in_err-sources.ensures.none u (ap (λ (w : ServeFault). Err w) e))),
+    )

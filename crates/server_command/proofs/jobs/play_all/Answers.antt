@@ -1,19 +1,20 @@
-use Rattle.std.proofs.Common.{ap, refl, subst, arith}
+use Rattle.std.proofs.Common.{◌∙◌, ap, refl, subst, arith}
 use Rattle.std.specs.Prelude.{◌&&◌}
 use Rattle.script_nodes.specs.Views.{scripts_of}
 use Rattle.play_steps.specs.Step.{steps_of}
 use Rattle.play_steps.specs.Transcript.{bad_line, done}
 use Rattle.play_steps.specs.declared.run.PlayEnd.TheVariants.{Reopen}
-use Rattle.play_desk.specs.Opening.{IsClosedBy}
+use Rattle.play_desk.specs.Opening.{IsClosedBy, IsLeft}
+use Rattle.play_desk.proofs.Closing.{left_home}
 use Rattle.server_command.specs.Output.{sinks_of}
 use Rattle.server_command.specs.Racks.{racks_of}
-use Rattle.server_command.specs.Telling.{TellsUnopened}
+use Rattle.server_command.specs.Telling.{TellsUnopened, unopened_by}
 use Rattle.measured_run.proofs.Going.{told_by}
 use Rattle.server_command.proofs.Opened.{again_outputs, first_outputs}
 use Rattle.server_command.proofs.Openings.{both_tell}
 use Rattle.server_command.proofs.Playing.{done_outputs, line_outputs, memory_outputs, write_outputs}
 use Rattle.server_command.proofs.Runs.{begins, halted, lost, loses, paused, ran}
-use Rattle.server_command.proofs.program.play_all.Goals as goal
+use Rattle.server_command.proofs.jobs.play_all.Goals as goal
 
 pub returns-in-Err-clause-outputs : goal.returns-in-Err-clause-outputs
 returns-in-Err-clause-outputs g c = λ bytes h.
@@ -29,7 +30,7 @@ returns-in-Err-clause-outputs g c = λ bytes h.
     subst (λ n. IsClosedBy rack.before.holds n fault.shelf fault.why) c.rules_of-rules.ensures.asked.shelves (c.in-Err.ensures.closed b.0 b.1))
     c.in-Err.ensures.disk
     (λ t. let b = both_tell g.R.Rack.tells g.D.Disk.tells t in c.in-Err.ensures.keeps b.0 b.1) c.in-Err.ensures.later
-    (subst (λ why. TellsUnopened why c.tell_unopened.result (sinks_of old new)) c.unopened_first.ensures c.tell_unopened.ensures.tells)
+    (subst (λ why. TellsUnopened why c.tell_unopened.result (sinks_of old new)) c.unopened_by.ensures c.tell_unopened.ensures.tells)
 
 pub returns-in-Done-clause-outputs : goal.returns-in-Done-clause-outputs
 returns-in-Done-clause-outputs g c = λ bytes h.
@@ -97,6 +98,9 @@ returns-in-Memory-clause-outputs g c = λ bytes h.
     (λ t. let b = both_tell g.R.Rack.tells g.D.Disk.tells t in
     paused rack o scripts (steps_of c.args.steps.now) old.written mid.written _ _ _ _
     (begins rack o scripts c.rules_of-rules.result _ c.rules_of-rules.ensures.asked (c.in-Ok.ensures.desk b.0 b.1) (c.in-Ok.ensures.empty b.0 b.1))
+    (IsLeft (g.R.Rack.view c.play-end.new.devices))
+    (λ d k. left_home c.play-end.new.stage.staff.shelves.items (g.R.Rack.view c.play-end.new.devices) rack.after d k c.play-end.ensures.home
+    c.close.ensures.others c.close.ensures.home)
     (c.in-Memory.ensures.ended (told_by tells (steps_of c.args.steps.now) t) (c.in-Ok.ensures.own b.0 b.1))
     (c.close.ensures.books b.0 b.1 (c.in-Memory.ensures.own (told_by tells (steps_of c.args.steps.now) t) (c.in-Ok.ensures.own b.0 b.1)))
     c.in-Ok.ensures.later_open c.close.ensures.later)
@@ -118,10 +122,17 @@ returns-in-Reopen-clause-outputs g c = λ bytes h.
     (λ t. let b = both_tell g.R.Rack.tells g.D.Disk.tells t in
     lost rack o scripts (steps_of c.args.steps.now) shelf why old.written mid.written _ _ _ _
     (begins rack o scripts c.rules_of-rules.result _ c.rules_of-rules.ensures.asked (c.in-Ok.ensures.desk b.0 b.1) (c.in-Ok.ensures.empty b.0 b.1))
-    (loses (steps_of c.args.steps.now) shelf why _ _ (c.in-Reopen.ensures.ended (told_by tells (steps_of c.args.steps.now) t) (c.in-Ok.ensures.own b.0 b.1)))
+    (IsLeft (g.R.Rack.view c.play-end.new.devices))
+    (λ d k. left_home c.play-end.new.stage.staff.shelves.items (g.R.Rack.view c.play-end.new.devices) rack.after d k c.play-end.ensures.home
+    c.close.ensures.others c.close.ensures.home)
+    (loses (IsLeft (g.R.Rack.view c.play-end.new.devices)) (steps_of c.args.steps.now) shelf why _ _ (c.in-Reopen.ensures.ended (told_by tells (steps_of c.args.steps.now) t) (c.in-Ok.ensures.own b.0 b.1)))
     c.in-Ok.ensures.later_open c.close.ensures.later)
-    (λ e. let rose = c.in-Reopen.ensures.disk shelf (ap (λ w. Reopen shelf w) e) in omega (arith, rose, c.in-Ok.ensures.later_open, c.close.ensures.later))
+    (λ e. let rose = c.in-Reopen.ensures.disk shelf (ap (λ w. Reopen shelf w) e) in
+    let here = c.in-Reopen.ensures.failed shelf (ap (λ w. Reopen shelf w) e) in
+    let first = c.in-Ok.ensures.failed_later shelf in
+    let last = c.close.ensures.failed_later shelf in
+    record { all = omega (arith, rose, c.in-Ok.ensures.later_open, c.close.ensures.later); here = omega (arith, here, first, last) })
     (λ t place e. c.in-Reopen.ensures.damaged t shelf place (ap (λ w. Reopen shelf w) e))
     (λ t place e. c.in-Reopen.ensures.other t shelf place (ap (λ w. Reopen shelf w) e))
     c.play-end.ensures.later
-    (subst (λ x. TellsUnopened x c.tell_unopened-in-Reopen.result (sinks_of mid new)) c.unopened_again.ensures c.tell_unopened-in-Reopen.ensures.tells)
+    (subst (λ x. TellsUnopened x c.tell_unopened-in-Reopen.result (sinks_of mid new)) (c.unopened_by-in-Reopen.ensures ∙ ap (unopened_by shelf) c.of.ensures) c.tell_unopened-in-Reopen.ensures.tells)

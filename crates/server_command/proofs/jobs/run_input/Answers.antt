@@ -5,7 +5,7 @@ use Rattle.server_command.specs.Command.{asked_of}
 use Rattle.server_command.specs.Output.{ending_of}
 use Rattle.server_command.proofs.Endings.{at_rest, early, fault_outputs, untouched}
 use Rattle.server_command.proofs.Causes.{job_reads}
-use Rattle.server_command.proofs.program.run_input.Goals as goal
+use Rattle.server_command.proofs.jobs.run_input.Goals as goal
 
 pub returns-in-Err-At-clause-outputs : goal.returns-in-Err-At-clause-outputs
 returns-in-Err-At-clause-outputs g c =

@@ -8,7 +8,7 @@ use Rattle.server_command.specs.Output.{sinks_of}
 use Rattle.server_command.specs.Racks.{racks_of}
 use Rattle.server_command.proofs.Endings.{at_rest, counts_outputs}
 use Rattle.server_command.proofs.Short.{can_begin}
-use Rattle.server_command.proofs.program.run_setup.Goals as goal
+use Rattle.server_command.proofs.jobs.run_setup.Goals as goal
 
 pub returns-in-Check-clause-outputs : goal.returns-in-Check-clause-outputs
 returns-in-Check-clause-outputs g c =

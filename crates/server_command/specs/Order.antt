@@ -1,0 +1,80 @@
+-- In which order a command asks the outside. Behind its words and its input come the seeds, then the disks, then the door: what comes
+-- later is asked only where nothing before it ended the command. Want of memory may end it anywhere.
+use Rattle.std.specs.Prelude.{⊤, ◌≡◌, ℕ, List, length, Option, Some, Result, Err}
+use Rattle.web_outside.specs.View.{DoorView, SeedsView}
+use Rattle.command_words.specs.declared.Command.{Command}
+use Rattle.command_words.specs.declared.Command.TheVariants.{Serve}
+use Rattle.request_workers.specs.declared.tally.Tally.{Tally}
+use Rattle.site_serving.specs.Serving.{Pasts}
+use Rattle.server_command.specs.declared.program.Status.{Status}
+use Rattle.server_command.specs.declared.program.Status.TheVariants as status
+use Rattle.server_command.specs.declared.serving.ServeFault.{ServeFault}
+use Rattle.server_command.specs.declared.serving.ServeFault.TheVariants as fault
+use Rattle.server_command.specs.Racks.{Racks, AtRest}
+use Rattle.server_command.specs.Serving.{AreDrawn}
+
+-- what contracts see of something before a call and after it
+pub record Both (T : Type 0) : Type 0 where
+  pub before : T
+  pub after : T
+
+abbrev pub both : {T : Type 0} → (before after : T) → Both T
+both before after = record { before = before; after = after }
+
+-- the seeds gave so many sources of nonces
+pub record HaveGiven {N : Type 0} (seeds : SeedsView N) (count : ℕ) : Type 0 where
+  pub sources : List N
+  pub many : length sources ≡ count
+  pub drawn : AreDrawn seeds count sources
+
+-- what was asked beside disks: nothing of the seeds, which are as they were; so many sources, and the seeds gave them; nothing of the
+-- door, which is as it was, and nothing was kept in the past
+pub record Asks : Type 1 where
+  pub undrawn : Type 0
+  pub drawn : (count : ℕ) → Type 0
+  pub shut : Type 0
+
+abbrev pub asks_of : {P L N : Type 0} → Both (DoorView P L) → Both (SeedsView N) → Pasts → Asks
+asks_of door seeds past = record {
+  undrawn = seeds.after ≡ seeds.before;
+  drawn = λ count. HaveGiven seeds.before count;
+  shut = (door.after ≡ door.before) × (past.after ≡ past.before);
+}
+
+-- neither the seeds nor the disks nor the door were asked
+pub record AreIdle (asks : Asks) (rack : Racks) : Type 0 where
+  pub seeds : asks.undrawn
+  pub disks : AtRest rack
+  pub door : asks.shut
+
+-- What was asked where a setup of so many shelves was to be served. Before the setup was read nothing was; where the seeds failed no disk
+-- was taken; where a shelf was not opened the seeds had given a source for each, and the door was not asked.
+abbrev pub ServesInOrder : Asks → Racks → (shelves : ℕ) → Status → Type 0
+ServesInOrder asks rack shelves status.Key = AtRest rack × asks.shut
+ServesInOrder asks rack shelves status.Disk = asks.drawn shelves × asks.shut
+ServesInOrder asks rack shelves status.Journal = asks.drawn shelves × asks.shut
+ServesInOrder asks rack shelves status.Door = asks.drawn shelves
+ServesInOrder asks rack shelves status.Done = asks.drawn shelves
+ServesInOrder asks rack shelves status.Write = asks.drawn shelves
+ServesInOrder asks rack shelves status.Memory = ⊤
+ServesInOrder asks rack shelves _ = AreIdle asks rack
+
+-- no disk was taken where the words, the input or the setup ended the command
+abbrev pub RestsIfEarly : Racks → Status → Type 0
+RestsIfEarly rack status.Usage = AtRest rack
+RestsIfEarly rack status.Read = AtRest rack
+RestsIfEarly rack status.Long = AtRest rack
+RestsIfEarly rack status.Setup = AtRest rack
+RestsIfEarly rack _ = ⊤
+
+-- What was asked before a command ended so: the seeds and the door by a serving alone.
+abbrev pub AsksInOrder : Asks → Racks → Option Command → Status → Type 0
+AsksInOrder asks rack (Some (Serve s)) how = ServesInOrder asks rack s.options.shelves how
+AsksInOrder asks rack asked how = asks.undrawn × asks.shut × RestsIfEarly rack how
+
+-- what was asked before a serving came to its counts, or to none
+abbrev pub ComesInOrder : Asks → Racks → (shelves : ℕ) → Result Tally ServeFault → Type 0
+ComesInOrder asks rack shelves (Err fault.Key) = AtRest rack × asks.shut
+ComesInOrder asks rack shelves (Err fault.Memory) = ⊤
+ComesInOrder asks rack shelves (Err (fault.Shelf why)) = asks.drawn shelves × asks.shut
+ComesInOrder asks rack shelves outcome = asks.drawn shelves
