@@ -180,6 +180,8 @@ fn a_failing_read_ends_with_5_where_nothing_can_be_written(rt: HostRuntime) -> R
     Ok(())
 }
 
+const SERVE: &[&str] = &["hovgyelit", "serve", "--port", "0"];
+
 // An input that is read in long pieces, and the same with an output that takes no byte.
 const LONG: Outside<'static> = Outside {
     greatest: 65_536,
@@ -191,7 +193,10 @@ const LONG_AND_FULL: Outside<'static> = Outside { room: 0, ..LONG };
 #[test]
 fn a_long_input_is_refused(rt: HostRuntime) -> Result<(), Fail> {
     let long = vec![in rt.alloc(); b' '; 16_777_217]?;
-    assert!(rt; comes_to(&rt, PLAY, &long, &LONG, (11, "error 11 long\n"))?);
+    for words in [PLAY, CHECK, SERVE] {
+        let told = (11, "error 11 long\n");
+        assert!(rt; comes_to(&rt, words, &long, &LONG, told)?, "{words:?}");
+    }
     assert!(rt; comes_to(&rt, PLAY, &long, &LONG_AND_FULL, (11, ""))?);
     let told = (3, "error 3 setup 0 section\n");
     assert!(rt; comes_to(&rt, PLAY, &long[1..], &LONG, told)?);

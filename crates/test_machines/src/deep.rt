@@ -21,6 +21,69 @@ fn nested(alloc: Global, depth: u32) -> Result<String, AllocError> {
     Ok(text)
 }
 
+// The tasks that call one another: each but the first calls the one before it.
+const FIRST_TASK: &str = "a";
+
+const LATER_TASKS: [&str; 15] = [
+    "b", "c", "d", "e", "f", "g", "h", "i", "j", "k", "l", "m", "n", "o", "p",
+];
+
+// A text, so many times.
+fn push_often(text: &mut String, part: &str, count: u32) -> Result<(), AllocError> {
+    for _ in 0..count {
+        text.push_str(part)?;
+    }
+    Ok(())
+}
+
+fn push_all(text: &mut String, parts: &[&str]) -> Result<(), AllocError> {
+    for part in parts {
+        text.push_str(part)?;
+    }
+    Ok(())
+}
+
+// An expression inside so many empty `let`, inside so many bindings.
+fn push_tree(
+    text: &mut String,
+    bindings: u32,
+    lets: u32,
+    innermost: &[&str],
+) -> Result<(), AllocError> {
+    text.push_str("(let* (")?;
+    push_often(text, "(x 1)", bindings)?;
+    text.push_str(")")?;
+    push_often(text, "(let () ", lets)?;
+    push_all(text, innermost)?;
+    push_often(text, ")", lets)?;
+    text.push_str(")")
+}
+
+fn push_task(
+    text: &mut String,
+    task: &str,
+    bindings: u32,
+    innermost: &[&str],
+) -> Result<(), AllocError> {
+    push_all(text, &["(define-task (", task, ")"])?;
+    push_tree(text, bindings, 125, innermost)?;
+    text.push_str(")")
+}
+
+// A script whose calls go as deep as any. A level is an empty `let`, of one node, as long as the text may nest so deep, and else a
+// binding, of two; with the bindings the script has all 16,384 nodes that it may have, and 9,264 of them stand open at once.
+fn deepest(alloc: Global) -> Result<String, AllocError> {
+    let mut text = String::new(alloc);
+    push_task(&mut text, FIRST_TASK, 418, &["(string-append \"x\")"])?;
+    let mut before = FIRST_TASK;
+    for task in LATER_TASKS {
+        push_task(&mut text, task, 419, &["(call ", before, ")"])?;
+        before = task;
+    }
+    push_tree(&mut text, 417, 126, &["(call ", before, ")"])?;
+    Ok(text)
+}
+
 fn counted<L: Ledger>(
     alloc: Global,
     blank: Blank,
@@ -82,6 +145,17 @@ fn a_script_that_nests_1024_deep_ends(rt: HostRuntime) -> Result<(), Fail> {
 fn a_million_turns_end(rt: HostRuntime) -> Result<(), Fail> {
     let text = "(begin (for/list ((i 1000000)) i) '(p \"done\"))";
     if ends(rt.alloc(), text, 100_000_000)? {
+        Ok(())
+    } else {
+        Err(Fail::from("no page"))
+    }
+}
+
+#[test]
+fn a_chain_of_calls_of_9264_levels_ends(rt: HostRuntime) -> Result<(), Fail> {
+    let alloc = rt.alloc();
+    let text = deepest(alloc)?;
+    if ends(alloc, text.as_str(), 100_000)? {
         Ok(())
     } else {
         Err(Fail::from("no page"))

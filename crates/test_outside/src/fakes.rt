@@ -1,9 +1,7 @@
 // What the machine can't be made to do: stand-ins for its streams, its listener, its files and its clock.
 ghost use Rattle.std.specs.Prelude.{◌≤◌, IfOk};
 
-use machine_outside::{
-    AcceptFault, Course, Lobby, MachineClock, MachineSeeds, Reading, Stage, Writing,
-};
+use machine_outside::{Course, Lobby, MachineClock, MachineSeeds, Reading, Stage, Writing};
 use std::alloc::Allocator;
 use std::fmt::Display;
 use std::fs::{File, Files, Metadata, OpenOptions};
@@ -188,21 +186,6 @@ fn a_worker_outlasts_faults_of_accepts(rt: HostRuntime) -> Result<(), Fail> {
         (ended, lobby.listener().calls.load(Ordering::SeqCst)),
         (true, 2)
     );
-    Ok(())
-}
-
-#[test]
-fn faults_of_accepts_are_told_apart(rt: HostRuntime) -> Result<(), Fail> {
-    for code in [1, 4, 64, 71, 92, 95, 100, 101, 103, 104, 110, 112, 113] {
-        let fault = AcceptFault::of(Some(code));
-        assert_eq!(rt; fault, AcceptFault::Connection, "{code}");
-    }
-    for code in [12, 23, 24, 105] {
-        assert_eq!(rt; AcceptFault::of(Some(code)), AcceptFault::Room, "{code}");
-    }
-    for code in [None, Some(9), Some(14), Some(22), Some(88), Some(-1)] {
-        assert_eq!(rt; AcceptFault::of(code), AcceptFault::Listener, "{code:?}");
-    }
     Ok(())
 }
 

@@ -7,3 +7,5 @@ mod fakes;
 mod links;
 #[cfg(test)]
 mod outside;
+#[cfg(test)]
+mod writes;

@@ -19,6 +19,8 @@ const HASTY: u64 = 2_000;
 // A part of the time that a hasty link has.
 const PART: u64 = 1_250;
 
+const GRACE: u64 = 500;
+
 const REQUEST: &str = "GET / HTTP/1.1\r\nHost: a\r\n\r\n";
 
 // The head of a form of four bytes.
@@ -40,6 +42,7 @@ pub fn patience(millis: u64) -> Patience {
         body: time,
         reply: time,
         idle: time,
+        grace: Duration::from_millis(GRACE),
     }
 }
 
@@ -117,7 +120,8 @@ fn flood(link: &mut RealLink<'_>) -> Result<(), Failed> {
             outcome = write_all(link.output(), &long);
         }
     }
-    outcome
+    outcome?;
+    link.output().flush()
 }
 
 // Whether a link waits for these bytes, which its client sends only after a while.
@@ -435,6 +439,32 @@ fn an_idle_link_yields_to_a_visitor(rt: HostRuntime) -> Result<(), Fail> {
 }
 
 #[test]
+fn a_link_that_has_not_asked_yields_to_a_visitor(rt: HostRuntime) -> Result<(), Fail> {
+    let mut talk = Talk::begin(&rt, CALM)?;
+    let visitor = connect(&rt, talk.port)?;
+    let took = talk.is_over();
+    talk.wants(took >= u128::from(GRACE), "the link ends early");
+    talk.wants(took < 5_000, "the link ends late");
+    let mut talk = talk.goes_on(visitor)?;
+    // One that has begun to ask does not.
+    talk.passes(b"GE");
+    let _other = connect(&rt, talk.port)?;
+    talk.passes_late(&rt, REQUEST.as_bytes().get(2..).unwrap_or(b""));
+    talk.replies();
+    assert_eq!(rt; talk.ends_with(REPLY), None);
+    Ok(())
+}
+
+#[test]
+fn a_link_that_has_not_asked_is_kept_where_nobody_waits(rt: HostRuntime) -> Result<(), Fail> {
+    let mut talk = Talk::begin(&rt, CALM)?;
+    talk.passes_late(&rt, REQUEST.as_bytes());
+    talk.replies();
+    assert_eq!(rt; talk.ends_with(REPLY), None);
+    Ok(())
+}
+
+#[test]
 fn a_body_does_not_hide_what_follows(rt: HostRuntime) -> Result<(), Fail> {
     let bytes = format!(in rt.alloc(); "{FORM}\n\nabGET / HT")?;
     let mut talk = Talk::begin(&rt, CALM)?;
@@ -495,6 +525,36 @@ fn a_free_worker_takes_a_visitor(rt: HostRuntime) -> Result<(), Fail> {
     talk.wants(came, "the visitor is not taken");
     talk.reads(b"GET");
     assert_eq!(rt; talk.ends(), None);
+    Ok(())
+}
+
+// Whether each of two workers takes a visitor, where both come when both workers wait.
+fn are_visited(
+    threads: &(impl Threads + Sync),
+    rt: &HostRuntime,
+    port: u16,
+    first: &mut RealPorch<'_>,
+    second: &mut RealPorch<'_>,
+) -> bool {
+    let came = thread::join(
+        threads,
+        || thread::join(threads, || takes_one(first), || takes_one(second)),
+        || {
+            pause(rt);
+            let visitor = TcpStream::connect(rt, (Ipv4Addr::LOCALHOST, port));
+            let other = TcpStream::connect(rt, (Ipv4Addr::LOCALHOST, port));
+            visitor.is_ok() && other.is_ok()
+        },
+    );
+    came.0.0 && came.0.1 && came.1
+}
+
+#[test]
+fn two_workers_that_wait_take_a_visitor_each(rt: HostRuntime) -> Result<(), Fail> {
+    let (mut porches, port) = opened(&rt, CALM, 2)?;
+    let mut second = porches.pop().ok_or("no porch")?;
+    let mut first = porches.pop().ok_or("no porch")?;
+    assert!(rt; are_visited(&rt, &rt, port, &mut first, &mut second));
     Ok(())
 }
 

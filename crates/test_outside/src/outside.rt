@@ -8,7 +8,7 @@ use std::net::{Ipv4Addr, TcpListener, TcpStream};
 use std::test::Fail;
 use std::time::SystemTime;
 use web_outside::{
-    Clock, Door, DoorFault, Nonces, Seeds, Sink, Source, TextSink, TextSource, read_all,
+    Clock, Door, DoorFault, Failed, Nonces, Seeds, Sink, Source, TextSink, TextSource, read_all,
 };
 
 // Bytes that differ from each other for long.
@@ -41,16 +41,16 @@ fn reads_ahead_give_each_byte_once(rt: HostRuntime) -> Result<(), Fail> {
 fn kept_bytes_are_written_once_in_order(rt: HostRuntime) -> Result<(), Fail> {
     let alloc = rt.alloc();
     let bytes = many(alloc, 20_000)?;
-    let mut sink = Together::new(TextSink::new(alloc, 20_000, [1].to_vec(alloc)?)?);
+    let mut sink = Together::new(alloc, TextSink::new(alloc, 20_000, [0].to_vec(alloc)?)?);
     let mut rest = bytes.as_slice();
     for _ in 0..1_000 {
         let piece = rest.get(..rest.len().min(77)).ok_or("short")?;
-        match sink.write(piece) {
-            Ok(count) => rest = rest.get(count..).ok_or("too much")?,
-            Err(_) => assert_eq!(rt; sink.faults(), 1),
-        }
+        let count = sink.write(piece)?;
+        rest = rest.get(count..).ok_or("too much")?;
     }
     assert!(rt; rest.is_empty());
+    // The first write below fails, and what was kept is kept on.
+    assert_eq!(rt; (sink.flush(), sink.faults()), (Err(Failed), 1));
     sink.flush()?;
     assert!(rt; sink.below().bytes() == bytes.as_slice());
     assert!(rt; sink.below().handed() == bytes.as_slice());

@@ -30,8 +30,8 @@ pub struct RackPlan {
     shown: Vec<u32>,
 }
 
-// The decimal numbers of a line; a word that is none is left out.
-fn numbers_of(alloc: Global, text: &str) -> Result<Vec<u64>, AllocError> {
+/// The decimal numbers of a line; a word that is none is left out.
+pub fn numbers_of(alloc: Global, text: &str) -> Result<Vec<u64>, AllocError> {
     let mut numbers = Vec::new(alloc);
     for word in text.split_whitespace() {
         if let Ok(number) = word.parse() {

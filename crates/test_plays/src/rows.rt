@@ -1,5 +1,5 @@
 use crate::outside::{Outcome, ran};
-use crate::racks::RackPlan;
+use crate::plans::Plan;
 use crate::steps::unfolded;
 use crate::told::Told;
 use crate::transcript::transcript;
@@ -24,11 +24,11 @@ enum Block {
     Input { words: String, text: String },
 }
 
-/// The scripts so far, how the rack of the next run is, and the block that is read.
+/// The scripts so far, how the next run is treated, and the block that is read.
 #[derive(Drop)]
 pub struct Rows {
     scripts: Vec<Script>,
-    plan: RackPlan,
+    plan: Plan,
     block: Block,
 }
 
@@ -63,7 +63,7 @@ fn told_of<R: Threads + Wait + Sync>(
     alloc: Global,
     words: &str,
     input: &str,
-    plan: &RackPlan,
+    plan: &Plan,
 ) -> Result<Vec<u8>, AllocError> {
     let words = words_of(alloc, words)?;
     let Outcome { mut written, end } = ran(rt, alloc, &words, input.as_bytes(), plan)?;
@@ -76,7 +76,7 @@ fn started<R: Threads + Wait + Sync>(
     rt: &R,
     alloc: Global,
     script: &str,
-    plan: &RackPlan,
+    plan: &Plan,
 ) -> Result<Vec<u8>, AllocError> {
     let length = script.len();
     let input = format!(in alloc; "script a {length}\n{script}\nsteps\nget 0 /servlets/a\n")?;
@@ -90,7 +90,7 @@ fn transcribed<R: Threads + Wait + Sync>(
     options: &str,
     input: &[u8],
     steps: &str,
-    plan: &RackPlan,
+    plan: &Plan,
 ) -> Result<Vec<u8>, AllocError> {
     let words = format!(in alloc; "play {options}")?;
     let words = words_of(alloc, words.as_str())?;
@@ -124,7 +124,7 @@ impl Rows {
     pub fn new(alloc: Global) -> Rows {
         Rows {
             scripts: Vec::new(alloc),
-            plan: RackPlan::new(alloc),
+            plan: Plan::new(alloc),
             block: Block::Between,
         }
     }
@@ -169,16 +169,16 @@ impl Rows {
         alloc: Global,
         head: &str,
         steps: &str,
-        plan: &RackPlan,
+        plan: &Plan,
     ) -> Result<Vec<u8>, AllocError> {
         let (names, options) = head.split_once(" : ").unwrap_or((head, ""));
         let input = self.input_of(alloc, names, steps)?;
         transcribed(rt, alloc, options, &input, steps, plan)
     }
 
-    // How the rack of this run is; that of the next one is as it was at first.
-    fn take_plan(&mut self, alloc: Global) -> RackPlan {
-        mem::replace(&mut self.plan, RackPlan::new(alloc))
+    // How this run is treated; nothing is said of the next one.
+    fn take_plan(&mut self, alloc: Global) -> Plan {
+        mem::replace(&mut self.plan, Plan::new(alloc))
     }
 
     // What a block comes to.

@@ -1,14 +1,12 @@
-//! Tests of `serve` over links in memory: what is told, what stands on the links, what fails, and two workers beside one another.
+//! Tests of `serve` over links in memory: its gate and its clock, a journal in files, and two workers beside one another.
 #![tactic(auto)]
 
 #[cfg(test)]
-mod faults;
+mod files;
 #[cfg(test)]
 mod links;
 #[cfg(test)]
 mod servings;
-#[cfg(test)]
-mod streams;
 #[cfg(test)]
 mod streets;
 #[cfg(test)]

@@ -20,10 +20,6 @@ pub const ALL: (&str, &str) = (
     "(let ((b (send/suspend (lambda (u) `(a ((href ,u)) \"1\"))))) (cons 'p (extract-bindings 'n b)))",
 );
 
-/// What a link is told that asks for the page of `ten`.
-pub const TEN_PAGE: &str =
-    "HTTP/1.1 200 OK\r\nContent-Type: text/html; charset=utf-8\r\nContent-Length: 12\r\nConnection: close\r\n\r\n<p>12345</p>";
-
 /// The status, what was told, what stands on the links, the pages that each worker counted, and how long the history of each
 /// shelf is.
 #[derive(Drop)]
@@ -49,8 +45,8 @@ impl Outside {
     fn new(alloc: Global, input: &str, street: &Street) -> Result<Outside, Fail> {
         Ok(Outside {
             source: TextSource::new(input.as_bytes().to_vec(alloc)?, Vec::new(alloc), 4096),
-            sink: TextSink::new(alloc, street.room, Vec::new(alloc))?,
-            seeds: ListSeeds::new(street.draws.to_vec(alloc)?),
+            sink: TextSink::new(alloc, 1_000, Vec::new(alloc))?,
+            seeds: ListSeeds::new(Vec::new(alloc)),
             door: door_of(alloc, street)?,
             past: KeptPast::new(),
         })
@@ -141,16 +137,6 @@ pub fn served_at<R: Machine, C: Clock + Sync, G: Gate + Sync>(
     ending_of(alloc, status, &outside)
 }
 
-/// What serving this input comes to.
-pub fn served_input<R: Machine>(
-    rt: &R,
-    words: &[&str],
-    input: &str,
-    street: &Street,
-) -> Result<Ending, Fail> {
-    served_at(rt, words, input, street, &SetClock::new(0), &OpenGate)
-}
-
 /// What serving a script comes to.
 pub fn served<R: Machine>(
     rt: &R,
@@ -159,7 +145,7 @@ pub fn served<R: Machine>(
     street: &Street,
 ) -> Result<Ending, Fail> {
     let setup = setup_of(rt.alloc(), &[script])?;
-    served_input(rt, words, &setup, street)
+    served_at(rt, words, &setup, street, &SetClock::new(0), &OpenGate)
 }
 
 /// What stands on the link of this number, the first being 0.

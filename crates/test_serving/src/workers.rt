@@ -1,45 +1,60 @@
 //! Two workers beside one another.
 
-use crate::servings::{TEN, served, served_at};
+use crate::servings::{Ending, TEN, served, served_at};
 use crate::streets::{QUIET, Street};
-use std::sync::atomic::{AtomicBool, Ordering};
+use std::sync::atomic::{AtomicU64, Ordering};
 use std::test::Fail;
 use test_commands::setup_of;
 use web_outside::{Gate, SetClock};
 
-// A gate that holds the visit of number 0 until that of number 1 has passed, for so many turns at most.
+// A gate that holds visits between their take and their publish: 0 up to the take of 1, so that each worker has begun, 1 up to
+// that of 2, and 2 up to that of 4, each for so many turns at most.
 #[derive(Drop)]
 struct HoldingGate {
-    passed: AtomicBool,
-    missed: AtomicBool,
+    // One more than the greatest number that came.
+    came: AtomicU64,
+    missed: AtomicU64,
 }
 
 const MOST_TURNS: u32 = 1_000_000_000;
 
 impl HoldingGate {
-    fn hold(&self) {
+    fn hold(&self, until: u64) {
         for _ in 0..MOST_TURNS {
-            if self.passed.load(Ordering::SeqCst) {
+            if self.came.load(Ordering::SeqCst) > until {
                 return;
             }
         }
-        self.missed.store(true, Ordering::SeqCst);
+        self.missed.fetch_add(1, Ordering::SeqCst);
     }
 }
 
 impl Gate for HoldingGate {
     fn pass(&self, number: u64) {
+        self.came
+            .fetch_max(number.saturating_add(1), Ordering::SeqCst);
         match number {
-            0 => self.hold(),
-            1 => self.passed.store(true, Ordering::SeqCst),
+            0 => self.hold(1),
+            1 => self.hold(2),
+            2 => self.hold(4),
             _ => {}
         }
     }
 }
 
-const ONE_EACH: Street = Street {
-    links: &["GET /servlets/ten HTTP/1.0\r\n\r\n"],
-    others: Some(&["GET /servlets/ten HTTP/1.0\r\n\r\n"]),
+// A script with one item to be sold.
+const SHOP: (&str, &str) = (
+    "shop",
+    "(define stock (make-instance-cell 1)) (begin (send/suspend (lambda (u) `(a ((href ,u)) \"buy\"))) (if (< (instance-cell-ref stock) 1) '(p \"sold out\") (begin (instance-cell-add! stock -1) '(p \"bought\"))))",
+);
+
+// What each worker's link asks for: a start, the item of the first start, and another start.
+const BUYER: &str =
+    "GET /servlets/shop HTTP/1.1\r\nHost: h\r\n\r\nGET /servlets/shop;0*0*0*0000000000000000 HTTP/1.1\r\nHost: h\r\n\r\nGET /servlets/shop HTTP/1.1\r\nHost: h\r\n\r\n";
+
+const TWO_BUYERS: Street = Street {
+    links: &[BUYER],
+    others: Some(&[BUYER]),
     ..QUIET
 };
 
@@ -54,20 +69,31 @@ const TWO_WORKERS: &[&str] = &[
     "1",
 ];
 
+// How many links were told this.
+fn count_told(outcome: &Ending, text: &str) -> usize {
+    let links = outcome.links.iter();
+    links.filter(|link| link.as_str().contains(text)).count()
+}
+
+// The visit that is held, of number 2, ran its script before that of number 3 came, which bought the item. It is published when
+// that one has its reply, since the same link asked for the visit of number 4 behind it.
 #[test]
-fn two_workers_visit_one_shelf_at_once(rt: HostRuntime) -> Result<(), Fail> {
-    let setup = setup_of(rt.alloc(), &[TEN])?;
+fn a_visit_that_is_held_until_another_has_its_reply_runs_again(
+    rt: HostRuntime,
+) -> Result<(), Fail> {
+    let setup = setup_of(rt.alloc(), &[SHOP])?;
     let gate = HoldingGate {
-        passed: AtomicBool::new(false),
-        missed: AtomicBool::new(false),
+        came: AtomicU64::new(0),
+        missed: AtomicU64::new(0),
     };
     let clock = SetClock::new(0);
-    let outcome = served_at(&rt, TWO_WORKERS, &setup, &ONE_EACH, &clock, &gate)?;
-    assert!(rt; !gate.missed.load(Ordering::SeqCst));
-    assert_eq!(rt; outcome.status, 0);
-    assert_eq!(rt; outcome.text.as_str(), "pages 2 refused 0\n");
-    assert_eq!(rt; outcome.pages.as_slice(), [1, 1].as_slice());
-    assert_eq!(rt; outcome.entries.as_slice(), [4].as_slice());
+    let outcome = served_at(&rt, TWO_WORKERS, &setup, &TWO_BUYERS, &clock, &gate)?;
+    assert_eq!(rt; gate.missed.load(Ordering::SeqCst), 0);
+    assert_eq!(rt; outcome.text.as_str(), "pages 6 refused 0\n");
+    assert_eq!(rt; outcome.pages.as_slice(), [3, 3].as_slice());
+    assert_eq!(rt; outcome.entries.as_slice(), [12].as_slice());
+    assert_eq!(rt; count_told(&outcome, "<p>bought</p>"), 1);
+    assert_eq!(rt; count_told(&outcome, "<p>sold out</p>"), 1);
     Ok(())
 }
 

@@ -3,7 +3,7 @@ ghost use Rattle.std.specs.Prelude.{◌≡◌, ◌<◌, ◌^◌, [], None, IfOk,
 ghost use Rattle.script_nodes.specs.Views.{scripts_of};
 ghost use Rattle.instance_book.specs.Admissions.{refusal_for};
 ghost use Rattle.instance_book.specs.Changes.{HasRoomFor};
-ghost use Rattle.instance_book.specs.Makes.{HasPlaces};
+ghost use Rattle.instance_book.specs.Makes.{HasPlaces, HasSomeStates};
 
 use crate::texts::{SUM, datum, is_datum, setup, target, text_of};
 use instance_book::{Book, Prepared, Ticket};
@@ -17,7 +17,8 @@ use web_cells::Shades;
 
 // A book of the shelf 7 with nothing in it, for the scripts of a setup.
 fn empty_book(alloc: Global, setup: &Setup) -> Book
-    ensures { HasPlaces (scripts_of setup.now) result }
+    ensures placed { HasPlaces (scripts_of setup.now) result }
+    ensures kept { HasSomeStates (scripts_of setup.now) result }
 {
     let _ = setup;
     Book::empty(alloc, 7)
@@ -29,6 +30,7 @@ fn take(alloc: Global, book: &mut Book, setup: &Setup, target: &Target) -> Resul
     requires admitted { refusal_for setup.now book.old target.now ≡ None }
     requires numbers { book.old.drawn < 2 ^ 62 }
     requires placed { HasPlaces (scripts_of setup.now) book.old }
+    requires kept { HasSomeStates (scripts_of setup.now) book.old }
     ensures { IfOk result (λ t. Contains book.new.out.items t.number) }
 {
     let answer = datum(alloc, "3")?;
@@ -38,7 +40,8 @@ fn take(alloc: Global, book: &mut Book, setup: &Setup, target: &Target) -> Resul
 
 // A ticket for a start.
 fn started(alloc: Global, book: &mut Book, setup: &Setup) -> Result<Ticket, Fail>
-    requires { HasPlaces (scripts_of setup.now) book.old }
+    requires placed { HasPlaces (scripts_of setup.now) book.old }
+    requires kept { HasSomeStates (scripts_of setup.now) book.old }
     ensures { IfOk result (λ t. Contains book.new.out.items t.number) }
 {
     if book.drawn() >= 1_000 {
@@ -121,7 +124,8 @@ fn copied_for(alloc: Global, book: &mut Book, ticket: &Ticket) -> Result<Prepare
 
 // A copy of what is prepared for a start is installed.
 fn installed(alloc: Global, book: &mut Book, setup: &Setup) -> Result<Reply, Fail>
-    requires { HasPlaces (scripts_of setup.now) book.old }
+    requires placed { HasPlaces (scripts_of setup.now) book.old }
+    requires kept { HasSomeStates (scripts_of setup.now) book.old }
 {
     let ticket = started(alloc, book, setup)?;
     expect_copy(alloc, &ticket)?;

@@ -2,7 +2,7 @@
 ghost use Rattle.std.specs.Prelude.{◌≡◌, ◌^◌, false, length, IfOk};
 ghost use Rattle.script_nodes.specs.Views.{scripts_of};
 ghost use Rattle.web_disk.specs.Repeated.{repeat_view};
-ghost use Rattle.shelf.specs.Views.{IsInOrder};
+ghost use Rattle.shelf.specs.Views.{IsInOrder, IsInSomeOrder};
 
 use crate::openings::{LongShelf, answered, bytes_of, created, tried};
 use crate::texts::setup;
@@ -73,8 +73,19 @@ fn too_long(
     }
 }
 
-// What a start is told, and its page for three texts.
-fn four_told(alloc: Global, shelf: &mut LongShelf, setup: &Setup) -> Result<[Option<u64>; 4], Fail>
+// What a sweep is told: none where it is one, and else the length that the journal would have.
+fn too_late(alloc: Global, shelf: &mut LongShelf) -> Result<Option<u64>, Fail>
+    requires { IsInSomeOrder repeat_view false shelf.old }
+{
+    match shelf.sweep(alloc, 1) {
+        Ok(_) => Ok(None),
+        Err(Reply::JournalFull(length)) => Ok(Some(length)),
+        Err(_) => Err(Fail::from("another reply to a sweep")),
+    }
+}
+
+// What a start is told, its page for three texts, and a sweep.
+fn five_told(alloc: Global, shelf: &mut LongShelf, setup: &Setup) -> Result<[Option<u64>; 5], Fail>
     requires { IsInOrder repeat_view false (scripts_of setup.now) shelf.old }
 {
     Ok([
@@ -82,24 +93,31 @@ fn four_told(alloc: Global, shelf: &mut LongShelf, setup: &Setup) -> Result<[Opt
         too_long(alloc, shelf, setup, FIRST, 1_048_307)?,
         too_long(alloc, shelf, setup, FIRST, 1_048_306)?,
         too_long(alloc, shelf, setup, FIRST, 1)?,
+        too_late(alloc, shelf)?,
     ])
 }
 
 // The same on a new shelf of that disk.
-fn four_told_at_the_end(alloc: Global, setup: &Setup) -> Result<[Option<u64>; 4], Fail> {
+fn five_told_at_the_end(alloc: Global, setup: &Setup) -> Result<[Option<u64>; 5], Fail> {
     let mut shelf = long_shelf(alloc, setup)?;
-    four_told(alloc, &mut shelf, setup)
+    five_told(alloc, &mut shelf, setup)
 }
 
-// A start adds 72 bytes, and an answer 95 besides its zeros: 26 and 35 of them are the state of its page.
+// A start adds 72 bytes, an answer 95 besides its zeros, and a sweep 14; 26 and 35 of the first two are the state of its page.
 #[test]
 fn a_shelf_writes_up_to_1073741824_bytes(rt: HostRuntime) -> Result<(), Fail> {
     let alloc = rt.alloc();
     let setup = setup(alloc, &[("s", PAGES)])?;
-    let told = four_told_at_the_end(alloc, &setup)?;
+    let told = five_told_at_the_end(alloc, &setup)?;
     assert_eq!(rt;
         told,
-        [None, Some(1_073_741_825), None, Some(1_073_741_920)]
+        [
+            None,
+            Some(1_073_741_825),
+            None,
+            Some(1_073_741_920),
+            Some(1_073_741_838)
+        ]
     );
     Ok(())
 }

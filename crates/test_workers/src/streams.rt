@@ -5,7 +5,7 @@ use http_forms::Refused;
 use request_workers::{LinkEnd, Links, MOST_REQUESTS, serve_link};
 use std::alloc::Global;
 use std::test::Fail;
-use web_outside::{OpenGate, SetClock, TextLink, TextSink, TextSource};
+use web_outside::{Clock, OpenGate, SetClock, TextLink, TextSink, TextSource, TickingClock};
 
 const FIRST: &[u8] = b"GET /servlets/sum HTTP/1.1\r\nHost: h\r\n\r\n";
 
@@ -64,7 +64,17 @@ struct Became {
     link: TextLink,
 }
 
+// A link over which the clock goes on with each request.
 fn served(alloc: Global, sends: &[u8], treated: Treated) -> Result<Became, Fail> {
+    served_by(alloc, sends, treated, &TickingClock::new(7, 3))
+}
+
+fn served_by<C: Clock>(
+    alloc: Global,
+    sends: &[u8],
+    treated: Treated,
+    clock: &C,
+) -> Result<Became, Fail> {
     let failing = [treated.failing].as_slice().to_vec(alloc)?;
     let mut link = TextLink {
         input: TextSource::new(sends.to_vec(alloc)?, failing, treated.greatest.max(1)),
@@ -76,7 +86,7 @@ fn served(alloc: Global, sends: &[u8], treated: Treated) -> Result<Became, Fail>
         &Counter,
         &mut asked,
         &mut link,
-        &SetClock::new(7),
+        clock,
         &OpenGate,
         treated.requests.max(1).min(MOST_REQUESTS),
     );
@@ -217,6 +227,16 @@ fn ten_requests_are_answered_in_order_however_they_are_cut(rt: HostRuntime) -> R
         );
         assert_eq!(rt; became.asked.ticks.len(), 11);
     }
+    Ok(())
+}
+
+#[test]
+fn shelves_are_swept_once_a_tick(rt: HostRuntime) -> Result<(), Fail> {
+    let alloc = rt.alloc();
+    let sent = ten_requests(alloc)?;
+    let became = served_by(alloc, &sent, FAIR, &SetClock::new(7))?;
+    assert_eq!(rt; became.asked.visits, 10);
+    assert!(rt; became.asked.ticks.as_slice() == [7].as_slice());
     Ok(())
 }
 
