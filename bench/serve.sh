@@ -1,9 +1,10 @@
 #!/bin/sh
 # Starts `serve` on a free port, tries a start, an answer, the way back and a second window with curl, and prints how many
 # requests a second it serves, beside a bare loop that accepts, reads, replies and closes (bare_loop.c, by `cc -O2`). Then
-# 1, 8 and 64 clients that keep their links (clients.c) ask four workers, for what is unknown and for visits, in memory and
-# with a journal, beside four bare loops that keep their links, up to 100 requests a link as `serve` does. At last 64 links
-# are held open and idle, and visitors come (idle_links.c): where one waits for 50 milliseconds or more, it fails. The first
+# 1, 8 and 64 clients that keep their links (clients.c) ask four workers over four shelves, for what is unknown and for
+# visits, in memory and with a journal, beside four bare loops that keep their links, up to 100 requests a link as `serve`
+# does. Beside the visits with a journal stand bare loops of write, sync, write, sync of as many bytes (sync_loop.c), one for
+# each client and four at most. Of each column it prints what part of its loops' figure it is. At last 64 links are held open and idle, and visitors come (idle_links.c): where one waits for 50 milliseconds or more, it fails. The first
 # word says how many requests one client sends, 1,000 if it is not given, the second how many those that keep their links,
 # 20,000. No part of the gate. Needs curl, cc, and a date that knows %N.
 
@@ -91,6 +92,7 @@ echo "$requests requests one after the other by one curl: serve $rate a second, 
 
 cc -O2 -pthread -o "$work/clients" "$here/bench/clients.c" || exit 1
 cc -O2 -o "$work/idle_links" "$here/bench/idle_links.c" || exit 1
+cc -O2 -o "$work/sync_loop" "$here/bench/sync_loop.c" || exit 1
 
 # Starts a server of four workers with this journal; where it listens is left in `host`.
 start_server() {
@@ -125,12 +127,17 @@ visits() {
     done
 }
 
+# How many bytes the journal has.
+journal_bytes() {
+    cat "$work"/journal/shelf-* | wc -c
+}
+
 echo /servlets/other >"$work/unknown"
 "$work/bare_loop" 1000000 4 100 2>"$work/there" &
 bare_loops=$!
 there=$(address_in "$work/there") || exit 1
-echo "requests a second over kept links, $kept requests, four workers"
-echo "clients  unknown  visits in memory  visits with a journal  bare loops"
+echo "requests a second over kept links, $kept requests, four workers, four shelves"
+echo "clients  unknown  visits in memory  visits with a journal  bare loops  sync loops"
 start_server -
 in_memory=$host
 first_server=$server
@@ -138,11 +145,23 @@ visits
 mv "$work/visits" "$work/visits_in_memory"
 start_server "$work/journal"
 visits
+: >"$work/parts"
 for clients in 1 8 64; do
-    printf '%7s %8s %17s %22s %11s\n' "$clients" "$(kept_rate "$in_memory" "$clients" "$work/unknown")" \
-        "$(kept_rate "$in_memory" "$clients" "$work/visits_in_memory")" "$(kept_rate "$host" "$clients" "$work/visits")" \
-        "$(kept_rate "$there" "$clients" "$work/unknown")"
+    unknown=$(kept_rate "$in_memory" "$clients" "$work/unknown") || exit 1
+    memory=$(kept_rate "$in_memory" "$clients" "$work/visits_in_memory") || exit 1
+    before=$(journal_bytes)
+    journal=$(kept_rate "$host" "$clients" "$work/visits") || exit 1
+    record=$((($(journal_bytes) - before + kept / 2) / kept))
+    bare=$(kept_rate "$there" "$clients" "$work/unknown") || exit 1
+    files=$((clients < 4 ? clients : 4))
+    syncs=$("$work/sync_loop" "$work/synced" "$((kept / files))" "$record" "$files") || fail "the sync loops ended badly"
+    printf '%7s %8s %17s %22s %11s %11s\n' "$clients" "$unknown" "$memory" "$journal" "$bare" "$syncs"
+    echo "$clients $unknown $memory $journal $bare $syncs" >>"$work/parts"
 done
+awk '{
+    printf "%s clients: unknown %.2f and visits in memory %.2f of the bare loops, visits with a journal %.2f of the sync loops\n",
+        $1, $2 / $5, $3 / $5, $4 / $6
+}' "$work/parts"
 pkill -P "$bare_loops" 2>/dev/null
 kill "$bare_loops"
 end_server
