@@ -7,20 +7,24 @@ use Rattle.web_outside.proofs.Consumed.{consumes_then}
 use Rattle.http_forms.specs.Outcomes.{visit_in}
 use Rattle.http_forms.specs.Request.{Visit, unfinished, visits, Decides}
 use Rattle.http_forms.specs.Progress.{IsDecided, Follows, Knows}
-use Rattle.http_forms.specs.Reader.{Gets, ReadsMore, IsEnough, Fills, Gives, GivesVisit}
+use Rattle.http_forms.specs.Reader.{Gets, ReadsMore, ReadsNoFurther, IsEnough, Fills, Gives, GivesVisit}
 use Rattle.http_forms.specs.declared.reader.Incoming.{Incoming}
 use Rattle.http_forms.specs.declared.reader.Incoming.TheVariants.{Visit as Visiting}
 use Rattle.http_forms.specs.declared.request.Request.{Request}
 use Rattle.http_forms.specs.declared.progress.RequestScanner.{RequestScanner}
 use Rattle.http_forms.specs.declared.reader.ReadStop.{ReadStop}
 use Rattle.http_forms.specs.declared.reader.ReadStop.TheVariants.{Failed, Memory}
-use Rattle.http_forms.proofs.Decisions.{outcomes_are_one, ended_links_are_decided}
+use Rattle.http_forms.proofs.Decisions.{outcomes_are_one, requests_stand_alone, ended_links_are_decided}
 use Rattle.http_forms.proofs.Fronts.{requests_are_fronts}
 use Rattle.http_forms.proofs.Bounds.{unfinished_bound}
 
 consumes_none : (known : Option (List ℕ)) → Consumes known known []
 consumes_none None = tt
 consumes_none (Some xs) = refl
+
+keeps_itself : (known : Option (List ℕ)) → Keeps known known
+keeps_itself None = tt
+keeps_itself (Some xs) = refl
 
 consumes_kept : (old mid new : Option (List ℕ)) (bytes : List ℕ) → Consumes old mid bytes → Keeps mid new → Consumes old new bytes
 consumes_kept None mid new bytes p q = tt
@@ -52,6 +56,14 @@ pub still_open : (bytes : List ℕ) (wanted : ℕ) → ((more : List ℕ) → le
     → 0 < wanted → Decides bytes false unfinished
 still_open bytes wanted short some = subst (λ w. Decides w false unfinished) (append-nil bytes) (short [] some)
 
+-- where bytes are unfinished, those that were kept before were not decided, so more was to be read
+pub more_is_due : (old new : Option (List ℕ)) (mid : Option (List ℕ)) (first bytes : List ℕ) → Gets old mid first [] bytes
+    → Decides bytes false unfinished → ReadsNoFurther old new first
+more_is_due old new mid first bytes got still decided =
+    let whole = requests_stand_alone first got.read false decided.outcome decided.decides decided.finished in
+    absurd (decided.finished (outcomes_are_one bytes false decided.outcome unfinished
+    (subst (λ w. Decides w false decided.outcome) got.is whole) still))
+
 -- decided bytes ask for no more
 pub enough : (bytes : List ℕ) → IsDecided bytes → IsEnough bytes false
 enough bytes decided more = absurd (decided.finished (outcomes_are_one bytes false decided.outcome unfinished decided.decides more))
@@ -74,23 +86,30 @@ pub record Says (scanner : RequestScanner) (wanted : ℕ) (shown : List ℕ) : T
 -- how far the reading has come: bytes were read behind those that were kept, and the scanner has followed them
 pub record Came (old new : Option (List ℕ)) (first bytes : List ℕ) (scanner : RequestScanner) (wanted before now : ℕ) : Type 0 where
   pub got : Gets old new first [] bytes
+  pub prompt : ReadsNoFurther old new first
   pub says : Says scanner wanted bytes
   pub later : before ≤ now
 
 pub came_first : (known : Option (List ℕ)) (bytes shown : List ℕ) (scanner : RequestScanner) (wanted count : ℕ)
     → shown ≡ bytes → Says scanner wanted shown → Came known known bytes bytes scanner wanted count count
 came_first known bytes shown scanner wanted count is says =
-    record { got = gets_none known bytes; says = subst (Says scanner wanted) is says; later = omega arith }
+    record {
+      got = gets_none known bytes;
+      prompt = λ decided. keeps_itself known;
+      says = subst (Says scanner wanted) is says;
+      later = omega arith;
+    }
 
 -- a piece more was read, and shown to the scanner
 pub came_more : (old mid new : Option (List ℕ)) (first bytes after shown : List ℕ) (scanner scanner' : RequestScanner)
     (wanted wanted' before now now' count : ℕ)
-    → Came old mid first bytes scanner wanted before now → ReadsMore mid new bytes after (Ok count)
+    → Came old mid first bytes scanner wanted before now → 0 < wanted → ReadsMore mid new bytes after (Ok count)
     → shown ≡ after → Says scanner' wanted' shown → now ≤ now' → Came old new first after scanner' wanted' before now'
-came_more old mid new first bytes after shown scanner scanner' wanted wanted' before now now' count here (piece, more, is, size, end) seen says later =
+came_more old mid new first bytes after shown scanner scanner' wanted wanted' before now now' count here some (piece, more, is, size, end) seen says later =
     let l = here.later in
     record {
       got = gets_more old mid new first bytes after piece here.got more is;
+      prompt = more_is_due old new mid first bytes here.got (still_open bytes wanted here.says.short some);
       says = subst (Says scanner' wanted') seen says;
       later = omega (arith, l, later);
     }

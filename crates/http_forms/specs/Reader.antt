@@ -2,6 +2,7 @@
 use Rattle.std.specs.Prelude.{◌≡◌, ◌++◌, ℕ, Bool, true, false, List, [], length, Option, Result, Ok, Err, ⊤}
 use Rattle.std.specs.Io.KnownBytes.{Consumes, Keeps, IsAtEnd}
 use Rattle.http_forms.specs.Outcomes.{visit_in}
+use Rattle.http_forms.specs.Progress.{IsDecided}
 use Rattle.http_forms.specs.Request.{Outcome, unfinished, refused, Decides}
 use Rattle.http_forms.specs.declared.reader.ReadStop.{ReadStop}
 use Rattle.http_forms.specs.declared.reader.ReadStop.TheVariants.{Failed, Memory}
@@ -35,6 +36,10 @@ abbrev pub Fills : (old new : Option (List ℕ)) (before after : List ℕ) → R
 Fills old new before after (Ok ended) = Gets old new before [] after × (ended ≡ true → IsAtEnd new) × IsEnough after ended
 Fills old new before after (Err Failed) = Gets old new before [] after × Decides after false unfinished
 Fills old new before after (Err Memory) = (read : List ℕ) × Consumes old new read
+
+-- no byte is read where those that are kept are a request or refused: its reply waits for nothing that follows
+abbrev pub ReadsNoFurther : (old new : Option (List ℕ)) (before : List ℕ) → Type 0
+ReadsNoFurther old new before = IsDecided before → Keeps old new
 
 -- what came is an outcome of this kind, unless memory ran out
 abbrev pub Gives : Result Incoming ReadStop → (Outcome → Type 0) → Type 0

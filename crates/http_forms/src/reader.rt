@@ -1,7 +1,7 @@
 ghost use Rattle.std.specs.Prelude.{◌≡◌, ◌≤◌, [], ℕ, List, length, drop, IfOk, IsErrOf};
 ghost use Rattle.web_outside.specs.Causes.{Rose};
 ghost use Rattle.http_forms.specs.Progress.{Follows, Knows};
-ghost use Rattle.http_forms.specs.Reader.{kept, ReadsMore, Fills, Gives, Nexts};
+ghost use Rattle.http_forms.specs.Reader.{kept, ReadsMore, ReadsNoFurther, Fills, Gives, Nexts};
 ghost use Rattle.http_forms.specs.Request.{Decides};
 ghost use Rattle.http_forms.specs.declared.reader.ReadStop.TheVariants.{Failed as ReadFailed, Memory as ReadMemory};
 
@@ -78,6 +78,8 @@ fn fill<S: Source>(
     requires begins { (shown : List ℕ) → Follows scanner.old shown }
     ensures read { Fills (S.view source.old).left
         (S.view source.new).left bytes.old.items bytes.new.items result }
+    ensures prompt { ReadsNoFurther (S.view source.old).left
+        (S.view source.new).left bytes.old.items }
     ensures knows { IfOk result (λ _. Knows scanner.new bytes.new.items) }
     ensures failed { IsErrOf result ReadStop.Failed →
         Rose (S.view source.old).faults (S.view source.new).faults }
@@ -138,10 +140,12 @@ impl RequestReader {
     }
 
     /// The next request of the link, behind which the reader stands then; or why the bytes that come next are refused, which
-    /// it goes on to keep; or nothing, where the link ended.
+    /// it goes on to keep; or nothing, where the link ended. It reads nothing where what it keeps tells already.
     pub fn next<S: Source>(&mut self, alloc: Global, source: &mut S) -> Result<Incoming, ReadStop>
         ensures next { Nexts (S.view source.old).left (S.view source.new).left
             (kept self.old) (kept self.new) result }
+        ensures prompt { ReadsNoFurther (S.view source.old).left (S.view source.new).left
+            (kept self.old) }
         ensures failed { IsErrOf result ReadStop.Failed →
             Rose (S.view source.old).faults (S.view source.new).faults }
         ensures later { (S.view source.old).faults ≤ (S.view source.new).faults }

@@ -1,13 +1,13 @@
 -- One request of a link.
 use Rattle.std.proofs.Common.{◌≡◌, ◌≤◌, ◌+◌, ◌||◌, ◌++◌, ◌∷◌, inl, inr, [], ℕ, List, Bool, true, false, length, nat_le, option_map, Option, Some, None, Ok, Err, refl, sym, ap, ◌∙◌, subst, append-nil, arith}
-use Rattle.std.specs.Prelude.{⊤}
+use Rattle.std.specs.Prelude.{⊤, IfSome}
 use Rattle.std.specs.Io.KnownBytes.{Consumes, IsAtEnd}
 use Rattle.web_outside.specs.Causes.{Rose}
 use Rattle.web_outside.specs.View.{SourceView, SinkView, LinkView}
 use Rattle.script_value.specs.declared.outcome.Reply.{Reply}
 use Rattle.script_value.specs.Views.{meaning}
 use Rattle.page_names.specs.Views.{target_of}
-use Rattle.http_forms.specs.Passes.{PassRules}
+use Rattle.http_forms.specs.Passes.{PassRules, MaySkip, KeepsSkips}
 use Rattle.http_forms.specs.Outcomes.{visit_in}
 use Rattle.http_forms.specs.Reader.{Gets, GivesVisit, Stands, Nexts}
 use Rattle.http_forms.specs.declared.reader.Incoming.{Incoming}
@@ -236,6 +236,12 @@ tick_lacks rules shown left p m kept kept' old count none =
     stops rules shown left p m kept kept' old old count ends.Memory
     (link_stops rules shown left p m kept [] old old cut false ends.Memory (consumes_none old.input.left)
     (λ e. cc) tt (inr (none, refl)) (inr (refl, refl)) refl)
+
+-- a tick that might be left out before a visit may be left out after it
+pub skips_kept : {P : Type 0} (rules : PassRules P) (old new : P) (ticked : Option ℕ) → IfSome ticked (MaySkip rules old)
+    → KeepsSkips rules old new → IfSome ticked (MaySkip rules new)
+skips_kept rules old new None may keeps = tt
+skips_kept rules old new (Some tick) may keeps = keeps tick may
 
 pub swept_all : {P : Type 0} (rules : PassRules P) (shown : Option ℕ) (p m : P) (whole : Bool) → whole ≡ true
     → SweptBy rules shown p whole m → SweepsAll rules shown p m

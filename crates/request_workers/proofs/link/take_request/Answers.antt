@@ -2,7 +2,7 @@ use Rattle.std.proofs.Common.{arith, rules}
 use Rattle.std.proofs.lemmas.Bool.Decides.{nat_tests}
 use Rattle.http_forms.specs.declared.reader.Incoming.TheVariants as incoming
 use Rattle.http_forms.specs.declared.reader.ReadStop.TheVariants as stop
-use Rattle.request_workers.proofs.Turns.{answered, refuses, idles, read_fails, read_lacks, tick_lacks, swept_all, swept_none, next_is, stop_is}
+use Rattle.request_workers.proofs.Turns.{answered, refuses, idles, read_fails, read_lacks, tick_lacks, skips_kept, swept_all, swept_none, next_is, stop_is}
 use Rattle.request_workers.proofs.link.take_request.Goals as goal
 
 pub returns-in-Ok-Visit-clause-turn : goal.returns-in-Ok-Visit-clause-turn
@@ -12,6 +12,11 @@ returns-in-Ok-Visit-clause-turn g c =
     c.input.ensures.value (g.met.L.Link.input_set _ _)
     (next_is _ _ _ _ _ _ c.in-Ok-Visit.field-0-is c.in-Ok-Visit.ensures.next)
     (grind (arith, nat_tests, c.requires.some)) c.answer_request.ensures.answered
+
+pub returns-in-Ok-Visit-clause-ticked : goal.returns-in-Ok-Visit-clause-ticked
+returns-in-Ok-Visit-clause-ticked g c =
+    skips_kept (g.A.Answering.rules c.args.answering.now) c.sweep.new.pass c.answer_request.new.pass c.sweep.new.ticked
+    c.sweep.ensures.ticked c.answer_request.ensures.skips
 
 pub returns-in-Ok-Refused-clause-turn : goal.returns-in-Ok-Refused-clause-turn
 returns-in-Ok-Refused-clause-turn g c =
