@@ -6,7 +6,7 @@ use Rattle.script_nodes.specs.Arena.{Arena, IsScript, parts}
 use Rattle.segment_progress.specs.States.{state_of}
 use Rattle.replay_spec.specs.Tape.{got}
 use Rattle.machine_states.specs.Machine as spec
-use Rattle.machine_states.specs.Machine.{node_at, bindings_in, next, goes, step, outer_env, outer_frames, stepped, in_binding, in_operand, in_seq, in_and, in_or, in_if, in_count, in_store, in_turn, in_call, first_of}
+use Rattle.machine_states.specs.Machine.{node_at, next, goes, step, outer_env, outer_frames, stepped, in_binding, in_operand, in_seq, in_and, in_or, in_if, in_count, in_store, in_turn, in_call}
 use Rattle.machine_states.specs.Fits.{node_of, IsKind, IsPart, FitsAt}
 use Rattle.machine_states.proofs.Fitting.{node_is_there, few_done}
 use Rattle.machine_states.proofs.Stepping.{visit_there, place_there, fits_on, pays_on}

@@ -3,7 +3,6 @@ ghost use Rattle.script_nodes.specs.Arena.{IsScript};
 ghost use Rattle.segments.specs.Views.{now_of, outcome_of};
 ghost use Rattle.instance_cells.specs.Views.{effect_of};
 ghost use Rattle.machine_states.specs.Fits.{FitsAt, Fits};
-ghost use Rattle.cek_machine.specs.Kinds.{Stands};
 ghost use Rattle.cek_machine.specs.Spots.{Sound, Pops, Cuts, Nexts, frames_of, control_of};
 ghost use Rattle.machine_states.specs.Views.{suspended_of, frame_of};
 ghost use Rattle.cek_machine.specs.Machines.{Steps as StepsSo, Runs, Starts, Resumes, StepTakesMemory, RunTakesMemory, IsReady, IsWithin, machine_of, state_in, open_in, kept_of};

@@ -1,11 +1,10 @@
-ghost use Rattle.std.specs.Prelude.{◌≡◌, ◌<◌, ◌≤◌, ◌+◌, drop, length, pos, suc};
-ghost use Rattle.script_value.specs.Views.{meaning};
+ghost use Rattle.std.specs.Prelude.{◌≡◌, ◌<◌, ◌+◌, drop, length, pos, suc};
 ghost use Rattle.script_nodes.specs.Arena.{IsFull, IsOnTasks, parts};
 ghost use Rattle.machine_states.specs.Machine.{node_at};
 ghost use Rattle.cek_machine.specs.Kinds.{IsRow};
 
 use script_nodes::{Node, Script};
-use script_value::{Items, Value};
+use script_value::Items;
 
 /// The node of a number.
 pub fn node_of(script: &Script, number: u32) -> &Node

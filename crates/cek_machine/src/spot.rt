@@ -1,12 +1,11 @@
-ghost use Rattle.std.specs.Prelude.{◌≡◌, ◌<◌, ◌≤◌, ◌+◌, ◌-◌, ◌^◌, ◌∷◌, ◌++◌, [], length, suc, OnOk, IsTrue};
+ghost use Rattle.std.specs.Prelude.{◌<◌, ◌+◌, ◌-◌, [], length, OnOk, IsTrue};
 ghost use Rattle.script_value.specs.Views.{meaning};
 ghost use Rattle.prim_spec.specs.Table.{takes};
 ghost use Rattle.replay_spec.specs.Tape.{shadow, set_cell};
 ghost use Rattle.replay_spec.specs.Eval.{value_at};
 ghost use Rattle.script_nodes.specs.declared.script.Node.TheVariants as variant;
 ghost use Rattle.machine_states.specs.Machine.{next_operand, next_argument, next_binding};
-ghost use Rattle.cek_machine.specs.Spots.{Moves, Gives, GivesCopy, Sends, Adds, WorksOn, WorksOnNext, Visits, Sound, SoundUnder, IsFlat};
-ghost use Rattle.machine_states.specs.Views.{frame_of};
+ghost use Rattle.cek_machine.specs.Spots.{Moves, Gives, GivesCopy, Sends, Adds, WorksOn, WorksOnNext, Visits, Sound, IsFlat};
 
 use crate::control::Control;
 use machine_states::Frame;

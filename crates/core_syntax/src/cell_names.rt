@@ -31,7 +31,7 @@ pub struct CellNames<'a> {
 }
 
 impl<'a> Model for CellNames<'a> {
-    ghost use Rattle.std.specs.Prelude.{List, ℕ, ◌+◌, ◌≤◌, length, map};
+    ghost use Rattle.std.specs.Prelude.{◌+◌, ◌≤◌, length, map};
     ghost use Rattle.core_syntax.specs.Limits.{most_cells, most_tasks};
     ghost use Rattle.core_syntax.specs.Names.{CellNames as NamesOfCells, cell_names_code};
     ghost use Rattle.core_syntax.specs.TaskNames.{names_in, task_name};

@@ -1,10 +1,9 @@
 -- Lists whose count no fewer bytes stand behind are none.
-use Rattle.std.proofs.Common.{◌≡◌, ℕ, ◌<◌, List, length, None, arith}
-use Rattle.script_value.specs.Val.{Val}
+use Rattle.std.proofs.Common.{◌≡◌, ℕ, List, None, arith}
 use Rattle.script_nodes.specs.Arena.{Arena}
 use Rattle.wire_bytes.specs.Reading.{AreBytes, read_count}
 use Rattle.value_bytes.proofs.Counts.{HasByte, no_list}
-use Rattle.machine_states.specs.Machine.{Frame, in_binding, in_operand, in_body, in_seq, in_and, in_or, in_if, in_count, in_store, in_turn, in_isolate, in_call, in_task, in_page, in_finish, in_back}
+use Rattle.machine_states.specs.Machine.{in_binding, in_operand, in_body, in_seq, in_and, in_or, in_if, in_count, in_store, in_turn, in_isolate, in_call, in_task, in_page, in_finish, in_back}
 use Rattle.frame_codec.specs.Spelling.{frame_bytes, shadow_bytes, ShadowHasBytes}
 use Rattle.frame_codec.specs.Reading.{read_frame, read_frames, read_shadow, read_shadows}
 use Rattle.frame_codec.proofs.Frames.{IsRead, frame_exact, shadow_exact}

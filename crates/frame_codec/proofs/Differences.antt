@@ -1,6 +1,6 @@
 -- Differences of states are exact.
 use Rattle.std.proofs.Common.{arith, inl, inr, ◌≤◌, ◌≡◌, ℕ, ◌==◌, if◌then◌else◌, Bool, true, false, List, [], ◌∷◌, ◌++◌, length, take, reverse, Option, Some, None, refl, sym, ap, subst, ◌∙◌}
-use Rattle.std.specs.Prelude.{IsTrue, map, unwrap_or}
+use Rattle.std.specs.Prelude.{IsTrue, map}
 use Rattle.std.specs.List.{AllByRecursion}
 use Rattle.std.proofs.lemmas.List.{append-nil, reverse-reverse, map-append, take-map}
 use Rattle.std.proofs.lemmas.Bool.{false≢true}

@@ -22,7 +22,7 @@ use Rattle.machine_states.specs.Views.{frame_of, stack}
 use Rattle.frame_codec.specs.Spelling.{frame_bytes, shadow_bytes, ShadowHasBytes}
 use Rattle.frame_codec.specs.Stored.{IsStored}
 use Rattle.frame_codec.specs.Reading.{read_frame, read_shadow}
-use Rattle.frame_codec.specs.Deltas.{Delta, Shares, IsDelta, DeltaHasBytes, joined}
+use Rattle.frame_codec.specs.Deltas.{Delta, Shares, IsDelta, DeltaHasBytes}
 use Rattle.frame_codec.specs.Parted.{state_parts, delta_parts}
 use Rattle.frame_codec.specs.Fronts.{front, delta_front, AreFrontsRead, FrontsJoin, read_first, read_behind, read_front, read_delta_front}
 use Rattle.frame_codec.specs.declared.need.Need.{Need}

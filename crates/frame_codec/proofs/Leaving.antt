@@ -5,7 +5,7 @@ use Rattle.std.proofs.lemmas.Bool.Decides.{nat_tests}
 use Rattle.std.proofs.lemmas.List.{reverse-reverse}
 use Rattle.std.proofs.lemmas.Option.{none-some}
 use Rattle.script_value.specs.Val.{Val}
-use Rattle.web_cells.specs.Shadows.{bound_to, binding, all_bound, last_shadow, AreAbove, Rise}
+use Rattle.web_cells.specs.Shadows.{binding, all_bound, last_shadow, AreAbove, Rise}
 use Rattle.web_cells.specs.Own.{IsOwn}
 use Rattle.web_cells.proofs.Shadowed.{last_binds, rise}
 use Rattle.web_cells.proofs.Owned.{same_bindings, above_none, all_rise}

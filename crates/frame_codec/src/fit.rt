@@ -1,16 +1,16 @@
-ghost use Rattle.std.specs.Prelude.{◌≡◌, ◌↔◌, ◌<◌, ◌∷◌, IsTrue, IfSome, IsNone, option_map, map, pos, length, false, slice_get};
+ghost use Rattle.std.specs.Prelude.{◌≡◌, ◌↔◌, ◌<◌, ◌∷◌, IsTrue, IfSome, IsNone, map, pos, length, false, slice_get};
 ghost use Rattle.script_value.specs.Val.{number};
 ghost use Rattle.script_value.specs.Views.{meaning};
 ghost use Rattle.script_value.specs.declared.value.Value.TheVariants as value;
 ghost use Rattle.web_cells.specs.Views.{pair_of};
 ghost use Rattle.script_nodes.specs.Arena.{IsOnTasks};
 ghost use Rattle.script_nodes.specs.declared.script.Node.TheVariants as node;
-ghost use Rattle.machine_states.specs.Machine.{node_at, bindings_in};
+ghost use Rattle.machine_states.specs.Machine.{node_at};
 ghost use Rattle.machine_states.specs.Fits as fits;
 ghost use Rattle.machine_states.specs.Views.{frame_of};
 ghost use Rattle.frame_codec.specs.Reading.{bindings_of, operands_of};
 ghost use Rattle.frame_codec.specs.Walk as spec;
-ghost use Rattle.frame_codec.specs.Views.{place_of, IsAround, Enters, WalksTo, TellsFit};
+ghost use Rattle.frame_codec.specs.Views.{IsAround, Enters, WalksTo, TellsFit};
 
 use machine_states::Frame;
 use script_nodes::{Node, Script};

@@ -1,5 +1,4 @@
 ghost use Rattle.std.specs.Prelude.{◌↔◌, IsTrue, map};
-ghost use Rattle.std.specs.List.{AllByRecursion};
 ghost use Rattle.web_cells.specs.Views.{pair_of};
 ghost use Rattle.value_bytes.specs.Spelling.{FitsList};
 ghost use Rattle.machine_states.specs.Views.{frame_of, suspended_of};

@@ -1,5 +1,5 @@
 -- A visit that goes on from the state of the page that it answers.
-use Rattle.std.proofs.Common.{◌≡◌, List, [], ◌∷◌, ◌++◌, map, refl, sym, ap, ◌∙◌, subst}
+use Rattle.std.proofs.Common.{◌≡◌, List, refl, sym, ap, ◌∙◌, subst}
 use Rattle.script_value.specs.Val.{Val}
 use Rattle.instance_cells.specs.Cells.{reads_of}
 use Rattle.script_nodes.specs.Setup.{Script}
@@ -7,7 +7,7 @@ use Rattle.script_nodes.specs.Arena.{script_of}
 use Rattle.replay_spec.specs.Tape.{recorded, present, Answer, Tape}
 use Rattle.replay_spec.specs.Eval.{run}
 use Rattle.replay_spec.specs.Book.{Page}
-use Rattle.replay_spec.specs.Next.{Home, Visit, home_of, newest, answered, tape_of, tape_for, page_tape}
+use Rattle.replay_spec.specs.Next.{Visit, home_of, newest, answered, tape_of, tape_for, page_tape}
 use Rattle.replay_spec.specs.Laws.{longer}
 use Rattle.machine_states.specs.Laws.{IsStateOf}
 use Rattle.machine_states.specs.Visits.{IsShownBy, AVisitGoesOn}

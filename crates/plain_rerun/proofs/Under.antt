@@ -1,9 +1,9 @@
 -- What the parts of a node call, and the expression.
-use Rattle.std.proofs.Common.{◌≡◌, ℕ, zero, suc, ◌+◌, ◌≤◌, List, [], ◌∷◌, ◌++◌, map, length, ap, arith}
+use Rattle.std.proofs.Common.{◌≡◌, ℕ, ◌+◌, ◌≤◌, List, [], ◌∷◌, ◌++◌, map, length, ap, arith}
 use Rattle.std.specs.List.{AllByRecursion}
 use Rattle.script_nodes.specs.declared.script.Node.{Node}
 use Rattle.script_nodes.specs.declared.script.Node.TheVariants as node
-use Rattle.script_nodes.specs.Core.{Core, Cores, no_cores, core, cores_of, count, count_all}
+use Rattle.script_nodes.specs.Core.{Cores, no_cores, core, cores_of, count, count_all}
 use Rattle.script_nodes.specs.Layout.{layout_all, starts}
 use Rattle.script_nodes.specs.Layouts.{length-layout_all, count_pos}
 use Rattle.script_nodes.specs.Setup.{trees_of}

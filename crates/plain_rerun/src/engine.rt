@@ -7,7 +7,7 @@ ghost use Rattle.segments.specs.Views.{segment_of, tape_of};
 ghost use Rattle.replay_spec.specs.Eval.{calls_in, value_at, copied, run};
 ghost use Rattle.segment_progress.specs.Halts.{how_of};
 ghost use Rattle.plain_rerun.specs.Parts.{tree, trees, node_at, all_at, let_at, if_at, for_at, prim_at, call_at, send_at, isolate_at, shadow_at, set_at, add_at, joined, stops_at, first_turns, turns_at, AreBehind};
-ghost use Rattle.segment_progress.specs.States.{state_of, inside_of, Gives, TellsStop};
+ghost use Rattle.segment_progress.specs.States.{state_of, inside_of, TellsStop};
 ghost use Rattle.plain_rerun.specs.Runs.{Runs};
 
 use crate::goes_on::GoesOn;

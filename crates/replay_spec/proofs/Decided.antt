@@ -8,7 +8,7 @@ use Rattle.instance_cells.specs.Cells.{reads_of}
 use Rattle.script_nodes.specs.Setup.{Named}
 use Rattle.script_nodes.specs.declared.script.SendKind.{SendKind}
 use Rattle.replay_spec.specs.Names.{Has}
-use Rattle.replay_spec.specs.Tape.{Reads, present, recorded, Answer, Tape, How, shows, finishes, ends, Outcome, paged}
+use Rattle.replay_spec.specs.Tape.{Reads, present, recorded, Answer, Tape, shows, finishes, ends, Outcome, paged}
 use Rattle.replay_spec.specs.Tape as tape
 use Rattle.replay_spec.specs.Eval.{Segment, run, unread}
 use Rattle.replay_spec.specs.Book.{Page, Change, Book, instance_at, page_at, chain}

@@ -7,19 +7,19 @@ use Rattle.std.proofs.lemmas.Option.{same_Some}
 use Rattle.script_value.specs.declared.outcome.TxName.{TxName}
 use Rattle.script_nodes.specs.Setup.{Named}
 use Rattle.replay_spec.specs.Names.{Has}
-use Rattle.replay_spec.specs.Tape.{present, How, shows, finishes, ends, Outcome, paged}
+use Rattle.replay_spec.specs.Tape.{present, finishes, ends, Outcome, paged}
 use Rattle.replay_spec.specs.Tape as tape
 use Rattle.replay_spec.specs.Eval.{Segment}
-use Rattle.replay_spec.specs.Book.{Page, Instance, Opening, Change, opens, extends, sweeps, Doubt, Book, is_live, instance_at, page_at, draw, spend, reopened_with}
+use Rattle.replay_spec.specs.Book.{Page, Instance, Opening, Change, opens, extends, sweeps, Doubt, Book, is_live, instance_at, page_at, spend, reopened_with}
 use Rattle.replay_spec.specs.Book as change
 use Rattle.replay_spec.specs.Rules.{Rules}
 use Rattle.replay_spec.specs.Change.{mend, put_in_order, put_page, root_by, page_by, done, shown_by, fresh, opened_by, instances_by, land}
 use Rattle.replay_spec.specs.Admission.{or_else, Place, Admission, begins, resumes, refused, admit}
 use Rattle.replay_spec.specs.Next.{Ticket, Visit, url_for, newest, comes_to, start_visit, page_visit}
-use Rattle.replay_spec.specs.Step.{Event, Fate, Reply, Decision, replies, records, unless, too_long, full_journal, with_room, change_by, reply_by, full, stopped, decide, step}
+use Rattle.replay_spec.specs.Step.{Reply, Decision, replies, records, unless, too_long, full_journal, with_room, change_by, reply_by, full, stopped, decide}
 use Rattle.replay_spec.specs.Invariant.{Apart, Unused, IsSound}
 use Rattle.replay_spec.specs.Runs.{lands}
-use Rattle.replay_spec.specs.Laws.{Distinct, IsInFuel, IsLawful, Moment, then_book, book_after, AreLawful, AreShort, NamesDiffer, NamesStayDifferent, ShownIsOpen}
+use Rattle.replay_spec.specs.Laws.{Distinct, IsInFuel, Moment, then_book, book_after, AreLawful, AreShort, NamesDiffer, NamesStayDifferent, ShownIsOpen}
 use Rattle.replay_spec.proofs.Steps.{stepped}
 use Rattle.replay_spec.proofs.Names.{has_none, has_parts, none_open}
 use Rattle.replay_spec.proofs.Follows.{follow, own_of, distinct_of, apart_of}

@@ -10,7 +10,7 @@ use Rattle.replay_spec.specs.Book.{Instance, Opening, Finish, Change, opens, ext
 use Rattle.replay_spec.specs.Change.{mend, root_by, page_by, done, shown_by, fresh, opened_by, instances_by}
 use Rattle.replay_spec.specs.Runs.{lands}
 use Rattle.replay_spec.specs.Invariant.{Apart, ClosedIn, IsSoundChange}
-use Rattle.replay_spec.specs.Laws.{Moment, then_book, closes, Leaves}
+use Rattle.replay_spec.specs.Laws.{then_book, closes}
 use Rattle.replay_spec.specs.Laws as law
 use Rattle.replay_spec.specs.Promises.{NothingElseCloses, NothingElseFrees}
 use Rattle.replay_spec.proofs.Names.{has_parts}

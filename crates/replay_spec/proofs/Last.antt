@@ -1,7 +1,7 @@
 -- The journal is asked last.
 use Rattle.std.proofs.Common.{◌≡◌, ℕ, ◌+◌, List, length, Option, Some, None, refl}
 use Rattle.script_value.specs.declared.outcome.TxName.{TxName}
-use Rattle.replay_spec.specs.Tape.{present, How, Outcome, paged}
+use Rattle.replay_spec.specs.Tape.{present, Outcome, paged}
 use Rattle.replay_spec.specs.Tape as tape
 use Rattle.replay_spec.specs.Eval.{Segment}
 use Rattle.replay_spec.specs.Book.{Change, Book}

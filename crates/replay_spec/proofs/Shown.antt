@@ -10,7 +10,7 @@ use Rattle.page_names.specs.declared.names.PageName.{PageName}
 use Rattle.script_nodes.specs.Setup.{Named}
 use Rattle.script_nodes.specs.declared.script.SendKind.{SendKind}
 use Rattle.replay_spec.specs.Names.{first_closed}
-use Rattle.replay_spec.specs.Tape.{present, How, shows, Outcome, paged, Now}
+use Rattle.replay_spec.specs.Tape.{present, shows, Outcome, paged, Now}
 use Rattle.replay_spec.specs.Tape as tape
 use Rattle.replay_spec.specs.Eval.{Segment}
 use Rattle.replay_spec.specs.Book.{Page, Instance, Opening, Extension, Change, opens, extends, Book, instance_at, page_at, is_expired, spend}

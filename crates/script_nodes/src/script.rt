@@ -1,4 +1,4 @@
-ghost use Rattle.std.specs.Prelude.{◌≡◌, ◌<◌, ◌+◌, ℕ, List, [], ◌∷◌, ◌++◌, length, OnOk, IfOk, Some, slice_get, IfSome, option_map, option_copied, false};
+ghost use Rattle.std.specs.Prelude.{◌≡◌, ◌<◌, ℕ, List, length, IfOk, Some, slice_get};
 ghost use Rattle.script_value.specs.Views.{meaning};
 ghost use Rattle.script_nodes.specs.Arena.{IsScript, IsBehind, IsFull, IsLaidAt, IsOnCells, IsOnTasks, parts, script_of, shape, tree_at};
 ghost use Rattle.script_nodes.specs.Core.{AllOnCells};

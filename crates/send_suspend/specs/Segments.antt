@@ -6,7 +6,7 @@ use Rattle.instance_cells.specs.Cells.{reads_of}
 use Rattle.instance_cells.specs.Views.{effect_of}
 use Rattle.segments.specs.declared.ends.PlainEnd.{PlainEnd}
 use Rattle.segments.specs.Views as plain
-use Rattle.replay_spec.specs.Tape.{Answer, Reads, recorded, present, State, Tape}
+use Rattle.replay_spec.specs.Tape.{Answer, Reads, recorded, present, Tape}
 use Rattle.replay_spec.specs.Eval as eval
 use Rattle.replay_spec.specs.Laws.{reading, longer}
 use Rattle.machine_states.specs.Machine as machine

@@ -1,6 +1,6 @@
 ghost use Rattle.std.specs.Prelude.{◌≡◌, ◌<◌, ◌≤◌, ◌+◌, ◌*◌, ◌^◌, IfOk};
 ghost use Rattle.script_value.specs.Views.{meaning};
-ghost use Rattle.segments.specs.Views.{source_of, now_of};
+ghost use Rattle.segments.specs.Views.{now_of};
 ghost use Rattle.machine_states.specs.Fits.{Fits};
 ghost use Rattle.cek_machine.specs.Machines.{IsReady, machine_of};
 ghost use Rattle.machine_states.specs.Views.{Keeps};

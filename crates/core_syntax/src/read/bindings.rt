@@ -1,6 +1,6 @@
 //! Forms that bind names.
 
-ghost use Rattle.std.specs.Prelude.{◌≡◌, ◌∷◌, ◌++◌, [], OnOk};
+ghost use Rattle.std.specs.Prelude.{◌≡◌, ◌∷◌, [], OnOk};
 ghost use Rattle.script_value.specs.Views.{meaning, meanings};
 ghost use Rattle.core_syntax.specs.Forms as spec;
 ghost use Rattle.core_syntax.specs.RowCores as spec_of;
@@ -13,7 +13,6 @@ use crate::names::Names;
 use crate::shapes::{bound_name, names_in};
 use crate::tree::{Tree, bind, nest, put, sequence, turns};
 use script_value::{Str, Value};
-use std::alloc::Global;
 
 impl<'a, 'c> Reader<'a, 'c> {
     /// A body in whose scope these names are innermost.
