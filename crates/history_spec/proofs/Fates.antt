@@ -1,5 +1,5 @@
 -- The fate of an event is read off its reply.
-use Rattle.std.proofs.Common.{◌≡◌, ◌+◌, ◌==◌, ◌^◌, ℕ, Bool, true, false, List, length, Option, Some, None, refl, sym, ◌∙◌, ap, arith, nat_le, if◌then◌else◌}
+use Rattle.std.proofs.Common.{◌≡◌, ◌+◌, ◌==◌, ◌^◌, ℕ, Bool, true, false, List, [], length, Option, Some, None, refl, sym, ◌∙◌, ap, arith, nat_le, if◌then◌else◌}
 use Rattle.std.specs.Prelude.{⊤}
 use Rattle.script_value.specs.declared.outcome.TxName.{TxName}
 use Rattle.script_value.specs.declared.outcome.Refusal.{Refusal}
@@ -11,7 +11,7 @@ use Rattle.replay_spec.specs.Book.{Change, Doubt, Book, spend}
 use Rattle.replay_spec.specs.Rules.{Journal, Rules}
 use Rattle.replay_spec.specs.Admission.{when, or_else, Admission, begins, resumes, refused, refusal_of, admit}
 use Rattle.replay_spec.specs.Next.{Ticket, Visit, url_for, comes_to, start_visit, page_visit}
-use Rattle.replay_spec.specs.Step.{Event, take, publish, sweep, crash, Fate, plain, no_memory, disk_fault, lost, kept, Reply, taken, disk_failed, worn, memory, swept, Decision, replies, records, unless, down_by, refused_by, no_take, take_unless, change_by, reply_by, full, with_room, stopped, settles, decide, decide_sweep, publish_comes, sweep_comes, fate_of, settle, take_by, step}
+use Rattle.replay_spec.specs.Step.{Event, take, publish, sweep, compact, crash, Fate, plain, no_memory, disk_fault, lost, kept, Reply, taken, disk_failed, worn, memory, swept, Decision, replies, records, compacts, gone_for, compact_comes, decide_compact, unless, down_by, refused_by, no_take, take_unless, change_by, reply_by, full, with_room, stopped, settles, decide, decide_sweep, publish_comes, sweep_comes, fate_of, settle, take_by, step}
 use Rattle.replay_spec.specs.Runs.{Shelf, drawn_by, shelf_step}
 use Rattle.history_spec.specs.Histories.{Entry, fate_by, shelf_behind, MayCome}
 use Rattle.history_spec.specs.Laws.{EachEventIsAnEntry}
@@ -27,6 +27,7 @@ IsPlain _ = ⊤
 abbrev pub DecidesPlain : Decision → Type 0
 DecidesPlain (replies r) = IsPlain r
 DecidesPlain (records r c inside) = IsPlain r
+DecidesPlain (compacts r) = IsPlain r
 
 abbrev MayBePlain : Option Reply → Type 0
 MayBePlain None = ⊤
@@ -49,19 +50,19 @@ page_plain how bytes url = grind arith
 full_plain : (rules : Rules) (how : How) (v : Visit) (count : ℕ) → MayBePlain (full rules how v.origin count)
 full_plain rules how v count = grind arith
 
-stopped_plain : (rules : Rules) (b : Book) (count : ℕ) (v : Visit) (s : Segment) (o : Outcome) → DecidesPlain (stopped rules b count v s o)
-stopped_plain rules b count v s (paged how bytes) =
-    unless_plain (full rules how v.origin count) _ (full_plain rules how v count)
-    (room_plain rules b (reply_by how bytes (url_for v)) s.entered (change_by (b.clock + rules.life) v s v.origin how) (page_plain how bytes (url_for v)))
-stopped_plain rules b count v s (faulted f) = tt
-stopped_plain rules b count v s (tape.out_of_fuel cost) = tt
+stopped_plain : (rules : Rules) (b : Book) (gone : List ℕ) (v : Visit) (s : Segment) (o : Outcome) → DecidesPlain (stopped rules b gone v s o)
+stopped_plain rules b gone v s (paged how bytes) =
+    unless_plain (full rules how v.origin (length b.instances)) _ (full_plain rules how v (length b.instances))
+    (room_plain rules b (reply_by how bytes (url_for v)) s.entered (change_by (b.clock + rules.life) gone v s v.origin how) (page_plain how bytes (url_for v)))
+stopped_plain rules b gone v s (faulted f) = tt
+stopped_plain rules b gone v s (tape.out_of_fuel cost) = tt
 
-settles_plain : (rules : Rules) (b : Book) (count : ℕ) (v : Visit) (s : Segment) → DecidesPlain (settles rules b count v s)
-settles_plain rules b count v s = stopped_plain rules b count v s s.outcome
+settles_plain : (rules : Rules) (b : Book) (gone : List ℕ) (v : Visit) (s : Segment) → DecidesPlain (settles rules b gone v s)
+settles_plain rules b gone v s = stopped_plain rules b gone v s s.outcome
 
 decide_plain : (rules : Rules) (b : Book) (t : Ticket) (a : Admission) → DecidesPlain (decide rules b t a)
-decide_plain rules b t (begins k s) = settles_plain rules b (length b.instances) (start_visit b t k s) (comes_to (start_visit b t k s) (tape.present s.script.cells rules.fuel))
-decide_plain rules b t (resumes at) = settles_plain rules b (length at.instance.pages) (page_visit b t at) (comes_to (page_visit b t at) (tape.present at.instance.cells rules.fuel))
+decide_plain rules b t (begins k s) = settles_plain rules b [] (start_visit b t k s) (comes_to (start_visit b t k s) (tape.present s.script.cells rules.fuel))
+decide_plain rules b t (resumes at) = settles_plain rules b (gone_for rules t at) (page_visit b t at) (comes_to (page_visit b t at) (tape.present at.instance.cells rules.fuel))
 decide_plain rules b t (refused r) = tt
 
 pub publish_plain : (rules : Rules) (b : Book) (t : Ticket) → DecidesPlain (publish_comes rules b t)
@@ -69,6 +70,9 @@ publish_plain rules b t = unless_plain (down_by b.down) (decide rules b t (admit
 
 pub sweep_plain : (rules : Rules) (b : Book) (tick : ℕ) → DecidesPlain (sweep_comes rules b tick)
 sweep_plain rules b tick = unless_plain (down_by b.down) (decide_sweep rules tick b) (down_plain b.down) (grind arith)
+
+pub compact_plain : (rules : Rules) (b : Book) → DecidesPlain (compact_comes rules b)
+compact_plain rules b = unless_plain (down_by b.down) (decide_compact rules b) (down_plain b.down) (grind arith)
 
 plain_fate : (r : Reply) → IsPlain r → fate_by r ≡ plain
 plain_fate memory h = absurd h
@@ -87,21 +91,29 @@ told : (rules : Rules) (b : Book) (j : Option Journal) (fate : Fate) (d : Decisi
 told rules b None no_memory d h = refl
 told rules b (Some j) no_memory d h = refl
 told rules b (Some j) (disk_fault count) (records r c inside) h = refl
+told rules b (Some j) (disk_fault count) (compacts r) h = refl
 told rules b (Some j) (disk_fault count) (replies r) h = by_plain rules b (Some j) r (replies r) h
 told rules b None (disk_fault count) (replies r) h = by_plain rules b None r (replies r) h
 told rules b None (disk_fault count) (records r c inside) h = by_plain rules b None r (records r c inside) h
+told rules b None (disk_fault count) (compacts r) h = by_plain rules b None r (compacts r) h
 told rules b None plain (replies r) h = by_plain rules b None r (replies r) h
 told rules b None plain (records r c inside) h = by_plain rules b None r (records r c inside) h
+told rules b None plain (compacts r) h = by_plain rules b None r (compacts r) h
 told rules b None lost (replies r) h = by_plain rules b None r (replies r) h
 told rules b None lost (records r c inside) h = by_plain rules b None r (records r c inside) h
+told rules b None lost (compacts r) h = by_plain rules b None r (compacts r) h
 told rules b None kept (replies r) h = by_plain rules b None r (replies r) h
 told rules b None kept (records r c inside) h = by_plain rules b None r (records r c inside) h
+told rules b None kept (compacts r) h = by_plain rules b None r (compacts r) h
 told rules b (Some j) plain (replies r) h = by_plain rules b (Some j) r (replies r) h
 told rules b (Some j) plain (records r c inside) h = by_plain rules b (Some j) r (records r c inside) h
+told rules b (Some j) plain (compacts r) h = by_plain rules b (Some j) r (compacts r) h
 told rules b (Some j) lost (replies r) h = by_plain rules b (Some j) r (replies r) h
 told rules b (Some j) lost (records r c inside) h = by_plain rules b (Some j) r (records r c inside) h
+told rules b (Some j) lost (compacts r) h = by_plain rules b (Some j) r (compacts r) h
 told rules b (Some j) kept (replies r) h = by_plain rules b (Some j) r (replies r) h
 told rules b (Some j) kept (records r c inside) h = by_plain rules b (Some j) r (records r c inside) h
+told rules b (Some j) kept (compacts r) h = by_plain rules b (Some j) r (compacts r) h
 
 -- a take
 abbrev IsNoWant : Reply → Type 0
@@ -138,6 +150,7 @@ step_told rules b nonce (take target answer) fate caller es h = took b target no
 step_told rules b nonce (publish t) fate caller es h =
     told rules (spend t.number b) rules.journal fate (publish_comes rules b t) (publish_plain rules b t)
 step_told rules b nonce (sweep tick) fate caller es h = swept_told rules b tick fate (nat_le tick b.clock)
+step_told rules b nonce compact fate caller es h = told rules b rules.journal fate (compact_comes rules b) (compact_plain rules b)
 step_told rules b nonce (crash scripts) fate caller es h = absurd h
 
 pub each_event : EachEventIsAnEntry

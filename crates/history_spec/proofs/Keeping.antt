@@ -8,6 +8,7 @@ use Rattle.replay_spec.specs.Runs.{Shelf, shelf_step}
 use Rattle.replay_spec.specs.Invariant.{IsOrderly, IsSound}
 use Rattle.replay_spec.specs.Laws.{IsLawful, Moment, Leads}
 use Rattle.replay_spec.proofs.Numbers.{crashed_out}
+use Rattle.replay_spec.proofs.Reopened.{reopened_same}
 use Rattle.replay_spec.proofs.Orderly as orderly
 use Rattle.replay_spec.proofs.Steps as sound_books
 use Rattle.replay_spec.proofs.Steps.{leads_on}
@@ -73,7 +74,7 @@ crash_opens source opened now s es rules nonce scripts fate opening legal =
 
 crash_left : (rules : Rules) (b c : Book) (fate : Fate) → c ≡ crashed rules fate b → (step rules b 0 (crash (recovered rules fate b.down b).scripts) fate).1 ≡ c
 unfolding step
-crash_left rules b c fate is = sym is
+crash_left rules b c fate is = reopened_same rules.journal (recovered rules fate b.down b) ∙ sym is
 
 crash_is : (source : ℕ → ℕ) (opened now : ℕ) (start : Shelf) (es : List Entry) (c : Book) (fate : Fate) → IsOpened start.book → IsLegal source opened now start es
     → c ≡ crashed start.rules fate (book_behind source start es) → IsOpened c × Leads start.book c × (IsSound start.book → IsSound c)

@@ -5,7 +5,7 @@ use Rattle.std.proofs.lemmas.List.{append-nil}
 use Rattle.replay_spec.specs.Book.{Book, spend}
 use Rattle.replay_spec.specs.Rules.{Rules}
 use Rattle.replay_spec.specs.Next.{Ticket}
-use Rattle.replay_spec.specs.Step.{Event, take, publish, sweep, crash, Fate, Reply, taken, swept, Decision, publish_comes, sweep_comes, fate_of, settle, step}
+use Rattle.replay_spec.specs.Step.{Event, take, publish, sweep, compact, crash, Fate, Reply, taken, swept, Decision, publish_comes, sweep_comes, compact_comes, fate_of, settle, step}
 use Rattle.replay_spec.specs.Runs.{Shelf, drawn_by}
 use Rattle.history_spec.specs.Histories.{Entry, fate_by, shelf_behind, MayCome, IsNext, IsLegal}
 use Rattle.history_spec.specs.Laws.{given_by, tickets_taken, AreInTurn, NoncesComeInTurn}
@@ -13,7 +13,7 @@ use Rattle.history_spec.proofs.Going.{along, is_step}
 use Rattle.history_spec.proofs.Owing.{IsGiven}
 use Rattle.history_spec.proofs.Numbers.{given_next}
 use Rattle.history_spec.proofs.Twice.{taken_push}
-use Rattle.history_spec.proofs.Fates.{DecidesPlain, publish_plain, sweep_plain}
+use Rattle.history_spec.proofs.Fates.{DecidesPlain, publish_plain, sweep_plain, compact_plain}
 
 -- what is settled is no take
 abbrev IsNoTake : Reply → Type 0
@@ -36,6 +36,7 @@ unfolding step
 others_take_none rules b nonce (take target answer) fate caller es h other = absurd (other tt)
 others_take_none rules b nonce (publish t) fate caller es h other = settled_no_take rules (spend t.number b) (fate_of rules.journal fate) (publish_comes rules b t) (publish_plain rules b t)
 others_take_none rules b nonce (sweep tick) fate caller es h other = swept_no_take rules b tick (fate_of rules.journal fate) (nat_le tick b.clock)
+others_take_none rules b nonce compact fate caller es h other = settled_no_take rules b (fate_of rules.journal fate) (compact_comes rules b) (compact_plain rules b)
 others_take_none rules b nonce (crash scripts) fate caller es h other = absurd h
 
 drawn_none : (r : Reply) (k : ℕ) → IsNoTake r → drawn_by r k ≡ k + 0
@@ -48,6 +49,7 @@ drawn_for (take target answer) (taken number nonce) k h = omega arith
 drawn_for (take target answer) r k h = omega arith
 drawn_for (publish t) r k h = drawn_none r k (h (λ x. x))
 drawn_for (sweep tick) r k h = drawn_none r k (h (λ x. x))
+drawn_for compact r k h = drawn_none r k (h (λ x. x))
 drawn_for (crash scripts) r k h = drawn_none r k (h (λ x. x))
 
 in_turn_push : (source : ℕ → ℕ) (k : ℕ) (ts : List Ticket) (t : Ticket) → AreInTurn source k ts → t.nonce ≡ source (k + length ts) → AreInTurn source k (ts ++ t ∷ [])
@@ -62,6 +64,7 @@ in_turn_then source k ts (take target answer) (taken number nonce) h gives =
 in_turn_then source k ts (take target answer) r h gives = subst (AreInTurn source k) (sym (append-nil ts)) h
 in_turn_then source k ts (publish p) r h gives = subst (AreInTurn source k) (sym (append-nil ts)) h
 in_turn_then source k ts (sweep tick) r h gives = subst (AreInTurn source k) (sym (append-nil ts)) h
+in_turn_then source k ts compact r h gives = subst (AreInTurn source k) (sym (append-nil ts)) h
 in_turn_then source k ts (crash scripts) r h gives = subst (AreInTurn source k) (sym (append-nil ts)) h
 
 module _ (source : ℕ → ℕ) (opened now : ℕ) (s : Shelf) where

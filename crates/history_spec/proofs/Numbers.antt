@@ -4,7 +4,7 @@ use Rattle.std.proofs.lemmas.List.{map_push}
 use Rattle.replay_spec.specs.Book.{Book}
 use Rattle.replay_spec.specs.Rules.{Rules}
 use Rattle.replay_spec.specs.Next.{Ticket}
-use Rattle.replay_spec.specs.Step.{Event, take, publish, sweep, crash, Fate, Reply, taken, step}
+use Rattle.replay_spec.specs.Step.{Event, take, publish, sweep, compact, crash, Fate, Reply, taken, step}
 use Rattle.replay_spec.specs.Runs.{Shelf, shelf_step, answers_to}
 use Rattle.replay_spec.specs.Invariant.{IsOrderly}
 use Rattle.replay_spec.specs.Laws.{IsLawful, IsLawfulRun, Moment, Takes, Leads, tickets_by}
@@ -39,6 +39,7 @@ given_next rules b nonce (take target answer) fate (taken n m) t is given =
 given_next rules b nonce (take target answer) fate r t is given = absurd given
 given_next rules b nonce (publish p) fate r t is given = absurd given
 given_next rules b nonce (sweep tick) fate r t is given = absurd given
+given_next rules b nonce compact fate r t is given = absurd given
 given_next rules b nonce (crash scripts) fate r t is given = absurd given
 
 module _ (source : ℕ → ℕ) (opened now : ℕ) (s : Shelf) where
@@ -47,6 +48,7 @@ module _ (source : ℕ → ℕ) (opened now : ℕ) (s : Shelf) where
   lawful_next es (publish p) caller w comes =
       subst (λ (ns : List ℕ). Contains ns p.number) w.out (contains_mapped (λ (t : Ticket). t.number) (tickets_left es []) p (w.held.owned caller p comes))
   lawful_next es (sweep tick) caller w comes = tt
+  lawful_next es compact caller w comes = tt
   lawful_next es (crash scripts) caller w comes = tt
 
   fresh_next : (es : List Entry) (e : Entry) → Well source s es → IsNext source opened now s es e → IsFresh e (tickets_left es [])

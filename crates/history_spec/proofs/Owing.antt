@@ -5,7 +5,7 @@ use Rattle.std.proofs.lemmas.Bool.Decides.{nat_tests}
 use Rattle.std.proofs.lemmas.List.{append-nil}
 use Rattle.std.proofs.lemmas.List.Elements.{Contains-append_left, Contains-push, Contains-push_cases, filter-append}
 use Rattle.replay_spec.specs.Next.{Ticket}
-use Rattle.replay_spec.specs.Step.{Event, take, publish, sweep, crash, Reply, taken}
+use Rattle.replay_spec.specs.Step.{Event, take, publish, sweep, compact, crash, Reply, taken}
 use Rattle.replay_spec.specs.Laws.{tickets_by}
 use Rattle.history_spec.specs.Histories.{Entry, own_of, tickets_left, owed_by, Owes, MayCome}
 use Rattle.history_spec.proofs.Members.{contains_kept, contains_passed, contains_none}
@@ -34,6 +34,7 @@ left_by (take target answer) (taken number nonce) ts t h =
 left_by (take target answer) r ts t h = inl (h, tt)
 left_by (publish p) r ts t h = let kept = contains_passed (λ u. not (u.number == p.number)) ts t h in inl (kept.0, is_other t.number p.number kept.1)
 left_by (sweep tick) r ts t h = inl (h, tt)
+left_by compact r ts t h = inl (h, tt)
 left_by (crash scripts) r ts t h = absurd (contains_none t h)
 
 pub spared_by : (x : Event) (r : Reply) (ts : List Ticket) (t : Ticket) → Contains ts t → Spares x t → Contains (tickets_by x r ts) t
@@ -42,6 +43,7 @@ spared_by (take target answer) (taken number nonce) ts t h spares =
 spared_by (take target answer) r ts t h spares = h
 spared_by (publish p) r ts t h spares = contains_kept (λ u. not (u.number == p.number)) ts t h (other_is t.number p.number spares)
 spared_by (sweep tick) r ts t h spares = h
+spared_by compact r ts t h spares = h
 spared_by (crash scripts) r ts t h spares = absurd spares
 
 pub given_in : (x : Event) (r : Reply) (ts : List Ticket) (t : Ticket) → IsGiven x r t → Contains (tickets_by x r ts) t
@@ -49,6 +51,7 @@ given_in (take target answer) (taken number nonce) ts t h = subst (λ (u : Ticke
 given_in (take target answer) r ts t h = absurd h
 given_in (publish p) r ts t h = absurd h
 given_in (sweep tick) r ts t h = absurd h
+given_in compact r ts t h = absurd h
 given_in (crash scripts) r ts t h = absurd h
 
 -- what entries leave, with one more
@@ -93,6 +96,7 @@ spares_others : (es : List Entry) (all : List Ticket) (caller c : ℕ) (x : Even
 spares_others es all caller c (take target answer) t held comes other h = tt
 spares_others es all caller c (publish p) t held comes other h = λ same. other (sym (held.apart c caller t p h comes same))
 spares_others es all caller c (sweep tick) t held comes other h = tt
+spares_others es all caller c compact t held comes other h = tt
 spares_others es all caller c (crash scripts) t held comes other h = comes
 
 -- a number that is given is new

@@ -6,7 +6,7 @@ use Rattle.replay_spec.specs.Book.{Book, spend}
 use Rattle.replay_spec.specs.Rules.{Rules}
 use Rattle.replay_spec.specs.Next.{Ticket}
 use Rattle.page_names.specs.Names.{Destination}
-use Rattle.replay_spec.specs.Step.{Event, take, publish, sweep, crash, Fate, Reply, taken, swept, fate_of, settle, publish_comes, sweep_comes, take_by, step}
+use Rattle.replay_spec.specs.Step.{Event, take, publish, sweep, compact, crash, Fate, Reply, taken, swept, fate_of, settle, publish_comes, sweep_comes, compact_comes, take_by, step}
 use Rattle.replay_spec.specs.Runs.{Shelf, shelf_step}
 use Rattle.replay_spec.specs.Invariant.{Among, AreDifferent}
 use Rattle.replay_spec.specs.Laws.{tickets_by}
@@ -33,6 +33,7 @@ stepped_drawn rules b nonce (take target answer) fate caller es h = took_drawn b
 stepped_drawn rules b nonce (publish p) fate caller es h =
     let same = settled_drawn rules (spend p.number b) (fate_of rules.journal fate) (publish_comes rules b p) in omega (arith, same)
 stepped_drawn rules b nonce (sweep tick) fate caller es h = swept_drawn rules b tick (fate_of rules.journal fate) (nat_le tick b.clock)
+stepped_drawn rules b nonce compact fate caller es h = let same = settled_drawn rules b (fate_of rules.journal fate) (compact_comes rules b) in omega (arith, same)
 stepped_drawn rules b nonce (crash scripts) fate caller es h = absurd h
 
 -- what is given is one more ticket at most
@@ -41,6 +42,7 @@ given_more (take target answer) (taken number nonce) ts us = refl
 given_more (take target answer) r ts us = refl
 given_more (publish p) r ts us = refl
 given_more (sweep tick) r ts us = refl
+given_more compact r ts us = refl
 given_more (crash scripts) r ts us = refl
 
 pub taken_push : (es : List Entry) (e : Entry) → tickets_taken (es ++ e ∷ []) ≡ tickets_taken es ++ given_by e.event e.reply []
@@ -73,6 +75,7 @@ taken_by (take target answer) (taken number nonce) ts old new h later gives =
 taken_by (take target answer) r ts old new h later gives = still ts old new h later
 taken_by (publish p) r ts old new h later gives = still ts old new h later
 taken_by (sweep tick) r ts old new h later gives = still ts old new h later
+taken_by compact r ts old new h later gives = still ts old new h later
 taken_by (crash scripts) r ts old new h later gives = still ts old new h later
 
 module _ (source : ℕ → ℕ) (opened now : ℕ) (s : Shelf) where
@@ -99,6 +102,7 @@ is_take caller (take target answer) (taken number nonce) t given = ap (take_of c
 is_take caller (take target answer) r t given = absurd given
 is_take caller (publish p) r t given = absurd given
 is_take caller (sweep tick) r t given = absurd given
+is_take caller compact r t given = absurd given
 is_take caller (crash scripts) r t given = absurd given
 
 -- a ticket that is left was there, or is of a take
@@ -118,6 +122,7 @@ among_given (take target answer) (taken number nonce) ts n h = inr h
 among_given (take target answer) r ts n h = h
 among_given (publish p) r ts n h = h
 among_given (sweep tick) r ts n h = h
+among_given compact r ts n h = h
 among_given (crash scripts) r ts n h = h
 
 among_taken : (es : List Entry) (e : Entry) (t : Ticket) → Contains es e → e ≡ take_of e.caller t → Among t.number (numbers (tickets_taken es))
@@ -132,6 +137,7 @@ different_rest (take target answer) (taken number nonce) ts h = h.1
 different_rest (take target answer) r ts h = h
 different_rest (publish p) r ts h = h
 different_rest (sweep tick) r ts h = h
+different_rest compact r ts h = h
 different_rest (crash scripts) r ts h = h
 
 -- so two takes of one number are one

@@ -16,7 +16,7 @@ use Rattle.replay_spec.specs.Rules.{Rules}
 use Rattle.replay_spec.specs.Change.{page_by}
 use Rattle.replay_spec.specs.Admission.{or_else, Place, Admission, begins, resumes, refused, admit}
 use Rattle.replay_spec.specs.Next.{Ticket, starts, Home, answered, past, tape_of, page_tape, Visit, url_for, home_of, newest, end_over, comes_to, start_visit, page_visit}
-use Rattle.replay_spec.specs.Step.{Reply, Decision, replies, records, unless, too_long, full_journal, with_room, opening, extension, ending, finish, reply_by, full, stopped, decide}
+use Rattle.replay_spec.specs.Step.{Reply, Decision, replies, records, compacts, gone_for, unless, too_long, full_journal, with_room, opening, extension, ending, finish, reply_by, full, stopped, decide}
 use Rattle.replay_spec.specs.Invariant.{with_more, Lineage, Replays, Leaving, IsSoundChange, IsSound}
 use Rattle.replay_spec.specs.Laws.{IsWithin, longer, Pages, Waits}
 use Rattle.replay_spec.proofs.Names.{has_none, open_none}
@@ -105,6 +105,7 @@ answers_of b t at g h = record {
 abbrev pub IsSoundDecision : Book → Decision → Type 0
 IsSoundDecision b (replies r) = ⊤
 IsSoundDecision b (records r c inside) = IsSoundChange b.scripts b.shelf b.instances c inside
+IsSoundDecision b (compacts r) = ⊤
 
 -- a refusal that comes first is sound
 unless_sound : (b : Book) (o : Option Reply) (d : Decision) → IsSoundDecision b d → IsSoundDecision b (unless o d)
@@ -118,7 +119,7 @@ recorded_sound rules b r inside c sound =
 start_sound : (rules : Rules) (b : Book) (t : Ticket) (k : ℕ) (s : Named) (outcome : Outcome) → slice_get b.scripts k ≡ Some s
     → let v = start_visit b t k s in
     let o = comes_to v (present s.script.cells rules.fuel) in
-    o.outcome ≡ outcome → IsSoundDecision b (stopped rules b (length b.instances) v o outcome)
+    o.outcome ≡ outcome → IsSoundDecision b (stopped rules b [] v o outcome)
 start_sound rules b t k s (paged (shows kind) bytes) at e =
     let v = start_visit b t k s in
     let source = present s.script.cells rules.fuel in
@@ -158,9 +159,9 @@ leaves rules b t at a =
 page_sound : (rules : Rules) (b : Book) (t : Ticket) (at : Place) (outcome : Outcome) → Answers b t at
     → let v = page_visit b t at in
     let o = comes_to v (present at.instance.cells rules.fuel) in
-    o.outcome ≡ outcome → IsSoundDecision b (stopped rules b (length at.instance.pages) v o outcome)
+    o.outcome ≡ outcome → IsSoundDecision b (stopped rules b (gone_for rules t at) v o outcome)
 page_sound rules b t at (paged (shows kind) bytes) a e =
-    unless_sound b (full rules (shows kind) v.origin (length at.instance.pages)) (with_room rules b r out.entered (Some c)) (recorded_sound rules b r out.entered c (record {
+    unless_sound b (full rules (shows kind) v.origin (length b.instances)) (with_room rules b r out.entered (Some c)) (recorded_sound rules b r out.entered c (record {
       from = leaves rules b t at a;
       parent = refl;
       own = own_of at.page.inside (newest v source).segment out (a.within source);
@@ -177,13 +178,13 @@ page_sound rules b t at (paged (shows kind) bytes) a e =
     out = comes_to v source
 
     c : Change
-    c = extension (b.clock + rules.life) v out at.instance.number at.page.number kind
+    c = extension (b.clock + rules.life) (gone_for rules t at) v out at.instance.number at.page.number kind
 
     r : Reply
     r = reply_by (shows kind) bytes (url_for v)
 
     p : Page
-    p = page_by (record { number = t.number; nonce = t.nonce; instance = at.instance.number; page = at.page.number; answer = t.answer; effects = out.effects; left = out.left; kind = kind; deadline = b.clock + rules.life }) out.entered
+    p = page_by (record { number = t.number; nonce = t.nonce; instance = at.instance.number; page = at.page.number; answer = t.answer; effects = out.effects; left = out.left; kind = kind; deadline = b.clock + rules.life; evicted = gone_for rules t at }) out.entered
 
     replays : (h : Lineage at.instance.pages at.page) → Replays at.instance.script b.shelf at.instance.number (at.page ∷ h.ancestors) p
     replays h =

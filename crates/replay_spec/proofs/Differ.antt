@@ -10,16 +10,17 @@ use Rattle.replay_spec.specs.Names.{Has}
 use Rattle.replay_spec.specs.Tape.{present, finishes, ends, Outcome, paged}
 use Rattle.replay_spec.specs.Tape as tape
 use Rattle.replay_spec.specs.Eval.{Segment}
-use Rattle.replay_spec.specs.Book.{Page, Instance, Opening, Change, opens, extends, sweeps, Doubt, Book, is_live, instance_at, page_at, spend, reopened_with}
+use Rattle.replay_spec.specs.Book.{Page, Instance, Opening, Change, opens, extends, sweeps, Doubt, Book, is_live, instance_at, page_at, spend, landing, compacting, Work}
 use Rattle.replay_spec.specs.Book as change
 use Rattle.replay_spec.specs.Rules.{Rules}
-use Rattle.replay_spec.specs.Change.{mend, put_in_order, put_page, root_by, page_by, done, shown_by, fresh, opened_by, instances_by, land}
+use Rattle.replay_spec.specs.Change.{mend, put_in_order, put_page, root_by, page_by, shown_by, ended_by, fresh, opened_by, instances_by, land}
+use Rattle.replay_spec.specs.Compaction.{reopened_with}
 use Rattle.replay_spec.specs.Admission.{or_else, Place, Admission, begins, resumes, refused, admit}
 use Rattle.replay_spec.specs.Next.{Ticket, Visit, url_for, newest, comes_to, start_visit, page_visit}
-use Rattle.replay_spec.specs.Step.{Reply, Decision, replies, records, unless, too_long, full_journal, with_room, change_by, reply_by, full, stopped, decide}
+use Rattle.replay_spec.specs.Step.{Reply, Decision, replies, records, compacts, unless, too_long, full_journal, with_room, change_by, reply_by, full, stopped, gone_for, decide, doubting}
 use Rattle.replay_spec.specs.Invariant.{Apart, Unused, IsSound}
 use Rattle.replay_spec.specs.Runs.{lands}
-use Rattle.replay_spec.specs.Laws.{Distinct, IsInFuel, Moment, then_book, book_after, AreLawful, AreShort, NamesDiffer, NamesStayDifferent, ShownIsOpen}
+use Rattle.replay_spec.specs.Laws.{Distinct, IsInFuel, Moment, then_book, book_after, AreLawful, AreShort, names_in_doubt, NamesDiffer, NamesStayDifferent, ShownIsOpen}
 use Rattle.replay_spec.proofs.Steps.{stepped}
 use Rattle.replay_spec.proofs.Names.{has_none, has_parts, none_open}
 use Rattle.replay_spec.proofs.Follows.{follow, own_of, distinct_of, apart_of}
@@ -29,7 +30,7 @@ use Rattle.replay_spec.proofs.Stand.{among_of}
 use Rattle.replay_spec.proofs.Admitted.{Says, says}
 use Rattle.replay_spec.proofs.Sound.{held_by}
 use Rattle.replay_spec.proofs.Decided.{Answers, answers_of}
-use Rattle.replay_spec.proofs.Going.{doubting, Records, Goes, stays, draws, spends, publishes, fails, goes_to, fails_at, keeps, loses, goes}
+use Rattle.replay_spec.proofs.Going.{Records, Goes, stays, draws, spends, publishes, fails, goes_to, fails_at, rewrites, fails_to_rewrite, keeps, keeps_rewritten, loses, goes}
 
 -- what is found where one was put is that one, or was there
 pub put_from : {A : Type 0} (number : A → ℕ) (n : ℕ) (x y : A) (ys : List A) → change.at_number number n (put_in_order number x ys) ≡ Some y → (x ≡ y) ⊎ (change.at_number number n ys ≡ Some y)
@@ -66,7 +67,7 @@ filtered g is apart differ k n i p here shown = differ k n i p (keep_found g k i
 opened : (s : Option Named) (o : Opening) (inside : List TxName) (is : List Instance) → Differ is → Distinct inside → Differ (opened_by s o inside is)
 opened None o inside is differ new k n j p here shown = differ k n j p here shown
 opened (Some s) o inside is differ new k n j p here shown =
-    let i = shown_by o.effects o.left o.kind (root_by o inside) (fresh s o.number) in
+    let i = shown_by o.effects o.left o.kind [] (root_by o inside) (fresh s o.number) in
     ⊎_elim
     (λ same. ⊎_elim (λ none. absurd (let never : ⊥ = cc in never)) (λ is_new. subst Distinct (sym is_new) new)
     (added (root_by o inside) n [] p (subst (λ (x : Instance). page_at n x.pages ≡ Some p) (sym same) shown)))
@@ -76,8 +77,8 @@ opened (Some s) o inside is differ new k n j p here shown =
 landed : (scripts : List Named) (c : Change) (inside : List TxName) (is : List Instance) → Apart is → Differ is → Distinct inside → Differ (instances_by scripts c inside is)
 landed scripts (opens o) inside is apart differ new = opened (slice_get scripts o.script) o inside is differ new
 landed scripts (extends x) inside is apart differ new =
-    mended x.instance (shown_by x.effects x.left x.kind (page_by x inside)) is inside (λ i. refl) (λ m i p found. added (page_by x inside) m i.pages p found) differ new
-landed scripts (change.ends e) inside is apart differ new = mended e.instance (done e.effects e.left) is inside (λ i. refl) (λ m i p found. inl found) differ new
+    mended x.instance (shown_by x.effects x.left x.kind x.evicted (page_by x inside)) is inside (λ i. refl) (λ m i p found. added (page_by x inside) m i.pages p found) differ new
+landed scripts (change.ends e) inside is apart differ new = mended e.instance (ended_by e) is inside (λ i. refl) (λ m i p found. inl found) differ new
 landed scripts (change.finishes f) inside is apart differ new = filtered (λ i. not (i.number == f.instance)) is apart differ
 landed scripts (sweeps tick) inside is apart differ new = filtered (is_live tick) is apart differ
 
@@ -85,6 +86,7 @@ landed scripts (sweeps tick) inside is apart differ new = filtered (is_live tick
 abbrev DiffersBy : Decision → Type 0
 DiffersBy (replies r) = ⊤
 DiffersBy (records r c inside) = Distinct inside
+DiffersBy (compacts r) = ⊤
 
 unless_differs : (o : Option Reply) (d : Decision) → DiffersBy d → DiffersBy (unless o d)
 unless_differs o d h = grind arith
@@ -93,12 +95,12 @@ room_differs : (rules : Rules) (b : Book) (r : Reply) (inside : List TxName) (o 
 room_differs rules b r inside None h = tt
 room_differs rules b r inside (Some c) h = unless_differs (or_else (too_long rules.journal b c) (full_journal rules.journal b c)) (records r c inside) h
 
-stopped_differs : (rules : Rules) (b : Book) (count : ℕ) (v : Visit) (s : Segment) (o : Outcome) → (IsInFuel o → Distinct s.entered) → DiffersBy (stopped rules b count v s o)
-stopped_differs rules b count v s (paged how bytes) h =
-    unless_differs (full rules how v.origin count) (with_room rules b (reply_by how bytes (url_for v)) s.entered (change_by (b.clock + rules.life) v s v.origin how))
-    (room_differs rules b (reply_by how bytes (url_for v)) s.entered (change_by (b.clock + rules.life) v s v.origin how) (h tt))
-stopped_differs rules b count v s (tape.faulted f) h = tt
-stopped_differs rules b count v s (tape.out_of_fuel cost) h = tt
+stopped_differs : (rules : Rules) (b : Book) (gone : List ℕ) (v : Visit) (s : Segment) (o : Outcome) → (IsInFuel o → Distinct s.entered) → DiffersBy (stopped rules b gone v s o)
+stopped_differs rules b gone v s (paged how bytes) h =
+    unless_differs (full rules how v.origin (length b.instances)) (with_room rules b (reply_by how bytes (url_for v)) s.entered (change_by (b.clock + rules.life) gone v s v.origin how))
+    (room_differs rules b (reply_by how bytes (url_for v)) s.entered (change_by (b.clock + rules.life) gone v s v.origin how) (h tt))
+stopped_differs rules b gone v s (tape.faulted f) h = tt
+stopped_differs rules b gone v s (tape.out_of_fuel cost) h = tt
 
 -- no page that is answered is inside a transaction of the new segment
 older : (b : Book) (t : Ticket) (at : Place) → IsSound b → Unused b t.number → Answers b t at → (x : TxName) → Has at.page.inside x → x.ticket ≡ t.number → ⊥
@@ -112,14 +114,14 @@ decided_differs rules b t (begins k s) less g differ unused h =
     let source = present s.script.cells rules.fuel in
     let now = (newest v source).segment in
     let o = comes_to v source in
-    stopped_differs rules b (length b.instances) v o o.outcome (λ fine. distinct_of [] now o rules.fuel ((follow s.script).0 now) fine refl less tt (λ x none. absurd (has_none x none)))
+    stopped_differs rules b [] v o o.outcome (λ fine. distinct_of [] now o rules.fuel ((follow s.script).0 now) fine refl less tt (λ x none. absurd (has_none x none)))
 decided_differs rules b t (resumes at) less g differ unused h =
     let v = page_visit b t at in
     let source = present at.instance.cells rules.fuel in
     let now = (newest v source).segment in
     let o = comes_to v source in
     let a = answers_of b t at g h in
-    stopped_differs rules b (length at.instance.pages) v o o.outcome
+    stopped_differs rules b (gone_for rules t at) v o o.outcome
     (λ fine. distinct_of at.page.inside now o rules.fuel (a.within source) fine refl less (differ at.instance.number at.page.number at.instance at.page a.here a.shown) (older b t at g unused a))
 decided_differs rules b t (refused r) less g differ unused h = tt
 
@@ -135,11 +137,11 @@ landed_names rules b d c inside apart h new is up = record {
   doubt = λ x e. absurd (let no : ⊥ = cc in no);
 }
 
-doubted_names : (b d : Book) (count : ℕ) (c : Change) (inside : List TxName) → NamesDiffer b → Distinct inside → d.instances ≡ b.instances
-    → d.down ≡ Some (record { count = count; change = c; inside = inside }) → NamesDiffer d
-doubted_names b d count c inside h new is down = record {
+doubted_names : (b d : Book) (count : ℕ) (w : Work) → NamesDiffer b → Distinct (names_in_doubt w) → d.instances ≡ b.instances
+    → d.down ≡ Some (record { count = count; work = w }) → NamesDiffer d
+doubted_names b d count w h new is down = record {
   pages = subst Differ (sym is) h.pages;
-  doubt = λ x e. (let same : (record { count = count; change = c; inside = inside }) ≡ x = same_Some _ x (sym down ∙ e) in subst (λ (y : Doubt). Distinct y.inside) same new);
+  doubt = λ x e. (let same : (record { count = count; work = w }) ≡ x = same_Some _ x (sym down ∙ e) in subst (λ (y : Doubt). Distinct (names_in_doubt y.work)) same new);
 }
 
 went_names : {lawful : Type 0} (rules : Rules) (b d : Book) (o : Option Change) → Goes lawful rules b o d → lawful → rules.fuel < 2 ^ 32 - 1 → IsSound b → NamesDiffer b → NamesDiffer d
@@ -149,11 +151,14 @@ went_names rules b d o (spends n out) l less g h = record { pages = h.pages; dou
 went_names rules b d o (publishes t c inside r) l less g h =
     landed_names rules b (land rules c inside (spend t.number b)) c inside g.orderly.instances.apart h (recorded_differs rules b t c inside less g h.pages r l) refl r.up
 went_names rules b d o (fails count t c inside r) l less g h =
-    doubted_names b (doubting count c inside (spend t.number b)) count c inside h (recorded_differs rules b t c inside less g h.pages r l) refl refl
+    doubted_names b (doubting count (landing c inside) (spend t.number b)) count (landing c inside) h (recorded_differs rules b t c inside less g h.pages r l) refl refl
 went_names rules b d o (goes_to tick later up) l less g h = landed_names rules b (land rules (sweeps tick) [] b) (sweeps tick) [] g.orderly.instances.apart h tt refl up
-went_names rules b d o (fails_at count tick later up) l less g h = doubted_names b (doubting count (sweeps tick) [] b) count (sweeps tick) [] h tt refl refl
-went_names rules b d o (keeps scripts doubt down) l less g h =
-    landed_names rules b (reopened_with scripts (land rules doubt.change doubt.inside b)) doubt.change doubt.inside g.orderly.instances.apart h (h.doubt doubt down) refl refl
+went_names rules b d o (fails_at count tick later up) l less g h = doubted_names b (doubting count (landing (sweeps tick) []) b) count (landing (sweeps tick) []) h tt refl refl
+went_names rules b d o (rewrites up) l less g h = record { pages = h.pages; doubt = h.doubt }
+went_names rules b d o (fails_to_rewrite count up) l less g h = doubted_names b (doubting count compacting b) count compacting h tt refl refl
+went_names rules b d o (keeps scripts count c inside down) l less g h =
+    landed_names rules b (reopened_with rules.journal scripts (land rules c inside b)) c inside g.orderly.instances.apart h (h.doubt (record { count = count; work = landing c inside }) down) refl refl
+went_names rules b d o (keeps_rewritten scripts count down) l less g h = record { pages = h.pages; doubt = λ x e. absurd (let no : ⊥ = cc in no) }
 went_names rules b d o (loses scripts) l less g h = record { pages = h.pages; doubt = λ x e. absurd (let no : ⊥ = cc in no) }
 
 ran_names : (b : Book) (ms : List Moment) → IsSound b → NamesDiffer b → AreLawful ms b → AreShort ms → NamesDiffer (book_after ms b)

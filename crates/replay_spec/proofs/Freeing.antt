@@ -6,8 +6,8 @@ use Rattle.std.proofs.lemmas.Bool.Decides.{nat_tests}
 use Rattle.script_value.specs.declared.outcome.TxName.{TxName}
 use Rattle.script_nodes.specs.Setup.{Named}
 use Rattle.replay_spec.specs.Names.{Has}
-use Rattle.replay_spec.specs.Book.{Instance, Opening, Finish, Change, opens, extends, ends, finishes, sweeps, Book, is_expired, is_live, instance_at}
-use Rattle.replay_spec.specs.Change.{mend, root_by, page_by, done, shown_by, fresh, opened_by, instances_by}
+use Rattle.replay_spec.specs.Book.{Instance, Opening, Finish, Change, opens, extends, ends, finishes, sweeps, Book, is_over, is_live, instance_at}
+use Rattle.replay_spec.specs.Change.{mend, root_by, page_by, shown_by, ended_by, fresh, opened_by, instances_by}
 use Rattle.replay_spec.specs.Runs.{lands}
 use Rattle.replay_spec.specs.Invariant.{Apart, ClosedIn, IsSoundChange}
 use Rattle.replay_spec.specs.Laws.{then_book, closes}
@@ -35,7 +35,7 @@ opened_closed : (s : Option Named) (o : Opening) (inside : List TxName) (is : Li
     → ClosedIn (opened_by s o inside is) k t → ClosedIn is k t
 opened_closed None o inside is k t nothing h = h
 opened_closed (Some s) o inside is k t nothing h =
-    let i = shown_by o.effects o.left o.kind (root_by o inside) (fresh s o.number) in
+    let i = shown_by o.effects o.left o.kind [] (root_by o inside) (fresh s o.number) in
     ⊎_elim (λ same. absurd (nothing t (subst (λ (j : Instance). Has j.closed t) (sym same) h.closed)))
     (λ old. record { instance = h.instance; found = old; closed = h.closed }) (put_from (λ (x : Instance). x.number) k i h.instance is h.found)
 
@@ -43,8 +43,8 @@ closed_by : (scripts : List Named) (shelf : ℕ) (is : List Instance) (c : Chang
     → ClosedIn (instances_by scripts c inside is) k t → ClosedIn is k t ⊎ Has (closes is c) t
 closed_by scripts shelf is (opens o) inside k t apart sound h = inl (opened_closed (slice_get scripts o.script) o inside is k t sound.nothing h)
 closed_by scripts shelf is (extends x) inside k t apart sound h =
-    mended_closed k x.instance (shown_by x.effects x.left x.kind (page_by x inside)) x.left is t (λ i. refl) (λ i. refl) h
-closed_by scripts shelf is (ends e) inside k t apart sound h = mended_closed k e.instance (done e.effects e.left) e.left is t (λ i. refl) (λ i. refl) h
+    mended_closed k x.instance (shown_by x.effects x.left x.kind x.evicted (page_by x inside)) x.left is t (λ i. refl) (λ i. refl) h
+closed_by scripts shelf is (ends e) inside k t apart sound h = mended_closed k e.instance (ended_by e) e.left is t (λ i. refl) (λ i. refl) h
 closed_by scripts shelf is (finishes f) inside k t apart sound h =
     inl (record { instance = h.instance; found = keep_found (λ i. not (i.number == f.instance)) k is h.instance apart h.found; closed = h.closed })
 closed_by scripts shelf is (sweeps tick) inside k t apart sound h =
@@ -67,7 +67,7 @@ kept : (f : Instance → Bool) (k : ℕ) (is : List Instance) (i : Instance) →
 kept f k [] i found passes = absurd (let no : ⊥ = cc in no)
 kept f k (j ∷ is) i found passes = grind (arith, nat_tests, kept f k is i)
 
--- an instance of this number is finished, or all its pages are expired at the tick
+-- an instance of this number is finished, or all its pages are expired at the tick or evicted
 record FinishesIn (o : Option Change) (k : ℕ) : Type 0 where
   finish : Finish
   is : o ≡ Some (finishes finish)
@@ -76,12 +76,12 @@ record FinishesIn (o : Option Change) (k : ℕ) : Type 0 where
 record ExpiresIn (o : Option Change) (i : Instance) : Type 0 where
   tick : ℕ
   is : o ≡ Some (sweeps tick)
-  over : list_all (is_expired tick) i.pages ≡ true
+  over : list_all (is_over tick i.evicted) i.pages ≡ true
 
 opened_there : (s : Option Named) (o : Opening) (inside : List TxName) (is : List Instance) (k : ℕ) (i : Instance) → instance_at k is ≡ Some i → instance_at k (opened_by s o inside is) ≡ None → ⊥
 opened_there None o inside is k i found none = never (instance_at k is) i none found
 opened_there (Some s) o inside is k i found none =
-    let j = shown_by o.effects o.left o.kind (root_by o inside) (fresh s o.number) in
+    let j = shown_by o.effects o.left o.kind [] (root_by o inside) (fresh s o.number) in
     ⊎_elim
     (λ same. never (instance_at k (opened_by (Some s) o inside is)) j none (ap (λ (m : ℕ). instance_at m (opened_by (Some s) o inside is)) (sym same) ∙ put_found (λ (x : Instance). x.number) j is))
     (λ other. never (instance_at k is) i (sym (put_other (λ (x : Instance). x.number) k j is other) ∙ none) found)
@@ -93,7 +93,7 @@ mended_there n f is k i same found none = ⊎_elim
     (λ other. never (instance_at k is) i (sym (mend_other k n f is same (λ e. other (sym e))) ∙ none) found)
     (cases_eq k n)
 
-not_live : (tick : ℕ) (is : List Instance) (k : ℕ) (i : Instance) → instance_at k is ≡ Some i → instance_at k (filter (is_live tick) is) ≡ None → (over : Bool) → list_all (is_expired tick) i.pages ≡ over → over ≡ true
+not_live : (tick : ℕ) (is : List Instance) (k : ℕ) (i : Instance) → instance_at k is ≡ Some i → instance_at k (filter (is_live tick) is) ≡ None → (over : Bool) → list_all (is_over tick i.evicted) i.pages ≡ over → over ≡ true
 not_live tick is k i found none true e = refl
 not_live tick is k i found none false e =
     absurd (never (instance_at k (filter (is_live tick) is)) i none (kept (is_live tick) k is i found (ap (λ (x : Bool). not x) e)))
@@ -101,15 +101,15 @@ not_live tick is k i found none false e =
 freed_by : (scripts : List Named) (is : List Instance) (c : Change) (inside : List TxName) (k : ℕ) (i : Instance) → instance_at k is ≡ Some i → instance_at k (instances_by scripts c inside is) ≡ None
     → FinishesIn (Some c) k ⊎ ExpiresIn (Some c) i
 freed_by scripts is (opens o) inside k i found none = absurd (opened_there (slice_get scripts o.script) o inside is k i found none)
-freed_by scripts is (extends x) inside k i found none = absurd (mended_there x.instance (shown_by x.effects x.left x.kind (page_by x inside)) is k i (λ j. refl) found none)
-freed_by scripts is (ends e) inside k i found none = absurd (mended_there e.instance (done e.effects e.left) is k i (λ j. refl) found none)
+freed_by scripts is (extends x) inside k i found none = absurd (mended_there x.instance (shown_by x.effects x.left x.kind x.evicted (page_by x inside)) is k i (λ j. refl) found none)
+freed_by scripts is (ends e) inside k i found none = absurd (mended_there e.instance (ended_by e) is k i (λ j. refl) found none)
 freed_by scripts is (finishes f) inside k i found none = by_number (i.number == f.instance) refl
   where
     by_number : (b : Bool) → (i.number == f.instance) ≡ b → FinishesIn (Some (finishes f)) k ⊎ ExpiresIn (Some (finishes f)) i
     by_number true e = inl (record { finish = f; is = refl; here = (let number = number_of (λ (x : Instance). x.number) k is i found in grind (arith, nat_tests, e, number)) })
     by_number false e = absurd (never (instance_at k (filter (λ j. not (j.number == f.instance)) is)) i none (kept (λ j. not (j.number == f.instance)) k is i found (ap (λ (x : Bool). not x) e)))
 freed_by scripts is (sweeps tick) inside k i found none =
-    inr (record { tick = tick; is = refl; over = (let all = not_live tick is k i found none (list_all (is_expired tick) i.pages) refl in all) })
+    inr (record { tick = tick; is = refl; over = (let all = not_live tick is k i found none (list_all (is_over tick i.evicted) i.pages) refl in all) })
 
 freed_landed : (b d : Book) (o : Option Change) (k : ℕ) (i : Instance) → LandsAs b o d → instance_at k b.instances ≡ Some i → instance_at k d.instances ≡ None → FinishesIn o k ⊎ ExpiresIn o i
 freed_landed b d None k i is found none = absurd (never (instance_at k b.instances) i (subst (λ (js : List Instance). instance_at k js ≡ None) is none) found)

@@ -1,5 +1,5 @@
 -- The journal is asked last.
-use Rattle.std.proofs.Common.{◌≡◌, ℕ, ◌+◌, List, length, Option, Some, None, refl}
+use Rattle.std.proofs.Common.{◌≡◌, ℕ, ◌+◌, List, [], length, Option, Some, None, refl}
 use Rattle.script_value.specs.declared.outcome.TxName.{TxName}
 use Rattle.replay_spec.specs.Tape.{present, Outcome, paged}
 use Rattle.replay_spec.specs.Tape as tape
@@ -8,7 +8,7 @@ use Rattle.replay_spec.specs.Book.{Change, Book}
 use Rattle.replay_spec.specs.Rules.{Journal, Rules}
 use Rattle.replay_spec.specs.Admission.{Admission, begins, resumes, refused, admit}
 use Rattle.replay_spec.specs.Next.{Ticket, Visit, url_for, comes_to, start_visit, page_visit}
-use Rattle.replay_spec.specs.Step.{Reply, Decision, unless, down_by, reply_by, full, with_room, change_by, stopped, decide}
+use Rattle.replay_spec.specs.Step.{Reply, Decision, unless, down_by, reply_by, full, with_room, change_by, stopped, gone_for, decide}
 use Rattle.replay_spec.specs.Remade.{through, JournalIsLast}
 
 unless_last : (journal : Option Journal) (b : Book) (o : Option Reply) (d e : Decision) → d ≡ through journal b e → unless o d ≡ through journal b (unless o e)
@@ -22,23 +22,23 @@ room_last : (rules : Rules) (b : Book) (r : Reply) (inside : List TxName) (o : O
 room_last rules b r inside None = refl
 room_last rules b r inside (Some c) = refl
 
-stopped_last : (rules : Rules) (b : Book) (count : ℕ) (v : Visit) (s : Segment) (o : Outcome) → stopped rules b count v s o ≡ through rules.journal b (stopped (without rules) b count v s o)
-stopped_last rules b count v s (paged how bytes) =
-    let c = change_by (b.clock + rules.life) v s v.origin how in
+stopped_last : (rules : Rules) (b : Book) (gone : List ℕ) (v : Visit) (s : Segment) (o : Outcome) → stopped rules b gone v s o ≡ through rules.journal b (stopped (without rules) b gone v s o)
+stopped_last rules b gone v s (paged how bytes) =
+    let c = change_by (b.clock + rules.life) gone v s v.origin how in
     let r = reply_by how bytes (url_for v) in
-    unless_last rules.journal b (full rules how v.origin count) (with_room rules b r s.entered c) (with_room (without rules) b r s.entered c) (room_last rules b r s.entered c)
-stopped_last rules b count v s (tape.faulted f) = refl
-stopped_last rules b count v s (tape.out_of_fuel cost) = refl
+    unless_last rules.journal b (full rules how v.origin (length b.instances)) (with_room rules b r s.entered c) (with_room (without rules) b r s.entered c) (room_last rules b r s.entered c)
+stopped_last rules b gone v s (tape.faulted f) = refl
+stopped_last rules b gone v s (tape.out_of_fuel cost) = refl
 
 decided_last : (rules : Rules) (b : Book) (t : Ticket) (a : Admission) → decide rules b t a ≡ through rules.journal b (decide (without rules) b t a)
 decided_last rules b t (begins k s) =
     let v = start_visit b t k s in
     let m = comes_to v (present s.script.cells rules.fuel) in
-    stopped_last rules b (length b.instances) v m m.outcome
+    stopped_last rules b [] v m m.outcome
 decided_last rules b t (resumes at) =
     let v = page_visit b t at in
     let m = comes_to v (present at.instance.cells rules.fuel) in
-    stopped_last rules b (length at.instance.pages) v m m.outcome
+    stopped_last rules b (gone_for rules t at) v m m.outcome
 decided_last rules b t (refused r) = refl
 
 pub last : JournalIsLast

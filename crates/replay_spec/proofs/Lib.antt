@@ -37,3 +37,17 @@ pub mod Again
 pub mod Events
 pub mod Recovered
 pub mod Goes
+pub mod Rising
+pub mod Goers
+pub mod Kept
+pub mod Filed
+pub mod Living
+pub mod Compacted
+pub mod Filing
+pub mod Reopened
+pub mod Twice
+pub mod Reading
+pub mod Evicted
+pub mod Room
+pub mod Least
+pub mod Migrated

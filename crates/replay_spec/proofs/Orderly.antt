@@ -1,39 +1,43 @@
 -- Each lawful event keeps a book orderly.
-use Rattle.std.proofs.Common.{◌<◌, ◌≡◌, ◌≤◌, ◌==◌, ◌+◌, max, ℕ, List, [], ◌∷◌, ◌++◌, Option, Some, None, Bool, true, false, not, filter, refl, sym, ap, subst, ◌∙◌, inl, inr, ⊎_elim, arith}
+use Rattle.std.proofs.Common.{◌<◌, ◌≡◌, ◌≤◌, ◌==◌, ◌+◌, max, ℕ, List, [], ◌∷◌, ◌++◌, length, Option, Some, None, Bool, true, false, not, filter, refl, sym, ap, subst, ◌∙◌, inl, inr, ⊎_elim, arith}
 use Rattle.std.specs.Prelude.{⊤, if◌then◌else◌}
+use Rattle.std.proofs.lemmas.Option.{same_Some}
 use Rattle.script_value.specs.declared.outcome.TxName.{TxName}
 use Rattle.script_nodes.specs.Setup.{Named}
 use Rattle.replay_spec.specs.Tape.{present, How, shows, Outcome, paged}
 use Rattle.replay_spec.specs.Tape as tape
 use Rattle.replay_spec.specs.Eval.{Segment}
-use Rattle.replay_spec.specs.Book.{Change, opens, extends, ends, finishes, sweeps, Doubt, Book, instance_at, page_at, draw, spend, reopened_with}
-use Rattle.replay_spec.specs.Rules.{Rules}
+use Rattle.replay_spec.specs.Book.{Instance, Change, opens, extends, ends, finishes, sweeps, Book, instance_at, page_at, landing, compacting, draw, spend}
+use Rattle.replay_spec.specs.Rules.{Journal, Rules}
 use Rattle.replay_spec.specs.Change.{instances_by, logged_by, clock_by, land}
-use Rattle.replay_spec.specs.Admission.{or_else, Place, Admission, begins, resumes, refused, admit}
+use Rattle.replay_spec.specs.Compaction.{rewritten, reopened_with}
+use Rattle.replay_spec.specs.Admission.{or_else, is_one, Place, Admission, begins, resumes, refused, admit}
 use Rattle.replay_spec.specs.Next.{Ticket, Origin, starts, answers, Visit, url_for, comes_to, start_visit, page_visit}
-use Rattle.replay_spec.specs.Step.{Reply, Decision, replies, records, unless, too_long, full_journal, with_room, change_by, reply_by, full, stopped, decide}
+use Rattle.replay_spec.specs.Step.{Reply, Decision, replies, records, compacts, unless, too_long, full_journal, with_room, change_by, reply_by, full, stopped, gone_for, doubting, decide}
 use Rattle.replay_spec.specs.Runs.{lands}
-use Rattle.replay_spec.specs.Invariant.{Among, AreDifferent, HasPage, IsOf, IsDoubted, Unused, AreOrderly, IsOrderlyChange, IsOrderlyDoubt, IsOrderly}
+use Rattle.replay_spec.specs.Invariant.{Among, AreDifferent, CanGo, HasPage, IsOf, IsDoubted, Unused, AreOrderly, IsOrderlyChange, IsOrderlyDoubt, IsOrderly}
 use Rattle.replay_spec.specs.Laws.{IsLawful, Moment, then_book, book_after, AreLawful, Leads, OrderlyBooksStay, EachHasItsCells}
 use Rattle.replay_spec.proofs.Numbered.{number_of}
 use Rattle.replay_spec.proofs.Stand.{among_drawn, among_spent, Since, since_same, since_then, orderly_less, is_below, empty_orderly, Later}
 use Rattle.replay_spec.proofs.Landed.{land_well}
 use Rattle.replay_spec.proofs.Admitted.{Stands, Says, says}
-use Rattle.replay_spec.proofs.Going.{doubting, Records, Goes, stays, draws, spends, publishes, fails, goes_to, fails_at, keeps, loses, goes}
+use Rattle.replay_spec.proofs.Going.{Records, Goes, stays, draws, spends, publishes, fails, goes_to, fails_at, rewrites, fails_to_rewrite, keeps, keeps_rewritten, loses, goes}
+use Rattle.replay_spec.proofs.Goers.{pages_of, goers_go, go_used}
 
 -- what a decision records answers a page that is there, and is of the number that is spent
 abbrev IsOrderlyDecision : Book → ℕ → Decision → Type 0
 IsOrderlyDecision b n (replies r) = ⊤
 IsOrderlyDecision b n (records r c inside) = IsOrderlyChange b.clock b.instances c × IsOf n c
+IsOrderlyDecision b n (compacts r) = ⊥
 
 unless_orderly : (b : Book) (n : ℕ) (o : Option Reply) (d : Decision) → IsOrderlyDecision b n d → IsOrderlyDecision b n (unless o d)
 unless_orderly b n None d h = h
 unless_orderly b n (Some r) d h = tt
 
--- what an origin answers is there
-abbrev IsThere : Book → Origin → Type 0
-IsThere b (starts k) = ⊤
-IsThere b (answers k m) = HasPage b.instances k m
+-- the page that an origin answers stands, and so do the pages that go
+abbrev IsThere : Book → (gone : List ℕ) → Origin → Type 0
+IsThere b gone (starts k) = ⊤
+IsThere b gone (answers k m) = HasPage b.instances k m × CanGo b.instances k gone
 
 abbrev IsOrderlyOption : Book → ℕ → Option Change → Type 0
 IsOrderlyOption b n None = ⊤
@@ -43,22 +47,22 @@ room_orderly : (rules : Rules) (b : Book) (n : ℕ) (r : Reply) (inside : List T
 room_orderly rules b n r inside None h = tt
 room_orderly rules b n r inside (Some c) h = unless_orderly b n (or_else (too_long rules.journal b c) (full_journal rules.journal b c)) (records r c inside) h
 
-change_orderly : (b : Book) (deadline : ℕ) (v : Visit) (s : Segment) (origin : Origin) (how : How) → IsThere b origin → IsOrderlyOption b v.ticket.number (change_by deadline v s origin how)
-change_orderly b deadline v s (starts k) (shows kind) h = (tt, refl)
-change_orderly b deadline v s (starts k) tape.finishes h = tt
-change_orderly b deadline v s (starts k) tape.ends h = tt
-change_orderly b deadline v s (answers k m) (shows kind) h = (h, refl)
-change_orderly b deadline v s (answers k m) tape.finishes h = (h, refl)
-change_orderly b deadline v s (answers k m) tape.ends h = (h, refl)
+change_orderly : (b : Book) (deadline : ℕ) (gone : List ℕ) (v : Visit) (s : Segment) (origin : Origin) (how : How) → IsThere b gone origin → IsOrderlyOption b v.ticket.number (change_by deadline gone v s origin how)
+change_orderly b deadline gone v s (starts k) (shows kind) h = (tt, refl)
+change_orderly b deadline gone v s (starts k) tape.finishes h = tt
+change_orderly b deadline gone v s (starts k) tape.ends h = tt
+change_orderly b deadline gone v s (answers k m) (shows kind) h = (h, refl)
+change_orderly b deadline gone v s (answers k m) tape.finishes h = (h.0, refl)
+change_orderly b deadline gone v s (answers k m) tape.ends h = (h.0, refl)
 
-stopped_orderly : (rules : Rules) (b : Book) (count : ℕ) (v : Visit) (s : Segment) (o : Outcome) → IsThere b v.origin → IsOrderlyDecision b v.ticket.number (stopped rules b count v s o)
-stopped_orderly rules b count v s (paged how bytes) h =
-    let c = change_by (b.clock + rules.life) v s v.origin how in
+stopped_orderly : (rules : Rules) (b : Book) (gone : List ℕ) (v : Visit) (s : Segment) (o : Outcome) → IsThere b gone v.origin → IsOrderlyDecision b v.ticket.number (stopped rules b gone v s o)
+stopped_orderly rules b gone v s (paged how bytes) h =
+    let c = change_by (b.clock + rules.life) gone v s v.origin how in
     let r = reply_by how bytes (url_for v) in
-    unless_orderly b v.ticket.number (full rules how v.origin count) (with_room rules b r s.entered c)
-    (room_orderly rules b v.ticket.number r s.entered c (change_orderly b (b.clock + rules.life) v s v.origin how h))
-stopped_orderly rules b count v s (tape.faulted f) h = tt
-stopped_orderly rules b count v s (tape.out_of_fuel cost) h = tt
+    unless_orderly b v.ticket.number (full rules how v.origin (length b.instances)) (with_room rules b r s.entered c)
+    (room_orderly rules b v.ticket.number r s.entered c (change_orderly b (b.clock + rules.life) gone v s v.origin how h))
+stopped_orderly rules b gone v s (tape.faulted f) h = tt
+stopped_orderly rules b gone v s (tape.out_of_fuel cost) h = tt
 
 -- a page that is admitted stands there under its own numbers
 pub stands_there : (b : Book) (at : Place) → Stands b at → (instance_at at.instance.number b.instances ≡ Some at.instance) × (page_at at.page.number at.instance.pages ≡ Some at.page)
@@ -67,20 +71,26 @@ stands_there b at h = (
   ap (λ n. page_at n at.instance.pages) (number_of (λ q. q.number) h.numbers.page at.instance.pages at.page h.stands.shown) ∙ h.stands.shown,
 )
 
-decided_by : (rules : Rules) (b : Book) (t : Ticket) (a : Admission) → Says b a → IsOrderlyDecision b t.number (decide rules b t a)
-decided_by rules b t (begins k s) h =
-    let v = start_visit b t k s in let m = comes_to v (present s.script.cells rules.fuel) in stopped_orderly rules b _ v m m.outcome tt
-decided_by rules b t (resumes at) h =
+decided_by : (rules : Rules) (b : Book) (t : Ticket) (a : Admission) → IsOrderly b → Says b a → IsOrderlyDecision b t.number (decide rules b t a)
+decided_by rules b t (begins k s) g h =
+    let v = start_visit b t k s in let m = comes_to v (present s.script.cells rules.fuel) in stopped_orderly rules b [] v m m.outcome tt
+decided_by rules b t (resumes at) g h =
     let v = page_visit b t at in
     let m = comes_to v (present at.instance.cells rules.fuel) in
     let there = stands_there b at h in
-    stopped_orderly rules b _ v m m.outcome (at.page, record { instance = at.instance; found = there.0; shown = there.1 })
-decided_by rules b t (refused r) h = tt
+    stopped_orderly rules b (gone_for rules t at) v m m.outcome (
+      (at.page, record { instance = at.instance; found = there.0; shown = there.1 }),
+      λ i found n gone.
+          let same : at.instance ≡ i = same_Some at.instance i (sym there.0 ∙ found) in
+          subst (λ (j : Instance). is_one n (pages_of j.used) ≡ true) same
+          (go_used (gone_for rules t at) at.instance.used n (goers_go rules.pages at.page.number t.number at.instance.used) gone),
+    )
+decided_by rules b t (refused r) g h = tt
 
 -- so is what a publish records
-pub recorded_orderly : {lawful : Type 0} (rules : Rules) (b : Book) (t : Ticket) (c : Change) (inside : List TxName) → Records lawful rules b t c inside
+pub recorded_orderly : {lawful : Type 0} (rules : Rules) (b : Book) (t : Ticket) (c : Change) (inside : List TxName) → IsOrderly b → Records lawful rules b t c inside
     → IsOrderlyChange b.clock b.instances c × IsOf t.number c
-recorded_orderly rules b t c inside h = subst (IsOrderlyDecision b t.number) h.decided (decided_by rules b t (admit b t.target) (says b t.target))
+recorded_orderly rules b t c inside g h = subst (IsOrderlyDecision b t.number) h.decided (decided_by rules b t (admit b t.target) g (says b t.target))
 
 pub different_more : (ns : List ℕ) (m : ℕ) → AreDifferent ns → (Among m ns → ⊥) → AreDifferent (ns ++ m ∷ [])
 different_more [] m h new = (λ none. none, tt)
@@ -136,13 +146,13 @@ spent : (b : Book) (n : ℕ) → IsOrderly b → Later b (spend n b)
 spent b n g = still b (spend n b) g refl refl refl (spent_fewer b n) (λ m h. g.below m (among_spent m n b.out h).0) (different_spent n b.out g.different)
     (λ m h. let d = g.doubted m h in (d.0, λ there. d.1 (among_spent m n b.out there).0)) g.logged g.doubt
 
-pub lost_fewer : (b : Book) (scripts : List Named) (m : ℕ) → Unused (reopened_with scripts b) m → Unused b m
-lost_fewer b scripts m (inl h) = absurd h
-lost_fewer b scripts m (inr (inl h)) = absurd h
-lost_fewer b scripts m (inr (inr h)) = inr (inr h)
+pub lost_fewer : (journal : Option Journal) (b : Book) (scripts : List Named) (m : ℕ) → Unused (reopened_with journal scripts b) m → Unused b m
+lost_fewer journal b scripts m (inl h) = absurd h
+lost_fewer journal b scripts m (inr (inl h)) = absurd h
+lost_fewer journal b scripts m (inr (inr h)) = inr (inr h)
 
-lost : (b : Book) (scripts : List Named) → IsOrderly b → Later b (reopened_with scripts b)
-lost b scripts g = still b (reopened_with scripts b) g refl refl refl (lost_fewer b scripts) (λ m h. absurd h) tt (λ m h. absurd h) (omega arith) tt
+lost : (journal : Option Journal) (b : Book) (scripts : List Named) → IsOrderly b → Later b (reopened_with journal scripts b)
+lost journal b scripts g = still b (reopened_with journal scripts b) g refl refl refl (lost_fewer journal b scripts) (λ m h. absurd h) tt (λ m h. absurd h) (omega arith) tt
 
 pub is_same : (m n : ℕ) (c : Change) → IsOf m c → IsOf n c → m ≡ n
 is_same m n (opens o) e f = sym e ∙ f
@@ -152,7 +162,7 @@ is_same m n (finishes f) e g = sym e ∙ g
 is_same m n (sweeps tick) e f = absurd e
 
 -- a number in doubt was out, or was in doubt
-pub doubt_fewer : (b : Book) (count n : ℕ) (c : Change) (inside : List TxName) → ((m : ℕ) → IsOf m c → Unused b m) → (m : ℕ) → Unused (doubting count c inside (spend n b)) m → Unused b m
+pub doubt_fewer : (b : Book) (count n : ℕ) (c : Change) (inside : List TxName) → ((m : ℕ) → IsOf m c → Unused b m) → (m : ℕ) → Unused (doubting count (landing c inside) (spend n b)) m → Unused b m
 doubt_fewer b count n c inside here m (inl h) = inl (among_spent m n b.out h).0
 doubt_fewer b count n c inside here m (inr (inl h)) = here m h
 doubt_fewer b count n c inside here m (inr (inr h)) = inr (inr h)
@@ -161,17 +171,17 @@ pub is_out : (b : Book) (n : ℕ) (c : Change) → Among n b.out → IsOf n c �
 is_out b n c out is_it m h = inl (subst (λ (x : ℕ). Among x b.out) (is_same n m c is_it h) out)
 
 pub failed : (b : Book) (count n : ℕ) (c : Change) (inside : List TxName) → IsOrderly b → Among n b.out → IsOrderlyChange b.clock b.instances c → IsOf n c
-    → Later b (doubting count c inside (spend n b))
+    → Later b (doubting count (landing c inside) (spend n b))
 failed b count n c inside g out fits is_it =
-    still b (doubting count c inside (spend n b)) g refl refl refl (doubt_fewer b count n c inside (is_out b n c out is_it))
+    still b (doubting count (landing c inside) (spend n b)) g refl refl refl (doubt_fewer b count n c inside (is_out b n c out is_it))
     (λ m h. g.below m (among_spent m n b.out h).0) (different_spent n b.out g.different)
     (λ m h. let e = is_same m n c h is_it in (subst (λ (x : ℕ). x < b.drawn) (sym e) (g.below n out), λ there. (among_spent m n b.out there).1 e))
     g.logged fits
 
-pub failed_at : (b : Book) (count tick : ℕ) → IsOrderly b → b.clock < tick → Later b (doubting count (sweeps tick) [] b)
-failed_at b count tick g later = still b (doubting count (sweeps tick) [] b) g refl refl refl fewer g.below g.different (λ m h. absurd h) g.logged later
+pub failed_at : (b : Book) (count tick : ℕ) → IsOrderly b → b.clock < tick → Later b (doubting count (landing (sweeps tick) []) b)
+failed_at b count tick g later = still b (doubting count (landing (sweeps tick) []) b) g refl refl refl fewer g.below g.different (λ m h. absurd h) g.logged later
   where
-    fewer : (m : ℕ) → Unused (doubting count (sweeps tick) [] b) m → Unused b m
+    fewer : (m : ℕ) → Unused (doubting count (landing (sweeps tick) []) b) m → Unused b m
     fewer m (inl h) = inl h
     fewer m (inr (inl h)) = absurd h
     fewer m (inr (inr h)) = inr (inr h)
@@ -239,29 +249,51 @@ pub swept : (rules : Rules) (b : Book) (tick : ℕ) → IsOrderly b → b.clock 
 swept rules b tick g later up =
     landed b (land rules (sweeps tick) [] b) (sweeps tick) [] g later (λ m e. absurd e) refl refl refl up (swept_fewer rules b tick up) g.below g.different (omega (arith, g.logged))
 
-pub kept_fewer : (rules : Rules) (scripts : List Named) (b : Book) (doubt : Doubt)
-    → (m : ℕ) → Unused (reopened_with scripts (land rules doubt.change doubt.inside b)) m → Unused b m × (IsOf m doubt.change → ⊥)
-kept_fewer rules scripts b doubt =
-    landed_fewer b (reopened_with scripts (land rules doubt.change doubt.inside b)) doubt.change refl refl (λ m h. absurd h)
+pub kept_fewer : (rules : Rules) (scripts : List Named) (b : Book) (c : Change) (inside : List TxName)
+    → (m : ℕ) → Unused (reopened_with rules.journal scripts (land rules c inside b)) m → Unused b m × (IsOf m c → ⊥)
+kept_fewer rules scripts b c inside =
+    landed_fewer b (reopened_with rules.journal scripts (land rules c inside b)) c refl refl (λ m h. absurd h)
 
-pub is_doubted : (b : Book) (doubt : Doubt) → b.down ≡ Some doubt → (m : ℕ) → IsOf m doubt.change → Unused b m
-is_doubted b doubt down m e = inr (inl (subst (IsDoubted m) (sym down) e))
+pub is_doubted : (b : Book) (count : ℕ) (c : Change) (inside : List TxName) → b.down ≡ Some (record { count = count; work = landing c inside }) → (m : ℕ) → IsOf m c → Unused b m
+is_doubted b count c inside down m e = inr (inl (subst (IsDoubted m) (sym down) e))
 
-pub kept : (rules : Rules) (scripts : List Named) (b : Book) (doubt : Doubt) → IsOrderly b → b.down ≡ Some doubt → Later b (reopened_with scripts (land rules doubt.change doubt.inside b))
-kept rules scripts b doubt g down =
-    landed b (reopened_with scripts (land rules doubt.change doubt.inside b)) doubt.change doubt.inside g (subst (IsOrderlyDoubt b.clock b.instances) down g.doubt)
-    (is_doubted b doubt down) refl refl refl refl (kept_fewer rules scripts b doubt) (λ m h. absurd h) tt (omega arith)
+pub kept : (rules : Rules) (scripts : List Named) (b : Book) (count : ℕ) (c : Change) (inside : List TxName) → IsOrderly b → b.down ≡ Some (record { count = count; work = landing c inside })
+    → Later b (reopened_with rules.journal scripts (land rules c inside b))
+kept rules scripts b count c inside g down =
+    landed b (reopened_with rules.journal scripts (land rules c inside b)) c inside g (subst (IsOrderlyDoubt b.clock b.instances) down g.doubt)
+    (is_doubted b count c inside down) refl refl refl refl (kept_fewer rules scripts b c inside) (λ m h. absurd h) tt (omega arith)
+
+-- a compaction leaves an orderly book
+again_fewer : (rules : Rules) (b : Book) (m : ℕ) → Unused (rewritten rules b) m → Unused b m
+again_fewer rules b m (inl h) = inl h
+again_fewer rules b m (inr h) = inr h
+
+rewrote : (rules : Rules) (b : Book) → IsOrderly b → Later b (rewritten rules b)
+rewrote rules b g = still b (rewritten rules b) g refl refl refl (again_fewer rules b) g.below g.different g.doubted g.logged g.doubt
+
+fail_fewer : (b : Book) (count m : ℕ) → Unused (doubting count compacting b) m → Unused b m
+fail_fewer b count m (inl h) = inl h
+fail_fewer b count m (inr (inl h)) = absurd h
+fail_fewer b count m (inr (inr h)) = inr (inr h)
+
+failed_again : (b : Book) (count : ℕ) → IsOrderly b → Later b (doubting count compacting b)
+failed_again b count g = still b (doubting count compacting b) g refl refl refl (fail_fewer b count) g.below g.different (λ m h. absurd h) g.logged tt
 
 pub went : {lawful : Type 0} (rules : Rules) (b d : Book) (o : Option Change) → Goes lawful rules b o d → lawful → IsOrderly b → Later b d
 went rules b d o stays l g = same b g
 went rules b d o draws l g = drawn b g
 went rules b d o (spends n out) l g = spent b n g
-went rules b d o (publishes t c inside h) l g = let fits = recorded_orderly rules b t c inside h in published rules b t.number c inside g (h.out l) h.up fits.0 fits.1
-went rules b d o (fails count t c inside h) l g = let fits = recorded_orderly rules b t c inside h in failed b count t.number c inside g (h.out l) fits.0 fits.1
+went rules b d o (publishes t c inside h) l g = let fits = recorded_orderly rules b t c inside g h in published rules b t.number c inside g (h.out l) h.up fits.0 fits.1
+went rules b d o (fails count t c inside h) l g = let fits = recorded_orderly rules b t c inside g h in failed b count t.number c inside g (h.out l) fits.0 fits.1
 went rules b d o (goes_to tick later up) l g = swept rules b tick g later up
 went rules b d o (fails_at count tick later up) l g = failed_at b count tick g later
-went rules b d o (keeps scripts doubt down) l g = kept rules scripts b doubt g down
-went rules b d o (loses scripts) l g = lost b scripts g
+went rules b d o (rewrites up) l g = rewrote rules b g
+went rules b d o (fails_to_rewrite count up) l g = failed_again b count g
+went rules b d o (keeps scripts count c inside down) l g = kept rules scripts b count c inside g down
+went rules b d o (keeps_rewritten scripts count down) l g =
+    let h = lost rules.journal (rewritten rules b) scripts (rewrote rules b g).orderly in
+    record { orderly = h.orderly; shelf = h.shelf; fewer = h.fewer; since = h.since; clock = h.clock }
+went rules b d o (loses scripts) l g = lost rules.journal b scripts g
 
 pub stepped : (m : Moment) (b : Book) → IsOrderly b → IsLawful m.event b → Later b (then_book m b)
 stepped m b g lawful = went m.rules b (then_book m b) (lands m.rules b m.event m.fate) (goes m.rules b m.nonce m.event m.fate) lawful g

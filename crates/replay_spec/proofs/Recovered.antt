@@ -1,19 +1,21 @@
 -- The book that records make is orderly.
-use Rattle.std.proofs.Common.{◌≡◌, ◌<◌, max, ℕ, List, [], ◌∷◌, Option, Some, None, Bool, true, false, refl, sym, subst, inl, inr, ⊎_elim, arith}
+use Rattle.std.proofs.Common.{◌≡◌, ◌<◌, max, ℕ, List, [], ◌∷◌, Option, Some, None, Bool, true, false, refl, sym, ◌∙◌, subst, inl, inr, ⊎_elim, arith}
 use Rattle.std.specs.Prelude.{if◌then◌else◌, nat_lt}
 use Rattle.std.proofs.lemmas.Bool.Decides.{nat_tests}
+use Rattle.std.proofs.lemmas.Option.{same_Some}
 use Rattle.script_value.specs.declared.outcome.TxName.{TxName}
 use Rattle.script_nodes.specs.Setup.{Named}
-use Rattle.replay_spec.specs.Book.{Change, opens, extends, ends, finishes, sweeps, Book, instance_at, page_at, reopened}
+use Rattle.replay_spec.specs.Book.{Instance, Change, opens, extends, ends, finishes, sweeps, Book, instance_at, page_at, reopened}
 use Rattle.replay_spec.specs.Rules.{Rules}
 use Rattle.replay_spec.specs.Change.{logged_by}
 use Rattle.replay_spec.specs.Admission.{is_one, Place}
-use Rattle.replay_spec.specs.Recovery.{remade, page_of_numbers, Made, number_in, is_repeated, with_number, taken_in, redone, redo}
+use Rattle.replay_spec.specs.Recovery.{can_go, remade, page_of_numbers, Made, number_in, is_repeated, with_number, taken_in, redone, redo}
 use Rattle.replay_spec.specs.Invariant.{Among, HasPage, IsOf, Unused, AreOrderly, IsOrderlyChange, IsOrderly}
 use Rattle.replay_spec.specs.Remade.{IsOrderlyMade, RecordsMakeOrderlyBooks}
 use Rattle.replay_spec.proofs.Admitted.{came_from, when_is}
 use Rattle.replay_spec.proofs.Stand.{orderly_less, none_orderly}
 use Rattle.replay_spec.proofs.Landed.{land_well}
+use Rattle.replay_spec.proofs.Goers.{pages_of, go_used}
 
 -- what is not among those seen
 abbrev pub Unseen : List ℕ → ℕ → Type 0
@@ -26,9 +28,32 @@ page_there b k n at e =
     let p = came_from (page_at n i.0.pages) _ at i.1.1 in
     (p.0, record { instance = i.0; found = i.1.0; shown = p.1.0 })
 
+-- the place that is told stands there
+pub place_is : (b : Book) (k n : ℕ) (at : Place) → page_of_numbers b k n ≡ Some at → (instance_at k b.instances ≡ Some at.instance) × (page_at n at.instance.pages ≡ Some at.page)
+place_is b k n at e =
+    let i = came_from (instance_at k b.instances) _ at e in
+    let p = came_from (page_at n i.0.pages) _ at i.1.1 in
+    let place : Place = record { instance = i.0; page = p.0 } in
+    let is : place ≡ at = same_Some place at p.1.1 in
+    let here = i.1.0 in
+    let shown = p.1.0 in
+    (cc, cc)
+
+pub if_can : (can : Bool) (o : Option (List TxName)) (names : List TxName) → (if can then o else None) ≡ Some names → (can ≡ true) × (o ≡ Some names)
+if_can true o names e = (refl, e)
+if_can false o names e = absurd (let no : ⊥ = cc in no)
+
 fits : (b : Book) (c : Change) (names : List TxName) → remade b c ≡ Some names → IsOrderlyChange b.clock b.instances c
 fits b (opens o) names e = tt
-fits b (extends x) names e = let at = came_from (page_of_numbers b x.instance x.page) _ names e in page_there b x.instance x.page at.0 at.1.0
+fits b (extends x) names e =
+    let at = came_from (page_of_numbers b x.instance x.page) _ names e in
+    let place = place_is b x.instance x.page at.0 at.1.0 in
+    let can = (if_can (can_go x.evicted at.0.instance.used) _ names at.1.1).0 in (
+      page_there b x.instance x.page at.0 at.1.0,
+      λ i found n gone.
+          let same : at.0.instance ≡ i = same_Some at.0.instance i (sym place.0 ∙ found) in
+          subst (λ (j : Instance). is_one n (pages_of j.used) ≡ true) same (go_used x.evicted at.0.instance.used n can gone),
+    )
 fits b (ends x) names e = let at = came_from (page_of_numbers b x.instance x.page) _ names e in page_there b x.instance x.page at.0 at.1.0
 fits b (finishes f) names e = let at = came_from (page_of_numbers b f.instance f.page) _ names e in page_there b f.instance f.page at.0 at.1.0
 fits b (sweeps tick) names e = let later = (when_is (nat_lt b.clock tick) [] names e).0 in grind (arith, nat_tests, later)

@@ -10,12 +10,13 @@ use Rattle.script_nodes.specs.Setup.{Named}
 use Rattle.replay_spec.specs.Tape.{present, How, shows, finishes, ends, Outcome, paged}
 use Rattle.replay_spec.specs.Tape as tape
 use Rattle.replay_spec.specs.Eval.{Segment}
-use Rattle.replay_spec.specs.Book.{Change, sweeps, Doubt, Book, spend}
+use Rattle.replay_spec.specs.Book.{Change, sweeps, landing, compacting, Doubt, Book, spend}
+use Rattle.replay_spec.specs.Compaction.{compacted_length, rewritten}
 use Rattle.replay_spec.specs.Rules.{Journal, Rules}
 use Rattle.replay_spec.specs.Change.{record_length, longer_by, land}
 use Rattle.replay_spec.specs.Admission.{when, or_else, Admission, begins, resumes, refused, refusal_of, admit}
 use Rattle.replay_spec.specs.Next.{Ticket, Origin, starts, answers, Visit, url_for, comes_to, start_visit, page_visit}
-use Rattle.replay_spec.specs.Step.{Fate, plain, no_memory, disk_fault, lost, kept, Reply, worn, swept, shelf_full, instance_full, oversize, journal_full, Decision, replies, records, unless, down_by, refused_by, opening, extension, ending, finish, change_by, reply_by, full, too_long, full_journal, with_room, stopped, decide, decide_sweep, publish_comes, sweep_comes, fate_of, settle, take_unless, take_by, step}
+use Rattle.replay_spec.specs.Step.{Fate, plain, no_memory, disk_fault, lost, kept, Reply, worn, swept, shelf_full, oversize, journal_full, Decision, replies, records, compacts, compacted, most_of_journal, compact_comes, decide_compact, gone_for, unless, down_by, refused_by, opening, extension, ending, finish, change_by, reply_by, full, too_long, full_journal, with_room, stopped, decide, decide_sweep, publish_comes, sweep_comes, fate_of, settle, take_unless, take_by, step}
 use Rattle.replay_spec.specs.Laws.{Takes, Lands, Spares, RefusedIsUnchanged, Opens, AStartOpensOrLeaves}
 
 takes_unless : (b : Book) (nonce : ℕ) (o : Option Doubt) (is_worn : Bool) (a : Option Refusal)
@@ -34,6 +35,7 @@ takes_by b target nonce kept = takes_unless b nonce b.down (b.drawn == 2 ^ 62) (
 abbrev IsIdle : Reply → Type 0
 IsIdle (Reply.shown bytes url) = ⊥
 IsIdle (Reply.swept n) = ⊥
+IsIdle (Reply.compacted n) = ⊥
 IsIdle (Reply.disk_failed count) = ⊥
 IsIdle r = ⊤
 
@@ -45,10 +47,16 @@ IsBusy (Reply.finished bytes) = ⊤
 IsBusy (Reply.ended bytes) = ⊤
 IsBusy r = ⊥
 
+-- the reply to a compaction is none to a visit
+abbrev IsCompacted : Reply → Type 0
+IsCompacted (Reply.compacted n) = ⊤
+IsCompacted r = ⊥
+
 -- a decision's reply tells whether it changes the book
 abbrev Tells : Decision → Type 0
 Tells (replies r) = IsIdle r
 Tells (records r c inside) = IsBusy r
+Tells (compacts r) = IsCompacted r
 
 idle_spares : (rules : Rules) (b : Book) (r : Reply) → IsIdle r → Spares rules b (replies r) r b
 idle_spares rules b r h = grind arith
@@ -59,10 +67,17 @@ busy_spares rules b c d r h l = grind (arith, l)
 landed : (rules : Rules) (b : Book) (r : Reply) (c : Change) (inside : List TxName) → Lands rules b (records r c inside) r (land rules c inside b)
 landed rules b r c inside = record { change = c; inside = inside; decided = refl; landed = refl }
 
+file_spares : (rules : Rules) (b : Book) (r : Reply) → IsCompacted r → Spares rules b (compacts r) r (rewritten rules b)
+file_spares rules b r h = grind arith
+
 settled : (rules : Rules) (b : Book) (fate : Fate) (d : Decision) → Tells d → Spares rules b d (settle rules b fate d).0 (settle rules b fate d).1
 settled rules b no_memory d h = refl
 settled rules b (disk_fault count) (replies r) h = idle_spares rules b r h
-settled rules b (disk_fault count) (records r c inside) h = record { reply = r; change = c; inside = inside; decided = refl; left = refl }
+settled rules b (disk_fault count) (records r c inside) h = record { work = landing c inside; decided = refl; left = refl }
+settled rules b (disk_fault count) (compacts r) h = record { work = compacting; decided = refl; left = refl }
+settled rules b plain (compacts r) h = file_spares rules b r h
+settled rules b lost (compacts r) h = file_spares rules b r h
+settled rules b kept (compacts r) h = file_spares rules b r h
 settled rules b plain (replies r) h = idle_spares rules b r h
 settled rules b plain (records r c inside) h = busy_spares rules b (land rules c inside b) (records r c inside) r h (landed rules b r c inside)
 settled rules b lost (replies r) h = idle_spares rules b r h
@@ -90,33 +105,33 @@ room_tells (Some j) b r inside c h = by_tests (nat_lt 1048576 (record_length j b
 
 full_tells : (rules : Rules) (how : How) (origin : Origin) (count : ℕ) (d : Decision) → Tells d → Tells (unless (full rules how origin count) d)
 full_tells rules (shows kind) (starts k) count d h = limit_tells (nat_le rules.instances count) (shelf_full count) d tt h
-full_tells rules (shows kind) (answers i p) count d h = limit_tells (nat_le rules.pages count) (instance_full count) d tt h
+full_tells rules (shows kind) (answers i p) count d h = h
 full_tells rules finishes origin count d h = h
 full_tells rules ends origin count d h = h
 
-change_tells : (rules : Rules) (b : Book) (v : Visit) (s : Segment) (bytes : List ℕ) (origin : Origin) (how : How)
-    → Tells (with_room rules b (reply_by how bytes (url_for v)) s.entered (change_by (b.clock + rules.life) v s origin how))
-change_tells rules b v s bytes (starts k) (shows kind) = room_tells rules.journal b _ s.entered (opening (b.clock + rules.life) v s k kind) tt
-change_tells rules b v s bytes (starts k) finishes = tt
-change_tells rules b v s bytes (starts k) ends = tt
-change_tells rules b v s bytes (answers i p) (shows kind) = room_tells rules.journal b _ s.entered (extension (b.clock + rules.life) v s i p kind) tt
-change_tells rules b v s bytes (answers i p) finishes = room_tells rules.journal b _ s.entered (finish v s i p) tt
-change_tells rules b v s bytes (answers i p) ends = room_tells rules.journal b _ s.entered (ending v s i p) tt
+change_tells : (rules : Rules) (b : Book) (gone : List ℕ) (v : Visit) (s : Segment) (bytes : List ℕ) (origin : Origin) (how : How)
+    → Tells (with_room rules b (reply_by how bytes (url_for v)) s.entered (change_by (b.clock + rules.life) gone v s origin how))
+change_tells rules b gone v s bytes (starts k) (shows kind) = room_tells rules.journal b _ s.entered (opening (b.clock + rules.life) v s k kind) tt
+change_tells rules b gone v s bytes (starts k) finishes = tt
+change_tells rules b gone v s bytes (starts k) ends = tt
+change_tells rules b gone v s bytes (answers i p) (shows kind) = room_tells rules.journal b _ s.entered (extension (b.clock + rules.life) gone v s i p kind) tt
+change_tells rules b gone v s bytes (answers i p) finishes = room_tells rules.journal b _ s.entered (finish v s i p) tt
+change_tells rules b gone v s bytes (answers i p) ends = room_tells rules.journal b _ s.entered (ending v s i p) tt
 
-stopped_tells : (rules : Rules) (b : Book) (count : ℕ) (v : Visit) (s : Segment) (o : Outcome) → Tells (stopped rules b count v s o)
-stopped_tells rules b count v s (paged how bytes) = full_tells rules how v.origin count _ (change_tells rules b v s bytes v.origin how)
-stopped_tells rules b count v s (tape.faulted f) = tt
-stopped_tells rules b count v s (tape.out_of_fuel cost) = tt
+stopped_tells : (rules : Rules) (b : Book) (gone : List ℕ) (v : Visit) (s : Segment) (o : Outcome) → Tells (stopped rules b gone v s o)
+stopped_tells rules b gone v s (paged how bytes) = full_tells rules how v.origin (length b.instances) _ (change_tells rules b gone v s bytes v.origin how)
+stopped_tells rules b gone v s (tape.faulted f) = tt
+stopped_tells rules b gone v s (tape.out_of_fuel cost) = tt
 
 decided_tells : (rules : Rules) (b : Book) (t : Ticket) (a : Admission) → Tells (decide rules b t a)
 decided_tells rules b t (begins k s) =
     let v = start_visit b t k s in
     let o = comes_to v (present s.script.cells rules.fuel) in
-    stopped_tells rules b (length b.instances) v o o.outcome
+    stopped_tells rules b [] v o o.outcome
 decided_tells rules b t (resumes at) =
     let v = page_visit b t at in
     let o = comes_to v (present at.instance.cells rules.fuel) in
-    stopped_tells rules b (length at.instance.pages) v o o.outcome
+    stopped_tells rules b (gone_for rules t at) v o o.outcome
 decided_tells rules b t (refused r) = tt
 
 swept_tells : (journal : Option Journal) (b : Book) (tick n : ℕ) → Tells (unless (full_journal journal b (sweeps tick)) (records (swept n) (sweeps tick) []))
@@ -145,6 +160,8 @@ unchanged rules b nonce fate = (
       (unless_tells b.down (decide rules b t (admit b t.target)) (decided_tells rules b t (admit b t.target))),
   λ (tick : ℕ) (h : b.clock < tick). sweeping rules b tick (fate_of rules.journal fate) h,
   λ (tick : ℕ) (h : tick ≤ b.clock). late rules b tick (fate_of rules.journal fate) h,
+  settled rules b (fate_of rules.journal fate) (compact_comes rules b) (unless_tells b.down (decide_compact rules b)
+      (let n = compacted_length rules.journal b in limit_tells (nat_lt most_of_journal n) (journal_full n) (compacts (compacted n)) tt tt)),
 )
 
 limit_opens : (is_over : Bool) (r : Reply) (d : Decision) → Opens (replies r) → Opens d → Opens (unless (when is_over r) d)
@@ -162,7 +179,7 @@ room_opens (Some j) b r inside c h = by_tests (nat_lt 1048576 (record_length j b
     by_tests false true = tt
     by_tests false false = h
 
-start_opens : (rules : Rules) (b : Book) (t : Ticket) (k : ℕ) (s : Named) (o : Segment) (outcome : Outcome) → Opens (stopped rules b (length b.instances) (start_visit b t k s) o outcome)
+start_opens : (rules : Rules) (b : Book) (t : Ticket) (k : ℕ) (s : Named) (o : Segment) (outcome : Outcome) → Opens (stopped rules b [] (start_visit b t k s) o outcome)
 start_opens rules b t k s o (paged (shows kind) bytes) =
     let v = start_visit b t k s in
     limit_opens (nat_le rules.instances (length b.instances)) (shelf_full (length b.instances)) _ tt

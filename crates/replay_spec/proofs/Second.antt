@@ -1,5 +1,5 @@
 -- The run over other cells over which the first's effects hold.
-use Rattle.std.proofs.Common.{◌≡◌, ℕ, ◌+◌, ◌^◌, min, ℤ, true, List, [], ◌∷◌, ◌++◌, map, length, Bool, false, Result, Ok, Err, refl, ap, ◌∙◌, arith}
+use Rattle.std.proofs.Common.{◌≡◌, ℕ, ◌+◌, ◌^◌, min, ℤ, true, List, [], ◌∷◌, ◌++◌, map, Bool, false, Result, Ok, Err, refl, ap, ◌∙◌, arith}
 use Rattle.std.specs.Prelude.{IsOk, nat_lt}
 use Rattle.script_value.specs.Val.{Val, truth}
 use Rattle.script_value.specs.declared.outcome.Fault.{Fault}
@@ -9,7 +9,7 @@ use Rattle.replay_spec.specs.Tape.{State, present, faulted, End, got, stop, char
 use Rattle.replay_spec.specs.Eval.{Segment, segment_at_end}
 use Rattle.replay_spec.specs.Book.{Page}
 use Rattle.replay_spec.specs.Next.{Home, home_of, past, answered, newest, page_visit}
-use Rattle.replay_spec.specs.Step.{settles}
+use Rattle.replay_spec.specs.Step.{settles, gone_for}
 use Rattle.replay_spec.specs.Laws.{ArePast, end_behind, EffectsHoldRunSame, AHeldRunIsNext}
 use Rattle.replay_spec.proofs.Mirror.{Mirror, Mirrors, Ready, image, end_image, at, Steps, run_image}
 
@@ -97,5 +97,5 @@ pages_past h (p ∷ ps) = (tt, pages_past h ps)
 pub is_next : AHeldRunIsNext
 is_next rules b t at before h =
     let v = page_visit b t at in
-    ap (λ (o : Segment). settles rules b (length at.instance.pages) v o)
+    ap (λ (o : Segment). settles rules b (gone_for rules t at) v o)
     (same v.script.script (map (answered (home_of v)) v.pages) (newest v (present before rules.fuel)) (pages_past (home_of v) v.pages) rules.fuel before at.instance.cells h)

@@ -13,12 +13,12 @@ use Rattle.replay_spec.specs.Names.{first_closed}
 use Rattle.replay_spec.specs.Tape.{present, shows, Outcome, paged, Now}
 use Rattle.replay_spec.specs.Tape as tape
 use Rattle.replay_spec.specs.Eval.{Segment}
-use Rattle.replay_spec.specs.Book.{Page, Instance, Opening, Extension, Change, opens, extends, Book, instance_at, page_at, is_expired, spend}
+use Rattle.replay_spec.specs.Book.{Page, Instance, Opening, Extension, Change, opens, extends, Book, instance_at, page_at, is_expired, evictor, spend}
 use Rattle.replay_spec.specs.Rules.{Rules}
-use Rattle.replay_spec.specs.Change.{put_instance, root_by, page_by, shown_by, fresh, opened_by, land}
+use Rattle.replay_spec.specs.Change.{put_instance, root_by, page_by, evict, shown_by, fresh, opened_by, land}
 use Rattle.replay_spec.specs.Admission.{or_else, is_one, Place, why_not, Admission, begins, resumes, refused, admit}
 use Rattle.replay_spec.specs.Next.{Ticket, starts, Visit, url_for, comes_to, start_visit, page_visit}
-use Rattle.replay_spec.specs.Step.{publish, Reply, shown, Decision, records, unless, down_by, too_long, full_journal, with_room, opening, extension, ending, finish, reply_by, full, stopped, decide, publish_comes, step}
+use Rattle.replay_spec.specs.Step.{publish, Reply, shown, Decision, records, gone_for, unless, down_by, too_long, full_journal, with_room, opening, extension, ending, finish, reply_by, full, stopped, decide, publish_comes, step}
 use Rattle.replay_spec.specs.Invariant.{Unused, IsOrderly, IsSound}
 use Rattle.replay_spec.specs.Laws.{IsLawful, NamesDiffer, Lands, Spares}
 use Rattle.replay_spec.specs.Promises.{IsAdmitted, AShownPageIsAdmitted}
@@ -33,6 +33,8 @@ use Rattle.replay_spec.proofs.Follows.{left_of, follow}
 use Rattle.replay_spec.proofs.Names.{has_none}
 use Rattle.replay_spec.specs.Next.{newest}
 use Rattle.replay_spec.proofs.Refused.{unchanged}
+use Rattle.replay_spec.proofs.Goers.{goers_there}
+use Rattle.replay_spec.proofs.Kept.{unused_stays}
 use Rattle.replay_spec.proofs.Differ.{shown_open}
 
 -- what a visit that showed a page changed, by its admission
@@ -44,7 +46,7 @@ ShowsBy rules b t (begins k s) url c inside =
 ShowsBy rules b t (resumes at) url c inside =
     let v = page_visit b t at in
     let m = comes_to v (present at.instance.cells rules.fuel) in
-    (kind : SendKind) × ((url ≡ url_for v) × ((c ≡ extension (b.clock + rules.life) v m at.instance.number at.page.number kind) × (inside ≡ m.entered)))
+    (kind : SendKind) × ((url ≡ url_for v) × ((c ≡ extension (b.clock + rules.life) (gone_for rules t at) v m at.instance.number at.page.number kind) × (inside ≡ m.entered)))
 ShowsBy rules b t (refused r) url c inside = ⊥
 
 -- what a decision that shows a page says, where it is this
@@ -63,7 +65,7 @@ room_showing P rules b r inside c h = unless_showing P (or_else (too_long rules.
 start_showing : (rules : Rules) (b : Book) (t : Ticket) (k : ℕ) (s : Named) (o : Outcome)
     → let v = start_visit b t k s in
     let m = comes_to v (present s.script.cells rules.fuel) in
-    IsShowing (ShowsBy rules b t (begins k s)) (stopped rules b (length b.instances) v m o)
+    IsShowing (ShowsBy rules b t (begins k s)) (stopped rules b [] v m o)
 start_showing rules b t k s (paged (shows kind) bytes) =
     let v = start_visit b t k s in
     let m = comes_to v (present s.script.cells rules.fuel) in
@@ -80,14 +82,14 @@ start_showing rules b t k s (tape.out_of_fuel cost) = tt
 page_showing : (rules : Rules) (b : Book) (t : Ticket) (at : Place) (o : Outcome)
     → let v = page_visit b t at in
     let m = comes_to v (present at.instance.cells rules.fuel) in
-    IsShowing (ShowsBy rules b t (resumes at)) (stopped rules b (length at.instance.pages) v m o)
+    IsShowing (ShowsBy rules b t (resumes at)) (stopped rules b (gone_for rules t at) v m o)
 page_showing rules b t at (paged (shows kind) bytes) =
     let v = page_visit b t at in
     let m = comes_to v (present at.instance.cells rules.fuel) in
-    let c = extension (b.clock + rules.life) v m at.instance.number at.page.number kind in
+    let c = extension (b.clock + rules.life) (gone_for rules t at) v m at.instance.number at.page.number kind in
     let r = reply_by (shows kind) bytes (url_for v) in
     let P = ShowsBy rules b t (resumes at) in
-    unless_showing P (full rules (shows kind) v.origin (length at.instance.pages)) (with_room rules b r m.entered (Some c))
+    unless_showing P (full rules (shows kind) v.origin (length b.instances)) (with_room rules b r m.entered (Some c))
     (room_showing P rules b r m.entered c (kind, (refl, (refl, refl))))
 page_showing rules b t at (paged tape.finishes bytes) =
     let v = page_visit b t at in
@@ -106,9 +108,9 @@ decided_showing rules b t (resumes at) = page_showing rules b t at (comes_to (pa
 decided_showing rules b t (refused r) = tt
 
 -- nothing is against a page that is not revoked, inside open transactions alone, and of a deadline above the clock
-nothing_against : (clock : ℕ) (i : Instance) (p : Page) → is_one p.number i.revoked ≡ false → first_closed i.closed p.inside ≡ None → clock < p.deadline → why_not clock i p ≡ None
-nothing_against clock i p revoked open_names later =
-    let expired : is_expired clock p ≡ false = grind (arith, nat_tests, later) in rw (revoked, open_names, expired) refl
+nothing_against : (clock : ℕ) (i : Instance) (p : Page) → is_one p.number i.revoked ≡ false → first_closed i.closed p.inside ≡ None → evictor p.number i.evicted ≡ None → clock < p.deadline → why_not clock i p ≡ None
+nothing_against clock i p revoked open_names stays later =
+    let expired : is_expired clock p ≡ false = grind (arith, nat_tests, later) in rw (revoked, open_names, stays, expired) refl
 
 names_fit : (b : Book) (at : Place) (n : PageName) → n.shelf ≡ b.shelf → at.page.nonce ≡ n.nonce → fits b at.instance.script.name n at ≡ true
 names_fit b at n shelf nonce =
@@ -121,8 +123,8 @@ names_fit b at n shelf nonce =
 admitted : (d : Book) (t : Ticket) (i : Instance) (p : Page) (url : List ℕ) → instance_at i.number d.instances ≡ Some i → page_at t.number i.pages ≡ Some p
     → p.number ≡ t.number → p.nonce ≡ t.nonce
     → url ≡ url_for (record { script = i.script; shelf = d.shelf; instance = i.number; origin = starts 0; pages = []; ticket = t })
-    → is_one p.number i.revoked ≡ false → first_closed i.closed p.inside ≡ None → d.clock < p.deadline → IsAdmitted d url t
-admitted d t i p url here there number nonce spelt revoked open_names later =
+    → is_one p.number i.revoked ≡ false → first_closed i.closed p.inside ≡ None → evictor p.number i.evicted ≡ None → d.clock < p.deadline → IsAdmitted d url t
+admitted d t i p url here there number nonce spelt revoked open_names stays later =
     let n : PageName = record { shelf = d.shelf; instance = i.number; page = t.number; nonce = t.nonce } in
     let at : Place = record { instance = i; page = p } in
     record {
@@ -130,7 +132,7 @@ admitted d t i p url here there number nonce spelt revoked open_names later =
       numbers = n;
       at = at;
       spelt = spelt;
-      admitted = place_resumes d i.script.name n at (at_stands d i.script.name n at (record { here = here; shown = there; fit = names_fit d at n refl nonce })) (nothing_against d.clock i p revoked open_names later);
+      admitted = place_resumes d i.script.name n at (at_stands d i.script.name n at (record { here = here; shown = there; fit = names_fit d at n refl nonce })) (nothing_against d.clock i p revoked open_names stays later);
       number = number;
       nonce = nonce;
     }
@@ -144,7 +146,7 @@ started : (rules : Rules) (b : Book) (t : Ticket) (k : ℕ) (s : Named) (url : L
 started rules b t k s url kind lives at spelt =
     admitted d t i p url (ap (λ (js : List Instance). instance_at t.number js) there ∙ put_found (λ (x : Instance). x.number) i b.instances) (put_found (λ (q : Page). q.number) p []) refl refl spelt
     (none_newly kind t.number [] [] refl refl)
-    (none_open m.left m.entered (λ x own left. has_none x (left_of [] now m ((follow s.script).0 now) x left))) (omega (arith, lives))
+    (none_open m.left m.entered (λ x own left. has_none x (left_of [] now m ((follow s.script).0 now) x left))) refl (omega (arith, lives))
   where
     v : Visit
     v = start_visit b t k s
@@ -156,7 +158,7 @@ started rules b t k s url kind lives at spelt =
     now = (newest v (present s.script.cells rules.fuel)).segment
 
     o : Opening
-    o = record { number = t.number; nonce = t.nonce; script = k; effects = m.effects; left = m.left; kind = kind; deadline = b.clock + rules.life }
+    o = record { number = t.number; nonce = t.nonce; script = k; effects = m.effects; left = m.left; kind = kind; deadline = b.clock + rules.life; evicted = [] }
 
     d : Book
     d = land rules (opens o) m.entered (spend t.number b)
@@ -165,7 +167,7 @@ started rules b t k s url kind lives at spelt =
     p = root_by o m.entered
 
     i : Instance
-    i = shown_by o.effects o.left o.kind p (fresh s t.number)
+    i = shown_by o.effects o.left o.kind [] p (fresh s t.number)
 
     there : d.instances ≡ put_instance i b.instances
     there = ap (λ (x : Option Named). opened_by x o m.entered b.instances) at
@@ -176,11 +178,11 @@ extended : (rules : Rules) (b : Book) (t : Ticket) (at : Place) (url : List ℕ)
     → url ≡ url_for (page_visit b t at)
     → let v = page_visit b t at in
     let m = comes_to v (present at.instance.cells rules.fuel) in
-    IsAdmitted (land rules (extension (b.clock + rules.life) v m at.instance.number at.page.number kind) m.entered (spend t.number b)) url t
+    IsAdmitted (land rules (extension (b.clock + rules.life) (gone_for rules t at) v m at.instance.number at.page.number kind) m.entered (spend t.number b)) url t
 extended rules b t at url kind lives g h unused open_names spelt =
     admitted d t i p url (mend_found at.instance.number f b.instances at.instance (λ j. refl) here) (put_found (λ (q : Page). q.number) p at.instance.pages) refl refl spelt
     (none_newly kind t.number at.instance.pages at.instance.revoked (g.instances.no_page t.number unused at.instance.number at.instance here) (g.instances.none_revoked t.number unused at.instance.number at.instance here))
-    open_names (omega (arith, lives))
+    open_names not_evicted (omega (arith, lives))
   where
     v : Visit
     v = page_visit b t at
@@ -189,7 +191,7 @@ extended rules b t at url kind lives g h unused open_names spelt =
     m = comes_to v (present at.instance.cells rules.fuel)
 
     x : Extension
-    x = record { number = t.number; nonce = t.nonce; instance = at.instance.number; page = at.page.number; answer = t.answer; effects = m.effects; left = m.left; kind = kind; deadline = b.clock + rules.life }
+    x = record { number = t.number; nonce = t.nonce; instance = at.instance.number; page = at.page.number; answer = t.answer; effects = m.effects; left = m.left; kind = kind; deadline = b.clock + rules.life; evicted = gone_for rules t at }
 
     d : Book
     d = land rules (extends x) m.entered (spend t.number b)
@@ -198,13 +200,18 @@ extended rules b t at url kind lives g h unused open_names spelt =
     p = page_by x m.entered
 
     f : Instance → Instance
-    f = shown_by x.effects x.left x.kind p
+    f = shown_by x.effects x.left x.kind x.evicted p
 
     i : Instance
     i = f at.instance
 
     here : instance_at at.instance.number b.instances ≡ Some at.instance
     here = (stands_there b at h).0
+
+    not_evicted : evictor t.number (evict t.number (gone_for rules t at) at.instance.evicted) ≡ None
+    not_evicted = unused_stays t.number at.instance (gone_for rules t at) (g.instances.kept at.instance.number at.instance here)
+        (g.instances.no_page t.number unused at.instance.number at.instance here)
+        (λ n gone none. let q = goers_there rules.pages at.page.number t.number at.instance n (g.instances.kept at.instance.number at.instance here) gone in let some = q.1 in let no : ⊥ = cc in no)
 
 -- by the admission of the ticket
 by_admission : (rules : Rules) (b : Book) (t : Ticket) (a : Admission) (url : List ℕ) (c : Change) (inside : List TxName) → 1 ≤ rules.life → IsSound b → NamesDiffer b → IsLawful (publish t) b
@@ -218,7 +225,7 @@ by_admission rules b t (resumes at) url c inside lives g differ out e says (kind
     let v = page_visit b t at in
     let m = comes_to v (present at.instance.cells rules.fuel) in
     subst (λ (x : Change). IsAdmitted (land rules x inside (spend t.number b)) url t) (sym is)
-    (subst (λ (x : List TxName). IsAdmitted (land rules (extension (b.clock + rules.life) v m at.instance.number at.page.number kind) x (spend t.number b)) url t) (sym names)
+    (subst (λ (x : List TxName). IsAdmitted (land rules (extension (b.clock + rules.life) (gone_for rules t at) v m at.instance.number at.page.number kind) x (spend t.number b)) url t) (sym names)
     (extended rules b t at url kind lives g.orderly says (inl (among_of b.out t.number out)) (shown_open rules b t at g differ out e) spelt))
 by_admission rules b t (refused r) url c inside lives g differ out e says h = absurd h
 

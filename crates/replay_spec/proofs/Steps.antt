@@ -2,10 +2,11 @@
 use Rattle.std.proofs.Common.{◌≡◌, ℕ, List, [], ◌∷◌, ◌++◌, Option, None, refl, sym, ap, subst, ◌∙◌}
 use Rattle.script_value.specs.declared.outcome.TxName.{TxName}
 use Rattle.script_nodes.specs.Setup.{Named}
-use Rattle.replay_spec.specs.Book.{Change, sweeps, Book, draw, spend, reopened_with}
-use Rattle.replay_spec.specs.Rules.{Rules, empty_book}
+use Rattle.replay_spec.specs.Book.{Change, sweeps, Book, landing, compacting, draw, spend}
+use Rattle.replay_spec.specs.Rules.{Journal, Rules, empty_book}
 use Rattle.replay_spec.specs.Change.{instances_by, land}
-use Rattle.replay_spec.specs.Step.{Event, Fate}
+use Rattle.replay_spec.specs.Compaction.{rewritten, reopened_with}
+use Rattle.replay_spec.specs.Step.{Event, Fate, doubting}
 use Rattle.replay_spec.specs.Runs.{Shelf, after, lands}
 use Rattle.replay_spec.specs.Invariant.{AreSound, IsSoundChange, IsSoundDoubt, IsOf, Unused, IsSound}
 use Rattle.replay_spec.specs.Laws.{IsLawful, Moment, then_book, book_after, AreLawful, Leads, IsLawfulRun, IsReached, SoundBooksStay, ReachedBooksAreSound, EachChainReplays}
@@ -13,7 +14,7 @@ use Rattle.replay_spec.proofs.Ancestors.{chain_is}
 use Rattle.replay_spec.proofs.Stand.{SinceNamed, named_same, named_then, sound_less, empty_sound, Later, Well}
 use Rattle.replay_spec.proofs.Sound.{land_named}
 use Rattle.replay_spec.proofs.Decided.{recorded_sound_of}
-use Rattle.replay_spec.proofs.Going.{doubting, Goes, stays, draws, spends, publishes, fails, goes_to, fails_at, keeps, loses, goes}
+use Rattle.replay_spec.proofs.Going.{Goes, stays, draws, spends, publishes, fails, goes_to, fails_at, rewrites, fails_to_rewrite, keeps, keeps_rewritten, loses, goes}
 use Rattle.replay_spec.proofs.Goes.{run_leads}
 use Rattle.replay_spec.proofs.Orderly as orderly
 use Rattle.replay_spec.proofs.Orderly.{recorded_orderly, published_fewer, swept_fewer, kept_fewer, is_out, is_doubted, later_then}
@@ -33,11 +34,11 @@ still b c g later same scripts doubt = record {
 }
 
 -- a shelf that is opened again with another setup has nothing in doubt
-lost : (b : Book) (scripts : List Named) → IsSound b → Later b (reopened_with scripts b) → Well b (reopened_with scripts b)
-lost b scripts g later = record {
+lost : (journal : Option Journal) (b : Book) (scripts : List Named) → IsSound b → Later b (reopened_with journal scripts b) → Well b (reopened_with journal scripts b)
+lost journal b scripts g later = record {
   sound = record {
     orderly = later.orderly;
-    instances = sound_less (Unused b) (Unused (reopened_with scripts b)) b.shelf b.instances later.fewer g.instances;
+    instances = sound_less (Unused b) (Unused (reopened_with journal scripts b)) b.shelf b.instances later.fewer g.instances;
     doubt = tt;
   };
   later = later;
@@ -63,16 +64,27 @@ went_on rules b d o stays l g later = still b b g later refl refl g.doubt
 went_on rules b d o draws l g later = still b (draw b) g later refl refl g.doubt
 went_on rules b d o (spends n out) l g later = still b (spend n b) g later refl refl g.doubt
 went_on rules b d o (publishes t c inside h) l g later =
-    let fits = recorded_orderly rules b t c inside h in
+    let fits = recorded_orderly rules b t c inside g.orderly h in
     landed b (land rules c inside (spend t.number b)) c inside g later (recorded_sound_of rules b t c inside g h) (is_out b t.number c (h.out l) fits.1) refl h.up
     (published_fewer rules b t.number c inside h.up fits.1)
-went_on rules b d o (fails count t c inside h) l g later = still b (doubting count c inside (spend t.number b)) g later refl refl (recorded_sound_of rules b t c inside g h)
+went_on rules b d o (fails count t c inside h) l g later = still b (doubting count (landing c inside) (spend t.number b)) g later refl refl (recorded_sound_of rules b t c inside g h)
 went_on rules b d o (goes_to tick after up) l g later = landed b (land rules (sweeps tick) [] b) (sweeps tick) [] g later tt (λ m e. absurd e) refl up (swept_fewer rules b tick up)
-went_on rules b d o (fails_at count tick after up) l g later = still b (doubting count (sweeps tick) [] b) g later refl refl tt
-went_on rules b d o (keeps scripts doubt down) l g later =
-    landed b (reopened_with scripts (land rules doubt.change doubt.inside b)) doubt.change doubt.inside g later
-    (subst (IsSoundDoubt b.scripts b.shelf b.instances) down g.doubt) (is_doubted b doubt down) refl refl (kept_fewer rules scripts b doubt)
-went_on rules b d o (loses scripts) l g later = lost b scripts g later
+went_on rules b d o (fails_at count tick after up) l g later = still b (doubting count (landing (sweeps tick) []) b) g later refl refl tt
+went_on rules b d o (rewrites up) l g later = still b (rewritten rules b) g later refl refl g.doubt
+went_on rules b d o (fails_to_rewrite count up) l g later = still b (doubting count compacting b) g later refl refl tt
+went_on rules b d o (keeps scripts count c inside down) l g later =
+    landed b (reopened_with rules.journal scripts (land rules c inside b)) c inside g later
+    (subst (IsSoundDoubt b.scripts b.shelf b.instances) down g.doubt) (is_doubted b count c inside down) refl refl (kept_fewer rules scripts b c inside)
+went_on rules b d o (keeps_rewritten scripts count down) l g later = record {
+  sound = record {
+    orderly = later.orderly;
+    instances = sound_less (Unused b) (Unused (reopened_with rules.journal scripts (rewritten rules b))) b.shelf b.instances later.fewer g.instances;
+    doubt = tt;
+  };
+  later = later;
+  named = named_same (Unused b) b.instances;
+}
+went_on rules b d o (loses scripts) l g later = lost rules.journal b scripts g later
 
 pub went : {lawful : Type 0} (rules : Rules) (b d : Book) (o : Option Change) → Goes lawful rules b o d → lawful → IsSound b → Well b d
 went rules b d o h l g = went_on rules b d o h l g (orderly.went rules b d o h l g.orderly)

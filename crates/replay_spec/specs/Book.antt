@@ -1,6 +1,7 @@
 -- The book of one shelf.
-use Rattle.std.specs.Prelude.{ℕ, Bool, zero, suc, ◌+◌, ◌==◌, not, List, [], ◌∷◌, ◌++◌, length, filter, Option, Some, None, nat_le, if◌then◌else◌}
+use Rattle.std.specs.Prelude.{ℕ, Bool, true, false, zero, suc, ◌+◌, ◌==◌, ◌&&◌, not, List, [], ◌∷◌, ◌++◌, length, filter, Option, Some, None, nat_le, if◌then◌else◌}
 use Rattle.std.specs.List.{list_all}
+use Rattle.std.specs.Str.{bytes_eq}
 use Rattle.script_value.specs.Val.{Val}
 use Rattle.script_value.specs.declared.outcome.TxName.{TxName}
 use Rattle.instance_cells.specs.Cells.{Effect}
@@ -18,17 +19,29 @@ pub record Page : Type 0 where
   pub inside : List TxName
   pub deadline : ℕ
 
--- a run of this script, with its cells, its closed transactions, the numbers of its revoked pages, and its pages in the order
--- of their numbers
+-- a page that is not evicted, and the greatest number of a segment that showed or answered it
+pub record Use : Type 0 where
+  pub page : ℕ
+  pub last : ℕ
+
+-- a page that is evicted, and the page for which it went
+pub record Eviction : Type 0 where
+  pub page : ℕ
+  pub by : ℕ
+
+-- A run of this script, with its cells, its closed transactions, the numbers of its revoked pages, the uses of its pages that are not
+-- evicted, the evictions of those that are, and all its pages. Uses, evictions and pages stand in the order of the pages' numbers.
 pub record Instance : Type 0 where
   pub number : ℕ
   pub script : Named
   pub cells : List Val
   pub closed : List TxName
   pub revoked : List ℕ
+  pub used : List Use
+  pub evicted : List Eviction
   pub pages : List Page
 
--- a start of the script of this place in the setup showed a page
+-- a start of the script of this place in the setup showed a page; the list of pages that went for it is empty in every record that lands
 pub record Opening : Type 0 where
   pub number : ℕ
   pub nonce : ℕ
@@ -37,8 +50,9 @@ pub record Opening : Type 0 where
   pub left : List TxName
   pub kind : SendKind
   pub deadline : ℕ
+  pub evicted : List ℕ
 
--- a page of the instance was answered, and showed a page
+-- a page of the instance was answered, and showed a page, for which these went
 pub record Extension : Type 0 where
   pub number : ℕ
   pub nonce : ℕ
@@ -49,6 +63,7 @@ pub record Extension : Type 0 where
   pub left : List TxName
   pub kind : SendKind
   pub deadline : ℕ
+  pub evicted : List ℕ
 
 -- a page of the instance was answered, with a last page
 pub record Ending : Type 0 where
@@ -75,15 +90,32 @@ pub data Change : Type 0 where
   finishes : Finish → Change
   sweeps : (tick : ℕ) → Change
 
--- a change that may have happened, since the disk failed in it, with the disk's count of faults and the names that a new page
--- is inside
+-- what one event does to a book and its journal: a change lands, whose new page is inside these transactions; or the file is compacted
+pub data Work : Type 0 where
+  landing : Change → (inside : List TxName) → Work
+  compacting : Work
+
+-- work that may have been done, since the disk failed in it, with the disk's count of faults
 pub record Doubt : Type 0 where
   pub count : ℕ
-  pub change : Change
-  pub inside : List TxName
+  pub work : Work
+
+-- a record of a journal's file, with the length of its body: a change, or the setup from there on
+pub data Line : Type 0 where
+  changed : Change → (length : ℕ) → Line
+  renewed : (scripts : List Named) → (length : ℕ) → Line
+
+-- The file of a journal: the setup that it begins with, and how long it is with that alone; where it was compacted, one more than the
+-- greatest number in a record before that; and its other records, without those that recovery passes over.
+pub record File : Type 0 where
+  pub scripts : List Named
+  pub head : ℕ
+  pub drawn : Option ℕ
+  pub lines : List Line
 
 -- `scripts`: the setup, of which starts are; `drawn`: the next number; `logged`: one more than the greatest number in a
--- record; `length`: that of the journal; `out`: the numbers that were taken and not published
+-- record; `length`: that of the journal's file, with the records that recovery passes over; `out`: the numbers that were taken and not
+-- published
 pub record Book : Type 0 where
   pub shelf : ℕ
   pub scripts : List Named
@@ -91,6 +123,7 @@ pub record Book : Type 0 where
   pub drawn : ℕ
   pub logged : ℕ
   pub length : ℕ
+  pub file : File
   pub out : List ℕ
   pub down : Option Doubt
   pub instances : List Instance
@@ -123,9 +156,23 @@ chain ps p = chain_within (length ps) ps (Some p)
 abbrev pub is_expired : ℕ → Page → Bool
 is_expired clock p = nat_le p.deadline clock
 
+-- the page for which this one went
+abbrev pub evictor : ℕ → List Eviction → Option ℕ
+evictor n [] = None
+evictor n (e ∷ es) = if e.page == n then Some e.by else evictor n es
+
+-- whether a page went for another
+abbrev pub is_evicted : ℕ → List Eviction → Bool
+is_evicted n [] = false
+is_evicted n (e ∷ es) = if e.page == n then true else is_evicted n es
+
+-- whether a page can't be answered any more: its time is over, or it went for another
+abbrev pub is_over : ℕ → List Eviction → Page → Bool
+is_over clock es p = if is_expired clock p then true else is_evicted p.number es
+
 -- an instance with a page that can be answered still
 abbrev pub is_live : ℕ → Instance → Bool
-is_live clock i = not (list_all (is_expired clock) i.pages)
+is_live clock i = not (list_all (is_over clock i.evicted) i.pages)
 
 -- the book after a number is taken
 abbrev pub draw : Book → Book
@@ -139,6 +186,8 @@ spend n b = record b { out = filter (λ m. not (m == n)) b.out }
 abbrev pub reopened : Book → Book
 reopened b = record b { drawn = b.logged; out = []; down = None }
 
--- the shelf is opened again with this setup: numbers that no record has are drawn again
-abbrev pub reopened_with : List Named → Book → Book
-reopened_with scripts b = record (reopened b) { scripts = scripts }
+-- whether two setups have the same names and texts, in order
+abbrev pub are_same : List Named → List Named → Bool
+are_same [] [] = true
+are_same (s ∷ ss) (t ∷ ts) = bytes_eq s.name t.name && bytes_eq s.text t.text && are_same ss ts
+are_same _ _ = false

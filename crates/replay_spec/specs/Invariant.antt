@@ -1,5 +1,5 @@
 -- What holds of each book that a shelf can have, and of each change that it may come to.
-use Rattle.std.specs.Prelude.{◌≡◌, ◌≤◌, ◌<◌, ◌⊎◌, ℕ, suc, List, [], ◌∷◌, ◌++◌, length, reverse, Option, Some, None, false, slice_get, ⊤}
+use Rattle.std.specs.Prelude.{◌≡◌, ◌≤◌, ◌<◌, ◌⊎◌, ℕ, suc, List, [], ◌∷◌, ◌++◌, length, map, filter, reverse, not, Option, Some, None, true, false, slice_get, ⊤}
 use Rattle.script_value.specs.Val.{Val}
 use Rattle.script_value.specs.declared.outcome.TxName.{TxName}
 use Rattle.script_nodes.specs.Setup.{Named}
@@ -7,7 +7,7 @@ use Rattle.script_nodes.specs.declared.script.SendKind.{SendKind}
 use Rattle.replay_spec.specs.Names.{Has}
 use Rattle.replay_spec.specs.Tape.{shows, paged}
 use Rattle.replay_spec.specs.Eval.{end_of, run, unread}
-use Rattle.replay_spec.specs.Book.{Page, Instance, Change, opens, extends, ends, finishes, sweeps, Doubt, Book, instance_at, page_at, parent_of}
+use Rattle.replay_spec.specs.Book.{Page, Instance, Change, opens, extends, ends, finishes, sweeps, Work, landing, compacting, Doubt, Book, instance_at, page_at, parent_of, is_evicted}
 use Rattle.replay_spec.specs.Change.{root_by, page_by}
 use Rattle.replay_spec.specs.Admission.{is_one}
 use Rattle.replay_spec.specs.Next.{home, page_tape}
@@ -61,16 +61,43 @@ IsOf m (ends e) = e.number ≡ m
 IsOf m (finishes f) = f.number ≡ m
 IsOf m (sweeps tick) = ⊥
 
+-- the work is that of the segment of this number
+abbrev pub IsIn : ℕ → Work → Type 0
+IsIn m (landing c inside) = IsOf m c
+IsIn m compacting = ⊥
+
+-- what is in doubt, if anything is, is that of the segment of this number
 abbrev pub IsDoubted : ℕ → Option Doubt → Type 0
 IsDoubted n None = ⊥
-IsDoubted n (Some doubt) = IsOf n doubt.change
+IsDoubted n (Some doubt) = IsIn n doubt.work
 
 -- a number that is out, in doubt, or above those in records
 abbrev pub Unused : Book → ℕ → Type 0
 Unused b n = Among n b.out ⊎ (IsDoubted n b.down ⊎ (b.logged ≤ n))
 
--- Instances are apart, and the pages of each; an unused number names no instance, no page and no page that is revoked; the
--- ancestors of each page stand; and each instance has as many cells as its script.
+-- each of these has a greater number than this
+abbrev pub AreAbove : {A : Type 0} → (A → ℕ) → ℕ → List A → Type 0
+AreAbove number n [] = ⊤
+AreAbove number n (x ∷ xs) = (n < number x) × AreAbove number n xs
+
+-- the numbers of these rise
+abbrev pub IsRising : {A : Type 0} → (A → ℕ) → List A → Type 0
+IsRising number [] = ⊤
+IsRising number (x ∷ xs) = AreAbove number (number x) xs × IsRising number xs
+
+-- the number of a page
+abbrev pub number_of : Page → ℕ
+number_of p = p.number
+
+-- The pages of an instance stand in the order of their numbers. The uses are those of the pages that are not evicted, in their order, and
+-- each page that is evicted stands.
+pub record IsKept (i : Instance) : Type 0 where
+  pub rising : IsRising number_of i.pages
+  pub used : map (λ u. u.page) i.used ≡ map number_of (filter (λ p. not (is_evicted p.number i.evicted)) i.pages)
+  pub evicted : (n : ℕ) → is_evicted n i.evicted ≡ true → page_at n i.pages ≡ None → ⊥
+
+-- The numbers of instances are different and rise, and those of the pages of each; an unused number names no instance, no page and no
+-- revoked page; the ancestors of each page stand; each instance has as many cells as its script; and its uses and evictions are kept.
 pub record AreOrderly (unused : ℕ → Type 0) (is : List Instance) : Type 0 where
   pub apart : Apart is
   pub pages_apart : (k : ℕ) (i : Instance) → instance_at k is ≡ Some i → PagesApart i.pages
@@ -79,18 +106,30 @@ pub record AreOrderly (unused : ℕ → Type 0) (is : List Instance) : Type 0 wh
   pub none_revoked : (n : ℕ) → unused n → (k : ℕ) (i : Instance) → instance_at k is ≡ Some i → is_one n i.revoked ≡ false
   pub lineage : (k : ℕ) (i : Instance) → instance_at k is ≡ Some i → (n : ℕ) (p : Page) → page_at n i.pages ≡ Some p → Lineage i.pages p
   pub sized : (k : ℕ) (i : Instance) → instance_at k is ≡ Some i → length i.cells ≡ length i.script.script.cells
+  pub rising : IsRising (λ (i : Instance). i.number) is
+  pub kept : (k : ℕ) (i : Instance) → instance_at k is ≡ Some i → IsKept i
 
--- a change that a record may tell: the page that it answers stands, and its tick is above the clock
+-- these pages of the instance of this number are not evicted
+abbrev pub CanGo : List Instance → (k : ℕ) → List ℕ → Type 0
+CanGo is k gone = (i : Instance) → instance_at k is ≡ Some i → (n : ℕ) → is_one n gone ≡ true → is_one n (map (λ u. u.page) i.used) ≡ true
+
+-- a change that a record may tell: the page that it answers stands, and so do those that it evicts, and its tick is above the clock
 abbrev pub IsOrderlyChange : (clock : ℕ) → List Instance → Change → Type 0
 IsOrderlyChange clock is (opens o) = ⊤
-IsOrderlyChange clock is (extends x) = HasPage is x.instance x.page
+IsOrderlyChange clock is (extends x) = HasPage is x.instance x.page × CanGo is x.instance x.evicted
 IsOrderlyChange clock is (ends e) = HasPage is e.instance e.page
 IsOrderlyChange clock is (finishes f) = HasPage is f.instance f.page
 IsOrderlyChange clock is (sweeps tick) = clock < tick
 
+-- work that may be done: a change that a record may tell, or a compaction
+abbrev pub IsOrderlyWork : (clock : ℕ) → List Instance → Work → Type 0
+IsOrderlyWork clock is (landing c inside) = IsOrderlyChange clock is c
+IsOrderlyWork clock is compacting = ⊤
+
+-- what is in doubt, if anything is, is work that may be done
 abbrev pub IsOrderlyDoubt : (clock : ℕ) → List Instance → Option Doubt → Type 0
 IsOrderlyDoubt clock is None = ⊤
-IsOrderlyDoubt clock is (Some doubt) = IsOrderlyChange clock is doubt.change
+IsOrderlyDoubt clock is (Some doubt) = IsOrderlyWork clock is doubt.work
 
 -- Numbers that are out or in doubt were drawn, and are different; those in records were drawn too; the instances are
 -- orderly, and so is what is in doubt. Whatever the records of a journal tell, the book that they make is such a one.
@@ -177,9 +216,15 @@ IsSoundChange scripts shelf is (ends e) inside = Leaving is e.instance e.page e.
 IsSoundChange scripts shelf is (finishes f) inside = Leaving is f.instance f.page []
 IsSoundChange scripts shelf is (sweeps tick) inside = ⊤
 
+-- work that admission and the evaluator may come to, or a compaction
+abbrev pub IsSoundWork : List Named → (shelf : ℕ) → List Instance → Work → Type 0
+IsSoundWork scripts shelf is (landing c inside) = IsSoundChange scripts shelf is c inside
+IsSoundWork scripts shelf is compacting = ⊤
+
+-- what is in doubt, if anything is, is such as admission and the evaluator may come to
 abbrev pub IsSoundDoubt : List Named → (shelf : ℕ) → List Instance → Option Doubt → Type 0
 IsSoundDoubt scripts shelf is None = ⊤
-IsSoundDoubt scripts shelf is (Some doubt) = IsSoundChange scripts shelf is doubt.change doubt.inside
+IsSoundDoubt scripts shelf is (Some doubt) = IsSoundWork scripts shelf is doubt.work
 
 -- A book is orderly, its instances are sound, and what is in doubt can still land. Each book of a run from the empty one is such
 -- a one.

@@ -12,12 +12,13 @@ use Rattle.script_nodes.specs.Setup.{Script, Named, trees_of}
 use Rattle.replay_spec.specs.Names.{Has, first_closed}
 use Rattle.replay_spec.specs.Tape.{Reads, recorded, present, bound, Now, Answer, Tape, tape_behind, shows, Outcome, paged, out_of_fuel, End, got, stop}
 use Rattle.replay_spec.specs.Eval.{Segment, end_of, run, unread}
-use Rattle.replay_spec.specs.Book.{Page, Instance, Extension, Change, opens, extends, ends, finishes, sweeps, Doubt, Book, instance_at, page_at, chain, draw, spend}
+use Rattle.replay_spec.specs.Book.{Page, Instance, Extension, Change, opens, extends, ends, finishes, sweeps, Work, landing, compacting, Doubt, Book, instance_at, page_at, chain, draw, spend}
 use Rattle.replay_spec.specs.Rules.{Rules, empty_book}
 use Rattle.replay_spec.specs.Change.{land}
+use Rattle.replay_spec.specs.Compaction.{rewritten}
 use Rattle.replay_spec.specs.Admission.{is_one, Place, place_at, begins, resumes, admit}
 use Rattle.replay_spec.specs.Next.{Ticket, comes_to, page_visit}
-use Rattle.replay_spec.specs.Step.{Event, take, publish, sweep, crash, Fate, Reply, taken, shown, finished, ended, swept, disk_failed, refusal, memory, down, worn, Decision, replies, records, settles, decide, publish_comes, sweep_comes, step}
+use Rattle.replay_spec.specs.Step.{Event, take, publish, sweep, compact, crash, Fate, Reply, taken, shown, finished, ended, swept, compacted, disk_failed, refusal, memory, down, worn, Decision, replies, records, compacts, doubting, settles, gone_for, decide, publish_comes, sweep_comes, compact_comes, step}
 use Rattle.replay_spec.specs.Runs.{Shelf, shelf_step, after, lands, with_change}
 use Rattle.replay_spec.specs.Invariant.{Among, AreDifferent, AreAncestors, Replays, PageAt, Unused, IsOrderly, IsSound}
 
@@ -56,7 +57,7 @@ AHeldRunIsNext =
     (rules : Rules) (b : Book) (t : Ticket) (at : Place) (before : List Val)
     → let first = comes_to (page_visit b t at) (present before rules.fuel) in
     Holds first.effects at.instance.cells
-    → decide rules b t (resumes at) ≡ settles rules b (length at.instance.pages) (page_visit b t at) first
+    → decide rules b t (resumes at) ≡ settles rules b (gone_for rules t at) (page_visit b t at) first
 
 -- The effects of a run are on the cells that its script names.
 abbrev pub EffectsAreOnCells : Type 0
@@ -240,26 +241,32 @@ pub record Lands (rules : Rules) (b : Book) (d : Decision) (r : Reply) (c : Book
   pub decided : d ≡ records r change inside
   pub landed : c ≡ land rules change inside b
 
--- the change that was decided is in doubt in the book, with this count
-pub record Doubts (b : Book) (d : Decision) (count : ℕ) (c : Book) : Type 0 where
-  pub reply : Reply
-  pub change : Change
-  pub inside : List TxName
-  pub decided : d ≡ records reply change inside
-  pub left : c ≡ record b { down = Some (record { count = count; change = change; inside = inside }) }
+-- the work that a decision asks for, unless it is to reply alone
+abbrev pub work_of : Decision → Option Work
+work_of (replies r) = None
+work_of (records r c inside) = Some (landing c inside)
+work_of (compacts r) = Some compacting
 
--- What shows a page lands what was decided, and so does a sweep; what ends or finishes lands it, if it was to be recorded.
--- The disk's fault leaves in doubt what was decided, with the count that it tells. All else leaves the book.
+-- the work that was decided is in doubt in the book, with this count
+pub record Doubts (b : Book) (d : Decision) (count : ℕ) (c : Book) : Type 0 where
+  pub work : Work
+  pub decided : work_of d ≡ Some work
+  pub left : c ≡ doubting count work b
+
+-- What shows a page lands what was decided, and so does a sweep. A compaction makes another file, as was decided. What ends or
+-- finishes lands it, if it was to be recorded. The disk's fault leaves in doubt what was decided, with the count that it tells. All
+-- else leaves the book.
 abbrev pub Spares : Rules → Book → Decision → Reply → Book → Type 0
 Spares rules b d (shown bytes url) c = Lands rules b d (shown bytes url) c
 Spares rules b d (swept n) c = Lands rules b d (swept n) c
 Spares rules b d (finished bytes) c = Lands rules b d (finished bytes) c ⊎ ((d ≡ replies (finished bytes)) × (c ≡ b))
 Spares rules b d (ended bytes) c = Lands rules b d (ended bytes) c ⊎ ((d ≡ replies (ended bytes)) × (c ≡ b))
+Spares rules b d (compacted n) c = (d ≡ compacts (compacted n)) × (c ≡ rewritten rules b)
 Spares rules b d (disk_failed count) c = Doubts b d count c
 Spares rules b d _ c = c ≡ b
 
 -- A take that is not answered `taken` changes nothing. A publish that neither shows a page nor ends only spends its number. A
--- sweep that is refused changes nothing, and one to a tick that is over does nothing.
+-- sweep or a compaction that is refused changes nothing, and a sweep to a tick that is over does nothing.
 abbrev pub RefusedIsUnchanged : Type 0
 RefusedIsUnchanged =
     (rules : Rules) (b : Book) (nonce : ℕ) (fate : Fate)
@@ -268,11 +275,13 @@ RefusedIsUnchanged =
     × ((t : Ticket) → Spares rules (spend t.number b) (publish_comes rules b t) (step rules b nonce (publish t) fate).0 (step rules b nonce (publish t) fate).1)
     × ((tick : ℕ) → b.clock < tick → Spares rules b (sweep_comes rules b tick) (step rules b nonce (sweep tick) fate).0 (step rules b nonce (sweep tick) fate).1)
     × ((tick : ℕ) → tick ≤ b.clock → step rules b nonce (sweep tick) fate ≡ (swept 0, b))
+    × Spares rules b (compact_comes rules b) (step rules b nonce compact fate).0 (step rules b nonce compact fate).1
 
 -- a start changes nothing unless it shows a page
 abbrev pub Opens : Decision → Type 0
 Opens (records (shown bytes url) (opens o) inside) = ⊤
 Opens (records r c inside) = ⊥
+Opens (compacts r) = ⊥
 Opens (replies (shown bytes url)) = ⊥
 Opens (replies r) = ⊤
 
@@ -343,10 +352,14 @@ ClosedIsClosed =
     × ((a : Book) → IsSound a → Leads a c → IsOn name a next.event
     → IsRefusal (step next.rules c next.nonce next.event next.fate).0 × (then_book next c ≡ without_effect next.event c))
 
+abbrev pub names_in_doubt : Work → List TxName
+names_in_doubt (landing c inside) = inside
+names_in_doubt compacting = []
+
 -- each page's names are all different, and so are those that a page in doubt would be inside
 pub record NamesDiffer (b : Book) : Type 0 where
   pub pages : (k n : ℕ) (i : Instance) (p : Page) → instance_at k b.instances ≡ Some i → page_at n i.pages ≡ Some p → Distinct p.inside
-  pub doubt : (d : Doubt) → b.down ≡ Some d → Distinct d.inside
+  pub doubt : (d : Doubt) → b.down ≡ Some d → Distinct (names_in_doubt d.work)
 
 -- each of these moments has fuel that is too little for the count of a segment's transactions to stand still
 abbrev pub AreShort : List Moment → Type 0

@@ -4,6 +4,8 @@ pub mod Eval
 pub mod Book
 pub mod Rules
 pub mod Change
+pub mod Eviction
+pub mod Compaction
 pub mod Admission
 pub mod Next
 pub mod Step
@@ -15,7 +17,10 @@ pub mod VectorsTape
 pub mod VectorsTasks
 pub mod VectorsOrder
 pub mod VectorsRecovery
+pub mod VectorsFile
 pub mod Invariant
 pub mod Laws
 pub mod Promises
 pub mod Remade
+pub mod Evicting
+pub mod Migration

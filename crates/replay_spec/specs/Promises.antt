@@ -7,11 +7,11 @@ use Rattle.page_names.specs.declared.names.PageName.{PageName}
 use Rattle.script_value.specs.Val.{Val}
 use Rattle.replay_spec.specs.Tape.{present, Outcome, paged, faulted}
 use Rattle.replay_spec.specs.Tape as tape
-use Rattle.replay_spec.specs.Book.{Instance, Finish, finishes, sweeps, Book, instance_at, is_expired}
+use Rattle.replay_spec.specs.Book.{Instance, Finish, finishes, sweeps, Book, instance_at, is_expired, is_over}
 use Rattle.replay_spec.specs.Rules.{Rules}
 use Rattle.replay_spec.specs.Admission.{Place, place_at, Admission, begins, resumes, refused, admit}
 use Rattle.replay_spec.specs.Next.{Ticket, Visit, url_for, comes_to, start_visit, page_visit}
-use Rattle.replay_spec.specs.Step.{take, publish, Fate, no_memory, Reply, taken, shown, fault, out_of_fuel, shelf_full, instance_full, disk_failed, down, oversize, journal_full, worn, memory, reply_by, step}
+use Rattle.replay_spec.specs.Step.{take, publish, Fate, no_memory, Reply, taken, shown, fault, out_of_fuel, shelf_full, disk_failed, down, oversize, journal_full, worn, memory, reply_by, step}
 use Rattle.replay_spec.specs.Runs.{lands}
 use Rattle.replay_spec.specs.Invariant.{ClosedIn, IsOrderly, IsSound}
 use Rattle.replay_spec.specs.Laws.{IsLawful, Moment, then_book, Leads, Leaves, NamesDiffer}
@@ -56,13 +56,13 @@ pub record Finishes (b : Book) (m : Moment) (k : ℕ) : Type 0 where
   pub lands : lands m.rules b m.event m.fate ≡ Some (finishes finish)
   pub here : finish.instance ≡ k
 
--- with the event time goes on to a tick at which all pages of this instance are expired
+-- with the event time goes on to a tick at which all pages of this instance are expired or evicted
 pub record Expires (b : Book) (m : Moment) (i : Instance) : Type 0 where
   pub tick : ℕ
   pub lands : lands m.rules b m.event m.fate ≡ Some (sweeps tick)
-  pub over : list_all (is_expired tick) i.pages ≡ true
+  pub over : list_all (is_over tick i.evicted) i.pages ≡ true
 
--- Nothing frees an instance but an event by which it finishes, or a tick at which all its pages are expired.
+-- Nothing frees an instance but an event by which it finishes, or a tick at which all its pages are expired or evicted.
 abbrev pub NothingElseFrees : Type 0
 NothingElseFrees =
     (b : Book) (m : Moment) → IsOrderly b → (k : ℕ) (i : Instance) → instance_at k b.instances ≡ Some i
@@ -85,7 +85,6 @@ Stops rules b t (refused refusal) r = ⊥
 -- an answer for a limit
 abbrev pub IsLimit : Reply → Type 0
 IsLimit (shelf_full count) = ⊤
-IsLimit (instance_full count) = ⊤
 IsLimit (oversize length) = ⊤
 IsLimit (journal_full length) = ⊤
 IsLimit worn = ⊤

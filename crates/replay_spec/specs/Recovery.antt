@@ -1,5 +1,5 @@
 -- What the records of a journal make: the book of a shelf, as after a crash.
-use Rattle.std.specs.Prelude.{ℕ, max, ◌==◌, ◌&&◌, Bool, true, false, Result, Ok, Err, List, [], ◌∷◌, length, Option, Some, None, nat_lt, slice_get, if◌then◌else◌}
+use Rattle.std.specs.Prelude.{ℕ, max, ◌+◌, ◌==◌, ◌&&◌, Bool, true, false, Result, Ok, Err, List, [], ◌∷◌, length, Option, Some, None, nat_lt, slice_get, if◌then◌else◌}
 use Rattle.std.specs.Ordering.{int_eq}
 use Rattle.script_value.specs.Val.{Val, list, no_vals}
 use Rattle.script_value.specs.declared.outcome.TxName.{TxName}
@@ -12,9 +12,11 @@ use Rattle.script_nodes.specs.Setup.{Named}
 use Rattle.replay_spec.specs.Names.{is_name}
 use Rattle.replay_spec.specs.Tape.{present, shows, Outcome, paged}
 use Rattle.replay_spec.specs.Eval.{Segment}
-use Rattle.replay_spec.specs.Book.{Opening, Extension, Change, opens, extends, ends, finishes, sweeps, Book, instance_at, page_at, reopened}
+use Rattle.replay_spec.specs.Book.{Use, Opening, Extension, Change, opens, extends, ends, finishes, sweeps, Line, changed, renewed, File, Book, instance_at, page_at, reopened}
 use Rattle.replay_spec.specs.Rules.{Rules, empty_book}
-use Rattle.replay_spec.specs.Change.{logged_by, longer_by, land}
+use Rattle.replay_spec.specs.Change.{logged_by, longer_by, with_line, land}
+use Rattle.replay_spec.specs.Eviction.{but}
+use Rattle.replay_spec.specs.Compaction.{drawn_length}
 use Rattle.replay_spec.specs.Admission.{◌>>=◌, when, is_one, Place}
 use Rattle.replay_spec.specs.Next.{Visit, comes_to, start_visit, page_visit}
 use Rattle.server_limits.specs.Limits.{most_fuel}
@@ -95,17 +97,31 @@ again kind effects left m = shows_so m.outcome kind effects left m
 abbrev pub ended_so : List Effect → (cells : List Val) → Option (List TxName)
 ended_so effects cells = when (are_on (length cells) effects && hold_over effects cells) []
 
+-- whether a page is among those that are not evicted
+abbrev pub is_used : ℕ → List Use → Bool
+is_used n [] = false
+is_used n (u ∷ us) = if u.page == n then true else is_used n us
+
+-- whether these pages are among those that are not evicted, and none of them stands twice
+abbrev pub can_go : List ℕ → List Use → Bool
+can_go [] us = true
+can_go (n ∷ ns) us = is_used n us && can_go ns (but n us)
+
+-- these names, where the pages can go; else none
+abbrev pub if_can_go : List ℕ → List Use → Option (List TxName) → Option (List TxName)
+if_can_go ns us o = if can_go ns us then o else None
+
 -- The names that the page of a record is inside, as its script tells, which is run again over the cells that stand there, with the
 -- most fuel that a shelf may have, whatever the fuel was when the record was written.
--- None where the record can't be of this book: there is no such script, instance or page; the script shows no such
--- page; the effects do not hold; or the tick is over.
+-- None where the record can't be of this book: there is no such script, instance or page; the script does not show a page
+-- so; it evicts a page that is not there or that was evicted; the effects do not hold; or the tick is over.
 abbrev pub remade : Book → Change → Option (List TxName)
 remade b (opens o) = do
   s ← slice_get b.scripts o.script
-  again o.kind o.effects o.left (comes_to (opening_visit b o s) (present s.script.cells most_fuel))
+  if_can_go o.evicted [] (again o.kind o.effects o.left (comes_to (opening_visit b o s) (present s.script.cells most_fuel)))
 remade b (extends x) = do
   at ← page_of_numbers b x.instance x.page
-  again x.kind x.effects x.left (comes_to (extension_visit b x at) (present at.instance.cells most_fuel))
+  if_can_go x.evicted at.instance.used (again x.kind x.effects x.left (comes_to (extension_visit b x at) (present at.instance.cells most_fuel)))
 remade b (ends e) = do
   at ← page_of_numbers b e.instance e.page
   ended_so e.effects at.instance.cells
@@ -156,6 +172,49 @@ abbrev pub redo : Rules → Change → Made → Made
 redo rules c m =
     record { book = reopened (redone rules c (taken_in m c) m.book); seen = with_number (number_in c) m.seen }
 
-abbrev pub records_after : Rules → List Change → Made → Made
-records_after rules [] m = m
-records_after rules (c ∷ cs) m = records_after rules cs (redo rules c m)
+-- the rules under which a record of this length is read: recovery needs of rules no more than that
+abbrev pub of_length : ℕ → Rules
+of_length n = record { fuel = most_fuel; life = 0; instances = 0; pages = 0; journal = Some (record { begun = λ ss. 0; renewed = λ ss. 0; length_of = λ b c. n }) }
+
+-- what is made with a record of another setup, whose body is so long
+abbrev pub resettled : (length : ℕ) → List Named → Made → Made
+resettled n scripts m = record m {
+  book = record m.book { scripts = scripts; length = m.book.length + (n + 5); file = with_line (renewed scripts n) m.book.file };
+}
+
+-- what is made with one record more of a file
+abbrev pub then_line : Line → Made → Made
+then_line (changed c n) m = redo (of_length n) c m
+then_line (renewed scripts n) m = resettled n scripts m
+
+-- what is made with these records more of a file
+abbrev pub lines_after : List Line → Made → Made
+lines_after [] m = m
+lines_after (l ∷ ls) m = lines_after ls (then_line l m)
+
+-- the next number of a file that has its first records alone
+abbrev pub used_up : Option ℕ → ℕ
+used_up None = 0
+used_up (Some n) = n
+
+-- what the first records of a file make: the one of its setup, and the one that tells a number, where there is one
+abbrev pub first_of : (shelf : ℕ) → File → Made
+first_of shelf f = record {
+  book = record {
+    shelf = shelf;
+    scripts = f.scripts;
+    clock = 0;
+    drawn = used_up f.drawn;
+    logged = used_up f.drawn;
+    length = f.head + drawn_length f.drawn;
+    file = record f { lines = [] };
+    out = [];
+    down = None;
+    instances = [];
+  };
+  seen = [];
+}
+
+-- what the records of a file make
+abbrev pub made_of_file : (shelf : ℕ) → File → Made
+made_of_file shelf f = lines_after f.lines (first_of shelf f)

@@ -1,21 +1,21 @@
 -- What holds of the records that events leave, and of the books that records make.
-use Rattle.std.specs.Prelude.{◌≡◌, ◌≤◌, ◌<◌, ℕ, List, [], ◌∷◌, length, Option, Some, None, slice_get, ⊤}
+use Rattle.std.specs.Prelude.{◌≡◌, ◌≤◌, ◌<◌, ℕ, List, [], ◌∷◌, length, Option, Some, None, true, slice_get, ⊤}
 use Rattle.script_value.specs.Val.{Val}
 use Rattle.script_value.specs.declared.outcome.TxName.{TxName}
 use Rattle.instance_cells.specs.Cells.{Holds}
 use Rattle.script_nodes.specs.Core.{AllOnCells}
 use Rattle.script_nodes.specs.Setup.{Script, Named, trees_of}
 use Rattle.replay_spec.specs.Tape.{present, Answer}
-use Rattle.replay_spec.specs.Book.{Instance, Change, Doubt, Book, instance_at, reopened, reopened_with}
+use Rattle.replay_spec.specs.Book.{Instance, Change, Work, landing, compacting, Doubt, Line, changed, renewed, File, Book, instance_at, reopened, are_same}
 use Rattle.replay_spec.specs.Rules.{Journal, Rules, empty_book}
 use Rattle.replay_spec.specs.Change.{instances_by}
+use Rattle.replay_spec.specs.Compaction.{compaction, file_length}
 use Rattle.replay_spec.specs.Admission.{or_else}
 use Rattle.replay_spec.specs.Next.{Ticket}
-use Rattle.replay_spec.specs.Step.{Event, crash, Fate, Reply, Decision, replies, records, unless, too_long, full_journal, publish_comes, step}
-use Rattle.replay_spec.specs.Runs.{lands}
-use Rattle.replay_spec.specs.Recovery.{remade, Made, nothing_made, taken_in, redo, records_after}
+use Rattle.replay_spec.specs.Step.{Event, crash, Fate, Reply, Decision, replies, records, compacts, unless, too_long, full_journal, publish_comes, step}
+use Rattle.replay_spec.specs.Recovery.{remade, Made, nothing_made, taken_in, redo, then_line, lines_after, first_of, made_of_file}
 use Rattle.replay_spec.specs.Invariant.{Among, Unused, AreOrderly, IsOrderly, IsSound}
-use Rattle.replay_spec.specs.Laws.{ArePast, run_behind, IsLawful, Moment, then_book, book_after, AreLawful, changes_of}
+use Rattle.replay_spec.specs.Laws.{ArePast, run_behind, IsLawful, Moment, then_book, book_after, AreLawful}
 use Rattle.server_limits.specs.Limits.{most_fuel}
 
 -- The effects of a run hold over the cells that it ran over.
@@ -27,6 +27,7 @@ EffectsHold =
 -- what a decision comes to once its record is measured
 abbrev pub through : Option Journal → Book → Decision → Decision
 through journal b (replies r) = replies r
+through journal b (compacts r) = compacts r
 through journal b (records r c inside) = unless (or_else (too_long journal b c) (full_journal journal b c)) (records r c inside)
 
 -- The journal is asked last: a publish is decided as on a shelf without one, and then its record is measured.
@@ -41,10 +42,15 @@ abbrev pub IsRemade : Book → Change → (inside : List TxName) → Type 0
 IsRemade b c inside =
     (names : List TxName) × ((remade b c ≡ Some names) × (instances_by b.scripts c names b.instances ≡ instances_by b.scripts c inside b.instances))
 
--- what is in doubt would be made again from its record
+-- the work that is in doubt would be made again from its record
+abbrev pub IsRemadeWork : Book → Work → Type 0
+IsRemadeWork b (landing c inside) = IsRemade b c inside
+IsRemadeWork b compacting = ⊤
+
+-- what is in doubt, if anything is, would be made again from its record
 abbrev pub IsRemadeDoubt : Book → Option Doubt → Type 0
 IsRemadeDoubt b None = ⊤
-IsRemadeDoubt b (Some doubt) = IsRemade b doubt.change doubt.inside
+IsRemadeDoubt b (Some doubt) = IsRemadeWork b doubt.work
 
 -- a script names cells that it has
 abbrev pub NamesItsCells : Named → Type 0
@@ -77,53 +83,85 @@ DecisionsAreRemade =
 abbrev pub AreUsed : List ℕ → Book → Type 0
 AreUsed seen b = (n : ℕ) → Among n seen → Unused b n → ⊥
 
--- the book as after a crash, with the numbers that were seen
-abbrev pub made_of : Book → (seen : List ℕ) → Made
-made_of b seen = record { book = reopened b; seen = seen }
-
--- a record is not passed over
+-- the record of a change is not passed over
 abbrev pub IsTakenIn : Made → Change → Type 0
 IsTakenIn m c = (inside : List TxName) × (taken_in m c ≡ Some inside)
 
--- the record of an event is not passed over, and makes of the one book the other; without a record the two are the same
-abbrev pub IsRemadeBy : Rules → Made → Option Change → Book → Type 0
-IsRemadeBy rules m None d = d ≡ m.book
-IsRemadeBy rules m (Some c) d = IsTakenIn m c × (d ≡ (redo rules c m).book)
+-- a record of a file is not passed over
+abbrev pub IsTakenLine : Made → Line → Type 0
+IsTakenLine m (changed c n) = IsTakenIn m c
+IsTakenLine m (renewed scripts n) = ⊤
 
--- An event leaves a record, or none, of which recovery makes the book after the event, but for a setup that is given at
--- a crash; and what is in doubt then would be made again.
-abbrev pub EventsAreRemade : Type 0
-EventsAreRemade =
-    (rules : Rules) (b : Book) (nonce : ℕ) (event : Event) (fate : Fate) (seen : List ℕ) → rules.fuel ≤ most_fuel
-    → IsSound b → NameTheirCells b → IsRemadeDoubt b b.down → IsLawful event b → AreUsed seen b
-    → let d = (step rules b nonce event fate).1 in
-    IsRemadeBy rules (made_of b seen) (lands rules b event fate) (reopened_with b.scripts d) × IsRemadeDoubt d d.down
+-- none of these records of a file is passed over
+abbrev pub AreTaken : List Line → Made → Type 0
+AreTaken [] m = ⊤
+AreTaken (l ∷ ls) m = IsTakenLine m l × AreTaken ls (then_line l m)
 
--- the shelf is opened again with the same setup
-abbrev pub KeepsSetup : Event → Book → Type 0
-KeepsSetup (crash scripts) b = scripts ≡ b.scripts
-KeepsSetup _ b = ⊤
+-- two books are of the same shelf and setup, at the same time, with the same instances
+pub record IsLike (b c : Book) : Type 0 where
+  pub shelf : b.shelf ≡ c.shelf
+  pub scripts : b.scripts ≡ c.scripts
+  pub clock : b.clock ≡ c.clock
+  pub instances : b.instances ≡ c.instances
 
--- each of these is met under fuel that recovery has, over this journal, and keeps the setup
-abbrev pub AreUnder : Option Journal → List Moment → Book → Type 0
-AreUnder journal [] b = ⊤
-AreUnder journal (m ∷ ms) b =
-    (m.rules.fuel ≤ most_fuel) × (m.rules.journal ≡ journal) × KeepsSetup m.event b × AreUnder journal ms (then_book m b)
+-- A book's file tells it: none of its records is passed over, and they make the book but for the next number and the length, which records
+-- that were passed over may have raised.
+pub record IsFiled (b : Book) : Type 0 where
+  pub taken : AreTaken b.file.lines (first_of b.shelf b.file)
+  pub made : IsLike (made_of_file b.shelf b.file).book b
+  pub logged : (made_of_file b.shelf b.file).book.logged ≤ b.logged
+  pub used : AreUsed (made_of_file b.shelf b.file).seen b
 
--- no record is passed over
-abbrev pub AreTakenIn : Rules → List Change → Made → Type 0
-AreTakenIn rules [] m = ⊤
-AreTakenIn rules (c ∷ cs) m = IsTakenIn m c × AreTakenIn rules cs (redo rules c m)
+-- a book's file tells it, with the next number and the length: no record was passed over since the file was begun
+pub record IsExact (b : Book) : Type 0 where
+  pub filed : IsFiled b
+  pub logged : (made_of_file b.shelf b.file).book.logged ≡ b.logged
+  pub length : (made_of_file b.shelf b.file).book.length ≡ b.length
 
--- The records that a run leaves suffice: the book that they make of the first is the last, as after a crash, and none is
--- passed over. Fuel, life and limits may change at each opening. The transactions that a new page is inside are no part
--- of its record: its script is run again.
-abbrev pub RecordsSuffice : Type 0
-RecordsSuffice =
-    (rules : Rules) (ms : List Moment) (b : Book) (seen : List ℕ) → IsSound b → NameTheirCells b → IsRemadeDoubt b b.down → AreUsed seen b
-    → AreLawful ms b → AreUnder rules.journal ms b
-    → (reopened (book_after ms b) ≡ (records_after rules (changes_of ms b) (made_of b seen)).book)
-    × AreTakenIn rules (changes_of ms b) (made_of b seen)
+-- the setup that a crash gives is the same where its names and texts are
+abbrev pub GivesByText : Event → Book → Type 0
+GivesByText (crash scripts) b = are_same scripts b.scripts ≡ true → scripts ≡ b.scripts
+GivesByText _ b = ⊤
+
+-- The file of an empty book tells it. Where the file of a book tells it, it does so after each event, a compaction and a crash with another
+-- setup too, and what is then in doubt would be made again from its record; and an exact one stays so.
+abbrev pub EventsAreFiled : Type 0
+EventsAreFiled =
+    ((rules : Rules) (scripts : List Named) (shelf : ℕ) → IsFiled (empty_book rules scripts shelf))
+    × ((rules : Rules) (b : Book) (nonce : ℕ) (event : Event) (fate : Fate) (j : Journal) → rules.journal ≡ Some j → rules.fuel ≤ most_fuel
+    → IsSound b → NameTheirCells b → IsRemadeDoubt b b.down → IsFiled b → IsLawful event b → GivesByText event b
+    → let d = (step rules b nonce event fate).1 in IsFiled d × IsRemadeDoubt d d.down × (IsExact b → IsExact d))
+
+-- each event of a run is under no more fuel than recovery has, and under rules of this journal; and each setup that it gives is told by its
+-- names and texts
+abbrev pub AreUnder : Journal → List Moment → Book → Type 0
+AreUnder j [] b = ⊤
+AreUnder j (m ∷ ms) b =
+    (m.rules.fuel ≤ most_fuel) × (m.rules.journal ≡ Some j) × (GivesByText m.event b × GivesNamed m.event) × AreUnder j ms (then_book m b)
+
+-- The file tells the book after any run, and where it was exact at first it makes the book itself, as after a crash. Fuel, life and limits
+-- may change at each opening, and so may the setup. The transactions that a new page is inside are no part of its record: its script is
+-- run again.
+abbrev pub FilesSuffice : Type 0
+FilesSuffice =
+    ((rules : Rules) (scripts : List Named) (shelf : ℕ) → IsExact (empty_book rules scripts shelf))
+    × ((j : Journal) (ms : List Moment) (b : Book) → IsSound b → NameTheirCells b → IsRemadeDoubt b b.down → IsFiled b → AreLawful ms b → AreUnder j ms b
+    → let c = book_after ms b in IsFiled c × (IsExact b → (made_of_file c.shelf c.file).book ≡ reopened c))
+
+-- Whatever the records of a file tell, the book that they make is told by those of them that were not passed over.
+abbrev pub RecordsMakeFiledBooks : Type 0
+RecordsMakeFiledBooks = (shelf : ℕ) (f : File) (ls : List Line) → IsFiled (lines_after ls (first_of shelf f)).book
+
+-- A file that is compacted again is the same.
+abbrev pub CompactedTwice : Type 0
+CompactedTwice = (b : Book) → compaction (record b { file = compaction b }) ≡ compaction b
+
+-- The compacted file of a book makes the same book, as after a crash, but for its length and file, and passes over no record.
+abbrev pub CompactionKeepsTheBook : Type 0
+CompactionKeepsTheBook =
+    (b : Book) → IsFiled b
+    → ((made_of_file b.shelf (compaction b)).book ≡ record (reopened b) { length = file_length (compaction b); file = compaction b })
+    × AreTaken (compaction b).lines (first_of b.shelf (compaction b))
 
 -- What was made of records, whatever they tell, is as after a crash, with orderly instances of the numbers that were
 -- seen, each counted.

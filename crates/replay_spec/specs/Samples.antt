@@ -21,7 +21,7 @@ script web cells parts = record { name = name; text = []; script = record { web 
 
 -- a journal whose records are of one length
 abbrev pub journal : (begun length : ℕ) → Journal
-journal begun length = record { begun = begun; length_of = λ b c. length }
+journal begun length = record { begun = λ ss. begun; renewed = λ ss. length; length_of = λ b c. length }
 
 abbrev pub rules : Rules
 rules = record { fuel = 100000; life = 3600; instances = 256; pages = 64; journal = Some (journal 100 50) }

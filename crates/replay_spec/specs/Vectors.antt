@@ -2,12 +2,12 @@
 use Rattle.std.specs.Prelude.{◌≡◌, ◌-◌, ◌^◌, false, List, [], ◌∷◌, ◌++◌, Some, None, codes, refl}
 use Rattle.std.specs.Fmt.{digits}
 use Rattle.script_value.specs.Val.{truth, text}
-use Rattle.script_value.specs.declared.outcome.Refusal.TheVariants.{Unknown, Revoked, Closed, Expired}
+use Rattle.script_value.specs.declared.outcome.Refusal.TheVariants.{Unknown, Revoked, Closed, Evicted, Expired}
 use Rattle.page_names.specs.Names.{start}
 use Rattle.script_nodes.specs.Core.{isolate}
 use Rattle.replay_spec.specs.Runs.{after}
 use Rattle.replay_spec.specs.Rules.{empty_book}
-use Rattle.replay_spec.specs.Step.{Event, take, sweep, crash, Fate, plain, no_memory, disk_fault, lost, kept, Reply, taken, shown, finished, ended, refusal, out_of_fuel, shelf_full, instance_full, disk_failed, down, oversize, journal_full, worn, memory, swept, live, step}
+use Rattle.replay_spec.specs.Step.{Event, take, sweep, crash, Fate, plain, no_memory, disk_fault, lost, kept, Reply, taken, shown, finished, ended, refusal, out_of_fuel, shelf_full, disk_failed, down, oversize, journal_full, worn, memory, swept, live, step}
 use Rattle.replay_spec.specs.Samples.{name, script, journal, rules, opened, counted, Answers, at, url, link_to, takes, publishing, publishes, get, nothing, says, link, hotel, fwd, fin, shop, pay, transaction, note}
 
 -- two clones do not see each other's web cell
@@ -141,10 +141,93 @@ pub too_many_instances :
 unfolding step
 too_many_instances = refl
 
-pub too_many_pages :
-    Answers (opened (record rules { pages = 1 }) hotel) (get (start name) nothing 0 ++ get (at 0 0 0) nothing 1) (taken 0 0 ∷ link_to (codes "list") 0 0 ∷ taken 1 1 ∷ instance_full 1 ∷ [])
+-- where there is room for one page alone, the page that was answered goes for the new one
+pub one_page_at_a_time :
+    Answers (opened (record rules { pages = 1 }) hotel)
+    (get (start name) nothing 0 ++ get (at 0 0 0) (text (codes "A")) 1 ++ takes (at 0 0 0) nothing ∷ get (at 0 1 1) nothing 2)
+    (taken 0 0 ∷ link_to (codes "list") 0 0 ∷ taken 1 1 ∷ link_to (codes "confirm") 0 1 ∷ refusal (Evicted 1) ∷ taken 2 2 ∷ ended (codes "A") ∷ [])
 unfolding step
-too_many_pages = refl
+one_page_at_a_time = refl
+
+-- the least used page goes, also where a visit of it is in flight; its descendants' chains replay
+pub least_used_goes :
+    Answers (opened (record rules { pages = 2 }) hotel)
+    (get (start name) nothing 0 ++ get (at 0 0 0) (text (codes "A")) 1 ++ takes (at 0 1 1) nothing ∷ get (at 0 0 0) (text (codes "B")) 3
+    ++ publishes (at 0 1 1) nothing 2 ∷ get (at 0 3 3) nothing 4)
+    (taken 0 0 ∷ link_to (codes "list") 0 0 ∷ taken 1 1 ∷ link_to (codes "confirm") 0 1 ∷ taken 2 2 ∷ taken 3 3 ∷ link_to (codes "confirm") 0 3
+    ∷ refusal (Evicted 3) ∷ taken 4 4 ∷ ended (codes "B") ∷ [])
+unfolding step
+least_used_goes = refl
+
+-- where there is room for two pages, one that was answered just now goes too, if its segment is older than the uses of the others
+pub answered_page_goes :
+    Answers (opened (record rules { pages = 2 }) hotel)
+    (get (start name) nothing 0 ++ get (at 0 0 0) (text (codes "A")) 1 ++ takes (at 0 0 0) (text (codes "B")) ∷ get (at 0 1 1) nothing 3
+    ++ publishes (at 0 0 0) (text (codes "B")) 2 ∷ takes (at 0 0 0) nothing ∷ get (at 0 2 2) nothing 4)
+    (taken 0 0 ∷ link_to (codes "list") 0 0 ∷ taken 1 1 ∷ link_to (codes "confirm") 0 1 ∷ taken 2 2 ∷ taken 3 3 ∷ ended (codes "A")
+    ∷ link_to (codes "confirm") 0 2 ∷ refusal (Evicted 2) ∷ taken 4 4 ∷ ended (codes "B") ∷ [])
+unfolding step
+answered_page_goes = refl
+
+-- pages of other instances neither count nor go
+pub each_instance_by_itself :
+    Answers (opened (record rules { pages = 3 }) hotel)
+    (get (start name) nothing 0 ++ get (at 0 0 0) (text (codes "A")) 1 ++ get (start name) nothing 2 ++ get (start name) nothing 3
+    ++ get (at 0 0 0) (text (codes "B")) 4 ++ get (at 0 1 1) nothing 5 ++ get (at 2 2 2) (text (codes "C")) 6)
+    (taken 0 0 ∷ link_to (codes "list") 0 0 ∷ taken 1 1 ∷ link_to (codes "confirm") 0 1 ∷ taken 2 2 ∷ link_to (codes "list") 2 2 ∷ taken 3 3
+    ∷ link_to (codes "list") 3 3 ∷ taken 4 4 ∷ link_to (codes "confirm") 0 4 ∷ taken 5 5 ∷ ended (codes "A") ∷ taken 6 6 ∷ link_to (codes "confirm") 2 6 ∷ [])
+unfolding step
+each_instance_by_itself = refl
+
+-- of two pages that were used as late as each other the one of the lower number goes
+pub lower_number_goes :
+    Answers (opened (record rules { pages = 2 }) hotel)
+    (get (start name) nothing 0 ++ takes (at 0 0 0) (text (codes "A")) ∷ takes (at 0 0 0) (text (codes "B")) ∷ publishes (at 0 0 0) (text (codes "B")) 2
+    ∷ publishes (at 0 0 0) (text (codes "A")) 1 ∷ takes (at 0 0 0) nothing ∷ get (at 0 2 2) nothing 3 ++ get (at 0 1 1) nothing 4)
+    (taken 0 0 ∷ link_to (codes "list") 0 0 ∷ taken 1 1 ∷ taken 2 2 ∷ link_to (codes "confirm") 0 2 ∷ link_to (codes "confirm") 0 1
+    ∷ refusal (Evicted 1) ∷ taken 3 3 ∷ ended (codes "B") ∷ taken 4 4 ∷ ended (codes "A") ∷ [])
+unfolding step
+lower_number_goes = refl
+
+-- a page stays used by its latest segment where an older one answers it last
+pub older_answer :
+    Answers (opened (record rules { pages = 3 }) hotel)
+    (get (start name) nothing 0 ++ takes (at 0 0 0) (text (codes "A")) ∷ get (at 0 0 0) (text (codes "B")) 2 ++ get (at 0 0 0) (text (codes "C")) 3
+    ++ publishes (at 0 0 0) (text (codes "A")) 1 ∷ takes (at 0 2 2) nothing ∷ get (at 0 0 0) (text (codes "D")) 4 ++ takes (at 0 1 1) nothing ∷ [])
+    (taken 0 0 ∷ link_to (codes "list") 0 0 ∷ taken 1 1 ∷ taken 2 2 ∷ link_to (codes "confirm") 0 2 ∷ taken 3 3 ∷ link_to (codes "confirm") 0 3
+    ∷ link_to (codes "confirm") 0 1 ∷ refusal (Evicted 1) ∷ taken 4 4 ∷ link_to (codes "confirm") 0 4 ∷ refusal (Evicted 4) ∷ [])
+unfolding step
+older_answer = refl
+
+-- where the limit is lower than the pages are many, several go at once
+abbrev four_pages : List (Event × Fate)
+four_pages =
+    get (start name) nothing 0 ++ get (at 0 0 0) (text (codes "A")) 1 ++ get (at 0 0 0) (text (codes "B")) 2 ++ get (at 0 0 0) (text (codes "C")) 3
+
+pub lower_limit :
+    Answers (record (after counted four_pages (opened rules hotel)) { rules = record rules { pages = 2 } })
+    (get (at 0 0 0) (text (codes "D")) 4 ++ takes (at 0 1 1) nothing ∷ takes (at 0 2 2) nothing ∷ takes (at 0 3 3) nothing ∷ get (at 0 4 4) nothing 5)
+    (taken 4 4 ∷ link_to (codes "confirm") 0 4 ∷ refusal (Evicted 4) ∷ refusal (Evicted 4) ∷ refusal (Evicted 4) ∷ taken 5 5 ∷ ended (codes "D") ∷ [])
+unfolding step
+lower_limit = refl
+
+-- a page that was evicted counts as expired where an instance is freed
+pub freed_with_evicted :
+    Answers (opened (record rules { pages = 1; life = 100 }) hotel)
+    (get (start name) nothing 0 ++ (sweep 50, plain) ∷ get (at 0 0 0) nothing 1 ++ (sweep 149, plain) ∷ (sweep 150, plain) ∷ [])
+    (taken 0 0 ∷ link_to (codes "list") 0 0 ∷ swept 0 ∷ taken 1 1 ∷ link_to (codes "confirm") 0 1 ∷ swept 0 ∷ swept 1 ∷ [])
+unfolding step
+freed_with_evicted = refl
+
+-- also where its own time is not over, as the pages of an earlier opening had a longer life
+pub freed_with_evicted_young :
+    Answers (record (after counted (get (start name) nothing 0 ++ (sweep 50, plain) ∷ []) (opened (record rules { life = 100 }) hotel)) {
+      rules = record rules { pages = 1; life = 10 };
+    })
+    (get (at 0 0 0) nothing 1 ++ (sweep 59, plain) ∷ (sweep 60, plain) ∷ takes (at 0 0 0) nothing ∷ [])
+    (taken 1 1 ∷ link_to (codes "confirm") 0 1 ∷ swept 0 ∷ swept 1 ∷ refusal Unknown ∷ [])
+unfolding step
+freed_with_evicted_young = refl
 
 -- what shows no page needs no room for one
 pub ends_in_the_full :

@@ -4,22 +4,22 @@ use Rattle.std.specs.Fmt.{digits}
 use Rattle.script_value.specs.Val.{Val, number, text, symbol}
 use Rattle.script_value.specs.declared.outcome.Op.TheVariants as op
 use Rattle.script_value.specs.declared.outcome.Fault.TheVariants.{NotPage}
-use Rattle.script_value.specs.declared.outcome.Refusal.TheVariants.{Unknown, Revoked, Closed, Expired}
+use Rattle.script_value.specs.declared.outcome.Refusal.TheVariants.{Unknown, Revoked, Closed, Evicted, Expired}
 use Rattle.script_value.specs.declared.outcome.TxName.{TxName}
 use Rattle.page_names.specs.Names.{Destination, start, page}
 use Rattle.page_names.specs.Hex.{hex16}
 use Rattle.script_nodes.specs.declared.script.SendKind.TheVariants.{Suspend}
 use Rattle.script_nodes.specs.Core.{lit, var, bind, prim, send, no_cores, cores_of}
 use Rattle.script_nodes.specs.Setup.{Named}
-use Rattle.replay_spec.specs.Book.{Page, Instance, sweeps, Doubt, Book}
-use Rattle.replay_spec.specs.Rules.{Rules}
+use Rattle.replay_spec.specs.Book.{Page, Eviction, Instance, sweeps, landing, Doubt, Book}
+use Rattle.replay_spec.specs.Rules.{Rules, first_file}
 use Rattle.replay_spec.specs.Next.{url_of}
-use Rattle.replay_spec.specs.Step.{Event, take, sweep, Fate, plain, no_memory, disk_fault, Reply, taken, shown, ended, refusal, fault, shelf_full, instance_full, down, oversize, journal_full, worn, memory, swept, step}
+use Rattle.replay_spec.specs.Step.{Event, take, sweep, Fate, plain, no_memory, disk_fault, Reply, taken, shown, ended, refusal, fault, shelf_full, down, oversize, journal_full, worn, memory, swept, step}
 use Rattle.replay_spec.specs.Runs.{Shelf, empty_shelf, after, answers_to}
 use Rattle.replay_spec.specs.Samples.{name, script, journal, rules, at, takes, publishing, nothing, link}
 
 abbrev doubt : Doubt
-doubt = record { count = 7; change = sweeps 9; inside = [] }
+doubt = record { count = 7; work = landing (sweeps 9) [] }
 
 -- a script that shows a page, and one whose second segment gives no page
 abbrev one_page : Named
@@ -36,11 +36,23 @@ closed_one = record { ticket = 0; entry = 0 }
 abbrev old_page : Page
 old_page = record { number = 0; nonce = 0; parent = None; answer = nothing; reads = []; inside = closed_one ∷ []; deadline = 5 }
 
+abbrev went_for : (page : ℕ) → List Eviction
+went_for n = record { page = 0; by = n } ∷ []
+
 abbrev old : Named → (revoked : List ℕ) → (closed : List TxName) → Instance
-old s revoked closed = record { number = 0; script = s; cells = []; closed = closed; revoked = revoked; pages = old_page ∷ [] }
+old s revoked closed = record {
+  number = 0;
+  script = s;
+  cells = [];
+  closed = closed;
+  revoked = revoked;
+  used = record { page = 0; last = 0 } ∷ [];
+  evicted = [];
+  pages = old_page ∷ [];
+}
 
 abbrev book : List Instance → Book
-book is = record { shelf = 0; scripts = one_page ∷ []; clock = 5; drawn = 2; logged = 1; length = 100; out = 1 ∷ []; down = None; instances = is }
+book is = record { shelf = 0; scripts = one_page ∷ []; clock = 5; drawn = 2; logged = 1; length = 100; file = first_file 100 (one_page ∷ []); out = 1 ∷ []; down = None; instances = is }
 
 abbrev told : Rules → Book → Event → Fate → Reply
 told r b event fate = (step r b 3 event fate).0
@@ -66,6 +78,16 @@ revoked_before_closed = refl
 pub closed_before_expired : told rules (book (old one_page [] (closed_one ∷ []) ∷ [])) (take (at 0 0 0) nothing) plain ≡ refusal (Closed closed_one)
 unfolding step
 closed_before_expired = refl
+
+pub closed_before_evicted :
+    told rules (book (record (old one_page [] (closed_one ∷ [])) { used = []; evicted = went_for 1 } ∷ [])) (take (at 0 0 0) nothing) plain ≡ refusal (Closed closed_one)
+unfolding step
+closed_before_evicted = refl
+
+pub evicted_before_expired :
+    told rules (book (record (old one_page [] []) { used = []; evicted = went_for 1 } ∷ [])) (take (at 0 0 0) nothing) plain ≡ refusal (Evicted 1)
+unfolding step
+evicted_before_expired = refl
 
 pub expired_alone : told rules (book (old one_page [] [] ∷ [])) (take (at 0 0 0) nothing) plain ≡ refusal (Expired 5)
 unfolding step
@@ -95,10 +117,6 @@ target_before_fault = refl
 pub fault_before_full : told (record rules { pages = 1 }) (young no_page_then) answering plain ≡ fault NotPage
 unfolding step
 fault_before_full = refl
-
-pub full_before_length : told (record rules { pages = 1; journal = Some (journal 100 1048577) }) (young one_page) answering plain ≡ instance_full 1
-unfolding step
-full_before_length = refl
 
 pub shelf_full_before_length :
     told (record rules { instances = 1; journal = Some (journal 100 1048577) }) (young one_page) (publishing (start name) nothing 1 1) plain ≡ shelf_full 1
@@ -205,6 +223,7 @@ visited = record {
   drawn = 4;
   logged = 4;
   length = 0;
+  file = first_file 0 two_scripts;
   out = [];
   down = None;
   instances = record {
@@ -213,6 +232,8 @@ visited = record {
     cells = [];
     closed = [];
     revoked = [];
+    used = record { page = 0; last = 3 } ∷ record { page = 1; last = 2 } ∷ record { page = 3; last = 3 } ∷ [];
+    evicted = [];
     pages =
         page_with 0 10 None nothing ∷ page_with 1 11 (Some 0) (text (codes "x")) ∷ page_with 3 13 (Some 0) (text (codes "z")) ∷ [];
   } ∷ [];

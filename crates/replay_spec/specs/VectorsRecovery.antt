@@ -8,16 +8,21 @@ use Rattle.instance_cells.specs.Cells.{Effect, read, set, add}
 use Rattle.script_nodes.specs.declared.script.SendKind.{SendKind}
 use Rattle.script_nodes.specs.declared.script.SendKind.TheVariants.{Suspend, Forward}
 use Rattle.script_nodes.specs.Setup.{Named}
+use Rattle.replay_spec.specs.Rules.{Rules}
 use Rattle.replay_spec.specs.Book.{Change, opens, extends, ends, finishes, sweeps, reopened}
 use Rattle.replay_spec.specs.Runs.{after, records_of}
-use Rattle.replay_spec.specs.Recovery.{Made, nothing_made, taken_in, records_after}
+use Rattle.replay_spec.specs.Recovery.{Made, nothing_made, taken_in, redo}
 use Rattle.replay_spec.specs.Step.{Event, sweep, crash, Fate, plain, lost, disk_fault, kept, taken, ended, refusal, disk_failed, live, step}
 use Rattle.replay_spec.specs.Samples.{name, rules, script, opened, counted, Answers, at, link_to, takes, publishing, get, nothing, says, link, hotel, shop, pay, transaction}
+
+abbrev records_after : Rules → List Change → Made → Made
+records_after r [] m = m
+records_after r (c ∷ cs) m = records_after r cs (redo r c m)
 
 -- a start of the script of this place, an answer to a page of instance 0 that ends, and one that shows a page
 abbrev opening : (number place : ℕ) → SendKind → List Effect → Change
 opening n place kind effects =
-    opens (record { number = n; nonce = n; script = place; effects = effects; left = []; kind = kind; deadline = 3600 })
+    opens (record { number = n; nonce = n; script = place; effects = effects; left = []; kind = kind; deadline = 3600; evicted = [] })
 
 abbrev ending : (number instance page : ℕ) → List Effect → Change
 ending n k m effects =
@@ -34,6 +39,7 @@ extension n k m kind effects left = extends (record {
   left = left;
   kind = kind;
   deadline = 3600;
+  evicted = [];
 })
 
 -- the shop's one instance, with its page 0, and one item

@@ -3,7 +3,9 @@
 
 ghost use Rattle.replay_spec.specs.Laws.{EffectsHoldRunSame, AHeldRunIsNext, EffectsAreOnCells, RecordedIsPresent, MoreFuelIsTheSame, NamesFollow, OrderlyBooksStay, SoundBooksStay, ReachedBooksAreSound, EachHasItsCells, EachChainReplays, PagesStay, RefusedIsUnchanged, AStartOpensOrLeaves, ClosedIsClosed, NamesStayDifferent, ShownIsOpen, AForwardRevokes, NoNumberTwice, TicketsAreOut, ShadowsRise};
 ghost use Rattle.replay_spec.specs.Promises.{TheClockNeverFalls, AShownPageIsAdmitted, NothingElseCloses, NothingElseFrees, AVisitIsAnswered};
-ghost use Rattle.replay_spec.specs.Remade.{EffectsHold, JournalIsLast, CellsStayNamed, DecisionsAreRemade, EventsAreRemade, RecordsSuffice, RecordsMakeOrderlyBooks};
+ghost use Rattle.replay_spec.specs.Evicting.{NothingElseEvicts, AtMostPages, TheLeastUsedGo, UsesRise};
+ghost use Rattle.replay_spec.specs.Remade.{EffectsHold, JournalIsLast, CellsStayNamed, DecisionsAreRemade, EventsAreFiled, FilesSuffice, RecordsMakeFiledBooks, CompactionKeepsTheBook, CompactedTwice, RecordsMakeOrderlyBooks};
+ghost use Rattle.replay_spec.specs.Migration.{MigrationKeepsTheBook};
 
 // Of single runs of a script.
 
@@ -134,7 +136,7 @@ pub fn nothing_else_closes()
     ensures { NothingElseCloses }
 {}
 
-/// Nothing else frees an instance than its finish, or a sweep when all its pages are expired.
+/// Nothing else frees an instance than its finish, or a sweep when all its pages are expired or evicted.
 pub fn nothing_else_frees()
     ensures { NothingElseFrees }
 {}
@@ -156,6 +158,24 @@ pub fn shown_is_open()
     ensures { ShownIsOpen }
 {}
 
+/// Nothing else evicts a page than a page that is shown in its instance. An evicted page stays so as long as its instance stands, and
+/// is not admitted.
+pub fn nothing_else_evicts()
+    ensures { NothingElseEvicts }
+{}
+
+/// Under limits of so many pages, each instance has no more that are not evicted, in every book that is reached.
+pub fn at_most_pages()
+    ensures { AtMostPages }
+{}
+
+/// The least used pages go; and a page that was answered just now stays, where its segment is the newest and there is room for more
+/// than one page.
+pub fn the_least_used_go()
+    ensures first { TheLeastUsedGo }
+    ensures rise { UsesRise }
+{}
+
 // Of the records that events leave.
 
 /// The journal is asked last: a publish is decided as without one, and then its record is measured.
@@ -173,15 +193,35 @@ pub fn decisions_are_remade()
     ensures { DecisionsAreRemade }
 {}
 
-/// Each event leaves one record, or none, of which recovery makes the book behind it.
-pub fn events_are_remade()
-    ensures { EventsAreRemade }
+/// The file of an empty book tells it, and each event leaves a book that its file tells, a compaction and a crash with another setup
+/// too: of the file's records recovery makes the book, as after a crash, and passes over none.
+pub fn events_are_filed()
+    ensures { EventsAreFiled }
 {}
 
-/// The records that a run leaves suffice: the book that they make of the first is the last, as after a crash, and none is
-/// passed over.
-pub fn records_suffice()
-    ensures { RecordsSuffice }
+/// Over a run the file of a book makes the book, as after a crash, and passes over no record.
+pub fn files_suffice()
+    ensures { FilesSuffice }
+{}
+
+/// Whatever records tell, the file of the book that they make has those that were not passed over, and tells the book.
+pub fn records_make_filed_books()
+    ensures { RecordsMakeFiledBooks }
+{}
+
+/// A file that is compacted again is the same.
+pub fn compacted_twice()
+    ensures { CompactedTwice }
+{}
+
+/// The compacted file of a book makes the same book, as after a crash, but for its length and file, and passes over no record.
+pub fn compaction_keeps_the_book()
+    ensures { CompactionKeepsTheBook }
+{}
+
+/// A file of an older format, with its records measured as they are written now, tells the same book, and is then compacted.
+pub fn migration_keeps_the_book()
+    ensures { MigrationKeepsTheBook }
 {}
 
 /// Whatever records tell, the book that they make of an empty one is orderly.

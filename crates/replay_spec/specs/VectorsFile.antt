@@ -1,0 +1,120 @@
+-- Worked rows of files: they are compacted, tell another setup, and are read again.
+use Rattle.std.specs.Prelude.{◌≡◌, ℕ, ◌+◌, ◌*◌, ◌-◌, ◌^◌, List, [], ◌∷◌, ◌++◌, Some, codes, refl}
+use Rattle.script_value.specs.Val.{text}
+use Rattle.page_names.specs.Names.{start}
+use Rattle.script_nodes.specs.Setup.{Named}
+use Rattle.replay_spec.specs.Book.{Change, sweeps, Book, reopened}
+use Rattle.replay_spec.specs.Rules.{Rules}
+use Rattle.replay_spec.specs.Compaction.{compaction, file_length}
+use Rattle.replay_spec.specs.Recovery.{made_of_file}
+use Rattle.replay_spec.specs.Runs.{after}
+use Rattle.replay_spec.specs.Step.{Event, sweep, compact, crash, Fate, plain, no_memory, disk_fault, lost, kept, Reply, taken, ended, memory, disk_failed, down, journal_full, compacted, swept, live, step}
+use Rattle.replay_spec.specs.Samples.{name, script, rules, opened, counted, Answers, at, link_to, get, nothing, says, link, hotel}
+
+-- in these rows the body of a tick's record has 9 bytes, and each other one 50
+abbrev body_of : Change → ℕ
+body_of (sweeps tick) = 9
+body_of _ = 50
+
+-- rules of a journal whose file is so long with its first setup alone, and 40 bytes of body longer by each other one
+abbrev sized : (head : ℕ) → Rules
+sized head = record rules { journal = Some (record { begun = λ ss. head; renewed = λ ss. 40; length_of = λ b c. body_of c }) }
+
+-- a script of two questions and an end
+abbrev twice : Named
+twice = script [] [] (link (codes "1") ∷ link (codes "2") ∷ says (codes "7") ∷ [])
+
+abbrev through : List (Event × Fate)
+through = get (start name) nothing 0 ++ get (at 0 0 0) nothing 1 ++ get (at 0 1 1) nothing 2
+
+abbrev went : List Reply
+went = taken 0 0 ∷ link_to (codes "1") 0 0 ∷ taken 1 1 ∷ link_to (codes "2") 0 1 ∷ taken 2 2 ∷ ended (codes "7") ∷ []
+
+-- of an instance that was freed a compaction leaves the next number alone: 14 bytes between the first record and the last sweep
+pub freed_and_compacted :
+    Answers (opened (sized 302) twice)
+    (through ++ (sweep 4000, plain) ∷ (compact, plain) ∷ (crash (twice ∷ []), lost) ∷ get (start name) nothing 3)
+    (went ++ swept 1 ∷ compacted 330 ∷ live 0 ∷ taken 3 3 ∷ link_to (codes "1") 3 3 ∷ [])
+unfolding step
+freed_and_compacted = refl
+
+-- the records of an instance that stands stay, and of sweeps that stand together the last one does
+abbrev live_on : List (Event × Fate)
+live_on = (sweep 5, plain) ∷ (sweep 6, plain) ∷ get (start name) nothing 0 ++ (sweep 7, plain) ∷ (sweep 8, plain) ∷ get (at 0 0 0) nothing 1
+
+abbrev lived : Book
+lived = (after counted live_on (opened (sized 100) twice)).book
+
+pub length_before : lived.length ≡ 100 + 4 * 14 + 2 * 55
+unfolding step
+length_before = refl
+
+pub length_behind : file_length (compaction lived) ≡ 100 + 14 + 2 * 14 + 2 * 55
+unfolding step
+length_behind = refl
+
+pub file_makes_the_book : (made_of_file 0 lived.file).book ≡ reopened lived
+unfolding step
+file_makes_the_book = refl
+
+pub compaction_makes_the_book : (made_of_file 0 (compaction lived)).book ≡ record (reopened lived) { length = 252; file = compaction lived }
+unfolding step
+compaction_makes_the_book = refl
+
+-- where the disk fails in a compaction the shelf is down until the crash, which takes the new length or the old one
+abbrev doubted : Fate → List (Event × Fate)
+doubted fate = live_on ++ (compact, disk_fault 1) ∷ (compact, plain) ∷ (crash (twice ∷ []), fate) ∷ []
+
+pub compaction_kept : (after counted (doubted kept) (opened (sized 100) twice)).book.length ≡ 252
+unfolding step
+compaction_kept = refl
+
+pub compaction_lost : (after counted (doubted lost) (opened (sized 100) twice)).book.length ≡ 266
+unfolding step
+compaction_lost = refl
+
+pub down_while_in_doubt :
+    Answers (opened (sized 100) twice) ((compact, disk_fault 1) ∷ (compact, plain) ∷ (compact, no_memory) ∷ (crash (twice ∷ []), lost) ∷ (compact, plain) ∷ [])
+    (disk_failed 1 ∷ down 1 ∷ memory ∷ live 0 ∷ compacted 114 ∷ [])
+unfolding step
+down_while_in_doubt = refl
+
+-- a compaction of which the file would be too long is refused, also where the disk would fail
+pub too_long_a_file : Answers (opened (sized (2 ^ 30 - 13)) twice) ((compact, plain) ∷ (compact, disk_fault 1) ∷ []) (journal_full 1073741825 ∷ journal_full 1073741825 ∷ [])
+unfolding step
+too_long_a_file = refl
+
+-- A record tells a setup with another text, and none tells one that is the same. An instance goes on with its own script, also where the
+-- file is compacted and read again.
+abbrev renewed : Named
+renewed = record (script [] [] (says (codes "v2") ∷ [])) { text = codes "v2" }
+
+abbrev edited : List (Event × Fate)
+edited = get (start name) nothing 0 ++ get (at 0 0 0) (text (codes "A")) 1 ++ (crash (renewed ∷ []), lost) ∷ (crash (renewed ∷ []), lost) ∷ get (start name) nothing 2 ++ get (at 0 1 1) nothing 3
+
+pub edited_answers :
+    Answers (opened (sized 100) hotel) edited
+    (taken 0 0 ∷ link_to (codes "list") 0 0 ∷ taken 1 1 ∷ link_to (codes "confirm") 0 1 ∷ live 1 ∷ live 1 ∷ taken 2 2 ∷ ended (codes "v2") ∷ taken 3 3 ∷ ended (codes "A") ∷ [])
+unfolding step
+edited_answers = refl
+
+abbrev behind_edits : Book
+behind_edits = (after counted edited (opened (sized 100) hotel)).book
+
+pub edited_length : behind_edits.length ≡ 100 + 3 * 55 + 45
+unfolding step
+edited_length = refl
+
+pub edited_file : (made_of_file 0 behind_edits.file).book ≡ reopened behind_edits
+unfolding step
+edited_file = refl
+
+pub edited_compaction :
+    (made_of_file 0 (compaction behind_edits)).book ≡ record (reopened behind_edits) { length = 324; file = compaction behind_edits }
+unfolding step
+edited_compaction = refl
+
+-- a file that is compacted again is the same
+pub twice_compacted : compaction (record behind_edits { file = compaction behind_edits }) ≡ compaction behind_edits
+unfolding step
+twice_compacted = refl
