@@ -9,23 +9,24 @@ pub enum SyntaxKind {
     /// The parts of a form are not as the table of forms says, or there is no expression behind the definitions.
     #[error("the parts of a form are not as they have to be")]
     Shape,
-    /// A variable has no binding, or there is no cell of this kind and name.
-    #[error("a variable has no binding, or there is no such cell")]
+    /// A variable has no binding, or there is no cell of this kind and name, or no earlier task of this name.
+    #[error("a variable has no binding, or there is no such cell or earlier task")]
     Unbound,
-    /// A name is bound twice in one `let`, a cell is defined twice, or a bound name is that of a form, an operation or a cell.
+    /// A name is bound twice in one `let` or by one task, a cell or a task is defined twice, or a bound name is that of a form, an
+    /// operation, a cell or a task.
     #[error("a name is bound twice, or is one that cannot be bound")]
     Duplicate,
-    /// An operation has too few or too many operands.
-    #[error("an operation has too few or too many operands")]
+    /// An operation or a call of a task has too few or too many operands.
+    #[error("an operation or a call has too few or too many operands")]
     Arity,
-    /// A page body sends a page or enters a transaction.
-    #[error("a page body sends a page or enters a transaction")]
+    /// A page body sends a page, enters a transaction or calls a task.
+    #[error("a page body sends a page, enters a transaction or calls a task")]
     NestedSend,
     /// A page body writes a cell.
     #[error("a page body writes a cell")]
     Effect,
-    /// There are more than 64 cells or 16,384 nodes, or a node nests deeper than 1,024.
-    #[error("there are too many cells or nodes, or a node nests too deep")]
+    /// There are more than 64 cells, 16 tasks, 16 parameters of one, or 16,384 nodes, or a node nests deeper than 1,024.
+    #[error("there are too many cells, tasks, parameters or nodes, or a node nests too deep")]
     TooMany,
     /// The last clause of a `cond` is not `else`.
     #[error("the last clause of a cond is not else")]

@@ -1,5 +1,4 @@
 ghost use Rattle.std.specs.Prelude.{◌≡◌, IfOk, Ok, map, option_map, option_to_list};
-ghost use Rattle.std.specs.Str.{bytes_eq};
 ghost use Rattle.script_value.specs.Val.{text, truth, vals_of};
 ghost use Rattle.script_value.specs.Views.{meaning};
 ghost use Rattle.script_value.specs.declared.outcome.Op.TheVariants as op;

@@ -1,5 +1,5 @@
 -- A setup: scripts with their names and texts.
-use Rattle.std.specs.Prelude.{ℕ, List, Bool, Option, Some, None, option_map, position, slice_get}
+use Rattle.std.specs.Prelude.{ℕ, List, Bool, map, Option, Some, None, option_map, position, slice_get}
 use Rattle.std.specs.Str.{bytes_eq}
 use Rattle.script_value.specs.Val.{Val}
 use Rattle.script_nodes.specs.Core.{Core, Cores, core}
@@ -37,3 +37,16 @@ script_at scripts (Some k) = option_map (λ s. s.script) (slice_get scripts k)
 -- the first script of a name
 abbrev pub script_named : List ℕ → List Named → Option Script
 script_named name scripts = script_at scripts (place_named name scripts)
+
+-- the name and the text of a script
+abbrev pub text_of : Named → List ℕ × List ℕ
+text_of s = (s.name, s.text)
+
+-- the names and the texts of scripts
+abbrev pub texts_of : List Named → List (List ℕ × List ℕ)
+texts_of scripts = map text_of scripts
+
+-- the scripts that a journal told, setup by setup in its order, and those of the present setup, which it told last
+pub record Library : Type 0 where
+  pub all : List Named
+  pub setup : List Named

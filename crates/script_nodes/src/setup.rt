@@ -1,4 +1,4 @@
-ghost use Rattle.std.specs.Prelude.{◌≡◌, ◌++◌, ◌∷◌, [], length, map, option_map, slice_get, position, IfOk, OnOk, OnErr};
+ghost use Rattle.std.specs.Prelude.{◌≡◌, ◌≤◌, ◌++◌, ◌∷◌, [], length, map, drop, option_map, slice_get, position, IfOk, OnOk, OnErr};
 ghost use Rattle.std.specs.Str.{bytes_eq};
 ghost use Rattle.page_names.specs.Views.{name_of};
 
@@ -95,6 +95,26 @@ impl Setup {
     {
         self.scripts.push(script)?;
         Ok(())
+    }
+
+    // Scripts behind the others; without memory for them nothing changes.
+    #[tactic(auto, using(crate::proofs::Places::map_joined))]
+    pub(crate) fn append(&mut self, later: Setup) -> Result<(), AllocError>
+        ensures appended { OnOk result
+            (scripts_of self.new ≡ scripts_of self.old ++ scripts_of later) }
+        ensures kept { OnErr result (scripts_of self.new ≡ scripts_of self.old) }
+    {
+        let Setup { mut scripts } = later;
+        self.scripts.append(&mut scripts)?;
+        Ok(())
+    }
+
+    // The place of the first script of a name among those from a place on, counted from there.
+    pub(crate) fn place_from(&self, first: usize, name: &ScriptName) -> Option<usize>
+        requires { first ≤ length (scripts_of self.now) }
+        ensures { result ≡ place_named (name_of name.now) (drop first (scripts_of self.now)) }
+    {
+        place_of(&self.scripts[first..], name.as_bytes())
     }
 
     /// The place of the first script of a name, from 0.

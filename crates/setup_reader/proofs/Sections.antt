@@ -83,7 +83,7 @@ section_shorter input piece e =
     omega (arith, ap length is.whole, length-append (section_text piece.name piece.text) piece.rest, some_text piece.name piece.text)
 
 -- a name, a text and a tree that make a script
-record Makes (name text : List ℕ) (s : Named) : Type 0 where
+pub record Makes (name text : List ℕ) (s : Named) : Type 0 where
   pub name_is : s.name ≡ name
   pub text_is : s.text ≡ text
   pub data_of : List Val
@@ -97,7 +97,7 @@ forms_made name text vs (Ok c) s spelled e h =
     subst (Makes name text) same (record { name_is = refl; text_is = refl; data_of = vs; spelled = spelled; means = e })
 forms_made name text vs (Err x) s spelled e h = absurd (let no : ⊥ = cc in no)
 
-data_made : (name text : List ℕ) (r : Result (List Val) (ℕ × ReadKind)) (s : Named) → read text ≡ r → by_data name text r ≡ Ok s → Makes name text s
+pub data_made : (name text : List ℕ) (r : Result (List Val) (ℕ × ReadKind)) (s : Named) → read text ≡ r → by_data name text r ≡ Ok s → Makes name text s
 data_made name text (Ok vs) s e h = forms_made name text vs (expanded vs) s (read_spells text vs e) refl h
 data_made name text (Err x) s e h = absurd (let no : ⊥ = cc in no)
 

@@ -14,7 +14,7 @@ use Rattle.setup_reader.specs.Sections.{AreScripts}
 use Rattle.setup_reader.specs.Views.{Gives}
 use Rattle.setup_reader.proofs.Sections.{setup_spelled}
 
-short_name : (name : List ℕ) → is_name name ≡ true → length name ≤ 32
+pub short_name : (name : List ℕ) → is_name name ≡ true → length name ≤ 32
 short_name name is =
     let parts = and_parts (nat_le 1 (length name) && nat_le (length name) 32) (list_all is_name_byte name) is in
     let size = and_parts (nat_le 1 (length name)) (nat_le (length name) 32) parts.0 in

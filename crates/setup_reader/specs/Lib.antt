@@ -1,8 +1,10 @@
 pub mod Limits
 pub mod Setup
+pub mod Texts
 pub mod Sections
 pub mod Standing
 pub mod Faults
 pub mod Views
 pub mod Vectors
+pub mod VectorsOfTexts
 pub mod Answers

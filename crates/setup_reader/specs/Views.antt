@@ -3,6 +3,7 @@ use Rattle.std.specs.Prelude.{◌≡◌, Result, Ok, Err, ⊤, ℕ, List}
 use Rattle.page_names.specs.Views.{name_of}
 use Rattle.script_nodes.specs.Views.{scripts_of, named_of}
 use Rattle.std.specs.Borrow.{Bor}
+use Rattle.script_nodes.specs.declared.library.ScriptText.{ScriptText}
 use Rattle.script_nodes.specs.declared.setup.NamedScript.{NamedScript}
 use Rattle.script_nodes.specs.Setup.{Named}
 use Rattle.setup_reader.specs.declared.fault.SetupError.{SetupError}
@@ -19,6 +20,10 @@ piece_of s = record { name = name_of s.name; text = s.text.now; rest = s.rest.no
 
 abbrev pub parsed_of : Parsed → spec.Parsed
 parsed_of p = record { scripts = scripts_of p.setup; steps = p.steps.now }
+
+-- the name and the text that a journal told
+abbrev pub told_of : ScriptText → List ℕ × List ℕ
+told_of t = (t.name, t.text)
 
 abbrev pub fault_of : SetupError → spec.Fault
 fault_of (error.Setup place kind) = spec.at_section place kind

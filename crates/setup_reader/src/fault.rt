@@ -1,4 +1,4 @@
-ghost use Rattle.std.specs.Prelude.{◌≡◌, IfOk, codes, string_bytes};
+ghost use Rattle.std.specs.Prelude.{◌≡◌, IfOk, string_bytes};
 ghost use Rattle.setup_reader.specs.Faults as spec;
 ghost use Rattle.setup_reader.specs.Views.{fault_of, line_of};
 ghost use Rattle.setup_reader.specs.declared.fault.SetupFault.TheVariants.{Memory};

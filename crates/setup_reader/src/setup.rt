@@ -1,14 +1,14 @@
-ghost use Rattle.std.specs.Prelude.{◌≡◌, ◌≢◌, IsUtf8, ◌≤◌, ◌<◌, ◌^◌, length, option_map, IfOk, Ok, Err, [], ◌+◌};
+ghost use Rattle.std.specs.Prelude.{◌≡◌, ◌≢◌, ◌≤◌, ◌<◌, length, option_map, IfOk, Ok, Err, [], ◌+◌};
 ghost use Rattle.page_names.specs.Views.{name_of};
 ghost use Rattle.script_value.specs.Pieces.{number_below};
 ghost use Rattle.script_nodes.specs.Views.{scripts_of, named_of};
-ghost use Rattle.sexp_reader.specs.Limits.{most_bytes};
 ghost use Rattle.setup_reader.specs.Limits.{AreShort, most_script_bytes, most_scripts};
 ghost use Rattle.setup_reader.specs.Setup as spec;
 ghost use Rattle.setup_reader.specs.Answers.{FindsSpelled, TellsFirst};
 ghost use Rattle.setup_reader.specs.Views.{Gives, FindsNext, Tells, parsed_of};
 ghost use Rattle.setup_reader.specs.Sections.{IsSetup};
 ghost use Rattle.setup_reader.specs.Standing.{HasFault, HasText, IsReadable};
+ghost use Rattle.setup_reader.specs.Texts.{IsReadSetup};
 
 use crate::fault::{SetupError, SetupFault, SetupKind};
 use core_syntax::{ExpandFault, expand};
@@ -100,7 +100,11 @@ impl<'a> Section<'a> {
 }
 
 // The script of this name that a text is.
-fn compile(alloc: Global, name: ScriptName, text: &[u8]) -> Result<NamedScript, SetupFault>
+pub(crate) fn compile(
+    alloc: Global,
+    name: ScriptName,
+    text: &[u8],
+) -> Result<NamedScript, SetupFault>
     ensures value { Gives named_of result (spec.script_in (name_of name) text.now) }
     ensures memory { result ≡ Err SetupFault.Memory → IsReadable text.now }
 {
@@ -209,7 +213,7 @@ impl<'a> Parsed<'a> {
     }
 
     /// The setup that the input spells or begins with, 1 to `MOST_SCRIPTS` sections of scripts and what ends it; or its first fault.
-    #[tactic(auto, using(crate::proofs::Sections::answer_spells, crate::proofs::Sections::answer_found, crate::proofs::Short::answer_few, crate::proofs::Short::answer_short, crate::proofs::Standing::answer_stands, crate::proofs::Standing::answer_told))]
+    #[tactic(auto, using(crate::proofs::Sections::answer_spells, crate::proofs::Sections::answer_found, crate::proofs::Short::answer_few, crate::proofs::Short::answer_short, crate::proofs::Standing::answer_stands, crate::proofs::Standing::answer_told, crate::proofs::Retold::answer_read))]
     pub fn parse(alloc: Global, ending: Ending, input: &'a [u8]) -> Result<Parsed<'a>, SetupFault>
         // The answer is that of reading, unless memory ran out.
         ensures value { Gives parsed_of result (spec.setup_of ending input.now) }
@@ -226,6 +230,8 @@ impl<'a> Parsed<'a> {
         // The scripts are few, and their names and texts are not too long.
         ensures few { IfOk result (λ p. length (scripts_of p.setup) ≤ most_scripts) }
         ensures short { IfOk result (λ p. AreShort (scripts_of p.setup)) }
+        // The setup is what its names and texts are read as, apart from the input.
+        ensures texts { IfOk result (λ p. IsReadSetup (scripts_of p.setup)) }
     {
         Parsed::read(alloc, ending, input)
     }

@@ -1,10 +1,10 @@
-ghost use Rattle.std.specs.Prelude.{◌≡◌, ◌+◌, ◌<◌, ◌≤◌, List, [], length, map, IfOk, OnOk, IsUtf8, Ok, Err};
+ghost use Rattle.std.specs.Prelude.{◌≡◌, ◌+◌, ◌<◌, ◌≤◌, List, length, map, IfOk, OnOk, IsUtf8, Ok, Err};
 ghost use Rattle.script_value.specs.Views.{meaning};
 ghost use Rattle.script_value.specs.Val.{Val};
 ghost use Rattle.sexp_reader.specs.Limits.{most_bytes};
 ghost use Rattle.sexp_reader.specs.Read as spec;
 ghost use Rattle.sexp_reader.specs.Spells.{Spells};
-ghost use Rattle.sexp_reader.specs.Views.{Reads, Becomes, Advances, state_of, level_of, stack_of, with_datum, closed_at, data_at_end, piece_at, innermost_mark, past_mark};
+ghost use Rattle.sexp_reader.specs.Views.{Reads, Becomes, Advances, state_of, stack_of, with_datum, closed_at, data_at_end, piece_at, innermost_mark, past_mark};
 
 use crate::classes::{Class, Delimiter, Mark, class_of, name_of, whole_mark};
 use crate::fault::{ReadFault, ReadKind, fault};

@@ -1,5 +1,5 @@
 -- Pieces of a page, one behind the other.
-use Rattle.std.proofs.Common.{◌≡◌, ◌<◌, ◌≤◌, ◌+◌, ◌-◌, take, ℕ, zero, suc, List, [], ◌∷◌, ◌++◌, map, length, drop, get_or, add-one, true, false, subst, Option, Some, None, option_map, refl, sym, ap, ◌∙◌, append_assoc, arith}
+use Rattle.std.proofs.Common.{◌≡◌, ◌<◌, ◌≤◌, ◌+◌, ◌-◌, take, ℕ, List, [], ◌∷◌, ◌++◌, map, length, drop, get_or, add-one, true, false, subst, Option, Some, None, option_map, refl, sym, ap, ◌∙◌, append_assoc, arith}
 use Rattle.std.proofs.Math.Seq.{drop-cons}
 use Rattle.std.proofs.lemmas.Bool.{cond-true, cond-false}
 use Rattle.std.proofs.lemmas.List.{take_rest}

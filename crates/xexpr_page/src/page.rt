@@ -2,7 +2,7 @@ ghost use Rattle.std.specs.Prelude.{◌≡◌, ◌++◌, List, ℕ, Some, OnOk, 
 ghost use Rattle.script_value.specs.Val.{list};
 ghost use Rattle.script_value.specs.Views.{meaning, meanings};
 ghost use Rattle.page_spec.specs.Page as spec;
-ghost use Rattle.page_spec.specs.Markup.{start_tag, end_tag};
+ghost use Rattle.page_spec.specs.Markup.{end_tag};
 ghost use Rattle.page_spec.specs.Page.{page_of, element_of, children_of};
 ghost use Rattle.xexpr_page.specs.Answers.{Gives, Pushes};
 ghost use Rattle.page_spec.specs.Renders.{Renders};
