@@ -1,7 +1,7 @@
 //! Until when a page can be answered: for the book.
 #![tactic(auto)]
 
-ghost use Rattle.std.specs.Prelude.{◌≡◌, ◌+◌, ◌^◌, ◌<◌, ◌≤◌, nat_le};
+ghost use Rattle.std.specs.Prelude.{◌≡◌, ◌+◌, ◌<◌, ◌≤◌, nat_le};
 ghost use Rattle.std.specs.List.{list_all};
 
 use server_limits::MOST_LIFE;

@@ -1,5 +1,4 @@
-ghost use Rattle.std.specs.Prelude.{◌≡◌, ◌≤◌, ◌<◌, ◌+◌, ◌-◌, ◌^◌, false, length, min, OnOk};
-ghost use Rattle.web_disk.specs.View.{Elapses, IsCall};
+ghost use Rattle.std.specs.Prelude.{◌≡◌, ◌<◌, ◌-◌, false};
 ghost use Rattle.file_disk.specs.Files.{HasRisen, nothing_told};
 ghost use Rattle.file_disk.specs.MemoryFiles.{faults_of, memory_file_view};
 

@@ -1,4 +1,4 @@
-ghost use Rattle.std.specs.Prelude.{◌≡◌, ◌<◌, ◌^◌, [], ℕ, true, Some, IfOk, IsErrOf};
+ghost use Rattle.std.specs.Prelude.{◌≡◌, ◌<◌, [], ℕ, true, Some, IfOk, IsErrOf};
 ghost use Rattle.web_disk.specs.Disks.{memory_view};
 ghost use Rattle.web_disk.specs.Racks.{place_of, is_lent, IsTakenFrom};
 ghost use Rattle.web_disk.specs.declared.memory.MemoryDisk.{MemoryDisk};

@@ -1,4 +1,4 @@
-ghost use Rattle.std.specs.Prelude.{◌≡◌, false};
+ghost use Rattle.std.specs.Prelude.{false};
 ghost use Rattle.file_disk.specs.Files.{nothing_told};
 ghost use Rattle.file_disk.specs.Served.{served_view, no_image, no_moment};
 

@@ -1,5 +1,4 @@
 // The real input and output, which count their own faults.
-ghost use Rattle.std.specs.Prelude.{◌≡◌};
 ghost use Rattle.machine_outside.specs.Sockets.{reading_view, writing_view};
 
 use std::io::{ErrorKind, Read, Write};

@@ -1,5 +1,5 @@
 // Where the bytes of a link stand in its requests.
-ghost use Rattle.std.specs.Prelude.{◌≤◌, List, ℕ, length, IfOk};
+ghost use Rattle.std.specs.Prelude.{◌≤◌, length, IfOk};
 ghost use Rattle.http_forms.specs.Scan.{StandsIn};
 
 use http_forms::{HeadScanner, body_length};

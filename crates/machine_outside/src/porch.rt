@@ -1,5 +1,5 @@
 // Where a worker accepts links.
-ghost use Rattle.std.specs.Prelude.{◌≡◌, ◌≤◌, IfOk};
+ghost use Rattle.std.specs.Prelude.{◌≡◌, ◌≤◌};
 ghost use Rattle.web_outside.specs.Causes.{HasCause};
 
 use crate::line::Patience;

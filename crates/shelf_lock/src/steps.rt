@@ -1,5 +1,5 @@
 //! What a seat does in a turn, and between turns.
-ghost use Rattle.std.specs.Prelude.{◌≡◌, ◌+◌, ◌<◌, ◌≤◌, ◌^◌, [], ◌∷◌, length, MatchResult};
+ghost use Rattle.std.specs.Prelude.{◌≡◌, ◌+◌, ◌<◌, [], ◌∷◌, length, MatchResult};
 ghost use Rattle.shelf_lock.specs.declared.view.Role.TheVariants.{Outside, Inside, Closer, Comparing, Noted};
 ghost use Rattle.shelf_lock.specs.Order.{Of, IsWithin, posed, both, noted, longer, GoesOn};
 ghost use Rattle.shelf_lock.specs.Turns.{IsSized, IsOutside, IsSameSeat, HasEntered, KeepsAll, MayCall, KeepsEach, Turned, FoundWorn};

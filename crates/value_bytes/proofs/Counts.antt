@@ -1,12 +1,12 @@
 -- A list whose count no fewer bytes stand behind is none, where each item has a byte.
-use Rattle.std.proofs.Common.{◌≡◌, ◌∙◌, ap, sym, subst, ℕ, ◌+◌, ◌<◌, ◌≤◌, Bool, true, false, nat_le, if◌then◌else◌, List, [], ◌∷◌, ◌++◌, length, Option, Some, None, refl, arith}
+use Rattle.std.proofs.Common.{◌≡◌, ap, sym, subst, ℕ, ◌<◌, ◌≤◌, Bool, true, false, nat_le, if◌then◌else◌, List, [], ◌∷◌, length, Option, Some, None, refl, arith}
 use Rattle.std.proofs.lemmas.Bool.Decides.{nat_tests}
 use Rattle.std.proofs.lemmas.List.{length-append}
 use Rattle.std.proofs.lemmas.Option.{some_pair_parts}
-use Rattle.std.specs.Prelude.{IfSome, Result, Err}
+use Rattle.std.specs.Prelude.{Result, Err}
 use Rattle.std.specs.List.{flat_map, AllByRecursion}
 use Rattle.script_value.specs.Pieces.{◌>>=◌}
-use Rattle.script_value.specs.Val.{Val, number, truth, text, symbol, list}
+use Rattle.script_value.specs.Val.{number, truth, text, symbol, list}
 use Rattle.wire_bytes.specs.Spelling.{u32_bytes}
 use Rattle.wire_bytes.specs.Reading.{read_u32, counted, read_count}
 use Rattle.value_bytes.specs.Spelling.{value_bytes, HasBytesWithin}

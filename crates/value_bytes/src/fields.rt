@@ -1,6 +1,6 @@
 //! The fields of a format, read one behind the other: each leaves what stands behind it. Behind an `Err` the cursor may stand anywhere.
 
-ghost use Rattle.std.specs.Prelude.{◌≡◌, ◌<◌, ◌^◌, List, option_map, IfErr};
+ghost use Rattle.std.specs.Prelude.{◌≡◌, ◌<◌, IfErr};
 ghost use Rattle.wire_bytes.specs.Reading.{AreBytes, read_u8, read_u32, read_u64, read_bytes, read_count};
 ghost use Rattle.value_bytes.specs.declared.unread.Unread.TheVariants.{Misspelled};
 ghost use Rattle.value_bytes.specs.Reading.{read_i64, read_utf8};

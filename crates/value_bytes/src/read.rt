@@ -1,4 +1,4 @@
-ghost use Rattle.std.specs.Prelude.{◌≡◌, ◌≤◌, List, option_map, IfOk, IfSome, OnErr, Some};
+ghost use Rattle.std.specs.Prelude.{◌≡◌, List, option_map, IfOk, IfSome, OnErr, Some};
 ghost use Rattle.script_value.specs.Views.{meaning};
 ghost use Rattle.wire_bytes.specs.Reading.{value_of};
 ghost use Rattle.value_bytes.specs.Reading as spec;

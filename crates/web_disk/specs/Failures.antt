@@ -1,5 +1,5 @@
 -- How often calls failed for each number.
-use Rattle.std.specs.Prelude.{ℕ, ◌+◌, ◌==◌, if◌then◌else◌, sum_by, Result, Ok, Err}
+use Rattle.std.specs.Prelude.{ℕ, ◌==◌, if◌then◌else◌, sum_by}
 use Rattle.ghost_history.specs.Entries.{entries}
 use Rattle.web_disk.specs.declared.failures.Failure.{Failure}
 use Rattle.web_disk.specs.declared.failures.Failures.{Failures}

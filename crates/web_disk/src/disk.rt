@@ -1,4 +1,4 @@
-ghost use Rattle.std.specs.Prelude.{◌≡◌, ◌⊎◌, ◌+◌, ◌<◌, ◌≤◌, Bool, IsTrue, List, ℕ, length, take, drop, IfOk, OnOk};
+ghost use Rattle.std.specs.Prelude.{◌≡◌, ◌+◌, ◌<◌, ◌≤◌, Bool, IsTrue, List, ℕ, length, take, drop, IfOk, OnOk};
 ghost use Rattle.web_disk.specs.View.{View, Only, Spoils, Cuts, NoNewImage, Holds, Elapses, IsCall};
 
 use std::alloc::AllocError;

@@ -1,6 +1,6 @@
 ghost use Rattle.std.specs.Prelude.{◌≡◌, ◌≤◌, None, Some};
 ghost use Rattle.web_outside.specs.Causes.{Rose};
-ghost use Rattle.web_disk.specs.Fates.{fate_of, Counts};
+ghost use Rattle.web_disk.specs.Fates.{Counts};
 
 /// Which calls fail. They are counted from 0.
 #[derive(Drop)]

@@ -1,6 +1,6 @@
-ghost use Rattle.std.specs.Prelude.{◌≡◌, ◌≢◌, ◌≤◌, ◌+◌, ◌-◌, ◌^◌, Bool, true, false, IsTrue, List, ℕ, min, IfOk, OnOk, OnErr, IsErrOf};
+ghost use Rattle.std.specs.Prelude.{◌≡◌, ◌≢◌, ◌≤◌, ◌+◌, ◌-◌, ◌^◌, Bool, true, false, IsTrue, ℕ, min, IfOk, OnOk, OnErr, IsErrOf};
 ghost use Rattle.web_outside.specs.Causes.{Rose};
-ghost use Rattle.web_disk.specs.View.{View, RackView, AreAmong};
+ghost use Rattle.web_disk.specs.View.{RackView, AreAmong};
 ghost use Rattle.web_disk.specs.Takes.{failed_after};
 ghost use Rattle.web_disk.specs.declared.rack.RackFault.TheVariants.{Failed as RackFailed, Memory as RackMemory};
 

@@ -1,4 +1,4 @@
-ghost use Rattle.std.specs.Prelude.{◌≡◌, ◌≤◌, ◌<◌, ◌+◌, ◌-◌, ◌++◌, [], ◌∷◌, length, IfOk, OnOk, vec_len, vec_capacity};
+ghost use Rattle.std.specs.Prelude.{◌≤◌, ◌<◌, ◌+◌, ◌-◌, length, IfOk, OnOk, vec_len, vec_capacity};
 ghost use Rattle.web_disk.specs.View.{Holds};
 ghost use Rattle.web_disk.specs.Change.{Put, Torn, CutTo, Synced};
 

@@ -1,7 +1,7 @@
-ghost use Rattle.std.specs.Prelude.{◌≡◌, ◌≤◌, ◌+◌, ◌-◌, ◌^◌, ◌++◌, ◌∷◌, [], true, false, Some, IfOk, IfSome, OnOk, is_err, is_none, min, vec_len, vec_capacity};
+ghost use Rattle.std.specs.Prelude.{◌≡◌, ◌≤◌, ◌+◌, ◌-◌, ◌^◌, ◌++◌, ◌∷◌, [], true, false, Some, IfOk, IfSome, is_err, is_none, min, vec_len, vec_capacity};
 ghost use Rattle.std.specs.VecDeque.{deque_len};
-ghost use Rattle.web_outside.specs.Causes.{HasCause, Rose};
-ghost use Rattle.web_outside.specs.Porches.{GivesFirst, GainsLast, given_after, lent_after, lent_count, EndsOnly};
+ghost use Rattle.web_outside.specs.Causes.{HasCause};
+ghost use Rattle.web_outside.specs.Porches.{GivesFirst, given_after, lent_after, lent_count, EndsOnly};
 
 use crate::{CONNECTION_LIMIT, Failed, Porch, TextLink};
 use std::alloc::{AllocError, Global};

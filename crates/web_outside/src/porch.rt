@@ -1,5 +1,5 @@
-ghost use Rattle.std.specs.Prelude.{◌≡◌, ◌≤◌, ℕ, Bool, true, false, List, Option, IfOk, IfSome};
-ghost use Rattle.web_outside.specs.Causes.{HasCause, Rose};
+ghost use Rattle.std.specs.Prelude.{◌≡◌, ◌≤◌, true, false, Option, IfOk, IfSome};
+ghost use Rattle.web_outside.specs.Causes.{HasCause};
 ghost use Rattle.web_outside.specs.View.{PorchView};
 ghost use Rattle.web_outside.specs.Porches.{GivesFirst, GainsLast, given_after, lent_after, EndsOnly};
 

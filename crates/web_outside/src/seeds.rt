@@ -1,4 +1,4 @@
-ghost use Rattle.std.specs.Prelude.{◌≡◌, ◌≤◌, ◌+◌, ◌-◌, ◌^◌, ℕ, List, Option, Some, true, min, replicate, vec_len, IfOk, IfSome, IsErrOf};
+ghost use Rattle.std.specs.Prelude.{◌≡◌, ◌≤◌, ◌+◌, ◌-◌, ◌^◌, true, min, replicate, vec_len, IfOk, IfSome, IsErrOf};
 ghost use Rattle.web_outside.specs.Causes.{Rose};
 ghost use Rattle.web_outside.specs.View.{SeedsView};
 ghost use Rattle.web_outside.specs.declared.seeds.SeedFault.TheVariants.{Failed as SeedFailed, Memory as SeedMemory};

@@ -1,4 +1,4 @@
-ghost use Rattle.std.specs.Prelude.{◌≡◌, ◌<◌, ◌≤◌, ◌+◌, ◌++◌, [], ◌∷◌, ◌↔◌, length, IfSome, IsTrue, None, IsNone, option_map};
+ghost use Rattle.std.specs.Prelude.{◌≡◌, ◌<◌, ◌+◌, ◌++◌, [], ◌∷◌, ◌↔◌, length, IfSome, IsTrue, None, option_map};
 ghost use Rattle.wire_bytes.specs.Spelling.{u32_bytes, u64_bytes, byte_string};
 ghost use Rattle.wire_bytes.specs.Reading.{AreBytes, read_u8, read_u32, read_u64, read_bytes, value_of, rest_of};
 
