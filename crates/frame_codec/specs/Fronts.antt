@@ -1,5 +1,5 @@
 -- Fronts of states: so many of the variables and frames, from the outermost on, and all bindings of web cells.
-use Rattle.std.specs.Prelude.{◌≡◌, ℕ, ◌-◌, min, List, [], take, reverse, Option, Some, Result, Ok, Err}
+use Rattle.std.specs.Prelude.{◌≡◌, ℕ, ◌-◌, min, List, [], take, drop, reverse, Option, Some, Result, Ok, Err}
 use Rattle.script_value.specs.Pieces.{◌>>=◌}
 use Rattle.web_cells.specs.Shadows.{all_bound}
 use Rattle.script_nodes.specs.Arena.{Arena}
@@ -68,7 +68,7 @@ told_behind read most bytes = value_of (read_behind read most bytes)
 -- what the parts of a state's spelling say of a front of it
 abbrev pub read_front : Arena → Need → Parted → Option Suspended
 read_front a n x = do
-  env ← value_of (read_first read_value n.variables x.env)
+  env ← value_of (read_first read_value n.variables (drop 1 x.env))
   frames ← value_of (read_first (read_frame a) n.frames x.frames)
   shadows ← value_of (read_list read_shadow x.shadows)
   Some (record { env = env; frames = reverse frames; shadows = all_bound shadows [] })
@@ -76,7 +76,7 @@ read_front a n x = do
 -- what the parts of a difference's spelling say of a front
 abbrev pub read_delta_front : Arena → Need → Parted → Option Delta
 read_delta_front a n x = do
-  env ← value_of (read_behind read_value n.variables x.env)
+  env ← value_of (read_behind read_value n.variables (drop 1 x.env))
   frames ← value_of (read_behind (read_frame a) n.frames x.frames)
   shadows ← value_of (read_list read_shadow x.shadows)
   Some (record { env_shared = env.0; env = env.1; frames_shared = frames.0; frames = frames.1; shadows = shadows })

@@ -1,12 +1,12 @@
--- The spellings of states and of differences in three parts, of which each can be read without the others.
-use Rattle.std.specs.Prelude.{ℕ, List, ◌++◌, reverse}
+-- States and differences as a record has them, in three parts, of which each can be read without the others.
+use Rattle.std.specs.Prelude.{ℕ, List, ◌∷◌, ◌++◌, reverse}
 use Rattle.machine_states.specs.Machine.{Suspended}
 use Rattle.wire_bytes.specs.Spelling.{u32_bytes}
 use Rattle.value_bytes.specs.Spelling.{values_bytes, list_bytes}
 use Rattle.frame_codec.specs.Spelling.{frame_bytes, shadow_bytes}
 use Rattle.frame_codec.specs.Deltas.{Delta}
 
--- the bytes of the variables, of the frames and of the bindings of web cells
+-- the byte of the form with the bytes of the variables, the bytes of the frames, and those of the bindings of web cells
 pub record Parted : Type 0 where
   pub env : List ℕ
   pub frames : List ℕ
@@ -16,10 +16,10 @@ pub record Parted : Type 0 where
 abbrev pub whole_of : Parted → List ℕ
 whole_of x = x.env ++ (x.frames ++ x.shadows)
 
--- the parts of a state
+-- the parts of a state that is written by itself
 abbrev pub state_parts : Suspended → Parted
 state_parts d = record {
-  env = values_bytes d.env;
+  env = 0 ∷ values_bytes d.env;
   frames = list_bytes frame_bytes (reverse d.frames);
   shadows = list_bytes shadow_bytes d.shadows;
 }
@@ -27,7 +27,7 @@ state_parts d = record {
 -- the parts of a difference: each shared count with what stands behind it, and the bindings
 abbrev pub delta_parts : Delta → Parted
 delta_parts d = record {
-  env = u32_bytes d.env_shared ++ values_bytes d.env;
+  env = 1 ∷ (u32_bytes d.env_shared ++ values_bytes d.env);
   frames = u32_bytes d.frames_shared ++ list_bytes frame_bytes d.frames;
   shadows = list_bytes shadow_bytes d.shadows;
 }

@@ -13,8 +13,9 @@ ghost use Rattle.frame_codec.specs.DeltaViews.{delta_of, parts_of_delta, IsJoine
 use crate::difference::Delta;
 use crate::fit::{frames_fit, shadows_fit};
 use crate::joined::{delta, join};
-use crate::parted::Parted;
+use crate::parted::{BEHIND, Parted};
 use crate::read::{read_frames, read_shadows};
+use crate::shared::behind;
 use crate::spelled::{frames_have_bytes, is_spelled, shadows_have_bytes};
 use crate::write::{write_frames, write_shadows};
 use machine_states::Suspended;
@@ -40,12 +41,13 @@ pub fn is_delta_spelled(delta: &Delta) -> bool
         && shadows_have_bytes(delta.shadows.as_slice())
 }
 
-/// The spelling of a difference that has one, in its parts.
+/// A difference that has a spelling, as a record has it, in its parts.
 pub fn spell_delta(alloc: Global, delta: &Delta) -> Result<Parted, AllocError>
     requires { DeltaHasBytes (delta_of delta.now) }
     ensures { IfOk result (λ parts. parted_of parts ≡ delta_parts (delta_of delta.now)) }
 {
     let mut env = Writer::new(alloc);
+    env.u8(BEHIND)?;
     env.u32(delta.env_shared as u32)?;
     write_values(&mut env, delta.env.as_slice())?;
     let mut frames = Writer::new(alloc);
@@ -62,7 +64,7 @@ pub fn encode_delta(alloc: Global, delta: &Delta) -> Result<Bytes, AllocError>
     requires { DeltaHasBytes (delta_of delta.now) }
     ensures { IfOk result (λ bytes. bytes ≡ delta_bytes (delta_of delta.now)) }
 {
-    Ok(spell_delta(alloc, delta)?.into_bytes())
+    spell_delta(alloc, delta)?.spelling(alloc)
 }
 
 // What a difference is made of, as it stands at the cursor.
@@ -121,8 +123,8 @@ fn has_these_bytes(alloc: Global, delta: &Delta, bytes: &[u8]) -> Result<bool, A
     if !is_delta_spelled(delta) {
         return Ok(false);
     }
-    let spelled = encode_delta(alloc, delta)?;
-    Ok(spelled.as_slice() == bytes)
+    let spelled = spell_delta(alloc, delta)?;
+    Ok(behind(spelled.as_slice(), 1) == bytes)
 }
 
 // The parent's state, which stays, with what differs.

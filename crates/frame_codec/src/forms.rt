@@ -1,4 +1,4 @@
-ghost use Rattle.std.specs.Prelude.{◌≡◌, ◌∷◌, IfOk};
+ghost use Rattle.std.specs.Prelude.{IfOk};
 ghost use Rattle.machine_states.specs.Views.{suspended_of};
 ghost use Rattle.frame_codec.specs.Spelling.{StateHasBytes};
 ghost use Rattle.frame_codec.specs.Stored.{IsStored};
@@ -7,28 +7,13 @@ ghost use Rattle.frame_codec.specs.FormViews.{before_of, IsFormOf, ReadsForm, Re
 
 use crate::delta_bytes::{decode_delta, spell_delta};
 use crate::joined::{delta, join};
+use crate::parted::{ALONE, BEHIND};
 use crate::state::decode;
 use crate::write::spell_state;
 use machine_states::Suspended;
 use script_nodes::Script;
 use script_value::Bytes;
 use std::alloc::{AllocError, Global};
-
-/// The byte before a state that is written by itself.
-pub const ALONE: u8 = 0;
-
-/// The byte before what differs from the state that a state is written behind.
-pub const BEHIND: u8 = 1;
-
-/// A spelling behind the byte of its form.
-pub fn with_form(alloc: Global, form: u8, spelling: &[u8]) -> Result<Bytes, AllocError>
-    ensures { IfOk result (λ bytes. bytes ≡ form ∷ spelling.now) }
-{
-    let mut bytes = Vec::new(alloc);
-    bytes.push(form)?;
-    bytes.extend_from_slice(spelling)?;
-    Ok(Bytes::new(bytes))
-}
 
 /// The bytes of a state that has a spelling: by itself, or behind the state of the page before as what differs from it.
 pub fn encode_form(
@@ -40,10 +25,10 @@ pub fn encode_form(
     ensures { IfOk result (λ bytes. IsFormOf before.entry state.now bytes) }
 {
     match before {
-        None => with_form(alloc, ALONE, spell_state(alloc, state)?.as_slice()),
+        None => Ok(spell_state(alloc, state)?.into_bytes()),
         Some(parent) => {
             let delta = delta(alloc, parent, state)?;
-            with_form(alloc, BEHIND, spell_delta(alloc, &delta)?.as_slice())
+            Ok(spell_delta(alloc, &delta)?.into_bytes())
         }
     }
 }

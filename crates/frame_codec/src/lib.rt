@@ -7,6 +7,7 @@ ghost use Rattle.frame_codec.specs.Difference.{DifferencesAreComputed, Differenc
 ghost use Rattle.frame_codec.specs.Forms.{FormsAreExact};
 ghost use Rattle.frame_codec.specs.Fronts.{AreFrontsRead, FrontsJoin};
 
+mod cut;
 mod delta_bytes;
 mod difference;
 mod fit;
@@ -24,11 +25,11 @@ mod write;
 
 pub use delta_bytes::{decode_delta, encode_delta, is_delta_spelled, is_stored, spell_delta};
 pub use difference::Delta;
-pub use forms::{ALONE, BEHIND, decode_form, encode_form, with_form};
+pub use forms::{decode_form, encode_form};
 pub use front_bytes::{read_delta_front, read_front};
 pub use joined::{copied_front, delta, join};
 pub use need::Need;
-pub use parted::Parted;
+pub use parted::{ALONE, BEHIND, Parted};
 pub use size::length;
 pub use spelled::is_spelled;
 pub use state::decode;

@@ -1,13 +1,19 @@
-ghost use Rattle.std.specs.Prelude.{◌≡◌, IfOk, take};
+ghost use Rattle.std.specs.Prelude.{◌≡◌, IfOk, take, drop};
 ghost use Rattle.frame_codec.specs.Parted.{whole_of};
-ghost use Rattle.frame_codec.specs.PartedViews.{parted_of, IsMadeOf};
+ghost use Rattle.frame_codec.specs.PartedViews.{parted_of, cut, IsMadeOf};
 
 use crate::shared::{behind, front};
 use script_value::Bytes;
 use std::alloc::{AllocError, Global};
 
-/// A spelling of a state or of a difference, each part of which can be read without the others: the variables, the frames and the
-/// bindings of web cells.
+/// The byte before a state that is written by itself.
+pub const ALONE: u8 = 0;
+
+/// The byte before what differs from the state that a state is written behind.
+pub const BEHIND: u8 = 1;
+
+/// A state or a difference as a record has it: the byte of its form, and its spelling, each part of which can be read without the
+/// others: the variables, the frames and the bindings of web cells.
 #[derive(Drop)]
 pub struct Parted {
     bytes: Bytes,
@@ -17,7 +23,7 @@ pub struct Parted {
 }
 
 impl Parted {
-    /// These parts, in no more memory than they take.
+    /// These parts, the first with the byte of the form, in no more memory than they take.
     pub fn of(env: Bytes, frames: &Bytes, shadows: &Bytes) -> Result<Parted, AllocError>
         ensures { IfOk result (IsMadeOf env frames.now shadows.now) }
     {
@@ -34,18 +40,38 @@ impl Parted {
         })
     }
 
-    /// All of the spelling.
+    /// Bytes that were read, whose frames begin at the first of these places, and whose bindings do at the second.
+    pub fn cut(bytes: Bytes, frames_at: usize, shadows_at: usize) -> Parted
+        ensures { parted_of result ≡ cut bytes frames_at shadows_at }
+    {
+        Parted {
+            bytes,
+            frames_at,
+            shadows_at,
+        }
+    }
+
+    /// The byte of the form, and all of the spelling.
     pub fn as_slice(&self) -> &[u8]
         ensures { result.now ≡ whole_of (parted_of self.now) }
     {
         self.bytes.as_slice()
     }
 
-    /// All of the spelling, which it keeps.
+    /// The byte of the form, and all of the spelling, which it keeps.
     pub fn into_bytes(self) -> Bytes
         ensures { result ≡ whole_of (parted_of self) }
     {
         self.bytes
+    }
+
+    /// A copy of the spelling, without the byte of the form.
+    pub fn spelling(&self, alloc: Global) -> Result<Bytes, AllocError>
+        ensures { IfOk result (λ bytes. bytes ≡ drop 1 (whole_of (parted_of self.now))) }
+    {
+        let mut bytes = Vec::new(alloc);
+        bytes.extend_from_slice(behind(self.as_slice(), 1))?;
+        Ok(Bytes::new(bytes))
     }
 
     // What stands before the bindings.
@@ -57,9 +83,9 @@ impl Parted {
 
     /// The bytes of the variables.
     pub fn env(&self) -> &[u8]
-        ensures { result.now ≡ (parted_of self.now).env }
+        ensures { result.now ≡ drop 1 (parted_of self.now).env }
     {
-        front(self.head(), self.frames_at)
+        behind(front(self.head(), self.frames_at), 1)
     }
 
     /// The bytes of the frames.

@@ -45,8 +45,9 @@ fn frame_length(frame: &Frame) -> u64
     }
 }
 
+/// How long the spellings of frames are, one behind the other; one above 2^63 as 2^63. It takes no memory.
 #[tactic(auto, using(crate::proofs::Lengths::frames_more))]
-fn frames_length(frames: &[Frame]) -> u64
+pub fn frames_length(frames: &[Frame]) -> u64
     ensures { result ≡ min (length (flat_map frame_bytes (map frame_of frames.now))) (2 ^ 63) }
 {
     let mut sum: u64 = 0;

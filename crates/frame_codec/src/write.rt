@@ -11,7 +11,7 @@ ghost use Rattle.frame_codec.specs.Parted.{state_parts};
 ghost use Rattle.frame_codec.specs.PartedViews.{parted_of};
 ghost use Rattle.frame_codec.specs.Views.{let_with, call_with, each_frame, frames_bytes, each_shadow, shadows_bytes};
 
-use crate::parted::Parted;
+use crate::parted::{ALONE, Parted};
 use machine_states::{Frame, Suspended};
 use script_value::{Bytes, Items, TxName, Value};
 use std::alloc::{AllocError, Global};
@@ -185,12 +185,13 @@ pub fn write_shadows(writer: &mut Writer, shadows: &[Shadow]) -> Result<(), Allo
     write_each_shadow(writer, shadows)
 }
 
-/// The spelling of a state that has one, in its parts.
+/// A state that has a spelling, as a record has it that is written by itself, in its parts.
 pub fn spell_state(alloc: Global, state: &Suspended) -> Result<Parted, AllocError>
     requires { StateHasBytes (suspended_of state.now) }
     ensures { IfOk result (λ parts. parted_of parts ≡ state_parts (suspended_of state.now)) }
 {
     let mut env = Writer::new(alloc);
+    env.u8(ALONE)?;
     write_values(&mut env, state.env.as_slice())?;
     let mut frames = Writer::new(alloc);
     write_frames(&mut frames, state.frames.as_slice())?;
@@ -204,5 +205,5 @@ pub fn encode(alloc: Global, state: &Suspended) -> Result<Bytes, AllocError>
     requires { StateHasBytes (suspended_of state.now) }
     ensures { IfOk result (λ bytes. bytes ≡ state_bytes (suspended_of state.now)) }
 {
-    Ok(spell_state(alloc, state)?.into_bytes())
+    spell_state(alloc, state)?.spelling(alloc)
 }

@@ -1,10 +1,7 @@
 -- What is written or read piece by piece.
-use Rattle.std.proofs.Common.{◌≡◌, ℕ, zero, suc, ◌+◌, ◌-◌, ◌<◌, Bool, true, false, List, [], ◌∷◌, ◌++◌, length, map, take, drop, get_or, Option, Some, None, refl, sym, ap, subst, ◌∙◌, append_assoc, arith}
+use Rattle.std.proofs.Common.{◌≡◌, ℕ, zero, suc, ◌+◌, ◌-◌, ◌<◌, Bool, true, false, List, [], ◌∷◌, ◌++◌, length, map, drop, get_or, Option, Some, None, refl, sym, ap, subst, ◌∙◌, append_assoc, arith}
 use Rattle.std.specs.Prelude.{slice_get, Result, Ok, Err, OnOk}
 use Rattle.std.specs.List.{flat_map, AllByRecursion}
-use Rattle.std.specs.List.{take-map}
-use Rattle.std.proofs.lemmas.List.{map_more, take_more}
-use Rattle.std.proofs.lemmas.Option.{get_or_from_slice_get, slice_get_within}
 use Rattle.std.proofs.lemmas.Grind.{common_steps}
 use Rattle.script_value.specs.Val.{Val, list, vals_of}
 use Rattle.script_nodes.specs.Setup.{Named}
@@ -67,6 +64,13 @@ text_there scripts i s e =
     let next : suc i ≡ i + 1 = omega arith in
     text_here scripts i s (sym e) ∙ ap (λ (k : ℕ). (s.name, s.text) ∷ drop k (texts_of scripts)) next
 
+pub text_at : (scripts : List Named) (i : ℕ) (s : Named) → Some s ≡ slice_get scripts i → slice_get (texts_of scripts) i ≡ Some (s.name, s.text)
+text_at [] i s e = absurd cc
+text_at (n ∷ scripts) zero s e =
+    let same : n ≡ s = cc in
+    ap (λ (m : Named). Some (m.name, m.text)) same
+text_at (n ∷ scripts) (suc i) s e = text_at scripts i s e
+
 pub none_past : {X : Type 0} (xs : List X) (i : ℕ) → None ≡ slice_get xs i → i < length xs → ⊥
 none_past [] i e h = omega arith
 none_past (x ∷ xs) zero e h = cc
@@ -75,16 +79,6 @@ none_past (x ∷ xs) (suc i) e h = none_past xs i e (omega arith)
 pub on_ok : {T E : Type 0} (r : Result T E) (P Q : Type 0) → OnOk r P → (P → Q) → OnOk r Q
 on_ok (Ok x) P Q p f = f p
 on_ok (Err x) P Q p f = tt
-
-pub one_more_text : {A B : Type 0} (view : A → B) (xs : List A) (ys : List B) (i : ℕ) (d : A) → i < length xs → d ≡ get_or xs i d
-    → slice_get ys i ≡ Some (view d) → take i (map view xs) ≡ take i ys → take (i + 1) (map view xs) ≡ take (i + 1) ys
-one_more_text view xs ys i d h e s t =
-    let here = get_or_from_slice_get ys i (view d) (view d) s in
-    let more = take_more ys i (view d) (slice_get_within ys i (view d) s) in
-    let front = map_more view xs i d h in
-    let swapped = take-map view (i + 1) xs in
-    let before = take-map view i xs in
-    cc
 
 -- ---- the empty list
 

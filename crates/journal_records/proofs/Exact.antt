@@ -1,5 +1,5 @@
 -- Records are spelled exactly.
-use Rattle.std.proofs.Common.{◌≡◌, ℕ, ◌<◌, ◌^◌, ◌==◌, true, List, [], ◌∷◌, ◌++◌, length, Option, Some, None, if◌then◌else◌, refl, sym, ap, subst, ◌∙◌, arith, inl, inr, lit≤}
+use Rattle.std.proofs.Common.{◌≡◌, ℕ, ◌+◌, ◌<◌, ◌^◌, ◌==◌, true, List, [], ◌∷◌, ◌++◌, length, Option, Some, None, if◌then◌else◌, refl, sym, ap, subst, ◌∙◌, arith, inl, inr, lit≤}
 use Rattle.std.proofs.lemmas.Bool.Decides.{nat_tests}
 use Rattle.std.proofs.lemmas.List.{append-nil}
 use Rattle.std.proofs.lemmas.Option.{cond_some, some_pair_parts, none-some}
@@ -18,14 +18,14 @@ use Rattle.value_bytes.specs.Laws.{AreBytes, Spells, IsExact}
 use Rattle.value_bytes.proofs.Numbers.{bind_some, seen_some, rest_are_bytes, u32_exact, u64_exact, i64_exact, string_exact}
 use Rattle.value_bytes.proofs.Trees.{value_exact, chosen}
 use Rattle.journal_records.specs.Fields.{name_bytes, NameFits, effect_bytes, EffectFits, send_byte, Origin, start, answered, nothing, origin_bytes, OriginFits, numbers_end, deadlines_end}
-use Rattle.journal_records.specs.Records.{Record, begins, changes, page_bytes, PageFits, ending_bytes, EndingFits, finish_bytes, FinishFits, change_bytes, ChangeFits, body_of, IsInGrammar}
+use Rattle.journal_records.specs.Records.{Record, begins, changes, renews, draws, page_bytes, PageFits, ending_bytes, EndingFits, finish_bytes, FinishFits, change_bytes, ChangeFits, body_of, IsInGrammar}
 use Rattle.journal_records.specs.Reading.{name_from, read_name, read_effect_of, read_effect, send_of, read_send, is_nothing, read_nothing, start_from, answered_from, read_origin_of, read_origin, page_from, read_page, ending_from, read_ending, finish_from, read_finish, begins_from, read_begins, page_change, change_from, read_kind, read_front, alone, read_record}
 use Rattle.journal_records.specs.Laws.{IsBodyOf}
 use Rattle.journal_records.proofs.Codec.{Codec, both, listed, IsSeen, seen_exact, byte_codec, below_codec}
 
 -- ---- numbers, values and names
 
-abbrev number_codec : Codec ℕ
+abbrev pub number_codec : Codec ℕ
 number_codec = below_codec numbers_end (lit≤ tt)
 
 abbrev deadline_codec : Codec ℕ
@@ -243,17 +243,17 @@ origin_codec = record {
 
 -- ---- the fields of each record
 
-abbrev page_parts : Codec (ℕ × (ℕ × (Origin × (List Effect × (List TxName × (SendKind × (ℕ × List ℕ)))))))
-page_parts = both number_codec (both long_codec (both origin_codec (both (listed effect_codec) (both (listed name_codec) (both send_codec (both deadline_codec string_codec))))))
+abbrev page_parts : Codec (ℕ × (ℕ × (Origin × (List Effect × (List TxName × (SendKind × (ℕ × (List ℕ × List ℕ))))))))
+page_parts = both number_codec (both long_codec (both origin_codec (both (listed effect_codec) (both (listed name_codec) (both send_codec (both deadline_codec (both (listed number_codec) string_codec)))))))
 
 page_seen : IsSeen page_parts page_from page_bytes PageFits
 page_seen = record {
-  from = λ p. (p.ticket, (p.nonce, (p.origin, (p.effects, (p.left, (p.kind, (p.deadline, p.state)))))));
+  from = λ p. (p.ticket, (p.nonce, (p.origin, (p.effects, (p.left, (p.kind, (p.deadline, (p.evicted, p.state))))))));
   there = λ x. refl;
   here = λ p. refl;
   bytes = λ p. refl;
-  fit = λ p f. (f.ticket, (f.nonce, (f.origin, (f.effects, (f.left, (tt, (f.deadline, f.state)))))));
-  fitted = λ x f. record { ticket = f.0; nonce = f.1.0; origin = f.1.1.0; effects = f.1.1.1.0; left = f.1.1.1.1.0; deadline = f.1.1.1.1.1.1.0; state = f.1.1.1.1.1.1.1 };
+  fit = λ p f. (f.ticket, (f.nonce, (f.origin, (f.effects, (f.left, (tt, (f.deadline, (f.evicted, f.state))))))));
+  fitted = λ x f. record { ticket = f.0; nonce = f.1.0; origin = f.1.1.0; effects = f.1.1.1.0; left = f.1.1.1.1.0; deadline = f.1.1.1.1.1.1.0; evicted = f.1.1.1.1.1.1.1.0; state = f.1.1.1.1.1.1.1.1 };
 }
 
 page_exact : IsExact page_bytes PageFits read_page
@@ -300,25 +300,33 @@ finish_seen = record {
 finish_exact : IsExact finish_bytes FinishFits read_finish
 finish_exact = seen_exact finish_parts finish_from finish_bytes FinishFits finish_seen
 
+abbrev renews_parts : Codec (List (List ℕ × List ℕ))
+renews_parts = listed (both string_codec string_codec)
+
+abbrev drawn_codec : Codec ℕ
+drawn_codec = below_codec (numbers_end + 1) (lit≤ tt)
+
 abbrev begins_parts : Codec (ℕ × List (List ℕ × List ℕ))
 begins_parts = both short_codec (listed (both string_codec string_codec))
 
 -- ---- a record
 
-page_body : (ticket nonce : ℕ) (o : Origin) (effects : List Effect) (left : List TxName) (kind : SendKind) (deadline : ℕ) (state : List ℕ)
-    → change_bytes (change_from ticket nonce o effects left kind deadline) state
-    ≡ 2 ∷ page_bytes (record { ticket = ticket; nonce = nonce; origin = o; effects = effects; left = left; kind = kind; deadline = deadline; state = state })
-page_body ticket nonce (start script) effects left kind deadline state = refl
-page_body ticket nonce (answered instance page answer) effects left kind deadline state = refl
+page_body : (ticket nonce : ℕ) (o : Origin) (effects : List Effect) (left : List TxName) (kind : SendKind) (deadline : ℕ) (evicted state : List ℕ)
+    → change_bytes (change_from ticket nonce o effects left kind deadline evicted) state
+    ≡ 2 ∷ page_bytes (record { ticket = ticket; nonce = nonce; origin = o; effects = effects; left = left; kind = kind; deadline = deadline; evicted = evicted; state = state })
+page_body ticket nonce (start script) effects left kind deadline evicted state = refl
+page_body ticket nonce (answered instance page answer) effects left kind deadline evicted state = refl
 
-page_fits : (ticket nonce : ℕ) (o : Origin) (effects : List Effect) (left : List TxName) (kind : SendKind) (deadline : ℕ) (state : List ℕ)
-    → PageFits (record { ticket = ticket; nonce = nonce; origin = o; effects = effects; left = left; kind = kind; deadline = deadline; state = state })
-    → ChangeFits (change_from ticket nonce o effects left kind deadline) (Some state)
-page_fits ticket nonce (start script) effects left kind deadline state fits = fits
-page_fits ticket nonce (answered instance page answer) effects left kind deadline state fits = fits
+page_fits : (ticket nonce : ℕ) (o : Origin) (effects : List Effect) (left : List TxName) (kind : SendKind) (deadline : ℕ) (evicted state : List ℕ)
+    → PageFits (record { ticket = ticket; nonce = nonce; origin = o; effects = effects; left = left; kind = kind; deadline = deadline; evicted = evicted; state = state })
+    → ChangeFits (change_from ticket nonce o effects left kind deadline evicted) (Some state)
+page_fits ticket nonce (start script) effects left kind deadline evicted state fits = fits
+page_fits ticket nonce (answered instance page answer) effects left kind deadline evicted state fits = fits
 
 front_back : (r : Record) (rest : List ℕ) → IsInGrammar r → read_front (body_of r ++ rest) ≡ Some (r, rest)
 front_back (begins shelf scripts) rest fits = ap (seen_as begins_from) (begins_parts.law.back (shelf, scripts) rest fits)
+front_back (renews scripts) rest fits = ap (seen_as (λ s. renews s)) (renews_parts.law.back scripts rest fits)
+front_back (draws n) rest fits = ap (seen_as (λ n. draws n)) (drawn_codec.law.back n rest fits)
 front_back (changes (opens o) None) rest fits = absurd fits
 front_back (changes (opens o) (Some s)) rest fits = ap (seen_as (λ p. changes (page_change p) (Some p.state))) (page_exact.back _ rest fits)
 front_back (changes (extends e) None) rest fits = absurd fits
@@ -346,8 +354,8 @@ page_spells kind bytes r rest small k h =
     let p = s.0 in
     let x = page_exact.exact bytes p rest small s.1 in
     subst (λ q. Body (kind ∷ bytes) q rest) s.2 (record {
-      whole = (λ i. k i ∷ x.whole i) ∙ ap (λ (b : List ℕ). b ++ rest) (sym (page_body p.ticket p.nonce p.origin p.effects p.left p.kind p.deadline p.state));
-      fit = page_fits p.ticket p.nonce p.origin p.effects p.left p.kind p.deadline p.state x.fit;
+      whole = (λ i. k i ∷ x.whole i) ∙ ap (λ (b : List ℕ). b ++ rest) (sym (page_body p.ticket p.nonce p.origin p.effects p.left p.kind p.deadline p.evicted p.state));
+      fit = page_fits p.ticket p.nonce p.origin p.effects p.left p.kind p.deadline p.evicted p.state x.fit;
     })
 
 ending_spells : (kind : ℕ) (bytes : List ℕ) (r : Record) (rest : List ℕ) → AreBytes bytes → kind ≡ 3 → seen_as (λ e. changes (ends e) None) (read_ending bytes) ≡ Some (r, rest)
@@ -371,6 +379,18 @@ sweep_spells kind bytes r rest small k h =
     let x = number_codec.law.exact bytes s.0 rest small s.1 in
     subst (λ q. Body (kind ∷ bytes) q rest) s.2 (record { whole = λ i. k i ∷ x.whole i; fit = x.fit })
 
+renews_spells : (kind : ℕ) (bytes : List ℕ) (r : Record) (rest : List ℕ) → AreBytes bytes → kind ≡ 6 → seen_as (λ s. renews s) (renews_parts.read bytes) ≡ Some (r, rest) → Body (kind ∷ bytes) r rest
+renews_spells kind bytes r rest small k h =
+    let s = seen_some (λ s. renews s) (renews_parts.read bytes) r rest h in
+    let x = renews_parts.law.exact bytes s.0 rest small s.1 in
+    subst (λ q. Body (kind ∷ bytes) q rest) s.2 (record { whole = λ i. k i ∷ x.whole i; fit = x.fit })
+
+draws_spells : (kind : ℕ) (bytes : List ℕ) (r : Record) (rest : List ℕ) → AreBytes bytes → kind ≡ 7 → seen_as (λ n. draws n) (drawn_codec.read bytes) ≡ Some (r, rest) → Body (kind ∷ bytes) r rest
+draws_spells kind bytes r rest small k h =
+    let s = seen_some (λ n. draws n) (drawn_codec.read bytes) r rest h in
+    let x = drawn_codec.law.exact bytes s.0 rest small s.1 in
+    subst (λ q. Body (kind ∷ bytes) q rest) s.2 (record { whole = λ i. k i ∷ x.whole i; fit = x.fit })
+
 kind_spells : (kind : ℕ) (bytes : List ℕ) (r : Record) (rest : List ℕ) → AreBytes bytes → read_kind kind bytes ≡ Some (r, rest) → Body (kind ∷ bytes) r rest
 kind_spells kind bytes r rest small h =
     elim (chosen (kind == 1) _ _ _ h) [
@@ -383,7 +403,13 @@ kind_spells kind bytes r rest small h =
             | inl t ↦ finish_spells kind bytes r rest small (grind (arith, nat_tests, t.0)) t.1
             | inr n ↦ elim (chosen (kind == 5) _ _ _ n.1) [
               | inl t ↦ sweep_spells kind bytes r rest small (grind (arith, nat_tests, t.0)) t.1
-              | inr n ↦ absurd (none-some (r, rest) n.1)
+              | inr n ↦ elim (chosen (kind == 6) _ _ _ n.1) [
+                | inl t ↦ renews_spells kind bytes r rest small (grind (arith, nat_tests, t.0)) t.1
+                | inr n ↦ elim (chosen (kind == 7) _ _ _ n.1) [
+                  | inl t ↦ draws_spells kind bytes r rest small (grind (arith, nat_tests, t.0)) t.1
+                  | inr n ↦ absurd (none-some (r, rest) n.1)
+                ]
+              ]
             ]
           ]
         ]

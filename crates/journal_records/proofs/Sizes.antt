@@ -1,27 +1,29 @@
 -- How long bodies are.
-use Rattle.std.proofs.Common.{◌≡◌, ℕ, ◌+◌, ◌*◌, ◌<◌, List, [], ◌∷◌, ◌++◌, length, map, take, get_or, refl, arith, length-append}
+use Rattle.std.proofs.Common.{◌≡◌, ℕ, zero, suc, ◌+◌, ◌*◌, ◌<◌, List, [], ◌∷◌, ◌++◌, length, map, take, get_or, min, ◌^◌, refl, ap, ◌∙◌, arith, length-append}
 use Rattle.std.specs.List.{flat_map}
 use Rattle.std.proofs.lemmas.List.{map_more}
 use Rattle.script_value.specs.declared.outcome.TxName.{TxName}
+use Rattle.script_nodes.specs.Setup.{Named}
 use Rattle.instance_cells.specs.Views.{effect_of}
 use Rattle.instance_cells.specs.declared.effect.Effect.{Effect}
 use Rattle.replay_spec.specs.Book.{Ending, Finish}
 use Rattle.wire_bytes.specs.Spelling.{u64_bytes, byte_string}
 use Rattle.value_bytes.specs.Spelling.{value_bytes, list_bytes}
 use Rattle.journal_records.specs.Fields.{name_bytes, effect_bytes, script_bytes, origin_bytes, send_byte}
-use Rattle.journal_records.specs.Records.{Page, effects_bytes, names_bytes, page_bytes, ending_bytes, finish_bytes}
-use Rattle.journal_records.specs.Views.{script_of}
-use Rattle.journal_records.specs.declared.logged.LoggedScript.{LoggedScript}
+use Rattle.journal_records.specs.Records.{IsTextLength, text_of, texts_of, Page, effects_bytes, names_bytes, page_bytes, ending_bytes, finish_bytes}
 
 pub page_length : (p : Page)
     → length (page_bytes p)
-    ≡ 25 + length (origin_bytes p.origin) + length (effects_bytes p.effects) + length (names_bytes p.left) + length (byte_string p.state)
+    ≡ 25 + length (origin_bytes p.origin) + length (effects_bytes p.effects) + length (names_bytes p.left) + length (list_bytes u64_bytes p.evicted)
+    + length (byte_string p.state)
 page_length p =
-    let tail = u64_bytes p.deadline ++ byte_string p.state in
+    let last = list_bytes u64_bytes p.evicted ++ byte_string p.state in
+    let tail = u64_bytes p.deadline ++ last in
     let left = names_bytes p.left ++ send_byte p.kind ∷ tail in
     omega (
       arith,
-      length-append (u64_bytes p.deadline) (byte_string p.state),
+      length-append (list_bytes u64_bytes p.evicted) (byte_string p.state),
+      length-append (u64_bytes p.deadline) last,
       length-append (origin_bytes p.origin) (effects_bytes p.effects ++ left),
       length-append (effects_bytes p.effects) left,
       length-append (names_bytes p.left) (send_byte p.kind ∷ tail),
@@ -62,6 +64,25 @@ pub effects_more : (xs : List Effect) (i : ℕ) (d : Effect) → i < length xs
     → length (effects_bytes (map effect_of (take (i + 1) xs))) ≡ length (effects_bytes (map effect_of (take i xs))) + length (effect_bytes (effect_of (get_or xs i d)))
 effects_more xs i d h = omega (arith, each_more effect_bytes effect_of xs i d h)
 
-pub scripts_more : (xs : List LoggedScript) (i : ℕ) (d : LoggedScript) → i < length xs
-    → length (list_bytes script_bytes (map script_of (take (i + 1) xs))) ≡ length (list_bytes script_bytes (map script_of (take i xs))) + length (script_bytes (script_of (get_or xs i d)))
-scripts_more xs i d h = omega (arith, each_more script_bytes script_of xs i d h)
+each_number : (ns : List ℕ) → length (flat_map u64_bytes ns) ≡ 8 * length ns
+each_number [] = refl
+each_number (n ∷ ns) = omega (arith, each_number ns)
+
+pub numbers_length : (ns : List ℕ) → length (list_bytes u64_bytes ns) ≡ 4 + 8 * length ns
+numbers_length ns = omega (arith, each_number ns)
+
+-- one more script of a setup is counted
+pub text_more : (scripts : List Named) (i n k : ℕ) → i < length scripts → IsTextLength scripts i n
+    → min (min (k + length (flat_map script_bytes (take i (texts_of scripts)))) (2 ^ 63) + n) (2 ^ 63)
+    ≡ min (k + length (flat_map script_bytes (take (i + 1) (texts_of scripts)))) (2 ^ 63)
+text_more [] i n k h e = omega arith
+text_more (s ∷ scripts) zero n k h e = omega (arith, e, length-append (script_bytes (text_of s)) [])
+text_more (s ∷ scripts) (suc i) n k h e =
+    let bytes = script_bytes (text_of s) in
+    let before : length (flat_map script_bytes (take (suc i) (texts_of (s ∷ scripts)))) ≡ length bytes + length (flat_map script_bytes (take i (texts_of scripts))) =
+    length-append bytes (flat_map script_bytes (take i (texts_of scripts))) in
+    let next : suc i + 1 ≡ suc (i + 1) = omega arith in
+    let behind : length (flat_map script_bytes (take (suc i + 1) (texts_of (s ∷ scripts)))) ≡ length bytes + length (flat_map script_bytes (take (i + 1) (texts_of scripts))) =
+    ap (λ (k : ℕ). length (flat_map script_bytes (take k (texts_of (s ∷ scripts))))) next
+    ∙ length-append bytes (flat_map script_bytes (take (i + 1) (texts_of scripts))) in
+    omega (arith, text_more scripts i n (k + length bytes) (omega arith) e, before, behind)

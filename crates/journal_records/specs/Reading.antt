@@ -1,5 +1,5 @@
 -- How records are read.
-use Rattle.std.specs.Prelude.{ℕ, ◌==◌, Bool, true, false, List, [], ◌∷◌, Option, Some, None, nat_lt, if◌then◌else◌}
+use Rattle.std.specs.Prelude.{ℕ, ◌+◌, ◌==◌, Bool, true, false, List, [], ◌∷◌, Option, Some, None, nat_lt, if◌then◌else◌}
 use Rattle.script_value.specs.Val.{Val, number, truth, text, symbol, list, no_vals, val}
 use Rattle.script_value.specs.Pieces.{◌>>=◌}
 use Rattle.script_value.specs.declared.outcome.TxName.{TxName}
@@ -10,7 +10,7 @@ use Rattle.replay_spec.specs.Book.{Ending, Finish, Change, opens, extends, ends,
 use Rattle.wire_bytes.specs.Reading.{read_u8, read_u32, read_u64, read_bytes}
 use Rattle.value_bytes.specs.Reading.{Reader, seen_as, read_list, read_i64, read_value}
 use Rattle.journal_records.specs.Fields.{Origin, start, answered, numbers_end, deadlines_end}
-use Rattle.journal_records.specs.Records.{Record, begins, changes, Page}
+use Rattle.journal_records.specs.Records.{Record, begins, changes, renews, draws, Page}
 
 -- reads one thing, and another behind it
 infixr 10 ◌then◌
@@ -29,6 +29,10 @@ read_below limit bytes = do
 -- a ticket, an instance, a page or a clock
 abbrev pub read_number : Reader ℕ
 read_number bytes = read_below numbers_end bytes
+
+-- one more than a number that a record can have, or less
+abbrev pub read_drawn : Reader ℕ
+read_drawn bytes = read_below (numbers_end + 1) bytes
 
 abbrev pub read_deadline : Reader ℕ
 read_deadline bytes = read_below deadlines_end bytes
@@ -102,7 +106,7 @@ abbrev pub read_names : Reader (List TxName)
 read_names bytes = read_list read_name bytes
 
 abbrev pub PageParts : Type 0
-PageParts = ℕ × (ℕ × (Origin × (List Effect × (List TxName × (SendKind × (ℕ × List ℕ))))))
+PageParts = ℕ × (ℕ × (Origin × (List Effect × (List TxName × (SendKind × (ℕ × (List ℕ × List ℕ)))))))
 
 abbrev pub page_from : PageParts → Page
 page_from x = record {
@@ -113,13 +117,14 @@ page_from x = record {
   left = x.1.1.1.1.0;
   kind = x.1.1.1.1.1.0;
   deadline = x.1.1.1.1.1.1.0;
-  state = x.1.1.1.1.1.1.1;
+  evicted = x.1.1.1.1.1.1.1.0;
+  state = x.1.1.1.1.1.1.1.1;
 }
 
 abbrev pub read_page : Reader Page
 read_page bytes =
     seen_as page_from
-    ((read_number then (read_u64 then (read_origin then (read_effects then (read_names then (read_send then (read_deadline then read_bytes))))))) bytes)
+    ((read_number then (read_u64 then (read_origin then (read_effects then (read_names then (read_send then (read_deadline then (read_list read_number then read_bytes)))))))) bytes)
 
 abbrev pub EndingParts : Type 0
 EndingParts = ℕ × (ℕ × (ℕ × (Val × (List Effect × List TxName))))
@@ -157,8 +162,8 @@ abbrev pub read_begins : Reader Record
 read_begins bytes = seen_as begins_from ((read_u32 then read_list read_script) bytes)
 
 -- the change that a page is, by its origin
-abbrev pub change_from : ℕ → ℕ → Origin → List Effect → List TxName → SendKind → ℕ → Change
-change_from ticket nonce (start script) effects left kind deadline = opens (record {
+abbrev pub change_from : ℕ → ℕ → Origin → List Effect → List TxName → SendKind → ℕ → List ℕ → Change
+change_from ticket nonce (start script) effects left kind deadline evicted = opens (record {
   number = ticket;
   nonce = nonce;
   script = script;
@@ -166,8 +171,9 @@ change_from ticket nonce (start script) effects left kind deadline = opens (reco
   left = left;
   kind = kind;
   deadline = deadline;
+  evicted = evicted;
 })
-change_from ticket nonce (answered instance page answer) effects left kind deadline = extends (record {
+change_from ticket nonce (answered instance page answer) effects left kind deadline evicted = extends (record {
   number = ticket;
   nonce = nonce;
   instance = instance;
@@ -177,10 +183,11 @@ change_from ticket nonce (answered instance page answer) effects left kind deadl
   left = left;
   kind = kind;
   deadline = deadline;
+  evicted = evicted;
 })
 
 abbrev pub page_change : Page → Change
-page_change p = change_from p.ticket p.nonce p.origin p.effects p.left p.kind p.deadline
+page_change p = change_from p.ticket p.nonce p.origin p.effects p.left p.kind p.deadline p.evicted
 
 -- a record of this kind
 abbrev pub read_kind : ℕ → Reader Record
@@ -189,7 +196,9 @@ read_kind kind rest =
     (if kind == 2 then seen_as (λ p. changes (page_change p) (Some p.state)) (read_page rest) else
     (if kind == 3 then seen_as (λ e. changes (ends e) None) (read_ending rest) else
     (if kind == 4 then seen_as (λ f. changes (finishes f) None) (read_finish rest) else
-    (if kind == 5 then seen_as (λ n. changes (sweeps n) None) (read_number rest) else None))))
+    (if kind == 5 then seen_as (λ n. changes (sweeps n) None) (read_number rest) else
+    (if kind == 6 then seen_as (λ s. renews s) (read_list read_script rest) else
+    (if kind == 7 then seen_as (λ n. draws n) (read_drawn rest) else None))))))
 
 -- the record at the front
 abbrev pub read_front : Reader Record

@@ -1,20 +1,24 @@
 -- Records of a journal: how each is written, and which can be.
-use Rattle.std.specs.Prelude.{◌≡◌, ℕ, Bool, true, false, ◌&&◌, ◌<◌, ◌+◌, ◌^◌, List, [], ◌∷◌, ◌++◌, length, map, drop, slice_get, min, Option, Some, None, if◌then◌else◌, ⊤}
+use Rattle.std.specs.Prelude.{◌≡◌, ℕ, Bool, true, false, ◌&&◌, ◌<◌, ◌+◌, ◌^◌, List, [], ◌∷◌, ◌++◌, length, drop, slice_get, min, Option, Some, None, IfSome, if◌then◌else◌, ⊤}
 use Rattle.std.specs.List.{list_all, flat_map, AllByRecursion}
 use Rattle.script_value.specs.declared.outcome.TxName.{TxName}
 use Rattle.instance_cells.specs.Cells.{Effect}
 use Rattle.script_nodes.specs.declared.script.SendKind.{SendKind}
 use Rattle.script_nodes.specs.Setup.{Named}
+pub use Rattle.script_nodes.specs.Setup.{text_of, texts_of}
 use Rattle.replay_spec.specs.Book.{Opening, Extension, Ending, Finish, Change, opens, extends, ends, finishes, sweeps}
 use Rattle.wire_bytes.specs.Spelling.{u32_bytes, u64_bytes, byte_string}
 use Rattle.value_bytes.specs.Spelling.{value_bytes, list_bytes, FitsList}
 use Rattle.journal_records.specs.Fields.{numbers_end, deadlines_end, name_bytes, NameFits, effect_bytes, EffectFits, send_byte, script_bytes, ScriptFits, Origin, start, answered, origin_bytes, OriginFits, AnswerFits, is_shallow, is_shallow_effect, IsTyped, IsTypedEffect}
 
--- what a record says: a journal of this shelf begins, with these names and texts of its scripts; or the book changes, by a new
--- page with the bytes of its state, or without one
+-- What a record says: a journal of this shelf begins, with these names and texts of its scripts; the book changes, by a new page with
+-- the bytes of its state, or without one; these are the names and texts of the scripts from here on; or the file was compacted, and this
+-- number is one more than the greatest in a record before.
 pub data Record : Type 0 where
   begins : (shelf : ℕ) (scripts : List (List ℕ × List ℕ)) → Record
   changes : Change → (state : Option (List ℕ)) → Record
+  renews : (scripts : List (List ℕ × List ℕ)) → Record
+  draws : (number : ℕ) → Record
 
 -- what the record of a page that was shown says, a start's or an answer's
 pub record Page : Type 0 where
@@ -25,6 +29,7 @@ pub record Page : Type 0 where
   pub left : List TxName
   pub kind : SendKind
   pub deadline : ℕ
+  pub evicted : List ℕ
   pub state : List ℕ
 
 abbrev pub opening_page : Opening → (state : List ℕ) → Page
@@ -36,6 +41,7 @@ opening_page o state = record {
   left = o.left;
   kind = o.kind;
   deadline = o.deadline;
+  evicted = o.evicted;
   state = state;
 }
 
@@ -48,6 +54,7 @@ extension_page e state = record {
   left = e.left;
   kind = e.kind;
   deadline = e.deadline;
+  evicted = e.evicted;
   state = state;
 }
 
@@ -59,11 +66,16 @@ effects_bytes es = list_bytes effect_bytes es
 abbrev pub names_bytes : List TxName → List ℕ
 names_bytes ts = list_bytes name_bytes ts
 
--- a page: its ticket, its nonce, where its segment began, what it did, what it left, how it was sent, its deadline, and its state
+-- a page: its ticket, its nonce, where its segment began, what it did, what it left, how it was sent, its deadline, the pages
+-- that went for it, and its state
 abbrev pub page_bytes : Page → List ℕ
 page_bytes p =
     u64_bytes p.ticket ++ (u64_bytes p.nonce ++ (origin_bytes p.origin
-    ++ (effects_bytes p.effects ++ (names_bytes p.left ++ (send_byte p.kind ∷ [] ++ (u64_bytes p.deadline ++ byte_string p.state))))))
+    ++ (effects_bytes p.effects ++ (names_bytes p.left ++ (send_byte p.kind ∷ [] ++ (u64_bytes p.deadline ++ (list_bytes u64_bytes p.evicted ++ byte_string p.state)))))))
+
+-- a number of a page can be written
+abbrev pub IsNumber : ℕ → Type 0
+IsNumber n = n < numbers_end
 
 pub record PageFits (p : Page) : Type 0 where
   pub ticket : p.ticket < numbers_end
@@ -72,6 +84,7 @@ pub record PageFits (p : Page) : Type 0 where
   pub effects : FitsList EffectFits p.effects
   pub left : FitsList NameFits p.left
   pub deadline : p.deadline < deadlines_end
+  pub evicted : FitsList IsNumber p.evicted
   pub state : length p.state < 2 ^ 32
 
 -- a last page that has no name: its ticket, the page that was answered, and with what; what its segment did, and what it left
@@ -121,15 +134,19 @@ ChangeFits (finishes f) (Some state) = ⊥
 ChangeFits (sweeps tick) None = tick < numbers_end
 ChangeFits (sweeps tick) (Some state) = ⊥
 
--- the body of a record; a journal begins with the number of its shelf and its scripts
+-- The body of a record: a byte for its kind, and its fields. The first one has the number of the shelf and the scripts.
 abbrev pub body_of : Record → List ℕ
 body_of (begins shelf scripts) = 1 ∷ (u32_bytes shelf ++ list_bytes script_bytes scripts)
 body_of (changes c state) = change_bytes c (bytes_in state)
+body_of (renews scripts) = 6 ∷ list_bytes script_bytes scripts
+body_of (draws number) = 7 ∷ u64_bytes number
 
--- a record has a body
+-- a record has a body: each field fits
 abbrev pub IsInGrammar : Record → Type 0
 IsInGrammar (begins shelf scripts) = (shelf < 2 ^ 32) × FitsList ScriptFits scripts
 IsInGrammar (changes c state) = ChangeFits c state
+IsInGrammar (renews scripts) = FitsList ScriptFits scripts
+IsInGrammar (draws number) = number < numbers_end + 1
 
 -- the length of a record's body, also where a part is too long for its count; one above 2^63 counts as 2^63
 abbrev pub body_length : Record → ℕ
@@ -165,28 +182,24 @@ PartsFit (sweeps tick) = ⊤
 -- a fact of the change that a record tells of
 abbrev pub IfChanges : Record → (Change → Type 0) → Type 0
 IfChanges (begins shelf scripts) P = ⊤
+IfChanges (renews scripts) P = ⊤
+IfChanges (draws number) P = ⊤
 IfChanges (changes c state) P = P c
 
 -- a fact of the change that a record tells of, and of the bytes of its state
 abbrev pub IfChangesWith : Record → (Change → Option (List ℕ) → Type 0) → Type 0
 IfChangesWith (begins shelf scripts) P = ⊤
+IfChangesWith (renews scripts) P = ⊤
+IfChangesWith (draws number) P = ⊤
 IfChangesWith (changes c state) P = P c state
 
 -- this is the length of the record, where it tells of a change
 abbrev pub IsRecordLength : Record → ℕ → Type 0
 IsRecordLength r n = IfChangesWith r (λ c state. n ≡ record_length c state)
 
--- the names and the texts of scripts
-abbrev pub texts_of : List Named → List (List ℕ × List ℕ)
-texts_of scripts = map (λ s. (s.name, s.text)) scripts
-
--- the name and the text of a script
-abbrev pub text_of : Named → List ℕ × List ℕ
-text_of s = (s.name, s.text)
-
--- this name and text stand at a place
-abbrev pub HasTextAt : List Named → (place : ℕ) → List ℕ × List ℕ → Type 0
-HasTextAt scripts place text = slice_get (texts_of scripts) place ≡ Some text
+-- where a script stands at this place, this is the length of its name and its text as bytes; one above 2^63 counts as 2^63
+abbrev pub IsTextLength : List Named → (place n : ℕ) → Type 0
+IsTextLength scripts place n = IfSome (slice_get (texts_of scripts) place) (λ t. n ≡ min (length (script_bytes t)) (2 ^ 63))
 
 -- the names and the texts from a place on can be written
 abbrev pub FitFrom : (place : ℕ) → List Named → Type 0
@@ -207,3 +220,11 @@ begin_of shelf scripts = begins shelf (texts_of scripts)
 -- how long a journal of its first record alone is: 8 bytes before it, a gate, four bytes of length, the body, and a gate
 abbrev pub begun_length : (shelf : ℕ) → List Named → ℕ
 begun_length shelf scripts = 14 + length (body_of (begin_of shelf scripts))
+
+-- the record that tells another setup
+abbrev pub renewal_of : List Named → Record
+renewal_of scripts = renews (texts_of scripts)
+
+-- how long the body of the record is that tells another setup
+abbrev pub renewed_length : List Named → ℕ
+renewed_length scripts = length (body_of (renewal_of scripts))

@@ -8,7 +8,7 @@ use Rattle.script_nodes.specs.Setup.{Script}
 use Rattle.replay_spec.specs.Book.{Change, opens, extends, ends, finishes, sweeps}
 use Rattle.value_bytes.specs.Reading.{read_within}
 use Rattle.journal_records.specs.Fields.{name_bytes}
-use Rattle.journal_records.specs.Records.{Record, begins, changes, body_of, record_length, begun_length}
+use Rattle.journal_records.specs.Records.{Record, begins, changes, renews, draws, body_of, record_length, begun_length}
 use Rattle.journal_records.specs.Reading.{read_record}
 
 -- the fronts of these bytes, but for the whole
@@ -81,13 +81,14 @@ start = changes (opens (record {
   left = [];
   kind = Suspend;
   deadline = 86400;
+  evicted = [];
 })) (Some (8 ∷ 9 ∷ []))
 
 abbrev start_body : List ℕ
 start_body =
     (2 ∷ 3 ∷ 0 ∷ 0 ∷ 0 ∷ 0 ∷ 0 ∷ 0 ∷ 0 ∷ 7 ∷ 0 ∷ 0 ∷ 0 ∷ 0 ∷ 0 ∷ 0 ∷ 0 ∷ 0 ∷ 1 ∷ 5 ∷ 0 ∷ 0 ∷ 0 ∷ 0 ∷ [])
     ++ (2 ∷ 0 ∷ 0 ∷ 0 ∷ 0 ∷ 0 ∷ 2 ∷ 2 ∷ 2 ∷ 255 ∷ 255 ∷ 255 ∷ 255 ∷ 255 ∷ 255 ∷ 255 ∷ 255 ∷ [])
-    ++ (0 ∷ 0 ∷ 0 ∷ 0 ∷ 0 ∷ 128 ∷ 81 ∷ 1 ∷ 0 ∷ 0 ∷ 0 ∷ 0 ∷ 0 ∷ 2 ∷ 0 ∷ 0 ∷ 0 ∷ 8 ∷ 9 ∷ [])
+    ++ (0 ∷ 0 ∷ 0 ∷ 0 ∷ 0 ∷ 128 ∷ 81 ∷ 1 ∷ 0 ∷ 0 ∷ 0 ∷ 0 ∷ 0 ∷ 0 ∷ 0 ∷ 0 ∷ 0 ∷ 2 ∷ 0 ∷ 0 ∷ 0 ∷ 8 ∷ 9 ∷ [])
 
 a_start : body_of start ≡ start_body
 a_start = refl
@@ -116,6 +117,7 @@ answer = changes (extends (record {
   left = record { ticket = 3; entry = 2 } ∷ [];
   kind = Forward;
   deadline = 1;
+  evicted = 0 ∷ 4 ∷ [];
 })) (Some [])
 
 abbrev answer_body : List ℕ
@@ -124,7 +126,9 @@ answer_body =
     ++ (1 ∷ 3 ∷ 0 ∷ 0 ∷ 0 ∷ 0 ∷ 0 ∷ 0 ∷ 0 ∷ 4 ∷ 0 ∷ 0 ∷ 0 ∷ 0 ∷ 0 ∷ 0 ∷ 0 ∷ 0 ∷ 1 ∷ 0 ∷ 0 ∷ 0 ∷ 0 ∷ 0 ∷ 0 ∷ 0 ∷ [])
     ++ (1 ∷ 0 ∷ 0 ∷ 0 ∷ 1 ∷ 1 ∷ 1 ∷ [])
     ++ (1 ∷ 0 ∷ 0 ∷ 0 ∷ 3 ∷ 0 ∷ 0 ∷ 0 ∷ 0 ∷ 0 ∷ 0 ∷ 0 ∷ 2 ∷ 0 ∷ 0 ∷ 0 ∷ [])
-    ++ (1 ∷ 1 ∷ 0 ∷ 0 ∷ 0 ∷ 0 ∷ 0 ∷ 0 ∷ 0 ∷ 0 ∷ 0 ∷ 0 ∷ 0 ∷ [])
+    ++ (1 ∷ 1 ∷ 0 ∷ 0 ∷ 0 ∷ 0 ∷ 0 ∷ 0 ∷ 0 ∷ [])
+    ++ (2 ∷ 0 ∷ 0 ∷ 0 ∷ 0 ∷ 0 ∷ 0 ∷ 0 ∷ 0 ∷ 0 ∷ 0 ∷ 0 ∷ 4 ∷ 0 ∷ 0 ∷ 0 ∷ 0 ∷ 0 ∷ 0 ∷ 0 ∷ [])
+    ++ (0 ∷ 0 ∷ 0 ∷ 0 ∷ [])
 
 an_answer : body_of answer ≡ answer_body
 unfolding name_bytes
@@ -202,11 +206,40 @@ kind_6 : read_record (6 ∷ 0 ∷ 0 ∷ 0 ∷ 0 ∷ 0 ∷ 0 ∷ 0 ∷ 0 ∷ []) 
 unfolding read_record
 kind_6 = refl
 
+kind_8 : read_record (8 ∷ []) ≡ None
+unfolding read_record
+kind_8 = refl
+
+-- the body of the record that numbers up to 2 were drawn before a compaction
+abbrev drawn_body : List ℕ
+drawn_body = 7 ∷ 3 ∷ 0 ∷ 0 ∷ 0 ∷ 0 ∷ 0 ∷ 0 ∷ 0 ∷ []
+
+a_drawn : body_of (draws 3) ≡ drawn_body
+a_drawn = refl
+
+a_drawn_is_read : read_record drawn_body ≡ Some (draws 3)
+unfolding read_record
+a_drawn_is_read = refl
+
+-- the greatest number that such a record tells is 2^62
+last_drawn : read_record (7 ∷ 0 ∷ 0 ∷ 0 ∷ 0 ∷ 0 ∷ 0 ∷ 0 ∷ 64 ∷ []) ≡ Some (draws (2 ^ 62))
+unfolding read_record
+last_drawn = refl
+
+late_drawn : read_record (7 ∷ 1 ∷ 0 ∷ 0 ∷ 0 ∷ 0 ∷ 0 ∷ 0 ∷ 64 ∷ []) ≡ None
+unfolding read_record
+late_drawn = refl
+
+-- another setup of one script named `a` with the text `7`
+a_renewal : read_record (6 ∷ 1 ∷ 0 ∷ 0 ∷ 0 ∷ 1 ∷ 0 ∷ 0 ∷ 0 ∷ 97 ∷ 1 ∷ 0 ∷ 0 ∷ 0 ∷ 55 ∷ []) ≡ Some (renews ((codes "a", codes "7") ∷ []))
+unfolding read_record
+a_renewal = refl
+
 -- a page without the bytes of its state has no length of its own
-no_state : record_length (opens (record { number = 3; nonce = 7; script = 1; effects = []; left = []; kind = Suspend; deadline = 1 })) None ≡ 2 ^ 63
+no_state : record_length (opens (record { number = 3; nonce = 7; script = 1; effects = []; left = []; kind = Suspend; deadline = 1; evicted = [] })) None ≡ 2 ^ 63
 no_state = refl
 
-a_state : record_length (opens (record { number = 3; nonce = 7; script = 1; effects = []; left = []; kind = Suspend; deadline = 1 })) (Some (8 ∷ 9 ∷ [])) ≡ 47
+a_state : record_length (opens (record { number = 3; nonce = 7; script = 1; effects = []; left = []; kind = Suspend; deadline = 1; evicted = [] })) (Some (8 ∷ 9 ∷ [])) ≡ 51
 a_state = refl
 
 -- a value that nests so many levels deep

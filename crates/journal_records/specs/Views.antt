@@ -1,40 +1,54 @@
 -- What the program's records stand for.
 use Rattle.std.specs.Prelude.{◌≡◌, ℕ, List, ◌∷◌, map, Option, Some, None, option_map, IfSome}
+use Rattle.std.specs.Borrow.{Bor}
 use Rattle.std.specs.Global.{Vec}
 use Rattle.script_value.specs.Views.{meaning}
+use Rattle.script_nodes.specs.declared.library.ScriptText.{ScriptText}
+use Rattle.script_nodes.specs.Views.{scripts_of}
+use Rattle.script_nodes.specs.Setup.{Named, texts_of}
+use Rattle.instance_cells.specs.Cells as cells
+use Rattle.instance_cells.specs.declared.effect.Effect.{Effect}
 use Rattle.instance_cells.specs.Views.{effect_of}
-use Rattle.replay_spec.specs.Book.{Ending, Finish, ends, finishes, sweeps}
+use Rattle.replay_spec.specs.Book.{Change, Ending, Finish, ends, finishes, sweeps}
 use Rattle.journal_records.specs.Fields as spec
 use Rattle.value_bytes.specs.Spelling.{list_bytes}
-use Rattle.journal_records.specs.Records.{Record, begins, changes, Page, bytes_in, page_bytes, ending_bytes, finish_bytes}
-use Rattle.journal_records.specs.Reading.{page_change, read_record}
+use Rattle.journal_records.specs.Records.{Record, begins, changes, renews, draws, Page, begin_of, renewal_of, bytes_in, page_bytes, ending_bytes, finish_bytes}
+use Rattle.journal_records.specs.Reading.{change_from, read_record}
 use Rattle.journal_records.specs.Laws.{IsBodyOf}
-use Rattle.journal_records.specs.declared.logged.LoggedScript.{LoggedScript}
-use Rattle.journal_records.specs.declared.logged.Origin.{Origin}
-use Rattle.journal_records.specs.declared.logged.Origin.TheVariants as origin
-use Rattle.journal_records.specs.declared.logged.LoggedPage.{LoggedPage}
-use Rattle.journal_records.specs.declared.logged.LoggedEnded.{LoggedEnded}
-use Rattle.journal_records.specs.declared.logged.LoggedFinish.{LoggedFinish}
-use Rattle.journal_records.specs.declared.logged.Logged.{Logged}
-use Rattle.journal_records.specs.declared.logged.Logged.TheVariants as logged
-use Rattle.journal_records.specs.declared.recorded.RecordedOrigin.{RecordedOrigin}
-use Rattle.journal_records.specs.declared.recorded.RecordedOrigin.TheVariants as lent
-use Rattle.journal_records.specs.declared.recorded.RecordedPage.{RecordedPage}
-use Rattle.journal_records.specs.declared.recorded.RecordedEnded.{RecordedEnded}
-use Rattle.journal_records.specs.declared.recorded.RecordedFinish.{RecordedFinish}
-use Rattle.journal_records.specs.declared.recorded.Recorded.{Recorded}
-use Rattle.journal_records.specs.declared.recorded.Recorded.TheVariants as recorded
+use Rattle.journal_records.specs.declared.records.Origin.{Origin}
+use Rattle.journal_records.specs.declared.records.Origin.TheVariants as origin
+use Rattle.journal_records.specs.declared.records.PageRecord.{PageRecord}
+use Rattle.journal_records.specs.declared.records.EndedRecord.{EndedRecord}
+use Rattle.journal_records.specs.declared.records.FinishRecord.{FinishRecord}
+use Rattle.journal_records.specs.declared.records.Logged.{Logged}
+use Rattle.journal_records.specs.declared.records.Logged.TheVariants as logged
+use Rattle.journal_records.specs.declared.records.Recorded.{Recorded}
+use Rattle.journal_records.specs.declared.records.Recorded.TheVariants as recorded
 
--- the name and the text of a script
-abbrev pub script_of : LoggedScript → List ℕ × List ℕ
+-- the name and the text of a script that a journal tells
+abbrev pub script_of : ScriptText → List ℕ × List ℕ
 script_of s = (s.name, s.text)
 
+-- the names and the texts of scripts that a journal tells
+abbrev pub texts_in : Vec ScriptText → List (List ℕ × List ℕ)
+texts_in scripts = map script_of scripts.items
+
+-- the effects that a record tells
+abbrev pub effects_in : Vec Effect → List cells.Effect
+effects_in effects = map effect_of effects.items
+
+-- the names and the texts of a setup, one behind the other, behind their count
+abbrev pub setup_bytes : List Named → List ℕ
+setup_bytes scripts = list_bytes spec.script_bytes (texts_of scripts)
+
+-- where the segment began
 abbrev pub origin_of : Origin → spec.Origin
 origin_of (origin.Start script) = spec.start script
 origin_of (origin.Answer instance page answer) = spec.answered instance page (meaning answer)
 
-abbrev pub page_of : LoggedPage → Page
-page_of p = record {
+-- the page that was shown, with these bytes of its state
+abbrev pub page_of : PageRecord → (state : List ℕ) → Page
+page_of p state = record {
   ticket = p.ticket;
   nonce = p.nonce;
   origin = origin_of p.origin;
@@ -42,10 +56,16 @@ page_of p = record {
   left = p.left.items;
   kind = p.kind;
   deadline = p.deadline;
-  state = p.state;
+  evicted = p.evicted.items;
+  state = state;
 }
 
-abbrev pub ending_of : LoggedEnded → Ending
+-- the change of the book that a page is: an instance opens where it is of a start, and goes on where it is of an answer
+abbrev pub page_change : PageRecord → Change
+page_change p = change_from p.ticket p.nonce (origin_of p.origin) (map effect_of p.effects.items) p.left.items p.kind p.deadline p.evicted.items
+
+-- the last page without a name
+abbrev pub ending_of : EndedRecord → Ending
 ending_of e = record {
   number = e.ticket;
   instance = e.instance;
@@ -55,7 +75,8 @@ ending_of e = record {
   left = e.left.items;
 }
 
-abbrev pub finish_of : LoggedFinish → Finish
+-- the last page with which the instance went
+abbrev pub finish_of : FinishRecord → Finish
 finish_of f = record {
   number = f.ticket;
   instance = f.instance;
@@ -64,16 +85,33 @@ finish_of f = record {
   effects = map effect_of f.effects.items;
 }
 
+-- what a record says that was read
 abbrev pub logged_of : Logged → Record
-logged_of (logged.Begin shelf scripts) = begins shelf (map script_of scripts.items)
-logged_of (logged.Page p) = changes (page_change (page_of p)) (Some p.state)
+logged_of (logged.Begin shelf scripts) = begins shelf (texts_in scripts)
+logged_of (logged.Page p state) = changes (page_change p) (Some state)
 logged_of (logged.Ended e) = changes (ends (ending_of e)) None
 logged_of (logged.Finish f) = changes (finishes (finish_of f)) None
 logged_of (logged.Sweep clock) = changes (sweeps clock) None
+logged_of (logged.Texts scripts) = renews (texts_in scripts)
+logged_of (logged.Drawn number) = draws number
 
--- the names and the texts of scripts that were read
-abbrev pub texts_in : Vec LoggedScript → List (List ℕ × List ℕ)
-texts_in scripts = map script_of scripts.items
+-- the bytes of a state that are lent
+abbrev pub lent_state : Option (Bor (List ℕ)) → Option (List ℕ)
+lent_state state = option_map (λ bytes. bytes.now) state
+
+-- the bytes of a state that are lent, and no bytes where there are none
+abbrev pub lent_bytes : Option (Bor (List ℕ)) → List ℕ
+lent_bytes state = bytes_in (lent_state state)
+
+-- what a record says that is lent to be written
+abbrev pub recorded_of : Recorded → Record
+recorded_of (recorded.Begin shelf setup) = begin_of shelf (scripts_of setup.now)
+recorded_of (recorded.Page p state) = changes (page_change p.now) (lent_state state)
+recorded_of (recorded.Ended e) = changes (ends (ending_of e.now)) None
+recorded_of (recorded.Finish f) = changes (finishes (finish_of f.now)) None
+recorded_of (recorded.Sweep clock) = changes (sweeps clock) None
+recorded_of (recorded.Texts setup) = renewal_of (scripts_of setup.now)
+recorded_of (recorded.Drawn number) = draws number
 
 -- the record that bytes are the body of
 abbrev pub ReadsRecord : List ℕ → Option Logged → Type 0
@@ -83,65 +121,14 @@ ReadsRecord bytes found = option_map logged_of found ≡ read_record bytes
 abbrev pub FindsItsBody : List ℕ → Option Logged → Type 0
 FindsItsBody bytes found = IfSome found (λ l. IsBodyOf bytes (logged_of l))
 
--- ---- what records stand for that are lent to be written
+-- the body of the record of a page, with these bytes of its state
+abbrev pub page_body : PageRecord → (state : List ℕ) → List ℕ
+page_body p state = 2 ∷ page_bytes (page_of p state)
 
-abbrev pub lent_origin : RecordedOrigin → spec.Origin
-lent_origin (lent.Start script) = spec.start script
-lent_origin (lent.Answer instance page answer) = spec.answered instance page (meaning answer.now)
+-- the body of the record of a last page without a name
+abbrev pub ended_body : EndedRecord → List ℕ
+ended_body e = 3 ∷ ending_bytes (ending_of e)
 
-abbrev pub lent_state : RecordedPage → Option (List ℕ)
-lent_state p = option_map (λ bytes. bytes.now) p.state
-
-abbrev pub lent_page : RecordedPage → Page
-lent_page p = record {
-  ticket = p.ticket;
-  nonce = p.nonce;
-  origin = lent_origin p.origin;
-  effects = map effect_of p.effects.now;
-  left = p.left.now;
-  kind = p.kind;
-  deadline = p.deadline;
-  state = bytes_in (lent_state p);
-}
-
-abbrev pub lent_ending : RecordedEnded → Ending
-lent_ending e = record {
-  number = e.ticket;
-  instance = e.instance;
-  page = e.page;
-  answer = meaning e.answer.now;
-  effects = map effect_of e.effects.now;
-  left = e.left.now;
-}
-
-abbrev pub lent_finish : RecordedFinish → Finish
-lent_finish f = record {
-  number = f.ticket;
-  instance = f.instance;
-  page = f.page;
-  answer = meaning f.answer.now;
-  effects = map effect_of f.effects.now;
-}
-
-abbrev pub recorded_of : Recorded → Record
-recorded_of (recorded.Begin shelf scripts) = begins shelf (map script_of scripts.now)
-recorded_of (recorded.Page p) = changes (page_change (lent_page p)) (lent_state p)
-recorded_of (recorded.Ended e) = changes (ends (lent_ending e)) None
-recorded_of (recorded.Finish f) = changes (finishes (lent_finish f)) None
-recorded_of (recorded.Sweep clock) = changes (sweeps clock) None
-
--- scripts, one behind the other, behind their count
-abbrev pub scripts_bytes : List LoggedScript → List ℕ
-scripts_bytes scripts = list_bytes spec.script_bytes (map script_of scripts)
-
--- the body of the record of a page that is lent
-abbrev pub page_body : RecordedPage → List ℕ
-page_body p = 2 ∷ page_bytes (lent_page p)
-
--- the body of the record of a last page without a name that is lent
-abbrev pub ended_body : RecordedEnded → List ℕ
-ended_body e = 3 ∷ ending_bytes (lent_ending e)
-
--- the body of the record of a last page that is lent, with which the instance went
-abbrev pub finish_body : RecordedFinish → List ℕ
-finish_body f = 4 ∷ finish_bytes (lent_finish f)
+-- the body of the record of a last page with which the instance went
+abbrev pub finish_body : FinishRecord → List ℕ
+finish_body f = 4 ∷ finish_bytes (finish_of f)

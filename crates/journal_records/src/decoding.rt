@@ -1,16 +1,17 @@
-ghost use Rattle.std.specs.Prelude.{◌≡◌, ◌↔◌, ◌≤◌, ◌^◌, List, map, IsTrue, IfOk, IfSome, option_map};
+ghost use Rattle.std.specs.Prelude.{◌≡◌, IfOk};
 ghost use Rattle.script_value.specs.Views.{meaning};
 ghost use Rattle.instance_cells.specs.Views.{effect_of};
+ghost use Rattle.wire_bytes.specs.Reading.{read_bytes};
 ghost use Rattle.value_bytes.specs.Reading.{read_list};
 ghost use Rattle.value_bytes.specs.Views.{Reads, GrowsWithin};
 ghost use Rattle.journal_records.specs.Reading as spec;
 ghost use Rattle.journal_records.specs.Reading.{is_nothing, read_below};
-ghost use Rattle.journal_records.specs.Views.{script_of, origin_of, page_of, ending_of, finish_of, logged_of, texts_in, ReadsRecord, FindsItsBody};
+ghost use Rattle.journal_records.specs.Views.{script_of, effects_in, origin_of, ending_of, finish_of, logged_of, texts_in, ReadsRecord, FindsItsBody};
 
 use crate::grammar::{DEADLINES_END, NUMBERS_END};
-use crate::logged::{Logged, LoggedEnded, LoggedFinish, LoggedPage, LoggedScript, Origin};
+use crate::records::{EndedRecord, FinishRecord, Logged, Origin, PageRecord};
 use instance_cells::Effect;
-use script_nodes::SendKind;
+use script_nodes::{ScriptText, SendKind};
 use script_value::{Bytes, TxName, Value};
 use std::alloc::{AllocError, Global};
 use value_bytes::fields::{byte, count, number_32, number_64, signed_64, string};
@@ -42,14 +43,29 @@ fn front(alloc: Global, cursor: &mut Cursor<'_>) -> Result<Logged, Unread>
     ensures { Reads logged_of result cursor.new (spec.read_front cursor.old) }
 {
     let kind = byte(cursor)?;
+    of_kind(alloc, kind, cursor)
+}
+
+// A record of this kind.
+fn of_kind(alloc: Global, kind: u8, cursor: &mut Cursor<'_>) -> Result<Logged, Unread>
+    ensures { Reads logged_of result cursor.new (spec.read_kind kind cursor.old) }
+{
     match kind {
         1 => begin(alloc, cursor),
-        2 => Ok(Logged::Page(page(alloc, cursor)?)),
+        2 => page(alloc, cursor),
         3 => Ok(Logged::Ended(ended(alloc, cursor)?)),
         4 => Ok(Logged::Finish(finish(alloc, cursor)?)),
         5 => {
             let clock = number(cursor)?;
             Ok(Logged::Sweep { clock })
+        }
+        6 => {
+            let scripts = scripts(alloc, cursor)?;
+            Ok(Logged::Texts { scripts })
+        }
+        7 => {
+            let number = drawn(cursor)?;
+            Ok(Logged::Drawn { number })
         }
         _ => Err(Unread::Misspelled),
     }
@@ -64,7 +80,7 @@ fn begin(alloc: Global, cursor: &mut Cursor<'_>) -> Result<Logged, Unread>
 }
 
 #[tactic(auto, using(value_bytes::proofs::Turns::at_start, value_bytes::proofs::Turns::one_more, value_bytes::proofs::Turns::no_more, value_bytes::proofs::Turns::at_end, value_bytes::proofs::Counts::has_count, value_bytes::proofs::Counts::list_from))]
-fn scripts(alloc: Global, cursor: &mut Cursor<'_>) -> Result<Vec<LoggedScript>, Unread>
+fn scripts(alloc: Global, cursor: &mut Cursor<'_>) -> Result<Vec<ScriptText>, Unread>
     ensures read { Reads texts_in result cursor.new (read_list spec.read_script cursor.old) }
     ensures memory { GrowsWithin result cursor.old }
 {
@@ -77,19 +93,25 @@ fn scripts(alloc: Global, cursor: &mut Cursor<'_>) -> Result<Vec<LoggedScript>, 
     Ok(scripts)
 }
 
-fn script(alloc: Global, cursor: &mut Cursor<'_>) -> Result<LoggedScript, Unread>
+fn script(alloc: Global, cursor: &mut Cursor<'_>) -> Result<ScriptText, Unread>
     ensures { Reads script_of result cursor.new (spec.read_script cursor.old) }
 {
-    let name = string(cursor)?;
-    let text = string(cursor)?;
-    Ok(LoggedScript {
-        name: Bytes::new(name.to_vec(alloc)?),
-        text: Bytes::new(text.to_vec(alloc)?),
-    })
+    let name = copied_string(alloc, cursor)?;
+    let text = copied_string(alloc, cursor)?;
+    Ok(ScriptText { name, text })
 }
 
-fn page(alloc: Global, cursor: &mut Cursor<'_>) -> Result<LoggedPage, Unread>
-    ensures { Reads page_of result cursor.new (spec.read_page cursor.old) }
+// A byte string, copied.
+fn copied_string(alloc: Global, cursor: &mut Cursor<'_>) -> Result<Bytes, Unread>
+    ensures { Reads (λ t. t) result cursor.new (read_bytes cursor.old) }
+{
+    let lent = string(cursor)?;
+    Ok(Bytes::new(lent.to_vec(alloc)?))
+}
+
+// A page that was shown, with the bytes of its state.
+fn page(alloc: Global, cursor: &mut Cursor<'_>) -> Result<Logged, Unread>
+    ensures { Reads logged_of result cursor.new (spec.read_kind 2 cursor.old) }
 {
     let ticket = number(cursor)?;
     let nonce = number_64(cursor)?;
@@ -98,8 +120,9 @@ fn page(alloc: Global, cursor: &mut Cursor<'_>) -> Result<LoggedPage, Unread>
     let left = names(alloc, cursor)?;
     let kind = send_kind(cursor)?;
     let deadline = deadline(cursor)?;
-    let state = string(cursor)?;
-    Ok(LoggedPage {
+    let evicted = pages(alloc, cursor)?;
+    let state = copied_string(alloc, cursor)?;
+    let page = PageRecord {
         ticket,
         nonce,
         origin,
@@ -107,11 +130,12 @@ fn page(alloc: Global, cursor: &mut Cursor<'_>) -> Result<LoggedPage, Unread>
         left,
         kind,
         deadline,
-        state: Bytes::new(state.to_vec(alloc)?),
-    })
+        evicted,
+    };
+    Ok(Logged::Page { page, state })
 }
 
-fn ended(alloc: Global, cursor: &mut Cursor<'_>) -> Result<LoggedEnded, Unread>
+fn ended(alloc: Global, cursor: &mut Cursor<'_>) -> Result<EndedRecord, Unread>
     ensures { Reads ending_of result cursor.new (spec.read_ending cursor.old) }
 {
     let ticket = number(cursor)?;
@@ -120,7 +144,7 @@ fn ended(alloc: Global, cursor: &mut Cursor<'_>) -> Result<LoggedEnded, Unread>
     let answer = value(alloc, cursor)?;
     let effects = effects(alloc, cursor)?;
     let left = names(alloc, cursor)?;
-    Ok(LoggedEnded {
+    Ok(EndedRecord {
         ticket,
         instance,
         page,
@@ -130,7 +154,7 @@ fn ended(alloc: Global, cursor: &mut Cursor<'_>) -> Result<LoggedEnded, Unread>
     })
 }
 
-fn finish(alloc: Global, cursor: &mut Cursor<'_>) -> Result<LoggedFinish, Unread>
+fn finish(alloc: Global, cursor: &mut Cursor<'_>) -> Result<FinishRecord, Unread>
     ensures { Reads finish_of result cursor.new (spec.read_finish cursor.old) }
 {
     let ticket = number(cursor)?;
@@ -138,7 +162,7 @@ fn finish(alloc: Global, cursor: &mut Cursor<'_>) -> Result<LoggedFinish, Unread
     let page = number(cursor)?;
     let answer = value(alloc, cursor)?;
     let effects = effects(alloc, cursor)?;
-    Ok(LoggedFinish {
+    Ok(FinishRecord {
         ticket,
         instance,
         page,
@@ -197,7 +221,7 @@ fn answered(alloc: Global, cursor: &mut Cursor<'_>) -> Result<Origin, Unread>
 
 #[tactic(auto, using(value_bytes::proofs::Turns::at_start, value_bytes::proofs::Turns::one_more, value_bytes::proofs::Turns::no_more, value_bytes::proofs::Turns::at_end, value_bytes::proofs::Counts::has_count, value_bytes::proofs::Counts::list_from))]
 fn effects(alloc: Global, cursor: &mut Cursor<'_>) -> Result<Vec<Effect>, Unread>
-    ensures read { Reads (λ v. map effect_of v.items) result cursor.new (spec.read_effects cursor.old) }
+    ensures read { Reads effects_in result cursor.new (spec.read_effects cursor.old) }
     ensures memory { GrowsWithin result cursor.old }
 {
     let count = count(cursor)?;
@@ -244,6 +268,20 @@ fn name(cursor: &mut Cursor<'_>) -> Result<TxName, Unread>
     Ok(TxName { ticket, entry })
 }
 
+#[tactic(auto, using(value_bytes::proofs::Turns::at_start, value_bytes::proofs::Turns::one_more, value_bytes::proofs::Turns::no_more, value_bytes::proofs::Turns::at_end, value_bytes::proofs::Counts::has_count, value_bytes::proofs::Counts::list_from))]
+fn pages(alloc: Global, cursor: &mut Cursor<'_>) -> Result<Vec<u64>, Unread>
+    ensures read { Reads (λ v. v.items) result cursor.new (read_list spec.read_number cursor.old) }
+    ensures memory { GrowsWithin result cursor.old }
+{
+    let count = count(cursor)?;
+    let mut pages = Vec::new(alloc);
+    for turn in 0..count {
+        let page = number(cursor)?;
+        pages.push(page)?;
+    }
+    Ok(pages)
+}
+
 fn send_kind(cursor: &mut Cursor<'_>) -> Result<SendKind, Unread>
     ensures { Reads (λ k. k) result cursor.new (spec.read_send cursor.old) }
 {
@@ -259,6 +297,13 @@ fn number(cursor: &mut Cursor<'_>) -> Result<u64, Unread>
     ensures { Reads (λ n. n) result cursor.new (spec.read_number cursor.old) }
 {
     below(cursor, NUMBERS_END)
+}
+
+// One more than a number that a record can have, or less.
+fn drawn(cursor: &mut Cursor<'_>) -> Result<u64, Unread>
+    ensures { Reads (λ n. n) result cursor.new (spec.read_drawn cursor.old) }
+{
+    below(cursor, NUMBERS_END + 1)
 }
 
 fn deadline(cursor: &mut Cursor<'_>) -> Result<u64, Unread>

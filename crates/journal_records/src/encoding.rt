@@ -1,14 +1,14 @@
-ghost use Rattle.std.specs.Prelude.{◌≡◌, ◌++◌, ◌<◌, ◌^◌, ◌∷◌, [], ◌+◌, List, map, drop, IfOk, OnOk, length};
-ghost use Rattle.std.specs.List.{flat_map, AllByRecursion};
+ghost use Rattle.std.specs.Prelude.{◌≡◌, ◌++◌, ◌<◌, ◌^◌, ◌+◌, map, IfOk, OnOk, length};
+ghost use Rattle.std.specs.List.{AllByRecursion};
 ghost use Rattle.instance_cells.specs.Views.{effect_of};
 ghost use Rattle.script_nodes.specs.Views.{scripts_of};
+ghost use Rattle.wire_bytes.specs.Spelling.{u64_bytes};
 ghost use Rattle.value_bytes.specs.Spelling.{FitsList, list_bytes, value_bytes};
 ghost use Rattle.journal_records.specs.Fields.{effect_bytes, EffectFits, name_bytes, NameFits, script_bytes, ScriptFits, origin_bytes, OriginFits, send_byte, nothing};
-ghost use Rattle.journal_records.specs.Records.{body_of, begin_of, begins, texts_of, each_text, each_text_from, FitFrom, IsInGrammar, effects_bytes, names_bytes, PageFits, EndingFits, FinishFits, bytes_in};
-ghost use Rattle.journal_records.specs.Views.{script_of, lent_origin, lent_state, lent_page, lent_ending, lent_finish, recorded_of, scripts_bytes, page_body, ended_body, finish_body};
+ghost use Rattle.journal_records.specs.Records.{body_of, texts_of, each_text, each_text_from, FitFrom, IsInGrammar, effects_bytes, names_bytes, PageFits, EndingFits, FinishFits};
+ghost use Rattle.journal_records.specs.Views.{origin_of, setup_bytes, lent_bytes, page_of, ending_of, finish_of, recorded_of, page_body, ended_body, finish_body};
 
-use crate::logged::LoggedScript;
-use crate::recorded::{Recorded, RecordedEnded, RecordedFinish, RecordedOrigin, RecordedPage};
+use crate::records::{EndedRecord, FinishRecord, Origin, PageRecord, Recorded};
 use instance_cells::Effect;
 use script_nodes::{SendKind, Setup};
 use script_value::{Bytes, TxName};
@@ -26,48 +26,41 @@ pub fn encode(alloc: Global, record: &Recorded<'_>) -> Result<Bytes, AllocError>
     Ok(writer.finish())
 }
 
-/// The body of the record that a journal of this shelf and setup begins with.
-pub fn encode_begin(alloc: Global, shelf: u32, setup: &Setup) -> Result<Bytes, AllocError>
-    requires { IsInGrammar (begin_of shelf (scripts_of setup.now)) }
-    ensures { IfOk result (λ body. body ≡ body_of (begin_of shelf (scripts_of setup.now))) }
-{
-    let mut writer = Writer::new(alloc);
-    writer.u8(1)?;
-    writer.u32(shelf)?;
-    writer.u32(setup.len() as u32)?;
-    write_setup(&mut writer, setup)?;
-    Ok(writer.finish())
-}
-
 fn write_record(writer: &mut Writer, record: &Recorded<'_>) -> Result<(), AllocError>
     requires { IsInGrammar (recorded_of record.now) }
     ensures { OnOk result (writer.new ≡ writer.old ++ body_of (recorded_of record.now)) }
 {
     match record {
-        Recorded::Begin { shelf, scripts } => {
+        Recorded::Begin { shelf, setup } => {
             writer.u8(1)?;
             writer.u32(*shelf)?;
-            write_scripts(writer, scripts)
+            write_setup(writer, setup)
         }
-        Recorded::Page(page) => write_page(writer, page),
+        Recorded::Page { page, state } => write_page(writer, page, *state),
         Recorded::Ended(ended) => write_ended(writer, ended),
         Recorded::Finish(finish) => write_finish(writer, finish),
         Recorded::Sweep { clock } => {
             writer.u8(5)?;
             writer.u64(*clock)
         }
+        Recorded::Texts { setup } => {
+            writer.u8(6)?;
+            write_setup(writer, setup)
+        }
+        Recorded::Drawn { number } => {
+            writer.u8(7)?;
+            writer.u64(*number)
+        }
     }
 }
 
-fn write_scripts(writer: &mut Writer, scripts: &[LoggedScript]) -> Result<(), AllocError>
-    requires { FitsList ScriptFits (map script_of scripts.now) }
-    ensures { OnOk result (writer.new ≡ writer.old ++ scripts_bytes scripts.now) }
+// The names and the texts of a setup, behind their count.
+fn write_setup(writer: &mut Writer, setup: &Setup) -> Result<(), AllocError>
+    requires { FitsList ScriptFits (texts_of (scripts_of setup.now)) }
+    ensures { OnOk result (writer.new ≡ writer.old ++ setup_bytes (scripts_of setup.now)) }
 {
-    writer.u32(scripts.len() as u32)?;
-    for script in scripts {
-        write_script(writer, script.name.as_slice(), script.text.as_slice())?;
-    }
-    Ok(())
+    writer.u32(setup.len() as u32)?;
+    write_scripts(writer, setup)
 }
 
 fn write_script(writer: &mut Writer, name: &[u8], text: &[u8]) -> Result<(), AllocError>
@@ -79,7 +72,7 @@ fn write_script(writer: &mut Writer, name: &[u8], text: &[u8]) -> Result<(), All
 }
 
 // The scripts of a setup, one behind the other.
-fn write_setup(writer: &mut Writer, setup: &Setup) -> Result<(), AllocError>
+fn write_scripts(writer: &mut Writer, setup: &Setup) -> Result<(), AllocError>
     requires { AllByRecursion ScriptFits (texts_of (scripts_of setup.now)) }
     ensures { OnOk result (writer.new ≡ writer.old ++ each_text (scripts_of setup.now)) }
 {
@@ -105,66 +98,71 @@ fn write_place(writer: &mut Writer, setup: &Setup, place: usize) -> Result<(), A
 }
 
 // The bytes of a page's state, if it has any.
-fn state_in<'r>(page: &RecordedPage<'r>) -> &'r [u8]
-    ensures { result.now ≡ bytes_in (lent_state page.now) }
+fn state_bytes(state: Option<&[u8]>) -> &[u8]
+    ensures { result.now ≡ lent_bytes state.entry }
 {
-    match page.state {
+    match state {
         Some(bytes) => bytes,
         None => &[],
     }
 }
 
-fn write_page(writer: &mut Writer, page: &RecordedPage<'_>) -> Result<(), AllocError>
-    requires { PageFits (lent_page page.now) }
-    ensures { OnOk result (writer.new ≡ writer.old ++ page_body page.now) }
+fn write_page(
+    writer: &mut Writer,
+    page: &PageRecord,
+    state: Option<&[u8]>,
+) -> Result<(), AllocError>
+    requires { PageFits (page_of page.now (lent_bytes state)) }
+    ensures { OnOk result (writer.new ≡ writer.old ++ page_body page.now (lent_bytes state.entry)) }
 {
     writer.u8(2)?;
     writer.u64(page.ticket)?;
     writer.u64(page.nonce)?;
     write_origin(writer, &page.origin)?;
-    write_effects(writer, page.effects)?;
-    write_names(writer, page.left)?;
+    write_effects(writer, &page.effects)?;
+    write_names(writer, &page.left)?;
     writer.u8(send_number(page.kind))?;
     writer.u64(page.deadline)?;
-    writer.bytes(state_in(page))
+    write_numbers(writer, &page.evicted)?;
+    writer.bytes(state_bytes(state))
 }
 
-fn write_ended(writer: &mut Writer, ended: &RecordedEnded<'_>) -> Result<(), AllocError>
-    requires { EndingFits (lent_ending ended.now) }
+fn write_ended(writer: &mut Writer, ended: &EndedRecord) -> Result<(), AllocError>
+    requires { EndingFits (ending_of ended.now) }
     ensures { OnOk result (writer.new ≡ writer.old ++ ended_body ended.now) }
 {
     writer.u8(3)?;
     writer.u64(ended.ticket)?;
     writer.u64(ended.instance)?;
     writer.u64(ended.page)?;
-    write_value(writer, ended.answer)?;
-    write_effects(writer, ended.effects)?;
-    write_names(writer, ended.left)
+    write_value(writer, &ended.answer)?;
+    write_effects(writer, &ended.effects)?;
+    write_names(writer, &ended.left)
 }
 
-fn write_finish(writer: &mut Writer, finish: &RecordedFinish<'_>) -> Result<(), AllocError>
-    requires { FinishFits (lent_finish finish.now) }
+fn write_finish(writer: &mut Writer, finish: &FinishRecord) -> Result<(), AllocError>
+    requires { FinishFits (finish_of finish.now) }
     ensures { OnOk result (writer.new ≡ writer.old ++ finish_body finish.now) }
 {
     writer.u8(4)?;
     writer.u64(finish.ticket)?;
     writer.u64(finish.instance)?;
     writer.u64(finish.page)?;
-    write_value(writer, finish.answer)?;
-    write_effects(writer, finish.effects)
+    write_value(writer, &finish.answer)?;
+    write_effects(writer, &finish.effects)
 }
 
-fn write_origin(writer: &mut Writer, origin: &RecordedOrigin<'_>) -> Result<(), AllocError>
-    requires { OriginFits (lent_origin origin.now) }
-    ensures { OnOk result (writer.new ≡ writer.old ++ origin_bytes (lent_origin origin.now)) }
+fn write_origin(writer: &mut Writer, origin: &Origin) -> Result<(), AllocError>
+    requires { OriginFits (origin_of origin.now) }
+    ensures { OnOk result (writer.new ≡ writer.old ++ origin_bytes (origin_of origin.now)) }
 {
     match origin {
-        RecordedOrigin::Start { script } => {
+        Origin::Start { script } => {
             writer.u8(0)?;
             writer.u8(*script)?;
             write_nothing(writer)
         }
-        RecordedOrigin::Answer {
+        Origin::Answer {
             instance,
             page,
             answer,
@@ -235,6 +233,18 @@ fn write_name(writer: &mut Writer, name: &TxName) -> Result<(), AllocError>
 {
     writer.u64(name.ticket)?;
     writer.u32(name.entry)
+}
+
+// The numbers of pages.
+fn write_numbers(writer: &mut Writer, numbers: &[u64]) -> Result<(), AllocError>
+    requires { length numbers.now < 2 ^ 32 }
+    ensures { OnOk result (writer.new ≡ writer.old ++ list_bytes u64_bytes numbers.now) }
+{
+    writer.u32(numbers.len() as u32)?;
+    for number in numbers {
+        writer.u64(*number)?;
+    }
+    Ok(())
 }
 
 fn send_number(kind: SendKind) -> u8

@@ -1,7 +1,7 @@
 ghost use Rattle.std.specs.Prelude.{◌↔◌, ◌<◌, ◌+◌, IsTrue, length};
 ghost use Rattle.script_nodes.specs.Views.{named_of, scripts_of};
 ghost use Rattle.journal_records.specs.Fields.{ScriptFits};
-ghost use Rattle.journal_records.specs.Records.{IsInGrammar, FitFrom, begin_of, text_of};
+ghost use Rattle.journal_records.specs.Records.{IsInGrammar, FitFrom, begin_of, renewal_of, text_of};
 
 use script_nodes::{NamedScript, Setup};
 
@@ -11,9 +11,11 @@ pub(crate) const NUMBERS_END: u64 = 1 << 62;
 // Deadlines stay below this.
 pub(crate) const DEADLINES_END: u64 = 1 << 63;
 
-/// Whether a journal can begin with a setup: neither the scripts nor the bytes of one of their texts are 2^32 or more. It takes no memory.
+/// Whether a journal can begin with a setup: neither the scripts nor the bytes of one of their texts are 2^32 or more. It can tell it
+/// later too, then. It takes no memory.
 pub fn can_begin(shelf: u32, setup: &Setup) -> bool
-    ensures { IsTrue result ↔ IsInGrammar (begin_of shelf (scripts_of setup.now)) }
+    ensures begins { IsTrue result ↔ IsInGrammar (begin_of shelf (scripts_of setup.now)) }
+    ensures renews { IsTrue result ↔ IsInGrammar (renewal_of (scripts_of setup.now)) }
 {
     if setup.len() > u32::MAX as usize {
         return false;

@@ -5,11 +5,10 @@ ghost use Rattle.script_value.specs.Views.{meaning};
 ghost use Rattle.instance_cells.specs.Views.{effect_of};
 ghost use Rattle.replay_spec.specs.Book.{ends};
 ghost use Rattle.journal_records.specs.Fields.{is_shallow, is_shallow_effect, IsTyped, AreTyped, IsTypedEffect, NameFits};
-ghost use Rattle.journal_records.specs.Reading.{page_change};
 ghost use Rattle.journal_records.specs.Records.{IfChanges, are_shallow, PartsFit};
-ghost use Rattle.journal_records.specs.Views.{lent_page, lent_ending, lent_finish, recorded_of};
+ghost use Rattle.journal_records.specs.Views.{page_change, ending_of, recorded_of};
 
-use crate::recorded::{Recorded, RecordedEnded, RecordedFinish, RecordedOrigin, RecordedPage};
+use crate::records::{EndedRecord, Origin, PageRecord, Recorded};
 use instance_cells::Effect;
 use script_value::{TxName, Value};
 use value_bytes::MOST_LEVELS;
@@ -21,34 +20,36 @@ pub(crate) fn nests_shallow(record: &Recorded<'_>) -> bool
 {
     match record {
         Recorded::Begin { .. } => true,
-        Recorded::Page(page) => page_nests_shallow(page),
+        Recorded::Page { page, .. } => page_nests_shallow(page),
         Recorded::Ended(ended) => ended_nests_shallow(ended),
         Recorded::Finish(finish) => {
-            is_shallow(finish.answer) && effects_nest_shallow(finish.effects)
+            is_shallow(&finish.answer) && effects_nest_shallow(&finish.effects)
         }
         Recorded::Sweep { .. } => true,
+        Recorded::Texts { .. } => true,
+        Recorded::Drawn { .. } => true,
     }
 }
 
-fn page_nests_shallow(page: &RecordedPage<'_>) -> bool
-    ensures shallow { result ≡ are_shallow (page_change (lent_page page.now)) }
-    ensures parts { IsTrue result → PartsFit (page_change (lent_page page.now)) }
+fn page_nests_shallow(page: &PageRecord) -> bool
+    ensures shallow { result ≡ are_shallow (page_change page.now) }
+    ensures parts { IsTrue result → PartsFit (page_change page.now) }
 {
-    see_names(page.left);
+    see_names(&page.left);
     match &page.origin {
-        RecordedOrigin::Start { .. } => effects_nest_shallow(page.effects),
-        RecordedOrigin::Answer { answer, .. } => {
-            is_shallow(answer) && effects_nest_shallow(page.effects)
+        Origin::Start { .. } => effects_nest_shallow(&page.effects),
+        Origin::Answer { answer, .. } => {
+            is_shallow(answer) && effects_nest_shallow(&page.effects)
         }
     }
 }
 
-fn ended_nests_shallow(ended: &RecordedEnded<'_>) -> bool
-    ensures shallow { result ≡ are_shallow (ends (lent_ending ended.now)) }
-    ensures parts { IsTrue result → PartsFit (ends (lent_ending ended.now)) }
+fn ended_nests_shallow(ended: &EndedRecord) -> bool
+    ensures shallow { result ≡ are_shallow (ends (ending_of ended.now)) }
+    ensures parts { IsTrue result → PartsFit (ends (ending_of ended.now)) }
 {
-    see_names(ended.left);
-    is_shallow(ended.answer) && effects_nest_shallow(ended.effects)
+    see_names(&ended.left);
+    is_shallow(&ended.answer) && effects_nest_shallow(&ended.effects)
 }
 
 fn effects_nest_shallow(effects: &[Effect]) -> bool

@@ -4,7 +4,6 @@ use Rattle.std.specs.Prelude.{◌&&◌, nat_lt, if◌then◌else◌, ⊤}
 use Rattle.std.proofs.lemmas.Bool.{and_from, and_parts}
 use Rattle.std.proofs.lemmas.Bool.Decides.{nat_tests}
 use Rattle.script_value.specs.declared.outcome.TxName.{TxName}
-use Rattle.script_nodes.specs.Setup.{Named}
 use Rattle.replay_spec.specs.Tape.{present, How, shows, Outcome, paged, faulted}
 use Rattle.replay_spec.specs.Tape as tape
 use Rattle.replay_spec.specs.Eval.{Segment}
@@ -12,15 +11,17 @@ use Rattle.replay_spec.specs.Book.{Change, opens, extends, ends, finishes, sweep
 use Rattle.replay_spec.specs.Rules.{Journal, Rules}
 use Rattle.replay_spec.specs.Admission.{when, or_else, Admission, begins, resumes, refused, admit}
 use Rattle.replay_spec.specs.Next.{Ticket, Origin, starts, answers, Visit, comes_to, start_visit, page_visit, url_for}
-use Rattle.replay_spec.specs.Step.{Reply, Decision, replies, records, unless, down_by, change_by, reply_by, full, too_long, full_journal, with_room, stopped, decide, publish_comes}
+use Rattle.replay_spec.specs.Step.{Reply, Decision, replies, records, compacts, unless, down_by, change_by, reply_by, full, too_long, full_journal, with_room, stopped, gone_for, decide, publish_comes}
 use Rattle.replay_spec.proofs.Going.{Records}
-use Rattle.journal_records.specs.Records.{changes, are_shallow, has_state, body_length, record_length}
+use Rattle.journal_records.specs.Records.{changes, body_of, are_shallow, has_state, body_length, record_length}
 use Rattle.journal_spec.specs.Lengths.{state_by, state_told, journal_rules}
-use Rattle.journal_spec.specs.Keeping.{body_by}
+
+abbrev pub body_by : Change → Option (List ℕ) → List ℕ
+body_by c state = body_of (changes c state)
 
 -- a page's record has the nonce of its ticket, and this deadline
 abbrev pub Tells : Ticket → (deadline : ℕ) → Change → Type 0
-Tells t deadline (opens o) = (o.nonce ≡ t.nonce) × (o.deadline ≡ deadline)
+Tells t deadline (opens o) = (o.nonce ≡ t.nonce) × (o.deadline ≡ deadline) × (o.evicted ≡ [])
 Tells t deadline (extends x) = (x.nonce ≡ t.nonce) × (x.deadline ≡ deadline)
 Tells t deadline (ends e) = ⊤
 Tells t deadline (finishes f) = ⊤
@@ -30,22 +31,23 @@ abbrev TellsIf : Ticket → (deadline : ℕ) → Option Change → Type 0
 TellsIf t deadline None = ⊤
 TellsIf t deadline (Some c) = Tells t deadline c
 
--- and what is recorded is not too long
+-- and what is recorded is not too long; no publish comes to a compaction
 abbrev pub Comes : Rules → Book → Ticket → Decision → Type 0
 Comes rules b t (replies r) = ⊤
+Comes rules b t (compacts r) = ⊥
 Comes rules b t (records r c inside) = Tells t (b.clock + rules.life) c × (too_long rules.journal b c ≡ None)
 
 unless_comes : (rules : Rules) (b : Book) (t : Ticket) (o : Option Reply) (d : Decision) → Comes rules b t d → Comes rules b t (unless o d)
 unless_comes rules b t None d h = h
 unless_comes rules b t (Some r) d h = tt
 
-told_by : (v : Visit) (s : Segment) (deadline : ℕ) (origin : Origin) (how : How) → TellsIf v.ticket deadline (change_by deadline v s origin how)
-told_by v s deadline (starts k) (shows kind) = (refl, refl)
-told_by v s deadline (starts k) tape.ends = tt
-told_by v s deadline (starts k) tape.finishes = tt
-told_by v s deadline (answers i p) (shows kind) = (refl, refl)
-told_by v s deadline (answers i p) tape.ends = tt
-told_by v s deadline (answers i p) tape.finishes = tt
+told_by : (v : Visit) (s : Segment) (deadline : ℕ) (gone : List ℕ) (origin : Origin) (how : How) → TellsIf v.ticket deadline (change_by deadline gone v s origin how)
+told_by v s deadline gone (starts k) (shows kind) = (refl, refl, refl)
+told_by v s deadline gone (starts k) tape.ends = tt
+told_by v s deadline gone (starts k) tape.finishes = tt
+told_by v s deadline gone (answers i p) (shows kind) = (refl, refl)
+told_by v s deadline gone (answers i p) tape.ends = tt
+told_by v s deadline gone (answers i p) tape.finishes = tt
 
 measured : (rules : Rules) (b : Book) (t : Ticket) (r : Reply) (c : Change) (inside : List TxName) (o p : Option Reply) → too_long rules.journal b c ≡ o → Tells t (b.clock + rules.life) c
     → Comes rules b t (unless (or_else o p) (records r c inside))
@@ -57,18 +59,18 @@ room_comes : (rules : Rules) (b : Book) (t : Ticket) (r : Reply) (inside : List 
 room_comes rules b t r inside None h = tt
 room_comes rules b t r inside (Some c) h = measured rules b t r c inside (too_long rules.journal b c) (full_journal rules.journal b c) refl h
 
-stopped_comes : (rules : Rules) (b : Book) (count : ℕ) (v : Visit) (s : Segment) (o : Outcome) → Comes rules b v.ticket (stopped rules b count v s o)
-stopped_comes rules b count v s (paged how bytes) =
-    unless_comes rules b v.ticket (full rules how v.origin count) _
-    (room_comes rules b v.ticket (reply_by how bytes (url_for v)) s.entered (change_by (b.clock + rules.life) v s v.origin how) (told_by v s (b.clock + rules.life) v.origin how))
-stopped_comes rules b count v s (faulted f) = tt
-stopped_comes rules b count v s (tape.out_of_fuel cost) = tt
+stopped_comes : (rules : Rules) (b : Book) (gone : List ℕ) (v : Visit) (s : Segment) (o : Outcome) → Comes rules b v.ticket (stopped rules b gone v s o)
+stopped_comes rules b gone v s (paged how bytes) =
+    unless_comes rules b v.ticket (full rules how v.origin (length b.instances)) _
+    (room_comes rules b v.ticket (reply_by how bytes (url_for v)) s.entered (change_by (b.clock + rules.life) gone v s v.origin how) (told_by v s (b.clock + rules.life) gone v.origin how))
+stopped_comes rules b gone v s (faulted f) = tt
+stopped_comes rules b gone v s (tape.out_of_fuel cost) = tt
 
 decided_comes : (rules : Rules) (b : Book) (t : Ticket) (a : Admission) → Comes rules b t (decide rules b t a)
 decided_comes rules b t (begins k s) =
-    let v = start_visit b t k s in let m = comes_to v (present s.script.cells rules.fuel) in stopped_comes rules b _ v m m.outcome
+    let v = start_visit b t k s in let m = comes_to v (present s.script.cells rules.fuel) in stopped_comes rules b [] v m m.outcome
 decided_comes rules b t (resumes at) =
-    let v = page_visit b t at in let m = comes_to v (present at.instance.cells rules.fuel) in stopped_comes rules b _ v m m.outcome
+    let v = page_visit b t at in let m = comes_to v (present at.instance.cells rules.fuel) in stopped_comes rules b (gone_for rules t at) v m m.outcome
 decided_comes rules b t (refused r) = tt
 
 pub published_comes : (rules : Rules) (b : Book) (t : Ticket) → Comes rules b t (publish_comes rules b t)
@@ -90,7 +92,7 @@ moved_told b drawn out down (ends e) = refl
 moved_told b drawn out down (finishes f) = refl
 moved_told b drawn out down (sweeps tick) = refl
 
-reopened_told : (b : Book) (c : Change) → state_told (reopened b) c ≡ state_told b c
+pub reopened_told : (b : Book) (c : Change) → state_told (reopened b) c ≡ state_told b c
 reopened_told b c = moved_told b b.logged [] None c
 
 -- ---- no value of a change nests too deep, its page has a state, and its body is short
@@ -114,10 +116,10 @@ short_measured c state h =
     ap (λ (t : Bool). if t then body_length (changes c state) else 2 ^ 63) (and_from (are_shallow c) (has_state c state) h.shallow h.has) ∙ all
 
 -- what was not too long is so
-pub short : (scripts : List Named) (shelf : ℕ) (o : Option Journal) (b : Book) (c : Change) → o ≡ Some (journal_rules shelf scripts) → too_long o b c ≡ None → IsShort c (state_told b c)
-short scripts shelf o b c is none =
+pub short : (shelf : ℕ) (o : Option Journal) (b : Book) (c : Change) → o ≡ Some (journal_rules shelf) → too_long o b c ≡ None → IsShort c (state_told b c)
+short shelf o b c is none =
     let n = record_length c (state_told (reopened b) c) in
-    let here : too_long (Some (journal_rules shelf scripts)) b c ≡ None = ap (λ (p : Option Journal). too_long p b c) (sym is) ∙ none in
+    let here : too_long (Some (journal_rules shelf)) b c ≡ None = ap (λ (p : Option Journal). too_long p b c) (sym is) ∙ none in
     length_short c (state_told b c) (subst (λ (s : Option (List ℕ)). record_length c s ≤ 1048576) (reopened_told b c) (by_test (nat_lt 1048576 n) refl here))
   where
     by_test : (t : Bool) → nat_lt 1048576 (record_length c (state_told (reopened b) c)) ≡ t → when t (Reply.oversize (record_length c (state_told (reopened b) c))) ≡ None
@@ -125,8 +127,8 @@ short scripts shelf o b c is none =
     by_test true e f = absurd (let no : ⊥ = cc in no)
     by_test false e f = grind (arith, nat_tests, e)
 
-pub recorded_short : {lawful : Type 0} (scripts : List Named) (shelf : ℕ) (rules : Rules) (b : Book) (t : Ticket) (c : Change) (inside : List TxName)
-    → rules.journal ≡ Some (journal_rules shelf scripts) → Records lawful rules b t c inside → IsShort c (state_told b c)
-recorded_short scripts shelf rules b t c inside journal h =
+pub recorded_short : {lawful : Type 0} (shelf : ℕ) (rules : Rules) (b : Book) (t : Ticket) (c : Change) (inside : List TxName)
+    → rules.journal ≡ Some (journal_rules shelf) → Records lawful rules b t c inside → IsShort c (state_told b c)
+recorded_short shelf rules b t c inside journal h =
     let comes : Comes rules b t (records h.reply c inside) = subst (Comes rules b t) h.decided (decided_comes rules b t (admit b t.target)) in
-    short scripts shelf rules.journal b c journal comes.1
+    short shelf rules.journal b c journal comes.1

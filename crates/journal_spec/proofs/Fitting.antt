@@ -1,37 +1,38 @@
 -- What any bodies make.
-use Rattle.std.proofs.Common.{◌≡◌, ℕ, ◌+◌, ◌<◌, ◌≤◌, ◌^◌, ◌==◌, ◌&&◌, List, [], ◌∷◌, length, Bool, true, false, not, if◌then◌else◌, Option, Some, None, refl, sym, ◌∙◌, ap, subst, ⊎_elim, arith, length-append, slice_get}
+use Rattle.std.proofs.Common.{◌≡◌, ℕ, ◌+◌, ◌<◌, ◌≤◌, ◌==◌, List, [], ◌∷◌, length, Bool, true, false, not, if◌then◌else◌, Option, Some, None, refl, sym, ◌∙◌, ap, subst, ⊎_elim, arith, length-append, slice_get}
 use Rattle.std.specs.Prelude.{⊤}
-use Rattle.std.specs.Str.{bytes_eq}
 use Rattle.std.proofs.lemmas.Bool.Decides.{nat_tests}
-use Rattle.std.proofs.lemmas.Slice.Eq.{bytes_eq-Decides}
-use Rattle.std.proofs.lemmas.Bool.{and_parts, and_from}
 use Rattle.script_value.specs.declared.outcome.TxName.{TxName}
 use Rattle.script_nodes.specs.Setup.{Named}
 use Rattle.page_journal.specs.Records.{framed, frames}
 use Rattle.page_journal.proofs.Frames.{length-framed, length-at_rest}
-use Rattle.replay_spec.specs.Book.{Instance, Opening, Change, opens, extends, ends, finishes, sweeps, Doubt, Book, instance_at, is_live, reopened}
-use Rattle.replay_spec.specs.Rules.{Rules}
-use Rattle.replay_spec.specs.Change.{mend, root_by, page_by, done, shown_by, fresh, opened_by, instances_by, logged_by, clock_by, longer_by}
-use Rattle.replay_spec.specs.Recovery.{redone}
+use Rattle.replay_spec.specs.Book.{Instance, Opening, Change, opens, extends, ends, finishes, sweeps, Doubt, renewed, File, Book, instance_at, is_live, reopened}
+use Rattle.replay_spec.specs.Rules.{Rules, first_file}
+use Rattle.replay_spec.specs.Change.{mend, root_by, page_by, shown_by, ended_by, fresh, opened_by, instances_by, logged_by, clock_by, longer_by}
+use Rattle.replay_spec.specs.Recovery.{redone, of_length, first_of, used_up}
 use Rattle.machine_states.specs.Machine.{inside_of}
 use Rattle.replay_spec.specs.Invariant.{Among, Apart}
 use Rattle.replay_spec.specs.Remade.{AreUsed, IsOrderlyMade}
 use Rattle.replay_spec.proofs.Found.{KeepsNumber, keep_found}
 use Rattle.replay_spec.proofs.Differ.{put_from, mend_from}
 use Rattle.replay_spec.proofs.Recovered.{made_orderly}
+use Rattle.replay_spec.proofs.Compacted.{line_orderly, first_orderly}
 use Rattle.journal_records.specs.Fields.{numbers_end}
-use Rattle.journal_records.specs.Records.{ChangeFits, Record, begins, changes, body_of, texts_of, begin_of}
+use Rattle.journal_records.specs.Records.{ChangeFits, Record, begins, changes, renews, draws}
 use Rattle.journal_records.specs.Reading.{read_record}
 use Rattle.journal_records.specs.Laws.{AreRecordsExact}
 use Rattle.value_bytes.specs.Laws.{AreBytes}
-use Rattle.journal_spec.specs.Before.{Made, plain, nothing_made}
-use Rattle.journal_spec.specs.Retaking.{Told, unread, misread, told, told_in, landing, rules_for, retaken}
-use Rattle.journal_spec.specs.Making.{Making, nothing, made, damaged, other, rules_over, are_told, has_script, told_next, first_by, next_by, with_body, with_bodies}
-use Rattle.journal_spec.specs.Keeping.{AreAllBytes, IsWhole, AreWhole, IsTakenDoubt}
-use Rattle.journal_spec.proofs.Retaken.{retaken_orderly}
-use Rattle.journal_spec.proofs.Makings.{told_is}
+use Rattle.server_limits.specs.Limits.{most_fuel}
+use Rattle.journal_spec.specs.Before.{nothing_told, Made, plain}
+use Rattle.journal_spec.specs.Retaking.{Told, unread, misread, told, told_in, landing, retaken}
+use Rattle.journal_spec.specs.Making.{Texts, Making, nothing, begun, made, damaged, other, has_script, beside, began, first_setup, first_by, told_next, next_setup, next_by, with_drawn, second_by, with_body, with_bodies, made_in}
+use Rattle.journal_spec.specs.Opening.{ReadsWhole}
+use Rattle.journal_spec.specs.Whole.{IsWhole, AreWhole}
+use Rattle.journal_spec.specs.Reading.{AreAllBytes}
+use Rattle.journal_spec.specs.Keeping.{IsTakenDoubt}
 use Rattle.journal_spec.specs.Spelling.{IsDoubtInRange}
-use Rattle.journal_spec.specs.Laws.{OnlyItsBeginBegins, BodiesMakeFittingBooks}
+use Rattle.journal_spec.specs.Laws.{IsNoBegin, OnlyItsBeginBegins, BodiesMakeFittingBooks}
+use Rattle.journal_spec.proofs.Retaken.{retaken_orderly}
 
 -- scripts of instances are whole
 abbrev pub WholeIn : List Instance → Type 0
@@ -46,13 +47,13 @@ whole_mended n f is same script h k j found = ⊎_elim
 whole_opened : (s : Option Named) (o : Opening) (inside : List TxName) (is : List Instance) → ((a : Named) → s ≡ Some a → IsWhole a) → WholeIn is → WholeIn (opened_by s o inside is)
 whole_opened None o inside is fits h k j found = h k j found
 whole_opened (Some a) o inside is fits h k j found =
-    let i = shown_by o.effects o.left o.kind (root_by o inside) (fresh a o.number) in
+    let i = shown_by o.effects o.left o.kind [] (root_by o inside) (fresh a o.number) in
     ⊎_elim (λ same. subst (λ (x : Instance). IsWhole x.script) same (fits a refl)) (λ old. h k j old) (put_from (λ (x : Instance). x.number) k i j is found)
 
 pub whole_by : (scripts : List Named) (is : List Instance) (c : Change) (inside : List TxName) → Apart is → AreWhole scripts → WholeIn is → WholeIn (instances_by scripts c inside is)
 whole_by scripts is (opens o) inside apart setup h k j found = whole_opened (slice_get scripts o.script) o inside is (setup o.script) h k j found
-whole_by scripts is (extends x) inside apart setup h k j found = whole_mended x.instance (shown_by x.effects x.left x.kind (page_by x inside)) is (λ i. refl) (λ i. refl) h k j found
-whole_by scripts is (ends e) inside apart setup h k j found = whole_mended e.instance (done e.effects e.left) is (λ i. refl) (λ i. refl) h k j found
+whole_by scripts is (extends x) inside apart setup h k j found = whole_mended x.instance (shown_by x.effects x.left x.kind x.evicted (page_by x inside)) is (λ i. refl) (λ i. refl) h k j found
+whole_by scripts is (ends e) inside apart setup h k j found = whole_mended e.instance (ended_by e) is (λ i. refl) (λ i. refl) h k j found
 whole_by scripts is (finishes f) inside apart setup h k j found = h k j (keep_found (λ i. not (i.number == f.instance)) k is j apart found)
 whole_by scripts is (sweeps tick) inside apart setup h k j found = h k j (keep_found (is_live tick) k is j apart found)
 
@@ -60,90 +61,91 @@ whole_redone : (rules : Rules) (c : Change) (o : Option (List TxName)) (b : Book
 whole_redone rules c None b apart setup h = h
 whole_redone rules c (Some inside) b apart setup h = whole_by b.scripts b.instances c inside apart setup h
 
--- what a book under way has, whose journal's next gate is at this place; its length is known where all bodies are bytes
-record Fits (all : Type 0) (scripts : List Named) (shelf place : ℕ) (m : Made) : Type 0 where
+-- what a book under way has, whose journal's next gate is at this place
+record Fits (all : Type 0) (texts : Texts) (shelf place : ℕ) (m : Made) : Type 0 where
   orderly : IsOrderlyMade (plain m)
-  scripts_are : m.book.scripts ≡ scripts
   shelf_is : m.book.shelf ≡ shelf
-  whole : AreWhole scripts → WholeIn m.book.instances
+  named : List (List ℕ × List ℕ)
+  read : texts named ≡ Some m.book.scripts
+  whole : ReadsWhole texts → WholeIn m.book.instances
   range : all → (m.book.logged ≤ numbers_end) × (m.book.clock < numbers_end)
-  long : all → place + 1 ≤ 2 ^ 30 → m.book.length ≡ place + 1
+  long : all → m.book.length ≡ place + 1
 
-abbrev FitsMaking : (all : Type 0) → List Named → (shelf place : ℕ) → Making → Type 0
-FitsMaking all scripts shelf place nothing = place ≡ 8
-FitsMaking all scripts shelf place (made m) = Fits all scripts shelf place m
-FitsMaking all scripts shelf place (damaged p) = ⊤
-FitsMaking all scripts shelf place (other p) = ⊤
+-- what the first record alone makes, whose journal's next gate is at this place
+record Begins (texts : Texts) (shelf place : ℕ) (m : Made) : Type 0 where
+  body : ℕ
+  scripts : List Named
+  named : List (List ℕ × List ℕ)
+  read : texts named ≡ Some scripts
+  is : m ≡ began shelf body scripts
+  at : place ≡ 8 + 5 + body
 
-bytes_are : (xs ys : List ℕ) → bytes_eq xs ys ≡ true → xs ≡ ys
-bytes_are xs ys e = grind (arith, nat_tests, e, bytes_eq-Decides xs ys)
-
-told_only : (named : List (List ℕ × List ℕ)) (scripts : List Named) → are_told named scripts ≡ true → named ≡ texts_of scripts
-told_only [] [] e = refl
-told_only [] (s ∷ ss) e = absurd (let no : ⊥ = cc in no)
-told_only (p ∷ ps) [] e = absurd (let no : ⊥ = cc in no)
-told_only (p ∷ ps) (s ∷ ss) e =
-    let all = and_parts (bytes_eq p.0 s.name && bytes_eq p.1 s.text) (are_told ps ss) e in
-    let one = and_parts (bytes_eq p.0 s.name) (bytes_eq p.1 s.text) all.0 in
-    let name = bytes_are p.0 s.name one.0 in
-    let text = bytes_are p.1 s.text one.1 in
-    let rest = told_only ps ss all.1 in
-    λ i. (name i, text i) ∷ rest i
-
-begins_same : (s t : ℕ) (xs ys : List (List ℕ × List ℕ)) → begins s xs ≡ begins t ys → (s ≡ t) × (xs ≡ ys)
-begins_same s t xs ys e = (cc e, cc e)
+abbrev FitsMaking : (all : Type 0) → Texts → (shelf place : ℕ) → Making → Type 0
+FitsMaking all texts shelf place nothing = place ≡ 8
+FitsMaking all texts shelf place (begun m) = Begins texts shelf place m
+FitsMaking all texts shelf place (made m) = Fits all texts shelf place m
+FitsMaking all texts shelf place (damaged p) = ⊤
+FitsMaking all texts shelf place (other p) = ⊤
 
 pub only_begin : OnlyItsBeginBegins
-only_begin scripts shelf place s named = by_test (s == shelf && are_told named scripts) refl
+only_begin texts shelf place n = (
+  λ named scripts read. (here named scripts read, λ s differs. elsewhere s named scripts differs read),
+  λ s named none. ap (first_setup shelf place n s) none,
+  no_begin,
+)
   where
-    is_begin : (s == shelf && are_told named scripts) ≡ true → begins s named ≡ begin_of shelf scripts
-    is_begin t =
-        let all = and_parts (s == shelf) (are_told named scripts) t in
-        let same : s ≡ shelf = grind (arith, nat_tests, all.0) in
-        let names = told_only named scripts all.1 in
-        λ i. begins (same i) (names i)
+    here : (named : List (List ℕ × List ℕ)) (scripts : List Named) → texts named ≡ Some scripts → first_by texts shelf place n (Some (begins shelf named)) ≡ begun (began shelf n scripts)
+    here named scripts read =
+        let same : (shelf == shelf) ≡ true = grind (arith, nat_tests) in
+        ap (first_setup shelf place n shelf) read ∙ ap (λ (t : Bool). if t then begun (began shelf n scripts) else other place) same
 
-    is_told : begins s named ≡ begin_of shelf scripts → (s == shelf && are_told named scripts) ≡ true
-    is_told e =
-        let parts = begins_same s shelf named (texts_of scripts) e in
-        let here : (s == shelf) ≡ true = grind (arith, nat_tests, parts.0) in
-        let there : are_told named scripts ≡ true = subst (λ (ns : List (List ℕ × List ℕ)). are_told ns scripts ≡ true) (sym parts.1) (told_is scripts) in
-        and_from (s == shelf) (are_told named scripts) here there
+    elsewhere : (s : ℕ) (named : List (List ℕ × List ℕ)) (scripts : List Named) → (s ≡ shelf → ⊥) → texts named ≡ Some scripts
+        → first_by texts shelf place n (Some (begins s named)) ≡ other place
+    elsewhere s named scripts differs read =
+        let apart : (s == shelf) ≡ false = grind (arith, nat_tests, differs) in
+        ap (first_setup shelf place n s) read ∙ ap (λ (t : Bool). if t then begun (began shelf n scripts) else other place) apart
 
-    by_test : (t : Bool) → (s == shelf && are_told named scripts) ≡ t
-        → (begins s named ≡ begin_of shelf scripts
-        → (if t then made (nothing_made (rules_over scripts shelf) scripts shelf) else other place) ≡ made (nothing_made (rules_over scripts shelf) scripts shelf))
-        × ((begins s named ≡ begin_of shelf scripts → ⊥) → (if t then made (nothing_made (rules_over scripts shelf) scripts shelf) else other place) ≡ other place)
-    by_test true e = (λ _. refl, λ other. absurd (other (is_begin e)))
-    by_test false e = (λ same. absurd (let yes = is_told same in let no : ⊥ = cc in no), λ _. refl)
+    no_begin : (r : Option Record) → IsNoBegin r → first_by texts shelf place n r ≡ damaged place
+    no_begin None h = refl
+    no_begin (Some (begins s named)) h = absurd h
+    no_begin (Some (changes c state)) h = refl
+    no_begin (Some (renews named)) h = refl
+    no_begin (Some (draws number)) h = refl
 
-first_fits : AreRecordsExact → (all : Type 0) (scripts : List Named) (shelf : ℕ) (body : List ℕ) (o : Option Record) → read_record body ≡ o → (all → AreBytes body)
-    → FitsMaking all scripts shelf (8 + 5 + length body) (first_by scripts shelf 8 o)
-first_fits x all scripts shelf body None e are = tt
-first_fits x all scripts shelf body (Some (changes c state)) e are = tt
-first_fits x all scripts shelf body (Some (begins s named)) e are = by_test (s == shelf && are_told named scripts) refl
+-- what a file's first records make
+first_file_fits : (all : Type 0) (texts : Texts) (shelf place : ℕ) (f : File) (named : List (List ℕ × List ℕ)) → texts named ≡ Some f.scripts
+    → (all → used_up f.drawn ≤ numbers_end) → (all → (first_of shelf f).book.length ≡ place + 1) → Fits all texts shelf place (beside nothing_told (first_of shelf f))
+first_file_fits all texts shelf place f named read low long = record {
+  orderly = first_orderly shelf f;
+  shelf_is = refl;
+  named = named;
+  read = read;
+  whole = λ whole k i found. absurd (let no : ⊥ = cc in no);
+  range = λ bytes. (low bytes, omega arith);
+  long = long;
+}
+
+begins_fits : (all : Type 0) (texts : Texts) (shelf place : ℕ) (m : Made) → Begins texts shelf place m → Fits all texts shelf place m
+begins_fits all texts shelf place m h =
+    let at = h.at in
+    subst (Fits all texts shelf place) (sym h.is)
+    (first_file_fits all texts shelf place (first_file (14 + h.body) h.scripts) h.named h.read (λ bytes. omega arith) (λ bytes. omega (arith, at)))
+
+first_fits : (all : Type 0) (texts : Texts) (shelf : ℕ) (body : List ℕ) (o : Option Record) → FitsMaking all texts shelf (8 + 5 + length body) (first_by texts shelf 8 (length body) o)
+first_fits all texts shelf body None = tt
+first_fits all texts shelf body (Some (changes c state)) = tt
+first_fits all texts shelf body (Some (renews named)) = tt
+first_fits all texts shelf body (Some (draws number)) = tt
+first_fits all texts shelf body (Some (begins s named)) = by_setup (texts named) refl
   where
-    whole : (s == shelf && are_told named scripts) ≡ true → Fits all scripts shelf (8 + 5 + length body) (nothing_made (rules_over scripts shelf) scripts shelf)
-    whole t =
-        let both = and_parts (s == shelf) (are_told named scripts) t in
-        let same : s ≡ shelf = grind (arith, nat_tests, both.0) in
-        let names = told_only named scripts both.1 in
-        record {
-          orderly = (made_orderly (rules_over scripts shelf)).0 scripts shelf;
-          scripts_are = refl;
-          shelf_is = refl;
-          whole = λ _ k i found. absurd (let no : ⊥ = cc in no);
-          range = λ _. (omega arith, omega arith);
-          long = λ bytes fits.
-              let is : body ≡ body_of (begin_of shelf scripts) = (x.exact body (begins s named) (are bytes) e).spelled ∙ (λ i. body_of (begins (same i) (names i))) in
-              let l : length body ≡ length (body_of (begin_of shelf scripts)) = ap length is in
-              omega (arith, l);
-        }
+    by_test : (scripts : List Named) (t : Bool) → texts named ≡ Some scripts
+        → FitsMaking all texts shelf (8 + 5 + length body) (if t then begun (began shelf (length body) scripts) else other 8)
+    by_test scripts true read = record { body = length body; scripts = scripts; named = named; read = read; is = refl; at = refl }
+    by_test scripts false read = tt
 
-    by_test : (t : Bool) → (s == shelf && are_told named scripts) ≡ t
-        → FitsMaking all scripts shelf (8 + 5 + length body) (if t then made (nothing_made (rules_over scripts shelf) scripts shelf) else other 8)
-    by_test true t = whole t
-    by_test false t = tt
+    by_setup : (o : Option (List Named)) → texts named ≡ o → FitsMaking all texts shelf (8 + 5 + length body) (first_setup shelf 8 (length body) s o)
+    by_setup None read = tt
+    by_setup (Some scripts) read = by_test scripts (s == shelf) read
 
 redone_scripts : (rules : Rules) (c : Change) (o : Option (List TxName)) (b : Book)
     → ((redone rules c o b).scripts ≡ b.scripts) × ((redone rules c o b).shelf ≡ b.shelf) × ((redone rules c o b).length ≡ longer_by rules.journal b c)
@@ -175,60 +177,107 @@ redone_range rules c state None b h logged low = (let n = logged_range c state h
 redone_range rules c state (Some inside) b h logged low = (let n = logged_range c state h in omega (arith, n, logged), clock_range c state b.clock h low)
 
 -- a record that is read, and lands with these names or is passed over
-taken_fits : AreRecordsExact → (all : Type 0) (scripts : List Named) (shelf place : ℕ) (body : List ℕ) (m : Made) (c : Change) (state : Option (List ℕ)) (inside : List TxName) (t : Told)
-    → read_record body ≡ Some (changes c state) → (all → AreBytes body) → Fits all scripts shelf place m
-    → Fits all scripts shelf (place + 5 + length body) (retaken (length body) c (landing m c inside) t m)
-taken_fits x all scripts shelf place body m c state inside t e are h =
+taken_fits : AreRecordsExact → (all : Type 0) (texts : Texts) (shelf place : ℕ) (body : List ℕ) (m : Made) (c : Change) (state : Option (List ℕ)) (inside : List TxName) (t : Told)
+    → read_record body ≡ Some (changes c state) → (all → AreBytes body) → Fits all texts shelf place m
+    → Fits all texts shelf (place + 5 + length body) (retaken (length body) c (landing m c inside) t m)
+taken_fits x all texts shelf place body m c state inside t e are h =
     let n = length body in
     let o = landing m c inside in
-    let rules = redone_scripts (rules_for n) c o m.book in
+    let rules = redone_scripts (of_length n) c o m.book in
     record {
       orderly = retaken_orderly n c inside t m h.orderly;
-      scripts_are = rules.0 ∙ h.scripts_are;
       shelf_is = rules.1 ∙ h.shelf_is;
-      whole = λ setup. whole_redone (rules_for n) c o m.book h.orderly.instances.apart (subst AreWhole (sym h.scripts_are) setup) (h.whole setup);
-      range = λ bytes. redone_range (rules_for n) c state o m.book (x.exact body (changes c state) (are bytes) e).fits (h.range bytes).0 (h.range bytes).1;
-      long = λ bytes fits.
-          let before = h.long bytes (omega (arith, fits)) in
-          let now : longer_by (rules_for n).journal m.book c ≡ m.book.length + (length body + 5) = refl in
+      named = h.named;
+      read = h.read ∙ ap (λ (ss : List Named). Some ss) (sym rules.0);
+      whole = λ whole. whole_redone (of_length n) c o m.book h.orderly.instances.apart (whole h.named m.book.scripts h.read) (h.whole whole);
+      range = λ bytes. redone_range (of_length n) c state o m.book (x.exact body (changes c state) (are bytes) e).fits (h.range bytes).0 (h.range bytes).1;
+      long = λ bytes.
+          let before = h.long bytes in
+          let now : longer_by (of_length n).journal m.book c ≡ m.book.length + (length body + 5) = refl in
           omega (arith, rules.2, now, before);
     }
 
-told_fits : AreRecordsExact → (all : Type 0) (scripts : List Named) (shelf place : ℕ) (body : List ℕ) (m : Made) (c : Change) (state : Option (List ℕ)) (t : Told)
-    → read_record body ≡ Some (changes c state) → (all → AreBytes body) → Fits all scripts shelf place m
-    → FitsMaking all scripts shelf (place + 5 + length body) (told_next place (length body) m c t)
-told_fits x all scripts shelf place body m c state unread e are h = taken_fits x all scripts shelf place body m c state [] unread e are h
-told_fits x all scripts shelf place body m c state misread e are h = tt
-told_fits x all scripts shelf place body m c state (told d) e are h = taken_fits x all scripts shelf place body m c state (inside_of d.frames) (told d) e are h
+told_fits : AreRecordsExact → (all : Type 0) (texts : Texts) (shelf place : ℕ) (body : List ℕ) (m : Made) (c : Change) (state : Option (List ℕ)) (t : Told)
+    → read_record body ≡ Some (changes c state) → (all → AreBytes body) → Fits all texts shelf place m
+    → FitsMaking all texts shelf (place + 5 + length body) (told_next place (length body) m c t)
+told_fits x all texts shelf place body m c state unread e are h = taken_fits x all texts shelf place body m c state [] unread e are h
+told_fits x all texts shelf place body m c state misread e are h = tt
+told_fits x all texts shelf place body m c state (told d) e are h = taken_fits x all texts shelf place body m c state (inside_of d.frames) (told d) e are h
 
-next_fits : AreRecordsExact → (all : Type 0) (scripts : List Named) (shelf place : ℕ) (body : List ℕ) (m : Made) (o : Option Record) → read_record body ≡ o → (all → AreBytes body)
-    → Fits all scripts shelf place m → FitsMaking all scripts shelf (place + 5 + length body) (next_by scripts place (length body) m o)
-next_fits x all scripts shelf place body m None e are h = tt
-next_fits x all scripts shelf place body m (Some (begins s named)) e are h = tt
-next_fits x all scripts shelf place body m (Some (changes c state)) e are h = by_test (has_script (length scripts) c)
+-- a record of another setup
+setup_fits : (all : Type 0) (texts : Texts) (shelf place : ℕ) (body : List ℕ) (m : Made) (named : List (List ℕ × List ℕ)) → Fits all texts shelf place m
+    → FitsMaking all texts shelf (place + 5 + length body) (next_setup place (length body) m (texts named))
+setup_fits all texts shelf place body m named h = by_setup (texts named) refl
   where
-    by_test : (t : Bool) → FitsMaking all scripts shelf (place + 5 + length body) (if t then told_next place (length body) m c (told_in m.earlier m.book c state) else damaged place)
+    by_setup : (o : Option (List Named)) → texts named ≡ o → FitsMaking all texts shelf (place + 5 + length body) (next_setup place (length body) m o)
+    by_setup None read = tt
+    by_setup (Some scripts) read = record {
+      orderly = line_orderly (renewed scripts (length body)) (plain m) h.orderly;
+      shelf_is = h.shelf_is;
+      named = named;
+      read = read;
+      whole = h.whole;
+      range = h.range;
+      long = λ bytes. let before = h.long bytes in omega (arith, before);
+    }
+
+next_fits : AreRecordsExact → (all : Type 0) (texts : Texts) (shelf place : ℕ) (body : List ℕ) (m : Made) (o : Option Record) → read_record body ≡ o → (all → AreBytes body)
+    → Fits all texts shelf place m → FitsMaking all texts shelf (place + 5 + length body) (next_by texts place (length body) m o)
+next_fits x all texts shelf place body m None e are h = tt
+next_fits x all texts shelf place body m (Some (begins s named)) e are h = tt
+next_fits x all texts shelf place body m (Some (draws number)) e are h = tt
+next_fits x all texts shelf place body m (Some (renews named)) e are h = setup_fits all texts shelf place body m named h
+next_fits x all texts shelf place body m (Some (changes c state)) e are h = by_test (has_script (length m.book.scripts) c)
+  where
+    by_test : (t : Bool) → FitsMaking all texts shelf (place + 5 + length body) (if t then told_next place (length body) m c (told_in m.earlier m.book c state) else damaged place)
     by_test false = tt
-    by_test true = told_fits x all scripts shelf place body m c state (told_in m.earlier m.book c state) e are h
+    by_test true = told_fits x all texts shelf place body m c state (told_in m.earlier m.book c state) e are h
 
-one_fits : AreRecordsExact → (all : Type 0) (scripts : List Named) (shelf place : ℕ) (body : List ℕ) (m : Making) → (all → AreBytes body) → FitsMaking all scripts shelf place m
-    → FitsMaking all scripts shelf (place + 5 + length body) (with_body scripts shelf place body m)
-one_fits x all scripts shelf place body nothing are h =
-    subst (λ (p : ℕ). FitsMaking all scripts shelf (p + 5 + length body) (with_body scripts shelf p body nothing)) (sym h)
-    (first_fits x all scripts shelf body (read_record body) refl are)
-one_fits x all scripts shelf place body (made m) are h = next_fits x all scripts shelf place body m (read_record body) refl are h
-one_fits x all scripts shelf place body (damaged p) are h = tt
-one_fits x all scripts shelf place body (other p) are h = tt
+-- a record that tells of a compaction
+drawn_fits : AreRecordsExact → (all : Type 0) (texts : Texts) (shelf place : ℕ) (body : List ℕ) (m : Made) (number : ℕ) → read_record body ≡ Some (draws number) → (all → AreBytes body)
+    → Begins texts shelf place m → Fits all texts shelf (place + 5 + length body) (with_drawn number m)
+drawn_fits x all texts shelf place body m number e are h =
+    subst (λ (k : Made). Fits all texts shelf (place + 5 + length body) (with_drawn number k)) (sym h.is)
+    (first_file_fits all texts shelf (place + 5 + length body) (record (first_file (14 + h.body) h.scripts) { drawn = Some number }) h.named h.read
+    (λ bytes. let low = (x.exact body (draws number) (are bytes) e).fits in omega (arith, low))
+    (λ bytes.
+    let long : length body ≡ 9 = ap length (x.exact body (draws number) (are bytes) e).spelled in
+    let at = h.at in
+    omega (arith, long, at)))
 
-all_fit : AreRecordsExact → (all : Type 0) (scripts : List Named) (shelf place : ℕ) (bodies : List (List ℕ)) (m : Making) → (all → AreAllBytes bodies) → FitsMaking all scripts shelf place m
-    → FitsMaking all scripts shelf (place + length (frames bodies)) (with_bodies scripts shelf place bodies m)
-all_fit x all scripts shelf place [] m are h = let same : place ≡ place + 0 = omega arith in subst (λ (p : ℕ). FitsMaking all scripts shelf p m) same h
-all_fit x all scripts shelf place (body ∷ bodies) m are h =
+second_fits : AreRecordsExact → (all : Type 0) (texts : Texts) (shelf place : ℕ) (body : List ℕ) (m : Made) (o : Option Record) → read_record body ≡ o → (all → AreBytes body)
+    → Begins texts shelf place m → FitsMaking all texts shelf (place + 5 + length body) (second_by texts place (length body) m o)
+second_fits x all texts shelf place body m None e are h = tt
+second_fits x all texts shelf place body m (Some (begins s named)) e are h = tt
+second_fits x all texts shelf place body m (Some (draws number)) e are h = drawn_fits x all texts shelf place body m number e are h
+second_fits x all texts shelf place body m (Some (renews named)) e are h = next_fits x all texts shelf place body m (Some (renews named)) e are (begins_fits all texts shelf place m h)
+second_fits x all texts shelf place body m (Some (changes c state)) e are h = next_fits x all texts shelf place body m (Some (changes c state)) e are (begins_fits all texts shelf place m h)
+
+one_fits : AreRecordsExact → (all : Type 0) (texts : Texts) (shelf place : ℕ) (body : List ℕ) (m : Making) → (all → AreBytes body) → FitsMaking all texts shelf place m
+    → FitsMaking all texts shelf (place + 5 + length body) (with_body texts shelf place body m)
+one_fits x all texts shelf place body nothing are h =
+    subst (λ (p : ℕ). FitsMaking all texts shelf (p + 5 + length body) (with_body texts shelf p body nothing)) (sym h) (first_fits all texts shelf body (read_record body))
+one_fits x all texts shelf place body (begun m) are h = second_fits x all texts shelf place body m (read_record body) refl are h
+one_fits x all texts shelf place body (made m) are h = next_fits x all texts shelf place body m (read_record body) refl are h
+one_fits x all texts shelf place body (damaged p) are h = tt
+one_fits x all texts shelf place body (other p) are h = tt
+
+all_fit : AreRecordsExact → (all : Type 0) (texts : Texts) (shelf place : ℕ) (bodies : List (List ℕ)) (m : Making) → (all → AreAllBytes bodies) → FitsMaking all texts shelf place m
+    → FitsMaking all texts shelf (place + length (frames bodies)) (with_bodies texts shelf place bodies m)
+all_fit x all texts shelf place [] m are h = let same : place ≡ place + 0 = omega arith in subst (λ (p : ℕ). FitsMaking all texts shelf p m) same h
+all_fit x all texts shelf place (body ∷ bodies) m are h =
     let same : place + 5 + length body + length (frames bodies) ≡ place + length (frames (body ∷ bodies)) = omega (arith, length-append (framed body) (frames bodies), length-framed body) in
-    let rest = with_bodies scripts shelf place (body ∷ bodies) m in
-    subst (λ (p : ℕ). FitsMaking all scripts shelf p rest) same
-    (all_fit x all scripts shelf (place + 5 + length body) bodies (with_body scripts shelf place body m) (λ bytes. (are bytes).1)
-    (one_fits x all scripts shelf place body m (λ bytes. (are bytes).0) h))
+    let rest = with_bodies texts shelf place (body ∷ bodies) m in
+    subst (λ (p : ℕ). FitsMaking all texts shelf p rest) same
+    (all_fit x all texts shelf (place + 5 + length body) bodies (with_body texts shelf place body m) (λ bytes. (are bytes).1)
+    (one_fits x all texts shelf place body m (λ bytes. (are bytes).0) h))
+
+made_so : (all : Type 0) (texts : Texts) (shelf place : ℕ) (x : Making) (m : Made) → made_in x ≡ Some m → FitsMaking all texts shelf place x → Fits all texts shelf place m
+made_so all texts shelf place nothing m is h = absurd (let no : ⊥ = cc in no)
+made_so all texts shelf place (begun k) m is h = let at : k ≡ m = cc in subst (Fits all texts shelf place) at (begins_fits all texts shelf place k h)
+made_so all texts shelf place (made k) m is h = let at : k ≡ m = cc in subst (Fits all texts shelf place) at h
+made_so all texts shelf place (damaged p) m is h = absurd (let no : ⊥ = cc in no)
+made_so all texts shelf place (other p) m is h = absurd (let no : ⊥ = cc in no)
 
 pub no_doubt : (b : Book) (o : Option Doubt) → o ≡ None → IsTakenDoubt b o unread
 no_doubt b o e = subst (λ (x : Option Doubt). IsTakenDoubt b x unread) (sym e) tt
@@ -236,17 +285,21 @@ no_doubt b o e = subst (λ (x : Option Doubt). IsTakenDoubt b x unread) (sym e) 
 all_used : (b : Book) (seen : List ℕ) → ((n : ℕ) → Among n seen → n < b.logged) → AreUsed seen (reopened b)
 all_used b seen counted n there x = let low = counted n there in ⊎_elim (λ no. no) (λ y. ⊎_elim (λ no. no) (λ high. omega (arith, low, high)) y) x
 
+any_rules : Rules
+any_rules = record { fuel = most_fuel; life = 0; instances = 0; pages = 0; journal = None }
+
 pub made_fits : AreRecordsExact → BodiesMakeFittingBooks
-made_fits x scripts shelf bodies m is =
-    let h : Fits (AreAllBytes bodies) scripts shelf (8 + length (frames bodies)) m =
-    subst (FitsMaking (AreAllBytes bodies) scripts shelf (8 + length (frames bodies))) is (all_fit x (AreAllBytes bodies) scripts shelf 8 bodies nothing (λ bytes. bytes) refl) in
+made_fits x texts shelf bodies m is =
+    let h : Fits (AreAllBytes bodies) texts shelf (8 + length (frames bodies)) m =
+    made_so (AreAllBytes bodies) texts shelf (8 + length (frames bodies)) _ m is (all_fit x (AreAllBytes bodies) texts shelf 8 bodies nothing (λ bytes. bytes) refl) in
     record {
       again = h.orderly.again;
-      scripts_are = h.scripts_are;
       shelf_is = h.shelf_is;
-      recoverable = λ setup. record {
-        orderly = (made_orderly (rules_over scripts shelf)).2 (plain m) h.orderly;
-        whole = record { setup = λ k s at. setup k s (ap (λ (ss : List Named). slice_get ss k) (sym h.scripts_are) ∙ at); instances = h.whole setup };
+      read = λ as_told. ap texts (as_told h.named m.book.scripts h.read) ∙ h.read;
+      whole = λ whole. record { setup = whole h.named m.book.scripts h.read; instances = h.whole whole };
+      recoverable = λ whole. record {
+        orderly = (made_orderly any_rules).2 (plain m) h.orderly;
+        whole = whole;
         doubted = unread;
         doubt = no_doubt m.book m.book.down (ap (λ (b : Book). b.down) h.orderly.again);
         used = subst (AreUsed m.earlier.seen) (sym h.orderly.again) (all_used m.book m.earlier.seen h.orderly.counted);
@@ -256,5 +309,5 @@ made_fits x scripts shelf bodies m is =
         clock = (h.range bytes).1;
         doubt = subst IsDoubtInRange (sym (ap (λ (b : Book). b.down) h.orderly.again)) tt;
       };
-      long = λ bytes fits. let size = length-at_rest bodies in let l = h.long bytes (omega (arith, fits, size)) in omega (arith, l, size);
+      long = λ bytes fits. let size = length-at_rest bodies in let l = h.long bytes in omega (arith, l, size);
     }

@@ -1,5 +1,5 @@
 -- Which changes are in the grammar: of an orderly book in range, those whose record is short.
-use Rattle.std.proofs.Common.{◌≡◌, ℕ, ◌≤◌, ◌<◌, ◌^◌, List, [], ◌∷◌, ◌++◌, length, true, Option, Some, None, inl, inr, arith, length-append, Contains}
+use Rattle.std.proofs.Common.{◌≡◌, ℕ, ◌≤◌, ◌<◌, ◌^◌, ◌==◌, List, [], ◌∷◌, ◌++◌, length, Bool, true, false, Option, Some, None, refl, sym, ap, subst, inl, inr, if◌then◌else◌, arith, length-append, Contains}
 use Rattle.std.specs.Prelude.{⊤}
 use Rattle.std.specs.List.{flat_map, list_all, AllByRecursion}
 use Rattle.std.proofs.lemmas.Bool.{cases_lt, and_parts}
@@ -7,12 +7,14 @@ use Rattle.std.proofs.lemmas.Bool.Decides.{nat_tests}
 use Rattle.script_value.specs.declared.outcome.TxName.{TxName}
 use Rattle.instance_cells.specs.Cells.{Effect, read, set, add}
 use Rattle.wire_bytes.specs.Spelling.{u32_bytes, u64_bytes, byte_string}
-use Rattle.value_bytes.specs.Spelling.{value_bytes, FitsList}
+use Rattle.value_bytes.specs.Spelling.{value_bytes, FitsList, list_bytes}
 use Rattle.replay_spec.specs.Book.{Extension, Ending, Finish, Change, opens, extends, ends, finishes, sweeps, Book}
-use Rattle.replay_spec.specs.Invariant.{HasPage, IsOf, IsOrderlyChange, IsOrderly}
+use Rattle.replay_spec.specs.Admission.{is_one}
+use Rattle.replay_spec.specs.Invariant.{HasPage, IsOf, CanGo, IsOrderlyChange, IsOrderly}
+use Rattle.replay_spec.proofs.Goers.{used_there}
 use Rattle.replay_spec.proofs.Stand.{among_of}
 use Rattle.journal_records.specs.Fields.{numbers_end, deadlines_end, name_bytes, NameFits, effect_bytes, EffectFits, send_byte, origin_bytes, is_shallow, is_shallow_effect, IsTypedEffect}
-use Rattle.journal_records.specs.Records.{Page, ChangeFits, opening_page, extension_page, page_bytes, ending_bytes, finish_bytes, effects_bytes, names_bytes, PartsFit}
+use Rattle.journal_records.specs.Records.{Page, ChangeFits, opening_page, extension_page, page_bytes, ending_bytes, finish_bytes, effects_bytes, names_bytes, IsNumber, PartsFit}
 use Rattle.journal_spec.specs.Making.{has_script}
 use Rattle.journal_spec.specs.Spelling.{IsInRange}
 use Rattle.journal_spec.proofs.Typed.{value_fits, effects_typed}
@@ -20,7 +22,7 @@ use Rattle.journal_spec.proofs.Brief.{IsShort}
 
 -- the nonce, the deadline and the tick that a change tells are such as records tell
 abbrev pub TellsInRange : Change → Type 0
-TellsInRange (opens o) = (o.nonce < 2 ^ 64) × (o.deadline < deadlines_end)
+TellsInRange (opens o) = (o.nonce < 2 ^ 64) × (o.deadline < deadlines_end) × (o.evicted ≡ [])
 TellsInRange (extends x) = (x.nonce < 2 ^ 64) × (x.deadline < deadlines_end)
 TellsInRange (ends e) = ⊤
 TellsInRange (finishes f) = ⊤
@@ -71,15 +73,43 @@ effects_fit es n within low shallow h =
 names_fit : (ts : List TxName) (n : ℕ) → length (names_bytes ts) ≤ n → n < 2 ^ 32 → AllByRecursion NameFits ts → FitsList NameFits ts
 names_fit ts n within low h = (omega (arith, names_long ts, within, low), h)
 
+-- pages that go are such as stand
+numbers_long : (ns : List ℕ) → length ns ≤ length (flat_map u64_bytes ns)
+numbers_long ns = several u64_bytes (λ n. omega arith) ns
+
+each_number : (ns : List ℕ) → ((n : ℕ) → is_one n ns ≡ true → n < numbers_end) → AllByRecursion IsNumber ns
+each_number [] h = tt
+each_number (n ∷ ns) h =
+    (h n (let test : (n == n) ≡ true = grind (arith, nat_tests) in ap (λ (t : Bool). if t then true else is_one n ns) test), each_number ns (λ m there. h m (later m there)))
+  where
+    later : (m : ℕ) → is_one m ns ≡ true → (if n == m then true else is_one m ns) ≡ true
+    later m e = by_test (n == m) e
+      where
+        by_test : (t : Bool) → is_one m ns ≡ true → (if t then true else is_one m ns) ≡ true
+        by_test true e = refl
+        by_test false e = e
+
+numbers_fit : (b : Book) (k m : ℕ) → IsOrderly b → b.drawn ≤ numbers_end → HasPage b.instances k m → (gone : List ℕ) → CanGo b.instances k gone
+    → (n : ℕ) → length (list_bytes u64_bytes gone) ≤ n → n < 2 ^ 32 → FitsList IsNumber gone
+numbers_fit b k m g drawn (p, at) gone can n within low = (
+  omega (arith, numbers_long gone, within, low),
+  each_number gone (λ x there.
+      let i = at.instance in
+      let page = used_there i x (g.instances.kept k i at.found) (can i at.found x there) in
+      (below b k x g drawn (page.0, record { instance = i; found = at.found; shown = page.1 })).1),
+)
+
 -- how long the parts of a page are
 record Lengths (p : Page) : Type 0 where
   effects : length (effects_bytes p.effects) ≤ length (page_bytes p)
   left : length (names_bytes p.left) ≤ length (page_bytes p)
+  evicted : length (list_bytes u64_bytes p.evicted) ≤ length (page_bytes p)
   state : length p.state ≤ length (page_bytes p)
 
 page_long : (p : Page) → Lengths p
 page_long p =
-    let six = u64_bytes p.deadline ++ byte_string p.state in
+    let seven = list_bytes u64_bytes p.evicted ++ byte_string p.state in
+    let six = u64_bytes p.deadline ++ seven in
     let five = send_byte p.kind ∷ [] ++ six in
     let four = names_bytes p.left ++ five in
     let three = effects_bytes p.effects ++ four in
@@ -91,19 +121,21 @@ page_long p =
     let d = length-append (effects_bytes p.effects) four in
     let e = length-append (names_bytes p.left) five in
     let f = length-append (send_byte p.kind ∷ []) six in
-    let g = length-append (u64_bytes p.deadline) (byte_string p.state) in
+    let g = length-append (u64_bytes p.deadline) seven in
+    let i = length-append (list_bytes u64_bytes p.evicted) (byte_string p.state) in
     let h = length-append (u32_bytes (length p.state)) p.state in
     record {
       effects = omega (arith, a, b, c, d);
       left = omega (arith, a, b, c, d, e);
-      state = omega (arith, a, b, c, d, e, f, g, h);
+      evicted = omega (arith, a, b, c, d, e, f, g, i);
+      state = omega (arith, a, b, c, d, e, f, g, h, i);
     }
 
 -- and how long the answer of a page is
 answer_long : (x : Extension) (state : List ℕ) → length (value_bytes x.answer) ≤ length (page_bytes (extension_page x state))
 answer_long x state =
     let p = extension_page x state in
-    let three = effects_bytes p.effects ++ (names_bytes p.left ++ (send_byte p.kind ∷ [] ++ (u64_bytes p.deadline ++ byte_string p.state))) in
+    let three = effects_bytes p.effects ++ (names_bytes p.left ++ (send_byte p.kind ∷ [] ++ (u64_bytes p.deadline ++ (list_bytes u64_bytes p.evicted ++ byte_string p.state)))) in
     let two = origin_bytes p.origin ++ three in
     let a = length-append (u64_bytes p.ticket) (u64_bytes p.nonce ++ two) in
     let b = length-append (u64_bytes p.nonce) two in
@@ -166,6 +198,7 @@ module _ (b : Book) (g : IsOrderly b) (range : IsInRange b) (few : length b.scri
         effects = effects_fit o.effects (length (page_bytes p)) long.effects (omega (arith, brief.low)) brief.shallow parts.0;
         left = names_fit o.left (length (page_bytes p)) long.left (omega (arith, brief.low)) parts.1;
         deadline = tells.1;
+        evicted = subst (FitsList IsNumber) (sym tells.2) (omega arith, tt);
         state = omega (arith, long.state, brief.low);
       }
   in_grammar (extends x) None is orderly script tells with brief parts = absurd (let none = brief.has in let no : ⊥ = cc in no)
@@ -173,7 +206,7 @@ module _ (b : Book) (g : IsOrderly b) (range : IsInRange b) (few : length b.scri
       let p = extension_page x state in
       let long = page_long p in
       let shallow = and_parts (is_shallow x.answer) (list_all is_shallow_effect x.effects) brief.shallow in
-      let numbers = below b x.instance x.page g range.drawn orderly in
+      let numbers = below b x.instance x.page g range.drawn orderly.0 in
       record {
         ticket = number_fits x.number is;
         nonce = tells.0;
@@ -181,6 +214,7 @@ module _ (b : Book) (g : IsOrderly b) (range : IsInRange b) (few : length b.scri
         effects = effects_fit x.effects (length (page_bytes p)) long.effects (omega (arith, brief.low)) shallow.1 parts.1;
         left = names_fit x.left (length (page_bytes p)) long.left (omega (arith, brief.low)) parts.2;
         deadline = tells.1;
+        evicted = numbers_fit b x.instance x.page g range.drawn orderly.0 x.evicted orderly.1 (length (page_bytes p)) long.evicted (omega (arith, brief.low));
         state = omega (arith, long.state, brief.low);
       }
   in_grammar (ends e) (Some state) is orderly script tells with brief parts = absurd with

@@ -1,54 +1,75 @@
--- What one record more makes, and what any bodies make.
-use Rattle.std.proofs.Common.{◌≡◌, ℕ, ◌+◌, ◌==◌, ◌&&◌, List, [], ◌∷◌, ◌++◌, length, Option, Bool, true, false, if◌then◌else◌, refl, ◌∙◌, ap, arith, length-append}
-use Rattle.std.specs.Str.{bytes_eq}
+-- What one record more makes.
+use Rattle.std.proofs.Common.{◌≡◌, ℕ, ◌+◌, ◌==◌, List, [], ◌∷◌, ◌++◌, length, Option, Some, Bool, true, if◌then◌else◌, refl, ◌∙◌, ap, arith, length-append}
 use Rattle.std.proofs.lemmas.Bool.Decides.{nat_tests}
-use Rattle.std.proofs.lemmas.Slice.Eq.{bytes_eq-Decides}
-use Rattle.std.proofs.lemmas.Bool.{and_from}
 use Rattle.script_nodes.specs.Setup.{Named}
 use Rattle.page_journal.specs.Records.{framed, frames}
 use Rattle.page_journal.proofs.Frames.{length-framed}
 use Rattle.replay_spec.specs.Book.{Change}
-use Rattle.journal_records.specs.Records.{changes, IsInGrammar, begin_of, texts_of}
+use Rattle.journal_records.specs.Records.{Record, changes, IsInGrammar, begin_of, renewal_of}
+use Rattle.journal_records.specs.Reading.{read_record}
 use Rattle.journal_records.specs.Laws.{AreRecordsExact}
-use Rattle.journal_spec.specs.Before.{Made, nothing_made}
+use Rattle.journal_spec.specs.Before.{Made}
 use Rattle.journal_spec.specs.Retaking.{Told, told_in}
-use Rattle.journal_spec.specs.Making.{Making, nothing, made, damaged, other, rules_over, are_told, has_script, told_next, first_by, next_by, with_body, with_bodies, book_of}
-use Rattle.journal_spec.specs.Keeping.{body_by, first_body}
+use Rattle.journal_spec.specs.Making.{Texts, Making, nothing, begun, made, damaged, other, has_script, began, first_setup, first_by, told_next, next_setup, next_by, second_by, with_body, with_bodies, made_in, book_of}
+use Rattle.journal_spec.specs.Opening.{IsRead, first_body, renewal_body}
+use Rattle.journal_spec.specs.Keeping.{body_by}
 
 behind_first : (place : ℕ) (first : List ℕ) (bodies : List (List ℕ)) → place + 5 + length first + length (frames bodies) ≡ place + length (frames (first ∷ bodies))
 behind_first place first bodies = omega (arith, length-append (framed first) (frames bodies), length-framed first)
 
-pub with_push : (scripts : List Named) (shelf place : ℕ) (bodies : List (List ℕ)) (body : List ℕ) (m : Making)
-    → with_bodies scripts shelf place (bodies ++ body ∷ []) m ≡ with_body scripts shelf (place + length (frames bodies)) body (with_bodies scripts shelf place bodies m)
-with_push scripts shelf place [] body m =
+pub with_push : (texts : Texts) (shelf place : ℕ) (bodies : List (List ℕ)) (body : List ℕ) (m : Making)
+    → with_bodies texts shelf place (bodies ++ body ∷ []) m ≡ with_body texts shelf (place + length (frames bodies)) body (with_bodies texts shelf place bodies m)
+with_push texts shelf place [] body m =
     let same : place ≡ place + 0 = omega arith in
-    ap (λ (n : ℕ). with_body scripts shelf n body m) same
-with_push scripts shelf place (first ∷ bodies) body m =
-    let rest = with_bodies scripts shelf (place + 5 + length first) bodies (with_body scripts shelf place first m) in
-    with_push scripts shelf (place + 5 + length first) bodies body (with_body scripts shelf place first m)
-    ∙ ap (λ (n : ℕ). with_body scripts shelf n body rest) (behind_first place first bodies)
+    ap (λ (n : ℕ). with_body texts shelf n body m) same
+with_push texts shelf place (first ∷ bodies) body m =
+    let rest = with_bodies texts shelf (place + 5 + length first) bodies (with_body texts shelf place first m) in
+    with_push texts shelf (place + 5 + length first) bodies body (with_body texts shelf place first m)
+    ∙ ap (λ (n : ℕ). with_body texts shelf n body rest) (behind_first place first bodies)
+
+-- behind a book the record of a change, and that of a setup, does not ask whether the book is the first record's
+next_made : (texts : Texts) (shelf place : ℕ) (body : List ℕ) (x : Making) (m : Made) (r : Record) → made_in x ≡ Some m → read_record body ≡ Some r
+    → second_by texts place (length body) m (Some r) ≡ next_by texts place (length body) m (Some r)
+    → with_body texts shelf place body x ≡ next_by texts place (length body) m (Some r)
+next_made texts shelf place body nothing m r is read same = absurd (let no : ⊥ = cc in no)
+next_made texts shelf place body (begun k) m r is read same =
+    let at : k ≡ m = cc in
+    ap (λ (o : Option Record). second_by texts place (length body) k o) read
+    ∙ (ap (λ (y : Made). second_by texts place (length body) y (Some r)) at ∙ same)
+next_made texts shelf place body (made k) m r is read same =
+    let at : k ≡ m = cc in
+    ap (λ (o : Option Record). next_by texts place (length body) k o) read ∙ ap (λ (y : Made). next_by texts place (length body) y (Some r)) at
+next_made texts shelf place body (damaged p) m r is read same = absurd (let no : ⊥ = cc in no)
+next_made texts shelf place body (other p) m r is read same = absurd (let no : ⊥ = cc in no)
 
 -- the body of a change makes of what was made what the change makes of it, by what is told of its page's state
-pub made_push : AreRecordsExact → (scripts : List Named) (shelf : ℕ) (bodies : List (List ℕ)) (m : Made) (c : Change) (state : Option (List ℕ)) (x : Told)
-    → book_of scripts shelf bodies ≡ made m → IsInGrammar (changes c state) → has_script (length scripts) c ≡ true → told_in m.earlier m.book c state ≡ x
-    → book_of scripts shelf (bodies ++ body_by c state ∷ []) ≡ told_next (8 + length (frames bodies)) (length (body_by c state)) m c x
-made_push exact scripts shelf bodies m c state x makes fits script is =
+pub made_push : AreRecordsExact → (texts : Texts) (shelf : ℕ) (bodies : List (List ℕ)) (m : Made) (c : Change) (state : Option (List ℕ)) (x : Told)
+    → made_in (book_of texts shelf bodies) ≡ Some m → IsInGrammar (changes c state) → has_script (length m.book.scripts) c ≡ true → told_in m.earlier m.book c state ≡ x
+    → book_of texts shelf (bodies ++ body_by c state ∷ []) ≡ told_next (8 + length (frames bodies)) (length (body_by c state)) m c x
+made_push exact texts shelf bodies m c state x makes fits script is =
     let place = 8 + length (frames bodies) in
     let n = length (body_by c state) in
-    with_push scripts shelf 8 bodies (body_by c state) nothing
-    ∙ ap (with_body scripts shelf place (body_by c state)) makes
-    ∙ ap (next_by scripts place n m) (exact.back (changes c state) fits)
+    with_push texts shelf 8 bodies (body_by c state) nothing
+    ∙ next_made texts shelf place (body_by c state) (book_of texts shelf bodies) m (changes c state) makes (exact.back (changes c state) fits) refl
     ∙ ap (λ (t : Bool). if t then told_next place n m c (told_in m.earlier m.book c state) else damaged place) script
     ∙ ap (told_next place n m c) is
 
-pub told_is : (scripts : List Named) → are_told (texts_of scripts) scripts ≡ true
-told_is [] = refl
-told_is (s ∷ ss) = and_from (bytes_eq s.name s.name && bytes_eq s.text s.text) (are_told (texts_of ss) ss) (and_from _ _ ((bytes_eq-Decides s.name s.name).1 refl) ((bytes_eq-Decides s.text s.text).1 refl)) (told_is ss)
+-- the body of another setup makes of what was made the book with that setup
+pub renewed_push : AreRecordsExact → (texts : Texts) (shelf : ℕ) (bodies : List (List ℕ)) (m : Made) (scripts : List Named) → made_in (book_of texts shelf bodies) ≡ Some m
+    → IsInGrammar (renewal_of scripts) → IsRead texts scripts
+    → book_of texts shelf (bodies ++ renewal_body scripts ∷ []) ≡ next_setup (8 + length (frames bodies)) (length (renewal_body scripts)) m (Some scripts)
+renewed_push exact texts shelf bodies m scripts makes fits read =
+    let place = 8 + length (frames bodies) in
+    with_push texts shelf 8 bodies (renewal_body scripts) nothing
+    ∙ next_made texts shelf place (renewal_body scripts) (book_of texts shelf bodies) m (renewal_of scripts) makes (exact.back (renewal_of scripts) fits) refl
+    ∙ ap (next_setup place (length (renewal_body scripts)) m) read
 
 -- the first record of a journal makes an empty book
-pub made_first : AreRecordsExact → (scripts : List Named) (shelf : ℕ) → IsInGrammar (begin_of shelf scripts)
-    → book_of scripts shelf (first_body scripts shelf ∷ []) ≡ made (nothing_made (rules_over scripts shelf) scripts shelf)
-made_first x scripts shelf fits =
+pub made_first : AreRecordsExact → (texts : Texts) (shelf : ℕ) (scripts : List Named) → IsInGrammar (begin_of shelf scripts) → IsRead texts scripts
+    → book_of texts shelf (first_body scripts shelf ∷ []) ≡ begun (began shelf (length (first_body scripts shelf)) scripts)
+made_first x texts shelf scripts fits read =
+    let n = length (first_body scripts shelf) in
     let same : (shelf == shelf) ≡ true = grind (arith, nat_tests) in
-    ap (first_by scripts shelf 8) (x.back (begin_of shelf scripts) fits)
-    ∙ ap (λ (t : Bool). if t then made (nothing_made (rules_over scripts shelf) scripts shelf) else other 8) (and_from (shelf == shelf) (are_told (texts_of scripts) scripts) same (told_is scripts))
+    ap (first_by texts shelf 8 n) (x.back (begin_of shelf scripts) fits)
+    ∙ ap (first_setup shelf 8 n shelf) read
+    ∙ ap (λ (t : Bool). if t then begun (began shelf n scripts) else other 8) same

@@ -12,7 +12,7 @@ use Rattle.script_nodes.specs.declared.script.SendKind.{SendKind}
 use Rattle.script_nodes.proofs.Scripts.{script_on_cells}
 use Rattle.replay_spec.specs.Tape.{recorded, present, Answer, Tape, shows, finishes, ends, Outcome, paged, faulted, out_of_fuel}
 use Rattle.replay_spec.specs.Eval.{Segment, run}
-use Rattle.replay_spec.specs.Book.{Page, Instance, Opening, Extension, Change, opens, extends, Book, instance_at, page_at, chain}
+use Rattle.replay_spec.specs.Book.{Page, Opening, Extension, Change, opens, extends, Book, instance_at, page_at, chain}
 use Rattle.replay_spec.specs.Book as spec
 use Rattle.replay_spec.specs.Admission.{◌>>=◌, Place}
 use Rattle.replay_spec.specs.Next.{Home, home, Visit, home_of, past, answered, newest, tape_of, tape_for, comes_to}
@@ -37,7 +37,7 @@ use Rattle.journal_records.specs.Records.{ChangeFits}
 use Rattle.journal_spec.specs.Before.{Earlier, links_behind, before_told}
 use Rattle.journal_spec.specs.Retaking.{arena_of, told, told_as, told_by, script_for, told_in}
 use Rattle.journal_spec.specs.Lengths.{kept_at, kept_by, state_over, chain_tape, own_state, own_before, is_shallow_state, told_bytes, state_told, told_own, own_told}
-use Rattle.journal_spec.specs.Keeping.{IsWhole, HasWholeScripts, IsSpelledState, CanBeWritten}
+use Rattle.journal_spec.specs.Whole.{IsWhole, HasWholeScripts, IsSpelledState, CanBeWritten}
 
 -- ---- where a script shows a page, one state is kept
 

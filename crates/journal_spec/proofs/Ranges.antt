@@ -1,24 +1,25 @@
 -- Each event keeps numbers and clock in range.
 use Rattle.std.proofs.Common.{◌≡◌, ℕ, ◌≤◌, ◌<◌, ◌==◌, List, [], Bool, true, false, Option, Some, None, refl, sym, subst, arith}
-use Rattle.std.specs.Prelude.{nat_le, if◌then◌else◌, ⊤}
+use Rattle.std.specs.Prelude.{nat_le, nat_lt, if◌then◌else◌, ⊤}
 use Rattle.std.proofs.lemmas.Bool.Decides.{nat_tests}
 use Rattle.script_value.specs.declared.outcome.TxName.{TxName}
 use Rattle.script_nodes.specs.Setup.{Named}
-use Rattle.replay_spec.specs.Book.{Change, opens, extends, ends, finishes, sweeps, Doubt, Book, spend, reopened_with}
+use Rattle.replay_spec.specs.Book.{Change, opens, extends, ends, finishes, sweeps, Doubt, Book, Work, landing, compacting, spend}
+use Rattle.replay_spec.specs.Compaction.{compacted_length, worked, rewritten, reopened_with}
 use Rattle.replay_spec.specs.Rules.{Rules}
 use Rattle.replay_spec.specs.Change.{logged_by, clock_by, land}
 use Rattle.replay_spec.specs.Admission.{when, or_else, refusal_of, admit}
 use Rattle.replay_spec.specs.Next.{Ticket}
-use Rattle.replay_spec.specs.Step.{take, publish, sweep, crash, Fate, plain, no_memory, disk_fault, lost, kept, Reply, worn, swept, Decision, replies, records, unless, down_by, refused_by, full_journal, freed, publish_comes, sweep_comes, fate_of, settle, recovered, no_take, take_unless, take_by, step}
-use Rattle.replay_spec.specs.Invariant.{IsOf, IsDoubted, IsOrderly}
+use Rattle.replay_spec.specs.Step.{take, publish, sweep, compact, crash, Fate, plain, no_memory, disk_fault, lost, kept, Reply, worn, swept, Decision, replies, records, compacts, unless, down_by, refused_by, full_journal, freed, publish_comes, sweep_comes, compact_comes, most_of_journal, journal_full, compacted, fate_of, settle, recovered, no_take, take_unless, take_by, step}
+use Rattle.replay_spec.specs.Invariant.{IsOf, IsIn, IsDoubted, IsOrderly}
 use Rattle.journal_records.specs.Fields.{numbers_end}
-use Rattle.journal_spec.specs.Spelling.{IsTickInRange, IsDoubtInRange, IsInRange}
-use Rattle.journal_spec.specs.Laws.{RangesAreKept}
+use Rattle.journal_spec.specs.Spelling.{IsTickInRange, IsWorkInRange, IsDoubtInRange, IsInRange, RangesAreKept}
 use Rattle.journal_spec.proofs.Brief.{Comes, published_comes}
 
 -- a decision's tick is in range
 abbrev TicksFit : Decision → Type 0
 TicksFit (replies r) = ⊤
+TicksFit (compacts r) = ⊤
 TicksFit (records r c inside) = IsTickInRange c
 
 clock_range : (c : Change) (clock : ℕ) → IsTickInRange c → clock < numbers_end → clock_by c clock < numbers_end
@@ -31,13 +32,18 @@ clock_range (sweeps tick) clock h low = h
 landed_range : (rules : Rules) (b : Book) (c : Change) (inside : List TxName) → IsInRange b → IsTickInRange c → IsInRange (land rules c inside b)
 landed_range rules b c inside h fits = record { drawn = h.drawn; clock = clock_range c b.clock fits h.clock; doubt = h.doubt }
 
+rewritten_range : (rules : Rules) (b : Book) → IsInRange b → IsInRange (rewritten rules b)
+rewritten_range rules b h = record { drawn = h.drawn; clock = h.clock; doubt = h.doubt }
+
 carried_range : (rules : Rules) (b : Book) (d : Decision) → IsInRange b → TicksFit d → IsInRange (settle rules b plain d).1
 carried_range rules b (replies r) h fits = h
+carried_range rules b (compacts r) h fits = rewritten_range rules b h
 carried_range rules b (records r c inside) h fits = landed_range rules b c inside h fits
 
 settled_range : (rules : Rules) (b : Book) (fate : Fate) (d : Decision) → IsInRange b → TicksFit d → IsInRange (settle rules b fate d).1
 settled_range rules b no_memory d h fits = h
 settled_range rules b (disk_fault count) (replies r) h fits = h
+settled_range rules b (disk_fault count) (compacts r) h fits = record { drawn = h.drawn; clock = h.clock; doubt = tt }
 settled_range rules b (disk_fault count) (records r c inside) h fits = record { drawn = h.drawn; clock = h.clock; doubt = fits }
 settled_range rules b plain d h fits = carried_range rules b d h fits
 settled_range rules b lost d h fits = carried_range rules b d h fits
@@ -68,6 +74,7 @@ took_range b nonce target fate h = by_fate fate
 
 published_ticks : (rules : Rules) (b : Book) (t : Ticket) (d : Decision) → Comes rules b t d → TicksFit d
 published_ticks rules b t (replies r) h = tt
+published_ticks rules b t (compacts r) h = tt
 published_ticks rules b t (records r (opens o) inside) h = tt
 published_ticks rules b t (records r (extends x) inside) h = tt
 published_ticks rules b t (records r (ends e) inside) h = tt
@@ -93,30 +100,31 @@ doubted_range (ends e) drawn h = let low = h e.number refl in omega (arith, low)
 doubted_range (finishes f) drawn h = let low = h f.number refl in omega (arith, low)
 doubted_range (sweeps tick) drawn h = omega arith
 
-crashed_range : (rules : Rules) (scripts : List Named) (b : Book) (fate : Fate) (o : Option Doubt) → o ≡ b.down → IsOrderly b → IsInRange b → IsInRange (reopened_with scripts (recovered rules fate o b))
+crashed_range : (rules : Rules) (scripts : List Named) (b : Book) (fate : Fate) (o : Option Doubt) → o ≡ b.down → IsOrderly b → IsInRange b
+    → IsInRange (reopened_with rules.journal scripts (recovered rules fate o b))
 crashed_range rules scripts b fate o is g h = by_fate fate o is
   where
-    same : IsInRange (reopened_with scripts b)
+    same : IsInRange (reopened_with rules.journal scripts b)
     same = record { drawn = let logged = g.logged in let low = h.drawn in omega (arith, logged, low); clock = h.clock; doubt = tt }
 
-    by_fate : (f : Fate) (o : Option Doubt) → o ≡ b.down → IsInRange (reopened_with scripts (recovered rules f o b))
-    by_fate kept (Some doubt) is =
-        let tick : IsTickInRange doubt.change = subst IsDoubtInRange (sym is) h.doubt in
-        let drawn = doubted_range doubt.change b.drawn (λ n e. (g.doubted n (subst (IsDoubted n) is e)).0) in
-        record {
-          drawn = let logged = g.logged in let low = h.drawn in omega (arith, logged, low, drawn);
-          clock = clock_range doubt.change b.clock tick h.clock;
-          doubt = tt;
-        }
+    kept_work : (w : Work) → IsWorkInRange w → ((n : ℕ) → IsIn n w → n < b.drawn) → IsInRange (reopened_with rules.journal scripts (worked rules w b))
+    kept_work (landing c inside) tick below =
+        let drawn = doubted_range c b.drawn below in
+        record { drawn = let logged = g.logged in let low = h.drawn in omega (arith, logged, low, drawn); clock = clock_range c b.clock tick h.clock; doubt = tt }
+    kept_work compacting tick below = record { drawn = let logged = g.logged in let low = h.drawn in omega (arith, logged, low); clock = h.clock; doubt = tt }
+
+    by_fate : (f : Fate) (o : Option Doubt) → o ≡ b.down → IsInRange (reopened_with rules.journal scripts (recovered rules f o b))
+    by_fate kept (Some doubt) is = kept_work doubt.work (subst IsDoubtInRange (sym is) h.doubt) (λ n e. (g.doubted n (subst (IsDoubted n) is e)).0)
     by_fate kept None is = same
-    by_fate plain None is = same
-    by_fate plain (Some doubt) is = same
-    by_fate no_memory None is = same
-    by_fate no_memory (Some doubt) is = same
-    by_fate (disk_fault count) None is = same
-    by_fate (disk_fault count) (Some doubt) is = same
-    by_fate lost None is = same
-    by_fate lost (Some doubt) is = same
+    by_fate plain o is = same
+    by_fate no_memory o is = same
+    by_fate (disk_fault count) o is = same
+    by_fate lost o is = same
+
+compact_range : (o p : Option Reply) (r : Reply) → TicksFit (unless o (unless p (compacts r)))
+compact_range (Some x) p r = tt
+compact_range None (Some x) r = tt
+compact_range None None r = tt
 
 spent_range : (b : Book) (n : ℕ) → IsInRange b → IsInRange (spend n b)
 spent_range b n h = record { drawn = h.drawn; clock = h.clock; doubt = h.doubt }
@@ -127,4 +135,7 @@ ranges_kept rules b nonce (take target answer) fate g h gives = took_range b non
 ranges_kept rules b nonce (publish t) fate g h gives =
     settled_range rules (spend t.number b) (fate_of rules.journal fate) (publish_comes rules b t) (spent_range b t.number h) (published_ticks rules b t (publish_comes rules b t) (published_comes rules b t))
 ranges_kept rules b nonce (sweep tick) fate g h gives = swept_range rules b tick (fate_of rules.journal fate) (nat_le tick b.clock) h gives
+ranges_kept rules b nonce compact fate g h gives =
+    let n = compacted_length rules.journal b in
+    settled_range rules b (fate_of rules.journal fate) (compact_comes rules b) h (compact_range (down_by b.down) (when (nat_lt most_of_journal n) (journal_full n)) (compacted n))
 ranges_kept rules b nonce (crash scripts) fate g h gives = crashed_range rules scripts b fate b.down refl g h

@@ -1,28 +1,35 @@
 -- What records that carry states make is orderly.
-use Rattle.std.proofs.Common.{◌≡◌, ◌<◌, max, ℕ, List, [], ◌∷◌, length, Option, Some, None, Bool, true, false, refl, sym, subst, ◌∙◌, inl, inr, arith, slice_get}
+use Rattle.std.proofs.Common.{◌≡◌, ◌<◌, ℕ, List, [], length, Option, Some, None, Bool, true, false, refl, sym, subst, ◌∙◌, arith, slice_get}
 use Rattle.std.specs.Prelude.{if◌then◌else◌, nat_lt}
 use Rattle.std.proofs.lemmas.Bool.Decides.{nat_tests}
-use Rattle.std.proofs.lemmas.Option.{slice_get_within}
+use Rattle.std.proofs.lemmas.Option.{slice_get_within, same_Some}
 use Rattle.script_value.specs.declared.outcome.TxName.{TxName}
-use Rattle.replay_spec.specs.Book.{Change, opens, extends, ends, finishes, sweeps, Book, instance_at, page_at}
-use Rattle.replay_spec.specs.Rules.{Rules}
-use Rattle.replay_spec.specs.Change.{logged_by}
-use Rattle.replay_spec.specs.Admission.{is_one, Place}
-use Rattle.replay_spec.specs.Recovery.{page_of_numbers, number_in, is_repeated, with_number, taken_in, redone}
-use Rattle.replay_spec.specs.Invariant.{Among, HasPage, IsOf, AreOrderly, IsOrderlyChange}
+use Rattle.replay_spec.specs.Book.{Instance, Change, opens, extends, ends, finishes, sweeps, Book}
+use Rattle.replay_spec.specs.Admission.{is_one}
+use Rattle.replay_spec.specs.Recovery.{can_go, of_length, page_of_numbers, number_in, is_repeated, with_number, taken_in, redone}
+use Rattle.replay_spec.specs.Invariant.{AreOrderly, IsOrderlyChange}
 use Rattle.replay_spec.specs.Remade.{IsOrderlyMade}
 use Rattle.replay_spec.proofs.Admitted.{came_from, when_is}
 use Rattle.replay_spec.proofs.Stand.{orderly_less}
 use Rattle.replay_spec.proofs.Landed.{land_well}
-use Rattle.replay_spec.proofs.Recovered.{made_orderly, Unseen, page_there, among_is, new_number, more_seen, redone_logged}
+use Rattle.replay_spec.proofs.Goers.{pages_of, go_used}
+use Rattle.replay_spec.proofs.Recovered.{place_is, if_can, made_orderly, Unseen, page_there, new_number, more_seen, redone_logged}
 use Rattle.journal_spec.specs.Making.{has_script}
 use Rattle.journal_spec.specs.Before.{Made, plain}
-use Rattle.journal_spec.specs.Retaking.{Told, held, landing, rules_for, retaken}
+use Rattle.journal_spec.specs.Retaking.{Told, held, landing, retaken}
 
 -- what is held can land
 pub held_fits : (b : Book) (c : Change) (inside names : List TxName) → held b c inside ≡ Some names → IsOrderlyChange b.clock b.instances c
 held_fits b (opens o) inside names e = tt
-held_fits b (extends x) inside names e = let at = came_from (page_of_numbers b x.instance x.page) _ names e in page_there b x.instance x.page at.0 at.1.0
+held_fits b (extends x) inside names e =
+    let at = came_from (page_of_numbers b x.instance x.page) _ names e in
+    let place = place_is b x.instance x.page at.0 at.1.0 in
+    let can = (if_can (can_go x.evicted at.0.instance.used) _ names at.1.1).0 in (
+      page_there b x.instance x.page at.0 at.1.0,
+      λ i found n gone.
+          let same : at.0.instance ≡ i = same_Some at.0.instance i (sym place.0 ∙ found) in
+          subst (λ (j : Instance). is_one n (pages_of j.used) ≡ true) same (go_used x.evicted at.0.instance.used n can gone),
+    )
 held_fits b (ends x) inside names e = let at = came_from (page_of_numbers b x.instance x.page) _ names e in page_there b x.instance x.page at.0 at.1.0
 held_fits b (finishes f) inside names e = let at = came_from (page_of_numbers b f.instance f.page) _ names e in page_there b f.instance f.page at.0 at.1.0
 held_fits b (sweeps tick) inside names e = let later = (when_is (nat_lt b.clock tick) [] names e).0 in grind (arith, nat_tests, later)
@@ -49,7 +56,7 @@ landing_is m c inside names e = by_test (is_repeated (number_in c) m.earlier.see
     by_test false is f = (f, is)
 
 landed_orderly : (n : ℕ) (c : Change) (m : Made) (inside : List TxName) (o : Option (List TxName)) → IsOrderlyMade (plain m) → landing m c inside ≡ o
-    → AreOrderly (Unseen (with_number (number_in c) m.earlier.seen)) (redone (rules_for n) c o m.book).instances
+    → AreOrderly (Unseen (with_number (number_in c) m.earlier.seen)) (redone (of_length n) c o m.book).instances
 landed_orderly n c m inside None h e =
     orderly_less (Unseen m.earlier.seen) (Unseen (with_number (number_in c) m.earlier.seen)) m.book.instances (λ k x. (more_seen c m.earlier.seen k x).0) h.instances
 landed_orderly n c m inside (Some names) h e =
@@ -62,7 +69,7 @@ retaken_orderly n c inside x m h = record {
   instances = landed_orderly n c m inside (landing m c inside) h refl;
   counted = λ k there.
       let p = plain m in
-      let same = redone_logged (rules_for n) c (taken_in p c) m.book ∙ sym (redone_logged (rules_for n) c (landing m c inside) m.book) in
-      subst (λ (l : ℕ). k < l) same (((made_orderly (rules_for n)).1 c p h).counted k there);
+      let same = redone_logged (of_length n) c (taken_in p c) m.book ∙ sym (redone_logged (of_length n) c (landing m c inside) m.book) in
+      subst (λ (l : ℕ). k < l) same (((made_orderly (of_length n)).1 c p h).counted k there);
   again = refl;
 }

@@ -13,7 +13,6 @@ use Rattle.web_cells.specs.Shadows.{bound_to, binding}
 use Rattle.instance_cells.specs.Cells.{Effect, read, set, add, cell_of, cell_at, sum, value_or, left_by, landed, commit}
 use Rattle.script_nodes.specs.declared.script.SendKind.{SendKind}
 use Rattle.script_nodes.specs.Core.{Core, Cores, lit, var, bind, seq, branch, and_all, or_any, repeat, prim, call, send, finish, back, isolate, cell_ref, cell_shadow, inst_ref, inst_set, inst_add, no_cores, core}
-use Rattle.script_nodes.specs.Setup.{Script, trees_of}
 use Rattle.replay_spec.specs.Tape.{Reads, recorded, present, bound, is_over, Answer, State, begin, finishes, ends, End, got, stop, Run, after, ◌>>=◌, give, answer, choose, charged, charge, url, halt, sent, send_page, named, enter, leave, lookup, shadow, note, read_from, read_cell, set_in, set_cell, as_number, added, add_to, add_in, add_cell}
 use Rattle.replay_spec.specs.Eval.{Calls, with_task, calls_from, no_calls, calls_of, evaluated, eval, eval_into, eval_while, turns, for_each, copied, value_at, is_not_false, is_any, segment_at_end}
 use Rattle.journal_spec.specs.Depths.{IsShallow, AreShallow, HasShallow, HaveShallow, AreShallowReads, AreShallowAnswers, IsShallowEffect, RunsStayShallow}

@@ -1,5 +1,5 @@
 -- What a publish records can be written.
-use Rattle.std.proofs.Common.{◌≡◌, ℕ, ◌+◌, List, [], length, Bool, true, false, Option, Some, None, refl, subst, arith}
+use Rattle.std.proofs.Common.{◌≡◌, ℕ, ◌+◌, List, length, Bool, true, false, Option, Some, None, refl, subst, arith}
 use Rattle.std.specs.Prelude.{if◌then◌else◌}
 use Rattle.script_value.specs.declared.outcome.TxName.{TxName}
 use Rattle.replay_spec.specs.Book.{Change, opens, extends, ends, finishes, sweeps, Doubt, Book}
@@ -10,20 +10,22 @@ use Rattle.replay_spec.specs.Step.{publish, Reply, Decision, records, unless, do
 use Rattle.replay_spec.specs.Laws.{IsLawful}
 use Rattle.replay_spec.proofs.Stand.{among_of}
 use Rattle.replay_spec.proofs.Going.{Records}
+use Rattle.replay_spec.specs.Recovery.{remade}
 use Rattle.replay_spec.proofs.Orderly.{recorded_orderly}
+use Rattle.replay_spec.proofs.Again.{recorded_remade}
+use Rattle.replay_spec.proofs.Admitted.{came_from}
 use Rattle.machine_states.specs.Machine.{Suspended}
 use Rattle.frame_codec.specs.Spelling.{StateHasBytes}
 use Rattle.frame_codec.specs.Forms.{form_bytes}
-use Rattle.journal_spec.specs.Retaking.{Told, unread, misread, told}
-use Rattle.journal_spec.specs.Lengths.{state_by, own_before, is_shallow_state, told_bytes, state_told, own_told}
+use Rattle.journal_spec.specs.Lengths.{state_by, own_before, is_shallow_state, told_bytes, state_told}
 use Rattle.journal_spec.specs.Making.{has_script}
-use Rattle.journal_spec.specs.Keeping.{IsTakenAs, IsSpelledState}
-use Rattle.journal_spec.specs.Spelling.{IsInRange, AreLimits, IsTicket}
-use Rattle.journal_spec.specs.Laws.{StateFits, WhatIsRecordedIsSpelled}
-use Rattle.journal_spec.proofs.Retaken.{held_script}
+use Rattle.journal_spec.specs.Whole.{IsSpelledState}
+use Rattle.journal_spec.specs.Spelling.{IsInRange, AreLimits, IsTicket, StateFits, WhatIsRecordedIsSpelled}
+use Rattle.std.specs.Prelude.{slice_get}
+use Rattle.std.proofs.lemmas.Bool.Decides.{nat_tests}
+use Rattle.std.proofs.lemmas.Option.{slice_get_within}
 use Rattle.journal_spec.proofs.Brief.{Tells, Comes, published_comes, IsShort, short}
 use Rattle.journal_spec.proofs.Grammar.{TellsInRange, IsToldWith, state_low, in_grammar}
-use Rattle.journal_spec.proofs.Taking.{recorded_taken}
 
 -- it was decided on a shelf that is up
 up_and_decided : (o : Option Doubt) (d : Decision) (r : Reply) (c : Change) (inside : List TxName) → unless (down_by o) d ≡ records r c inside → (o ≡ None) × (d ≡ records r c inside)
@@ -32,7 +34,7 @@ up_and_decided (Some doubt) d r c inside e = absurd (let no : ⊥ = cc in no)
 
 -- what a change tells on a book in range is such as records tell
 tells_range : (rules : Rules) (b : Book) (t : Ticket) (c : Change) → IsInRange b → AreLimits rules b.scripts → IsTicket b t → Tells t (b.clock + rules.life) c → TellsInRange c
-tells_range rules b t (opens o) range limits ticket tells = (let n = ticket.nonce in omega (arith, tells.0, n), omega (arith, tells.1, range.clock, limits.life))
+tells_range rules b t (opens o) range limits ticket tells = (let n = ticket.nonce in omega (arith, tells.0, n), omega (arith, tells.1, range.clock, limits.life), tells.2)
 tells_range rules b t (extends x) range limits ticket tells = (let n = ticket.nonce in omega (arith, tells.0, n), omega (arith, tells.1, range.clock, limits.life))
 tells_range rules b t (ends e) range limits ticket tells = tt
 tells_range rules b t (finishes f) range limits ticket tells = tt
@@ -65,23 +67,28 @@ state_spelled b (ends e) brief fits = tt
 state_spelled b (finishes f) brief fits = tt
 state_spelled b (sweeps tick) brief fits = tt
 
--- what would be taken is of a script that is there
-taken_script : (b : Book) (c : Change) (inside : List TxName) (x : Told) → IsTakenAs b c inside x → has_script (length b.scripts) c ≡ true
-taken_script b c inside unread h = held_script b c [] [] h.0
-taken_script b c inside misread h = absurd h
-taken_script b c inside (told d) h = held_script b c inside inside h.0
+-- what would be made again is of a script that is there
+remade_script : (b : Book) (c : Change) (names : List TxName) → remade b c ≡ Some names → has_script (length b.scripts) c ≡ true
+remade_script b (opens o) names e =
+    let s = came_from (slice_get b.scripts o.script) _ names e in
+    let within = slice_get_within b.scripts o.script s.0 s.1.0 in
+    grind (arith, nat_tests, within)
+remade_script b (extends x) names e = refl
+remade_script b (ends x) names e = refl
+remade_script b (finishes f) names e = refl
+remade_script b (sweeps tick) names e = refl
 
 pub recorded_spelled : WhatIsRecordedIsSpelled
-recorded_spelled scripts shelf rules b t r c inside journal g whole range limits ticket is parts fits =
+recorded_spelled shelf rules b t r c inside journal less g whole range limits ticket is parts fits =
     let decided = up_and_decided b.down (decide rules b t (admit b t.target)) r c inside is in
     let h : Records (IsLawful (publish t) b) rules b t c inside = record { out = among_of b.out t.number; up = decided.0; reply = r; decided = decided.1 } in
-    let taken = recorded_taken rules b t c inside g whole h in
-    let it = recorded_orderly rules b t c inside h in
+    let taken = recorded_remade rules b t c inside less g whole h in
+    let it = recorded_orderly rules b t c inside g h in
     let comes : Comes rules b t (records r c inside) = subst (Comes rules b t) is (published_comes rules b t) in
-    let brief = short scripts shelf rules.journal b c journal comes.1 in
+    let brief = short shelf rules.journal b c journal comes.1 in
     record {
       body =
-          in_grammar b g range limits.few t.number ticket.out c (state_told b c) it.1 it.0 (taken_script b c inside (own_told b c) taken) (tells_range rules b t c range limits ticket comes.0)
+          in_grammar b g range limits.few t.number ticket.out c (state_told b c) it.1 it.0 (remade_script b c taken.0 taken.1.0) (tells_range rules b t c range limits ticket comes.0)
           (told_with b c) brief parts;
       state = state_spelled b c brief fits;
     }

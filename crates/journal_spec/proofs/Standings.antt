@@ -1,6 +1,7 @@
 -- How a disk goes on to stand for a book, by the calls of a journal.
 use Rattle.std.proofs.Common.{◌≡◌, refl, inl, inr, ⊎_elim, ℕ, ◌≤◌, List, [], ◌++◌, Option, Some, None, sym, ◌∙◌, ap, subst, arith}
 use Rattle.std.proofs.lemmas.List.{append-nil}
+use Rattle.std.proofs.lemmas.Option.{same_Some}
 use Rattle.script_nodes.specs.Setup.{Named}
 use Rattle.web_disk.specs.View.{View, NoNewImage, Elapses, LeavesOnly}
 use Rattle.web_disk.proofs.Moments.{started, goes_on}
@@ -11,16 +12,31 @@ use Rattle.page_journal.proofs.Holds.{settled_images}
 use Rattle.page_journal.proofs.Mending.{leaves_then}
 use Rattle.replay_spec.specs.Book.{Doubt, Book, reopened}
 use Rattle.replay_spec.specs.Step.{kept, recovered}
-use Rattle.journal_spec.specs.Before.{Made, made_of}
-use Rattle.journal_spec.specs.Retaking.{rules_for}
-use Rattle.journal_spec.specs.Making.{made, begun, book_in_bytes}
-use Rattle.journal_spec.specs.Standing.{Makes, MakesIn, IsOneOf, HasRoom, Between, Hold, Held, if_kept, Stands, Throughout, ThroughoutFrom, StaysThroughout}
+use Rattle.journal_spec.specs.Before.{Earlier, Made, made_of}
+use Rattle.replay_spec.specs.Recovery.{of_length}
+use Rattle.journal_spec.specs.Making.{Texts, Making, nothing, begun, made, damaged, other, made_in, book_in_bytes}
+use Rattle.journal_spec.specs.Opening.{opened_book, opened_on}
+use Rattle.journal_spec.specs.Standing.{Makes, MakesIn, IsFoundOne, IsOneOf, HasRoom, Between, Hold, Held, HeldOpened, if_kept, Stands, Throughout, ThroughoutFrom, StaysThroughout, OpensThroughout}
 use Rattle.journal_spec.proofs.Between.{make_books, stand_alike}
-use Rattle.journal_spec.proofs.Kept.{same_made}
 
 -- a moment that is over leaves what a crash now may leave
 abbrev pub OnlyNow : View → Type 0
 OnlyNow v = (image : List ℕ) → v.since v.moment image → v.images image
+
+-- a moment sees what a crash now may leave, whenever it began
+abbrev pub CountsNow : View → Type 0
+CountsNow v = (t : ℕ) (image : List ℕ) → t ≤ v.moment → v.images image → v.since t image
+
+-- what a crash leaves at any moment of a call it leaves now
+pub left_now : (v0 v1 : View) (P : List ℕ → Type 0) → CountsNow v1 → LeavesOnly v0 v1 P → (image : List ℕ) → v1.images image → P image
+left_now v0 v1 P counts run image left = run.each image (counts v0.moment image run.later left)
+
+pub any_less : (v0 v1 : View) (P Q : List ℕ → Type 0) → ((image : List ℕ) → P image → Q image) → LeavesOnly v0 v1 P → LeavesOnly v0 v1 Q
+any_less v0 v1 P Q more run = record {
+  later = run.later;
+  each = λ image left. more image (run.each image left);
+  before = λ t image early left. ⊎_elim (λ old. inl old) (λ now. inr (more image now)) (run.before t image early left);
+}
 
 -- what stands closed is held, whatever may be in flight
 pub closed_holds : (bodies : List (List ℕ)) (more : Option (List ℕ)) (image : List ℕ) → IsClosed bodies image → Hold bodies more image
@@ -28,22 +44,22 @@ closed_holds bodies None image closed = closed
 closed_holds bodies (Some body) image closed = inl closed
 
 -- a call of the shelf that makes none of the disk, or one that leaves no new image
-pub stays : (scripts : List Named) (shelf : ℕ) (b : Book) (v : View) → OnlyNow v → (s : Stands scripts shelf v b) → Throughout scripts shelf b (if_kept s.0 b) v v
-stays scripts shelf b v only_now s = (s.1.0, started v (Held s.1.0) (λ image left. s.1.1 image (only_now image left)))
+pub stays : (texts : Texts) (shelf : ℕ) (b : Book) (v : View) → OnlyNow v → (s : Stands texts shelf v b) → Throughout texts shelf b (if_kept s.0 b) v v
+stays texts shelf b v only_now s = (s.1.0, started v (Held s.1.0) (λ image left. s.1.1 image (only_now image left)))
 
-pub stays_then : (scripts : List Named) (shelf : ℕ) (b : Book) (v0 v1 : View) → OnlyNow v0 → (s : Stands scripts shelf v0 b) → NoNewImage v0 v1 → Elapses v0 v1
-    → Throughout scripts shelf b (if_kept s.0 b) v0 v1
-stays_then scripts shelf b v0 v1 only_now s no_new time =
+pub stays_then : (texts : Texts) (shelf : ℕ) (b : Book) (v0 v1 : View) → OnlyNow v0 → (s : Stands texts shelf v0 b) → NoNewImage v0 v1 → Elapses v0 v1
+    → Throughout texts shelf b (if_kept s.0 b) v0 v1
+stays_then texts shelf b v0 v1 only_now s no_new time =
     let k = s.1.0 in
     (k, goes_on v0 v0 v1 (Held k) (started v0 (Held k) (λ image left. s.1.1 image (only_now image left))) time (λ image left. s.1.1 image (no_new image left)))
 
-pub stands_then : (scripts : List Named) (shelf : ℕ) (b : Book) (v0 v1 : View) → (s : Stands scripts shelf v0 b) → NoNewImage v0 v1 → (t : Stands scripts shelf v1 b) × (t.0 ≡ s.0)
-stands_then scripts shelf b v0 v1 s no_new = ((s.0, (s.1.0, λ image left. s.1.1 image (no_new image left))), refl)
+pub stands_then : (texts : Texts) (shelf : ℕ) (b : Book) (v0 v1 : View) → (s : Stands texts shelf v0 b) → NoNewImage v0 v1 → (t : Stands texts shelf v1 b) × (t.0 ≡ s.0)
+stands_then texts shelf b v0 v1 s no_new = ((s.0, (s.1.0, λ image left. s.1.1 image (no_new image left))), refl)
 
 -- a run behind a call that leaves no new image, on a journal's file
-pub after_quiet : (bodies : List (List ℕ)) (scripts : List Named) (shelf : ℕ) (before after : Book) (v0 v1 v2 : View) → OnlyNow v0 → ((image : List ℕ) → v0.images image → IsClosed bodies image)
-    → NoNewImage v0 v1 → Elapses v0 v1 → ThroughoutFrom bodies scripts shelf before after v1 v2 → ThroughoutFrom bodies scripts shelf before after v0 v2
-after_quiet bodies scripts shelf before after v0 v1 v2 only_now closed no_new time t =
+pub after_quiet : (bodies : List (List ℕ)) (texts : Texts) (shelf : ℕ) (before after : Book) (v0 v1 v2 : View) → OnlyNow v0 → ((image : List ℕ) → v0.images image → IsClosed bodies image)
+    → NoNewImage v0 v1 → Elapses v0 v1 → ThroughoutFrom bodies texts shelf before after v1 v2 → ThroughoutFrom bodies texts shelf before after v0 v2
+after_quiet bodies texts shelf before after v0 v1 v2 only_now closed no_new time t =
     let k = t.0 in
     let held : (image : List ℕ) → v0.images image → Held k image =
     λ image left. closed_holds k.bodies k.more image (subst (λ (bs : List (List ℕ)). IsClosed bs image) (sym t.1) (closed image left)) in
@@ -51,45 +67,103 @@ after_quiet bodies scripts shelf before after v0 v1 v2 only_now closed no_new ti
     (k, t.1, leaves_then v0 v1 v2 (Held k) first t.2)
 
 -- a journal's file and nothing else stands for the book that its records make
-pub settled_stands : {D : Type 0} (view : D → View) (scripts : List Named) (shelf : ℕ) (j : Journal D) (b : Book) → IsSettled view j → Makes scripts shelf (bodies_in view j) b → b.down ≡ None
-    → Stands scripts shelf (view_of view j) b
-settled_stands view scripts shelf j b s makes up =
+pub settled_stands : {D : Type 0} (view : D → View) (texts : Texts) (shelf : ℕ) (j : Journal D) (b : Book) → IsSettled view j → Makes texts shelf (bodies_in view j) b → b.down ≡ None
+    → Stands texts shelf (view_of view j) b
+settled_stands view texts shelf j b s makes up =
     let bodies = bodies_in view j in
-    let same : if_kept 0 b ≡ b = ap (λ (d : Option Doubt). recovered (rules_for 0) kept d b) up in
-    let alone : Makes scripts shelf (bodies ++ []) b = subst (λ (bs : List (List ℕ)). Makes scripts shelf bs b) (sym (append-nil bodies)) makes in
-    let k : Between scripts shelf b (if_kept 0 b) =
-    record { bodies = bodies; more = None; room = omega (arith, s.end, s.fits); first = makes; second = subst (Makes scripts shelf (bodies ++ [])) (sym same) alone } in
+    let same : if_kept 0 b ≡ b = ap (λ (d : Option Doubt). recovered (of_length 0) kept d b) up in
+    let alone : Makes texts shelf (bodies ++ []) b = subst (λ (bs : List (List ℕ)). Makes texts shelf bs b) (sym (append-nil bodies)) makes in
+    let k : Between texts shelf b (if_kept 0 b) =
+    record { bodies = bodies; more = None; room = omega (arith, s.end, s.fits); first = makes; second = subst (Makes texts shelf (bodies ++ [])) (sym same) alone } in
     (0, (k, settled_images view j s))
 
 -- a recovery
-pub stays_by : (scripts : List Named) (shelf : ℕ) (v0 v1 : View) → MayHoldNowAndThroughout v0 v1 → ClosedNowAndThroughout v0 v1 → StaysThroughout scripts shelf v0 v1
-stays_by scripts shelf v0 v1 may closed = λ before after k held. by_more k.bodies k.more k.room held
+pub stays_by : (texts : Texts) (shelf : ℕ) (v0 v1 : View) → MayHoldNowAndThroughout v0 v1 → ClosedNowAndThroughout v0 v1 → StaysThroughout texts shelf v0 v1
+stays_by texts shelf v0 v1 may closed = λ before after k held. by_more k.bodies k.more k.room held
   where
     by_more : (bodies : List (List ℕ)) (more : Option (List ℕ)) → HasRoom bodies more → ((image : List ℕ) → v0.images image → Hold bodies more image) → LeavesOnly v0 v1 (Hold bodies more)
     by_more bodies None room held = closed bodies room held
     by_more bodies (Some body) room held = may bodies body room held
 
-found_one : (scripts : List Named) (shelf : ℕ) (bytes : List ℕ) (m : Made) (b : Book) → begun scripts shelf (book_in_bytes scripts shelf bytes) ≡ made m → MakesIn scripts shelf bytes b → m.book ≡ reopened b
-found_one scripts shelf bytes m b makes (earlier, is) = ap (λ (x : Made). x.book) (same_made m (made_of b earlier) (sym makes ∙ ap (begun scripts shelf) is))
+found_in_bytes : (texts : Texts) (shelf : ℕ) (bytes : List ℕ) (m : Made) (b : Book) → made_in (book_in_bytes texts shelf bytes) ≡ Some m → MakesIn texts shelf bytes b → m.book ≡ reopened b
+found_in_bytes texts shelf bytes m b makes (earlier, is) = ap (λ (x : Made). x.book) (same_Some m (made_of b earlier) (sym makes ∙ is))
 
-pub one_of : (scripts : List Named) (shelf : ℕ) (v : View) (m : Made) → v.images v.seen → begun scripts shelf (book_in_bytes scripts shelf v.seen) ≡ made m → IsOneOf scripts shelf v m.book
-one_of scripts shelf v m reads makes = λ before after k held. ⊎_elim
-    (λ h. inl (found_one scripts shelf v.seen m before makes h))
-    (λ h. inr (found_one scripts shelf v.seen m after makes h))
-    (make_books scripts shelf before after k v.seen (held v.seen reads))
+pub one_found : (texts : Texts) (shelf : ℕ) (v : View) (m : Made) → v.images v.seen → made_in (book_in_bytes texts shelf v.seen) ≡ Some m → IsFoundOne texts shelf v m.book
+one_found texts shelf v m reads makes = λ before after k held. ⊎_elim
+    (λ h. inl (found_in_bytes texts shelf v.seen m before makes h))
+    (λ h. inr (found_in_bytes texts shelf v.seen m after makes h))
+    (make_books texts shelf before after k v.seen (held v.seen reads))
+
+-- what a shelf goes on with, where the records make this
+goes_on_with : (shelf : ℕ) (scripts : List Named) (x : Making) (b : Book) (earlier : Earlier) (m : Made) → made_in x ≡ Some (made_of b earlier) → opened_on shelf scripts x ≡ Some m
+    → m.book ≡ opened_book shelf scripts b
+goes_on_with shelf scripts nothing b earlier m is opened = absurd (let no : ⊥ = cc in no)
+goes_on_with shelf scripts (begun k) b earlier m is opened =
+    ap (λ (y : Made). y.book) (sym (same_Some (record k { book = opened_book shelf scripts k.book }) m opened))
+    ∙ ap (λ (y : Made). opened_book shelf scripts y.book) (same_Some k (made_of b earlier) is)
+goes_on_with shelf scripts (made k) b earlier m is opened =
+    ap (λ (y : Made). y.book) (sym (same_Some (record k { book = opened_book shelf scripts k.book }) m opened))
+    ∙ ap (λ (y : Made). opened_book shelf scripts y.book) (same_Some k (made_of b earlier) is)
+goes_on_with shelf scripts (damaged p) b earlier m is opened = absurd (let no : ⊥ = cc in no)
+goes_on_with shelf scripts (other p) b earlier m is opened = absurd (let no : ⊥ = cc in no)
+
+pub one_of : (texts : Texts) (shelf : ℕ) (scripts : List Named) (v : View) (m : Made) → v.images v.seen → opened_on shelf scripts (book_in_bytes texts shelf v.seen) ≡ Some m
+    → IsOneOf texts shelf scripts v m.book
+one_of texts shelf scripts v m reads opened = λ before after k held.
+    let x = book_in_bytes texts shelf v.seen in
+    ⊎_elim
+    (λ (earlier, is). inl (goes_on_with shelf scripts x before earlier m is opened))
+    (λ (earlier, is). inr (goes_on_with shelf scripts x after earlier m is opened))
+    (make_books texts shelf before after k v.seen (held v.seen reads))
+
+-- ---- an opening with a setup
+
+pub recovery_opens : (texts : Texts) (shelf : ℕ) (scripts : List Named) (v0 v1 : View) → CountsNow v1 → StaysThroughout texts shelf v0 v1 → OpensThroughout texts shelf scripts v0 v1
+recovery_opens texts shelf scripts v0 v1 counts stays before after k held =
+    let run = stays before after k held in
+    record { moments = any_less v0 v1 (Held k) (HeldOpened k scripts) (λ image h. inl h) run; stands = inl (left_now v0 v1 (Held k) counts run) }
+
+-- a call that stood between the book that was found and the one with the setup, on a disk that stood between two books of which it is one
+opens_from : (texts : Texts) (shelf : ℕ) (scripts : List Named) (b c : Book) (v0 v1 : View) → b ≡ reopened c → Throughout texts shelf b (opened_book shelf scripts b) v0 v1
+    → (l : Between texts shelf c (opened_book shelf scripts c)) × LeavesOnly v0 v1 (Held l)
+opens_from texts shelf scripts b c v0 v1 is (k, run) =
+    let here : reopened b ≡ reopened c = ap reopened is in
+    let there : reopened (opened_book shelf scripts b) ≡ reopened (opened_book shelf scripts c) = ap (λ (y : Book). reopened (opened_book shelf scripts y)) is in
+    let l = (stand_alike texts shelf).1 b (opened_book shelf scripts b) c (opened_book shelf scripts c) here there k in
+    let P : List (List ℕ) → Option (List ℕ) → Type 0 = λ bs o. LeavesOnly v0 v1 (Hold bs o) in
+    (l.0, subst (λ (bs : List (List ℕ)). P bs l.0.more) (sym l.1) (subst (P k.bodies) (sym l.2) run))
+
+pub opening_stays : (texts : Texts) (shelf : ℕ) (scripts : List Named) (v0 v1 v2 : View) (b : Book) → CountsNow v2 → StaysThroughout texts shelf v0 v1 → IsFoundOne texts shelf v0 b
+    → Throughout texts shelf b (opened_book shelf scripts b) v1 v2 → OpensThroughout texts shelf scripts v0 v2
+opening_stays texts shelf scripts v0 v1 v2 b counts stays found throughout before after k held =
+    let first = any_less v0 v1 (Held k) (HeldOpened k scripts) (λ image h. inl h) (stays before after k held) in
+    ⊎_elim
+    (λ is.
+    let l = opens_from texts shelf scripts b before v1 v2 is throughout in
+    record {
+      moments = leaves_then v0 v1 v2 (HeldOpened k scripts) first (any_less v1 v2 (Held l.0) (HeldOpened k scripts) (λ image h. inr (inl (l.0, h))) l.1);
+      stands = inr (inl (l.0, left_now v1 v2 (Held l.0) counts l.1));
+    })
+    (λ is.
+    let l = opens_from texts shelf scripts b after v1 v2 is throughout in
+    record {
+      moments = leaves_then v0 v1 v2 (HeldOpened k scripts) first (any_less v1 v2 (Held l.0) (HeldOpened k scripts) (λ image h. inr (inr (l.0, h))) l.1);
+      stands = inr (inr (l.0, left_now v1 v2 (Held l.0) counts l.1));
+    })
+    (found before after k held)
 
 -- a record is added behind what makes room for it
-pub appended : (bodies : List (List ℕ)) (scripts : List Named) (shelf : ℕ) (before after : Book) (v0 v1 v2 : View) (body : List ℕ) → OnlyNow v0 → ((image : List ℕ) → v0.images image → IsClosed bodies image)
-    → (k : Between scripts shelf before after) → k.bodies ≡ bodies → k.more ≡ Some body → NoNewImage v0 v1 → Elapses v0 v1 → LeavesOnly v1 v2 (MayHold bodies body) → Throughout scripts shelf before after v0 v2
-appended bodies scripts shelf before after v0 v1 v2 body only_now closed k these more no_new time run =
+pub appended : (bodies : List (List ℕ)) (texts : Texts) (shelf : ℕ) (before after : Book) (v0 v1 v2 : View) (body : List ℕ) → OnlyNow v0 → ((image : List ℕ) → v0.images image → IsClosed bodies image)
+    → (k : Between texts shelf before after) → k.bodies ≡ bodies → k.more ≡ Some body → NoNewImage v0 v1 → Elapses v0 v1 → LeavesOnly v1 v2 (MayHold bodies body) → Throughout texts shelf before after v0 v2
+appended bodies texts shelf before after v0 v1 v2 body only_now closed k these more no_new time run =
     let P : List (List ℕ) → Option (List ℕ) → Type 0 = λ bs o. LeavesOnly v1 v2 (Hold bs o) in
     let here : LeavesOnly v1 v2 (Held k) = subst (P k.bodies) (sym more) (subst (λ (bs : List (List ℕ)). P bs (Some body)) (sym these) run) in
-    let all = after_quiet bodies scripts shelf before after v0 v1 v2 only_now closed no_new time (k, these, here) in
+    let all = after_quiet bodies texts shelf before after v0 v1 v2 only_now closed no_new time (k, these, here) in
     (all.0, all.2)
 
 -- what a call left
-pub left_standing : (scripts : List Named) (shelf n : ℕ) (before after b : Book) (v0 v1 : View) → ((t : ℕ) (image : List ℕ) → t ≤ v1.moment → v1.images image → v1.since t image)
-    → Throughout scripts shelf before after v0 v1 → reopened before ≡ reopened b → reopened after ≡ reopened (if_kept n b) → (t : Stands scripts shelf v1 b) × (t.0 ≡ n)
-left_standing scripts shelf n before after b v0 v1 counts (k, run) first second =
-    let l = (stand_alike scripts shelf).1 before after b (if_kept n b) first second k in
+pub left_standing : (texts : Texts) (shelf n : ℕ) (before after b : Book) (v0 v1 : View) → CountsNow v1
+    → Throughout texts shelf before after v0 v1 → reopened before ≡ reopened b → reopened after ≡ reopened (if_kept n b) → (t : Stands texts shelf v1 b) × (t.0 ≡ n)
+left_standing texts shelf n before after b v0 v1 counts (k, run) first second =
+    let l = (stand_alike texts shelf).1 before after b (if_kept n b) first second k in
     ((n, (l.0, λ image left. subst (λ (bs : List (List ℕ)). Hold bs l.0.more image) (sym l.1) (subst (λ (o : Option (List ℕ)). Hold k.bodies o image) (sym l.2) (run.each image (counts v0.moment image run.later left))))), refl)

@@ -1,5 +1,5 @@
 -- What a journal with own states told of each page is the state that its script left there.
-use Rattle.std.proofs.Common.{◌≡◌, ◌≢◌, ◌≤◌, ◌==◌, ◌&&◌, ◌+◌, ℕ, suc, List, [], ◌∷◌, ◌++◌, map, reverse, length, slice_get, not, Bool, true, false, Option, Some, None, refl, sym, ap, subst, ◌∙◌, cond, ⊎_elim, arith, append_assoc}
+use Rattle.std.proofs.Common.{◌≡◌, ◌≢◌, ◌≤◌, ◌==◌, ◌+◌, ℕ, suc, List, [], ◌∷◌, ◌++◌, map, reverse, length, slice_get, not, Bool, true, false, Option, Some, None, refl, sym, ap, subst, ◌∙◌, cond, ⊎_elim, arith, append_assoc}
 use Rattle.std.specs.Prelude.{⊤}
 use Rattle.std.proofs.lemmas.Bool.Decides.{nat_tests}
 use Rattle.std.proofs.lemmas.List.{append-nil, map-append, reverse-append}
@@ -7,13 +7,13 @@ use Rattle.std.proofs.lemmas.Option.{same_Some}
 use Rattle.script_value.specs.declared.outcome.TxName.{TxName}
 use Rattle.instance_cells.specs.Cells.{reads_of}
 use Rattle.script_nodes.specs.Setup.{Named}
-use Rattle.page_journal.specs.Records.{frames}
 use Rattle.replay_spec.specs.Tape.{recorded, Answer}
-use Rattle.replay_spec.specs.Book.{Page, Instance, Opening, Extension, Change, opens, extends, ends, finishes, sweeps, Book, instance_at, page_at, parent_of, chain, is_live}
-use Rattle.replay_spec.specs.Change.{mend, put_page, root_by, page_by, done, shown_by, fresh, opened_by, instances_by}
+use Rattle.replay_spec.specs.Book.{Page, Instance, Opening, Extension, Change, opens, extends, ends, finishes, sweeps, renewed, File, Book, instance_at, page_at, parent_of, chain, is_live}
+use Rattle.replay_spec.specs.Rules.{first_file}
+use Rattle.replay_spec.specs.Change.{mend, put_page, root_by, page_by, shown_by, ended_by, fresh, opened_by, instances_by}
 use Rattle.replay_spec.specs.Admission.{◌>>=◌, Place}
 use Rattle.replay_spec.specs.Next.{home, past, answered, newest, tape_of}
-use Rattle.replay_spec.specs.Recovery.{page_of_numbers, extension_visit, number_in, with_number}
+use Rattle.replay_spec.specs.Recovery.{page_of_numbers, extension_visit, number_in, with_number, first_of}
 use Rattle.replay_spec.specs.Invariant.{Among, Apart, AreAncestors, Lineage, IsOf, AreOrderly}
 use Rattle.replay_spec.specs.Remade.{IsOrderlyMade}
 use Rattle.replay_spec.proofs.Numbered.{number_of, put_found, put_length}
@@ -23,17 +23,20 @@ use Rattle.replay_spec.proofs.Landed.{never, land_well}
 use Rattle.replay_spec.proofs.Found.{mend_other, mend_found, keep_found}
 use Rattle.replay_spec.proofs.Differ.{put_from, mend_from}
 use Rattle.replay_spec.proofs.Admitted.{came_from}
-use Rattle.replay_spec.proofs.Recovered.{made_orderly, new_number, more_seen}
+use Rattle.replay_spec.proofs.Recovered.{new_number, more_seen}
+use Rattle.replay_spec.proofs.Compacted.{line_orderly, first_orderly}
 use Rattle.machine_states.specs.Machine.{Suspended, inside_of}
 use Rattle.frame_codec.specs.Forms.{read_form}
 use Rattle.kept_states.specs.Links.{behind_at}
-use Rattle.journal_records.specs.Records.{Record, begins, changes}
+use Rattle.page_journal.specs.Records.{frames}
+use Rattle.journal_records.specs.Records.{Record, begins, changes, renews, draws}
 use Rattle.journal_records.specs.Reading.{read_record}
-use Rattle.journal_spec.specs.Before.{States, state_at, Earlier, Made, plain, nothing_made, links_behind, before_told}
+use Rattle.journal_spec.specs.Before.{States, state_at, Earlier, nothing_told, Made, plain, links_behind, before_told}
 use Rattle.journal_spec.specs.Retaking.{arena_of, Told, unread, misread, told, told_as, told_by, told_in, held, landing, then_told, retaken}
-use Rattle.journal_spec.specs.Lengths.{state_over, state_by, chain_tape, own_state}
-use Rattle.journal_spec.specs.Making.{Making, nothing, made, damaged, other, rules_over, are_told, has_script, told_next, first_by, next_by, with_body, book_of}
-use Rattle.journal_spec.specs.Owning.{IsOwnState, IsOwnRecord, AreOwn, HasOwnStates, IsOwnBefore}
+use Rattle.journal_spec.specs.Lengths.{state_over, state_by, chain_tape, own_state, own_before}
+use Rattle.journal_spec.specs.Whole.{HasOwnStates}
+use Rattle.journal_spec.specs.Making.{Texts, Making, nothing, begun, made, damaged, other, has_script, beside, began, first_setup, first_by, told_next, next_setup, next_by, second_by, with_body, made_in, book_of}
+use Rattle.journal_spec.specs.Owning.{IsOwnState, IsOwnRecord, AreOwn, IsOwnBefore}
 use Rattle.journal_spec.specs.Laws.{OwnStatesAreTold}
 use Rattle.journal_spec.proofs.Makings.{with_push}
 use Rattle.journal_spec.proofs.Retaken.{held_fits, landing_is, retaken_orderly}
@@ -57,13 +60,12 @@ stands b k n at e =
     let there : Stands b k n place = record { found = i.1.0; shown = p.1.0 } in
     subst (λ (x : Place). Stands b k n x) is there
 
-pub own_before_is : (earlier : Earlier) (b : Book) (o : Option Change) → HasOwnStates earlier b → IsOwnBefore earlier b o
-own_before_is earlier b None h = tt
-own_before_is earlier b (Some (opens o)) h = refl
-own_before_is earlier b (Some (ends e)) h = refl
-own_before_is earlier b (Some (finishes f)) h = refl
-own_before_is earlier b (Some (sweeps tick)) h = refl
-own_before_is earlier b (Some (extends x)) h =
+pub own_before_is : (earlier : Earlier) (b : Book) (c : Change) → HasOwnStates earlier b → before_told earlier b c ≡ own_before b c
+own_before_is earlier b (opens o) h = refl
+own_before_is earlier b (ends e) h = refl
+own_before_is earlier b (finishes f) h = refl
+own_before_is earlier b (sweeps tick) h = refl
+own_before_is earlier b (extends x) h =
     same_by (page_of_numbers b x.instance x.page) (λ at. behind_at (links_behind at) (state_at at.page.number earlier.states))
     (λ at. behind_at (links_behind at) (own_state b.shelf at))
     (λ at e.
@@ -110,30 +112,30 @@ old_own u shelf states is js orderly since own k n j p found shown used =
 
 -- ---- a record without a page
 
-abbrev IsQuiet : Change → Type 0
+abbrev pub IsQuiet : Change → Type 0
 IsQuiet (opens o) = ⊥
 IsQuiet (extends x) = ⊥
 IsQuiet _ = ⊤
 
-record Before (is : List Instance) (k : ℕ) (j : Instance) : Type 0 where
-  instance : Instance
-  found : instance_at k is ≡ Some instance
-  pages : j.pages ≡ instance.pages
-  script : j.script ≡ instance.script
+pub record Before (is : List Instance) (k : ℕ) (j : Instance) : Type 0 where
+  pub instance : Instance
+  pub found : instance_at k is ≡ Some instance
+  pub pages : j.pages ≡ instance.pages
+  pub script : j.script ≡ instance.script
 
-quiet_from : (scripts : List Named) (is : List Instance) (c : Change) (names : List TxName) → Apart is → IsQuiet c → (k : ℕ) (j : Instance)
+pub quiet_from : (scripts : List Named) (is : List Instance) (c : Change) (names : List TxName) → Apart is → IsQuiet c → (k : ℕ) (j : Instance)
     → instance_at k (instances_by scripts c names is) ≡ Some j → Before is k j
 quiet_from scripts is (opens o) names apart quiet k j found = absurd quiet
 quiet_from scripts is (extends x) names apart quiet k j found = absurd quiet
 quiet_from scripts is (ends e) names apart quiet k j found = ⊎_elim
     (λ (old : instance_at k is ≡ Some j). record { instance = j; found = old; pages = refl; script = refl })
-    (λ ((i, there) : (i : Instance) × ((instance_at k is ≡ Some i) × (done e.effects e.left i ≡ j))). record {
+    (λ ((i, there) : (i : Instance) × ((instance_at k is ≡ Some i) × (ended_by e i ≡ j))). record {
       instance = i;
       found = there.0;
       pages = ap (λ (x : Instance). x.pages) (sym there.1);
       script = ap (λ (x : Instance). x.script) (sym there.1);
     })
-    (mend_from k e.instance (done e.effects e.left) is j (λ i. refl) found)
+    (mend_from k e.instance (ended_by e) is j (λ i. refl) found)
 quiet_from scripts is (finishes f) names apart quiet k j found =
     record { instance = j; found = keep_found (λ i. not (i.number == f.instance)) k is j apart found; pages = refl; script = refl }
 quiet_from scripts is (sweeps tick) names apart quiet k j found =
@@ -156,7 +158,7 @@ not_unread before s (Some bytes) e = some (read_form (arena_of s.script) before 
     some None f = let no : ⊥ = cc in no
     some (Some d) f = let no : ⊥ = cc in no
 
-quiet_if : (earlier : Earlier) (b : Book) (c : Change) (state : Option (List ℕ)) (inside names : List TxName) → told_in earlier b c state ≡ unread → held b c inside ≡ Some names → IsQuiet c
+pub quiet_if : (earlier : Earlier) (b : Book) (c : Change) (state : Option (List ℕ)) (inside names : List TxName) → told_in earlier b c state ≡ unread → held b c inside ≡ Some names → IsQuiet c
 quiet_if earlier b (opens o) state inside names e can =
     let s = came_from (slice_get b.scripts o.script) _ names can in
     not_unread None s.0 state (ap (λ (x : Option Named). told_by None x state) (sym s.1.0) ∙ e)
@@ -171,7 +173,7 @@ quiet_if earlier b (sweeps tick) state inside names e can = tt
 
 -- ---- a record that shows a page
 
-at_number_again : (n : ℕ) (d : Suspended) (ss : States) → state_at n ((n, d) ∷ ss) ≡ Some d
+pub at_number_again : (n : ℕ) (d : Suspended) (ss : States) → state_at n ((n, d) ∷ ss) ≡ Some d
 at_number_again n d ss = let same : (n == n) ≡ true = grind (arith, nat_tests) in ap (λ (t : Bool). cond t (Some d) (state_at n ss)) same
 
 at_other : (m n : ℕ) (d : Suspended) (ss : States) → (m == n) ≡ false → state_at n ((m, d) ∷ ss) ≡ state_at n ss
@@ -183,7 +185,7 @@ opened_own : (u : ℕ → Type 0) (b : Book) (o : Opening) (names : List TxName)
     → Some d ≡ own_state b.shelf (record { instance = j; page = p })
 opened_own u b o names d orderly unused is k j p found shown =
     let s = came_from (slice_get b.scripts o.script) _ d is in
-    let i = shown_by o.effects o.left o.kind (root_by o names) (fresh s.0 o.number) in
+    let i = shown_by o.effects o.left o.kind [] (root_by o names) (fresh s.0 o.number) in
     let there : instance_at k (opened_by (Some s.0) o names b.instances) ≡ Some j = ap (λ (x : Option Named). instance_at k (opened_by x o names b.instances)) (sym s.1.0) ∙ found in
     ⊎_elim
     (λ (same : i ≡ j).
@@ -231,7 +233,7 @@ extended_own u b x names d orderly unused is k j p found shown = by_number (x.in
     new = page_by x names
 
     f : Instance → Instance
-    f = shown_by x.effects x.left x.kind new
+    f = shown_by x.effects x.left x.kind x.evicted new
 
     elsewhere : x.instance ≢ k → Some d ≡ own_state b.shelf (record { instance = j; page = p })
     elsewhere differs =
@@ -331,14 +333,10 @@ told_own_landed m (finishes f) inside names d orderly own is lands = absurd (let
 told_own_landed m (sweeps tick) inside names d orderly own is lands = absurd (let no : ⊥ = cc in no)
 
 -- what was made has own states
-abbrev IsOwnMade : Made → Type 0
+abbrev pub IsOwnMade : Made → Type 0
 IsOwnMade m = IsOrderlyMade (plain m) × HasOwnStates m.earlier m.book
 
-abbrev IsOwnMaking : Making → Type 0
-IsOwnMaking (made m) = IsOwnMade m
-IsOwnMaking _ = ⊤
-
-told_retaken : (n : ℕ) (m : Made) (c : Change) (inside : List TxName) (d : Suspended) → IsOwnMade m → state_by m.book c ≡ Some d
+pub told_retaken : (n : ℕ) (m : Made) (c : Change) (inside : List TxName) (d : Suspended) → IsOwnMade m → state_by m.book c ≡ Some d
     → let r = retaken n c (landing m c inside) (told d) m in HasOwnStates r.earlier r.book
 told_retaken n m c inside d h is = by_landing (landing m c inside) refl
   where
@@ -346,7 +344,7 @@ told_retaken n m c inside d h is = by_landing (landing m c inside) refl
     by_landing None e = h.1
     by_landing (Some names) e = told_own_landed m c inside names d h.0 h.1 is e
 
-quiet_retaken : (n : ℕ) (m : Made) (c : Change) (state : Option (List ℕ)) (inside : List TxName) → IsOwnMade m → told_in m.earlier m.book c state ≡ unread
+pub quiet_retaken : (n : ℕ) (m : Made) (c : Change) (state : Option (List ℕ)) (inside : List TxName) → IsOwnMade m → told_in m.earlier m.book c state ≡ unread
     → let r = retaken n c (landing m c inside) unread m in HasOwnStates r.earlier r.book
 quiet_retaken n m c state inside h is = by_landing (landing m c inside) refl
   where
@@ -364,6 +362,13 @@ quiet_retaken n m c state inside h is = by_landing (landing m c inside) refl
         subst (λ (ss : States). OwnIn m.book.shelf ss (instances_by m.book.scripts c names m.book.instances)) (sym (quiet_states c names))
         (quiet_own m.book.shelf m.earlier.states m.book.scripts m.book.instances c names h.0.instances.apart (quiet_if m.earlier m.book c state inside names is t.0) h.1)
 
+-- ---- what bodies make
+
+abbrev IsOwnMaking : Making → Type 0
+IsOwnMaking (begun m) = IsOwnMade m × (m.earlier ≡ nothing_told)
+IsOwnMaking (made m) = IsOwnMade m
+IsOwnMaking _ = ⊤
+
 told_making : (place n : ℕ) (m : Made) (c : Change) (state : Option (List ℕ)) (x : Told) → told_in m.earlier m.book c state ≡ x → IsOwnMade m → IsOwnState m.book c x
     → IsOwnMaking (told_next place n m c x)
 told_making place n m c state unread e h own = (retaken_orderly n c [] unread m h.0, quiet_retaken n m c state [] h e)
@@ -371,41 +376,77 @@ told_making place n m c state misread e h own = tt
 told_making place n m c state (told d) e h own =
     (retaken_orderly n c (inside_of d.frames) (told d) m h.0, told_retaken n m c (inside_of d.frames) d h own)
 
-next_making : (scripts : List Named) (place n : ℕ) (m : Made) (r : Option Record) → IsOwnMade m → IsOwnRecord m r → IsOwnMaking (next_by scripts place n m r)
-next_making scripts place n m None h own = tt
-next_making scripts place n m (Some (begins s named)) h own = tt
-next_making scripts place n m (Some (changes c state)) h own = by_test (has_script (length scripts) c)
+setup_making : (place n : ℕ) (m : Made) (o : Option (List Named)) → IsOwnMade m → IsOwnMaking (next_setup place n m o)
+setup_making place n m None h = tt
+setup_making place n m (Some scripts) h = (line_orderly (renewed scripts n) (plain m) h.0, h.1)
+
+next_making : (texts : Texts) (place n : ℕ) (m : Made) (r : Option Record) → IsOwnMade m → IsOwnRecord m r → IsOwnMaking (next_by texts place n m r)
+next_making texts place n m None h own = tt
+next_making texts place n m (Some (begins s named)) h own = tt
+next_making texts place n m (Some (draws number)) h own = tt
+next_making texts place n m (Some (renews named)) h own = setup_making place n m (texts named) h
+next_making texts place n m (Some (changes c state)) h own = by_test (has_script (length m.book.scripts) c)
   where
     by_test : (t : Bool) → IsOwnMaking (cond t (told_next place n m c (told_in m.earlier m.book c state)) (damaged place))
     by_test false = tt
     by_test true = told_making place n m c state (told_in m.earlier m.book c state) refl h own
 
-first_making : (scripts : List Named) (shelf place : ℕ) (r : Option Record) → IsOwnMaking (first_by scripts shelf place r)
-first_making scripts shelf place None = tt
-first_making scripts shelf place (Some (changes c state)) = tt
-first_making scripts shelf place (Some (begins s named)) = by_test (s == shelf && are_told named scripts)
+-- a file's first records show no page
+first_own : (shelf : ℕ) (f : File) → IsOwnMade (beside nothing_told (first_of shelf f))
+first_own shelf f = (first_orderly shelf f, λ k n i p found shown. absurd (let no : ⊥ = cc in no))
+
+second_making : (texts : Texts) (place n : ℕ) (m : Made) (r : Option Record) → IsOwnMade m × (m.earlier ≡ nothing_told) → IsOwnRecord m r → IsOwnMaking (second_by texts place n m r)
+second_making texts place n m None h own = tt
+second_making texts place n m (Some (begins s named)) h own = tt
+second_making texts place n m (Some (draws number)) h own =
+    let f = record m.book.file { drawn = Some number } in
+    subst (λ (e : Earlier). IsOwnMade (beside e (first_of m.book.shelf f))) (sym h.1) (first_own m.book.shelf f)
+second_making texts place n m (Some (renews named)) h own = next_making texts place n m (Some (renews named)) h.0 own
+second_making texts place n m (Some (changes c state)) h own = next_making texts place n m (Some (changes c state)) h.0 own
+
+first_making : (texts : Texts) (shelf place n : ℕ) (r : Option Record) → IsOwnMaking (first_by texts shelf place n r)
+first_making texts shelf place n None = tt
+first_making texts shelf place n (Some (changes c state)) = tt
+first_making texts shelf place n (Some (renews named)) = tt
+first_making texts shelf place n (Some (draws number)) = tt
+first_making texts shelf place n (Some (begins s named)) = by_setup (texts named)
   where
-    by_test : (t : Bool) → IsOwnMaking (cond t (made (nothing_made (rules_over scripts shelf) scripts shelf)) (other place))
-    by_test true = ((made_orderly (rules_over scripts shelf)).0 scripts shelf, λ k n i p found shown. absurd (let no : ⊥ = cc in no))
-    by_test false = tt
+    by_test : (scripts : List Named) (t : Bool) → IsOwnMaking (cond t (begun (began shelf n scripts)) (other place))
+    by_test scripts true = (first_own shelf (first_file (14 + n) scripts), refl)
+    by_test scripts false = tt
 
-one_making : (scripts : List Named) (shelf place : ℕ) (body : List ℕ) (x : Making) → IsOwnMaking x → ((m : Made) → x ≡ made m → IsOwnRecord m (read_record body))
-    → IsOwnMaking (with_body scripts shelf place body x)
-one_making scripts shelf place body nothing h own = first_making scripts shelf place (read_record body)
-one_making scripts shelf place body (made m) h own = next_making scripts place (length body) m (read_record body) h (own m refl)
-one_making scripts shelf place body (damaged p) h own = tt
-one_making scripts shelf place body (other p) h own = tt
+    by_setup : (o : Option (List Named)) → IsOwnMaking (first_setup shelf place n s o)
+    by_setup None = tt
+    by_setup (Some scripts) = by_test scripts (s == shelf)
 
-all_making : (scripts : List Named) (shelf : ℕ) (bodies front rest : List (List ℕ)) → AreOwn scripts shelf bodies → front ++ rest ≡ bodies → IsOwnMaking (book_of scripts shelf front)
-    → IsOwnMaking (book_of scripts shelf bodies)
-all_making scripts shelf bodies front [] own e h =
-    subst (λ (bs : List (List ℕ)). IsOwnMaking (book_of scripts shelf bs)) (sym (append-nil front) ∙ e) h
-all_making scripts shelf bodies front (body ∷ rest) own e h =
-    all_making scripts shelf bodies (front ++ body ∷ []) rest own (append_assoc front (body ∷ []) rest ∙ e)
-    (subst IsOwnMaking (sym (with_push scripts shelf 8 front body nothing))
-    (one_making scripts shelf (8 + length (frames front)) body (book_of scripts shelf front) h (λ m is. own front rest body m (sym e) is)))
+one_making : (texts : Texts) (shelf place : ℕ) (body : List ℕ) (x : Making) → IsOwnMaking x → ((m : Made) → made_in x ≡ Some m → IsOwnRecord m (read_record body))
+    → IsOwnMaking (with_body texts shelf place body x)
+one_making texts shelf place body nothing h own = first_making texts shelf place (length body) (read_record body)
+one_making texts shelf place body (begun m) h own = second_making texts place (length body) m (read_record body) h (own m refl)
+one_making texts shelf place body (made m) h own = next_making texts place (length body) m (read_record body) h (own m refl)
+one_making texts shelf place body (damaged p) h own = tt
+one_making texts shelf place body (other p) h own = tt
+
+all_making : (texts : Texts) (shelf : ℕ) (bodies front rest : List (List ℕ)) → AreOwn texts shelf bodies → front ++ rest ≡ bodies → IsOwnMaking (book_of texts shelf front)
+    → IsOwnMaking (book_of texts shelf bodies)
+all_making texts shelf bodies front [] own e h =
+    subst (λ (bs : List (List ℕ)). IsOwnMaking (book_of texts shelf bs)) (sym (append-nil front) ∙ e) h
+all_making texts shelf bodies front (body ∷ rest) own e h =
+    all_making texts shelf bodies (front ++ body ∷ []) rest own (append_assoc front (body ∷ []) rest ∙ e)
+    (subst IsOwnMaking (sym (with_push texts shelf 8 front body nothing))
+    (one_making texts shelf (8 + length (frames front)) body (book_of texts shelf front) h (λ m is. own front rest body m (sym e) is)))
+
+own_made : (x : Making) (m : Made) → made_in x ≡ Some m → IsOwnMaking x → IsOwnMade m
+own_made nothing m is h = absurd (let no : ⊥ = cc in no)
+own_made (begun k) m is h = let at : k ≡ m = cc in subst IsOwnMade at h.0
+own_made (made k) m is h = let at : k ≡ m = cc in subst IsOwnMade at h
+own_made (damaged p) m is h = absurd (let no : ⊥ = cc in no)
+own_made (other p) m is h = absurd (let no : ⊥ = cc in no)
 
 pub own_are_told : OwnStatesAreTold
-own_are_told scripts shelf bodies m is own =
-    let h : IsOwnMaking (made m) = subst IsOwnMaking is (all_making scripts shelf bodies [] bodies own refl tt) in
-    h.1
+own_are_told texts shelf bodies m is own = (own_made (book_of texts shelf bodies) m is (all_making texts shelf bodies [] bodies own refl tt)).1
+
+-- what a change's page is written behind is then an own state
+pub own_before_of : (earlier : Earlier) (b : Book) (o : Option Change) → HasOwnStates earlier b → IsOwnBefore earlier b o
+own_before_of earlier b None h = tt
+own_before_of earlier b (Some c) h = own_before_is earlier b c h

@@ -1,8 +1,6 @@
 -- What records told earlier, and what the state of a record's page is written behind.
 use Rattle.std.specs.Prelude.{ℕ, ◌==◌, List, [], ◌∷◌, length, Option, Some, None, if◌then◌else◌}
-use Rattle.script_nodes.specs.Setup.{Named}
 use Rattle.replay_spec.specs.Book.{Change, extends, Book, chain, reopened}
-use Rattle.replay_spec.specs.Rules.{Rules, empty_book}
 use Rattle.replay_spec.specs.Admission.{◌>>=◌, Place}
 use Rattle.replay_spec.specs.Recovery as recovery
 use Rattle.replay_spec.specs.Recovery.{page_of_numbers}
@@ -33,9 +31,6 @@ pub record Made : Type 0 where
 -- a book as after a crash, with what records told
 abbrev pub made_of : Book → Earlier → Made
 made_of b earlier = record { book = reopened b; earlier = earlier }
-
-abbrev pub nothing_made : Rules → List Named → (shelf : ℕ) → Made
-nothing_made rules scripts shelf = record { book = empty_book rules scripts shelf; earlier = nothing_told }
 
 -- the book that records made, and the numbers that they told, without the states
 abbrev pub plain : Made → recovery.Made

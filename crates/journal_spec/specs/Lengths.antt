@@ -4,7 +4,7 @@ use Rattle.std.specs.List.{list_all}
 use Rattle.script_value.specs.Val.{Val}
 use Rattle.instance_cells.specs.Cells.{reads_of}
 use Rattle.script_nodes.specs.Arena.{Arena}
-use Rattle.script_nodes.specs.Setup.{Script, Named}
+use Rattle.script_nodes.specs.Setup.{Script}
 use Rattle.replay_spec.specs.Tape.{recorded, Tape, shows, Outcome, paged}
 use Rattle.replay_spec.specs.Book.{Page, Change, opens, extends, Book, chain}
 use Rattle.replay_spec.specs.Rules.{Journal}
@@ -16,7 +16,7 @@ use Rattle.machine_states.specs.Laws.{started, Stops}
 use Rattle.machine_states.proofs.Halting.{stop_over}
 use Rattle.frame_codec.specs.Forms.{form_bytes}
 use Rattle.journal_records.specs.Fields.{is_shallow}
-use Rattle.journal_records.specs.Records.{changes, body_of, record_length, begun_length}
+use Rattle.journal_records.specs.Records.{changes, body_of, record_length, begun_length, renewed_length}
 use Rattle.journal_spec.specs.Before.{before_by}
 use Rattle.journal_spec.specs.Retaking.{arena_of, Told, unread, told}
 
@@ -93,6 +93,7 @@ own_told b c = told_own (state_by b c)
 abbrev pub own_body : Book → Change → List ℕ
 own_body b c = body_of (changes c (state_told b c))
 
--- what a shelf asks of its journal
-abbrev pub journal_rules : (shelf : ℕ) → List Named → Journal
-journal_rules shelf scripts = record { begun = begun_length shelf scripts; length_of = λ b c. record_length c (state_told b c) }
+-- how long the first record, one of another setup and one of a change are, in the journal of a shelf
+abbrev pub journal_rules : (shelf : ℕ) → Journal
+journal_rules shelf =
+    record { begun = λ scripts. begun_length shelf scripts; renewed = λ scripts. renewed_length scripts; length_of = λ b c. record_length c (state_told b c) }

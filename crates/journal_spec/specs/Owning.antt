@@ -1,18 +1,18 @@
--- Journals whose states are those of their pages' chains: an empty one is, and this program leaves no other.
+-- Journals whose states are those of their pages' chains: an empty one is, and this program leaves no other. A record of a setup or of a
+-- compaction tells no state.
 use Rattle.std.specs.Prelude.{◌≡◌, ℕ, List, ◌∷◌, ◌++◌, Option, Some, None, ⊤}
-use Rattle.script_nodes.specs.Setup.{Named}
-use Rattle.replay_spec.specs.Book.{Page, Instance, Change, Book, instance_at, page_at}
+use Rattle.replay_spec.specs.Book.{Change, Book}
 use Rattle.journal_records.specs.Records.{Record, changes}
 use Rattle.journal_records.specs.Reading.{read_record}
-use Rattle.journal_spec.specs.Before.{Earlier, state_at, Made, before_told}
+use Rattle.journal_spec.specs.Before.{Earlier, Made, before_told}
 use Rattle.journal_spec.specs.Retaking.{Told, told, told_in, IsLanded}
-use Rattle.journal_spec.specs.Lengths.{state_by, own_state, own_before}
-use Rattle.journal_spec.specs.Making.{made, book_of}
+use Rattle.journal_spec.specs.Lengths.{state_by, own_before}
+use Rattle.journal_spec.specs.Making.{Texts, made_in, book_of}
 
 -- a fact of each record of these bodies, on what those before it make
-abbrev pub OfEach : (Made → Option Record → Type 0) → List Named → (shelf : ℕ) → List (List ℕ) → Type 0
-OfEach P scripts shelf bodies =
-    (front rest : List (List ℕ)) (body : List ℕ) (m : Made) → bodies ≡ front ++ body ∷ rest → book_of scripts shelf front ≡ made m
+abbrev pub OfEach : (Made → Option Record → Type 0) → Texts → (shelf : ℕ) → List (List ℕ) → Type 0
+OfEach P texts shelf bodies =
+    (front rest : List (List ℕ)) (body : List ℕ) (m : Made) → bodies ≡ front ++ body ∷ rest → made_in (book_of texts shelf front) ≡ Some m
     → P m (read_record body)
 
 -- the state that is told of a change's page is the one that its script leaves
@@ -26,8 +26,8 @@ IsOwnRecord m (Some (changes c state)) = IsOwnState m.book c (told_in m.earlier 
 IsOwnRecord m _ = ⊤
 
 -- the state that each of these records tells of its page is the one that its script leaves
-abbrev pub AreOwn : List Named → (shelf : ℕ) → List (List ℕ) → Type 0
-AreOwn scripts shelf bodies = OfEach IsOwnRecord scripts shelf bodies
+abbrev pub AreOwn : Texts → (shelf : ℕ) → List (List ℕ) → Type 0
+AreOwn texts shelf bodies = OfEach IsOwnRecord texts shelf bodies
 
 -- the record of a change, on what the records before it make, is none that is passed over
 abbrev pub IsLandedRecord : Made → Option Record → Type 0
@@ -35,14 +35,8 @@ IsLandedRecord m (Some (changes c state)) = IsLanded m c (told_in m.earlier m.bo
 IsLandedRecord m _ = ⊤
 
 -- each record of these bodies that tells of a change is none that is passed over
-abbrev pub AreLanded : List Named → (shelf : ℕ) → List (List ℕ) → Type 0
-AreLanded scripts shelf bodies = OfEach IsLandedRecord scripts shelf bodies
-
--- the state that records told of each page that stands is the one that its script left there
-abbrev pub HasOwnStates : Earlier → Book → Type 0
-HasOwnStates earlier b =
-    (k n : ℕ) (i : Instance) (p : Page) → instance_at k b.instances ≡ Some i → page_at n i.pages ≡ Some p
-    → state_at n earlier.states ≡ own_state b.shelf (record { instance = i; page = p })
+abbrev pub AreLanded : Texts → (shelf : ℕ) → List (List ℕ) → Type 0
+AreLanded texts shelf bodies = OfEach IsLandedRecord texts shelf bodies
 
 -- the state that a change's page is written behind, as records told it, is the one that the script left there
 abbrev pub IsOwnBefore : Earlier → Book → Option Change → Type 0

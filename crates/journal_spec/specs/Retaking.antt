@@ -3,17 +3,13 @@ use Rattle.std.specs.Prelude.{◌≡◌, ℕ, ◌&&◌, List, [], ◌∷◌, len
 use Rattle.script_value.specs.Val.{Val}
 use Rattle.script_value.specs.declared.outcome.TxName.{TxName}
 use Rattle.instance_cells.specs.Cells.{Effect}
-use Rattle.script_nodes.specs.Arena.{Arena}
 pub use Rattle.script_nodes.specs.Arena.{arena_of}
-use Rattle.script_nodes.specs.Layout.{layout}
-use Rattle.script_nodes.specs.Setup.{Script, Named}
+use Rattle.script_nodes.specs.Setup.{Named}
 use Rattle.replay_spec.specs.Book.{Change, opens, extends, ends, finishes, sweeps, Book, reopened}
-use Rattle.replay_spec.specs.Rules.{Rules}
 use Rattle.replay_spec.specs.Admission.{◌>>=◌, when}
-use Rattle.replay_spec.specs.Recovery.{are_on, hold_over, page_of_numbers, number_in, is_repeated, with_number, redone}
+use Rattle.replay_spec.specs.Recovery.{are_on, hold_over, if_can_go, of_length, page_of_numbers, number_in, is_repeated, with_number, redone}
 use Rattle.machine_states.specs.Machine.{Suspended, inside_of}
 use Rattle.frame_codec.specs.Forms.{read_form}
-use Rattle.server_limits.specs.Limits.{most_fuel}
 use Rattle.journal_spec.specs.Before.{States, Earlier, Made, before_told}
 
 -- the script of the page that a record tells of: of a start's place, or of the instance whose page was answered; none where there
@@ -49,14 +45,15 @@ abbrev pub if_held : List Effect → (cells : List Val) → List TxName → Opti
 if_held effects cells inside = when (are_on (length cells) effects && hold_over effects cells) inside
 
 -- The names that the page of a record is inside, where these are those of its state. None where the record can't be of this book:
--- there is no such script, instance or page; the effects do not hold; or the tick is over.
+-- there is no such script, instance or page; it evicts a page that is not there or that was evicted; the effects do not hold; or the
+-- tick is over.
 abbrev pub held : Book → Change → (inside : List TxName) → Option (List TxName)
 held b (opens o) inside = do
   s ← slice_get b.scripts o.script
-  if_held o.effects s.script.cells inside
+  if_can_go o.evicted [] (if_held o.effects s.script.cells inside)
 held b (extends x) inside = do
   at ← page_of_numbers b x.instance x.page
-  if_held x.effects at.instance.cells inside
+  if_can_go x.evicted at.instance.used (if_held x.effects at.instance.cells inside)
 held b (ends e) inside = do
   at ← page_of_numbers b e.instance e.page
   if_held e.effects at.instance.cells []
@@ -74,10 +71,6 @@ abbrev pub IsLanded : Made → Change → Told → Type 0
 IsLanded m c unread = landing m c [] ≡ Some []
 IsLanded m c misread = ⊥
 IsLanded m c (told d) = landing m c (inside_of d.frames) ≡ Some (inside_of d.frames)
-
--- the rules that a record of this length is read under: of these it needs the length alone
-abbrev pub rules_for : (length : ℕ) → Rules
-rules_for n = record { fuel = most_fuel; life = 0; instances = 0; pages = 0; journal = Some (record { begun = 0; length_of = λ b c. n }) }
 
 -- the states that records told, with that of a page that was shown
 abbrev pub with_state : Option ℕ → Told → States → States
@@ -99,4 +92,4 @@ then_told c names x earlier = record {
 -- what records make with one more of this length, which lands with these names or is passed over
 abbrev pub retaken : (length : ℕ) → Change → Option (List TxName) → Told → Made → Made
 retaken n c names x m =
-    record { book = reopened (redone (rules_for n) c names m.book); earlier = then_told c names x m.earlier }
+    record { book = reopened (redone (of_length n) c names m.book); earlier = then_told c names x m.earlier }

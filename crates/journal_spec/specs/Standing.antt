@@ -6,21 +6,26 @@ use Rattle.page_journal.specs.Records.{at_rest}
 use Rattle.page_journal.specs.Holding.{IsClosed, MayHold, Holdable}
 use Rattle.replay_spec.specs.Book.{Book, reopened}
 use Rattle.replay_spec.specs.Step.{kept, recovered}
-use Rattle.journal_spec.specs.Before.{Earlier, made_of}
-use Rattle.journal_spec.specs.Retaking.{rules_for}
-use Rattle.journal_spec.specs.Making.{Making, made, book_of, book_in_bytes}
+use Rattle.replay_spec.specs.Recovery.{of_length}
+use Rattle.journal_spec.specs.Before.{Earlier, Made, made_of}
+use Rattle.journal_spec.specs.Making.{Texts, Making, made_in, book_of, book_in_bytes}
+use Rattle.journal_spec.specs.Opening.{opened_book}
 
--- what records make is this book, as after a crash, whatever numbers and states they told
+-- what was made, if anything was, is this book, as after a crash, whatever numbers and states were told
+abbrev pub IsMadeBook : Option Made → Book → Type 0
+IsMadeBook made b = (earlier : Earlier) × (made ≡ Some (made_of b earlier))
+
+-- what records make is this book, as after a crash
 abbrev pub IsBook : Making → Book → Type 0
-IsBook making b = (earlier : Earlier) × (making ≡ made (made_of b earlier))
+IsBook making b = IsMadeBook (made_in making) b
 
 -- these bodies make the book
-abbrev pub Makes : List Named → (shelf : ℕ) → List (List ℕ) → Book → Type 0
-Makes scripts shelf bodies b = IsBook (book_of scripts shelf bodies) b
+abbrev pub Makes : Texts → (shelf : ℕ) → List (List ℕ) → Book → Type 0
+Makes texts shelf bodies b = IsBook (book_of texts shelf bodies) b
 
 -- these bytes of a disk make the book
-abbrev pub MakesIn : List Named → (shelf : ℕ) → List ℕ → Book → Type 0
-MakesIn scripts shelf bytes b = IsBook (book_in_bytes scripts shelf bytes) b
+abbrev pub MakesIn : Texts → (shelf : ℕ) → List ℕ → Book → Type 0
+MakesIn texts shelf bytes b = IsBook (book_in_bytes texts shelf bytes) b
 
 -- one body in flight, or none
 abbrev pub flight : Option (List ℕ) → List (List ℕ)
@@ -32,12 +37,12 @@ HasRoom bodies None = length (at_rest bodies) ≤ 2 ^ 30
 HasRoom bodies (Some body) = Holdable bodies body
 
 -- bodies that make the one book, and with the one in flight the other
-pub record Between (scripts : List Named) (shelf : ℕ) (before after : Book) : Type 0 where
+pub record Between (texts : Texts) (shelf : ℕ) (before after : Book) : Type 0 where
   pub bodies : List (List ℕ)
   pub more : Option (List ℕ)
   pub room : HasRoom bodies more
-  pub first : Makes scripts shelf bodies before
-  pub second : Makes scripts shelf (bodies ++ flight more) after
+  pub first : Makes texts shelf bodies before
+  pub second : Makes texts shelf (bodies ++ flight more) after
 
 -- bytes may hold these bodies, with the one in flight, if there is one, or without it
 abbrev pub Hold : List (List ℕ) → Option (List ℕ) → List ℕ → Type 0
@@ -45,44 +50,82 @@ Hold bodies None bytes = IsClosed bodies bytes
 Hold bodies (Some body) bytes = MayHold bodies body bytes
 
 -- bytes may hold what makes one of two books
-abbrev pub Held : {scripts : List Named} {shelf : ℕ} {before after : Book} → Between scripts shelf before after
+abbrev pub Held : {texts : Texts} {shelf : ℕ} {before after : Book} → Between texts shelf before after
     → List ℕ → Type 0
 Held k bytes = Hold k.bodies k.more bytes
 
 -- each of these images may hold what makes one of two books
-abbrev pub HoldIn : {scripts : List Named} {shelf : ℕ} {before after : Book} → Between scripts shelf before after
+abbrev pub HoldIn : {texts : Texts} {shelf : ℕ} {before after : Book} → Between texts shelf before after
     → (List ℕ → Type 0) → Type 0
 HoldIn k images = (image : List ℕ) → images image → Held k image
 
 -- the book where what is in doubt is kept, whose record's body is this long
 abbrev pub if_kept : (length : ℕ) → Book → Book
-if_kept n b = recovered (rules_for n) kept b.down b
+if_kept n b = recovered (of_length n) kept b.down b
 
 abbrev pub length_in : Option (List ℕ) → ℕ
 length_in None = 0
 length_in (Some body) = length body
 
 -- a crash now leaves what makes the book, with what is in doubt or without it
-abbrev pub Stands : List Named → (shelf : ℕ) → View → Book → Type 0
-Stands scripts shelf view b = (n : ℕ) × ((k : Between scripts shelf b (if_kept n b)) × HoldIn k view.images)
+abbrev pub Stands : Texts → (shelf : ℕ) → View → Book → Type 0
+Stands texts shelf view b = (n : ℕ) × ((k : Between texts shelf b (if_kept n b)) × HoldIn k view.images)
 
 -- a crash at any moment of a call leaves what makes the one book or the other
-abbrev pub Throughout : List Named → (shelf : ℕ) → (before after : Book) → View → View → Type 0
-Throughout scripts shelf before after old new = (k : Between scripts shelf before after) × LeavesOnly old new (Held k)
+abbrev pub Throughout : Texts → (shelf : ℕ) → (before after : Book) → View → View → Type 0
+Throughout texts shelf before after old new = (k : Between texts shelf before after) × LeavesOnly old new (Held k)
 
 -- a crash at any moment of a call leaves what makes the one book or the other, of these bodies and one in flight; what is private to
 -- a shelf says this, so that calls can be joined
-abbrev pub ThroughoutFrom : List (List ℕ) → List Named → (shelf : ℕ) → (before after : Book) → View → View → Type 0
-ThroughoutFrom bodies scripts shelf before after old new =
-    (k : Between scripts shelf before after) × (k.bodies ≡ bodies) × LeavesOnly old new (Held k)
+abbrev pub ThroughoutFrom : List (List ℕ) → Texts → (shelf : ℕ) → (before after : Book) → View → View → Type 0
+ThroughoutFrom bodies texts shelf before after old new =
+    (k : Between texts shelf before after) × (k.bodies ≡ bodies) × LeavesOnly old new (Held k)
 
 -- whatever two books the disk stood between, a crash at any moment of a recovery leaves it there
-abbrev pub StaysThroughout : List Named → (shelf : ℕ) → View → View → Type 0
-StaysThroughout scripts shelf old new =
-    (before after : Book) (k : Between scripts shelf before after) → HoldIn k old.images → LeavesOnly old new (Held k)
+abbrev pub StaysThroughout : Texts → (shelf : ℕ) → View → View → Type 0
+StaysThroughout texts shelf old new =
+    (before after : Book) (k : Between texts shelf before after) → HoldIn k old.images → LeavesOnly old new (Held k)
 
--- whatever two books the disk stood between, the book that is found there is one of the two, as after a crash
-abbrev pub IsOneOf : List Named → (shelf : ℕ) → View → Book → Type 0
-IsOneOf scripts shelf old b =
-    (before after : Book) (k : Between scripts shelf before after) → HoldIn k old.images
+-- whatever two books the disk stood between, this book is one of the two, as after a crash
+abbrev pub IsFoundOne : Texts → (shelf : ℕ) → View → Book → Type 0
+IsFoundOne texts shelf old b =
+    (before after : Book) (k : Between texts shelf before after) → HoldIn k old.images
     → (b ≡ reopened before) ⊎ (b ≡ reopened after)
+
+-- whatever two books the disk stood between, this book is one of the two, opened again with this setup
+abbrev pub IsOneOf : Texts → (shelf : ℕ) → List Named → View → Book → Type 0
+IsOneOf texts shelf scripts old b =
+    (before after : Book) (k : Between texts shelf before after) → HoldIn k old.images
+    → (b ≡ opened_book shelf scripts before) ⊎ (b ≡ opened_book shelf scripts after)
+
+-- bytes may hold what makes the book, or the book that is opened again with this setup
+abbrev pub HoldsOpening : Texts → (shelf : ℕ) → List Named → Book → List ℕ → Type 0
+HoldsOpening texts shelf scripts b bytes = (l : Between texts shelf b (opened_book shelf scripts b)) × Held l bytes
+
+-- bytes may hold what makes one of two books, or one of these opened again with this setup
+abbrev pub HeldOpened : {texts : Texts} {shelf : ℕ} {before after : Book} → Between texts shelf before after → List Named
+    → List ℕ → Type 0
+HeldOpened {texts = texts} {shelf = shelf} {before = before} {after = after} k scripts bytes =
+    Held k bytes ⊎ (HoldsOpening texts shelf scripts before bytes ⊎ HoldsOpening texts shelf scripts after bytes)
+
+-- a crash now leaves what makes the book, or the book that is opened again with this setup
+abbrev pub StandsOpening : Texts → (shelf : ℕ) → List Named → Book → View → Type 0
+StandsOpening texts shelf scripts b view = (l : Between texts shelf b (opened_book shelf scripts b)) × HoldIn l view.images
+
+-- a crash now leaves what makes one of two books, or what makes one of these with this setup or without it
+abbrev pub StandsOpened : {texts : Texts} {shelf : ℕ} {before after : Book} → Between texts shelf before after → List Named
+    → View → Type 0
+StandsOpened {texts = texts} {shelf = shelf} {before = before} {after = after} k scripts view =
+    HoldIn k view.images ⊎ (StandsOpening texts shelf scripts before view ⊎ StandsOpening texts shelf scripts after view)
+
+-- A disk is opened with a setup that stood between two books: a crash at any moment leaves what makes one of the two, or one of the two
+-- with that setup; and at the end the disk stands between two of these.
+pub record OpensBetween {texts : Texts} {shelf : ℕ} {before after : Book} (k : Between texts shelf before after) (scripts : List Named) (old new : View) : Type 0 where
+  pub moments : LeavesOnly old new (HeldOpened k scripts)
+  pub stands : StandsOpened k scripts new
+
+-- whatever two books the disk stood between, a crash at any moment of an opening with this setup leaves it there, or one of the two with
+-- that setup
+abbrev pub OpensThroughout : Texts → (shelf : ℕ) → List Named → View → View → Type 0
+OpensThroughout texts shelf scripts old new =
+    (before after : Book) (k : Between texts shelf before after) → HoldIn k old.images → OpensBetween k scripts old new

@@ -1,22 +1,20 @@
--- Worked rows.
-use Rattle.std.specs.Prelude.{◌≡◌, ℕ, ◌+◌, ◌-◌, ◌^◌, List, [], ◌∷◌, ◌++◌, length, Some, None, codes, refl}
+-- Worked rows of files without pages.
+use Rattle.std.specs.Prelude.{◌≡◌, ℕ, ◌+◌, ◌-◌, ◌^◌, List, [], ◌∷◌, Some, None, codes, refl}
 use Rattle.script_value.specs.Val.{text, symbol, list, vals_of, no_vals}
 use Rattle.script_nodes.specs.declared.script.SendKind.TheVariants.{Suspend}
-use Rattle.script_nodes.specs.Core.{lit, send, no_cores}
+use Rattle.script_nodes.specs.Core.{lit, no_cores}
 use Rattle.script_nodes.specs.Setup.{Named}
-use Rattle.page_journal.specs.Records.{header, frames, at_rest}
-use Rattle.replay_spec.specs.Book.{Page, Change, Book, opens, extends, ends, sweeps}
-use Rattle.replay_spec.specs.Rules.{empty_book}
-use Rattle.machine_states.specs.Machine.{Suspended}
-use Rattle.frame_codec.specs.Spelling.{state_bytes}
-use Rattle.frame_codec.specs.Forms.{form_bytes}
+use Rattle.replay_spec.specs.Book.{Change, opens, ends, sweeps, changed, renewed, Book}
+use Rattle.replay_spec.specs.Compaction.{file_length}
 use Rattle.value_bytes.specs.Reading.{read_within}
+use Rattle.journal_records.specs.Records.{begins, changes, draws, renews, begin_of, renewal_of, body_of}
 use Rattle.journal_records.specs.Reading.{read_record}
-use Rattle.journal_spec.specs.Before.{Made, nothing_told}
-use Rattle.journal_spec.specs.Making.{nothing, made, damaged, other, rules_over, book_of, book_in_bytes, begun}
-use Rattle.journal_spec.specs.Keeping.{body_by, first_body}
+use Rattle.journal_spec.specs.Before.{nothing_told, Made}
+use Rattle.journal_spec.specs.Making.{Texts, nothing, begun, made, damaged, other, began, book_of}
+use Rattle.journal_spec.specs.Opening.{opened_on}
+use Rattle.journal_spec.specs.Copying.{copies}
 
--- the script `ten`: its one page is a paragraph
+-- the script `ten`, whose one page is a paragraph
 abbrev ten : Named
 ten = record {
   name = codes "ten";
@@ -24,234 +22,196 @@ ten = record {
   script = record { web = []; cells = []; tasks = no_cores; body = lit (list (vals_of (symbol (codes "p") ∷ text (codes "12345") ∷ []))) };
 }
 
--- a script that shows a page and waits
-abbrev waiting : Named
-waiting = record {
-  name = codes "waiting";
-  text = codes "(send/suspend (lambda (k) \"go\"))";
-  script = record { web = []; cells = []; tasks = no_cores; body = send Suspend (lit (text (codes "go"))) };
-}
+-- another script of that name
+abbrev eleven : Named
+eleven = record { name = codes "ten"; text = codes "1"; script = record { web = []; cells = []; tasks = no_cores; body = lit (text (codes "1")) } }
+
+-- the setup of one script for its text, which has one byte only where it is the second script's
+abbrev by_text : List ℕ → List Named
+by_text [] = ten ∷ []
+by_text (b ∷ []) = eleven ∷ []
+by_text (b ∷ c ∷ bytes) = ten ∷ []
+
+-- how names and texts are read as scripts in these rows: an empty list is no setup
+abbrev texts : Texts
+texts [] = None
+texts (x ∷ xs) = Some (by_text x.1)
 
 abbrev begin_ten : List ℕ
-begin_ten = first_body (ten ∷ []) 0
+begin_ten = body_of (begin_of 0 (ten ∷ []))
 
-abbrev empty_ten : Book
-empty_ten = empty_book (rules_over (ten ∷ []) 0) (ten ∷ []) 0
+abbrev sweep_to : ℕ → List ℕ
+sweep_to tick = body_of (changes (sweeps tick) None)
 
--- Begin alone, and a tick to 50: the journals are 46 and 60 bytes long
-begin_makes_an_empty_book :
-    book_of (ten ∷ []) 0 (begin_ten ∷ []) ≡ made (record { book = record empty_ten { length = 46 }; earlier = nothing_told })
+-- the first record alone makes a book whose file is 46 bytes long
+first_alone : book_of texts 0 (begin_ten ∷ []) ≡ begun (began 0 32 (ten ∷ []))
 unfolding read_record
-begin_makes_an_empty_book = refl
+first_alone = refl
 
-abbrev at_50 : Made
-at_50 = record { book = record empty_ten { clock = 50; length = 60 }; earlier = nothing_told }
+abbrev begun_ten : Book
+begun_ten = (began 0 32 (ten ∷ [])).book
 
-tick_50 : book_of (ten ∷ []) 0 (begin_ten ∷ body_by (sweeps 50) None ∷ []) ≡ made at_50
+its_length : begun_ten.length ≡ 46
+its_length = refl
+
+-- with a tick to 50 the file is 60 bytes long
+abbrev at_50 : Book
+at_50 = record begun_ten { clock = 50; length = 60; file = record begun_ten.file { lines = changed (sweeps 50) 9 ∷ [] } }
+
+tick_50 : book_of texts 0 (begin_ten ∷ sweep_to 50 ∷ []) ≡ made (record { book = at_50; earlier = nothing_told })
 unfolding read_record
 tick_50 = refl
 
-tick_50_is_so_long : length (at_rest (begin_ten ∷ body_by (sweeps 50) None ∷ [])) ≡ 60
-tick_50_is_so_long = refl
+-- a compacted file tells the next number directly after its first record, and nowhere else
+abbrev compacted : Book
+compacted = record at_50 { drawn = 3; logged = 3; length = 74; file = record at_50.file { drawn = Some 3 } }
 
-tick_50_in_bytes : book_in_bytes (ten ∷ []) 0 (at_rest (begin_ten ∷ body_by (sweeps 50) None ∷ [])) ≡ made at_50
+drawn_is_told : book_of texts 0 (begin_ten ∷ body_of (draws 3) ∷ sweep_to 50 ∷ []) ≡ made (record { book = compacted; earlier = nothing_told })
 unfolding read_record
-tick_50_in_bytes = refl
+drawn_is_told = refl
 
--- nothing to read, and what is begun then
-an_empty_disk : book_in_bytes (ten ∷ []) 0 [] ≡ nothing
-an_empty_disk = refl
+compacted_length : file_length compacted.file ≡ 74
+compacted_length = refl
 
-no_records : book_in_bytes (ten ∷ []) 0 (at_rest []) ≡ nothing
-no_records = refl
-
-what_begins : begun (ten ∷ []) 0 nothing ≡ book_of (ten ∷ []) 0 (begin_ten ∷ [])
+drawn_later : book_of texts 0 (begin_ten ∷ sweep_to 50 ∷ body_of (draws 3) ∷ []) ≡ damaged 59
 unfolding read_record
-what_begins = refl
+drawn_later = refl
 
--- an answer to a page of no instance, with the greatest number, and with one more
-abbrev lost_end : ℕ → Change
-lost_end n = ends (record { number = n; instance = 7; page = 7; answer = list no_vals; effects = []; left = [] })
+drawn_twice : book_of texts 0 (begin_ten ∷ body_of (draws 3) ∷ body_of (draws 3) ∷ []) ≡ damaged 59
+unfolding read_record
+drawn_twice = refl
 
+-- the book behind a record of another setup
+abbrev edited : Book
+edited = record begun_ten {
+  scripts = eleven ∷ [];
+  length = 46 + 22;
+  file = record begun_ten.file { lines = renewed (eleven ∷ []) 17 ∷ [] };
+}
+
+setup_changes : book_of texts 0 (begin_ten ∷ body_of (renewal_of (eleven ∷ [])) ∷ []) ≡ made (record { book = edited; earlier = nothing_told })
+unfolding read_record
+setup_changes = refl
+
+-- names and texts that are no setup are damage, also where the shelf is another one
+no_setup : book_of texts 1 (body_of (begins 0 []) ∷ []) ≡ damaged 8
+unfolding read_record
+no_setup = refl
+
+no_setup_later : book_of texts 0 (begin_ten ∷ body_of (renews []) ∷ []) ≡ damaged 45
+unfolding read_record
+no_setup_later = refl
+
+another_shelf : book_of texts 1 (begin_ten ∷ []) ≡ other 8
+unfolding read_record
+another_shelf = refl
+
+-- a start of the script at this place, for which these pages went
+abbrev opening : (place : ℕ) → (gone : List ℕ) → Change
+opening k gone = opens (record { number = 0; nonce = 5; script = k; effects = []; left = []; kind = Suspend; deadline = 3600; evicted = gone })
+
+no_such_script : book_of texts 0 (begin_ten ∷ body_of (changes (opening 1 []) (Some [])) ∷ []) ≡ damaged 45
+unfolding read_record read_within
+no_such_script = refl
+
+-- a start whose bytes are no state of its script is damage
+no_state : book_of texts 0 (begin_ten ∷ body_of (changes (opening 0 []) (Some (9 ∷ []))) ∷ []) ≡ damaged 45
+unfolding read_record read_within
+no_state = refl
+
+-- a first record in the midst of others is damage, and so is any other record in its place
+begins_twice : book_of texts 0 (begin_ten ∷ sweep_to 50 ∷ begin_ten ∷ []) ≡ damaged 59
+unfolding read_record
+begins_twice = refl
+
+no_begin : book_of texts 0 (sweep_to 50 ∷ begin_ten ∷ []) ≡ damaged 8
+unfolding read_record
+no_begin = refl
+
+no_record : book_of texts 0 ((6 ∷ []) ∷ []) ≡ damaged 8
+unfolding read_record
+no_record = refl
+
+-- the first fault is told, by its place
+other_first : book_of texts 1 (begin_ten ∷ (6 ∷ []) ∷ []) ≡ other 8
+unfolding read_record
+other_first = refl
+
+the_first_damage : book_of texts 0 (begin_ten ∷ (6 ∷ []) ∷ [] ∷ []) ≡ damaged 45
+unfolding read_record
+the_first_damage = refl
+
+-- an answer to a page of no instance, of the segment of this number
+abbrev lost_end : ℕ → List ℕ
+lost_end n = body_of (changes (ends (record { number = n; instance = 7; page = 7; answer = list no_vals; effects = []; left = [] })) None)
+
+-- a record that is passed over counts for the next number and for the length, and is no line of the file
 the_greatest_number :
-    book_of (ten ∷ []) 0 (begin_ten ∷ body_by (lost_end (2 ^ 62 - 1)) None ∷ [])
+    book_of texts 0 (begin_ten ∷ lost_end (2 ^ 62 - 1) ∷ [])
     ≡ made (record {
-      book = record empty_ten { drawn = 2 ^ 62; logged = 2 ^ 62; length = 46 + 5 + 38 };
+      book = record begun_ten { drawn = 2 ^ 62; logged = 2 ^ 62; length = 46 + 5 + 38 };
       earlier = record { seen = (2 ^ 62 - 1) ∷ []; states = [] };
     })
 unfolding read_record read_within
 the_greatest_number = refl
 
-one_more : book_of (ten ∷ []) 0 (begin_ten ∷ body_by (lost_end (2 ^ 62)) None ∷ []) ≡ damaged 45
+one_more : book_of texts 0 (begin_ten ∷ lost_end (2 ^ 62) ∷ []) ≡ damaged 45
 unfolding read_record
 one_more = refl
 
--- a start that shows its page; the same number again is passed over
-abbrev opening : (number script : ℕ) → Change
-opening n k = opens (record { number = n; nonce = 5; script = k; effects = []; left = []; kind = Suspend; deadline = 3600 })
+-- a shelf that is opened with the setup that it has goes on as it was
+opened_as_before : opened_on 0 (ten ∷ []) (made (record { book = at_50; earlier = nothing_told })) ≡ Some (record { book = at_50; earlier = nothing_told })
+opened_as_before = refl
 
--- the state of a page with no variable, no frame and no binding
-abbrev bare : Suspended
-bare = record { env = []; frames = []; shadows = [] }
+-- with another one it goes on as its records make with that, and where there is no record as the first one makes
+opened_with_another : opened_on 0 (eleven ∷ []) (begun (began 0 32 (ten ∷ []))) ≡ Some (record { book = edited; earlier = nothing_told })
+opened_with_another = refl
 
-abbrev bare_bytes : List ℕ
-bare_bytes = 0 ∷ 0 ∷ 0 ∷ 0 ∷ 0 ∷ 0 ∷ 0 ∷ 0 ∷ 0 ∷ 0 ∷ 0 ∷ 0 ∷ []
+opened_on_nothing : opened_on 0 (ten ∷ []) nothing ≡ Some (began 0 32 (ten ∷ []))
+opened_on_nothing = refl
 
-bare_is_spelled : state_bytes bare ≡ bare_bytes
-bare_is_spelled = refl
+not_opened : opened_on 0 (ten ∷ []) (other 8) ≡ None
+not_opened = refl
 
--- the bare state, written by itself
-abbrev flat : List ℕ
-flat = 0 ∷ bare_bytes
-
--- the bare state, written behind the same state
-abbrev as_before : List ℕ
-as_before = 1 ∷ 0 ∷ 0 ∷ 0 ∷ 0 ∷ 0 ∷ 0 ∷ 0 ∷ 0 ∷ 0 ∷ 0 ∷ 0 ∷ 0 ∷ 0 ∷ 0 ∷ 0 ∷ 0 ∷ 0 ∷ 0 ∷ 0 ∷ 0 ∷ []
-
-as_before_is_spelled : form_bytes (Some bare) bare ≡ as_before
-as_before_is_spelled = refl
-
-abbrev start_body : (number script : ℕ) → (state : List ℕ) → List ℕ
-start_body n k state = body_by (opening n k) (Some state)
-
-abbrev begin_waiting : List ℕ
-begin_waiting = first_body (waiting ∷ []) 3
-
-abbrev root : Page
-root = record { number = 0; nonce = 5; parent = None; answer = list no_vals; reads = []; inside = []; deadline = 3600 }
-
-abbrev started : (length : ℕ) → Book
-started size = record (empty_book (rules_over (waiting ∷ []) 3) (waiting ∷ []) 3) {
-  drawn = 1;
-  logged = 1;
-  length = size;
-  instances = record { number = 0; script = waiting; cells = []; closed = []; revoked = []; pages = root ∷ [] } ∷ [];
+-- of a file that is compacted the first record, the next number and the last of two ticks are left; what was passed over is not copied
+abbrev at_60 : Made
+at_60 = record {
+  book = record begun_ten {
+    clock = 60;
+    drawn = 3;
+    logged = 3;
+    length = 46 + 14 + 43 + 14;
+    file = record begun_ten.file { lines = changed (sweeps 50) 9 ∷ changed (sweeps 60) 9 ∷ [] };
+  };
+  earlier = record { seen = 2 ∷ []; states = [] };
 }
 
-a_start :
-    book_of (waiting ∷ []) 3 (begin_waiting ∷ start_body 0 0 flat ∷ [])
-    ≡ made (record { book = started 133; earlier = record { seen = 0 ∷ []; states = (0, bare) ∷ [] } })
+ticks_60 : book_of texts 0 (begin_ten ∷ sweep_to 50 ∷ lost_end 2 ∷ sweep_to 60 ∷ []) ≡ made at_60
 unfolding read_record read_within
-a_start = refl
+ticks_60 = refl
 
-a_number_twice :
-    book_of (waiting ∷ []) 3 (begin_waiting ∷ start_body 0 0 flat ∷ start_body 0 0 flat ∷ [])
-    ≡ made (record { book = started 196; earlier = record { seen = 0 ∷ 0 ∷ []; states = (0, bare) ∷ [] } })
+ticks_copied : copies texts 0 begin_ten (sweep_to 50 ∷ lost_end 2 ∷ sweep_to 60 ∷ []) at_60 ≡ begin_ten ∷ body_of (draws 3) ∷ sweep_to 60 ∷ []
 unfolding read_record read_within
-a_number_twice = refl
+ticks_copied = refl
 
--- bytes that are no state of the script; also where the number was there before
-no_state : book_of (waiting ∷ []) 3 (begin_waiting ∷ start_body 0 0 [] ∷ []) ≡ damaged 69
-unfolding read_record read_within
-no_state = refl
-
-no_state_again : book_of (waiting ∷ []) 3 (begin_waiting ∷ start_body 0 0 flat ∷ start_body 0 0 (9 ∷ []) ∷ []) ≡ damaged 132
-unfolding read_record read_within
-no_state_again = refl
-
--- an answer to a page of no instance: what it has for a state is not read
-abbrev lost_answer : (instance page : ℕ) → Change
-lost_answer i p = extends (record {
-  number = 1;
-  nonce = 6;
-  instance = i;
-  page = p;
-  answer = list no_vals;
-  effects = [];
-  left = [];
-  kind = Suspend;
-  deadline = 3600;
-})
-
-no_state_is_read :
-    book_of (waiting ∷ []) 3 (begin_waiting ∷ start_body 0 0 flat ∷ body_by (lost_answer 0 7) (Some (9 ∷ [])) ∷ [])
-    ≡ made (record {
-      book = record (started 199) { drawn = 2; logged = 2 };
-      earlier = record { seen = 1 ∷ 0 ∷ []; states = (0, bare) ∷ [] };
-    })
-unfolding read_record read_within
-no_state_is_read = refl
-
--- an answer to a page that stands has to have a state of its script
-no_state_of_a_page :
-    book_of (waiting ∷ []) 3 (begin_waiting ∷ start_body 0 0 flat ∷ body_by (lost_answer 0 0) (Some (9 ∷ [])) ∷ []) ≡ damaged 132
-unfolding read_record read_within
-no_state_of_a_page = refl
-
--- the state of an answer's page is written behind that of the page before, and not by itself
-abbrev second : Page
-second = record { number = 1; nonce = 6; parent = Some 0; answer = list no_vals; reads = []; inside = []; deadline = 3600 }
-
-abbrev answered_once : Book
-answered_once = record (started 219) {
-  drawn = 2;
-  logged = 2;
-  instances = record { number = 0; script = waiting; cells = []; closed = []; revoked = []; pages = root ∷ second ∷ [] } ∷ [];
+-- another setup stays, and between its ticks no two stand together
+abbrev edited_at_60 : Made
+edited_at_60 = record {
+  book = record edited { clock = 60; length = 46 + 14 + 22 + 14; file = record begun_ten.file { lines = changed (sweeps 50) 9 ∷ renewed (eleven ∷ []) 17 ∷ changed (sweeps 60) 9 ∷ [] } };
+  earlier = nothing_told;
 }
 
-behind_the_page :
-    book_of (waiting ∷ []) 3 (begin_waiting ∷ start_body 0 0 flat ∷ body_by (lost_answer 0 0) (Some as_before) ∷ [])
-    ≡ made (record { book = answered_once; earlier = record { seen = 1 ∷ 0 ∷ []; states = (1, bare) ∷ (0, bare) ∷ [] } })
-unfolding read_record read_within
-behind_the_page = refl
-
-not_by_itself :
-    book_of (waiting ∷ []) 3 (begin_waiting ∷ start_body 0 0 flat ∷ body_by (lost_answer 0 0) (Some flat) ∷ []) ≡ damaged 132
-unfolding read_record read_within
-not_by_itself = refl
-
--- the state of a start's page is written by itself
-not_behind : book_of (waiting ∷ []) 3 (begin_waiting ∷ start_body 0 0 as_before ∷ []) ≡ damaged 69
-unfolding read_record read_within
-not_behind = refl
-
--- a start of a script that is not of the setup; a second Begin
-no_such_script : book_of (waiting ∷ []) 3 (begin_waiting ∷ start_body 0 1 flat ∷ []) ≡ damaged 69
-unfolding read_record read_within
-no_such_script = refl
-
-begins_twice : book_of (ten ∷ []) 0 (begin_ten ∷ body_by (sweeps 50) None ∷ begin_ten ∷ []) ≡ damaged 59
+edited_ticks : book_of texts 0 (begin_ten ∷ sweep_to 50 ∷ body_of (renewal_of (eleven ∷ [])) ∷ sweep_to 60 ∷ []) ≡ made edited_at_60
 unfolding read_record
-begins_twice = refl
+edited_ticks = refl
 
--- no Begin; another shelf's; other scripts, by their texts, their names, their order and their number
-no_begin : book_of (ten ∷ []) 0 (body_by (sweeps 50) None ∷ begin_ten ∷ []) ≡ damaged 8
+edits_are_copied :
+    copies texts 0 begin_ten (sweep_to 50 ∷ body_of (renewal_of (eleven ∷ [])) ∷ sweep_to 60 ∷ []) edited_at_60
+    ≡ begin_ten ∷ body_of (draws 0) ∷ sweep_to 50 ∷ body_of (renewal_of (eleven ∷ [])) ∷ sweep_to 60 ∷ []
 unfolding read_record
-no_begin = refl
+edits_are_copied = refl
 
-no_record : book_of (ten ∷ []) 0 ((6 ∷ []) ∷ []) ≡ damaged 8
+-- a compacted file that is compacted again is the same
+number_copied : copies texts 0 begin_ten (body_of (draws 3) ∷ sweep_to 50 ∷ []) (record { book = compacted; earlier = nothing_told }) ≡ begin_ten ∷ body_of (draws 3) ∷ sweep_to 50 ∷ []
 unfolding read_record
-no_record = refl
-
-another_shelf : book_of (ten ∷ []) 1 (begin_ten ∷ []) ≡ other 8
-unfolding read_record
-another_shelf = refl
-
-another_text : book_of (record ten { text = codes "1" } ∷ []) 0 (begin_ten ∷ []) ≡ other 8
-unfolding read_record
-another_text = refl
-
-another_name : book_of (record ten { name = codes "two" } ∷ []) 0 (begin_ten ∷ []) ≡ other 8
-unfolding read_record
-another_name = refl
-
-another_order : book_of (waiting ∷ ten ∷ []) 0 (first_body (ten ∷ waiting ∷ []) 0 ∷ []) ≡ other 8
-unfolding read_record
-another_order = refl
-
-one_script_more : book_of (ten ∷ waiting ∷ []) 0 (begin_ten ∷ []) ≡ other 8
-unfolding read_record
-one_script_more = refl
-
--- the first fault by its place; a fault of the framing before all others
-other_first : book_of (ten ∷ []) 1 (begin_ten ∷ (6 ∷ []) ∷ []) ≡ other 8
-unfolding read_record
-other_first = refl
-
-the_first_damage : book_of (ten ∷ []) 0 (begin_ten ∷ (6 ∷ []) ∷ [] ∷ []) ≡ damaged 45
-unfolding read_record
-the_first_damage = refl
-
-framing_first : book_in_bytes (ten ∷ []) 1 (header ++ (frames (begin_ten ∷ []) ++ 1 ∷ 9 ∷ 0 ∷ [])) ≡ damaged 45
-unfolding read_record
-framing_first = refl
+number_copied = refl

@@ -1,17 +1,83 @@
-//! What records make of a shelf, and what a crash leaves of both, without code: for recovery and the shelf.
+//! What the records of a journal's file make of a shelf, and which bodies a compacted file has, without code: for recovery and the shelf.
 #![tactic(auto)]
 
 ghost use Rattle.std.specs.Prelude.{IsTrue};
+ghost use Rattle.journal_spec.specs.Bodies.{CompactionCopies};
+ghost use Rattle.journal_spec.specs.Copying.{CopiesMakeTheBook};
+ghost use Rattle.journal_spec.specs.Files.{FilesAreMade, CompactionIsWritten};
+ghost use Rattle.journal_spec.specs.Events.{BodiesGrow, EventsAreWritten, FreshFilesSuffice};
+ghost use Rattle.journal_spec.specs.Migrating.{MigrationIsWritten};
+ghost use Rattle.journal_spec.specs.Spelling.{WhatIsRecordedIsSpelled, RangesAreKept};
 ghost use Rattle.journal_spec.specs.Depths.{RunsStayShallow};
-ghost use Rattle.journal_spec.specs.Disks.{RecoveriesStay, RecoveriesFindOne, SettledJournalsStand, QuietCallsStand, AppendsStandBetween, CallsLeaveStanding};
 ghost use Rattle.journal_spec.specs.Reading.{ReadersMakeTheBook};
-ghost use Rattle.journal_spec.specs.Laws.{OnlyItsBeginBegins, ImagesMakeBooks, BooksStandAlike, ACrashIsLostOrKept, BodiesMakeFittingBooks, LandingsAreKept, LandingsStandBetween, EventsAreKept, EventsStandBetween, OwnStatesAreTold, RunsAreKept, FreshJournalsSuffice, WhatIsRecordedIsSpelled, RangesAreKept};
+ghost use Rattle.journal_spec.specs.Laws.{OnlyItsBeginBegins, ImagesMakeBooks, OpenedImagesMakeBooks, BooksStandAlike, ACrashIsLostOrKept, CrashesOpen, ASetupIsItsTexts, BodiesMakeFittingBooks, FreshJournalsAreKept, RenewalsAreKept, OpeningsAreRecords, RenewalsStandBetween, LandingsAreKept, LandingsStandBetween, EventsAreKept, EventsStandBetween, OwnStatesAreTold, RunsAreKept};
+ghost use Rattle.journal_spec.specs.Disks.{RecoveriesStay, RecoveriesFindOne, OpeningsStay, SettledJournalsStand, QuietCallsStand, AppendsStandBetween, CallsLeaveStanding};
 
 use journal_records::records_are_exact;
 use page_journal::Take;
 use web_disk::Disk;
 
-/// The record that a journal of this shelf and setup begins with makes an empty book, and any other Begin is of another.
+/// The bodies of a file that passes over no record make what the file makes, and tell each page's state as its chain leaves it.
+pub fn files_are_made()
+    ensures { FilesAreMade }
+{}
+
+/// To compact a file is to copy bodies: those that stay are the bodies of the compacted file.
+pub fn compaction_copies()
+    ensures { CompactionCopies }
+{}
+
+/// The bodies that a compaction copies make the book of the compacted file, whoever wrote them.
+pub fn copies_make_the_book()
+    ensures { CopiesMakeTheBook }
+{
+    records_are_exact();
+}
+
+/// A compacted file is one that can be written: so its bodies make the same book.
+pub fn compaction_is_written()
+    ensures { CompactionIsWritten }
+{}
+
+/// What lands, and another setup that is given at a crash, is one body more.
+pub fn bodies_grow()
+    ensures { BodiesGrow }
+{}
+
+/// A file that can be written stays one, by each event.
+pub fn events_are_written()
+    ensures { EventsAreWritten }
+{}
+
+/// What the file of a fresh shelf holds after a run makes the run's last book, as after a crash.
+pub fn fresh_files_suffice()
+    ensures { FreshFilesSuffice }
+{}
+
+/// What a publish records can be written, on a book in range, where its values can: it is not too long, and its numbers
+/// are such as records tell.
+pub fn what_is_recorded_is_spelled()
+    ensures { WhatIsRecordedIsSpelled }
+{}
+
+/// Each event keeps numbers and clock in range.
+pub fn ranges_are_kept()
+    ensures { RangesAreKept }
+{}
+
+/// A file of an older format can be written in the format of now, whatever bodies told it.
+pub fn migration_is_written()
+    ensures { MigrationIsWritten }
+{}
+
+/// A run over values that nest no deeper than one may that is written reads and writes such values.
+pub fn runs_stay_shallow()
+    ensures { RunsStayShallow }
+{}
+
+// Of one file, as records and setups are added to it.
+
+/// The first record of this shelf makes an empty book, where its names and texts are a setup.
 pub fn only_its_begin_begins()
     ensures { OnlyItsBeginBegins }
 {}
@@ -19,6 +85,12 @@ pub fn only_its_begin_begins()
 /// What a disk that stands between two books may hold after a crash makes one of them.
 pub fn images_make_books()
     ensures { ImagesMakeBooks }
+{}
+
+/// What a disk may hold after a crash in an opening makes one of the two books between which it stood, or one of these with
+/// the setup that it is opened with.
+pub fn opened_images_make_books()
+    ensures { OpenedImagesMakeBooks }
 {}
 
 /// Of a book records tell what is left of it after a crash, and nothing of the numbers that are out on it.
@@ -30,14 +102,49 @@ pub fn books_stand_alike()
 /// kept.
 pub fn a_crash_is_lost_or_kept()
     ensures { ACrashIsLostOrKept }
+{}
+
+/// A shelf that is opened behind a crash has the book of the event crash, whichever setup it is opened with.
+pub fn crashes_open()
+    ensures { CrashesOpen }
+{}
+
+/// A setup with the names and texts of the one before is that one.
+pub fn a_setup_is_its_texts()
+    ensures { ASetupIsItsTexts }
+{}
+
+/// What any bodies make is a book of this shelf, as after a crash, that can go on; and the journal is as long as it tells.
+pub fn bodies_make_fitting_books()
+    ensures { BodiesMakeFittingBooks }
 {
     records_are_exact();
 }
 
-/// What any bodies make is a book of this shelf and setup, as after a crash, that can go on; and the journal is as long
-/// as it tells.
-pub fn bodies_make_fitting_books()
-    ensures { BodiesMakeFittingBooks }
+/// The first record of a journal makes the empty book of its setup, which can go on.
+pub fn fresh_journals_are_kept()
+    ensures { FreshJournalsAreKept }
+{
+    records_are_exact();
+}
+
+/// The body of a record of another setup makes the book of the shelf that is opened with it.
+pub fn renewals_are_kept()
+    ensures { RenewalsAreKept }
+{
+    records_are_exact();
+}
+
+/// What a shelf goes on with that is opened with a setup is what its records make with the body that it writes.
+pub fn openings_are_records()
+    ensures { OpeningsAreRecords }
+{
+    records_are_exact();
+}
+
+/// With that body in flight a disk stands between the book before and the one with that setup.
+pub fn renewals_stand_between()
+    ensures { RenewalsStandBetween }
 {
     records_are_exact();
 }
@@ -56,14 +163,14 @@ pub fn landings_stand_between()
     records_are_exact();
 }
 
-/// The body of the record that an event leaves makes of the journal's book the book behind the event.
+/// The bodies of the records that an event leaves make of the journal's book the book behind the event.
 pub fn events_are_kept()
     ensures { EventsAreKept }
 {
     records_are_exact();
 }
 
-/// With that body in flight a disk stands between the book before the event and the book behind it.
+/// With the body in flight that an event leaves, a disk stands between the book before the event and the book behind it.
 pub fn events_stand_between()
     ensures { EventsStandBetween }
 {
@@ -76,36 +183,12 @@ pub fn own_states_are_told()
 {}
 
 /// The bodies that a run leaves behind those of a journal with own states make the run's last book, over crashes and
-/// under rules that change.
+/// under rules and setups that change.
 pub fn runs_are_kept()
     ensures { RunsAreKept }
 {
     records_are_exact();
 }
-
-/// From a fresh journal on the bodies of a run make its last book, their states are those of the pages' chains, and none of them is
-/// passed over.
-pub fn fresh_journals_suffice()
-    ensures { FreshJournalsSuffice }
-{
-    records_are_exact();
-}
-
-/// What a publish records can be written, on a book in range, where its values can: it is not too long, and its numbers
-/// are such as records tell.
-pub fn what_is_recorded_is_spelled()
-    ensures { WhatIsRecordedIsSpelled }
-{}
-
-/// A run over values that nest no deeper than one may that is written reads and writes such values.
-pub fn runs_stay_shallow()
-    ensures { RunsStayShallow }
-{}
-
-/// Each event keeps numbers and clock in range.
-pub fn ranges_are_kept()
-    ensures { RangesAreKept }
-{}
 
 // Of disks, by the calls of their journals.
 
@@ -117,6 +200,12 @@ pub fn recoveries_stay<D: Disk>()
 /// The book that is made of what is read there is one of the two.
 pub fn recoveries_find_one<D: Disk>()
     ensures { IsTrue D.tells → RecoveriesFindOne D.view }
+{}
+
+/// At each moment of an opening with a setup a crash leaves a disk between the two books, or one of them and it with that
+/// setup.
+pub fn openings_stay<D: Disk>()
+    ensures { OpeningsStay D.view }
 {}
 
 /// A journal that can go on stands for the book that its records make, where nothing is in doubt.

@@ -1,3 +1,4 @@
 pub mod Bound
 pub mod Read
+pub mod Told
 pub mod Written

@@ -1,5 +1,5 @@
 -- What is kept of the state of a page.
-use Rattle.std.specs.Prelude.{◌≡◌, ℕ, zero, suc, List, ◌∷◌, Option, Some, None}
+use Rattle.std.specs.Prelude.{◌≡◌, ℕ, zero, suc, List, Option, Some, None}
 use Rattle.web_cells.specs.Own.{BindsAllOf}
 use Rattle.machine_states.specs.Machine.{Suspended}
 use Rattle.machine_states.specs.Views.{origin_of, suspended_of}
@@ -15,12 +15,12 @@ use Rattle.kept_states.specs.declared.form.Form as declared
 use Rattle.kept_states.specs.declared.form.Form.TheVariants.{Spelled, Whole}
 use Rattle.kept_states.specs.declared.state.KeptState.{KeptState}
 
--- how a state is kept: as bytes, in parts of which each can be read without the others, or as the state itself
+-- how a state is kept: as the bytes that a record has of it, in parts of which each can be read without the others, or as the state itself
 pub data Form : Type 0 where
   spelled : Parted → Form
   whole : Suspended → Form
 
--- the bytes of a state that is kept as bytes
+-- the bytes that a record has of a state, where it is kept as bytes
 abbrev pub bytes_of : Form → Option (List ℕ)
 bytes_of (spelled parts) = Some (whole_of parts)
 bytes_of (whole d) = None
@@ -75,13 +75,13 @@ IsFormAlone d form = IsAlone (suspended_of d) (form_of form)
 abbrev pub IsFormBehind : (parent d : stored.Suspended) → declared.Form → Type 0
 IsFormBehind p d form = IsBehind (suspended_of p) (suspended_of d) (form_of form)
 
--- the byte before what is written by itself, and before what is written behind another state
-abbrev pub form_byte : (before : Option Suspended) → ℕ
-form_byte None = 0
-form_byte (Some p) = 1
+-- a state is kept in the form in which it is written behind this one: by itself behind none
+abbrev pub IsFormed : (before : Option Suspended) → Suspended → Form → Type 0
+IsFormed None d f = IsAlone d f
+IsFormed (Some p) d f = IsBehind p d f
 
--- What is kept of a state so many links from one by itself is written so, behind the byte of its form.
+-- What is kept as bytes of a state so many links from one by itself is what a record has of it.
 abbrev pub KeptAreWritten : Type 0
 KeptAreWritten =
     (before : Option Suspended) (links : ℕ) (d : Suspended) (f : Form) (bytes : List ℕ) → IsKeptBy before links d f → bytes_of f ≡ Some bytes
-    → form_byte (behind_at links before) ∷ bytes ≡ form_bytes (behind_at links before) d
+    → bytes ≡ form_bytes (behind_at links before) d

@@ -1,4 +1,5 @@
 pub mod Links
 pub mod Kept
 pub mod Given
+pub mod Told
 pub mod Vectors

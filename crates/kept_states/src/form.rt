@@ -1,15 +1,21 @@
-ghost use Rattle.std.specs.Prelude.{◌≡◌, ◌↔◌, IsTrue, IfOk, option_map};
+ghost use Rattle.std.specs.Prelude.{◌≡◌, ◌↔◌, IsTrue, IfOk, Some, None, IfSome, option_map};
 ghost use Rattle.machine_states.specs.Views.{suspended_of};
+ghost use Rattle.frame_codec.specs.Stored.{IsStored};
+ghost use Rattle.frame_codec.specs.Forms.{SpellsForm};
+ghost use Rattle.frame_codec.specs.FormViews.{ReadsForm};
 ghost use Rattle.kept_states.specs.Kept.{bytes_of, CanDiffer, IsFormAlone, IsFormBehind, form_of};
+ghost use Rattle.kept_states.specs.Told.{TellsForm, KeepsForm, TellsDelta, IsDeltaTold};
 ghost use Rattle.kept_states.specs.Given.{GivesAlone, GivesBehind};
 
 use crate::shades::binds_all_of;
 use frame_codec::{
-    Delta, Need, Parted, copied_front, delta, each_delta_has_bytes, is_spelled, read_delta_front,
-    read_front, spell_delta, spell_state,
+    BEHIND, Delta, Need, Parted, copied_front, decode_delta, decode_form, delta,
+    each_delta_has_bytes, forms_are_exact, is_spelled, join, read_delta_front, read_front,
+    spell_delta, spell_state,
 };
 use machine_states::Suspended;
 use script_nodes::Script;
+use script_value::Bytes;
 use std::alloc::{AllocError, Global};
 
 /// A state, or what differs from another one.
@@ -17,6 +23,13 @@ use std::alloc::{AllocError, Global};
 pub enum Form {
     Spelled(Parted),
     Whole(Suspended),
+}
+
+/// A state that bytes tell, and what is kept of it.
+#[derive(Drop)]
+pub struct ToldForm {
+    pub state: Suspended,
+    pub form: Form,
 }
 
 /// What is found of a front of a state that is kept behind its parent's.
@@ -33,6 +46,38 @@ fn can_differ(parent: &Suspended, state: &Suspended) -> bool
     ensures { IsTrue result ↔ CanDiffer (suspended_of parent.now) (suspended_of state.now) }
 {
     is_spelled(state) && binds_all_of(&parent.shades, &state.shades)
+}
+
+// The state of the script that these bytes tell by itself.
+fn told_whole(alloc: Global, script: &Script, bytes: &[u8]) -> Result<Option<Suspended>, AllocError>
+    ensures told { IfOk result (ReadsForm script.now None bytes.now) }
+    ensures spelled { IfOk result (λ found.
+        IfSome found (λ d. SpellsForm script.now None bytes.now (suspended_of d))) }
+{
+    forms_are_exact();
+    decode_form(alloc, script, None, bytes)
+}
+
+// The difference that these bytes tell of a state of the script from its parent's.
+fn told_delta(
+    alloc: Global,
+    script: &Script,
+    parent: &Suspended,
+    bytes: &[u8],
+) -> Result<Option<Delta>, AllocError>
+    requires { IsStored script.now (suspended_of parent.now) }
+    ensures told { IfOk result (TellsDelta script.now parent.now bytes.now) }
+    ensures spelled { IfOk result
+        (λ found. IfSome found (IsDeltaTold script.now parent.now bytes.now)) }
+{
+    forms_are_exact();
+    let [form, spelling @ ..] = bytes else {
+        return Ok(None);
+    };
+    if *form != BEHIND {
+        return Ok(None);
+    }
+    decode_delta(alloc, script, parent, spelling)
 }
 
 impl Form {
@@ -60,7 +105,44 @@ impl Form {
         }
     }
 
-    /// The bytes; none of a state as it is.
+    /// The state that these bytes tell by itself, and what is kept of it: the bytes as they are. None where no state of the script
+    /// has them.
+    pub fn told_alone(
+        alloc: Global,
+        script: &Script,
+        bytes: Bytes,
+    ) -> Result<Option<ToldForm>, AllocError>
+        ensures told { IfOk result (TellsForm script.now None bytes) }
+        ensures kept { IfOk result (KeepsForm script.now None bytes) }
+    {
+        let Some(state) = told_whole(alloc, script, bytes.as_slice())? else {
+            return Ok(None);
+        };
+        let form = Form::Spelled(Parted::of_state(bytes, &state));
+        Ok(Some(ToldForm { state, form }))
+    }
+
+    /// The state that these bytes tell behind its parent's, and what is kept of it: the bytes as they are. None where no state of
+    /// the script has them.
+    pub fn told_behind(
+        alloc: Global,
+        script: &Script,
+        parent: &Suspended,
+        bytes: Bytes,
+    ) -> Result<Option<ToldForm>, AllocError>
+        requires { IsStored script.now (suspended_of parent.now) }
+        ensures told { IfOk result (TellsForm script.now (Some (suspended_of parent.now)) bytes) }
+        ensures kept { IfOk result (KeepsForm script.now (Some (suspended_of parent.now)) bytes) }
+    {
+        let Some(delta) = told_delta(alloc, script, parent, bytes.as_slice())? else {
+            return Ok(None);
+        };
+        let form = Form::Spelled(Parted::of_delta(bytes, &delta));
+        let state = join(alloc, parent.try_clone(alloc)?, delta)?;
+        Ok(Some(ToldForm { state, form }))
+    }
+
+    /// The bytes that a record has; none of a state as it is.
     pub fn bytes(&self) -> Option<&[u8]>
         ensures { option_map (λ bytes. bytes.now) result ≡ bytes_of (form_of self.now) }
     {

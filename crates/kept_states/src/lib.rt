@@ -10,9 +10,9 @@ mod state;
 
 pub use form::Found;
 pub use links::{MOST_LINKS, next_links};
-pub use state::KeptState;
+pub use state::{KeptState, ToldState};
 
-/// What is kept of the state of a page is written so in a record, behind the byte of its form.
+/// What is kept as bytes of the state of a page is what its record has of it.
 pub fn kept_are_written()
     ensures { KeptAreWritten }
 {}

@@ -1,15 +1,20 @@
 ghost use Rattle.std.specs.Prelude.{◌≡◌, IfOk, option_map};
 ghost use Rattle.machine_states.specs.Views.{suspended_of};
 ghost use Rattle.kept_states.specs.Kept.{bytes_of, IsKeptAfter, kept_of};
+ghost use Rattle.frame_codec.specs.Forms.{IsStoredBefore};
+ghost use Rattle.frame_codec.specs.FormViews.{before_of};
 ghost use Rattle.kept_states.specs.Given.{GivesAlone, GivesBehind};
+ghost use Rattle.kept_states.specs.Told.{TellsState, KeepsTold};
 
-use crate::form::{Form, Found};
+use crate::form::{Form, Found, ToldForm};
 use frame_codec::Need;
 use machine_states::{Origin, Suspended};
 use script_nodes::Script;
+use script_value::Bytes;
 use std::alloc::{AllocError, Global};
 
-/// What is kept of the state of a page: its bytes by itself, or what differs from the state of the page before.
+/// What is kept of the state of a page: the bytes that its record has, of the state by itself or of what differs from the state of
+/// the page before.
 ///
 /// A state that has no spelling is kept as it is.
 #[derive(Drop)]
@@ -17,6 +22,13 @@ pub struct KeptState {
     /// How many links it is from a page whose state is kept by itself.
     pub links: u8,
     form: Form,
+}
+
+/// A state that bytes tell, and what is kept of it.
+#[derive(Drop)]
+pub struct ToldState {
+    pub state: Suspended,
+    pub kept: KeptState,
 }
 
 impl KeptState {
@@ -42,7 +54,33 @@ impl KeptState {
         Ok(KeptState { links, form })
     }
 
-    /// Its bytes; none where the state is kept as it is.
+    /// The state that the bytes of a record tell, behind that of the page before where it is given, and what is kept of it, so many
+    /// links from one that is kept by itself: the bytes as they are. None where no state of the script has them.
+    pub fn told(
+        alloc: Global,
+        script: &Script,
+        before: Option<&Suspended>,
+        links: u8,
+        bytes: Bytes,
+    ) -> Result<Option<ToldState>, AllocError>
+        requires { IsStoredBefore script.now (before_of before) }
+        ensures told { IfOk result (TellsState script.now before.entry bytes) }
+        ensures kept { IfOk result (KeepsTold script.now before.entry links bytes) }
+    {
+        let told = match before {
+            None => Form::told_alone(alloc, script, bytes)?,
+            Some(parent) => Form::told_behind(alloc, script, parent, bytes)?,
+        };
+        let Some(ToldForm { state, form }) = told else {
+            return Ok(None);
+        };
+        Ok(Some(ToldState {
+            state,
+            kept: KeptState { links, form },
+        }))
+    }
+
+    /// The bytes that its record has; none where the state is kept as it is.
     pub fn bytes(&self) -> Option<&[u8]>
         ensures { option_map (λ bytes. bytes.now) result ≡ bytes_of (kept_of self.now).form }
     {

@@ -1,10 +1,9 @@
-ghost use Rattle.std.specs.Prelude.{◌≡◌, ◌<◌, ◌≤◌, ◌+◌, ◌^◌, ◌++◌, ◌∷◌, List, ℕ, length, take, drop, IsTrue, OnOk, OnErr, vec_capacity};
-ghost use Rattle.web_disk.specs.View.{View, NoNewImage, Elapses};
-ghost use Rattle.page_journal.specs.Records.{stored, at_rest};
+ghost use Rattle.std.specs.Prelude.{◌≡◌, ◌<◌, ◌≤◌, ◌+◌, ◌^◌, List, ℕ, length, take, drop, IsTrue, OnOk, OnErr, vec_capacity};
+ghost use Rattle.web_disk.specs.View.{NoNewImage, Elapses};
+ghost use Rattle.page_journal.specs.Records.{at_rest};
 ghost use Rattle.page_journal.specs.Scanned.{IsQuiet};
 ghost use Rattle.page_journal.specs.Settled.{HasFailed, IsSettled, IsReady, IsSound, view_of, bodies_in, length_of, is_broken};
 ghost use Rattle.page_journal.specs.Taken.{TakesAll, TakesFront};
-ghost use Rattle.std.specs.declared.alloc.Global.{Global};
 
 use crate::Journal;
 use crate::scan::{Found, look};

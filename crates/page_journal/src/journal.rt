@@ -1,8 +1,8 @@
-ghost use Rattle.std.specs.Prelude.{◌≡◌, ◌⊎◌, ◌*◌, ◌<◌, ◌≤◌, ◌+◌, ◌^◌, ◌++◌, [], ◌∷◌, List, ℕ, length, true, false, IsTrue, IfOk, OnOk, OnErr, IsErrOf, vec_capacity};
-ghost use Rattle.web_disk.specs.View.{View, Only, LeavesOnly};
+ghost use Rattle.std.specs.Prelude.{◌≡◌, ◌<◌, ◌≤◌, ◌+◌, ◌^◌, ◌++◌, [], ◌∷◌, length, true, false, IsTrue, OnOk, OnErr, IsErrOf, vec_capacity};
+ghost use Rattle.web_disk.specs.View.{LeavesOnly};
 ghost use Rattle.page_journal.specs.declared.journal.AppendFault.TheVariants.{DiskFault as AppendDiskFault};
 ghost use Rattle.page_journal.specs.Holding.{MayHold};
-ghost use Rattle.page_journal.specs.Records.{stored, framed};
+ghost use Rattle.page_journal.specs.Records.{framed};
 
 use thiserror::Error;
 use web_disk::Disk;

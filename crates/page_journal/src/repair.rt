@@ -1,8 +1,6 @@
-ghost use Rattle.std.specs.Prelude.{false, ◌≡◌, ◌≢◌, ◌⊎◌, ◌<◌, ◌≤◌, ◌+◌, ◌^◌, [], List, ℕ, length, IsTrue, IfOk, OnOk, OnErr, IsErrOf};
-ghost use Rattle.web_disk.specs.View.{View, Only, LeavesOnly, NoNewImage};
+ghost use Rattle.std.specs.Prelude.{false, ◌≡◌, ◌<◌, ◌≤◌, ◌+◌, ◌^◌, length, IsTrue, IfOk, OnOk, IsErrOf};
 ghost use Rattle.page_journal.specs.Holding.{MayHoldNowAndThroughout, ClosedNowAndThroughout, IsBeforeOrWith};
-ghost use Rattle.page_journal.specs.Records.{Damaged, Intact, records, at_rest, stored};
-ghost use Rattle.page_journal.specs.Scanned.{NoLonger};
+ghost use Rattle.page_journal.specs.Records.{Damaged, records, stored};
 ghost use Rattle.page_journal.specs.Opened.{IsOpened, IsFault};
 ghost use Rattle.page_journal.specs.declared.repair.JournalFault.TheVariants.{DiskFault as OpenDiskFault, Memory as OpenMemory};
 ghost use Rattle.page_journal.specs.Settled.{HasFailed};
@@ -113,7 +111,7 @@ pub fn recover_or_create<D: Disk>(alloc: Global, disk: &mut D) -> Result<Opening
 }
 
 impl<D: Disk> Journal<D> {
-    ghost use Rattle.page_journal.specs.Settled.{IsSettled, IsSound, view_of, bodies_in, is_broken};
+    ghost use Rattle.page_journal.specs.Settled.{IsSettled, IsSound, bodies_in, is_broken};
     ghost use Rattle.page_journal.specs.Opened.{IsIntactOrEmpty, disk_of, fault_of};
 
     /// Opens the journal of a disk: an empty disk gets one without records, and of any other the records are read and the end is mended. A disk that is refused is handed back.

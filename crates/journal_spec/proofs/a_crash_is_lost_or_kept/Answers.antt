@@ -2,4 +2,4 @@ use Rattle.journal_spec.proofs.Between as laws
 use Rattle.journal_spec.proofs.a_crash_is_lost_or_kept.Goals as goal
 
 pub returns : goal.returns
-returns c = laws.lost_or_kept c.records_are_exact.ensures
+returns c = laws.lost_or_kept

@@ -1,8 +1,9 @@
-use Rattle.std.proofs.Common.{◌≡◌, ◌^◌, min, length, map, take}
-use Rattle.value_bytes.specs.Spelling.{list_bytes}
+use Rattle.std.proofs.Common.{◌≡◌, ◌^◌, ◌+◌, min, length, take}
+use Rattle.std.specs.List.{flat_map}
+use Rattle.script_nodes.specs.Views.{scripts_of}
 use Rattle.journal_records.specs.Fields.{script_bytes}
-use Rattle.journal_records.specs.Views.{script_of}
+use Rattle.journal_records.specs.Records.{texts_of}
 use Rattle.journal_records.proofs.measure.scripts_length.Given as goal
 
-abbrev pub invariant-loop-script : goal.invariant-loop-script
-invariant-loop-script l = l.sum ≡ min (length (list_bytes script_bytes (map script_of (take l.script-index l.scripts)))) (2 ^ 63)
+abbrev pub invariant-loop-place : goal.invariant-loop-place
+invariant-loop-place l = l.sum ≡ min (4 + length (flat_map script_bytes (take l.place (texts_of (scripts_of l.setup))))) (2 ^ 63)

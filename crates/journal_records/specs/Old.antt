@@ -1,0 +1,82 @@
+-- How bodies are read in each of the formats 1 to 6. Format 6 is the one that is written; the older ones are only read.
+-- A page tells its state from format 2 on, and the pages that went for it from format 6 on. Another setup is told from format 4 on, and
+-- numbers that were drawn before a compaction from format 5 on.
+use Rattle.std.specs.Prelude.{◌≡◌, ℕ, ◌==◌, ◌&&◌, List, [], ◌∷◌, ◌++◌, Option, Some, None, nat_lt, if◌then◌else◌, refl}
+use Rattle.script_nodes.specs.declared.script.SendKind.TheVariants.{Suspend}
+use Rattle.value_bytes.specs.Reading.{Reader, seen_as, read_list, read_within}
+use Rattle.wire_bytes.specs.Spelling.{u64_bytes}
+use Rattle.replay_spec.specs.Book.{opens}
+use Rattle.script_value.specs.Pieces.{◌>>=◌}
+use Rattle.wire_bytes.specs.Reading.{read_u8, read_u64, read_bytes}
+use Rattle.journal_records.specs.Fields.{start, origin_bytes}
+use Rattle.journal_records.specs.Records.{Page, Record, changes, renews, draws, body_of, effects_bytes, names_bytes}
+use Rattle.journal_records.specs.Reading.{◌then◌, read_number, read_deadline, read_origin, read_effects, read_names, read_send, page_from, page_change, read_kind, alone, read_record}
+
+-- the list of pages that went for a page, which is empty before format 6
+abbrev pub read_gone : (format : ℕ) → Reader (List ℕ)
+read_gone format bytes = if nat_lt format 6 then Some ([], bytes) else read_list read_number bytes
+
+-- the bytes of a page's state, which are none in format 1
+abbrev pub read_state : (format : ℕ) → Reader (List ℕ)
+read_state format bytes = if format == 1 then Some ([], bytes) else read_bytes bytes
+
+-- the fields of a page in this format
+abbrev pub read_page_in : (format : ℕ) → Reader Page
+read_page_in format bytes =
+    seen_as page_from
+    ((read_number then (read_u64 then (read_origin then (read_effects then (read_names then (read_send then (read_deadline then (read_gone format then read_state format)))))))) bytes)
+
+-- a record of this kind in this format, where the format has the kind
+abbrev pub read_kind_in : (format kind : ℕ) → Reader Record
+read_kind_in format kind rest =
+    if nat_lt format 4 && (kind == 6) then None else
+    (if nat_lt format 5 && (kind == 7) then None else
+    (if nat_lt format 6 && (kind == 2) then seen_as (λ p. changes (page_change p) (Some p.state)) (read_page_in format rest) else read_kind kind rest))
+
+-- the record at the front in this format
+abbrev pub read_front_in : (format : ℕ) → Reader Record
+read_front_in format bytes = do
+  kind ← read_u8 bytes
+  read_kind_in format kind.0 kind.1
+
+-- the record whose body this is in this format
+unfoldable pub read_record_in : (format : ℕ) → List ℕ → Option Record
+read_record_in format bytes = alone (read_front_in format bytes)
+
+-- in format 6 bodies are read as they are written
+format_6 : (bytes : List ℕ) → read_record_in 6 bytes ≡ read_record bytes
+unfolding read_record_in read_record
+format_6 bytes = refl
+
+-- the fields of a start up to its deadline, which the formats share
+abbrev start_front : List ℕ
+start_front = 2 ∷ (u64_bytes 0 ++ (u64_bytes 5 ++ (origin_bytes (start 0) ++ (effects_bytes [] ++ (names_bytes [] ++ (0 ∷ u64_bytes 3600))))))
+
+-- the start that they tell in each format, with a state of no bytes and no page that went
+abbrev started : Record
+started = changes (opens (record { number = 0; nonce = 5; script = 0; effects = []; left = []; kind = Suspend; deadline = 3600; evicted = [] })) (Some [])
+
+in_1 : read_record_in 1 start_front ≡ Some started
+unfolding read_record_in read_within
+in_1 = refl
+
+in_3 : read_record_in 3 (start_front ++ 0 ∷ 0 ∷ 0 ∷ 0 ∷ []) ≡ Some started
+unfolding read_record_in read_within
+in_3 = refl
+
+in_6 : read_record_in 6 (start_front ++ 0 ∷ 0 ∷ 0 ∷ 0 ∷ 0 ∷ 0 ∷ 0 ∷ 0 ∷ []) ≡ Some started
+unfolding read_record_in read_within
+in_6 = refl
+
+not_in_6 : read_record_in 6 (start_front ++ 0 ∷ 0 ∷ 0 ∷ 0 ∷ []) ≡ None
+unfolding read_record_in read_within
+not_in_6 = refl
+
+-- another setup is no record of format 3, nor are numbers that were drawn one of format 4
+no_texts_in_3 : read_record_in 3 (body_of (renews [])) ≡ None
+unfolding read_record_in
+no_texts_in_3 = refl
+
+no_drawn_in_4 : read_record_in 4 (body_of (draws 3)) ≡ None
+unfolding read_record_in
+no_drawn_in_4 = refl

@@ -1,0 +1,93 @@
+-- What the records of a file make in each of the formats 1 to 6. Format 6 is the one that is written.
+use Rattle.std.proofs.Common.{◌≡◌, refl, ap, ◌∙◌}
+use Rattle.std.specs.Prelude.{ℕ, ◌+◌, ◌==◌, List, [], ◌∷◌, length, Option, Some, None, if◌then◌else◌}
+use Rattle.replay_spec.specs.Book.{Change, Book}
+use Rattle.replay_spec.specs.Recovery.{taken_in}
+use Rattle.script_nodes.specs.Setup.{Named}
+use Rattle.frame_codec.specs.Reading.{read_state}
+use Rattle.journal_records.specs.Records.{Record, begins, changes, renews, draws}
+use Rattle.journal_records.specs.Reading.{read_record}
+use Rattle.journal_records.specs.Old.{read_record_in}
+use Rattle.journal_spec.specs.Before.{Earlier, Made, plain}
+use Rattle.journal_spec.specs.Retaking.{arena_of, Told, unread, misread, told_as, script_for, told_in, retaken}
+use Rattle.journal_spec.specs.Lengths.{own_told}
+use Rattle.journal_spec.specs.Making.{Texts, Making, nothing, begun, made, damaged, other, has_script, told_next, next_setup, first_by, with_drawn, next_by, second_by, with_body, with_bodies, book_of}
+
+-- what the bytes of a state tell of a page of this script, where they are the state's alone
+abbrev pub told_alone : Option Named → Option (List ℕ) → Told
+told_alone None state = unread
+told_alone (Some s) None = misread
+told_alone (Some s) (Some bytes) = told_as (read_state (arena_of s.script) bytes)
+
+-- What is told of the state of a record's page in this format. In format 2 it is the state's bytes alone; later formats tell the form too,
+-- and write a state behind that of the page before.
+abbrev pub told_at : (format : ℕ) → Earlier → Book → Change → Option (List ℕ) → Told
+told_at format earlier b c state = if format == 2 then told_alone (script_for b c) state else told_in earlier b c state
+
+-- What the record of a change makes in this format. In format 1 it lands with what its script comes to again, and its page has the state
+-- that its script leaves.
+abbrev pub change_next : (format : ℕ) → (place length : ℕ) → Made → Change → Option (List ℕ) → Making
+change_next format place n m c state =
+    if format == 1 then made (retaken n c (taken_in (plain m) c) (own_told m.book c) m) else told_next place n m c (told_at format m.earlier m.book c state)
+
+-- what a later record of this length makes in this format, whose gate is at this place
+abbrev pub next_at : (format : ℕ) → Texts → (place length : ℕ) → Made → Option Record → Making
+next_at format texts place n m (Some (changes c state)) =
+    if has_script (length m.book.scripts) c then change_next format place n m c state else damaged place
+next_at format texts place n m (Some (renews named)) = next_setup place n m (texts named)
+next_at format texts place n m _ = damaged place
+
+-- what the record directly after the first one makes in this format
+abbrev pub second_at : (format : ℕ) → Texts → (place length : ℕ) → Made → Option Record → Making
+second_at format texts place n m (Some (draws number)) = made (with_drawn number m)
+second_at format texts place n m r = next_at format texts place n m r
+
+-- what records make in this format with one body more, whose gate is at this place
+abbrev pub with_body_at : (format : ℕ) → Texts → (shelf place : ℕ) → List ℕ → Making → Making
+with_body_at format texts shelf place body nothing = first_by texts shelf place (length body) (read_record_in format body)
+with_body_at format texts shelf place body (begun m) = second_at format texts place (length body) m (read_record_in format body)
+with_body_at format texts shelf place body (made m) = next_at format texts place (length body) m (read_record_in format body)
+with_body_at format texts shelf place body (damaged p) = damaged p
+with_body_at format texts shelf place body (other p) = other p
+
+-- what records make in this format with these bodies more, the gate of the first at this place
+abbrev pub with_bodies_at : (format : ℕ) → Texts → (shelf place : ℕ) → List (List ℕ) → Making → Making
+with_bodies_at format texts shelf place [] m = m
+with_bodies_at format texts shelf place (body ∷ bodies) m =
+    with_bodies_at format texts shelf (place + 5 + length body) bodies (with_body_at format texts shelf place body m)
+
+-- What the bodies of a file of this format make for a shelf of this number. The first gate is at 8.
+abbrev pub book_of_format : (format : ℕ) → Texts → (shelf : ℕ) → List (List ℕ) → Making
+book_of_format format texts shelf bodies = with_bodies_at format texts shelf 8 bodies nothing
+
+-- in format 6 a file makes what it makes as it is written
+next_now : (texts : Texts) (place n : ℕ) (m : Made) (r : Option Record) → next_at 6 texts place n m r ≡ next_by texts place n m r
+next_now texts place n m None = refl
+next_now texts place n m (Some (begins s named)) = refl
+next_now texts place n m (Some (changes c state)) = refl
+next_now texts place n m (Some (renews named)) = refl
+next_now texts place n m (Some (draws number)) = refl
+
+second_now : (texts : Texts) (place n : ℕ) (m : Made) (r : Option Record) → second_at 6 texts place n m r ≡ second_by texts place n m r
+second_now texts place n m None = refl
+second_now texts place n m (Some (begins s named)) = refl
+second_now texts place n m (Some (changes c state)) = refl
+second_now texts place n m (Some (renews named)) = refl
+second_now texts place n m (Some (draws number)) = refl
+
+body_now : (texts : Texts) (shelf place : ℕ) (body : List ℕ) (m : Making) → with_body_at 6 texts shelf place body m ≡ with_body texts shelf place body m
+unfolding read_record_in read_record
+body_now texts shelf place body nothing = refl
+body_now texts shelf place body (begun m) = second_now texts place (length body) m (read_record body)
+body_now texts shelf place body (made m) = next_now texts place (length body) m (read_record body)
+body_now texts shelf place body (damaged p) = refl
+body_now texts shelf place body (other p) = refl
+
+bodies_now : (texts : Texts) (shelf place : ℕ) (bodies : List (List ℕ)) (m : Making) → with_bodies_at 6 texts shelf place bodies m ≡ with_bodies texts shelf place bodies m
+bodies_now texts shelf place [] m = refl
+bodies_now texts shelf place (body ∷ bodies) m =
+    ap (λ (x : Making). with_bodies_at 6 texts shelf (place + 5 + length body) bodies x) (body_now texts shelf place body m)
+    ∙ bodies_now texts shelf (place + 5 + length body) bodies (with_body texts shelf place body m)
+
+format_of_now : (texts : Texts) (shelf : ℕ) (bodies : List (List ℕ)) → book_of_format 6 texts shelf bodies ≡ book_of texts shelf bodies
+format_of_now texts shelf bodies = bodies_now texts shelf 8 bodies nothing

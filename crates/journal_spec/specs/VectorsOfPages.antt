@@ -1,0 +1,256 @@
+-- Worked rows of files with pages.
+use Rattle.std.specs.Prelude.{◌≡◌, ℕ, ◌+◌, List, [], ◌∷◌, ◌++◌, Some, None, codes, refl}
+use Rattle.script_value.specs.Val.{text, list, no_vals}
+use Rattle.script_nodes.specs.declared.script.SendKind.TheVariants.{Suspend}
+use Rattle.script_nodes.specs.Core.{lit, send, no_cores}
+use Rattle.script_nodes.specs.Setup.{Named}
+use Rattle.wire_bytes.specs.Spelling.{byte_string, u64_bytes}
+use Rattle.replay_spec.specs.Book.{Page, Instance, Change, opens, extends, changed, Book}
+use Rattle.machine_states.specs.Machine.{Suspended}
+use Rattle.frame_codec.specs.Spelling.{state_bytes}
+use Rattle.frame_codec.specs.Forms.{form_bytes}
+use Rattle.value_bytes.specs.Reading.{read_within}
+use Rattle.journal_records.specs.Fields.{start, origin_bytes}
+use Rattle.journal_records.specs.Records.{changes, begin_of, body_of, effects_bytes, names_bytes}
+use Rattle.journal_records.specs.Reading.{read_record}
+use Rattle.journal_records.specs.Old.{read_record_in}
+use Rattle.journal_spec.specs.Making.{Texts, made, damaged, began, book_of}
+use Rattle.journal_spec.specs.Old.{book_of_format}
+
+-- a script that shows a page and waits
+abbrev waiting : Named
+waiting = record {
+  name = codes "waiting";
+  text = codes "(send/suspend (lambda (k) \"go\"))";
+  script = record { web = []; cells = []; tasks = no_cores; body = send Suspend (lit (text (codes "go"))) };
+}
+
+-- in these rows all names and texts are read as that script
+abbrev texts : Texts
+texts named = Some (waiting ∷ [])
+
+abbrev begin_waiting : List ℕ
+begin_waiting = body_of (begin_of 3 (waiting ∷ []))
+
+-- the state of a page with no variable, no frame and no binding
+abbrev bare : Suspended
+bare = record { env = []; frames = []; shadows = [] }
+
+abbrev bare_bytes : List ℕ
+bare_bytes = 0 ∷ 0 ∷ 0 ∷ 0 ∷ 0 ∷ 0 ∷ 0 ∷ 0 ∷ 0 ∷ 0 ∷ 0 ∷ 0 ∷ []
+
+bare_is_spelled : state_bytes bare ≡ bare_bytes
+bare_is_spelled = refl
+
+-- the bare state, written by itself
+abbrev flat : List ℕ
+flat = 0 ∷ bare_bytes
+
+-- the bare state, written behind the same state
+abbrev as_before : List ℕ
+as_before = 1 ∷ 0 ∷ 0 ∷ 0 ∷ 0 ∷ 0 ∷ 0 ∷ 0 ∷ 0 ∷ 0 ∷ 0 ∷ 0 ∷ 0 ∷ 0 ∷ 0 ∷ 0 ∷ 0 ∷ 0 ∷ 0 ∷ 0 ∷ 0 ∷ []
+
+as_before_is_spelled : form_bytes (Some bare) bare ≡ as_before
+as_before_is_spelled = refl
+
+-- a start of the script at a place, of the segment of this number
+abbrev opening : (number place : ℕ) → Change
+opening n k = opens (record { number = n; nonce = 5; script = k; effects = []; left = []; kind = Suspend; deadline = 3600; evicted = [] })
+
+-- an answer to a page of an instance, of the segment of this number, for whose page these went
+abbrev answering : (number instance page : ℕ) → (gone : List ℕ) → Change
+answering n i p gone = extends (record {
+  number = n;
+  nonce = 6;
+  instance = i;
+  page = p;
+  answer = list no_vals;
+  effects = [];
+  left = [];
+  kind = Suspend;
+  deadline = 3600;
+  evicted = gone;
+})
+
+abbrev start_body : (number place : ℕ) → (state : List ℕ) → List ℕ
+start_body n k state = body_of (changes (opening n k) (Some state))
+
+abbrev answer_body : (number instance page : ℕ) → (gone state : List ℕ) → List ℕ
+answer_body n i p gone state = body_of (changes (answering n i p gone) (Some state))
+
+-- the first page of the instance
+abbrev root : Page
+root = record { number = 0; nonce = 5; parent = None; answer = list no_vals; reads = []; inside = []; deadline = 3600 }
+
+-- the page that answers it, of the segment of this number
+abbrev second : ℕ → Page
+second n = record { number = n; nonce = 6; parent = Some 0; answer = list no_vals; reads = []; inside = []; deadline = 3600 }
+
+-- the instance with its first page, which was used by the segment of this number at last
+abbrev first_instance : (last : ℕ) → Instance
+first_instance n = record {
+  number = 0;
+  script = waiting;
+  cells = [];
+  closed = [];
+  revoked = [];
+  used = record { page = 0; last = n } ∷ [];
+  evicted = [];
+  pages = root ∷ [];
+}
+
+abbrev begun_waiting : Book
+begun_waiting = (began 3 56 (waiting ∷ [])).book
+
+-- the book behind a start, where the file is this long
+abbrev started : (length : ℕ) → Book
+started size = record begun_waiting {
+  drawn = 1;
+  logged = 1;
+  length = size;
+  file = record begun_waiting.file { lines = changed (opening 0 0) 62 ∷ [] };
+  instances = first_instance 0 ∷ [];
+}
+
+a_start :
+    book_of texts 3 (begin_waiting ∷ start_body 0 0 flat ∷ [])
+    ≡ made (record { book = started 137; earlier = record { seen = 0 ∷ []; states = (0, bare) ∷ [] } })
+unfolding read_record read_within
+a_start = refl
+
+-- a record that repeats a number is passed over: the file is longer by it, and has no line of it
+a_number_twice :
+    book_of texts 3 (begin_waiting ∷ start_body 0 0 flat ∷ start_body 0 0 flat ∷ [])
+    ≡ made (record { book = started 204; earlier = record { seen = 0 ∷ 0 ∷ []; states = (0, bare) ∷ [] } })
+unfolding read_record read_within
+a_number_twice = refl
+
+-- bytes that are no state of the script are damage, also where the number was there before
+no_state : book_of texts 3 (begin_waiting ∷ start_body 0 0 [] ∷ []) ≡ damaged 69
+unfolding read_record read_within
+no_state = refl
+
+no_state_again : book_of texts 3 (begin_waiting ∷ start_body 0 0 flat ∷ start_body 0 0 (9 ∷ []) ∷ []) ≡ damaged 136
+unfolding read_record read_within
+no_state_again = refl
+
+-- of an answer to a page of no instance, what it has for a state is not read
+no_state_is_read :
+    book_of texts 3 (begin_waiting ∷ start_body 0 0 flat ∷ answer_body 1 0 7 [] (9 ∷ []) ∷ [])
+    ≡ made (record {
+      book = record (started 207) { drawn = 2; logged = 2 };
+      earlier = record { seen = 1 ∷ 0 ∷ []; states = (0, bare) ∷ [] };
+    })
+unfolding read_record read_within
+no_state_is_read = refl
+
+-- an answer to a page that stands has to have a state of its script
+no_state_of_a_page : book_of texts 3 (begin_waiting ∷ start_body 0 0 flat ∷ answer_body 1 0 0 [] (9 ∷ []) ∷ []) ≡ damaged 136
+unfolding read_record read_within
+no_state_of_a_page = refl
+
+-- the state of an answer's page is written behind that of the page before, and not by itself
+abbrev answered_once : Book
+answered_once = record (started 227) {
+  drawn = 2;
+  logged = 2;
+  file = record begun_waiting.file { lines = changed (opening 0 0) 62 ∷ changed (answering 1 0 0 []) 85 ∷ [] };
+  instances = record (first_instance 1) { used = record { page = 0; last = 1 } ∷ record { page = 1; last = 1 } ∷ []; pages = root ∷ second 1 ∷ [] } ∷ [];
+}
+
+behind_the_page :
+    book_of texts 3 (begin_waiting ∷ start_body 0 0 flat ∷ answer_body 1 0 0 [] as_before ∷ [])
+    ≡ made (record { book = answered_once; earlier = record { seen = 1 ∷ 0 ∷ []; states = (1, bare) ∷ (0, bare) ∷ [] } })
+unfolding read_record read_within
+behind_the_page = refl
+
+not_by_itself : book_of texts 3 (begin_waiting ∷ start_body 0 0 flat ∷ answer_body 1 0 0 [] flat ∷ []) ≡ damaged 136
+unfolding read_record read_within
+not_by_itself = refl
+
+-- the state of a start's page is written by itself
+not_behind : book_of texts 3 (begin_waiting ∷ start_body 0 0 as_before ∷ []) ≡ damaged 69
+unfolding read_record read_within
+not_behind = refl
+
+-- a start of a script that is not of the setup is damage
+no_such_script : book_of texts 3 (begin_waiting ∷ start_body 0 1 flat ∷ []) ≡ damaged 69
+unfolding read_record read_within
+no_such_script = refl
+
+-- a page that went for another is told by that page's record
+abbrev evicted_once : Book
+evicted_once = record (started 235) {
+  drawn = 2;
+  logged = 2;
+  file = record begun_waiting.file { lines = changed (opening 0 0) 62 ∷ changed (answering 1 0 0 (0 ∷ [])) 93 ∷ [] };
+  instances = record (first_instance 1) {
+    used = record { page = 1; last = 1 } ∷ [];
+    evicted = record { page = 0; by = 1 } ∷ [];
+    pages = root ∷ second 1 ∷ [];
+  } ∷ [];
+}
+
+a_page_that_went :
+    book_of texts 3 (begin_waiting ∷ start_body 0 0 flat ∷ answer_body 1 0 0 (0 ∷ []) as_before ∷ [])
+    ≡ made (record { book = evicted_once; earlier = record { seen = 1 ∷ 0 ∷ []; states = (1, bare) ∷ (0, bare) ∷ [] } })
+unfolding read_record read_within
+a_page_that_went = refl
+
+-- a record that evicts a page that is not there, one that went before, or one twice, is passed over
+none_there :
+    book_of texts 3 (begin_waiting ∷ start_body 0 0 flat ∷ answer_body 1 0 0 (7 ∷ []) as_before ∷ [])
+    ≡ made (record {
+      book = record (started 235) { drawn = 2; logged = 2 };
+      earlier = record { seen = 1 ∷ 0 ∷ []; states = (0, bare) ∷ [] };
+    })
+unfolding read_record read_within
+none_there = refl
+
+gone_before :
+    book_of texts 3 (begin_waiting ∷ start_body 0 0 flat ∷ answer_body 1 0 0 (0 ∷ []) as_before ∷ answer_body 2 0 0 (0 ∷ []) as_before ∷ [])
+    ≡ made (record {
+      book = record evicted_once { drawn = 3; logged = 3; length = 333 };
+      earlier = record { seen = 2 ∷ 1 ∷ 0 ∷ []; states = (1, bare) ∷ (0, bare) ∷ [] };
+    })
+unfolding read_record read_within
+gone_before = refl
+
+gone_twice :
+    book_of texts 3 (begin_waiting ∷ start_body 0 0 flat ∷ answer_body 1 0 0 (0 ∷ 0 ∷ []) as_before ∷ [])
+    ≡ made (record {
+      book = record (started 243) { drawn = 2; logged = 2 };
+      earlier = record { seen = 1 ∷ 0 ∷ []; states = (0, bare) ∷ [] };
+    })
+unfolding read_record read_within
+gone_twice = refl
+
+-- the body of a start in the formats before 6, with these bytes for the page's state
+abbrev old_start : (state : List ℕ) → List ℕ
+old_start state =
+    2 ∷ (u64_bytes 0 ++ (u64_bytes 5 ++ (origin_bytes (start 0) ++ (effects_bytes [] ++ (names_bytes [] ++ (0 ∷ (u64_bytes 3600 ++ byte_string state)))))))
+
+-- the book behind a start whose record's body is this long
+abbrev started_by : (length : ℕ) → Book
+started_by n = record (started (75 + n)) { file = record begun_waiting.file { lines = changed (opening 0 0) n ∷ [] } }
+
+-- in format 2 a record has the bytes of the state alone, and in formats 3 to 5 the form and the bytes
+in_format_2 :
+    book_of_format 2 texts 3 (begin_waiting ∷ old_start bare_bytes ∷ [])
+    ≡ made (record { book = started_by 57; earlier = record { seen = 0 ∷ []; states = (0, bare) ∷ [] } })
+unfolding read_record_in read_within
+in_format_2 = refl
+
+in_format_3 :
+    book_of_format 3 texts 3 (begin_waiting ∷ old_start flat ∷ [])
+    ≡ made (record { book = started_by 58; earlier = record { seen = 0 ∷ []; states = (0, bare) ∷ [] } })
+unfolding read_record_in read_within
+in_format_3 = refl
+
+no_form_in_2 : book_of_format 2 texts 3 (begin_waiting ∷ old_start flat ∷ []) ≡ damaged 69
+unfolding read_record_in read_within
+no_form_in_2 = refl
+
+a_form_in_3 : book_of_format 3 texts 3 (begin_waiting ∷ old_start bare_bytes ∷ []) ≡ damaged 69
+unfolding read_record_in read_within
+a_form_in_3 = refl
