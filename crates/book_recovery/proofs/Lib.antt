@@ -1,3 +1,4 @@
-pub mod Retold
+pub mod Longer
 pub mod Made
+pub mod Way
 pub mod Took

@@ -1,74 +1,37 @@
 -- What a reader of records makes.
-use Rattle.std.proofs.Common.{◌≡◌, ◌∙◌, ap, sym, subst, ℕ, ◌+◌, ◌≤◌, ◌^◌, ◌==◌, max, Bool, true, false, List, [], ◌∷◌, length, Option, Some, None, if◌then◌else◌, refl, arith, inl, inr}
+use Rattle.std.proofs.Common.{◌≡◌, ◌∙◌, ap, sym, subst, ℕ, ◌+◌, ◌≤◌, ◌^◌, ◌==◌, Bool, true, false, List, [], ◌∷◌, length, Option, Some, None, if◌then◌else◌, refl, arith, inl, inr}
 use Rattle.std.proofs.lemmas.Bool.Decides.{nat_tests}
 use Rattle.script_value.specs.declared.outcome.TxName.{TxName}
-use Rattle.script_nodes.specs.Setup.{Named}
-use Rattle.replay_spec.specs.Book.{Change, opens, extends, ends, finishes, sweeps, Book, reopened}
-use Rattle.replay_spec.specs.Rules.{Rules}
-use Rattle.replay_spec.specs.Change.{logged_by, longer_by, put_in_order}
+use Rattle.script_nodes.specs.Setup.{Named, Library}
+use Rattle.replay_spec.specs.Book.{Change, opens, extends, ends, finishes, sweeps, renewed, File, Instance, Book, reopened}
+use Rattle.replay_spec.specs.Rules.{Rules, first_file}
+use Rattle.replay_spec.specs.Change.{with_line, put_in_order}
 use Rattle.replay_spec.specs.Admission.{is_one}
 use Rattle.replay_spec.specs.Recovery as recovery
-use Rattle.replay_spec.specs.Recovery.{number_in, is_repeated, with_number, redone}
+use Rattle.replay_spec.specs.Recovery.{number_in, is_repeated, with_number, redone, of_length, first_of, resettled}
 use Rattle.replay_spec.specs.Invariant.{Among}
 use Rattle.replay_spec.specs.Remade.{IsOrderlyMade}
 use Rattle.replay_spec.proofs.Stand.{orderly_less}
-use Rattle.replay_spec.proofs.Recovered.{made_orderly, among_is, redone_logged}
+use Rattle.replay_spec.proofs.Recovered.{among_is}
 use Rattle.machine_states.specs.Machine.{Suspended, inside_of}
 use Rattle.instance_book.specs.declared.numbered.Numbered.{Numbered}
 use Rattle.instance_book.specs.declared.in_order.InOrder.{InOrder}
 use Rattle.instance_book.specs.declared.book.Book as kept
 use Rattle.instance_book.specs.Orders.{numbers_of}
 use Rattle.instance_book.specs.Places.{given}
-use Rattle.instance_book.specs.Makes.{HasPlaces, KeepsStates, HasItsStates}
-use Rattle.instance_book.specs.Swept.{IsEmpty}
-use Rattle.instance_book.specs.Told.{no_rules, book_beside, IsReopened}
-use Rattle.journal_records.specs.Records.{Record, begins, changes, ChangeFits, IsInGrammar, body_of, begin_of, texts_of, begun_length}
+use Rattle.instance_book.specs.Makes.{HasPlaces}
+use Rattle.instance_book.specs.Views.{Beside, no_journal, book_of, instances_of}
+use Rattle.instance_book.specs.Admissions.{book_under}
+use Rattle.instance_book.specs.Redo.{told_of, HasToldStates, is_read, names_told, IsFree, IsUntold, file_with, beside_with, IsRedone, Reopens}
+use Rattle.journal_records.specs.Records.{Record, begins, changes, renews, draws}
 use Rattle.journal_records.specs.Reading.{read_record}
-use Rattle.journal_records.specs.Laws.{IsBodyOf}
-use Rattle.journal_spec.specs.Before.{States, state_at, Earlier, nothing_told, Made, nothing_made, plain}
-use Rattle.journal_spec.specs.Retaking as books
-use Rattle.journal_spec.specs.Retaking.{Told, unread, misread, told, held, landing, rules_for, with_state, states_with, then_told, retaken}
-use Rattle.journal_spec.specs.Making.{Making, made, damaged, rules_over, has_script, first_by, told_next, next_by, with_body}
-use Rattle.journal_spec.specs.Laws.{OnlyItsBeginBegins}
-use Rattle.journal_spec.proofs.Retaken.{retaken_orderly}
-use Rattle.book_recovery.specs.Remaking.{told_in, HasToldStates, is_read, names_told, IsFree, IsUntold, told_states, IsMadeBy, number_by}
-use Rattle.book_recovery.specs.Reading.{seen_by, made_in, TellsOf, IsUnderWay, IsRemade, Sees, SeesNumber, is_later, IsMadeAs, IsNothing, IsOwnBehind}
-
--- ---- how many numbers records count
-
-logged_low : (c : Change) (state : Option (List ℕ)) → ChangeFits c state → logged_by c ≤ 2 ^ 62
-logged_low (opens o) None fits = absurd fits
-logged_low (opens o) (Some s) fits = let low = fits.ticket in omega (arith, low)
-logged_low (extends x) None fits = absurd fits
-logged_low (extends x) (Some s) fits = let low = fits.ticket in omega (arith, low)
-logged_low (ends e) None fits = let low = fits.ticket in omega (arith, low)
-logged_low (ends e) (Some s) fits = absurd fits
-logged_low (finishes f) None fits = let low = fits.ticket in omega (arith, low)
-logged_low (finishes f) (Some s) fits = absurd fits
-logged_low (sweeps tick) state fits = omega arith
-
-redone_shelf : (rules : Rules) (c : Change) (o : Option (List TxName)) (b : Book) → (redone rules c o b).shelf ≡ b.shelf
-redone_shelf rules c None b = refl
-redone_shelf rules c (Some names) b = refl
-
-pub low_logged : (scripts : List Named) (before : InOrder (Unit {0})) (r : Record) (seen : Bool) (old new : kept.Book) → (earlier : Earlier) × TellsOf scripts before old earlier → IsInGrammar r → IsMadeBy scripts r seen true old new → old.logged ≤ 2 ^ 62 → new.logged ≤ 2 ^ 62
-low_logged scripts before (begins shelf named) seen old new tells fits h low = let e = ap (λ (b : Book). b.logged) (h 0) in omega (arith, e, low)
-low_logged scripts before (changes c state) seen old new tells fits h low =
-    let b = book_beside scripts 0 old in
-    let e : new.logged ≡ max old.logged (logged_by c) =
-    ap (λ (x : Book). x.logged) ((h tells.0 tells.1.states).book refl 0) ∙ redone_logged no_rules c (names_told seen b c (told_in scripts tells.0 old c state)) b in
-    omega (arith, e, low, logged_low c state fits)
-
--- ---- what a record makes
-
-misread_is : (x : Told) → false ≡ is_read x → x ≡ misread
-misread_is unread e = absurd (let no : ⊥ = cc in no)
-misread_is misread e = refl
-misread_is (told d) e = absurd (let no : ⊥ = cc in no)
-
-pub redone_none : (scripts : List Named) (before : InOrder (Unit {0})) (r : Record) (seen : Bool) (old mid : kept.Book) → IsMadeBy scripts r seen false old mid → IsRemade scripts before r old None
-redone_none scripts before (begins shelf named) seen old mid h earlier tells = tt
-redone_none scripts before (changes c state) seen old mid h earlier tells = misread_is (told_in scripts earlier old c state) (h earlier tells.states).read_is
+use Rattle.setup_reader.specs.Texts.{setup_of_texts}
+use Rattle.journal_spec.specs.Before.{States, state_at, Earlier, nothing_told, Made, plain}
+use Rattle.journal_spec.specs.Retaking.{Told, unread, misread, told, told_in, held, states_with, then_told, retaken}
+use Rattle.journal_spec.specs.Making.{Making, begun, made, damaged, other, began, beside, has_script, first_by, first_setup, told_next, next_setup, next_by, with_drawn, second_by, with_body}
+use Rattle.book_recovery.specs.Found.{beside_file}
+use Rattle.book_recovery.specs.Reading.{seen_by, TellsOf, IsUnderWay, SeesNumber, Sees, may_stand, IsMadeOf, making_of, IsMadeAs, IsNothing, IsRenewed, IsFirst}
+use Rattle.book_recovery.proofs.Longer.{instances_longer, states_longer}
 
 -- ---- numbers that were seen
 
@@ -94,62 +57,8 @@ sees_put n k x old mid new o number some same put =
     ∙ (ap (λ (m : ℕ). is_one k (m ∷ seen_by old)) number
     ∙ ap (λ (p : Option ℕ). is_one k (with_number p (seen_by old))) some)))
 
-orderly_alike : (m n : recovery.Made) → m.book ≡ n.book → ((k : ℕ) → is_one k m.seen ≡ is_one k n.seen) → IsOrderlyMade n → IsOrderlyMade m
-orderly_alike m n book seen h =
-    subst (λ (b : Book). IsOrderlyMade (record { book = b; seen = m.seen })) (sym book) (record {
-      instances = orderly_less (λ k. Among k n.seen → ⊥) (λ k. Among k m.seen → ⊥) n.book.instances (λ k free there. free (is_among k m.seen (seen k ∙ among_is k n.seen there))) h.instances;
-      counted = λ k there. h.counted k (is_among k n.seen (sym (seen k) ∙ among_is k m.seen there));
-      again = h.again;
-    })
-
 repeated_is : (o : Option ℕ) (n : ℕ) (seen : List ℕ) → o ≡ Some n → is_repeated o seen ≡ is_one n seen
 repeated_is o n seen e = ap (λ (p : Option ℕ). is_repeated p seen) e
-
--- a number that was not seen names nothing that stands
-free : (scripts : List Named) (shelf : ℕ) (before : InOrder (Unit {0})) (b : kept.Book) (o : Option ℕ) → IsUnderWay scripts shelf before b
-    → is_repeated o (seen_by before) ≡ false → IsFree scripts o b
-free scripts shelf before b o h new =
-    orderly_less (λ n. Among n (seen_by before) → ⊥) (λ n. o ≡ Some n) (book_beside scripts 0 b).instances
-    (λ n e there. let yes = among_is n (seen_by before) there in let no_one = sym (repeated_is o n (seen_by before) e) ∙ new in let not : ⊥ = cc in not) h.orderly.instances
-
--- and of its page no state was told
-some_or_none : (o : Option Suspended) → ((d : Suspended) → o ≡ Some d → ⊥) → o ≡ None
-some_or_none None never = refl
-some_or_none (Some d) never = absurd (never d refl)
-
-untold : (scripts : List Named) (before : InOrder (Unit {0})) (b : kept.Book) (earlier : Earlier) (o : Option ℕ) → TellsOf scripts before b earlier
-    → is_repeated o (seen_by before) ≡ false → IsUntold o earlier.states
-untold scripts before b earlier o tells new n e =
-    some_or_none (state_at n earlier.states) (λ d there.
-    let yes : true ≡ false = sym (tells.known n d there) ∙ (tells.numbers n ∙ (sym (repeated_is o n (seen_by before) e) ∙ new)) in let not : ⊥ = cc in not)
-
-pub redone_some : (scripts : List Named) (shelf : ℕ) (before : InOrder (Unit {0})) (r : Record) (seen : Bool) (old mid new : kept.Book) → IsUnderWay scripts shelf before old
-    → seen ≡ is_repeated (number_by r) (seen_by before) → IsMadeBy scripts r seen true old mid → IsReopened mid new → KeepsStates mid new → IsRemade scripts before r old (Some new)
-redone_some scripts shelf before (begins s named) seen old mid new way is h again keeps earlier tells = tt
-redone_some scripts shelf before (changes c state) seen old mid new way is h again keeps earlier tells =
-    let x = told_in scripts earlier old c state in
-    let m = h earlier tells.states in
-    record {
-      read = λ bad. let yes : true ≡ false = m.read_is ∙ ap is_read bad in let no : ⊥ = cc in no;
-      made = λ length.
-          let b = book_beside scripts length old in
-          again scripts length
-          ∙ (ap (λ (y : Book). reopened y) (m.book refl length) ∙ ap (λ (t : Bool). reopened (redone no_rules c (names_told t b c x) b)) is);
-      told =
-          let first = m.told refl (λ none. (free scripts shelf before old (number_in c) way (sym is ∙ none), untold scripts before old earlier (number_in c) tells (sym is ∙ none))) in
-          let repeated = is_repeated (number_in c) (seen_by before) in
-          keeps (given (λ n. state_at n (told_states scripts repeated c x old earlier.states))) scripts
-          (subst (λ (t : Bool). HasToldStates scripts (told_states scripts t c x old earlier.states) mid) is first);
-    }
-
-pub states_then : (scripts : List Named) (shelf : ℕ) (before : InOrder (Unit {0})) (r : Record) (seen read : Bool) (old new : kept.Book) → IsUnderWay scripts shelf before old
-    → seen ≡ is_repeated (number_by r) (seen_by before) → IsMadeBy scripts r seen read old new → IsOwnBehind scripts before old (Some r) → HasItsStates scripts old
-    → is_later (length scripts) r ≡ true → HasItsStates scripts new
-states_then scripts shelf before (begins s named) seen read old new way is h left states later = absurd (let not : ⊥ = cc in not)
-states_then scripts shelf before (changes c state) seen read old new way is h left states later =
-    (h left.0 left.1.0.states).states (λ none. free scripts shelf before old (number_in c) way (sym is ∙ none)) left.1.1 states
-
--- ---- a later record
 
 repeated_alike : (o : Option ℕ) (ms ns : List ℕ) → ((k : ℕ) → is_one k ms ≡ is_one k ns) → is_repeated o ms ≡ is_repeated o ns
 repeated_alike None ms ns same = refl
@@ -159,40 +68,57 @@ with_alike : (o : Option ℕ) (ms ns : List ℕ) → ((k : ℕ) → is_one k ms 
 with_alike None ms ns same k = same k
 with_alike (Some n) ms ns same k = ap (λ (t : Bool). if n == k then true else t) (same k)
 
--- what rules have to do with a record is its length
-lengthened : (rules : Rules) (c : Change) (o : Option (List TxName)) (b : Book)
-    → reopened (redone rules c o b) ≡ record (reopened (redone no_rules c o b)) { length = longer_by rules.journal b c }
-lengthened rules c None b = refl
-lengthened rules c (Some names) b = refl
+pub orderly_alike : (m n : recovery.Made) → m.book ≡ n.book → ((k : ℕ) → is_one k m.seen ≡ is_one k n.seen) → IsOrderlyMade n → IsOrderlyMade m
+orderly_alike m n book seen h =
+    subst (λ (b : Book). IsOrderlyMade (record { book = b; seen = m.seen })) (sym book) (record {
+      instances = orderly_less (λ k. Among k n.seen → ⊥) (λ k. Among k m.seen → ⊥) n.book.instances (λ k free there. free (is_among k m.seen (seen k ∙ among_is k n.seen there))) h.instances;
+      counted = λ k there. h.counted k (is_among k n.seen (sym (seen k) ∙ among_is k m.seen there));
+      again = h.again;
+    })
 
-landing_alike : (m n : Made) (c : Change) (names : List TxName) → m.book ≡ n.book → ((k : ℕ) → is_one k m.earlier.seen ≡ is_one k n.earlier.seen) → landing m c names ≡ landing n c names
-landing_alike m n c names book seen =
-    ap (λ (t : Bool). if t then None else held m.book c names) (repeated_alike (number_in c) m.earlier.seen n.earlier.seen seen)
-    ∙ ap (λ (b : Book). if is_repeated (number_in c) n.earlier.seen then None else held b c names) book
+-- a number that was not seen names nothing that stands
+pub free : (shelf : ℕ) (alone : Bool) (before : InOrder (Unit {0})) (b : kept.Book) (library : Library) (o : Option ℕ) → IsUnderWay shelf alone before b library
+    → is_repeated o (seen_by before) ≡ false → IsFree library.all o b
+free shelf alone before b library o h new =
+    orderly_less (λ n. Among n (seen_by before) → ⊥) (λ n. o ≡ Some n) (instances_of library.all b.instances)
+    (λ n e there. let yes = among_is n (seen_by before) there in let no_one = sym (repeated_is o n (seen_by before) e) ∙ new in let not : ⊥ = cc in not) h.orderly.instances
 
--- what is told of a record does not look at the length of the journal, nor does what it lands with
-pub told_beside : (scripts : List Named) (k l : ℕ) (earlier : Earlier) (b : kept.Book) (c : Change) (state : Option (List ℕ))
-    → books.told_in earlier (book_beside scripts k b) c state ≡ books.told_in earlier (book_beside scripts l b) c state
-told_beside scripts k l earlier b (opens o) state = refl
-told_beside scripts k l earlier b (extends x) state = refl
-told_beside scripts k l earlier b (ends e) state = refl
-told_beside scripts k l earlier b (finishes f) state = refl
-told_beside scripts k l earlier b (sweeps tick) state = refl
+-- and of its page no state was told
+some_or_none : (o : Option Suspended) → ((d : Suspended) → o ≡ Some d → ⊥) → o ≡ None
+some_or_none None never = refl
+some_or_none (Some d) never = absurd (never d refl)
 
-told_there : (scripts : List Named) (k : ℕ) (earlier : Earlier) (b : kept.Book) (x : Book) (c : Change) (state : Option (List ℕ)) → x ≡ book_beside scripts k b
-    → books.told_in earlier x c state ≡ told_in scripts earlier b c state
-told_there scripts k earlier b x c state is = ap (λ (y : Book). books.told_in earlier y c state) is ∙ told_beside scripts k 0 earlier b c state
+pub untold : (library : Library) (before : InOrder (Unit {0})) (b : kept.Book) (earlier : Earlier) (o : Option ℕ) → TellsOf library before b earlier
+    → is_repeated o (seen_by before) ≡ false → IsUntold o earlier.states
+untold library before b earlier o tells new n e =
+    some_or_none (state_at n earlier.states) (λ d there.
+    let yes : true ≡ false = sym (tells.known n d there) ∙ (tells.numbers n ∙ (sym (repeated_is o n (seen_by before) e) ∙ new)) in let not : ⊥ = cc in not)
 
-held_beside : (scripts : List Named) (k l : ℕ) (b : kept.Book) (c : Change) (names : List TxName) → held (book_beside scripts k b) c names ≡ held (book_beside scripts l b) c names
-held_beside scripts k l b (opens o) names = refl
-held_beside scripts k l b (extends x) names = refl
-held_beside scripts k l b (ends e) names = refl
-held_beside scripts k l b (finishes f) names = refl
-held_beside scripts k l b (sweeps tick) names = refl
+-- a number can be drawn again
+pub low_of : (shelf : ℕ) (alone : Bool) (before : InOrder (Unit {0})) (b : kept.Book) (library : Library) → IsUnderWay shelf alone before b library → b.drawn ≤ 2 ^ 62 → b.logged ≤ 2 ^ 62
+low_of shelf alone before b library h most = let drawn : b.drawn ≡ b.logged = ap (λ (x : Book). x.drawn) h.orderly.again in omega (arith, drawn, most)
 
--- the book with the numbers that were seen
-abbrev seen_in : List Named → (length : ℕ) → kept.Book → InOrder (Unit {0}) → Made
-seen_in scripts length b seen = record { book = book_beside scripts length b; earlier = record { seen = seen_by seen; states = [] } }
+-- ---- what is told of a record looks neither at a journal nor at a doubt
+
+pub told_beside : (library : Library) (x y : Beside) (earlier : Earlier) (b : kept.Book) (c : Change) (state : Option (List ℕ))
+    → told_in earlier (book_of library x b) c state ≡ told_in earlier (book_of library y b) c state
+told_beside library x y earlier b (opens o) state = refl
+told_beside library x y earlier b (extends e) state = refl
+told_beside library x y earlier b (ends e) state = refl
+told_beside library x y earlier b (finishes f) state = refl
+told_beside library x y earlier b (sweeps tick) state = refl
+
+held_beside : (library : Library) (x y : Beside) (b : kept.Book) (c : Change) (names : List TxName) → held (book_of library x b) c names ≡ held (book_of library y b) c names
+held_beside library x y b (opens o) names = refl
+held_beside library x y b (extends e) names = refl
+held_beside library x y b (ends e) names = refl
+held_beside library x y b (finishes f) names = refl
+held_beside library x y b (sweeps tick) names = refl
+
+names_beside : (library : Library) (x y : Beside) (b : kept.Book) (again : Bool) (c : Change) (t : Told) → names_told again (book_of library x b) c t ≡ names_told again (book_of library y b) c t
+names_beside library x y b again c unread = ap (λ (o : Option (List TxName)). if again then None else o) (held_beside library x y b c [])
+names_beside library x y b again c misread = refl
+names_beside library x y b again c (told d) = ap (λ (o : Option (List TxName)). if again then None else o) (held_beside library x y b c (inside_of d.frames))
 
 -- what records told goes on to be of numbers that were seen
 among_with : (k : ℕ) (number : Option ℕ) (ns : List ℕ) → is_one k ns ≡ true → is_one k (with_number number ns) ≡ true
@@ -215,154 +141,320 @@ known_then (Some names) (Some m) (told f) ss ns known n d e = by_test (m == n) e
     by_test true e = refl
     by_test false e = known n d e
 
-tells_then : (scripts : List Named) (c : Change) (o : Option (List TxName)) (x : Told) (before after : InOrder (Unit {0})) (old new : kept.Book) (earlier : Earlier)
-    → TellsOf scripts before old earlier → HasToldStates scripts (states_with o (number_in c) x earlier.states) new → SeesNumber (number_in c) before after
-    → TellsOf scripts after new (then_told c o x earlier)
-tells_then scripts c o x before after old new earlier tells states sees = record {
+pub tells_then : (library : Library) (c : Change) (o : Option (List TxName)) (x : Told) (before after : InOrder (Unit {0})) (old new : kept.Book) (earlier : Earlier)
+    → TellsOf library before old earlier → HasToldStates library.all (states_with o (number_in c) x earlier.states) new → SeesNumber (number_in c) before after
+    → TellsOf library after new (then_told c o x earlier)
+tells_then library c o x before after old new earlier tells states sees = record {
   numbers = λ k. with_alike (number_in c) earlier.seen (seen_by before) tells.numbers k ∙ sym (sees k);
   known = known_then o (number_in c) x earlier.states earlier.seen tells.known;
   states = states;
 }
 
--- with these names
-named_made : (scripts : List Named) (place size : ℕ) (c : Change) (names : List TxName) (x : Told) (before after : InOrder (Unit {0})) (old new : kept.Book) (n : Made)
-    → n.book ≡ book_beside scripts (place + 1) old → TellsOf scripts before old n.earlier
-    → (let b = book_beside scripts (place + 1) old in book_beside scripts (place + 1) new ≡ reopened (redone no_rules c (landing (seen_in scripts (place + 1) old before) c names) b))
-    → HasToldStates scripts (states_with (landing (seen_in scripts 0 old before) c names) (number_in c) x n.earlier.states) new → SeesNumber (number_in c) before after
-    → (m : Making) → m ≡ made (retaken size c (landing n c names) x n) → IsMadeAs scripts (place + 5 + size + 1) new after m
-named_made scripts place size c names x before after old new n book tells h states sees m is =
-    let b = book_beside scripts (place + 1) old in
-    let mine = seen_in scripts (place + 1) old before in
-    let o = landing mine c names in
-    let same : landing n c names ≡ o = landing_alike n mine c names book tells.numbers in
-    let first : landing n c names ≡ landing (seen_in scripts 0 old before) c names =
-    same ∙ ap (λ (p : Option (List TxName)). if is_repeated (number_in c) (seen_by before) then None else p) (held_beside scripts (place + 1) 0 old c names) in
-    let long : place + 1 + (size + 5) ≡ place + 5 + size + 1 = omega arith in
+-- ---- a record of a change
+
+-- the file after it
+file_after : (n : ℕ) (c : Change) (o : Option (List TxName)) (b : Book) → (reopened (redone (of_length n) c o b)).file ≡ file_with n c o b.file
+file_after n c None b = refl
+file_after n c (Some inside) b = refl
+
+-- what the program's book is after it, beside a file
+book_after : (library : Library) (place n : ℕ) (c : Change) (o : Option (List TxName)) (b : Book) (old new : kept.Book) → b ≡ book_of library (beside_file (place + 1) b.file) old
+    → book_of library (beside_with n c o (beside_file (place + 1) b.file)) new ≡ reopened (redone (of_length n) c o (book_of library (beside_file (place + 1) b.file) old))
+    → reopened (redone (of_length n) c o b) ≡ book_of library (beside_file (place + 5 + n + 1) (reopened (redone (of_length n) c o b)).file) new
+book_after library place n c o b old new is h =
+    let long : place + 1 + (n + 5) ≡ place + 5 + n + 1 = omega arith in
+    ap (λ (y : Book). reopened (redone (of_length n) c o y)) is
+    ∙ (sym h
+    ∙ (ap (λ (l : ℕ). book_of library (beside_file l (file_with n c o b.file)) new) long
+    ∙ ap (λ (f : File). book_of library (beside_file (place + 5 + n + 1) f) new) (sym (file_after n c o b))))
+
+-- what it makes of what was made
+next_is : (place : ℕ) (shelf : ℕ) (body : List ℕ) (alone : Bool) (c : Change) (state : Option (List ℕ)) (w : Made) (m : Making) → read_record body ≡ Some (changes c state)
+    → m ≡ making_of alone w → with_body setup_of_texts shelf place body m ≡ next_by setup_of_texts place (length body) w (Some (changes c state))
+next_is place shelf body true c state w m read is =
+    ap (with_body setup_of_texts shelf place body) is ∙ ap (second_by setup_of_texts place (length body) w) read
+next_is place shelf body false c state w m read is =
+    ap (with_body setup_of_texts shelf place body) is ∙ ap (next_by setup_of_texts place (length body) w) read
+
+told_is : (place n : ℕ) (w : Made) (c : Change) (state : Option (List ℕ)) (count : ℕ) (x : Told) → length w.book.scripts ≡ count → has_script count c ≡ true
+    → told_in w.earlier w.book c state ≡ x → next_by setup_of_texts place n w (Some (changes c state)) ≡ told_next place n w c x
+told_is place n w c state count x many has its =
+    ap (λ (t : Bool). if t then told_next place n w c (told_in w.earlier w.book c state) else damaged place) (ap (λ (k : ℕ). has_script k c) many ∙ has)
+    ∙ ap (told_next place n w c) its
+
+-- what is read lands with these names
+next_names : (place n : ℕ) (w : Made) (c : Change) (x : Told) (again : Bool) (b : Book) → (x ≡ misread → ⊥) → is_repeated (number_in c) w.earlier.seen ≡ again → w.book ≡ b
+    → told_next place n w c x ≡ made (retaken n c (names_told again b c x) x w)
+next_names place n w c unread again b good seen book =
+    ap (λ (o : Option (List TxName)). made (retaken n c o unread w))
+    (ap (λ (t : Bool). if t then None else held w.book c []) seen ∙ ap (λ (y : Book). if again then None else held y c []) book)
+next_names place n w c misread again b good seen book = absurd (good refl)
+next_names place n w c (told d) again b good seen book =
+    ap (λ (o : Option (List TxName)). made (retaken n c o (told d) w))
+    (ap (λ (t : Bool). if t then None else held w.book c (inside_of d.frames)) seen ∙ ap (λ (y : Book). if again then None else held y c (inside_of d.frames)) book)
+
+misread_is : (x : Told) → false ≡ is_read x → x ≡ misread
+misread_is unread e = absurd (let no : ⊥ = cc in no)
+misread_is misread e = refl
+misread_is (told d) e = absurd (let no : ⊥ = cc in no)
+
+pub good_is : (x : Told) → true ≡ is_read x → x ≡ misread → ⊥
+good_is x read bad = let yes : true ≡ false = read ∙ ap is_read bad in let no : ⊥ = cc in no
+
+module _ (shelf place : ℕ) (body : List ℕ) (library : Library) (alone : Bool) (before : InOrder (Unit {0})) (old : kept.Book) (m : Making)
+    (is : IsMadeAs shelf (place + 1) alone old library before m) where
+  abbrev w : Made
+  w = is.whole
+
+  many : length w.book.scripts ≡ length library.setup
+  many = ap (λ (b : Book). length b.scripts) is.book
+
+  module _ (c : Change) (state : Option (List ℕ)) (read : read_record body ≡ Some (changes c state)) (stands : has_script (length library.setup) c ≡ true) where
+    abbrev x : Told
+    x = told_of library w.earlier old c state
+
+    abbrev again : Bool
+    again = is_repeated (number_in c) (seen_by before)
+
+    abbrev b : Book
+    b = book_of library (beside_file (place + 1) w.book.file) old
+
+    its : told_in w.earlier w.book c state ≡ x
+    its = ap (λ (y : Book). told_in w.earlier y c state) is.book ∙ told_beside library (beside_file (place + 1) w.book.file) no_journal w.earlier old c state
+
+    comes : with_body setup_of_texts shelf place body m ≡ told_next place (length body) w c x
+    comes = next_is place shelf body alone c state w m read is.is ∙ told_is place (length body) w c state (length library.setup) x many stands its
+
+    changed_made : (after : InOrder (Unit {0})) (new : kept.Book) → IsRedone library c state again true old new → SeesNumber (number_in c) before after
+        → IsMadeAs shelf (place + 5 + length body + 1) false new library after (with_body setup_of_texts shelf place body m)
+    changed_made after new redo sees =
+        let h = redo w.earlier is.tells.states in
+        let good = good_is x h.read_is in
+        let o = names_told again b c x in
+        let first : names_told again (book_under library old) c x ≡ o = names_beside library no_journal (beside_file (place + 1) w.book.file) old again c x in
+        let seen : is_repeated (number_in c) w.earlier.seen ≡ again = repeated_alike (number_in c) w.earlier.seen (seen_by before) is.tells.numbers in
+        record {
+          whole = retaken (length body) c o x w;
+          is = comes ∙ next_names place (length body) w c x again b good seen is.book;
+          book = book_after library place (length body) c o w.book old new is.book (h.book refl (length body) (beside_file (place + 1) w.book.file));
+          tells =
+              tells_then library c o x before after old new w.earlier is.tells
+              (subst (λ (p : Option (List TxName)). HasToldStates library.all (states_with p (number_in c) x w.earlier.states) new) first
+              (h.told refl (λ fresh_is. untold library before old w.earlier (number_in c) is.tells fresh_is))) sees;
+          first = λ yes. absurd (let no : ⊥ = cc in no);
+        }
+
+    changed_damaged : (mid : kept.Book) → IsRedone library c state again false old mid → with_body setup_of_texts shelf place body m ≡ damaged place
+    changed_damaged mid redo = comes ∙ ap (told_next place (length body) w c) (misread_is x (redo w.earlier is.tells.states).read_is)
+
+  -- ---- a record of another setup
+
+  pub renewed_made : (named : List (List ℕ × List ℕ)) (next : Library) → read_record body ≡ Some (renews named) → HasPlaces library.all old → IsRenewed named library next
+      → IsMadeAs shelf (place + 5 + length body + 1) false old next before (with_body setup_of_texts shelf place body m)
+  renewed_made named next read placed anew =
+      let n = length body in
+      let long : place + 1 + (n + 5) ≡ place + 5 + n + 1 = omega arith in
+      let f = with_line (renewed next.setup n) w.book.file in
+      let alike : instances_of library.all old.instances ≡ instances_of next.all old.instances =
+      sym (ap (λ (all : List Named). instances_of all old.instances) anew.all ∙ instances_longer next.setup library.all old placed) in
+      record {
+        whole = beside w.earlier (resettled n next.setup (plain w));
+        is = by_alone alone is.is ∙ ap (next_setup place n w) anew.read;
+        book =
+            ap (λ (y : Book). record y { scripts = next.setup; length = y.length + (n + 5); file = with_line (renewed next.setup n) y.file }) is.book
+            ∙ (ap (λ (is : List Instance). record (book_of next (beside_file (place + 1 + (n + 5)) f) old) { instances = is }) alike
+            ∙ ap (λ (l : ℕ). book_of next (beside_file l f) old) long);
+        tells = record {
+          numbers = is.tells.numbers;
+          known = is.tells.known;
+          states =
+              subst (λ (all : List Named). HasToldStates all w.earlier.states old) (sym anew.all)
+              (states_longer next.setup library.all (given (λ n. state_at n w.earlier.states)) old is.tells.states);
+        };
+        first = λ yes. absurd (let no : ⊥ = cc in no);
+      }
+    where
+      by_alone : (t : Bool) → m ≡ making_of t w → with_body setup_of_texts shelf place body m ≡ next_setup place (length body) w (setup_of_texts named)
+      by_alone true e = ap (with_body setup_of_texts shelf place body) e ∙ ap (second_by setup_of_texts place (length body) w) read
+      by_alone false e = ap (with_body setup_of_texts shelf place body) e ∙ ap (next_by setup_of_texts place (length body) w) read
+
+  pub renewed_damaged : (named : List (List ℕ × List ℕ)) → read_record body ≡ Some (renews named) → setup_of_texts named ≡ None → with_body setup_of_texts shelf place body m ≡ damaged place
+  renewed_damaged named read none = by_alone alone is.is ∙ ap (next_setup place (length body) w) none
+    where
+      by_alone : (t : Bool) → m ≡ making_of t w → with_body setup_of_texts shelf place body m ≡ next_setup place (length body) w (setup_of_texts named)
+      by_alone true e = ap (with_body setup_of_texts shelf place body) e ∙ ap (second_by setup_of_texts place (length body) w) read
+      by_alone false e = ap (with_body setup_of_texts shelf place body) e ∙ ap (next_by setup_of_texts place (length body) w) read
+
+  -- ---- a record that can't stand there
+
+  no_record : read_record body ≡ None → with_body setup_of_texts shelf place body m ≡ damaged place
+  no_record read = by_alone alone is.is
+    where
+      by_alone : (t : Bool) → m ≡ making_of t w → with_body setup_of_texts shelf place body m ≡ damaged place
+      by_alone true e = ap (with_body setup_of_texts shelf place body) e ∙ ap (second_by setup_of_texts place (length body) w) read
+      by_alone false e = ap (with_body setup_of_texts shelf place body) e ∙ ap (next_by setup_of_texts place (length body) w) read
+
+  -- a record of this kind may stand nowhere, or not behind others
+  out_of_place : (t : Bool) → Record → Type 0
+  out_of_place t (begins s named) = Unit {0}
+  out_of_place t (changes c state) = has_script (length library.setup) c ≡ false
+  out_of_place t (renews named) = ⊥
+  out_of_place t (draws number) = t ≡ false
+
+  pub misplaced : (r : Record) → read_record body ≡ Some r → may_stand alone (length library.setup) r ≡ false → ((named : List (List ℕ × List ℕ)) → r ≡ renews named → ⊥)
+      → with_body setup_of_texts shelf place body m ≡ damaged place
+  misplaced (begins s named) read off apart = by_alone alone is.is
+    where
+      by_alone : (t : Bool) → m ≡ making_of t w → with_body setup_of_texts shelf place body m ≡ damaged place
+      by_alone true e = ap (with_body setup_of_texts shelf place body) e ∙ ap (second_by setup_of_texts place (length body) w) read
+      by_alone false e = ap (with_body setup_of_texts shelf place body) e ∙ ap (next_by setup_of_texts place (length body) w) read
+  misplaced (changes c state) read off apart =
+      next_is place shelf body alone c state w m read is.is
+      ∙ ap (λ (t : Bool). if t then told_next place (length body) w c (told_in w.earlier w.book c state) else damaged place) (ap (λ (k : ℕ). has_script k c) many ∙ off)
+  misplaced (renews named) read off apart = absurd (apart named refl)
+  misplaced (draws number) read off apart = by_alone alone is.is off
+    where
+      by_alone : (t : Bool) → m ≡ making_of t w → t ≡ false → with_body setup_of_texts shelf place body m ≡ damaged place
+      by_alone true e not = absurd (let never : ⊥ = cc in never)
+      by_alone false e not = ap (with_body setup_of_texts shelf place body) e ∙ ap (next_by setup_of_texts place (length body) w) read
+
+  pub unread_record : read_record body ≡ None → with_body setup_of_texts shelf place body m ≡ damaged place
+  unread_record = no_record
+
+  -- ---- a record that tells a number
+
+  drawn_made : (number : ℕ) (new : kept.Book) → read_record body ≡ Some (draws number) → length body ≡ 9 → alone ≡ true → Reopens (λ b. record b { logged = number }) old new
+      → IsMadeAs shelf (place + 5 + length body + 1) false new library before (with_body setup_of_texts shelf place body m)
+  drawn_made number new read nine single again =
+      let start = is.first single in
+      let k = start.0 in
+      let f : File = record (first_file (14 + k) library.setup) { drawn = Some number } in
+      let b = beside_file (place + 1) w.book.file in
+      let book_is : book_of library b old ≡ (began shelf k library.setup).book = sym is.book ∙ ap (λ (x : Made). x.book) start.1 in
+      let at : place + 1 ≡ 14 + k + 0 = ap (λ (y : Book). y.length) book_is in
+      let long : 14 + k + 14 ≡ place + 5 + length body + 1 = omega (arith, at, nine) in
+      let file_is : record w.book.file { drawn = Some number } ≡ f = ap (λ (x : Made). record x.book.file { drawn = Some number }) start.1 in
+      let shelf_is : w.book.shelf ≡ shelf = ap (λ (x : Made). x.book.shelf) start.1 in
+      let whole : Made = with_drawn number w in
+      let whole_is : whole.book ≡ (first_of shelf f).book = (λ i. (first_of (shelf_is i) (file_is i)).book) in
+      record {
+        whole = whole;
+        is = by_alone alone is.is single;
+        book =
+            whole_is
+            ∙ (sym (ap (λ (y : Book). record (reopened (record y { logged = number })) { length = 14 + k + 14; file = record f { lines = [] } }) book_is)
+            ∙ (sym (ap (λ (y : Book). record y { length = 14 + k + 14; file = record f { lines = [] } }) (again.book library b))
+            ∙ (ap (λ (l : ℕ). book_of library (beside_file l (record f { lines = [] })) new) long
+            ∙ ap (λ (y : Book). book_of library (beside_file (place + 5 + length body + 1) y.file) new) (sym whole_is))));
+        tells = record { numbers = is.tells.numbers; known = is.tells.known; states = again.states (given (λ n. state_at n w.earlier.states)) library.all is.tells.states };
+        first = λ yes. absurd (let no : ⊥ = cc in no);
+      }
+    where
+      by_alone : (t : Bool) → m ≡ making_of t w → t ≡ true → with_body setup_of_texts shelf place body m ≡ made (with_drawn number w)
+      by_alone true e single = ap (with_body setup_of_texts shelf place body) e ∙ ap (second_by setup_of_texts place (length body) w) read
+      by_alone false e single = absurd (let never : ⊥ = cc in never)
+
+-- ---- a later record that tells no setup
+
+abbrev pub IsNine : List ℕ → Record → Type 0
+IsNine body (draws number) = length body ≡ 9
+IsNine body _ = Unit {0}
+
+pub later_made : (shelf place : ℕ) (body : List ℕ) (library : Library) (alone : Bool) (before after : InOrder (Unit {0})) (old new : kept.Book) (r : Record) → read_record body ≡ Some r
+    → IsNine body r → may_stand alone (length library.setup) r ≡ true → IsMadeOf library before r old (Some new) → Sees r before after
+    → (m : Making) → IsMadeAs shelf (place + 1) alone old library before m
+    → IsMadeAs shelf (place + 5 + length body + 1) false new library after (with_body setup_of_texts shelf place body m)
+later_made shelf place body library alone before after old new (begins s named) read nine stands redo sees m is = absurd (let not : ⊥ = cc in not)
+later_made shelf place body library alone before after old new (changes c state) read nine stands redo sees m is =
+    changed_made shelf place body library alone before old m is c state read stands after new redo sees
+later_made shelf place body library alone before after old new (renews named) read nine stands redo sees m is = absurd (let not : ⊥ = cc in not)
+later_made shelf place body library alone before after old new (draws number) read nine stands redo sees m is =
+    let made_so = drawn_made shelf place body library alone before old m is number new read nine stands redo.1 in
     record {
-      whole = retaken size c (landing n c names) x n;
-      is = is;
-      book =
-          ap (λ (p : Option (List TxName)). reopened (redone (rules_for size) c p n.book)) same
-          ∙ (ap (λ (y : Book). reopened (redone (rules_for size) c o y)) book
-          ∙ (lengthened (rules_for size) c o b
-          ∙ (ap (λ (y : Book). record y { length = place + 1 + (size + 5) }) (sym h)
-          ∙ ap (λ (l : ℕ). book_beside scripts l new) long)));
-      tells =
-          tells_then scripts c (landing n c names) x before after old new n.earlier tells
-          (subst (λ (p : Option (List TxName)). HasToldStates scripts (states_with p (number_in c) x n.earlier.states) new) (sym first) states) sees;
+      whole = made_so.whole;
+      is = made_so.is;
+      book = made_so.book;
+      tells = record { numbers = λ k. made_so.tells.numbers k ∙ sym (sees k); known = made_so.tells.known; states = made_so.tells.states };
+      first = made_so.first;
     }
 
-told_made : (scripts : List Named) (place size : ℕ) (c : Change) (x : Told) (before after : InOrder (Unit {0})) (old new : kept.Book) (n : Made)
-    → n.book ≡ book_beside scripts (place + 1) old → TellsOf scripts before old n.earlier
-    → (let b = book_beside scripts (place + 1) old in book_beside scripts (place + 1) new ≡ reopened (redone no_rules c (names_told (is_repeated (number_in c) (seen_by before)) b c x) b))
-    → HasToldStates scripts (told_states scripts (is_repeated (number_in c) (seen_by before)) c x old n.earlier.states) new → (x ≡ misread → ⊥) → SeesNumber (number_in c) before after
-    → (m : Making) → m ≡ told_next place size n c x → IsMadeAs scripts (place + 5 + size + 1) new after m
-told_made scripts place size c unread before after old new n book tells h states good sees m is =
-    named_made scripts place size c [] unread before after old new n book tells h states sees m is
-told_made scripts place size c misread before after old new n book tells h states good sees m is = absurd (good refl)
-told_made scripts place size c (told d) before after old new n book tells h states good sees m is =
-    named_made scripts place size c (inside_of d.frames) (told d) before after old new n book tells h states sees m is
-
--- what the body of a record makes of what was made
-next_is : (scripts : List Named) (shelf place : ℕ) (body : List ℕ) (c : Change) (state : Option (List ℕ)) (x : Told) (m : Making) (n : Made) → read_record body ≡ Some (changes c state)
-    → has_script (length scripts) c ≡ true → m ≡ made n → books.told_in n.earlier n.book c state ≡ x → with_body scripts shelf place body m ≡ told_next place (length body) n c x
-next_is scripts shelf place body c state x m n read later is its =
-    ap (with_body scripts shelf place body) is
-    ∙ (ap (next_by scripts place (length body) n) read
-    ∙ (ap (λ (t : Bool). if t then told_next place (length body) n c (books.told_in n.earlier n.book c state) else damaged place) later
-    ∙ ap (told_next place (length body) n c) its))
-
-pub later_made : (scripts : List Named) (shelf place : ℕ) (body : List ℕ) (r : Record) → read_record body ≡ Some r → is_later (length scripts) r ≡ true
-    → (before after : InOrder (Unit {0})) (old new : kept.Book) → IsRemade scripts before r old (Some new) → Sees r before after
-    → (m : Making) → IsMadeAs scripts (place + 1) old before m → IsMadeAs scripts (place + 5 + length body + 1) new after (with_body scripts shelf place body m)
-later_made scripts shelf place body (begins s named) read later before after old new h sees m is = absurd (let not : ⊥ = cc in not)
-later_made scripts shelf place body (changes c state) read later before after old new h sees m is =
-    let earlier = is.whole.earlier in
-    let x = told_in scripts earlier old c state in
-    let made_so = h earlier is.tells in
-    told_made scripts place (length body) c x before after old new is.whole is.book is.tells (made_so.made (place + 1)) made_so.told made_so.read sees (with_body scripts shelf place body m)
-    (next_is scripts shelf place body c state x m is.whole read later is.is (told_there scripts (place + 1) earlier old is.whole.book c state is.book))
-
-pub later_damaged : (scripts : List Named) (shelf place : ℕ) (body : List ℕ) (r : Record) → read_record body ≡ Some r → is_later (length scripts) r ≡ true
-    → (before : InOrder (Unit {0})) (old : kept.Book) → IsRemade scripts before r old None
-    → (m : Making) → IsMadeAs scripts (place + 1) old before m → with_body scripts shelf place body m ≡ damaged place
-later_damaged scripts shelf place body (begins s named) read later before old h m is = absurd (let not : ⊥ = cc in not)
-later_damaged scripts shelf place body (changes c state) read later before old h m is =
-    next_is scripts shelf place body c state misread m is.whole read later is.is (told_there scripts (place + 1) is.whole.earlier old is.whole.book c state is.book ∙ h is.whole.earlier is.tells)
-
--- a book that was made goes on to be orderly, whatever its journal's length is
-relength : (m : recovery.Made) (l : ℕ) → IsOrderlyMade m → IsOrderlyMade (record m { book = record m.book { length = l } })
-relength m l h = record { instances = h.instances; counted = h.counted; again = ap (λ (b : Book). record b { length = l }) h.again }
-
-shortened : (c : Change) (o : Option (List TxName)) (b : Book) → reopened (redone no_rules c o b) ≡ record (reopened (redone (rules_for 0) c o b)) { length = b.length }
-shortened c None b = refl
-shortened c (Some names) b = refl
-
-named_kept : (scripts : List Named) (shelf : ℕ) (c : Change) (names : List TxName) (before after : InOrder (Unit {0})) (old new : kept.Book) → IsUnderWay scripts shelf before old
-    → book_beside scripts 0 new ≡ reopened (redone no_rules c (landing (seen_in scripts 0 old before) c names) (book_beside scripts 0 old)) → SeesNumber (number_in c) before after
-    → HasPlaces scripts new → (earlier : Earlier) × TellsOf scripts after new earlier → IsUnderWay scripts shelf after new
-named_kept scripts shelf c names before after old new way h sees placed tells =
-    let m = seen_in scripts 0 old before in
-    let o = landing m c names in
-    let whole : recovery.Made = plain (retaken 0 c o unread m) in
-    record {
-      placed = placed;
-      shelf_is = ap (λ (b : Book). b.shelf) h ∙ (redone_shelf no_rules c o m.book ∙ way.shelf_is);
-      orderly =
-          orderly_alike (made_in scripts 0 new after) (record whole { book = record whole.book { length = 0 } }) (h ∙ shortened c o m.book) sees
-          (relength whole 0 (retaken_orderly 0 c names unread m way.orderly));
-      tells = tells;
-    }
-
-told_kept : (scripts : List Named) (shelf : ℕ) (c : Change) (x : Told) (before after : InOrder (Unit {0})) (old new : kept.Book) → IsUnderWay scripts shelf before old
-    → book_beside scripts 0 new ≡ reopened (redone no_rules c (names_told (is_repeated (number_in c) (seen_by before)) (book_beside scripts 0 old) c x) (book_beside scripts 0 old))
-    → (x ≡ misread → ⊥) → SeesNumber (number_in c) before after → HasPlaces scripts new → (earlier : Earlier) × TellsOf scripts after new earlier
-    → IsUnderWay scripts shelf after new
-told_kept scripts shelf c unread before after old new way h good sees placed tells = named_kept scripts shelf c [] before after old new way h sees placed tells
-told_kept scripts shelf c misread before after old new way h good sees placed tells = absurd (good refl)
-told_kept scripts shelf c (told d) before after old new way h good sees placed tells = named_kept scripts shelf c (inside_of d.frames) before after old new way h sees placed tells
-
-pub later_kept : (scripts : List Named) (shelf : ℕ) (r : Record) → is_later (length scripts) r ≡ true → (before after : InOrder (Unit {0})) (old new : kept.Book) → IsUnderWay scripts shelf before old
-    → IsRemade scripts before r old (Some new) → Sees r before after → HasPlaces scripts new → IsUnderWay scripts shelf after new
-later_kept scripts shelf (begins s named) later before after old new way h sees placed = absurd (let not : ⊥ = cc in not)
-later_kept scripts shelf (changes c state) later before after old new way h sees placed =
-    let earlier = way.tells.0 in
-    let x = told_in scripts earlier old c state in
-    let made_so = h earlier way.tells.1 in
-    let o = names_told (is_repeated (number_in c) (seen_by before)) (book_beside scripts 0 old) c x in
-    told_kept scripts shelf c x before after old new way (made_so.made 0) made_so.read sees placed
-    (then_told c o x earlier, tells_then scripts c o x before after old new earlier way.tells.1 made_so.told sees)
+pub later_damaged : (shelf place : ℕ) (body : List ℕ) (library : Library) (alone : Bool) (before : InOrder (Unit {0})) (old : kept.Book) (r : Record) → read_record body ≡ Some r
+    → may_stand alone (length library.setup) r ≡ true → IsMadeOf library before r old None
+    → (m : Making) → IsMadeAs shelf (place + 1) alone old library before m → with_body setup_of_texts shelf place body m ≡ damaged place
+later_damaged shelf place body library alone before old (begins s named) read stands redo m is = absurd (let not : ⊥ = cc in not)
+later_damaged shelf place body library alone before old (changes c state) read stands redo m is =
+    changed_damaged shelf place body library alone before old m is c state read stands redo.0 redo.1
+later_damaged shelf place body library alone before old (renews named) read stands redo m is = absurd (let not : ⊥ = cc in not)
+later_damaged shelf place body library alone before old (draws number) read stands redo m is = absurd (let yes : false ≡ true = redo.1.0 in let not : ⊥ = cc in not)
 
 -- ---- the first record
 
-nothing_tells : (scripts : List Named) (b : kept.Book) (seen : InOrder (Unit {0})) → seen_by seen ≡ [] → HasToldStates scripts [] b → TellsOf scripts seen b nothing_told
-nothing_tells scripts b seen none states = record {
+pub nothing_tells : (library : Library) (b : kept.Book) (seen : InOrder (Unit {0})) → seen_by seen ≡ [] → HasToldStates library.all [] b → TellsOf library seen b nothing_told
+nothing_tells library b seen none states = record {
   numbers = λ k. ap (is_one k) (sym none);
   known = λ n d e. absurd (let not : ⊥ = cc in not);
   states = states;
 }
 
-pub first_made : OnlyItsBeginBegins → (scripts : List Named) (shelf place : ℕ) (body : List ℕ) (r : Record) → read_record body ≡ Some r → IsBodyOf body r → r ≡ begin_of shelf scripts
-    → (b : kept.Book) → IsEmpty shelf b → HasToldStates scripts [] b → (seen : InOrder (Unit {0})) (m : Making) → IsNothing (place + 1) seen m
-    → IsMadeAs scripts (place + 5 + length body + 1) b seen (with_body scripts shelf place body m)
-first_made law scripts shelf place body r read spelled begin b empty states seen m is =
-    let rules = rules_over scripts shelf in
-    let size : length body ≡ length (body_of (begin_of shelf scripts)) = ap length spelled.spelled ∙ ap (λ (x : Record). length (body_of x)) begin in
-    let long : begun_length shelf scripts ≡ place + 5 + length body + 1 = let nine = is.long in omega (arith, size, nine) in
-    record {
-      whole = nothing_made rules scripts shelf;
-      is =
-          ap (with_body scripts shelf place body) is.is
-          ∙ (ap (first_by scripts shelf place) (read ∙ ap (λ (x : Record). Some x) begin) ∙ (law scripts shelf place shelf (texts_of scripts)).0 refl);
-      book = sym (empty scripts rules) ∙ ap (λ (l : ℕ). book_beside scripts l b) long;
-      tells = nothing_tells scripts b seen is.none states;
-    }
-
-pub first_kept : (scripts : List Named) (shelf : ℕ) (b : kept.Book) → IsEmpty shelf b → HasPlaces scripts b → HasToldStates scripts [] b → (seen : InOrder (Unit {0})) → seen_by seen ≡ [] → IsUnderWay scripts shelf seen b
-first_kept scripts shelf b empty placed states seen none = record {
-  placed = placed;
-  shelf_is = ap (λ (x : Book). x.shelf) (empty scripts no_rules);
-  orderly =
-      orderly_alike (made_in scripts 0 b seen) (recovery.nothing_made no_rules scripts shelf) (empty scripts no_rules) (λ k. ap (is_one k) none) ((made_orderly no_rules).0 scripts shelf);
-  tells = (nothing_told, nothing_tells scripts b seen none states);
+-- rules under which a file with its first record alone is so long
+abbrev long_rules : (length : ℕ) → Rules
+long_rules n = record {
+  fuel = 0;
+  life = 0;
+  instances = 0;
+  pages = 0;
+  journal = Some (record { begun = λ scripts. n; renewed = λ scripts. 0; length_of = λ b c. 0 });
 }
+
+same_number : (n k : ℕ) → n ≡ k → (n == k) ≡ true
+same_number n k e = grind (arith, nat_tests, e)
+
+other_number : (n k : ℕ) → (n ≡ k → ⊥) → (n == k) ≡ false
+other_number n k e = grind (arith, nat_tests, e)
+
+module _ (shelf place : ℕ) (body : List ℕ) (number : ℕ) (named : List (List ℕ × List ℕ)) (read : read_record body ≡ Some (begins number named)) (seen : InOrder (Unit {0}))
+    (m : Making) (is : IsNothing (place + 1) seen m) where
+  first_comes : (o : Option (List Named)) → setup_of_texts named ≡ o → with_body setup_of_texts shelf place body m ≡ first_setup shelf place (length body) number o
+  first_comes o reads =
+      ap (with_body setup_of_texts shelf place body) is.is ∙ (ap (first_by setup_of_texts shelf place (length body)) read ∙ ap (first_setup shelf place (length body) number) reads)
+
+  pub first_made : (b : kept.Book) (library : Library) → number ≡ shelf → IsFirst shelf named b library
+      → IsMadeAs shelf (place + 5 + length body + 1) true b library seen (with_body setup_of_texts shelf place body m)
+  first_made b library same first =
+      let n = length body in
+      let nine = is.long in
+      let long : 14 + n ≡ place + 5 + n + 1 = omega (arith, nine) in
+      let f = first_file (14 + n) library.setup in
+      let none : 14 + n + 0 ≡ 14 + n = omega arith in
+      record {
+        whole = began shelf n library.setup;
+        is =
+            first_comes (Some library.setup) first.read
+            ∙ ap (λ (t : Bool). if t then begun (began shelf n library.setup) else other place) (same_number number shelf same);
+        book =
+            ap (λ (l : ℕ). record (first_of shelf f).book { length = l }) none
+            ∙ (sym (first.empty library (long_rules (14 + n))) ∙ ap (λ (l : ℕ). book_of library (beside_file l f) b) long);
+        tells = nothing_tells library b seen is.none (first.told (λ n. state_at n []) library.all);
+        first = λ _. (n, refl);
+      }
+
+  pub first_other : (number ≡ shelf → ⊥) → (scripts : List Named) → setup_of_texts named ≡ Some scripts → with_body setup_of_texts shelf place body m ≡ other place
+  first_other differs scripts reads =
+      first_comes (Some scripts) reads ∙ ap (λ (t : Bool). if t then begun (began shelf (length body) scripts) else other place) (other_number number shelf differs)
+
+  pub first_damaged : setup_of_texts named ≡ None → with_body setup_of_texts shelf place body m ≡ damaged place
+  first_damaged none = first_comes None none
+
+abbrev pub IsNoBegin : Record → Type 0
+IsNoBegin (begins s named) = ⊥
+IsNoBegin _ = Unit {0}
+
+pub first_unread : (shelf place : ℕ) (body : List ℕ) (seen : InOrder (Unit {0})) (m : Making) → IsNothing (place + 1) seen m → read_record body ≡ None → with_body setup_of_texts shelf place body m ≡ damaged place
+first_unread shelf place body seen m is read = ap (with_body setup_of_texts shelf place body) is.is ∙ ap (first_by setup_of_texts shelf place (length body)) read
+
+pub first_no_begin : (shelf place : ℕ) (body : List ℕ) (seen : InOrder (Unit {0})) (m : Making) → IsNothing (place + 1) seen m → (r : Record) → read_record body ≡ Some r → IsNoBegin r
+    → with_body setup_of_texts shelf place body m ≡ damaged place
+first_no_begin shelf place body seen m is (begins s named) read h = absurd h
+first_no_begin shelf place body seen m is (changes c state) read h = ap (with_body setup_of_texts shelf place body) is.is ∙ ap (first_by setup_of_texts shelf place (length body)) read
+first_no_begin shelf place body seen m is (renews named) read h = ap (with_body setup_of_texts shelf place body) is.is ∙ ap (first_by setup_of_texts shelf place (length body)) read
+first_no_begin shelf place body seen m is (draws number) read h = ap (with_body setup_of_texts shelf place body) is.is ∙ ap (first_by setup_of_texts shelf place (length body)) read

@@ -1,90 +1,113 @@
 -- What a reader has made of all records.
-use Rattle.std.proofs.Common.{◌≡◌, ◌∙◌, ap, sym, subst, ℕ, ◌+◌, List, [], ◌∷◌, ◌++◌, length, Option, Some, None, refl, arith, length-append, append_assoc}
-use Rattle.script_nodes.specs.Setup.{Named}
-use Rattle.script_nodes.specs.Views.{scripts_of}
-use Rattle.script_nodes.specs.declared.setup.Setup.{Setup}
+use Rattle.std.specs.List.{AllByRecursion}
+use Rattle.std.proofs.Common.{◌≡◌, ◌∙◌, ap, sym, subst, ℕ, zero, suc, ◌+◌, ◌<◌, map, Bool, true, false, List, [], ◌∷◌, ◌++◌, length, Option, Some, None, slice_get, refl, arith, length-append, append_assoc}
+use Rattle.script_nodes.specs.Setup.{Named, Library}
+use Rattle.script_nodes.specs.Views.{library_of}
 use Rattle.page_journal.specs.Records.{framed, frames, at_rest}
 use Rattle.page_journal.specs.Taken.{TakesAll}
 use Rattle.page_journal.proofs.Frames.{length-framed, length-at_rest}
-use Rattle.replay_spec.specs.Book.{Change, opens, extends, ends, finishes, sweeps, Book, reopened}
+use Rattle.replay_spec.specs.Book.{Change, opens, extends, ends, finishes, sweeps, File, Instance, Book, reopened}
 use Rattle.replay_spec.specs.Invariant.{IsOrderly}
 use Rattle.instance_book.specs.declared.in_order.InOrder.{InOrder}
 use Rattle.instance_book.specs.declared.book.Book as kept
-use Rattle.instance_book.specs.Told.{book_beside}
-use Rattle.journal_records.specs.Records.{Record, begins, changes}
+use Rattle.instance_book.specs.declared.numbered.Numbered.{Numbered}
+use Rattle.instance_book.specs.declared.instance.KeptInstance.{KeptInstance}
+use Rattle.instance_book.specs.Places.{IsPlaced}
+use Rattle.instance_book.specs.Views.{no_journal, script_in, instance_of, instances_of, book_of}
+use Rattle.instance_book.proofs.Seen.{all_at}
+use Rattle.instance_book.specs.Admissions.{book_under}
+use Rattle.journal_records.specs.Records.{Record, begins, changes, renews, draws}
 use Rattle.journal_records.specs.Reading.{read_record}
-use Rattle.journal_spec.specs.Before.{Earlier, state_at}
-use Rattle.journal_spec.specs.Retaking as books
-use Rattle.journal_spec.specs.Retaking.{Told, unread, misread, told}
+use Rattle.setup_reader.specs.Texts.{setup_of_texts}
+use Rattle.journal_spec.specs.Before.{Earlier, state_at, Made}
+use Rattle.journal_spec.specs.Retaking.{Told, unread, misread, told, told_in}
 use Rattle.journal_spec.specs.Lengths.{state_by}
-use Rattle.journal_spec.specs.Making.{Making, nothing, made, with_body, with_bodies, book_of}
+use Rattle.journal_spec.specs.Making.{Making, nothing, with_body, with_bodies, made_in as made_in_making, book_of as made_of_bodies}
 use Rattle.journal_spec.specs.Owning.{IsOwnState, IsOwnRecord, AreOwn}
-use Rattle.journal_spec.specs.Keeping.{AreAllBytes, AreWhole, HasWholeScripts}
+use Rattle.journal_spec.specs.Reading.{AreAllBytes}
 use Rattle.journal_spec.specs.Spelling.{IsInRange}
+use Rattle.journal_spec.specs.Whole.{AreWhole, IsWhole, HasWholeScripts}
 use Rattle.journal_spec.specs.Laws.{BodiesMakeFittingBooks}
 use Rattle.journal_spec.proofs.Makings.{with_push}
 use Rattle.book_recovery.specs.declared.found.Found.{Found}
 use Rattle.book_recovery.specs.declared.found.Found.TheVariants as found
 use Rattle.book_recovery.specs.declared.reader.Reader.{Reader}
-use Rattle.book_recovery.specs.Found.{Finds, IsFoundInOrder, HasStates}
-use Rattle.book_recovery.specs.Reading.{seen_by, Gives, IsUnderWay, IsKept, IsOwnFor, IsTaken}
+use Rattle.book_recovery.specs.Found.{beside_file, Finds, IsFoundInOrder, HasStates}
+use Rattle.book_recovery.specs.Reading.{seen_by, making_of, Gives, GivesWith, IsUnderWay, IsKept, IsOwnFor, IsTaken}
 use Rattle.book_recovery.proofs.Made.{told_beside}
 
-pub all_taken : (setup : Setup) (shelf place : ℕ) (bodies : List (List ℕ)) (old new : Reader) → TakesAll IsTaken old place bodies new → old.setup.now ≡ setup → old.shelf ≡ shelf
-    → (m : Making) → Gives (scripts_of setup) (place + 1) old.found old.seen m
-    → Gives (scripts_of setup) (place + length (frames bodies) + 1) new.found new.seen (with_bodies (scripts_of setup) shelf place bodies m)
-all_taken setup shelf place [] old new t same number m is =
+-- a reader takes one body for a shelf of its number
+one_given : (shelf place : ℕ) (body : List ℕ) (old new : Reader) → old.shelf ≡ shelf → IsTaken old place body new
+    → (m : Making) → Gives shelf (place + 1) old.alone old.found old.seen m
+    → Gives shelf (place + 5 + length body + 1) new.alone new.found new.seen (with_body setup_of_texts shelf place body m)
+one_given shelf place body old new number t =
+    subst (λ (k : ℕ). GivesWith k place body old.alone old.found new.alone new.found old.seen new.seen) number t.gives
+
+all_taken : (shelf place : ℕ) (bodies : List (List ℕ)) (old new : Reader) → TakesAll IsTaken old place bodies new → old.shelf ≡ shelf
+    → (m : Making) → Gives shelf (place + 1) old.alone old.found old.seen m
+    → Gives shelf (place + length (frames bodies) + 1) new.alone new.found new.seen (with_bodies setup_of_texts shelf place bodies m)
+all_taken shelf place [] old new t number m is =
     let here : place + 1 ≡ place + 0 + 1 = omega arith in
-    subst (λ (r : Reader). Gives (scripts_of setup) (place + 0 + 1) r.found r.seen m) (sym t) (subst (λ (n : ℕ). Gives (scripts_of setup) n old.found old.seen m) here is)
-all_taken setup shelf place (body ∷ bodies) old new t same number m is =
+    subst (λ (r : Reader). Gives shelf (place + 0 + 1) r.alone r.found r.seen m) (sym t) (subst (λ (n : ℕ). Gives shelf n old.alone old.found old.seen m) here is)
+all_taken shelf place (body ∷ bodies) old new t number m is =
     let mid = t.0 in
-    let next = with_body (scripts_of setup) shelf place body m in
+    let next = with_body setup_of_texts shelf place body m in
     let there : place + 5 + length body + length (frames bodies) + 1 ≡ place + length (frames (body ∷ bodies)) + 1 = omega (arith, length-append (framed body) (frames bodies), length-framed body) in
-    let gives : (s : Setup) (n : ℕ) → old.setup.now ≡ s → old.shelf ≡ n → Gives (scripts_of s) (place + 1) old.found old.seen m
-    → Gives (scripts_of s) (place + 5 + length body + 1) mid.found mid.seen (with_body (scripts_of s) n place body m) =
-    λ s n e f. subst (λ (u : Setup). Gives (scripts_of u) (place + 1) old.found old.seen m → Gives (scripts_of u) (place + 5 + length body + 1) mid.found mid.seen (with_body (scripts_of u) n place body m)) e
-    (subst (λ (k : ℕ). Gives (scripts_of old.setup.now) (place + 1) old.found old.seen m → Gives (scripts_of old.setup.now) (place + 5 + length body + 1) mid.found mid.seen (with_body (scripts_of old.setup.now) k place body m)) f
-    (t.1.gives m)) in
-    subst (λ (n : ℕ). Gives (scripts_of setup) n new.found new.seen (with_bodies (scripts_of setup) shelf (place + 5 + length body) bodies next)) there
-    (all_taken setup shelf (place + 5 + length body) bodies mid new t.2 (t.1.same.setup ∙ same) (t.1.same.shelf ∙ number) next (gives setup shelf same number is))
+    subst (λ (n : ℕ). Gives shelf n new.alone new.found new.seen (with_bodies setup_of_texts shelf (place + 5 + length body) bodies next)) there
+    (all_taken shelf (place + 5 + length body) bodies mid new t.2 (t.1.shelf ∙ number) next (one_given shelf place body old mid number t.1 m is))
 
 pub all_bytes : (place : ℕ) (bodies : List (List ℕ)) (old new : Reader) → TakesAll IsTaken old place bodies new → AreAllBytes bodies
 all_bytes place [] old new t = tt
 all_bytes place (body ∷ bodies) old new t = (t.1.bytes, all_bytes (place + 5 + length body) bodies t.0 new t.2)
 
-all_same : (place : ℕ) (bodies : List (List ℕ)) (old new : Reader) → TakesAll IsTaken old place bodies new → (new.setup.now ≡ old.setup.now) × (new.shelf ≡ old.shelf)
-all_same place [] old new t = (ap (λ (r : Reader). r.setup.now) t, ap (λ (r : Reader). r.shelf) t)
-all_same place (body ∷ bodies) old new t =
-    let rest = all_same (place + 5 + length body) bodies t.0 new t.2 in (rest.0 ∙ t.1.same.setup, rest.1 ∙ t.1.same.shelf)
+all_same : (place : ℕ) (bodies : List (List ℕ)) (old new : Reader) → TakesAll IsTaken old place bodies new → new.shelf ≡ old.shelf
+all_same place [] old new t = ap (λ (r : Reader). r.shelf) t
+all_same place (body ∷ bodies) old new t = all_same (place + 5 + length body) bodies t.0 new t.2 ∙ t.1.shelf
 
 -- from no record on
-made_of_all : (setup : Setup) (shelf : ℕ) (bodies : List (List ℕ)) (old new : Reader) → old.setup.now ≡ setup → old.shelf ≡ shelf → old.found ≡ found.Nothing → seen_by old.seen ≡ []
-    → TakesAll IsTaken old 8 bodies new → Gives (scripts_of setup) (length (at_rest bodies)) new.found new.seen (book_of (scripts_of setup) shelf bodies)
-made_of_all setup shelf bodies old new same number empty none t =
-    let start : Gives (scripts_of setup) 9 old.found old.seen nothing =
-    subst (λ (f : Found). Gives (scripts_of setup) 9 f old.seen nothing) (sym empty) (record { is = refl; long = refl; none = none }) in
+at_first : (shelf : ℕ) (old : Reader) → old.found ≡ found.Nothing → seen_by old.seen ≡ [] → Gives shelf 9 old.alone old.found old.seen nothing
+at_first shelf old empty none = subst (λ (f : Found). Gives shelf 9 old.alone f old.seen nothing) (sym empty) (record { is = refl; long = refl; none = none })
+
+made_of_all : (shelf : ℕ) (bodies : List (List ℕ)) (old new : Reader) → old.shelf ≡ shelf → old.found ≡ found.Nothing → seen_by old.seen ≡ []
+    → TakesAll IsTaken old 8 bodies new → Gives shelf (length (at_rest bodies)) new.alone new.found new.seen (made_of_bodies setup_of_texts shelf bodies)
+made_of_all shelf bodies old new number empty none t =
     let long : 8 + length (frames bodies) + 1 ≡ length (at_rest bodies) = omega (arith, length-at_rest bodies) in
-    subst (λ (n : ℕ). Gives (scripts_of setup) n new.found new.seen (book_of (scripts_of setup) shelf bodies)) long (all_taken setup shelf 8 bodies old new t same number nothing start)
+    subst (λ (n : ℕ). Gives shelf n new.alone new.found new.seen (made_of_bodies setup_of_texts shelf bodies)) long
+    (all_taken shelf 8 bodies old new t number nothing (at_first shelf old empty none))
 
-again_at : (scripts : List Named) (shelf : ℕ) (seen : InOrder (Unit {0})) (b : kept.Book) → IsUnderWay scripts shelf seen b → (n : ℕ) → book_beside scripts n b ≡ reopened (book_beside scripts n b)
-again_at scripts shelf seen b way n = ap (λ (x : Book). record x { length = n }) way.orderly.again
+-- what was kept of a reader for a shelf of its number, and that it is what the records make
+pub taken_all : (shelf : ℕ) (bodies : List (List ℕ)) (old new : Reader) → old.shelf ≡ shelf → old.found ≡ found.Nothing → seen_by old.seen ≡ []
+    → TakesAll IsTaken old 8 bodies new → IsKept new.shelf new.alone new.seen new.found
+    → IsKept shelf new.alone new.seen new.found × Gives shelf (length (at_rest bodies)) new.alone new.found new.seen (made_of_bodies setup_of_texts shelf bodies)
+taken_all shelf bodies old new number empty none t sound =
+    (subst (λ (n : ℕ). IsKept n new.alone new.seen new.found) (all_same 8 bodies old new t ∙ number) sound, made_of_all shelf bodies old new number empty none t)
 
-pub finds : (scripts : List Named) (shelf n : ℕ) (f : Found) (seen : InOrder (Unit {0})) (m : Making) → IsKept scripts shelf seen f → Gives scripts n f seen m → Finds scripts shelf n f m
-finds scripts shelf n found.Nothing seen m way is = is.is
-finds scripts shelf n (found.Made b) seen m way is =
-    let again = again_at scripts shelf seen b way n in
-    record {
-      shelf_is = way.shelf_is;
-      book = (is.whole.earlier, is.is ∙ ap (λ (x : Book). made (record { book = x; earlier = is.whole.earlier })) (is.book ∙ again));
-      told = is.tells.states;
-      again = again;
-    }
-finds scripts shelf n (found.Damaged place) seen m way is = is
-finds scripts shelf n (found.Other place) seen m way is = is
-finds scripts shelf n found.Memory seen m way is = tt
+-- ---- what is found
 
-orderly_beside : (scripts : List Named) (k n : ℕ) (b : kept.Book) → IsOrderly (book_beside scripts k b) → IsOrderly (book_beside scripts n b)
-orderly_beside scripts k n b h = record {
+again_at : (shelf : ℕ) (alone : Bool) (seen : InOrder (Unit {0})) (b : kept.Book) (library : Library) → IsUnderWay shelf alone seen b library
+    → (n : ℕ) (f : File) → book_of library (beside_file n f) b ≡ reopened (book_of library (beside_file n f) b)
+again_at shelf alone seen b library way n f = ap (λ (x : Book). record x { length = n; file = f }) way.orderly.again
+
+is_made : (alone : Bool) (w : Made) → made_in_making (making_of alone w) ≡ Some w
+is_made true w = refl
+is_made false w = refl
+
+pub finds : (shelf n : ℕ) (alone : Bool) (f : Found) (seen : InOrder (Unit {0})) (m : Making) → IsKept shelf alone seen f → Gives shelf n alone f seen m → Finds shelf n f m
+finds shelf n alone found.Nothing seen m way is = is.is
+finds shelf n alone (found.Made b library) seen m way is = record {
+  whole = is.whole;
+  is = ap made_in_making is.is ∙ is_made alone is.whole;
+  shelf_is = way.shelf_is;
+  book = is.book;
+  told = is.tells.states;
+  again = is.book ∙ (again_at shelf alone seen b (library_of library) way n is.whole.book.file ∙ ap (λ (x : Book). reopened x) (sym is.book));
+}
+finds shelf n alone (found.Damaged place) seen m way is = is
+finds shelf n alone (found.Other place) seen m way is = is
+finds shelf n alone found.Memory seen m way is = tt
+
+orderly_beside : (library : Library) (n k : ℕ) (f g : File) (b : kept.Book) → IsOrderly (book_of library (beside_file n f) b) → IsOrderly (book_of library (beside_file k g) b)
+orderly_beside library n k f g b h = record {
   below = h.below;
   different = h.different;
   doubted = h.doubted;
@@ -93,27 +116,52 @@ orderly_beside scripts k n b h = record {
   doubt = h.doubt;
 }
 
-pub in_order : BodiesMakeFittingBooks → (scripts : List Named) (shelf : ℕ) (bodies : List (List ℕ)) → AreWhole scripts → AreAllBytes bodies → (n : ℕ) (f : Found) (seen : InOrder (Unit {0}))
-    → IsKept scripts shelf seen f → Gives scripts n f seen (book_of scripts shelf bodies) → IsFoundInOrder scripts shelf f
-in_order law scripts shelf bodies whole bytes n found.Nothing seen way is = tt
-in_order law scripts shelf bodies whole bytes n (found.Made b) seen way is =
-    let fits = law scripts shelf bodies is.whole is.is in
-    let good = fits.recoverable whole in
-    let orderly : IsOrderly (book_beside scripts n b) = subst IsOrderly is.book good.orderly in
-    let scripts_are : HasWholeScripts (book_beside scripts n b) = subst HasWholeScripts is.book good.whole in
-    let range : IsInRange (book_beside scripts n b) = subst IsInRange is.book (fits.range bytes) in
+-- each script of its instances can be run
+at_place : (all : List Named) (k : ℕ) → k < length all → AreWhole all → IsWhole (script_in all k)
+at_place all k low whole = whole k (script_in all k) (slice_get_or all k low)
+  where
+    slice_get_or : (xs : List Named) (k : ℕ) → k < length xs → slice_get xs k ≡ Some (script_in xs k)
+    slice_get_or [] k low = absurd (omega (arith, low))
+    slice_get_or (x ∷ xs) zero low = refl
+    slice_get_or (x ∷ xs) (suc k) low = slice_get_or xs k (omega (arith, low))
+
+each_whole : (all : List Named) → AreWhole all → (xs : List (Numbered KeptInstance)) → AllByRecursion (IsPlaced all) xs → AllByRecursion (λ (i : Instance). IsWhole i.script) (map (instance_of all) xs)
+each_whole all whole [] placed = tt
+each_whole all whole (x ∷ xs) placed = (at_place all x.item.script placed.0 whole, each_whole all whole xs placed.1)
+
+whole_by : (shelf : ℕ) (alone : Bool) (seen : InOrder (Unit {0})) (b : kept.Book) (library : Library) → IsUnderWay shelf alone seen b library → HasWholeScripts (book_under library b)
+whole_by shelf alone seen b library way = record {
+  setup = way.scripts.present;
+  instances = λ k i found.
+      all_at (λ (j : Instance). IsWhole j.script) (λ (j : Instance). j.number) k (instances_of library.all b.instances) i
+      (each_whole library.all way.scripts.whole b.instances.things.items way.placed) found;
+}
+
+pub in_order : BodiesMakeFittingBooks → (shelf : ℕ) (bodies : List (List ℕ)) → AreAllBytes bodies → (n : ℕ) (alone : Bool) (f : Found) (seen : InOrder (Unit {0})) → IsKept shelf alone seen f
+    → Gives shelf n alone f seen (made_of_bodies setup_of_texts shelf bodies)
+    → IsFoundInOrder shelf f
+in_order law shelf bodies bytes n alone found.Nothing seen way is = tt
+in_order law shelf bodies bytes n alone (found.Made b rust) seen way is =
+    let library = library_of rust in
+    let fits = law setup_of_texts shelf bodies is.whole (ap made_in_making is.is ∙ is_made alone is.whole) in
+    let there = whole_by shelf alone seen b library way in
+    let here : HasWholeScripts (book_of library (beside_file n is.whole.book.file) b) = record { setup = there.setup; instances = there.instances } in
+    let good = fits.recoverable (subst HasWholeScripts (sym is.book) here) in
+    let orderly : IsOrderly (book_of library (beside_file n is.whole.book.file) b) = subst IsOrderly is.book good.orderly in
+    let range : IsInRange (book_of library (beside_file n is.whole.book.file) b) = subst IsInRange is.book (fits.range bytes) in
     record {
       placed = way.placed;
       kept = ((λ k. state_at k way.tells.0.states), way.tells.1.states);
       shelf_is = way.shelf_is;
-      orderly = λ k. orderly_beside scripts n k b orderly;
-      whole = λ k. record { setup = scripts_are.setup; instances = scripts_are.instances };
-      range = λ k. record { drawn = range.drawn; clock = range.clock; doubt = range.doubt };
-      again = again_at scripts shelf seen b way;
+      read = way.scripts.read;
+      orderly = λ k g. orderly_beside library n k is.whole.book.file g b orderly;
+      whole = λ k g. record { setup = there.setup; instances = there.instances };
+      range = λ k g. record { drawn = range.drawn; clock = range.clock; doubt = range.doubt };
+      again = again_at shelf alone seen b library way;
     }
-in_order law scripts shelf bodies whole bytes n (found.Damaged place) seen way is = tt
-in_order law scripts shelf bodies whole bytes n (found.Other place) seen way is = tt
-in_order law scripts shelf bodies whole bytes n found.Memory seen way is = tt
+in_order law shelf bodies bytes n alone (found.Damaged place) seen way is = tt
+in_order law shelf bodies bytes n alone (found.Other place) seen way is = tt
+in_order law shelf bodies bytes n alone found.Memory seen way is = tt
 
 -- ---- where each record is an own one
 
@@ -122,94 +170,61 @@ frames_behind [] body = omega (arith, length-append (framed body) [], length-fra
 frames_behind (first ∷ front) body =
     omega (arith, length-append (framed first) (frames (front ++ body ∷ [])), length-append (framed first) (frames front), frames_behind front body)
 
--- it does not look at the length of the journal
-state_beside : (scripts : List Named) (k l : ℕ) (b : kept.Book) (c : Change) → state_by (book_beside scripts k b) c ≡ state_by (book_beside scripts l b) c
-state_beside scripts k l b (opens o) = refl
-state_beside scripts k l b (extends x) = refl
-state_beside scripts k l b (ends e) = refl
-state_beside scripts k l b (finishes f) = refl
-state_beside scripts k l b (sweeps tick) = refl
+own_beside : (library : Library) (n : ℕ) (f : File) (earlier : Earlier) (b : kept.Book) (r : Option Record)
+    → IsOwnRecord (record { book = book_of library (beside_file n f) b; earlier = earlier }) r → IsOwnRecord (record { book = book_under library b; earlier = earlier }) r
+own_beside library n f earlier b None h = tt
+own_beside library n f earlier b (Some (begins shelf named)) h = tt
+own_beside library n f earlier b (Some (renews named)) h = tt
+own_beside library n f earlier b (Some (draws number)) h = tt
+own_beside library n f earlier b (Some (changes c state)) h =
+    subst (λ (x : Told). IsOwnState (book_under library b) c x) (told_beside library (beside_file n f) no_journal earlier b c state)
+    (same_state (told_in earlier (book_of library (beside_file n f) b) c state) h)
+  where
+    state_beside : (c : Change) → state_by (book_of library (beside_file n f) b) c ≡ state_by (book_under library b) c
+    state_beside (opens o) = refl
+    state_beside (extends x) = refl
+    state_beside (ends e) = refl
+    state_beside (finishes g) = refl
+    state_beside (sweeps tick) = refl
 
-own_state_beside : (scripts : List Named) (k l : ℕ) (b : kept.Book) (c : Change) (x : Told) → IsOwnState (book_beside scripts k b) c x → IsOwnState (book_beside scripts l b) c x
-own_state_beside scripts k l b c unread h = tt
-own_state_beside scripts k l b c misread h = tt
-own_state_beside scripts k l b c (told d) h = state_beside scripts l k b c ∙ h
+    same_state : (x : Told) → IsOwnState (book_of library (beside_file n f) b) c x → IsOwnState (book_under library b) c x
+    same_state unread h = tt
+    same_state misread h = tt
+    same_state (told d) h = sym (state_beside c) ∙ h
 
-own_beside : (scripts : List Named) (k l : ℕ) (earlier : Earlier) (b : kept.Book) (r : Option Record)
-    → IsOwnRecord (record { book = book_beside scripts k b; earlier = earlier }) r → IsOwnRecord (record { book = book_beside scripts l b; earlier = earlier }) r
-own_beside scripts k l earlier b None h = tt
-own_beside scripts k l earlier b (Some (begins shelf named)) h = tt
-own_beside scripts k l earlier b (Some (changes c state)) h =
-    subst (λ (x : Told). IsOwnState (book_beside scripts l b) c x) (told_beside scripts k l earlier b c state)
-    (own_state_beside scripts k l b c (books.told_in earlier (book_beside scripts k b) c state) h)
-
-own_found : (scripts : List Named) (shelf n : ℕ) (front rest : List (List ℕ)) (body : List ℕ) (f : Found) (seen : InOrder (Unit {0})) → AreOwn scripts shelf (front ++ body ∷ rest)
-    → Gives scripts n f seen (book_of scripts shelf front) → IsOwnFor scripts seen f body
-own_found scripts shelf n front rest body found.Nothing seen own is = tt
-own_found scripts shelf n front rest body (found.Made b) seen own is =
+own_found : (shelf n : ℕ) (front rest : List (List ℕ)) (body : List ℕ) (alone : Bool) (f : Found) (seen : InOrder (Unit {0})) → AreOwn setup_of_texts shelf (front ++ body ∷ rest)
+    → Gives shelf n alone f seen (made_of_bodies setup_of_texts shelf front) → IsOwnFor seen f body
+own_found shelf n front rest body alone found.Nothing seen own is = tt
+own_found shelf n front rest body alone (found.Made b rust) seen own is =
+    let library = library_of rust in
     let earlier = is.whole.earlier in
-    let there = subst (λ (x : Book). IsOwnRecord (record { book = x; earlier = earlier }) (read_record body)) is.book (own front rest body is.whole refl is.is) in
-    (earlier, (is.tells, own_beside scripts n 0 earlier b (read_record body) there))
-own_found scripts shelf n front rest body (found.Damaged place) seen own is = tt
-own_found scripts shelf n front rest body (found.Other place) seen own is = tt
-own_found scripts shelf n front rest body found.Memory seen own is = tt
-
--- a reader takes one body under its own setup
-one_given : (setup : Setup) (shelf place : ℕ) (body : List ℕ) (old new : Reader) → old.setup.now ≡ setup → old.shelf ≡ shelf → IsTaken old place body new
-    → (m : Making) → Gives (scripts_of setup) (place + 1) old.found old.seen m
-    → Gives (scripts_of setup) (place + 5 + length body + 1) new.found new.seen (with_body (scripts_of setup) shelf place body m)
-one_given setup shelf place body old new same number t m is =
-    let P : Setup → ℕ → Type 0 =
-    λ u k. Gives (scripts_of u) (place + 1) old.found old.seen m → Gives (scripts_of u) (place + 5 + length body + 1) new.found new.seen (with_body (scripts_of u) k place body m) in
-    let mine : P old.setup.now old.shelf = t.gives m in
-    let there : P setup shelf = subst (λ (k : ℕ). P setup k) number (subst (λ (u : Setup). P u old.shelf) same mine) in
-    there is
-
-one_owned : (setup : Setup) (place : ℕ) (body : List ℕ) (old new : Reader) → old.setup.now ≡ setup → IsTaken old place body new
-    → IsOwnFor (scripts_of setup) old.seen old.found body → HasStates (scripts_of setup) old.found → HasStates (scripts_of setup) new.found
-one_owned setup place body old new same t =
-    let P : Setup → Type 0 = λ u. IsOwnFor (scripts_of u) old.seen old.found body → HasStates (scripts_of u) old.found → HasStates (scripts_of u) new.found in
-    subst P same t.owns
+    let made_is = ap made_in_making is.is ∙ is_made alone is.whole in
+    let there = subst (λ (x : Book). IsOwnRecord (record { book = x; earlier = earlier }) (read_record body)) is.book (own front rest body is.whole refl made_is) in
+    (earlier, (is.tells, own_beside library n is.whole.book.file earlier b (read_record body) there))
+own_found shelf n front rest body alone (found.Damaged place) seen own is = tt
+own_found shelf n front rest body alone (found.Other place) seen own is = tt
+own_found shelf n front rest body alone found.Memory seen own is = tt
 
 frames_more : (place : ℕ) (front : List (List ℕ)) (body : List ℕ) → place ≡ 8 + length (frames front) → place + 5 + length body ≡ 8 + length (frames (front ++ body ∷ []))
 frames_more place front body at = omega (arith, at, frames_behind front body)
 
-pub all_owned : (setup : Setup) (shelf place : ℕ) (front bodies : List (List ℕ)) (old new : Reader) → TakesAll IsTaken old place bodies new → old.setup.now ≡ setup → old.shelf ≡ shelf
-    → place ≡ 8 + length (frames front) → AreOwn (scripts_of setup) shelf (front ++ bodies)
-    → Gives (scripts_of setup) (place + 1) old.found old.seen (book_of (scripts_of setup) shelf front)
-    → HasStates (scripts_of setup) old.found → HasStates (scripts_of setup) new.found
-all_owned setup shelf place front [] old new t same number at own is states = subst (λ (r : Reader). HasStates (scripts_of setup) r.found) (sym t) states
-all_owned setup shelf place front (body ∷ bodies) old new t same number at own is states =
-    let scripts = scripts_of setup in
+all_owned : (shelf place : ℕ) (front bodies : List (List ℕ)) (old new : Reader) → TakesAll IsTaken old place bodies new → old.shelf ≡ shelf
+    → place ≡ 8 + length (frames front) → AreOwn setup_of_texts shelf (front ++ bodies)
+    → Gives shelf (place + 1) old.alone old.found old.seen (made_of_bodies setup_of_texts shelf front) → HasStates old.found → HasStates new.found
+all_owned shelf place front [] old new t number at own is states = subst (λ (r : Reader). HasStates r.found) (sym t) states
+all_owned shelf place front (body ∷ bodies) old new t number at own is states =
     let mid = t.0 in
-    let here : IsOwnFor scripts old.seen old.found body = own_found scripts shelf (place + 1) front bodies body old.found old.seen own is in
-    let given = one_given setup shelf place body old mid same number t.1 (book_of scripts shelf front) is in
-    let pushed : with_body scripts shelf place body (book_of scripts shelf front) ≡ book_of scripts shelf (front ++ body ∷ []) =
-    ap (λ (p : ℕ). with_body scripts shelf p body (book_of scripts shelf front)) at ∙ sym (with_push scripts shelf 8 front body nothing) in
+    let here : IsOwnFor old.seen old.found body = own_found shelf (place + 1) front bodies body old.alone old.found old.seen own is in
+    let given = one_given shelf place body old mid number t.1 (made_of_bodies setup_of_texts shelf front) is in
+    let pushed : with_body setup_of_texts shelf place body (made_of_bodies setup_of_texts shelf front) ≡ made_of_bodies setup_of_texts shelf (front ++ body ∷ []) =
+    ap (λ (p : ℕ). with_body setup_of_texts shelf p body (made_of_bodies setup_of_texts shelf front)) at ∙ sym (with_push setup_of_texts shelf 8 front body nothing) in
     let more : front ++ body ∷ bodies ≡ (front ++ body ∷ []) ++ bodies = sym (append_assoc front (body ∷ []) bodies) in
     let next : place + 5 + length body ≡ 8 + length (frames (front ++ body ∷ [])) = frames_more place front body at in
-    all_owned setup shelf (place + 5 + length body) (front ++ body ∷ []) bodies mid new t.2 (t.1.same.setup ∙ same) (t.1.same.shelf ∙ number) next
-    (subst (AreOwn scripts shelf) more own) (subst (Gives scripts (place + 5 + length body + 1) mid.found mid.seen) pushed given)
-    (one_owned setup place body old mid same t.1 here states)
+    all_owned shelf (place + 5 + length body) (front ++ body ∷ []) bodies mid new t.2 (t.1.shelf ∙ number) next
+    (subst (AreOwn setup_of_texts shelf) more own) (subst (Gives shelf (place + 5 + length body + 1) mid.alone mid.found mid.seen) pushed given) (t.1.owns here states)
 
 -- from no record on
-pub owned_of_all : (setup : Setup) (shelf : ℕ) (bodies : List (List ℕ)) (old new : Reader) → old.setup.now ≡ setup → old.shelf ≡ shelf → old.found ≡ found.Nothing → seen_by old.seen ≡ []
-    → TakesAll IsTaken old 8 bodies new → AreOwn (scripts_of setup) shelf bodies → HasStates (scripts_of setup) new.found
-owned_of_all setup shelf bodies old new same number empty none t own =
-    let start : Gives (scripts_of setup) 9 old.found old.seen nothing =
-    subst (λ (f : Found). Gives (scripts_of setup) 9 f old.seen nothing) (sym empty) (record { is = refl; long = refl; none = none }) in
-    all_owned setup shelf 8 [] bodies old new t same number refl own start (subst (HasStates (scripts_of setup)) (sym empty) tt)
-
--- what was kept of a reader under its own setup
-kept_under : (setup : Setup) (shelf : ℕ) (r : Reader) → r.setup.now ≡ setup → r.shelf ≡ shelf → IsKept (scripts_of r.setup.now) r.shelf r.seen r.found
-    → IsKept (scripts_of setup) shelf r.seen r.found
-kept_under setup shelf r same number h =
-    subst (λ (n : ℕ). IsKept (scripts_of setup) n r.seen r.found) number (subst (λ (s : Setup). IsKept (scripts_of s) r.shelf r.seen r.found) same h)
-
--- from no record on: what was kept, and that it is what the records make
-pub taken_all : (setup : Setup) (shelf : ℕ) (bodies : List (List ℕ)) (old new : Reader) → old.setup.now ≡ setup → old.shelf ≡ shelf → old.found ≡ found.Nothing → seen_by old.seen ≡ []
-    → TakesAll IsTaken old 8 bodies new → IsKept (scripts_of new.setup.now) new.shelf new.seen new.found
-    → IsKept (scripts_of setup) shelf new.seen new.found × Gives (scripts_of setup) (length (at_rest bodies)) new.found new.seen (book_of (scripts_of setup) shelf bodies)
-taken_all setup shelf bodies old new setup_is shelf_is empty none t sound =
-    let same = all_same 8 bodies old new t in
-    (kept_under setup shelf new (same.0 ∙ setup_is) (same.1 ∙ shelf_is) sound, made_of_all setup shelf bodies old new setup_is shelf_is empty none t)
+pub owned_of_all : (shelf : ℕ) (bodies : List (List ℕ)) (old new : Reader) → old.shelf ≡ shelf → old.found ≡ found.Nothing → seen_by old.seen ≡ []
+    → TakesAll IsTaken old 8 bodies new → AreOwn setup_of_texts shelf bodies → HasStates new.found
+owned_of_all shelf bodies old new number empty none t own =
+    all_owned shelf 8 [] bodies old new t number refl own (at_first shelf old empty none) (subst HasStates (sym empty) tt)

@@ -1,3 +1,2 @@
-pub mod Remaking
 pub mod Found
 pub mod Reading

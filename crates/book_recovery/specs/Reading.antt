@@ -1,75 +1,64 @@
 -- What a reader of records has made so far.
-use Rattle.std.specs.Prelude.{◌≡◌, ℕ, ◌+◌, Bool, true, false, List, [], length, Option, Some, None, ⊤, Result, IfOk, IfSome}
-use Rattle.std.specs.declared.alloc.AllocError.{AllocError}
-use Rattle.script_nodes.specs.Setup.{Named}
-use Rattle.script_nodes.specs.Views.{scripts_of}
+use Rattle.std.specs.Prelude.{◌≡◌, ℕ, ◌+◌, Bool, true, false, List, [], ◌++◌, length, Option, Some, None, if◌then◌else◌, ⊤}
+use Rattle.script_nodes.specs.Setup.{Named, Library}
+use Rattle.script_nodes.specs.Views.{scripts_of, library_of}
+use Rattle.script_nodes.specs.declared.setup.Setup.{Setup}
 use Rattle.value_bytes.specs.Laws.{AreBytes}
-use Rattle.replay_spec.specs.Book.{Change, reopened}
 use Rattle.replay_spec.specs.Admission.{is_one}
 use Rattle.replay_spec.specs.Recovery as recovery
-use Rattle.replay_spec.specs.Recovery.{number_in, is_repeated, redone, with_number}
+use Rattle.replay_spec.specs.Recovery.{with_number, is_repeated}
 use Rattle.replay_spec.specs.Remade.{IsOrderlyMade}
 use Rattle.instance_book.specs.declared.in_order.InOrder.{InOrder}
 use Rattle.instance_book.specs.declared.book.Book.{Book}
 use Rattle.instance_book.specs.Orders.{numbers_of}
-use Rattle.instance_book.specs.Makes.{HasPlaces, HasItsStates}
-use Rattle.instance_book.specs.Told.{no_rules, book_beside}
+use Rattle.instance_book.specs.Makes.{HasPlaces, HasItsStates, HasWhatIsGiven}
+use Rattle.instance_book.specs.Swept.{IsEmpty}
+use Rattle.instance_book.specs.Views.{book_of}
+use Rattle.instance_book.specs.Admissions.{book_under}
+use Rattle.instance_book.specs.Redo.{HasToldStates, number_by, IsRedoneBy}
 use Rattle.machine_states.specs.Machine.{Suspended}
-use Rattle.journal_records.specs.Records.{Record, begins, changes}
+use Rattle.journal_records.specs.Records.{Record, begins, changes, renews, draws}
 use Rattle.journal_records.specs.Reading.{read_record}
+use Rattle.setup_reader.specs.Texts.{setup_of_texts}
 use Rattle.journal_spec.specs.Before.{Earlier, state_at, Made}
-use Rattle.journal_spec.specs.Retaking.{misread}
-use Rattle.journal_spec.specs.Making.{Making, nothing, made, damaged, other, has_script, with_body}
+use Rattle.journal_spec.specs.Making.{Making, nothing, begun, made, damaged, other, began, has_script, with_body}
+use Rattle.journal_spec.specs.Opening.{IsRead}
+use Rattle.journal_spec.specs.Whole.{AreWhole}
 use Rattle.journal_spec.specs.Owning.{IsOwnRecord}
 use Rattle.book_recovery.specs.declared.found.Found.{Found}
 use Rattle.book_recovery.specs.declared.found.Found.TheVariants as found
 use Rattle.book_recovery.specs.declared.reader.Reader.{Reader}
-use Rattle.book_recovery.specs.Found.{HasStates}
-use Rattle.book_recovery.specs.Remaking.{told_in, HasToldStates, names_told, told_states, number_by}
+use Rattle.book_recovery.specs.Found.{beside_file, HasStates}
 
 -- the numbers that were seen
 abbrev pub seen_by : InOrder (Unit {0}) → List ℕ
 seen_by seen = numbers_of seen.things.items
 
--- the book and the numbers seen, as the definitions have what records made, where the journal is this long
-abbrev pub made_in : List Named → (length : ℕ) → Book → InOrder (Unit {0}) → recovery.Made
-made_in scripts length b seen = record { book = book_beside scripts length b; seen = seen_by seen }
+-- the book and the numbers seen, as the definitions have what records made
+abbrev pub made_under : Library → Book → InOrder (Unit {0}) → recovery.Made
+made_under library b seen = record { book = book_under library b; seen = seen_by seen }
 
 -- what records told earlier is of numbers that were seen, and the pages of the book have the states that they told
-pub record TellsOf (scripts : List Named) (seen : InOrder (Unit {0})) (b : Book) (earlier : Earlier) : Type 0 where
+pub record TellsOf (library : Library) (seen : InOrder (Unit {0})) (b : Book) (earlier : Earlier) : Type 0 where
   pub numbers : (k : ℕ) → is_one k earlier.seen ≡ is_one k (seen_by seen)
   pub known : (n : ℕ) (d : Suspended) → state_at n earlier.states ≡ Some d → is_one n earlier.seen ≡ true
-  pub states : HasToldStates scripts earlier.states b
+  pub states : HasToldStates library.all earlier.states b
 
--- a book that is made: each instance is of a script of the setup, it is orderly and as after a crash, and its pages have states that
--- records told
-pub record IsUnderWay (scripts : List Named) (shelf : ℕ) (seen : InOrder (Unit {0})) (b : Book) : Type 0 where
-  pub placed : HasPlaces scripts b
+-- the scripts of a library can be run, and its present setup is what its names and texts are read as
+pub record IsSoundLibrary (library : Library) : Type 0 where
+  pub whole : AreWhole library.all
+  pub present : AreWhole library.setup
+  pub read : IsRead setup_of_texts library.setup
+
+-- a book that is made: each instance is of one of the scripts, it is orderly and as after a crash, and its pages have states that records
+-- told. Where no record was read behind the first one, no number was seen.
+pub record IsUnderWay (shelf : ℕ) (alone : Bool) (seen : InOrder (Unit {0})) (b : Book) (library : Library) : Type 0 where
+  pub placed : HasPlaces library.all b
   pub shelf_is : b.shelf ≡ shelf
-  pub orderly : IsOrderlyMade (made_in scripts 0 b seen)
-  pub tells : (earlier : Earlier) × TellsOf scripts seen b earlier
-
--- A record whose state can be read makes this of the book, as after a crash, where these numbers were seen before it, and records told
--- this earlier.
-pub record IsRedoneAs (scripts : List Named) (seen : InOrder (Unit {0})) (earlier : Earlier) (c : Change) (state : Option (List ℕ)) (old new : Book) : Type 0 where
-  pub read : told_in scripts earlier old c state ≡ misread → ⊥
-  pub made : (length : ℕ)
-      → let b = book_beside scripts length old in
-      book_beside scripts length new
-      ≡ reopened (redone no_rules c (names_told (is_repeated (number_in c) (seen_by seen)) b c (told_in scripts earlier old c state)) b)
-  pub told :
-      let repeated = is_repeated (number_in c) (seen_by seen) in
-      HasToldStates scripts (told_states scripts repeated c (told_in scripts earlier old c state) old earlier.states) new
-
--- a record of a change makes the new book of the old one where its state can be read; where it can't be, there is no book
-abbrev pub IsRedoneBy : List Named → InOrder (Unit {0}) → Earlier → Record → (old : Book) → Option Book → Type 0
-IsRedoneBy scripts seen earlier (begins shelf named) old new = ⊤
-IsRedoneBy scripts seen earlier (changes c state) old None = told_in scripts earlier old c state ≡ misread
-IsRedoneBy scripts seen earlier (changes c state) old (Some new) = IsRedoneAs scripts seen earlier c state old new
-
--- whatever records told earlier, the record makes the new book of the old one, or there is none where its state can't be read
-abbrev pub IsRemade : List Named → InOrder (Unit {0}) → Record → (old : Book) → Option Book → Type 0
-IsRemade scripts seen r old new = (earlier : Earlier) → TellsOf scripts seen old earlier → IsRedoneBy scripts seen earlier r old new
+  pub orderly : IsOrderlyMade (made_under library b seen)
+  pub tells : (earlier : Earlier) × TellsOf library seen b earlier
+  pub scripts : IsSoundLibrary library
+  pub fresh : alone ≡ true → seen_by seen ≡ []
 
 -- this number, if there is one, is seen from then on, besides those that were
 abbrev pub SeesNumber : Option ℕ → (old new : InOrder (Unit {0})) → Type 0
@@ -79,22 +68,31 @@ SeesNumber number old new = (k : ℕ) → is_one k (seen_by new) ≡ is_one k (w
 abbrev pub Sees : Record → (old new : InOrder (Unit {0})) → Type 0
 Sees r old new = SeesNumber (number_by r) old new
 
--- a record may follow others
-abbrev pub is_later : (scripts : ℕ) → Record → Bool
-is_later scripts (begins shelf named) = false
-is_later scripts (changes c state) = has_script scripts c
+-- whether a record that tells no setup may stand behind others: a start is of a script of the present setup, and a number stands directly
+-- behind the first record
+abbrev pub may_stand : (alone : Bool) → (scripts : ℕ) → Record → Bool
+may_stand alone n (begins shelf named) = false
+may_stand alone n (changes c state) = has_script n c
+may_stand alone n (renews named) = false
+may_stand alone n (draws number) = alone
 
--- a record begins a journal
-abbrev pub is_begin : Record → Bool
-is_begin (begins shelf named) = true
-is_begin (changes c state) = false
+-- a record makes the new book of the old one, where its state can be read; where it can't be, there is no book
+abbrev pub IsMadeOf : Library → InOrder (Unit {0}) → Record → (old : Book) → Option Book → Type 0
+IsMadeOf library seen r old None = (mid : Book) × IsRedoneBy library r (is_repeated (number_by r) (seen_by seen)) false old mid
+IsMadeOf library seen r old (Some new) = IsRedoneBy library r (is_repeated (number_by r) (seen_by seen)) true old new
 
--- the records make this book, where the journal is this long: the same numbers were seen, and its pages have the states that were told
-pub record IsMadeAs (scripts : List Named) (length : ℕ) (b : Book) (seen : InOrder (Unit {0})) (m : Making) : Type 0 where
+-- the first record stands alone, or others stand behind it
+abbrev pub making_of : (alone : Bool) → Made → Making
+making_of alone m = if alone then begun m else made m
+
+-- The records make this book under this library, where the journal is this long: the same numbers were seen, and its pages have the states
+-- that were told. The first record alone makes an empty book.
+pub record IsMadeAs (shelf length : ℕ) (alone : Bool) (b : Book) (library : Library) (seen : InOrder (Unit {0})) (m : Making) : Type 0 where
   pub whole : Made
-  pub is : m ≡ made whole
-  pub book : whole.book ≡ book_beside scripts length b
-  pub tells : TellsOf scripts seen b whole.earlier
+  pub is : m ≡ making_of alone whole
+  pub book : whole.book ≡ book_of library (beside_file length whole.book.file) b
+  pub tells : TellsOf library seen b whole.earlier
+  pub first : alone ≡ true → (n : ℕ) × (whole ≡ began shelf n library.setup)
 
 -- before the first record the journal is 9 bytes long, and no number was seen
 pub record IsNothing (length : ℕ) (seen : InOrder (Unit {0})) (m : Making) : Type 0 where
@@ -103,63 +101,90 @@ pub record IsNothing (length : ℕ) (seen : InOrder (Unit {0})) (m : Making) : T
   pub none : seen_by seen ≡ []
 
 -- What was found so far is what the records make, where the journal is this long. Once there was no memory, nothing is told.
-abbrev pub Gives : List Named → (length : ℕ) → Found → InOrder (Unit {0}) → Making → Type 0
-Gives scripts length found.Nothing seen m = IsNothing length seen m
-Gives scripts length (found.Made b) seen m = IsMadeAs scripts length b seen m
-Gives scripts length (found.Damaged place) seen m = m ≡ damaged place
-Gives scripts length (found.Other place) seen m = m ≡ other place
-Gives scripts length found.Memory seen m = ⊤
+abbrev pub Gives : (shelf length : ℕ) → (alone : Bool) → Found → InOrder (Unit {0}) → Making → Type 0
+Gives shelf length alone found.Nothing seen m = IsNothing length seen m
+Gives shelf length alone (found.Made b library) seen m = IsMadeAs shelf length alone b (library_of library) seen m
+Gives shelf length alone (found.Damaged place) seen m = m ≡ damaged place
+Gives shelf length alone (found.Other place) seen m = m ≡ other place
+Gives shelf length alone found.Memory seen m = ⊤
 
 -- where what was found before is what the records make, so is what is found with one body more, behind the gate at this place
-abbrev pub GivesWith : List Named → (shelf place : ℕ) → List ℕ → (old new : Found) → (before after : InOrder (Unit {0})) → Type 0
-GivesWith scripts shelf place body old new before after =
-    (m : Making) → Gives scripts (place + 1) old before m
-    → Gives scripts (place + 5 + length body + 1) new after (with_body scripts shelf place body m)
+abbrev pub GivesWith : (shelf place : ℕ) → List ℕ → (alone : Bool) → (old : Found) → (then_alone : Bool) → (new : Found) → (before after : InOrder (Unit {0})) → Type 0
+GivesWith shelf place body alone old then_alone new before after =
+    (m : Making) → Gives shelf (place + 1) alone old before m
+    → Gives shelf (place + 5 + length body + 1) then_alone new after (with_body setup_of_texts shelf place body m)
 
 -- a book that was found is under way; where nothing was found, no number was seen
-abbrev pub IsKept : List Named → (shelf : ℕ) → InOrder (Unit {0}) → Found → Type 0
-IsKept scripts shelf seen found.Nothing = seen_by seen ≡ []
-IsKept scripts shelf seen (found.Made b) = IsUnderWay scripts shelf seen b
-IsKept scripts shelf seen _ = ⊤
-
--- the scripts of the setup that a reader reads under
-abbrev pub scripts_for : Reader → List Named
-scripts_for r = scripts_of r.setup.now
+abbrev pub IsKept : (shelf : ℕ) → (alone : Bool) → InOrder (Unit {0}) → Found → Type 0
+IsKept shelf alone seen found.Nothing = seen_by seen ≡ []
+IsKept shelf alone seen (found.Made b library) = IsUnderWay shelf alone seen b (library_of library)
+IsKept shelf alone seen _ = ⊤
 
 -- what a reader made so far is under way
 abbrev pub IsSoundReader : Reader → Type 0
-IsSoundReader r = IsKept (scripts_for r) r.shelf r.seen r.found
-
--- a reader for the same shelf under the same setup
-pub record IsSameReader (old new : Reader) : Type 0 where
-  pub setup : new.setup.now ≡ old.setup.now
-  pub shelf : new.shelf ≡ old.shelf
+IsSoundReader r = IsKept r.shelf r.alone r.seen r.found
 
 -- the record is an own one of the book, after what records told earlier
-abbrev pub IsOwnBehind : List Named → InOrder (Unit {0}) → Book → Option Record → Type 0
-IsOwnBehind scripts seen b r =
-    (earlier : Earlier) × (TellsOf scripts seen b earlier × IsOwnRecord (record { book = book_beside scripts 0 b; earlier = earlier }) r)
+abbrev pub IsOwnBehind : Library → InOrder (Unit {0}) → Book → Option Record → Type 0
+IsOwnBehind library seen b r =
+    (earlier : Earlier) × (TellsOf library seen b earlier × IsOwnRecord (record { book = book_under library b; earlier = earlier }) r)
 
 -- the record of a body is an own one of the book that was made, if one was
-abbrev pub IsOwnFor : List Named → InOrder (Unit {0}) → Found → (body : List ℕ) → Type 0
-IsOwnFor scripts seen (found.Made b) body = IsOwnBehind scripts seen b (read_record body)
-IsOwnFor scripts seen _ body = ⊤
-
--- after a record that may follow others and is an own one, where each page of the book has the state of its chain, so has each of the book
--- that it makes
-abbrev pub KeepsOwnStates : List Named → InOrder (Unit {0}) → Book → Record → Result (Option Book) AllocError → Type 0
-KeepsOwnStates scripts seen b r result =
-    is_later (length scripts) r ≡ true → IsOwnBehind scripts seen b (Some r) → HasItsStates scripts b
-    → IfOk result (λ made. IfSome made (HasItsStates scripts))
+abbrev pub IsOwnFor : InOrder (Unit {0}) → Found → (body : List ℕ) → Type 0
+IsOwnFor seen (found.Made b library) body = IsOwnBehind (library_of library) seen b (read_record body)
+IsOwnFor seen _ body = ⊤
 
 -- after a body whose record is an own one, where each page of the book has the state of its chain, so has each of the book that is found
-abbrev pub KeepsOwnWith : List Named → InOrder (Unit {0}) → Book → (body : List ℕ) → Found → Type 0
-KeepsOwnWith scripts seen b body new = IsOwnFor scripts seen (found.Made b) body → HasItsStates scripts b → HasStates scripts new
+abbrev pub KeepsOwnWith : InOrder (Unit {0}) → (old : Found) → (body : List ℕ) → (new : Found) → Type 0
+KeepsOwnWith seen old body new = IsOwnFor seen old body → HasStates old → HasStates new
 
 -- a reader takes one body more, which is bytes
 pub record IsTaken (old : Reader) (place : ℕ) (body : List ℕ) (new : Reader) : Type 0 where
-  pub same : IsSameReader old new
+  pub shelf : new.shelf ≡ old.shelf
   pub bytes : AreBytes body
-  pub gives : GivesWith (scripts_for old) old.shelf place body old.found new.found old.seen new.seen
-  pub owns : IsOwnFor (scripts_for old) old.seen old.found body → HasStates (scripts_for old) old.found
-      → HasStates (scripts_for old) new.found
+  pub gives : GivesWith old.shelf place body old.alone old.found new.alone new.found old.seen new.seen
+  pub owns : KeepsOwnWith old.seen old.found body new.found
+
+-- a reader for the same shelf, behind as many records
+pub record IsSameReader (old new : Reader) : Type 0 where
+  pub shelf : new.shelf ≡ old.shelf
+  pub alone : new.alone ≡ old.alone
+  pub found : new.found ≡ old.found
+
+-- the setup is what names and texts are read as, and each of its scripts can be run
+pub record IsSetupOf (texts : List (List ℕ × List ℕ)) (setup : Setup) : Type 0 where
+  pub read : setup_of_texts texts ≡ Some (scripts_of setup)
+  pub whole : AreWhole (scripts_of setup)
+
+-- The library has one setup more, the present one, which is what these names and texts are read as, and whose scripts can be run.
+pub record IsRenewed (texts : List (List ℕ × List ℕ)) (old new : Library) : Type 0 where
+  pub read : setup_of_texts texts ≡ Some new.setup
+  pub all : new.all ≡ old.all ++ new.setup
+  pub whole : AreWhole new.setup
+
+-- what a record of these names and texts makes of the book: it stays, under the renewed library; damage where they are no setup
+abbrev pub Renews : (place : ℕ) → Book → Library → (texts : List (List ℕ × List ℕ)) → Found → Type 0
+Renews place b library texts (found.Made c renewed) = (c ≡ b) × IsRenewed texts library (library_of renewed)
+Renews place b library texts (found.Damaged p) = (p ≡ place) × (setup_of_texts texts ≡ None)
+Renews place b library texts found.Memory = ⊤
+Renews place b library texts _ = ⊥
+
+-- The book is an empty one, under the library of the setup that these names and texts are read as, and whose scripts can be run.
+pub record IsFirst (shelf : ℕ) (texts : List (List ℕ × List ℕ)) (b : Book) (library : Library) : Type 0 where
+  pub empty : IsEmpty shelf b
+  pub placed : (all : List Named) → HasPlaces all b
+  pub states : (all : List Named) → HasItsStates all b
+  pub told : HasWhatIsGiven b
+  pub read : setup_of_texts texts ≡ Some library.setup
+  pub all : library.all ≡ library.setup
+  pub whole : AreWhole library.setup
+
+-- what the first record, of this shelf number and of these names and texts, makes for the shelf of that number
+abbrev pub Begins : (shelf place number : ℕ) → (texts : List (List ℕ × List ℕ)) → Found → Type 0
+Begins shelf place number texts (found.Made b library) =
+    (number ≡ shelf) × IsFirst shelf texts b (library_of library)
+Begins shelf place number texts (found.Damaged p) = (p ≡ place) × (setup_of_texts texts ≡ None)
+Begins shelf place number texts (found.Other p) =
+    (p ≡ place) × ((number ≡ shelf → ⊥) × ((scripts : List Named) × (setup_of_texts texts ≡ Some scripts)))
+Begins shelf place number texts found.Memory = ⊤
+Begins shelf place number texts found.Nothing = ⊥

@@ -1,10 +1,9 @@
-//! The book that the records of a journal make: for the shelf, when it is opened.
+//! The book that the records of a journal make, with the scripts that they told: for the shelf, when it is opened.
 #![tactic(auto)]
 
 mod found;
 mod read;
 mod reader;
-mod remake;
 mod setup_scripts;
 mod sound;
 

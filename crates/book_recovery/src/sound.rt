@@ -2,25 +2,23 @@ use crate::found::Found;
 use crate::reader::Reader;
 use instance_book::InOrder;
 use page_journal::Take;
-use script_nodes::Setup;
 use std::alloc::Global;
 use std::marker::Model;
 
 /// A reader whose book, if it has made one, can go on.
 #[derive(Drop)]
-pub struct SoundReader<'s> {
-    reader: Reader<'s>,
+pub struct SoundReader {
+    reader: Reader,
 }
 
-impl<'s> Model for SoundReader<'s> {
+impl Model for SoundReader {
     ghost use Rattle.std.specs.Coded.{codes};
-    ghost use Rattle.script_nodes.specs.contracts.setup.Setup as setup_type;
     ghost use Rattle.book_recovery.specs.contracts.found.Found as found_type;
     ghost use Rattle.book_recovery.specs.declared.reader.Reader.{Reader};
 
     ghost Value = { Reader };
 
-    ghost coded = { Prim.hlevel (codes, setup_type.the_row.coded, found_type.the_row.coded) };
+    ghost coded = { Prim.hlevel (codes, found_type.the_row.coded) };
 
     ghost use Rattle.book_recovery.specs.Reading.{IsSoundReader};
 
@@ -29,14 +27,13 @@ impl<'s> Model for SoundReader<'s> {
     ghost invariant = { λ s. IsSoundReader s.reader };
 }
 
-impl<'s> SoundReader<'s> {
+impl SoundReader {
     ghost use Rattle.std.specs.Prelude.{◌≡◌, []};
     ghost use Rattle.book_recovery.specs.Reading.{seen_by, IsSoundReader};
     ghost use Rattle.book_recovery.specs.declared.found.Found.TheVariants as found;
 
     /// No record was read.
-    pub fn new(alloc: Global, setup: &'s Setup, shelf: u32) -> SoundReader<'s>
-        ensures setup { result.setup.now ≡ setup.now }
+    pub fn new(alloc: Global, shelf: u32) -> SoundReader
         ensures shelf { result.shelf ≡ shelf }
         ensures found { result.found ≡ found.Nothing }
         ensures seen { seen_by result.seen ≡ [] }
@@ -44,9 +41,9 @@ impl<'s> SoundReader<'s> {
         SoundReader {
             reader: Reader {
                 alloc,
-                setup,
                 shelf,
                 seen: InOrder::new(alloc),
+                alone: true,
                 found: Found::Nothing,
             },
         }
@@ -54,22 +51,22 @@ impl<'s> SoundReader<'s> {
 
     /// What was made of the records.
     pub fn finish(self) -> Found
-        ensures found { result ≡ self.entry.found }
-        ensures sound { IsSoundReader self.entry }
+        ensures found { result ≡ self.found }
+        ensures sound { IsSoundReader self }
     {
         let SoundReader { reader } = self;
         let Reader {
             alloc: _,
-            setup: _,
             shelf: _,
             seen: _,
+            alone: _,
             found,
         } = reader;
         found
     }
 }
 
-impl Take for SoundReader<'_> {
+impl Take for SoundReader {
     ghost use Rattle.book_recovery.specs.Reading.{IsTaken};
 
     ghost takes = { IsTaken };

@@ -2,7 +2,6 @@
 use Rattle.std.proofs.Common.{◌≡◌, ◌∙◌, ap, sym, subst, ℕ, suc, ◌+◌, nat_lt, Bool, true, false, if◌then◌else◌, List, [], ◌∷◌, length, reverse, Option, Some, None, refl, arith}
 use Rattle.std.proofs.lemmas.Option.{same_Some}
 use Rattle.script_nodes.specs.Arena.{Arena, IsScript, script_of}
-use Rattle.script_nodes.specs.declared.script.Node.{Node}
 use Rattle.script_nodes.specs.Setup.{Named}
 use Rattle.replay_spec.specs.Book.{Page, at_number, page_at, parent_of}
 use Rattle.replay_spec.specs.Next.{Home, page_tape}

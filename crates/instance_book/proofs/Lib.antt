@@ -1,6 +1,8 @@
 pub mod Orders
 pub mod Lists
 pub mod Seen
+pub mod Marking
+pub mod Picked
 pub mod States
 pub mod Given
 pub mod Behind
@@ -8,5 +10,5 @@ pub mod Lands
 pub mod Timely
 pub mod Itself
 pub mod Admitted
-pub mod Recorded
 pub mod Whole
+pub mod Redone

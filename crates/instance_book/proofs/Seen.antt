@@ -5,15 +5,16 @@ use Rattle.std.specs.Option.{option_copied}
 use Rattle.std.specs.List.{AllByRecursion}
 use Rattle.std.proofs.lemmas.Bool.Decides.{nat_tests}
 use Rattle.std.proofs.lemmas.List.{map-append}
-use Rattle.script_nodes.specs.Setup.{Named}
-use Rattle.replay_spec.specs.Book.{Page, Instance, Doubt, at_number, instance_at, page_at}
+use Rattle.script_nodes.specs.Setup.{Named, Library}
+use Rattle.replay_spec.specs.Book.{Page, Instance, at_number, instance_at, page_at}
 use Rattle.replay_spec.specs.Change.{put_in_order, put_page, put_instance, mend, without}
+use Rattle.page_marks.specs.Marks.{number_of, mark_at}
 use Rattle.instance_book.specs.declared.numbered.Numbered.{Numbered}
 use Rattle.instance_book.specs.declared.page.KeptPage.{KeptPage}
 use Rattle.instance_book.specs.declared.instance.KeptInstance.{KeptInstance}
 use Rattle.instance_book.specs.Orders.{Rises, IsAt, numbers_of}
 use Rattle.instance_book.specs.declared.book.Book.{Book}
-use Rattle.instance_book.specs.Views.{page_of, instance_of, book_of}
+use Rattle.instance_book.specs.Views.{page_of, mark_of, instance_of, Beside, book_of}
 use Rattle.instance_book.specs.Swept.{cells_in, cells_at}
 use Rattle.kept_states.specs.Kept.{Kept}
 use Rattle.instance_book.specs.Places.{shown_of}
@@ -68,6 +69,17 @@ shown_seen n xs r h = found (λ (x : Page × Kept). x.0.number) shown_of (λ x. 
 pub shown_put : (x : Numbered KeptPage) (xs : List (Numbered KeptPage))
     → map shown_of (put_in_order (λ thing. thing.number) x xs) ≡ put_in_order (λ (y : Page × Kept). y.0.number) (shown_of x) (map shown_of xs)
 shown_put x xs = seen_put (λ (y : Page × Kept). y.0.number) shown_of (λ y. refl) x xs
+
+-- marks of pages
+pub mark_seen : (n : ℕ) (xs : List (Numbered KeptPage)) (r : Option (Bor (Numbered KeptPage))) → option_copied r ≡ at_number (λ thing. thing.number) n xs
+    → option_map (λ p. mark_of p.now) r ≡ mark_at n (map mark_of xs)
+mark_seen n xs r h = found number_of mark_of (λ x. refl) n xs r h
+
+pub mark_none : (n : ℕ) (xs : List (Numbered KeptPage)) → at_number (λ thing. thing.number) n xs ≡ None → mark_at n (map mark_of xs) ≡ None
+mark_none n xs h = seen_none number_of mark_of (λ x. refl) n xs h
+
+pub mark_put : (x : Numbered KeptPage) (xs : List (Numbered KeptPage)) → map mark_of (put_in_order (λ thing. thing.number) x xs) ≡ put_in_order number_of (mark_of x) (map mark_of xs)
+mark_put x xs = seen_put number_of mark_of (λ y. refl) x xs
 
 pub pages_numbered : (xs : List (Numbered KeptPage)) → numbers_of xs ≡ map (λ (p : Page). p.number) (map page_of xs)
 pages_numbered xs = numbers_seen (λ (p : Page). p.number) page_of (λ y. refl) xs
@@ -160,10 +172,10 @@ all_alike P view f (x ∷ xs) (y ∷ ys) e all =
     (f x y first all.0, all_alike P view f xs ys rest all.1)
 
 -- the cells that are kept are those of the book
-pub cells_seen : (scripts : List Named) (journal : ℕ) (down : Option Doubt) (n : ℕ) (b : Book) → cells_at n b ≡ cells_in n (book_of scripts journal down b)
-cells_seen scripts journal down n b = kept b.instances.things.items
+pub cells_seen : (library : Library) (beside : Beside) (n : ℕ) (b : Book) → cells_at n b ≡ cells_in n (book_of library beside b)
+cells_seen library beside n b = kept b.instances.things.items
   where
-    kept : (xs : List (Numbered KeptInstance)) → option_map (λ i. i.item.cells) (at_number (λ i. i.number) n xs) ≡ option_map (λ i. i.cells) (instance_at n (map (instance_of scripts) xs))
+    kept : (xs : List (Numbered KeptInstance)) → option_map (λ i. i.item.cells) (at_number (λ i. i.number) n xs) ≡ option_map (λ i. i.cells) (instance_at n (map (instance_of library.all) xs))
     kept [] = refl
     kept (x ∷ xs) = grind (arith, nat_tests, kept xs)
 
@@ -202,6 +214,12 @@ first_set xs n place x y rise at is e = written xs place (ascends (numbers_of xs
     written (z ∷ zs) (suc k) a here this =
         let less : z.number < n = subst (λ m. z.number < m) here.here (rises (numbers_of (z ∷ zs)) a 0 (suc k) (omega arith) here.within) in
         grind (arith, nat_tests, written zs k a.1 (record { within = omega (arith, here.within); here = here.here }) this)
+
+-- what is seen stays where a thing is changed in its place and seen as before
+pub seen_set : {A B : Type 0} (view : A → B) (xs : List A) (place : ℕ) (x y : A) → x ≡ get_or xs place x → place < length xs → view y ≡ view x → map view (set xs place y) ≡ map view xs
+seen_set view [] place x y is h e = absurd (omega arith)
+seen_set view (z ∷ zs) zero x y is h e = ap (λ v. v ∷ map view zs) (e ∙ ap view is)
+seen_set view (z ∷ zs) (suc k) x y is h e = ap (λ vs. view z ∷ vs) (seen_set view zs k x y is (omega arith) e)
 
 -- how many there are
 pub length_seen : {T B : Type 0} (view : Numbered T → B) (xs : List (Numbered T)) → length (map view xs) ≡ length xs

@@ -13,7 +13,7 @@ use Rattle.replay_spec.specs.Tape.{recorded, Tape}
 use Rattle.replay_spec.specs.Book.{Page, Instance, Book, at_number, page_at, instance_at, parent_of, chain}
 use Rattle.replay_spec.specs.Change.{put_page, put_in_order}
 use Rattle.replay_spec.specs.Admission.{Place, Admission, begins, resumes, refused, refusal_of, admit}
-use Rattle.replay_spec.specs.Next.{Home, Visit, home, home_of, answered, newest, tape_of, tape_for, page_tape, start_visit, page_visit}
+use Rattle.replay_spec.specs.Next.{Home, Visit, home, home_of, tape_for, page_tape, start_visit, page_visit}
 use Rattle.replay_spec.specs.Next as next
 use Rattle.replay_spec.specs.Invariant.{AreAncestors, Lineage, IsOrderly}
 use Rattle.replay_spec.proofs.Ancestors.{Grown, put_grown, ancestors_grown, lineage_grown, chain_is}
@@ -40,9 +40,8 @@ use Rattle.instance_book.specs.Views.{page_of, pages_of, script_in, no_script, t
 use Rattle.instance_book.specs.Places.{Source, own, given, source_in, arena_of, kept_at, shown_of, shown_in, IsStateAt, IsKeptBehind, HasState, HaveStates, IsKeptAs, IsKept, IsPlaced, IsNextIn, IsNextAt, OneMoreHasItsState}
 use Rattle.frame_codec.specs.Spelling.{StateHasBytes}
 use Rattle.instance_book.specs.Changes.{OpensKept, HasStateBy, IsSpelledBy}
-use Rattle.instance_book.specs.Fits.{IsStateBehind, GoesOnFrom, GoesOnBySource, FitsAs, IsForSome}
+use Rattle.instance_book.specs.Fits.{IsStateBehind, GoesOnFrom, GoesOnBySource, FitsAs, IsForSome, IsStateOver}
 use Rattle.instance_book.specs.Makes.{shelf_from}
-use Rattle.instance_book.specs.Told.{IsStateOver}
 use Rattle.instance_book.specs.Prepares.{OpensAs, ExtendsAs, KeepsStateOf}
 use Rattle.instance_book.specs.Laws.{KeepsStateAs, AShownPageHasItsState}
 use Rattle.instance_book.proofs.Seen.{all_put, all_at}
@@ -118,7 +117,7 @@ below_length (y ∷ ys) (suc k) x h = omega (arith, below_length ys k x h)
 -- the state over a page's tape, or the one that is given to its number
 state_there : (source : Source ⊤) (s : Named) (shelf n k : ℕ) (older : List Page) (p : Page) (t : Tape) (d : Suspended) → page_tape (home s shelf n) (reverse older) p ≡ t → p.number ≡ k
     → IsStateOver source s t k d → IsStateAt s (source_in s (shelf_from source shelf) n) older p d
-state_there (own all) s shelf n k older p t d tape number is = subst (λ (x : Tape). IsStateOf (arena_of s.script) x d) (sym tape) is
+state_there (own every) s shelf n k older p t d tape number is = subst (λ (x : Tape). IsStateOf (arena_of s.script) x d) (sym tape) is
 state_there (given states) s shelf n k older p t d tape number is = (ap states number ∙ is.0, is.1)
 
 -- the first page of a start
@@ -200,7 +199,7 @@ record GoesOnLinked (source : Source ⊤) (b : Book) (t : Ticket) (at : Place) (
 
 goes_on_linked : (source : Source ⊤) (scripts : List Named) (b : Book) (t : Ticket) (at : Place) (h : Lineage at.instance.pages at.page) → GoesOnBySource source scripts b at t
     → GoesOnLinked source b t at h
-goes_on_linked (own all) scripts b t at h fits =
+goes_on_linked (own every) scripts b t at h fits =
     let before = state_before b (ticket_of t) at h (origin_of t.from) fits.from in
     record { before = before.0; from = before.1.0; its = before.1.1; links = fits.links }
 goes_on_linked (given states) scripts b t at h fits = record { before = fits.before; from = fits.from; its = fits.state; links = fits.links }
@@ -256,9 +255,9 @@ next_kept source scripts b t at k m effects inside d x h free here shown made st
         }
 
 -- by the kinds of admission and of change
-module _ (b : Book) (orderly : IsOrderly b) (t : Ticket) (out : Contains b.out t.number) (r : Segment) where
-  start_keeps : (name : List ℕ) (a : Admission) → admit b (start name) ≡ a → refusal_of a ≡ None → FitsAs b.scripts b t a → KeepsStateAs b t a r
-      → (c : Option Change) → KeepsStateOf t r (start name) c → IsSpelledBy c → HasStateBy b.scripts b.shelf b.instances c
+module _ (all : List Named) (b : Book) (orderly : IsOrderly b) (t : Ticket) (out : Contains b.out t.number) (r : Segment) where
+  start_keeps : (name : List ℕ) (a : Admission) → admit b (start name) ≡ a → refusal_of a ≡ None → FitsAs all b t a → KeepsStateAs b t a r
+      → (c : Option Change) → KeepsStateOf t r (start name) c → IsSpelledBy c → HasStateBy all b.shelf b.instances c
   start_keeps name (resumes at) adm ok fits over c keeps has = absurd (start_is_no_page b name at adm)
   start_keeps name (refused why) adm ok fits over c keeps has = absurd (cc)
   start_keeps name (begins k s) adm ok fits over None keeps has = tt
@@ -266,13 +265,13 @@ module _ (b : Book) (orderly : IsOrderly b) (t : Ticket) (out : Contains b.out t
   start_keeps name (begins k s) adm ok fits over (Some (Finishes f)) keeps has = tt
   start_keeps name (begins k s) adm ok fits over (Some (Opens o)) (inl none) has = absurd none
   start_keeps name (begins k s) adm ok fits over (Some (Opens o)) (inr from) has =
-      first_kept (own tt) b.scripts b t k s (segment_of r).effects r.entered.items from.0 o fits.run.script from.1.1 (keeps_state r.outcome _ from.0 over from.1.0)
+      first_kept (own tt) all b t k s (segment_of r).effects r.entered.items from.0 o fits.run.script from.1.1 (keeps_state r.outcome _ from.0 over from.1.0)
       (subst StateHasBytes from.1.1.told has)
   start_keeps name (begins k s) adm ok fits over (Some (Extends x)) (inl none) has = absurd none
   start_keeps name (begins k s) adm ok fits over (Some (Extends x)) (inr from) has = absurd from.1.1
 
-  page_keeps : (name : List ℕ) (n : PageName) (a : Admission) → admit b (page name n) ≡ a → refusal_of a ≡ None → FitsAs b.scripts b t a → KeepsStateAs b t a r
-      → (c : Option Change) → KeepsStateOf t r (page name n) c → IsSpelledBy c → HasStateBy b.scripts b.shelf b.instances c
+  page_keeps : (name : List ℕ) (n : PageName) (a : Admission) → admit b (page name n) ≡ a → refusal_of a ≡ None → FitsAs all b t a → KeepsStateAs b t a r
+      → (c : Option Change) → KeepsStateOf t r (page name n) c → IsSpelledBy c → HasStateBy all b.shelf b.instances c
   page_keeps name n (begins k s) adm ok fits over c keeps has = absurd (page_is_no_start b name n k s adm)
   page_keeps name n (refused why) adm ok fits over c keeps has = absurd (cc)
   page_keeps name n (resumes at) adm ok fits over None keeps has = tt
@@ -285,15 +284,15 @@ module _ (b : Book) (orderly : IsOrderly b) (t : Ticket) (out : Contains b.out t
       let stands = page_stands b name n at adm in
       let h = orderly.instances.lineage n.instance at.instance stands.here n.page at.page stands.shown in
       let free = orderly.instances.no_page t.number (inl (among_of b.out t.number out)) n.instance at.instance stands.here in
-      next_kept (own tt) b.scripts b t at n.instance n.page (segment_of r).effects r.entered.items from.0 x h free stands.here stands.shown from.1.1 (keeps_state r.outcome _ from.0 over from.1.0) (subst StateHasBytes from.1.1.told has) fits
+      next_kept (own tt) all b t at n.instance n.page (segment_of r).effects r.entered.items from.0 x h free stands.here stands.shown from.1.1 (keeps_state r.outcome _ from.0 over from.1.0) (subst StateHasBytes from.1.1.told has) fits
 
-  keeps_by : (d : Destination) (a : Admission) → admit b d ≡ a → refusal_of a ≡ None → FitsAs b.scripts b t a → KeepsStateAs b t a r
-      → (c : Option Change) → KeepsStateOf t r d c → IsSpelledBy c → HasStateBy b.scripts b.shelf b.instances c
+  keeps_by : (d : Destination) (a : Admission) → admit b d ≡ a → refusal_of a ≡ None → FitsAs all b t a → KeepsStateAs b t a r
+      → (c : Option Change) → KeepsStateOf t r d c → IsSpelledBy c → HasStateBy all b.shelf b.instances c
   keeps_by (start name) a adm ok fits over c keeps has = start_keeps name a adm ok fits over c keeps has
   keeps_by (page name n) a adm ok fits over c keeps has = page_keeps name n a adm ok fits over c keeps has
 
 pub a_shown_page_has_its_state : AShownPageHasItsState
-a_shown_page_has_its_state b orderly t out a adm ok fits r over c keeps has = keeps_by b orderly t out r (target_of t.target) a adm ok fits over c keeps has
+a_shown_page_has_its_state all b orderly t out a adm ok fits r over c keeps has = keeps_by all b orderly t out r (target_of t.target) a adm ok fits over c keeps has
 
 -- a visit whose pages are the chain of a page that has its state
 pub goes_on_from : (v : Visit) (ps : List Page) (p : Page) (k : Kept) → v.pages ≡ chain ps p → (has : HasState v.script (own (home_of v)) ps p k) → IsStateBehind v has.state

@@ -1,15 +1,16 @@
 -- What a prepared visit makes of the book.
-use Rattle.std.specs.Prelude.{◌≡◌, ◌+◌, ◌^◌, ◌<◌, ℕ, max, List, [], ◌∷◌, map, length, Option, Some, None, ⊤}
-use Rattle.script_value.specs.Views.{meaning}
+use Rattle.std.specs.Prelude.{◌≡◌, ◌+◌, ◌^◌, ◌<◌, ℕ, max, List, [], ◌∷◌, length, Option, Some, None, ⊤}
 use Rattle.script_value.specs.declared.outcome.TxName.{TxName}
-use Rattle.script_nodes.specs.Setup.{Named}
-use Rattle.instance_cells.specs.Views.{effect_of}
+use Rattle.script_nodes.specs.Setup.{Named, Library}
 use Rattle.replay_spec.specs.Book as spec
-use Rattle.replay_spec.specs.Change.{put_page, put_instance, mend, without}
+use Rattle.replay_spec.specs.Book.{at_number}
+use Rattle.replay_spec.specs.Change.{put_page, put_instance, put_use, used_by, used_in, unless_gone, evict, mend, without}
 use Rattle.replay_spec.specs.Step as step
 use Rattle.replay_spec.specs.Step.{Decision, replies, records}
+use Rattle.page_marks.specs.Marks.{use_of, uses_of, evictions_of}
 use Rattle.machine_states.specs.Views.{suspended_of}
 use Rattle.frame_codec.specs.Spelling.{StateHasBytes}
+use Rattle.journal_records.specs.Views.{page_change, ending_of, finish_of}
 use Rattle.instance_book.specs.declared.numbered.Numbered.{Numbered}
 use Rattle.instance_book.specs.declared.in_order.InOrder.{InOrder}
 use Rattle.instance_book.specs.declared.instance.KeptInstance.{KeptInstance}
@@ -17,16 +18,14 @@ use Rattle.instance_book.specs.declared.after.After.{After}
 use Rattle.instance_book.specs.declared.after.Show.{Show}
 use Rattle.instance_book.specs.declared.prepared.Opening.{Opening}
 use Rattle.instance_book.specs.declared.prepared.Extension.{Extension}
-use Rattle.instance_book.specs.declared.prepared.Ending.{Ending}
-use Rattle.instance_book.specs.declared.prepared.Finish.{Finish}
 use Rattle.instance_book.specs.declared.prepared.Change.{Change}
 use Rattle.instance_book.specs.declared.prepared.Change.TheVariants.{Opens, Extends, Ends, Finishes}
 use Rattle.instance_book.specs.declared.prepared.Prepared.{Prepared}
 use Rattle.instance_book.specs.declared.book.Book.{Book}
 use Rattle.instance_book.specs.Orders.{numbers_of}
 use Rattle.instance_book.specs.Lists.{HasRoom}
-use Rattle.instance_book.specs.Views.{page_of, pages_of, script_in, instance_with, instance_of, instances_of, reply_of, HasRoomAt}
-use Rattle.instance_book.specs.Places.{Source, own, source_in, kept_at, shown_in, HasState, IsNextAt}
+use Rattle.instance_book.specs.Views.{page_of, pages_of, mark_of, script_in, instance_with, instance_of, instances_of, reply_of}
+use Rattle.instance_book.specs.Places.{CanTake, Source, own, source_in, kept_at, shown_in, HasState, IsNextAt}
 use Rattle.instance_book.specs.Makes.{shelf_from, HasStatesFrom, HasPlaces}
 
 -- the one that came anew, or else what there is
@@ -40,74 +39,40 @@ renewed_by ns None = ns
 renewed_by ns (Some list) = numbers_of list.things.items
 
 -- an instance after a segment, with its cells and closed transactions
-abbrev pub ended_with : After → spec.Instance → spec.Instance
-ended_with a i = record i { cells = a.cells; closed = renewed i.closed a.closed }
+abbrev pub left_with : After → spec.Instance → spec.Instance
+left_with a i = record i { cells = a.cells; closed = renewed i.closed a.closed }
 
 -- an instance with the numbers that a segment revoked, where it revoked anew
 abbrev pub revoked_with : Option (InOrder (Unit {0})) → spec.Instance → spec.Instance
 revoked_with revoked i = record i { revoked = renewed_by i.revoked revoked }
 
--- an instance after a segment that showed a page, with its cells, closed transactions, revoked numbers and pages
-abbrev pub shown_with : Show → spec.Instance → spec.Instance
-shown_with s i = record (revoked_with s.revoked (ended_with s.after i)) { pages = put_page (page_of s.page) i.pages }
+-- an instance whose page of the first number was answered by a segment of the second
+abbrev pub answered_by : (page number : ℕ) → spec.Instance → spec.Instance
+answered_by p n i = record i { used = used_by p n i.used }
 
--- what is kept of an instance now is what f makes of what was kept of it before, under each setup and number
+-- an instance after a segment of this number that answered this page and ended
+abbrev pub ended_with : (page number : ℕ) → After → spec.Instance → spec.Instance
+ended_with p n a i = answered_by p n (left_with a i)
+
+-- An instance after a segment that showed a page, for which these pages went: with its cells, closed transactions, revoked numbers, uses,
+-- evictions and pages.
+abbrev pub shown_with : Show → (gone : List ℕ) → spec.Instance → spec.Instance
+shown_with s gone i = record (revoked_with s.revoked (left_with s.after i)) {
+  used = put_use (use_of (mark_of s.page)) (unless_gone gone (used_in s.page.item.parent s.page.number i.used));
+  evicted = evict s.page.number gone i.evicted;
+  pages = put_page (page_of s.page) i.pages;
+}
+
+-- what is kept of an instance now is what f makes of what was kept of it before, under each list of scripts and number
 abbrev pub Becomes : (spec.Instance → spec.Instance) → (old new : KeptInstance) → Type 0
-Becomes f old new = (scripts : List Named) (n : ℕ) → instance_with scripts n new ≡ f (instance_with scripts n old)
-
--- what the program's opening stands for in the definitions
-abbrev pub opening_of : Opening → spec.Opening
-opening_of o = record {
-  number = o.page.number;
-  nonce = o.page.item.nonce;
-  script = o.instance.script;
-  effects = map effect_of o.effects.items;
-  left = o.left.items;
-  kind = o.kind;
-  deadline = o.page.item.deadline;
-}
-
--- what the program's extension stands for in the definitions
-abbrev pub extension_of : Extension → spec.Extension
-extension_of x = record {
-  number = x.show.page.number;
-  nonce = x.show.page.item.nonce;
-  instance = x.instance;
-  page = x.answered;
-  answer = meaning x.answer;
-  effects = map effect_of x.effects.items;
-  left = x.left.items;
-  kind = x.kind;
-  deadline = x.show.page.item.deadline;
-}
-
--- what the program's ending stands for in the definitions
-abbrev pub ending_of : Ending → spec.Ending
-ending_of e = record {
-  number = e.number;
-  instance = e.instance;
-  page = e.answered;
-  answer = meaning e.answer;
-  effects = map effect_of e.effects.items;
-  left = e.left.items;
-}
-
--- what the program's finish stands for in the definitions
-abbrev pub finish_of : Finish → spec.Finish
-finish_of f = record {
-  number = f.number;
-  instance = f.instance;
-  page = f.answered;
-  answer = meaning f.answer;
-  effects = map effect_of f.effects.items;
-}
+Becomes f old new = (all : List Named) (n : ℕ) → instance_with all n new ≡ f (instance_with all n old)
 
 -- what the program's change stands for in the definitions
 abbrev pub change_of : Change → spec.Change
-change_of (Opens o) = spec.opens (opening_of o)
-change_of (Extends x) = spec.extends (extension_of x)
-change_of (Ends e) = spec.ends (ending_of e)
-change_of (Finishes f) = spec.finishes (finish_of f)
+change_of (Opens o) = page_change o.record
+change_of (Extends x) = page_change x.record
+change_of (Ends e) = spec.ends (ending_of e.record)
+change_of (Finishes f) = spec.finishes (finish_of f.record)
 
 -- the transactions that were open where the change's segment stopped
 abbrev pub inside_of : Change → List TxName
@@ -125,40 +90,47 @@ decision_by r (Some c) = records r (change_of c) (inside_of c)
 abbrev pub decision_of : Prepared → Decision
 decision_of p = decision_by (reply_of p.reply) p.change
 
--- the instance that an opening begins, with its page
+-- the instance that an opening begins, with its page alone
 abbrev pub begun_with : List Named → Opening → spec.Instance
-begun_with scripts o =
-    let i = instance_with scripts o.page.number o.instance in record i { pages = put_page (page_of o.page) i.pages }
+begun_with all o = record (instance_with all o.page.number o.instance) {
+  used = uses_of (mark_of o.page ∷ []);
+  evicted = evictions_of (mark_of o.page ∷ []);
+  pages = page_of o.page ∷ [];
+}
 
--- the instance is the one that an opening begins, under each setup
+-- the instance is the one that an opening begins, under each list of scripts
 abbrev pub BeginsWith : Opening → Numbered KeptInstance → Type 0
-BeginsWith o i = (scripts : List Named) → instance_of scripts i ≡ begun_with scripts o
+BeginsWith o i = (all : List Named) → instance_of all i ≡ begun_with all o
+
+-- the pages that went for the page of an extension
+abbrev pub gone_in : Extension → List ℕ
+gone_in x = x.record.evicted.items
 
 -- the instances after a change
 abbrev pub instances_with : List Named → Change → List spec.Instance → List spec.Instance
-instances_with scripts (Opens o) is = put_instance (begun_with scripts o) is
-instances_with scripts (Extends x) is = mend x.instance (shown_with x.show) is
-instances_with scripts (Ends e) is = mend e.instance (ended_with e.after) is
-instances_with scripts (Finishes f) is = without f.instance is
+instances_with all (Opens o) is = put_instance (begun_with all o) is
+instances_with all (Extends x) is = mend x.instance (shown_with x.show (gone_in x)) is
+instances_with all (Ends e) is = mend e.record.instance (ended_with e.record.page e.record.ticket e.after) is
+instances_with all (Finishes f) is = without f.record.instance is
 
 -- the instances after a change, if there is one
 abbrev pub instances_after : List Named → Option Change → List spec.Instance → List spec.Instance
-instances_after scripts None is = is
-instances_after scripts (Some c) is = instances_with scripts c is
+instances_after all None is = is
+instances_after all (Some c) is = instances_with all c is
 
 -- the book after a change of its instances, if there is one
-abbrev pub changed_by : List Named → Option Change → spec.Book → spec.Book
-changed_by scripts c b = record b { instances = instances_after scripts c b.instances }
+abbrev pub changed_by : Library → Option Change → spec.Book → spec.Book
+changed_by library c b = record b { instances = instances_after library.all c b.instances }
 
 -- the book after all that is prepared: the change, if there is one, and what is logged
-abbrev pub put_into : List Named → Prepared → spec.Book → spec.Book
-put_into scripts p b =
-    record (changed_by scripts p.change b) { logged = max b.logged p.logged }
+abbrev pub put_into : Library → Prepared → spec.Book → spec.Book
+put_into library p b =
+    record (changed_by library p.change b) { logged = max b.logged p.logged }
 
 -- the deadline of the page that a change shows, if any, is below the end of those that can be told
 abbrev pub HasDeadlineIn : Change → Type 0
-HasDeadlineIn (Opens o) = o.page.item.deadline < 2 ^ 63
-HasDeadlineIn (Extends x) = x.show.page.item.deadline < 2 ^ 63
+HasDeadlineIn (Opens o) = o.record.deadline < 2 ^ 63
+HasDeadlineIn (Extends x) = x.record.deadline < 2 ^ 63
 HasDeadlineIn _ = ⊤
 
 abbrev pub HasDeadlineBy : Option Change → Type 0
@@ -168,13 +140,28 @@ HasDeadlineBy (Some c) = HasDeadlineIn c
 -- the new instance has room for its page, and the book for the instance
 pub record HasRoomToOpen (o : Opening) (b : Book) : Type 0 where
   pub page : HasRoom o.instance.pages
+  pub empty : pages_of o.instance.pages ≡ []
   pub instance : HasRoom b.instances
   pub few : length b.instances.things.items + 1 < 2 ^ 32
 
--- the book has the room that a change takes
+-- the instance has room for the page that is shown, which is new and not evicted, and these pages can go for it
+abbrev pub CanShow : Show → (gone : List ℕ) → KeptInstance → Type 0
+CanShow s gone i = CanTake s.page gone i.pages
+
+-- the page can be shown in the instance of a number, where there is one
+abbrev pub CanShowAt : (instance : ℕ) → Show → (gone : List ℕ) → InOrder KeptInstance → Type 0
+CanShowAt n s gone is =
+    (i : Numbered KeptInstance) → at_number (λ j. j.number) n is.things.items ≡ Some i → CanShow s gone i.item
+
+-- a fact of the extension that a change is, if it is one
+abbrev pub IfExtends : Option Change → (Extension → Type 0) → Type 0
+IfExtends (Some (Extends x)) P = P x
+IfExtends _ P = ⊤
+
+-- the book has the room that a change takes, and the page that it shows can be shown there
 abbrev pub HasRoomWith : Change → Book → Type 0
 HasRoomWith (Opens o) b = HasRoomToOpen o b
-HasRoomWith (Extends x) b = HasRoomAt x.instance b.instances
+HasRoomWith (Extends x) b = CanShowAt x.instance x.show (gone_in x) b.instances
 HasRoomWith (Ends e) b = ⊤
 HasRoomWith (Finishes f) b = ⊤
 
@@ -183,42 +170,42 @@ abbrev pub HasRoomFor : Option Change → Book → Type 0
 HasRoomFor None b = ⊤
 HasRoomFor (Some c) b = HasRoomWith c b
 
--- a new instance is of a script of the setup, and its one page has its state
-pub record OpensKept (scripts : List Named) (shelf : Source ℕ) (o : Opening) : Type 0 where
-  pub place : o.instance.script < length scripts
+-- a new instance is of one of the scripts, and its one page has its state
+pub record OpensKept (all : List Named) (shelf : Source ℕ) (o : Opening) : Type 0 where
+  pub place : o.instance.script < length all
   pub pages : pages_of o.instance.pages ≡ []
   pub shown : shown_in o.instance.pages ≡ []
   pub state :
-      let s = script_in scripts o.instance.script in
+      let s = script_in all o.instance.script in
       HasState s (source_in s shelf o.page.number) (page_of o.page ∷ []) (page_of o.page) (kept_at o.page)
 
 -- a new page has its state, in this shelf of these instances
 abbrev pub HasStateIn : List Named → Source ℕ → List spec.Instance → Change → Type 0
-HasStateIn scripts shelf is (Opens o) = OpensKept scripts shelf o
-HasStateIn scripts shelf is (Extends x) = IsNextAt shelf is x.instance x.show.page
-HasStateIn scripts shelf is _ = ⊤
+HasStateIn all shelf is (Opens o) = OpensKept all shelf o
+HasStateIn all shelf is (Extends x) = IsNextAt shelf is x.instance x.show.page
+HasStateIn all shelf is _ = ⊤
 
 abbrev pub HasStateFrom : List Named → Source ℕ → List spec.Instance → Option Change → Type 0
-HasStateFrom scripts shelf is None = ⊤
-HasStateFrom scripts shelf is (Some c) = HasStateIn scripts shelf is c
+HasStateFrom all shelf is None = ⊤
+HasStateFrom all shelf is (Some c) = HasStateIn all shelf is c
 
 -- the page that a change shows, if any, has the state of its chain
 abbrev pub HasStateBy : List Named → (shelf : ℕ) → List spec.Instance → Option Change → Type 0
-HasStateBy scripts shelf is c = HasStateFrom scripts (own shelf) is c
+HasStateBy all shelf is c = HasStateFrom all (own shelf) is c
 
--- an instance that a change opens is of a script of the setup
+-- an instance that a change opens is of one of the scripts
 abbrev pub IsPlacedIn : List Named → Change → Type 0
-IsPlacedIn scripts (Opens o) = o.instance.script < length scripts
-IsPlacedIn scripts _ = ⊤
+IsPlacedIn all (Opens o) = o.instance.script < length all
+IsPlacedIn all _ = ⊤
 
--- an instance that a change opens, if there is a change, is of a script of the setup
+-- an instance that a change opens, if there is a change, is of one of the scripts
 abbrev pub IsPlacedBy : List Named → Option Change → Type 0
-IsPlacedBy scripts None = ⊤
-IsPlacedBy scripts (Some c) = IsPlacedIn scripts c
+IsPlacedBy all None = ⊤
+IsPlacedBy all (Some c) = IsPlacedIn all c
 
--- where the instance that a change opens is of a script of the setup, each instance of the book goes on to be of one
+-- where the instance that a change opens is of one of the scripts, each instance of the book goes on to be of one
 abbrev pub KeepsPlacesBy : Option Change → (old new : Book) → Type 0
-KeepsPlacesBy c old new = (scripts : List Named) → IsPlacedBy scripts c → HasPlaces scripts old → HasPlaces scripts new
+KeepsPlacesBy c old new = (all : List Named) → IsPlacedBy all c → HasPlaces all old → HasPlaces all new
 
 -- the state of a change's new page has a spelling
 abbrev pub IsSpelledIn : Change → Type 0
@@ -233,5 +220,5 @@ IsSpelledBy (Some c) = IsSpelledIn c
 -- where the change's new page has its state, each page of the book goes on to have its own
 abbrev pub KeepsStatesBy : Option Change → (old new : Book) → Type 0
 KeepsStatesBy c old new =
-    (source : Source ⊤) (scripts : List Named) → HasStateFrom scripts (shelf_from source old.shelf) (instances_of scripts old.instances) c
-    → HasStatesFrom source scripts old → HasStatesFrom source scripts new
+    (source : Source ⊤) (all : List Named) → HasStateFrom all (shelf_from source old.shelf) (instances_of all old.instances) c
+    → HasStatesFrom source all old → HasStatesFrom source all new

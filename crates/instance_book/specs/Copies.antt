@@ -4,6 +4,8 @@ use Rattle.script_nodes.specs.Setup.{Named}
 use Rattle.replay_spec.specs.Book as spec
 use Rattle.replay_spec.specs.Step as step
 use Rattle.machine_states.specs.Views.{suspended_of}
+use Rattle.journal_records.specs.Views.{page_change}
+use Rattle.journal_records.specs.declared.records.PageRecord.{PageRecord}
 use Rattle.instance_book.specs.declared.in_order.InOrder.{InOrder}
 use Rattle.instance_book.specs.declared.page.KeptPage.{KeptPage}
 use Rattle.instance_book.specs.declared.instance.KeptInstance.{KeptInstance}
@@ -13,40 +15,50 @@ use Rattle.instance_book.specs.declared.prepared.Extension.{Extension}
 use Rattle.instance_book.specs.declared.prepared.Prepared.{Prepared}
 use Rattle.instance_book.specs.declared.prepared.Change.{Change}
 use Rattle.instance_book.specs.declared.book.Book.{Book}
-use Rattle.instance_book.specs.Views.{page_of, pages_of, instance_with}
-use Rattle.instance_book.specs.Changes.{shown_with, extension_of, begun_with, change_of, inside_of, decision_by, decision_of, instances_after, HasRoomWith, HasRoomFor, HasStateIn, HasStateFrom, instances_with}
+use Rattle.instance_book.specs.Views.{page_of, pages_of, mark_of, marks_of, instance_with}
+use Rattle.instance_book.specs.Changes.{shown_with, begun_with, change_of, inside_of, decision_by, decision_of, instances_after, HasRoomWith, HasRoomFor, HasStateIn, HasStateFrom, instances_with}
 use Rattle.instance_book.specs.Places.{Source, kept_at, shown_in}
 
--- a copy stands for the same instance, under each number and setup
+-- a copy stands for the same instance, under each number and list of scripts
 abbrev pub IsSameInstance : (i copy : KeptInstance) → Type 0
-IsSameInstance i copy = (scripts : List Named) (n : ℕ) → instance_with scripts n copy ≡ instance_with scripts n i
+IsSameInstance i copy = (all : List Named) (n : ℕ) → instance_with all n copy ≡ instance_with all n i
 
--- a copy has the same pages, with the same states
+-- a copy has the same pages, with the same states and marks
 pub record IsSamePages (ps copy : InOrder KeptPage) : Type 0 where
   pub pages : pages_of copy ≡ pages_of ps
   pub shown : shown_in copy ≡ shown_in ps
+  pub marks : marks_of copy ≡ marks_of ps
 
--- a copy has the same page with the same state, and makes the same of each instance
+-- a copy has the same page with the same state and mark, and makes the same of each instance
 pub record IsSameShow (s copy : Show) : Type 0 where
   pub page : page_of copy.page ≡ page_of s.page
+  pub mark : mark_of copy.page ≡ mark_of s.page
   pub state : kept_at copy.page ≡ kept_at s.page
-  pub made : (i : spec.Instance) → shown_with copy i ≡ shown_with s i
+  pub made : (gone : List ℕ) (i : spec.Instance) → shown_with copy gone i ≡ shown_with s gone i
+
+-- a copy of a page's record is of the same change, with the same deadline and pages that went
+pub record IsSamePage (r copy : PageRecord) : Type 0 where
+  pub change : page_change copy ≡ page_change r
+  pub deadline : copy.deadline ≡ r.deadline
+  pub gone : copy.evicted.items ≡ r.evicted.items
 
 -- a copy of an opening begins the same instance
 abbrev pub BeginsAlike : (o copy : Opening) → Type 0
-BeginsAlike o copy = (scripts : List Named) → begun_with scripts copy ≡ begun_with scripts o
+BeginsAlike o copy = (all : List Named) → begun_with all copy ≡ begun_with all o
 
 -- a copy of an opening tells the same state
 abbrev pub TellsAlike : (o copy : Opening) → Type 0
 TellsAlike o copy = suspended_of copy.state ≡ suspended_of o.state
 
--- the instance of an opening's copy has the same pages, with the same states
-abbrev pub HasSamePages : (o copy : Opening) → Type 0
-HasSamePages o copy = IsSamePages o.instance.pages copy.instance.pages
+-- the instance of an opening's copy has the same pages, with the same states and marks
+abbrev pub BeginsOverSame : (o copy : Opening) → Type 0
+BeginsOverSame o copy = IsSamePages o.instance.pages copy.instance.pages
 
--- a copy of an extension has the same record, and makes the same of each instance
+-- a copy of an extension has the same record of the same instance, and makes the same of each instance
 pub record IsSameExtension (x copy : Extension) : Type 0 where
-  pub extension : extension_of copy ≡ extension_of x
+  pub instance : copy.instance ≡ x.instance
+  pub record_is : IsSamePage x.record copy.record
+  pub told : suspended_of copy.state ≡ suspended_of x.state
   pub show : IsSameShow x.show copy.show
 
 -- a copy of a change has the same record and makes the same of the instances; where the one has its room, and its page its state, so has
@@ -54,17 +66,17 @@ pub record IsSameExtension (x copy : Extension) : Type 0 where
 pub record IsSameChange (c copy : Change) : Type 0 where
   pub change : change_of copy ≡ change_of c
   pub inside : inside_of copy ≡ inside_of c
-  pub instances : (scripts : List Named) (is : List spec.Instance) → instances_with scripts copy is ≡ instances_with scripts c is
+  pub instances : (all : List Named) (is : List spec.Instance) → instances_with all copy is ≡ instances_with all c is
   pub room : (b : Book) → HasRoomWith c b → HasRoomWith copy b
-  pub states : (scripts : List Named) (shelf : Source ℕ) (is : List spec.Instance) → HasStateIn scripts shelf is c → HasStateIn scripts shelf is copy
+  pub states : (all : List Named) (shelf : Source ℕ) (is : List spec.Instance) → HasStateIn all shelf is c → HasStateIn all shelf is copy
 
 -- a copy of a change, if there is one, is the same decision and makes the same of the instances; where the one has its room, and its page
 -- its state, so has the copy
 pub record IsSameIf (c copy : Option Change) : Type 0 where
   pub decision : (r : step.Reply) → decision_by r copy ≡ decision_by r c
-  pub instances : (scripts : List Named) (is : List spec.Instance) → instances_after scripts copy is ≡ instances_after scripts c is
+  pub instances : (all : List Named) (is : List spec.Instance) → instances_after all copy is ≡ instances_after all c is
   pub room : (b : Book) → HasRoomFor c b → HasRoomFor copy b
-  pub states : (scripts : List Named) (shelf : Source ℕ) (is : List spec.Instance) → HasStateFrom scripts shelf is c → HasStateFrom scripts shelf is copy
+  pub states : (all : List Named) (shelf : Source ℕ) (is : List spec.Instance) → HasStateFrom all shelf is c → HasStateFrom all shelf is copy
 
 -- a copy of what is prepared has the same reply and decision and makes the same of the instances; where the one has its room, and its page
 -- its state, so has the copy
@@ -72,6 +84,6 @@ pub record IsSame (p copy : Prepared) : Type 0 where
   pub reply : copy.reply ≡ p.reply
   pub logged : copy.logged ≡ p.logged
   pub decision : decision_of copy ≡ decision_of p
-  pub instances : (scripts : List Named) (is : List spec.Instance) → instances_after scripts copy.change is ≡ instances_after scripts p.change is
+  pub instances : (all : List Named) (is : List spec.Instance) → instances_after all copy.change is ≡ instances_after all p.change is
   pub room : (b : Book) → HasRoomFor p.change b → HasRoomFor copy.change b
-  pub states : (scripts : List Named) (shelf : Source ℕ) (is : List spec.Instance) → HasStateFrom scripts shelf is p.change → HasStateFrom scripts shelf is copy.change
+  pub states : (all : List Named) (shelf : Source ℕ) (is : List spec.Instance) → HasStateFrom all shelf is p.change → HasStateFrom all shelf is copy.change

@@ -3,6 +3,7 @@ use Rattle.std.specs.Prelude.{◌≡◌, ℕ, List, [], ◌∷◌, ◌++◌, Opt
 use Rattle.std.specs.Borrow.{Bor}
 use Rattle.script_nodes.specs.Arena.{Arena}
 use Rattle.script_nodes.specs.Setup.{Named}
+use Rattle.replay_spec.specs.Tape.{Tape}
 use Rattle.replay_spec.specs.Book as spec
 use Rattle.replay_spec.specs.Admission.{Place, Admission, begins, resumes, refused}
 use Rattle.replay_spec.specs.Next.{Visit, url_for, home_of, page_tape, start_visit, page_visit}
@@ -31,23 +32,29 @@ GoesOnFrom v None = v.pages ≡ []
 GoesOnFrom v (Some d) = IsStateBehind v d
 
 -- the ticket's script, its URL, what it goes on from and the links of its page are those of a visit
-pub record IsFor (scripts : List Named) (t : Ticket) (v : Visit) : Type 0 where
-  pub script : slice_get scripts t.script ≡ Some v.script
+pub record IsFor (all : List Named) (t : Ticket) (v : Visit) : Type 0 where
+  pub script : slice_get all t.script ≡ Some v.script
   pub url : t.url ≡ url_for v
   pub from : GoesOnFrom v (origin_of t.from)
   pub links : t.links ≡ links_at (length v.pages)
 
--- a start's ticket names the script by its place, and has the cells that the script begins with
-pub record FitsStart (scripts : List Named) (b : spec.Book) (t : Ticket) (k : ℕ) (s : Named) : Type 0 where
-  pub run : IsFor scripts t (start_visit b (ticket_of t) k s)
-  pub place : t.script ≡ k
+-- A start's ticket names the script of this place in the setup, and has the cells that the script begins with.
+pub record FitsStart (all : List Named) (b : spec.Book) (t : Ticket) (k : ℕ) (s : Named) : Type 0 where
+  pub run : IsFor all t (start_visit b (ticket_of t) k s)
+  pub start : t.start ≡ k
+  pub present : slice_get b.scripts k ≡ Some s
   pub cells : t.cells ≡ s.script.cells
 
 -- where the target is admitted as this, the ticket is for the visit
 abbrev pub FitsAs : List Named → spec.Book → Ticket → Admission → Type 0
-FitsAs scripts b t (begins k s) = FitsStart scripts b t k s
-FitsAs scripts b t (resumes at) = IsFor scripts t (page_visit b (ticket_of t) at)
-FitsAs scripts b t (refused r) = ⊤
+FitsAs all b t (begins k s) = FitsStart all b t k s
+FitsAs all b t (resumes at) = IsFor all t (page_visit b (ticket_of t) at)
+FitsAs all b t (refused r) = ⊤
+
+-- the state is the one that the script shows its page with over the tape, or the one that is given to the page's number
+abbrev pub IsStateOver : Source ⊤ → Named → Tape → (number : ℕ) → Suspended → Type 0
+IsStateOver (own every) s t n d = IsStateOf (arena_of s.script) t d
+IsStateOver (given states) s t n d = IsGiven s states n d
 
 -- what a ticket goes on from, if anything, fits a script
 abbrev pub FitsScript : Arena → Option Suspended → Type 0
@@ -75,31 +82,32 @@ pub record GoesOnGiven (states : ℕ → Option Suspended) (at : Place) (t : Tic
 -- where pages have the states of their chains, the ticket is for the visit that answers the page; where states are given, it goes on from
 -- the given one
 abbrev pub GoesOnBySource : Source ⊤ → List Named → spec.Book → Place → Ticket → Type 0
-GoesOnBySource (own all) scripts b at t = IsFor scripts t (page_visit b (ticket_of t) at)
-GoesOnBySource (given states) scripts b at t = GoesOnGiven states at t
+GoesOnBySource (own every) all b at t = IsFor all t (page_visit b (ticket_of t) at)
+GoesOnBySource (given states) all b at t = GoesOnGiven states at t
 
--- the ticket's script is one of the setup, and what it goes on from fits it, so its segment can be run
-pub record IsRunnable (scripts : List Named) (t : Ticket) : Type 0 where
+-- the ticket's script is one of these, and what it goes on from fits it, so its segment can be run
+pub record IsRunnable (all : List Named) (t : Ticket) : Type 0 where
   pub named : Named
-  pub script : slice_get scripts t.script ≡ Some named
+  pub script : slice_get all t.script ≡ Some named
   pub from : IsOriginOf named t.from
 
 -- where the target is admitted as a start, the ticket is for the visit
 abbrev pub FitsIfStart : List Named → spec.Book → Ticket → Admission → Type 0
-FitsIfStart scripts b t (begins k s) = FitsStart scripts b t k s
-FitsIfStart scripts b t _ = ⊤
+FitsIfStart all b t (begins k s) = FitsStart all b t k s
+FitsIfStart all b t _ = ⊤
 
 -- the ticket is for some visit of its own
-pub record IsForSome (scripts : List Named) (t : Ticket) : Type 0 where
+pub record IsForSome (all : List Named) (t : Ticket) : Type 0 where
   pub visit : Visit
   pub ticket : visit.ticket ≡ ticket_of t
-  pub fits : IsFor scripts t visit
+  pub fits : IsFor all t visit
 
 -- a copy stands for the same ticket, and goes on from the same state
 pub record IsCopy (copy t : Ticket) : Type 0 where
   pub ticket : ticket_of copy ≡ ticket_of t
   pub target : copy.target ≡ t.target
   pub script : copy.script ≡ t.script
+  pub start : copy.start ≡ t.start
   pub url : copy.url ≡ t.url
   pub from : origin_of copy.from ≡ origin_of t.from
   pub links : copy.links ≡ t.links

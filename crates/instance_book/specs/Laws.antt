@@ -1,7 +1,8 @@
 -- The state of a page that a visit shows.
-use Rattle.std.specs.Prelude.{◌≡◌, map, Contains, Option, None, ⊤}
+use Rattle.std.specs.Prelude.{◌≡◌, List, map, Contains, Option, None, ⊤}
 use Rattle.instance_cells.specs.Cells.{reads_of}
 use Rattle.instance_cells.specs.Views.{effect_of}
+use Rattle.script_nodes.specs.Setup.{Named}
 use Rattle.page_names.specs.Views.{target_of}
 use Rattle.replay_spec.specs.Tape.{recorded}
 use Rattle.replay_spec.specs.Book.{Book}
@@ -31,9 +32,9 @@ KeepsStateAs b t (resumes at) r = KeepsStateOver (page_visit b (ticket_of t) at)
 KeepsStateAs b t (refused why) r = ⊤
 
 -- What a ticket's segment shows, where the target is admitted and the ticket is for the visit, is a page with the state of its
--- chain, where that has a spelling.
+-- chain, where that has a spelling. The ticket names its script among all of these.
 abbrev pub AShownPageHasItsState : Type 0
 AShownPageHasItsState =
-    (b : Book) → IsOrderly b → (t : Ticket) → Contains b.out t.number → (a : Admission) → admit b (target_of t.target) ≡ a
-    → refusal_of a ≡ None → FitsAs b.scripts b t a → (r : Segment) → KeepsStateAs b t a r → (c : Option Change) → KeepsItsState t r c → IsSpelledBy c
-    → HasStateBy b.scripts b.shelf b.instances c
+    (all : List Named) (b : Book) → IsOrderly b → (t : Ticket) → Contains b.out t.number → (a : Admission) → admit b (target_of t.target) ≡ a
+    → refusal_of a ≡ None → FitsAs all b t a → (r : Segment) → KeepsStateAs b t a r → (c : Option Change) → KeepsItsState t r c → IsSpelledBy c
+    → HasStateBy all b.shelf b.instances c

@@ -1,6 +1,7 @@
 pub mod Orders
 pub mod Lists
 pub mod Views
+pub mod Uses
 pub mod Places
 pub mod Fronts
 pub mod Makes
@@ -13,4 +14,5 @@ pub mod Prepares
 pub mod Segments
 pub mod Copies
 pub mod Laws
-pub mod Told
+pub mod Before
+pub mod Redo

@@ -1,12 +1,12 @@
--- What is kept of an instance: its script's place in the setup, and of each page its state.
-use Rattle.std.specs.Prelude.{◌≡◌, ◌<◌, ℕ, List, [], ◌∷◌, map, length, reverse, Option, Some, None, option_map}
+-- What is kept of an instance: its script's place among all, and of each page its state.
+use Rattle.std.specs.Prelude.{◌≡◌, ◌<◌, ℕ, true, List, [], ◌∷◌, map, length, reverse, Option, Some, None, option_map}
 use Rattle.std.specs.List.{AllByRecursion}
 use Rattle.std.specs.Borrow.{Bor}
-use Rattle.script_nodes.specs.Arena.{Arena}
 pub use Rattle.script_nodes.specs.Arena.{arena_of}
-use Rattle.script_nodes.specs.Setup.{Named, Script}
+use Rattle.script_nodes.specs.Setup.{Named}
 use Rattle.replay_spec.specs.Book as spec
-use Rattle.replay_spec.specs.Change.{put_page, put_in_order}
+use Rattle.replay_spec.specs.Change.{put_page, put_in_order, put_use, used_in, unless_gone, evict}
+use Rattle.replay_spec.specs.Recovery.{can_go}
 use Rattle.replay_spec.specs.Next.{Home, home, page_tape}
 use Rattle.replay_spec.specs.Invariant.{Lineage}
 use Rattle.machine_states.specs.Machine.{Suspended}
@@ -22,7 +22,9 @@ use Rattle.instance_book.specs.declared.numbered.Numbered.{Numbered}
 use Rattle.instance_book.specs.declared.in_order.InOrder.{InOrder}
 use Rattle.instance_book.specs.declared.page.KeptPage.{KeptPage}
 use Rattle.instance_book.specs.declared.instance.KeptInstance.{KeptInstance}
-use Rattle.instance_book.specs.Views.{page_of, pages_of, script_in}
+use Rattle.page_marks.specs.Marks.{Mark, number_of, mark_at, use_of}
+use Rattle.instance_book.specs.Lists.{HasRoom}
+use Rattle.instance_book.specs.Views.{page_of, pages_of, mark_of, marks_of, used_of, evicted_of, script_in}
 
 -- what is kept of the state of a page
 abbrev pub kept_at : Numbered KeptPage → Kept
@@ -51,6 +53,44 @@ PutsPage p old new = pages_of new ≡ put_page (page_of p) (pages_of old)
 -- the new pages with what is kept of their states are the old ones with one more, in the place of the one of its number
 abbrev pub PutsShown : Numbered KeptPage → (old new : InOrder KeptPage) → Type 0
 PutsShown p old new = shown_in new ≡ put_in_order (λ x. x.0.number) (shown_of p) (shown_in old)
+
+-- the new marks are the old ones with that of one page more, in the place of the one of its number
+abbrev pub PutsMark : Numbered KeptPage → (old new : InOrder KeptPage) → Type 0
+PutsMark p old new = marks_of new ≡ put_in_order number_of (mark_of p) (marks_of old)
+
+-- the page is new among these pages and not evicted, and by these uses those can go for it
+pub record CanFollow (p : Numbered KeptPage) (gone : List ℕ) (ps : List spec.Page) (us : List spec.Use) : Type 0 where
+  pub unused : spec.page_at p.number ps ≡ None
+  pub stays : p.item.gone ≡ None
+  pub goes : can_go gone us ≡ true
+
+-- there is room for the page, which is new and not evicted, and these pages can go for it
+pub record CanTake (p : Numbered KeptPage) (gone : List ℕ) (ps : InOrder KeptPage) : Type 0 where
+  pub room : HasRoom ps
+  pub next : CanFollow p gone (pages_of ps) (used_of ps)
+
+-- the pages stay, with what is kept of their states
+pub record HasSamePages (old new : InOrder KeptPage) : Type 0 where
+  pub pages : pages_of new ≡ pages_of old
+  pub shown : shown_in new ≡ shown_in old
+
+-- the new pages are the old ones with one more, which may answer one of them, and for which these went
+pub record ShowsPage (p : Numbered KeptPage) (gone : List ℕ) (old new : InOrder KeptPage) : Type 0 where
+  pub pages : PutsPage p old new
+  pub shown : PutsShown p old new
+  pub used : used_of new ≡ put_use (use_of (mark_of p)) (unless_gone gone (used_in p.item.parent p.number (used_of old)))
+  pub evicted : evicted_of new ≡ evict p.number gone (evicted_of old)
+
+-- what is lent has the mark of the page of a number, if there is one
+abbrev pub IsMarkedAt : ℕ → InOrder KeptPage → Option (Bor (Numbered KeptPage)) → Type 0
+IsMarkedAt n ps p = option_map (λ x. mark_of x.now) p ≡ mark_at n (marks_of ps)
+
+-- the pages stay, with what is kept of their states and the room for more, and f makes the new marks of the old ones
+pub record ChangesMarks (f : List Mark → List Mark) (old new : InOrder KeptPage) : Type 0 where
+  pub pages : pages_of new ≡ pages_of old
+  pub shown : shown_in new ≡ shown_in old
+  pub marks : marks_of new ≡ f (marks_of old)
+  pub room : HasRoom old → HasRoom new
 
 -- Which states the pages of a book have: those of their chains, which are looked at from a shelf or a home; or those that are given to
 -- their numbers.
@@ -94,44 +134,44 @@ pub record HasState (s : Named) (h : Source Home) (ps : List spec.Page) (p : spe
 abbrev pub HaveStates : Named → Source Home → List spec.Page → List (spec.Page × Kept) → Type 0
 HaveStates s h ps xs = AllByRecursion (λ x. HasState s h ps x.0 x.1) xs
 
--- An instance of this number and of the script of this place, which is one of the setup, has these pages with these states.
-pub record IsKeptAs (scripts : List Named) (shelf : Source ℕ) (number place : ℕ) (ps : List spec.Page) (xs : List (spec.Page × Kept)) : Type 0 where
-  pub placed : place < length scripts
-  pub states : let s = script_in scripts place in HaveStates s (source_in s shelf number) ps xs
+-- An instance of this number and of the script of this place, which is one of all, has these pages with these states.
+pub record IsKeptAs (all : List Named) (shelf : Source ℕ) (number place : ℕ) (ps : List spec.Page) (xs : List (spec.Page × Kept)) : Type 0 where
+  pub placed : place < length all
+  pub states : let s = script_in all place in HaveStates s (source_in s shelf number) ps xs
 
--- the instance is of a script of the setup, and each of its pages has its state
+-- the instance is of one of the scripts, and each of its pages has its state
 abbrev pub IsKept : List Named → Source ℕ → Numbered KeptInstance → Type 0
-IsKept scripts shelf i = IsKeptAs scripts shelf i.number i.item.script (pages_of i.item.pages) (shown_in i.item.pages)
+IsKept all shelf i = IsKeptAs all shelf i.number i.item.script (pages_of i.item.pages) (shown_in i.item.pages)
 
--- each instance is of a script of the setup, and each page has its state
+-- each instance is of one of the scripts, and each page has its state
 abbrev pub AreKept : List Named → Source ℕ → InOrder KeptInstance → Type 0
-AreKept scripts shelf is = AllByRecursion (IsKept scripts shelf) is.things.items
+AreKept all shelf is = AllByRecursion (IsKept all shelf) is.things.items
 
--- the instance is of a script of the setup
+-- the instance is of one of the scripts
 abbrev pub IsPlaced : List Named → Numbered KeptInstance → Type 0
-IsPlaced scripts i = i.item.script < length scripts
+IsPlaced all i = i.item.script < length all
 
--- each instance is of a script of the setup
+-- each instance is of one of the scripts
 abbrev pub ArePlaced : List Named → InOrder KeptInstance → Type 0
-ArePlaced scripts is = AllByRecursion (IsPlaced scripts) is.things.items
+ArePlaced all is = AllByRecursion (IsPlaced all) is.things.items
 
--- where each old instance is of a script of the setup, so is each new one
+-- where each old instance is of one of the scripts, so is each new one
 abbrev pub StayPlaced : (old new : InOrder KeptInstance) → Type 0
-StayPlaced old new = (scripts : List Named) → ArePlaced scripts old → ArePlaced scripts new
+StayPlaced old new = (all : List Named) → ArePlaced all old → ArePlaced all new
 
--- where this instance is of a script of the setup, and each old one is, so is each new one
+-- where this instance is of one of the scripts, and each old one is, so is each new one
 abbrev pub StayPlacedWith : Numbered KeptInstance → (old new : InOrder KeptInstance) → Type 0
-StayPlacedWith i old new = (scripts : List Named) → IsPlaced scripts i → ArePlaced scripts old → ArePlaced scripts new
+StayPlacedWith i old new = (all : List Named) → IsPlaced all i → ArePlaced all old → ArePlaced all new
 
--- where this instance is of a script of the setup and its pages have their states, and so it is with each old one, so it is with each new
+-- where this instance is of one of the scripts and its pages have their states, and so it is with each old one, so it is with each new
 -- one
 abbrev pub StayKeptWith : Numbered KeptInstance → (old new : InOrder KeptInstance) → Type 0
 StayKeptWith i old new =
-    (scripts : List Named) (shelf : Source ℕ) → IsKept scripts shelf i → AreKept scripts shelf old → AreKept scripts shelf new
+    (all : List Named) (shelf : Source ℕ) → IsKept all shelf i → AreKept all shelf old → AreKept all shelf new
 
--- where each old instance is of a script of the setup and each page has its state, so it is with each new one
+-- where each old instance is of one of the scripts and each page has its state, so it is with each new one
 abbrev pub StayKept : (old new : InOrder KeptInstance) → Type 0
-StayKept old new = (scripts : List Named) (shelf : Source ℕ) → AreKept scripts shelf old → AreKept scripts shelf new
+StayKept old new = (all : List Named) (shelf : Source ℕ) → AreKept all shelf old → AreKept all shelf new
 
 -- the page is new among those of an instance, and this is kept of its state
 pub record IsNextIn (shelf : Source ℕ) (i : spec.Instance) (p : spec.Page) (k : Kept) : Type 0 where

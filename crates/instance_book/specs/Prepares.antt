@@ -1,11 +1,11 @@
 -- What a visit is prepared as.
 use Rattle.std.specs.Prelude.{◌≡◌, ◌⊎◌, ℕ, ◌+◌, List, [], ◌∷◌, length, Option, Some, None, IfSome, Result, Ok, Err, ⊤, slice_get, IfOk}
-use Rattle.script_value.specs.Val.{list, no_vals}
+use Rattle.script_value.specs.Val.{Val, list, no_vals}
 use Rattle.script_value.specs.Views.{meaning}
 use Rattle.script_value.specs.declared.outcome.Reply.{Reply}
 use Rattle.script_value.specs.declared.outcome.Reply.TheVariants as reply
 use Rattle.script_value.specs.declared.outcome.TxName.{TxName}
-use Rattle.script_nodes.specs.Setup.{Named}
+use Rattle.script_nodes.specs.Setup.{Named, Library}
 use Rattle.script_nodes.specs.declared.script.SendKind.{SendKind}
 use Rattle.instance_cells.specs.Cells.{Effect, AreOn, commit, reads_of}
 use Rattle.page_names.specs.Names.{Destination, start, page}
@@ -13,12 +13,12 @@ use Rattle.page_names.specs.Views.{target_of}
 use Rattle.page_names.specs.declared.names.PageName.{PageName}
 use Rattle.replay_spec.specs.Eval.{Segment}
 use Rattle.replay_spec.specs.Book as spec
-use Rattle.replay_spec.specs.Book.{Doubt, instance_at, spend}
+use Rattle.replay_spec.specs.Book.{instance_at, spend}
 use Rattle.replay_spec.specs.Rules.{Rules}
 use Rattle.replay_spec.specs.Admission.{Place, Admission, begins, resumes, refused, refusal_of, admit}
 use Rattle.replay_spec.specs.Next.{start_visit, page_visit}
 use Rattle.replay_spec.specs.Step as step
-use Rattle.replay_spec.specs.Step.{Decision, replies, records, settles, carried_out, refusal, shown, ended, finished}
+use Rattle.replay_spec.specs.Step.{Decision, replies, records, compacts, settles, gone_for, carried_out, refusal, shown, ended, finished}
 use Rattle.machine_states.specs.Machine.{Suspended}
 use Rattle.machine_states.specs.Views.{origin_of, suspended_of, segment_of, state_of}
 use Rattle.machine_states.specs.declared.segment.Segment as stored
@@ -31,11 +31,11 @@ use Rattle.instance_book.specs.declared.prepared.Change.{Change}
 use Rattle.instance_book.specs.declared.prepared.Change.TheVariants.{Opens, Extends, Ends}
 use Rattle.instance_book.specs.declared.book.Book.{Book}
 use Rattle.instance_book.specs.declared.ticket.Ticket.{Ticket}
-use Rattle.instance_book.specs.Views.{page_of, pages_of, script_in, ticket_of, reply_of, book_of}
+use Rattle.instance_book.specs.Views.{page_of, pages_of, script_in, ticket_of, reply_of, Beside, book_of}
 use Rattle.kept_states.specs.Kept.{IsKeptFrom}
 use Rattle.instance_book.specs.Places.{kept_at, shown_in}
-use Rattle.instance_book.specs.Changes.{begun_with, shown_with, ended_with, decision_of, put_into}
-use Rattle.instance_book.specs.Swept.{cells_at}
+use Rattle.instance_book.specs.Changes.{begun_with, gone_in, shown_with, ended_with, decision_of, put_into}
+use Rattle.instance_book.specs.Swept.{cells_at, pages_at}
 use Rattle.instance_book.specs.Fits.{IsFor, FitsStart, FitsAs}
 
 -- what a visit runs under beside no journal: its record is measured by whoever keeps one
@@ -47,18 +47,19 @@ rules_with fuel life instances pages =
 abbrev pub IsRecord : Decision → Type 0
 IsRecord (replies r) = ⊥
 IsRecord (records r c inside) = ⊤
+IsRecord (compacts r) = ⊥
 
 -- What is prepared is the decision, and what it makes of the book carries the decision out, also where numbers are spent.
-pub record IsCarriedOut (scripts : List Named) (rules : Rules) (b : spec.Book) (d : Decision) (p : Prepared) : Type 0 where
+pub record IsCarriedOut (library : Library) (rules : Rules) (b : spec.Book) (d : Decision) (p : Prepared) : Type 0 where
   pub decision : decision_of p ≡ d
-  pub lands : (n : ℕ) → carried_out rules (spend n b) d ≡ (reply_of p.reply, put_into scripts p (spend n b))
+  pub lands : (n : ℕ) → carried_out rules (spend n b) d ≡ (reply_of p.reply, put_into library p (spend n b))
 
 -- What is prepared carries the decision out, and a refusal is the decision. Want of memory is told only of a decision that changes the
 -- book.
-abbrev pub Prepares : List Named → Rules → spec.Book → Decision → Result Prepared Reply → Type 0
-Prepares scripts rules b d (Ok p) = IsCarriedOut scripts rules b d p
-Prepares scripts rules b d (Err reply.Memory) = IsRecord d
-Prepares scripts rules b d (Err r) = d ≡ replies (reply_of r)
+abbrev pub Prepares : Library → Rules → spec.Book → Decision → Result Prepared Reply → Type 0
+Prepares library rules b d (Ok p) = IsCarriedOut library rules b d p
+Prepares library rules b d (Err reply.Memory) = IsRecord d
+Prepares library rules b d (Err r) = d ≡ replies (reply_of r)
 
 -- what a run that can be landed is answered with
 abbrev pub IsOfRun : step.Reply → Type 0
@@ -73,7 +74,6 @@ IsOfRun _ = ⊥
 -- what is answered where there is no room for what a run came to
 abbrev pub WantsRoom : step.Reply → Type 0
 WantsRoom (step.shelf_full count) = ⊤
-WantsRoom (step.instance_full count) = ⊤
 WantsRoom step.memory = ⊤
 WantsRoom _ = ⊥
 
@@ -89,15 +89,25 @@ first_page t effects inside deadline = record {
   deadline = deadline;
 }
 
--- the instance that a start begins, without its first page
-abbrev pub begun_by : List Named → Ticket → (number : ℕ) → List Effect → (left : List TxName) → spec.Instance
-begun_by scripts t n effects left =
-    record { number = n; script = script_in scripts t.script; cells = commit effects t.cells; closed = left; revoked = []; pages = [] }
+-- the instance that a start of the script of this place begins over these cells, without its first page
+abbrev pub begun_at : List Named → (place : ℕ) → (cells : List Val) → (number : ℕ) → List Effect → (left : List TxName) → spec.Instance
+begun_at all place cells n effects left = record {
+  number = n;
+  script = script_in all place;
+  cells = commit effects cells;
+  closed = left;
+  revoked = [];
+  used = [];
+  evicted = [];
+  pages = [];
+}
 
 -- the instance that a start begins, with its first page
 abbrev pub first_instance : List Named → Ticket → List Effect → (inside left : List TxName) → (deadline : ℕ) → spec.Instance
-first_instance scripts t effects inside left deadline =
-    record (begun_by scripts t t.number effects left) { pages = first_page t effects inside deadline ∷ [] }
+first_instance all t effects inside left deadline = record (begun_at all t.script t.cells t.number effects left) {
+  used = record { page = t.number; last = t.number } ∷ [];
+  pages = first_page t effects inside deadline ∷ [];
+}
 
 -- the page of an answer to the page of this number
 abbrev pub next_page : Ticket → (parent : ℕ) → List Effect → List TxName → (deadline : ℕ) → spec.Page
@@ -116,16 +126,17 @@ abbrev pub opening_by : Ticket → List Effect → List TxName → SendKind → 
 opening_by t effects left kind deadline = record {
   number = t.number;
   nonce = t.nonce;
-  script = t.script;
+  script = t.start;
   effects = effects;
   left = left;
   kind = kind;
   deadline = deadline;
+  evicted = [];
 }
 
--- the extension by a ticket's segment
-abbrev pub extension_by : Ticket → (instance answered : ℕ) → List Effect → List TxName → SendKind → (deadline : ℕ) → spec.Extension
-extension_by t instance answered effects left kind deadline = record {
+-- the extension by a ticket's segment, for whose page these went
+abbrev pub extension_by : Ticket → (instance answered : ℕ) → List Effect → List TxName → SendKind → (deadline : ℕ) → (gone : List ℕ) → spec.Extension
+extension_by t instance answered effects left kind deadline gone = record {
   number = t.number;
   nonce = t.nonce;
   instance = instance;
@@ -135,6 +146,7 @@ extension_by t instance answered effects left kind deadline = record {
   left = left;
   kind = kind;
   deadline = deadline;
+  evicted = gone;
 }
 
 -- the ending by a ticket's segment
@@ -158,19 +170,20 @@ finish_by t instance answered effects = record {
   effects = effects;
 }
 
--- the change is an opening, and the instance that it begins is this one under each setup
+-- the change is an opening, and the instance that it begins is this one under each list of scripts
 abbrev pub OpensWith : Option Change → (List Named → spec.Instance) → Type 0
-OpensWith (Some (Opens o)) f = (scripts : List Named) → begun_with scripts o ≡ f scripts
+OpensWith (Some (Opens o)) f = (all : List Named) → begun_with all o ≡ f all
 OpensWith _ f = ⊥
 
 -- the change is an extension of this instance, and makes of it what f does
 abbrev pub ExtendsBy : Option Change → spec.Instance → (spec.Instance → spec.Instance) → Type 0
-ExtendsBy (Some (Extends x)) i f = (x.instance ≡ i.number) × (shown_with x.show i ≡ f i)
+ExtendsBy (Some (Extends x)) i f = (x.instance ≡ i.number) × (shown_with x.show (gone_in x) i ≡ f i)
 ExtendsBy _ i f = ⊥
 
 -- the change is an ending of this instance, and makes of it what f does
 abbrev pub EndsBy : Option Change → spec.Instance → (spec.Instance → spec.Instance) → Type 0
-EndsBy (Some (Ends e)) i f = (e.instance ≡ i.number) × (ended_with e.after i ≡ f i)
+EndsBy (Some (Ends e)) i f =
+    (e.record.instance ≡ i.number) × (ended_with e.record.page e.record.ticket e.after i ≡ f i)
 EndsBy _ i f = ⊥
 
 -- the number of the ticket is logged, and this was decided
@@ -181,11 +194,12 @@ pub record IsLogged (p : Prepared) (t : Ticket) (d : Decision) : Type 0 where
 -- what is prepared is the opening of a start that showed this page
 pub record IsOpening (p : Prepared) (t : Ticket) (bytes : List ℕ) (effects : List Effect) (inside left : List TxName) (kind : SendKind) (deadline : ℕ) : Type 0 where
   pub recorded : IsLogged p t (records (shown bytes t.url) (spec.opens (opening_by t effects left kind deadline)) inside)
-  pub change : OpensWith p.change (λ scripts. first_instance scripts t effects inside left deadline)
+  pub change : OpensWith p.change (λ all. first_instance all t effects inside left deadline)
 
--- what is prepared is the extension by an answer to a page of the instance that showed this page, and makes of the instance what f does
-pub record IsExtension (p : Prepared) (t : Ticket) (i : spec.Instance) (answered : ℕ) (bytes : List ℕ) (effects : List Effect) (inside left : List TxName) (kind : SendKind) (deadline : ℕ) (f : spec.Instance → spec.Instance) : Type 0 where
-  pub recorded : IsLogged p t (records (shown bytes t.url) (spec.extends (extension_by t i.number answered effects left kind deadline)) inside)
+-- what is prepared is the extension by an answer to a page of the instance that showed this page, for which these went, and makes of the
+-- instance what f does
+pub record IsExtension (p : Prepared) (t : Ticket) (i : spec.Instance) (answered : ℕ) (bytes : List ℕ) (effects : List Effect) (inside left : List TxName) (kind : SendKind) (deadline : ℕ) (gone : List ℕ) (f : spec.Instance → spec.Instance) : Type 0 where
+  pub recorded : IsLogged p t (records (shown bytes t.url) (spec.extends (extension_by t i.number answered effects left kind deadline gone)) inside)
   pub change : ExtendsBy p.change i f
 
 -- what is prepared is the ending of the instance by an answer with this page, and makes of the instance what f does
@@ -201,23 +215,36 @@ IsFinish p t instance answered bytes effects inside =
 -- what is prepared for a start that is admitted
 abbrev pub StartsOn : Book → Ticket → Segment → (instances life : ℕ) → Result Prepared Reply → Type 0
 StartsOn book t s instances life result =
-    (scripts : List Named) (length_now : ℕ) (down : Option Doubt) (fuel pages k : ℕ) (named : Named)
-    → let b = book_of scripts length_now down book in FitsStart scripts b t k named
+    (library : Library) (beside : Beside) (fuel pages k : ℕ) (named : Named)
+    → let b = book_of library beside book in FitsStart library.all b t k named
     → let rules = rules_with fuel life instances pages in
-    Prepares scripts rules b (settles rules b (length b.instances) (start_visit b (ticket_of t) k named) s) result
+    Prepares library rules b (settles rules b [] (start_visit b (ticket_of t) k named) s) result
 
 -- what is prepared for an answer to a page that is admitted
 abbrev pub AnswersOn : Book → Ticket → PageName → Segment → (pages life : ℕ) → Result Prepared Reply → Type 0
 AnswersOn book t n s pages life result =
-    (scripts : List Named) (length_now : ℕ) (down : Option Doubt) (fuel instances : ℕ) (at : Place)
-    → let b = book_of scripts length_now down book in instance_at n.instance b.instances ≡ Some at.instance → at.page.number ≡ n.page
-    → IsFor scripts t (page_visit b (ticket_of t) at)
+    (library : Library) (beside : Beside) (fuel instances : ℕ) (at : Place)
+    → let b = book_of library beside book in instance_at n.instance b.instances ≡ Some at.instance → at.page.number ≡ n.page
+    → IsFor library.all t (page_visit b (ticket_of t) at)
     → let rules = rules_with fuel life instances pages in
-    Prepares scripts rules b (settles rules b (length at.instance.pages) (page_visit b (ticket_of t) at) s) result
+    Prepares library rules b (settles rules b (gone_for rules (ticket_of t) at) (page_visit b (ticket_of t) at) s) result
 
 -- what is prepared for an answer to a page that is admitted, with what the program's segment came to
 abbrev pub AnswersBy : Book → Ticket → PageName → stored.Segment → (pages life : ℕ) → Result Prepared Reply → Type 0
 AnswersBy book t n r pages life result = AnswersOn book t n (segment_of r) pages life result
+
+-- no page of the instance of this number has that number, where there is such an instance
+abbrev pub IsNewIn : Book → (instance number : ℕ) → Type 0
+IsNewIn b n m = IfSome (pages_at n b) (λ ps. spec.page_at m ps ≡ None)
+
+-- the number of an answer's ticket is new in the instance whose page it answers
+abbrev pub IsNewBy : Book → Ticket → Destination → Type 0
+IsNewBy b t (start name) = ⊤
+IsNewBy b t (page name n) = IsNewIn b n.instance t.number
+
+-- the number of the ticket, where it is for an answer, is new in the instance whose page it answers
+abbrev pub IsNew : Book → Ticket → Type 0
+IsNew b t = IsNewBy b t (target_of t.target)
 
 -- the effects are on the cells of the instance of this number, if there is one
 abbrev pub IsOnCells : Book → (instance : ℕ) → List Effect → Type 0
@@ -234,16 +261,16 @@ AreOnCells b t effects = AreOnBy b t (target_of t.target) effects
 
 -- the decision on a visit whose new segment came to this
 abbrev pub settled : Rules → spec.Book → Ticket → Admission → Segment → Decision
-settled rules b t (begins k named) s = settles rules b (length b.instances) (start_visit b (ticket_of t) k named) s
-settled rules b t (resumes at) s = settles rules b (length at.instance.pages) (page_visit b (ticket_of t) at) s
+settled rules b t (begins k named) s = settles rules b [] (start_visit b (ticket_of t) k named) s
+settled rules b t (resumes at) s = settles rules b (gone_for rules (ticket_of t) at) (page_visit b (ticket_of t) at) s
 settled rules b t (refused r) s = replies (refusal r)
 
 -- what is prepared, where the target is admitted and the ticket is for the visit
 abbrev pub IsPrepared : Book → Ticket → Segment → (instances pages life : ℕ) → Result Prepared Reply → Type 0
 IsPrepared book t s instances pages life result =
-    (scripts : List Named) (length_now : ℕ) (down : Option Doubt) (fuel : ℕ) (a : Admission)
-    → let b = book_of scripts length_now down book in admit b (target_of t.target) ≡ a → refusal_of a ≡ None → FitsAs scripts b t a
-    → let rules = rules_with fuel life instances pages in Prepares scripts rules b (settled rules b t a s) result
+    (library : Library) (beside : Beside) (fuel : ℕ) (a : Admission)
+    → let b = book_of library beside book in admit b (target_of t.target) ≡ a → refusal_of a ≡ None → FitsAs library.all b t a
+    → let rules = rules_with fuel life instances pages in Prepares library rules b (settled rules b t a s) result
 
 -- what is prepared with what the program's segment came to, where the target is admitted and the ticket is for the visit
 abbrev pub IsPreparedBy : Book → Ticket → stored.Segment → (instances pages life : ℕ) → Result Prepared Reply → Type 0
@@ -325,7 +352,8 @@ IsStartBy t s _ = ⊥
 
 -- the change is that of a ticket's segment which answered this page of this instance
 abbrev pub IsAnswerBy : Ticket → Segment → (instance answered : ℕ) → spec.Change → Type 0
-IsAnswerBy t s n m (spec.extends x) = (kind : SendKind) × ((deadline : ℕ) × (x ≡ extension_by t n m s.effects s.left kind deadline))
+IsAnswerBy t s n m (spec.extends x) =
+    (kind : SendKind) × ((deadline : ℕ) × ((gone : List ℕ) × (x ≡ extension_by t n m s.effects s.left kind deadline gone)))
 IsAnswerBy t s n m (spec.ends e) = e ≡ ending_by t n m s.effects s.left
 IsAnswerBy t s n m (spec.finishes f) = f ≡ finish_by t n m s.effects
 IsAnswerBy t s n m _ = ⊥
@@ -338,22 +366,31 @@ IsChangeBy t s (page name n) c = IsAnswerBy t s n.instance n.page c
 -- the change, if there is one, is that of a ticket's segment, and its page is inside the transactions in which the segment stopped
 abbrev pub IsDecisionBy : Ticket → Segment → Destination → Decision → Type 0
 IsDecisionBy t s d (replies r) = ⊤
+IsDecisionBy t s d (compacts r) = ⊥
 IsDecisionBy t s d (records r c inside) = IsChangeBy t s d c × (inside ≡ s.entered)
 
--- what a start asks of the setup: the ticket's script stands there, and it has the cells that the script begins with
-abbrev pub HasItsScript : List Named → Ticket → Destination → Type 0
-HasItsScript scripts t (start name) = (named : Named) × ((slice_get scripts t.script ≡ Some named) × (t.cells ≡ named.script.cells))
-HasItsScript scripts t (page name n) = ⊤
+-- the ticket's script stands at its places in the present setup and among all, and the ticket has the cells that it begins with
+pub record BeginsWithIts (library : Library) (t : Ticket) : Type 0 where
+  pub named : Named
+  pub told : slice_get library.all t.script ≡ Some named
+  pub present : slice_get library.setup t.start ≡ Some named
+  pub cells : t.cells ≡ named.script.cells
+
+-- what a start asks of the library: the ticket's script stands there
+abbrev pub HasItsScript : Library → Ticket → Destination → Type 0
+HasItsScript library t (start name) = BeginsWithIts library t
+HasItsScript library t (page name n) = ⊤
 
 -- what is prepared carries out what it decides
 abbrev pub CarriesItself : Book → Ticket → Destination → Prepared → Type 0
 CarriesItself book t d p =
-    (scripts : List Named) (length_now : ℕ) (down : Option Doubt) → HasItsScript scripts t d
-    → IsCarriedOut scripts (rules_with 0 0 0 0) (book_of scripts length_now down book) (decision_of p) p
+    (library : Library) (beside : Beside) → HasItsScript library t d
+    → IsCarriedOut library (rules_with 0 0 0 0) (book_of library beside book) (decision_of p) p
 
 -- a change is answered with the page that its segment came to
 abbrev pub AnswersWithPage : Decision → Type 0
 AnswersWithPage (replies r) = ⊤
+AnswersWithPage (compacts r) = ⊥
 AnswersWithPage (records (shown bytes url) c inside) = ⊤
 AnswersWithPage (records (finished bytes) c inside) = ⊤
 AnswersWithPage (records (ended bytes) c inside) = ⊤

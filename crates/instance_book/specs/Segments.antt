@@ -1,66 +1,134 @@
 -- What the program makes of a segment: of its effects, of the transactions inside which its page is, and of those that it left.
-use Rattle.std.specs.Prelude.{◌≡◌, ℕ, List, map, Option}
+use Rattle.std.specs.Prelude.{◌≡◌, ℕ, List, [], ◌∷◌, map, Option, Some, None}
+use Rattle.script_value.specs.Val.{Val, list, no_vals}
 use Rattle.script_value.specs.declared.outcome.TxName.{TxName}
 use Rattle.script_nodes.specs.Setup.{Named}
 use Rattle.script_nodes.specs.declared.script.SendKind.{SendKind}
+use Rattle.instance_cells.specs.Cells as spec_cells
+use Rattle.instance_cells.specs.Cells.{reads_of}
 use Rattle.instance_cells.specs.declared.effect.Effect.{Effect}
 use Rattle.instance_cells.specs.Views.{effect_of}
 use Rattle.machine_states.specs.Views.{suspended_of}
 use Rattle.replay_spec.specs.Book as spec
-use Rattle.replay_spec.specs.Change.{revoked_by, done, shown_by}
+use Rattle.replay_spec.specs.Change.{revoked_by, done, shown_by, ended_by}
+use Rattle.replay_spec.specs.Eviction.{goes_for}
+use Rattle.kept_states.specs.Kept.{Kept, kept_of}
+use Rattle.journal_records.specs.declared.records.PageRecord.{PageRecord}
 use Rattle.instance_book.specs.declared.numbered.Numbered.{Numbered}
 use Rattle.instance_book.specs.declared.in_order.InOrder.{InOrder}
 use Rattle.instance_book.specs.declared.page.KeptPage.{KeptPage}
 use Rattle.instance_book.specs.declared.instance.KeptInstance.{KeptInstance}
 use Rattle.instance_book.specs.declared.after.After.{After}
-use Rattle.instance_book.specs.declared.after.Show.{Show}
+use Rattle.instance_book.specs.declared.prepared.Opening.{Opening}
+use Rattle.instance_book.specs.declared.prepared.Extension.{Extension}
 use Rattle.instance_book.specs.declared.prepared.Prepared.{Prepared}
 use Rattle.instance_book.specs.declared.ticket.Ticket.{Ticket}
 use Rattle.instance_book.specs.declared.shown.ShownPage.{ShownPage}
+use Rattle.instance_book.specs.declared.shown.ShownState.{ShownState}
 use Rattle.instance_book.specs.declared.prepare.Done.{Done}
-use Rattle.instance_book.specs.Views.{page_of, pages_of, instance_with, instance_of}
-use Rattle.instance_book.specs.Changes.{renewed_by, ended_with, shown_with}
-use Rattle.instance_book.specs.Prepares.{begun_by, next_page, IsOpening, IsExtension, IsEnding, IsFinish, OpensTo, ExtendsTo}
+use Rattle.instance_book.specs.Views.{page_of, pages_of, mark_of, used_of, instance_with, instance_of}
+use Rattle.instance_book.specs.Places.{CanFollow, kept_at, shown_in}
+use Rattle.instance_book.specs.Changes.{IfExtends, renewed_by, left_with, shown_with, begun_with, gone_in}
+use Rattle.instance_book.specs.Prepares.{begun_at, next_page, ending_by, IsOpening, IsExtension, IsEnding, IsFinish, OpensTo, ExtendsTo}
 
 -- the numbers that are revoked after a page of this kind, whichever were before
 abbrev pub Revokes : SendKind → InOrder KeptPage → Option (InOrder (Unit {0})) → Type 0
 Revokes kind ps after = (revoked : List ℕ) → renewed_by revoked after ≡ revoked_by kind (pages_of ps) revoked
 
--- this is the instance that a start begins, before its page stands in it
-abbrev pub BeginsBy : Ticket → List Effect → (left : List TxName) → KeptInstance → Type 0
-BeginsBy t effects left i =
-    (scripts : List Named) (n : ℕ)
-    → instance_with scripts n i ≡ begun_by scripts t n (map effect_of effects) left
+-- this is the instance that a start of the script of this place begins over these cells, before its page stands in it
+abbrev pub BeginsBy : (place : ℕ) → (cells : List Val) → List Effect → (left : List TxName) → KeptInstance → Type 0
+BeginsBy place cells effects left i =
+    (all : List Named) (n : ℕ)
+    → instance_with all n i ≡ begun_at all place cells n (map effect_of effects) left
 
 -- a segment of these effects, which left these transactions, leaves this of the instance
 abbrev pub IsLeftBy : List Effect → (left : List TxName) → KeptInstance → After → Type 0
 IsLeftBy effects left i after =
-    (scripts : List Named) (n : ℕ)
-    → ended_with after (instance_with scripts n i) ≡ done (map effect_of effects) left (instance_with scripts n i)
+    (all : List Named) (n : ℕ)
+    → left_with after (instance_with all n i) ≡ done (map effect_of effects) left (instance_with all n i)
 
--- what the segment of a page makes of an instance whose page it answered
-abbrev pub gone_on : Ticket → (parent : ℕ) → ShownPage → spec.Instance → spec.Instance
-gone_on t parent p i =
+-- ---- of a record
+
+-- what the segment of a page did, as its record tells
+abbrev pub effects_in : PageRecord → List spec_cells.Effect
+effects_in r = map effect_of r.effects.items
+
+-- the page of a record, which answers this one, if any, with this
+abbrev pub new_in : PageRecord → (parent : Option ℕ) → (answer : Val) → (inside : List TxName) → spec.Page
+new_in r parent answer inside = record {
+  number = r.ticket;
+  nonce = r.nonce;
+  parent = parent;
+  answer = answer;
+  reads = reads_of (effects_in r);
+  inside = inside;
+  deadline = r.deadline;
+}
+
+-- what is kept stands for this page, which its own segment used last and which is not evicted, and this is kept of its state
+pub record IsNewPage (q : spec.Page) (k : Kept) (p : Numbered KeptPage) : Type 0 where
+  pub page : page_of p ≡ q
+  pub mark : mark_of p ≡ record { number = q.number; last = q.number; gone = None }
+  pub kept : kept_at p ≡ k
+
+-- the instance that a start of the script of this place begins over these cells, with the page of its record
+abbrev pub root_instance : List Named → (place : ℕ) → (cells : List Val) → PageRecord → (inside : List TxName) → spec.Instance
+root_instance all place cells r inside = record (begun_at all place cells r.ticket (effects_in r) r.left.items) {
+  used = record { page = r.ticket; last = r.ticket } ∷ [];
+  pages = new_in r None (list no_vals) inside ∷ [];
+}
+
+-- the opening has this record and begins the instance that a start of the script of this place does over these cells
+pub record IsOpenedBy (place : ℕ) (cells : List Val) (r : PageRecord) (p : ShownState) (o : Opening) : Type 0 where
+  pub told : o.record ≡ r
+  pub page : IsNewPage (new_in r None (list no_vals) p.inside.items) (kept_of p.kept) o.page
+  pub script : o.instance.script ≡ place
+  pub pages : pages_of o.instance.pages ≡ []
+  pub shown : shown_in o.instance.pages ≡ []
+  pub begun : (all : List Named) → begun_with all o ≡ root_instance all place cells r p.inside.items
+  pub state : suspended_of o.state ≡ suspended_of p.state
+
+-- the extension has this record of an answer to this page of the instance, and makes of the instance what the record does
+pub record IsExtendedBy (r : PageRecord) (parent : ℕ) (answer : Val) (p : ShownState) (i : Numbered KeptInstance) (x : Extension) : Type 0 where
+  pub instance : x.instance ≡ i.number
+  pub told : x.record ≡ r
+  pub page : IsNewPage (new_in r (Some parent) answer p.inside.items) (kept_of p.kept) x.show.page
+  pub goes :
+      (all : List Named) (n : ℕ)
+      → shown_with x.show (gone_in x) (instance_with all n i.item)
+      ≡ shown_by (effects_in r) r.left.items r.kind r.evicted.items (new_in r (Some parent) answer p.inside.items) (instance_with all n i.item)
+  pub state : suspended_of x.state ≡ suspended_of p.state
+
+-- ---- of a ticket
+
+-- what the segment of a page, for which these went, makes of an instance whose page it answered
+abbrev pub gone_on : Ticket → (parent : ℕ) → ShownPage → (gone : List ℕ) → spec.Instance → spec.Instance
+gone_on t parent p gone i =
     let effects = map effect_of p.effects.items in
-    shown_by effects p.left.items p.kind (next_page t parent effects p.inside.items p.deadline) i
+    shown_by effects p.left.items p.kind gone (next_page t parent effects p.inside.items p.deadline) i
 
--- what is shown has the page of an answer to this one, and makes of the instance what the page's segment does
-pub record GoesOnBy (t : Ticket) (parent : ℕ) (p : ShownPage) (i : KeptInstance) (show : Show) : Type 0 where
-  pub page : page_of show.page ≡ next_page t parent (map effect_of p.effects.items) p.inside.items p.deadline
-  pub instance : (scripts : List Named) (n : ℕ) → shown_with show (instance_with scripts n i) ≡ gone_on t parent p (instance_with scripts n i)
+-- the pages of an instance that go for the page of an answer, where so many may be left with it
+abbrev pub goers : (limit : ℕ) → Ticket → (parent : ℕ) → Numbered KeptInstance → List ℕ
+goers limit t parent i = goes_for limit parent t.number (used_of i.item.pages)
 
--- what is prepared for a page that an answer showed
-abbrev pub Shows : Ticket → (parent : ℕ) → (bytes : List ℕ) → ShownPage → Numbered KeptInstance → Prepared → Type 0
-Shows t parent bytes p i made =
-    (scripts : List Named)
-    → IsExtension made t (instance_of scripts i) parent bytes (map effect_of p.effects.items) p.inside.items p.left.items p.kind p.deadline (gone_on t parent p)
+-- what is prepared for a page that an answer showed, where so many pages may be left
+abbrev pub Shows : Ticket → (parent : ℕ) → (bytes : List ℕ) → ShownPage → (limit : ℕ) → Numbered KeptInstance → Prepared → Type 0
+Shows t parent bytes p limit i made =
+    let gone = goers limit t parent i in
+    (all : List Named)
+    → IsExtension made t (instance_of all i) parent bytes (map effect_of p.effects.items) p.inside.items p.left.items p.kind p.deadline gone (gone_on t parent p gone)
+
+-- the extension that is prepared, if it is one, has a page that can follow those of the instance
+abbrev pub CanBeShown : Numbered KeptInstance → Prepared → Type 0
+CanBeShown i p =
+    IfExtends p.change (λ x. CanFollow x.show.page (gone_in x) (pages_of i.item.pages) (used_of i.item.pages))
 
 -- what is prepared for a page with which an answer ended
 abbrev pub EndsOn : Ticket → (parent : ℕ) → (bytes : List ℕ) → Done → Numbered KeptInstance → Prepared → Type 0
 EndsOn t parent bytes d i p =
     let effects = map effect_of d.effects.items in
-    (scripts : List Named)
-    → IsEnding p t (instance_of scripts i) parent bytes effects d.inside.items d.left.items (done effects d.left.items)
+    (all : List Named)
+    → IsEnding p t (instance_of all i) parent bytes effects d.inside.items d.left.items (ended_by (ending_by t i.number parent effects d.left.items))
 
 -- what is prepared for a page with which an answer finished
 abbrev pub FinishesOn : Ticket → (instance parent : ℕ) → (bytes : List ℕ) → List Effect → (inside : List TxName) → Prepared → Type 0

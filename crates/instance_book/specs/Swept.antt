@@ -1,14 +1,14 @@
 -- What a shelf begins with, and what a sweep makes of its book.
 use Rattle.std.specs.Prelude.{◌≡◌, ℕ, List, filter, Option, None, option_map}
 use Rattle.script_value.specs.Val.{Val}
-use Rattle.script_nodes.specs.Setup.{Named}
+use Rattle.script_nodes.specs.Setup.{Named, Library}
 use Rattle.replay_spec.specs.Book as spec
 use Rattle.replay_spec.specs.Book.{at_number, is_live}
-use Rattle.replay_spec.specs.Rules.{Rules, begun_length, empty_book}
+use Rattle.replay_spec.specs.Rules.{Journal, Rules, begun_length, first_file, empty_book}
 use Rattle.instance_book.specs.declared.book.Book.{Book}
-use Rattle.instance_book.specs.Views.{book_of}
+use Rattle.instance_book.specs.Views.{pages_of, Beside, book_of}
 
--- the book at this tick, without the instances whose pages are all expired
+-- the book at this tick, without the instances whose pages are all expired or evicted
 abbrev pub swept : ℕ → spec.Book → spec.Book
 swept tick b = record b { clock = tick; instances = filter (is_live tick) b.instances }
 
@@ -20,7 +20,16 @@ cells_in n b = option_map (λ i. i.cells) (spec.instance_at n b.instances)
 abbrev pub cells_at : ℕ → Book → Option (List Val)
 cells_at n b = option_map (λ i. i.item.cells) (at_number (λ i. i.number) n b.instances.things.items)
 
+-- the pages that the program keeps of the instance of a number, if there is one
+abbrev pub pages_at : ℕ → Book → Option (List spec.Page)
+pages_at n b = option_map (λ i. pages_of i.item.pages) (at_number (λ i. i.number) n b.instances.things.items)
+
+-- beside a book with nothing in it: its journal has this setup alone
+abbrev pub begun : Option Journal → List Named → Beside
+begun journal scripts =
+    let head = begun_length journal scripts in record { length = head; file = first_file head scripts; down = None }
+
 -- Beside a journal that has the setup alone, the book is that of a shelf with nothing in it.
 abbrev pub IsEmpty : (shelf : ℕ) → Book → Type 0
 IsEmpty shelf b =
-    (scripts : List Named) (rules : Rules) → book_of scripts (begun_length rules.journal) None b ≡ empty_book rules scripts shelf
+    (library : Library) (rules : Rules) → book_of library (begun rules.journal library.setup) b ≡ empty_book rules library.setup shelf

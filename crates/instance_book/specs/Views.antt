@@ -1,18 +1,20 @@
 -- What the program's book stands for in the definitions.
-use Rattle.std.specs.Prelude.{◌≡◌, ℕ, List, [], map, get_or, Option, Some}
+use Rattle.std.specs.Prelude.{◌≡◌, ℕ, List, [], map, get_or, Option, Some, None}
 use Rattle.script_value.specs.Val.{list, no_vals}
 use Rattle.script_value.specs.Views.{meaning}
 use Rattle.script_value.specs.declared.outcome.Reply.{Reply}
 use Rattle.script_value.specs.declared.outcome.Reply.TheVariants as reply
 use Rattle.script_value.specs.declared.value.Value.{Value}
 use Rattle.script_nodes.specs.Core.{lit, no_cores}
-use Rattle.script_nodes.specs.Setup.{Named}
+use Rattle.script_nodes.specs.Setup.{Named, Library}
 use Rattle.page_names.specs.Views.{target_of}
 use Rattle.page_names.specs.declared.names.Target.{Target}
 use Rattle.replay_spec.specs.Book as spec
-use Rattle.replay_spec.specs.Book.{at_number, Doubt}
+use Rattle.replay_spec.specs.Book.{at_number, Doubt, File}
+use Rattle.replay_spec.specs.Rules.{first_file}
 use Rattle.replay_spec.specs.Next as next
 use Rattle.replay_spec.specs.Step as step
+use Rattle.page_marks.specs.Marks.{Mark, uses_of, evictions_of}
 use Rattle.instance_book.specs.declared.numbered.Numbered.{Numbered}
 use Rattle.instance_book.specs.declared.in_order.InOrder.{InOrder}
 use Rattle.instance_book.specs.declared.page.KeptPage.{KeptPage}
@@ -36,43 +38,71 @@ page_of p = record {
 abbrev pub pages_of : InOrder KeptPage → List spec.Page
 pages_of ps = map page_of ps.things.items
 
+-- the last use of a page, and the page for which it went
+abbrev pub mark_of : Numbered KeptPage → Mark
+mark_of p = record { number = p.number; last = p.item.last; gone = p.item.gone }
+
+abbrev pub marks_of : InOrder KeptPage → List Mark
+marks_of ps = map mark_of ps.things.items
+
+-- the uses of the pages that are not evicted
+abbrev pub used_of : InOrder KeptPage → List spec.Use
+used_of ps = uses_of (marks_of ps)
+
+-- the evictions of those that are
+abbrev pub evicted_of : InOrder KeptPage → List spec.Eviction
+evicted_of ps = evictions_of (marks_of ps)
+
 -- a script that does nothing
 abbrev pub no_script : Named
 no_script = record { name = []; text = []; script = record { web = []; cells = []; tasks = no_cores; body = lit (list no_vals) } }
 
--- the script of a place of the setup, and one that does nothing where the setup has no such place
+-- the script of a place among all that a journal told, and one that does nothing where there is no such place
 abbrev pub script_in : List Named → ℕ → Named
-script_in scripts place = get_or scripts place no_script
+script_in all place = get_or all place no_script
 
--- what is kept of an instance, under this number, where these are the setup's scripts
+-- what is kept of an instance, under this number, where these are all scripts
 abbrev pub instance_with : List Named → ℕ → KeptInstance → spec.Instance
-instance_with scripts n i = record {
+instance_with all n i = record {
   number = n;
-  script = script_in scripts i.script;
+  script = script_in all i.script;
   cells = i.cells;
   closed = i.closed;
   revoked = numbers_of i.revoked.things.items;
+  used = used_of i.pages;
+  evicted = evicted_of i.pages;
   pages = pages_of i.pages;
 }
 
 abbrev pub instance_of : List Named → Numbered KeptInstance → spec.Instance
-instance_of scripts i = instance_with scripts i.number i.item
+instance_of all i = instance_with all i.number i.item
 
 abbrev pub instances_of : List Named → InOrder KeptInstance → List spec.Instance
-instances_of scripts is = map (instance_of scripts) is.things.items
+instances_of all is = map (instance_of all) is.things.items
 
--- the book under this setup, beside a journal of this length, with this in doubt
-abbrev pub book_of : List Named → (length : ℕ) → Option Doubt → Book → spec.Book
-book_of scripts length down b = record {
+-- what stands beside a book: the length of its journal, its file, and what is in doubt
+pub record Beside : Type 0 where
+  pub length : ℕ
+  pub file : File
+  pub down : Option Doubt
+
+-- beside a book that has no journal
+abbrev pub no_journal : Beside
+no_journal = record { length = 0; file = first_file 0 []; down = None }
+
+-- the book under this library, beside this
+abbrev pub book_of : Library → Beside → Book → spec.Book
+book_of library beside b = record {
   shelf = b.shelf;
-  scripts = scripts;
+  scripts = library.setup;
   clock = b.clock;
   drawn = b.drawn;
   logged = b.logged;
-  length = length;
+  length = beside.length;
+  file = beside.file;
   out = b.out.items;
-  down = down;
-  instances = instances_of scripts b.instances;
+  down = beside.down;
+  instances = instances_of library.all b.instances;
 }
 
 abbrev pub ticket_of : Ticket → next.Ticket
@@ -99,7 +129,6 @@ reply_of (reply.Refused r) = step.refusal r
 reply_of (reply.Fault f) = step.fault f
 reply_of (reply.Fuel cost) = step.out_of_fuel cost
 reply_of (reply.ShelfFull count) = step.shelf_full count
-reply_of (reply.InstanceFull count) = step.instance_full count
 reply_of (reply.Oversize length) = step.oversize length
 reply_of (reply.JournalFull length) = step.journal_full length
 reply_of (reply.DiskFault count) = step.disk_failed count

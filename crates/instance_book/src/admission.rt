@@ -1,13 +1,11 @@
-ghost use Rattle.std.specs.Prelude.{◌≡◌, ◌<◌, ℕ, List, Option, Some, length, option_map, slice_get, IfSome};
-ghost use Rattle.script_nodes.specs.Setup.{Named};
-ghost use Rattle.script_nodes.specs.Views.{named_of, scripts_of};
+ghost use Rattle.std.specs.Prelude.{◌≡◌, ◌<◌, ℕ, Option, Some, length, slice_get, IfSome};
+ghost use Rattle.script_nodes.specs.Views.{named_of, library_of};
 ghost use Rattle.page_names.specs.Views.{name_of};
 ghost use Rattle.replay_spec.specs.Admission as spec;
 ghost use Rattle.replay_spec.specs.Names.{first_closed};
-ghost use Rattle.instance_book.specs.Views.{instance_of, page_of};
 ghost use Rattle.instance_book.specs.Makes.{HasPlaces};
 ghost use Rattle.instance_book.specs.Places.{Source};
-ghost use Rattle.instance_book.specs.Admissions.{IsWhyNot, has_name, named_if, IsPlaceOf, IsPlaceAt, IsStartOf, IsAdmittedAs, IsPlacedAt, IsScriptOf, IsKeptWhere, ResumesPlaced, ResumesKept, ResumesWhereKept};
+ghost use Rattle.instance_book.specs.Admissions.{IsWhyNot, has_name, named_if, IsPlaceOf, IsPlaceAt, IsStartOf, IsAdmittedAs, IsPlacedAt, IsScriptOf, IsMarkedIn, HasItsMark, IsKeptWhere, IsPlacedAs, ResumesKept, ResumesWhereKept};
 
 use crate::book::Book;
 use crate::instance::KeptInstance;
@@ -15,7 +13,7 @@ use crate::numbered::Numbered;
 use crate::page::KeptPage;
 use expiry::expired;
 use page_names::{PageName, ScriptName, Target};
-use script_nodes::{NamedScript, Setup};
+use script_nodes::{Library, NamedScript};
 use script_value::{Refusal, TxName};
 use transactions::Closed;
 
@@ -30,8 +28,9 @@ pub struct Place<'a> {
 /// What a target is admitted as.
 #[derive(Clone, Copy)]
 pub enum Admission<'a> {
-    /// A start of the script of this place.
+    /// A start of the script of these places, in the present setup and among all.
     Begins {
+        start: usize,
         place: usize,
         script: &'a NamedScript,
     },
@@ -58,6 +57,7 @@ fn why_not(
     instance: &Numbered<KeptInstance>,
     page: &Numbered<KeptPage>,
 ) -> Option<Refusal>
+    requires { IsMarkedIn instance.now page.now }
     ensures { IsWhyNot clock instance.now page.now result }
 {
     if instance.item.revoked.has(page.number) {
@@ -66,38 +66,43 @@ fn why_not(
     if let Some(name) = first_closed(&instance.item.closed, &page.item.inside) {
         return Some(Refusal::Closed(name));
     }
+    if let Some(by) = page.item.gone {
+        return Some(Refusal::Evicted(by));
+    }
     if expired(clock, page.item.deadline) {
         return Some(Refusal::Expired(page.item.deadline));
     }
     None
 }
 
-// The script of an instance, which is one of the setup.
+// The script of an instance, which is one of the library.
 pub(crate) fn script_of<'a>(
-    setup: &'a Setup,
+    library: &'a Library,
     instance: &Numbered<KeptInstance>,
 ) -> Option<&'a NamedScript>
-    requires { instance.now.item.script < length (scripts_of setup.now) }
-    ensures script { named_if result ≡ slice_get (scripts_of setup.now) instance.now.item.script }
-    ensures its { IsScriptOf (scripts_of setup.now) instance.now result }
+    requires { instance.now.item.script < length (library_of library.now).all }
+    ensures script { named_if result
+        ≡ slice_get (library_of library.now).all instance.now.item.script }
+    ensures its { IsScriptOf (library_of library.now).all instance.now result }
 {
-    setup.get(instance.item.script)
+    library.get(instance.item.script)
 }
 
 // The page of this number in the instance of this number.
 pub(crate) fn place_of_numbers<'a>(
     book: &'a Book,
-    setup: &'a Setup,
+    library: &'a Library,
     instance: u64,
     page: u64,
 ) -> Option<Place<'a>>
-    requires { HasPlaces (scripts_of setup.now) book.now }
-    ensures place { IsPlaceOf setup.now book.now instance page result }
-    ensures placed { IfSome result (IsPlacedAt (scripts_of setup.now)) }
-    ensures states { IsKeptWhere setup.now book.now result }
+    requires { HasPlaces (library_of library.now).all book.now }
+    ensures place { IsPlaceOf (library_of library.now) book.now instance page result }
+    ensures placed { IfSome result (IsPlacedAt (library_of library.now).all) }
+    ensures marked { IfSome result HasItsMark }
+    ensures states { IsKeptWhere (library_of library.now) book.now result }
 {
     let instance = book.instances.instance(instance)?;
-    let script = script_of(setup, instance)?;
+    let script = script_of(library, instance)?;
     let shown = instance.item.pages.page(page)?;
     Some(Place {
         script,
@@ -122,16 +127,17 @@ fn is_named(
 // The page of this script's name, this shelf, instance and number, and this nonce.
 fn place_at<'a>(
     book: &'a Book,
-    setup: &'a Setup,
+    library: &'a Library,
     name: &ScriptName,
     page: &PageName,
 ) -> Option<Place<'a>>
-    requires { HasPlaces (scripts_of setup.now) book.now }
-    ensures place { IsPlaceAt setup.now book.now name.now page.now result }
-    ensures placed { IfSome result (IsPlacedAt (scripts_of setup.now)) }
-    ensures states { IsKeptWhere setup.now book.now result }
+    requires { HasPlaces (library_of library.now).all book.now }
+    ensures place { IsPlaceAt (library_of library.now) book.now name.now page.now result }
+    ensures placed { IfSome result (IsPlacedAt (library_of library.now).all) }
+    ensures marked { IfSome result HasItsMark }
+    ensures states { IsKeptWhere (library_of library.now) book.now result }
 {
-    let place = place_of_numbers(book, setup, page.instance, page.page)?;
+    let place = place_of_numbers(book, library, page.instance, page.page)?;
     let nonce = place.page.item.nonce;
     if is_named(place.script, nonce, book.shelf, name, page) {
         Some(place)
@@ -141,16 +147,24 @@ fn place_at<'a>(
 }
 
 // What a start is admitted as.
-fn admission_of_start<'a>(setup: &'a Setup, name: &ScriptName) -> Admission<'a>
-    ensures admission { IsStartOf setup.now name.now result }
-    ensures placed { ResumesPlaced (scripts_of setup.now) result }
-    ensures states { (shelf : Source ℕ) → ResumesKept (scripts_of setup.now) shelf result }
+fn admission_of_start<'a>(library: &'a Library, name: &ScriptName) -> Admission<'a>
+    ensures admission { IsStartOf (library_of library.now) name.now result }
+    ensures placed { IsPlacedAs (library_of library.now) result }
+    ensures states { (shelf : Source ℕ)
+        → ResumesKept (library_of library.now).all shelf result }
 {
-    let Some(place) = setup.place(name) else {
+    let Some(start) = library.place(name) else {
         return Admission::Refused(Refusal::Unknown);
     };
-    match setup.get(place) {
-        Some(script) => Admission::Begins { place, script },
+    let Some(place) = library.start(start) else {
+        return Admission::Refused(Refusal::Unknown);
+    };
+    match library.get(place) {
+        Some(script) => Admission::Begins {
+            start,
+            place,
+            script,
+        },
         None => Admission::Refused(Refusal::Unknown),
     }
 }
@@ -158,16 +172,17 @@ fn admission_of_start<'a>(setup: &'a Setup, name: &ScriptName) -> Admission<'a>
 // What an answer to a page is admitted as.
 fn admission_of_page<'a>(
     book: &'a Book,
-    setup: &'a Setup,
+    library: &'a Library,
     name: &ScriptName,
     page: &PageName,
 ) -> Admission<'a>
-    requires { HasPlaces (scripts_of setup.now) book.now }
-    ensures admission { IsAdmittedAs setup.now book.now (Target.Page name.now page.now) result }
-    ensures placed { ResumesPlaced (scripts_of setup.now) result }
-    ensures states { ResumesWhereKept setup.now book.now result }
+    requires { HasPlaces (library_of library.now).all book.now }
+    ensures admission { IsAdmittedAs
+        (library_of library.now) book.now (Target.Page name.now page.now) result }
+    ensures placed { IsPlacedAs (library_of library.now) result }
+    ensures states { ResumesWhereKept (library_of library.now) book.now result }
 {
-    let Some(place) = place_at(book, setup, name, page) else {
+    let Some(place) = place_at(book, library, name, page) else {
         return Admission::Refused(Refusal::Unknown);
     };
     match why_not(book.clock, place.instance, place.page) {
@@ -177,14 +192,14 @@ fn admission_of_page<'a>(
 }
 
 /// What a target is admitted as.
-pub fn admission_to<'a>(book: &'a Book, setup: &'a Setup, target: &Target) -> Admission<'a>
-    requires { HasPlaces (scripts_of setup.now) book.now }
-    ensures admission { IsAdmittedAs setup.now book.now target.now result }
-    ensures placed { ResumesPlaced (scripts_of setup.now) result }
-    ensures states { ResumesWhereKept setup.now book.now result }
+pub fn admission_to<'a>(book: &'a Book, library: &'a Library, target: &Target) -> Admission<'a>
+    requires { HasPlaces (library_of library.now).all book.now }
+    ensures admission { IsAdmittedAs (library_of library.now) book.now target.now result }
+    ensures placed { IsPlacedAs (library_of library.now) result }
+    ensures states { ResumesWhereKept (library_of library.now) book.now result }
 {
     match target {
-        Target::Start(name) => admission_of_start(setup, name),
-        Target::Page(name, page) => admission_of_page(book, setup, name, page),
+        Target::Start(name) => admission_of_start(library, name),
+        Target::Page(name, page) => admission_of_page(book, library, name, page),
     }
 }

@@ -1,7 +1,6 @@
 ghost use Rattle.std.specs.Prelude.{◌≡◌};
-ghost use Rattle.instance_book.specs.Lists.{HasRoom};
-ghost use Rattle.instance_book.specs.Places.{PutsPage, PutsShown};
-ghost use Rattle.instance_book.specs.Changes.{renewed, Becomes, ended_with, shown_with, revoked_with};
+ghost use Rattle.instance_book.specs.Places.{PutsPage, PutsShown, HasSamePages};
+ghost use Rattle.instance_book.specs.Changes.{Becomes, CanShow, left_with, ended_with, shown_with, revoked_with};
 
 use crate::in_order::InOrder;
 use crate::instance::KeptInstance;
@@ -28,9 +27,9 @@ pub struct Show {
 }
 
 impl KeptInstance {
-    /// The instance behind a segment.
-    pub fn end(&mut self, after: After)
-        ensures instance { Becomes (ended_with after) self.old self.new }
+    // The cells and the closed transactions behind a segment.
+    fn leave(&mut self, after: After)
+        ensures instance { Becomes (left_with after) self.old self.new }
         ensures script { self.new.script ≡ self.old.script }
         ensures pages { self.new.pages ≡ self.old.pages }
     {
@@ -38,6 +37,16 @@ impl KeptInstance {
         if let Some(closed) = after.closed {
             self.closed = closed;
         }
+    }
+
+    /// The instance behind a segment of this number that answered this page and ended.
+    pub fn end(&mut self, page: u64, number: u64, after: After)
+        ensures instance { Becomes (ended_with page number after) self.old self.new }
+        ensures script { self.new.script ≡ self.old.script }
+        ensures pages { HasSamePages self.old.pages self.new.pages }
+    {
+        self.leave(after);
+        self.pages.answer(page, number);
     }
 
     // The instance where these pages are revoked, if the page forwards.
@@ -51,10 +60,10 @@ impl KeptInstance {
         }
     }
 
-    /// The instance behind a segment that showed a page.
-    pub fn show(&mut self, show: Show)
-        requires { HasRoom self.old.pages }
-        ensures instance { Becomes (shown_with show) self.old self.new }
+    /// The instance behind a segment that showed a page, for which these went.
+    pub fn show(&mut self, show: Show, gone: &[u64])
+        requires { CanShow show gone.now self.old }
+        ensures instance { Becomes (shown_with show gone.now) self.old self.new }
         ensures script { self.new.script ≡ self.old.script }
         ensures pages { PutsPage show.page self.old.pages self.new.pages }
         ensures shown { PutsShown show.page self.old.pages self.new.pages }
@@ -64,8 +73,8 @@ impl KeptInstance {
             revoked,
             after,
         } = show;
-        self.end(after);
+        self.leave(after);
         self.revoke(revoked);
-        self.pages.put_page(page);
+        self.pages.show(page, gone);
     }
 }

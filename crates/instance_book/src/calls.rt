@@ -1,11 +1,11 @@
-ghost use Rattle.std.specs.Prelude.{◌≡◌, ◌<◌, ◌^◌, List, Some, None, slice_get, IfOk, IfErr, OnOk, OnErr, Contains, length, option_map, ◌-◌};
+ghost use Rattle.std.specs.Prelude.{◌≡◌, ◌<◌, ◌^◌, List, Some, None, IfOk, IfErr, OnOk, OnErr, option_map, ◌-◌};
 ghost use Rattle.script_nodes.specs.Setup.{Named};
-ghost use Rattle.script_nodes.specs.Views.{named_of, scripts_of};
+ghost use Rattle.script_nodes.specs.Views.{named_of, library_of};
 ghost use Rattle.replay_spec.specs.Book as spec;
 ghost use Rattle.instance_book.specs.Views.{IsTicketFor};
 ghost use Rattle.instance_book.specs.Fits.{IsRunnable};
 ghost use Rattle.instance_book.specs.Makes.{count_of, Makes, StaysSame, HasPlaces, KeepsPlaces, HasItsStates, HasSomeStates, HasWhatIsGiven, KeepsStates};
-ghost use Rattle.instance_book.specs.Admissions.{IsPlacedAt, IsKeptSome, named_if, script_at, HasCellsBy, FitsStartIn, FitsWhereKept, GoesOnAsGiven, GoesOnStored, admission_for, refusal_for, IsRefusalFor, FitsInKept, StartsIn};
+ghost use Rattle.instance_book.specs.Admissions.{IsPlacedAt, IsKeptSome, named_if, script_at, HasCellsBy, FitsStartIn, FitsWhereKept, GoesOnAsGiven, GoesOnStored, admission_for, refusal_for, IsRefusalFor, FitsInKept, StartsIn, BeginsAt, HasFew};
 ghost use Rattle.instance_book.specs.Swept.{swept, cells_at, IsEmpty};
 
 use crate::admission::{Admission, Place, admission_to, script_of};
@@ -18,7 +18,7 @@ use instance_cells::Cells;
 use kept_states::next_links;
 use machine_states::Origin;
 use page_names::Target;
-use script_nodes::{NamedScript, Setup};
+use script_nodes::{Library, NamedScript};
 use script_value::{Refusal, Value};
 use std::alloc::{AllocError, Global};
 
@@ -26,8 +26,8 @@ impl Book {
     /// The book of a shelf with nothing in it; it takes no memory.
     pub fn empty(alloc: Global, shelf: u32) -> Book
         ensures book { IsEmpty shelf result }
-        ensures placed { (scripts : List Named) → HasPlaces scripts result }
-        ensures states { (scripts : List Named) → HasItsStates scripts result }
+        ensures placed { (all : List Named) → HasPlaces all result }
+        ensures states { (all : List Named) → HasItsStates all result }
         ensures told { HasWhatIsGiven result }
     {
         Book {
@@ -78,21 +78,22 @@ impl Book {
     }
 
     /// The script of an instance, where there is a live one of this number. It takes no memory.
-    pub fn script<'a>(&self, setup: &'a Setup, instance: u64) -> Option<&'a NamedScript>
-        requires { HasPlaces (scripts_of setup.now) self.now }
-        ensures { named_if result ≡ script_at (scripts_of setup.now) instance self.now }
+    pub fn script<'a>(&self, library: &'a Library, instance: u64) -> Option<&'a NamedScript>
+        requires { HasPlaces (library_of library.now).all self.now }
+        ensures { named_if result ≡ script_at (library_of library.now).all instance self.now }
     {
         let instance = self.instances.instance(instance)?;
-        script_of(setup, instance)
+        script_of(library, instance)
     }
 
     /// Whether a target is admitted, and else why not. It takes no memory.
-    pub fn admit(&self, setup: &Setup, target: &Target) -> Result<(), Refusal>
-        requires { HasPlaces (scripts_of setup.now) self.now }
-        ensures admitted { OnOk result (refusal_for setup.now self.now target.now ≡ None) }
-        ensures refused { IfErr result (IsRefusalFor setup.now self.now target.now) }
+    pub fn admit(&self, library: &Library, target: &Target) -> Result<(), Refusal>
+        requires { HasPlaces (library_of library.now).all self.now }
+        ensures admitted { OnOk result
+            (refusal_for (library_of library.now) self.now target.now ≡ None) }
+        ensures refused { IfErr result (IsRefusalFor (library_of library.now) self.now target.now) }
     {
-        match admission_to(self, setup, target) {
+        match admission_to(self, library, target) {
             Admission::Refused(refusal) => Err(refusal),
             Admission::Begins { .. } | Admission::Resumes(_) => Ok(()),
         }
@@ -102,7 +103,8 @@ impl Book {
     pub(crate) fn start_ticket(
         &self,
         alloc: Global,
-        setup: &Setup,
+        library: &Library,
+        start: usize,
         place: usize,
         script: &NamedScript,
         target: &Target,
@@ -110,10 +112,12 @@ impl Book {
         number: u64,
         nonce: u64,
     ) -> Result<Ticket, AllocError>
-        requires { slice_get (scripts_of setup.now) place ≡ Some (named_of script.now) }
+        requires few { HasFew (library_of library.now) }
+        requires stands { BeginsAt (library_of library.now) start place (named_of script.now) }
         ensures ticket { IfOk result (IsTicketFor target.now answer number nonce) }
-        ensures fits { IfOk result (FitsStartIn setup.now self.now place (named_of script.now)) }
-        ensures runs { IfOk result (IsRunnable (scripts_of setup.now)) }
+        ensures fits { IfOk result
+            (FitsStartIn (library_of library.now) self.now start (named_of script.now)) }
+        ensures runs { IfOk result (IsRunnable (library_of library.now).all) }
     {
         let home = Home {
             name: script.name,
@@ -124,6 +128,7 @@ impl Book {
             number,
             nonce,
             script: place,
+            start: start as u8,
             target: *target,
             url: home.url(alloc, number, nonce)?,
             from: Origin::Start,
@@ -137,20 +142,20 @@ impl Book {
     pub(crate) fn page_ticket(
         &self,
         alloc: Global,
-        setup: &Setup,
+        library: &Library,
         place: Place,
         target: &Target,
         answer: Value,
         number: u64,
         nonce: u64,
     ) -> Result<Ticket, AllocError>
-        requires placed { IsPlacedAt (scripts_of setup.now) place }
-        requires kept { IsKeptSome (scripts_of setup.now) place }
+        requires placed { IsPlacedAt (library_of library.now).all place }
+        requires kept { IsKeptSome (library_of library.now).all place }
         ensures ticket { IfOk result (IsTicketFor target.now answer number nonce) }
-        ensures fits { FitsWhereKept setup.now self.now place.entry result }
-        ensures told { GoesOnAsGiven setup.now place.entry result }
+        ensures fits { FitsWhereKept (library_of library.now) self.now place.entry result }
+        ensures told { GoesOnAsGiven (library_of library.now) place.entry result }
         ensures stored { IfOk result (GoesOnStored place.entry) }
-        ensures runs { IfOk result (IsRunnable (scripts_of setup.now)) }
+        ensures runs { IfOk result (IsRunnable (library_of library.now).all) }
         ensures cells { IfOk result (λ t. t.cells ≡ place.entry.instance.now.item.cells) }
     {
         let home = Home {
@@ -162,6 +167,7 @@ impl Book {
             number,
             nonce,
             script: place.instance.item.script,
+            start: 0,
             target: *target,
             url: home.url(alloc, number, nonce)?,
             from: origin_at(alloc, place.script, &place.instance.item.pages, place.page)?,
@@ -175,27 +181,33 @@ impl Book {
     fn made(
         &self,
         alloc: Global,
-        setup: &Setup,
+        library: &Library,
         target: &Target,
         answer: Value,
         number: u64,
         nonce: u64,
     ) -> Result<Ticket, AllocError>
-        requires admitted { refusal_for setup.now self.now target.now ≡ None }
-        requires placed { HasPlaces (scripts_of setup.now) self.now }
-        requires kept { HasSomeStates (scripts_of setup.now) self.now }
+        requires few { HasFew (library_of library.now) }
+        requires admitted { refusal_for (library_of library.now) self.now target.now ≡ None }
+        requires placed { HasPlaces (library_of library.now).all self.now }
+        requires kept { HasSomeStates (library_of library.now).all self.now }
         ensures ticket { IfOk result (IsTicketFor target.now answer number nonce) }
-        ensures fits { FitsInKept setup.now self.now target.now result }
-        ensures starts { IfOk result (StartsIn setup.now self.now target.now) }
-        ensures runs { IfOk result (IsRunnable (scripts_of setup.now)) }
-        ensures cells { IfOk result (HasCellsBy (admission_for setup.now self.now target.now)) }
+        ensures fits { FitsInKept (library_of library.now) self.now target.now result }
+        ensures starts { IfOk result (StartsIn (library_of library.now) self.now target.now) }
+        ensures runs { IfOk result (IsRunnable (library_of library.now).all) }
+        ensures cells { IfOk result
+            (HasCellsBy (admission_for (library_of library.now) self.now target.now)) }
     {
-        match admission_to(self, setup, target) {
-            Admission::Begins { place, script } => {
-                self.start_ticket(alloc, setup, place, script, target, answer, number, nonce)
-            }
+        match admission_to(self, library, target) {
+            Admission::Begins {
+                start,
+                place,
+                script,
+            } => self.start_ticket(
+                alloc, library, start, place, script, target, answer, number, nonce,
+            ),
             Admission::Resumes(place) => {
-                self.page_ticket(alloc, setup, place, target, answer, number, nonce)
+                self.page_ticket(alloc, library, place, target, answer, number, nonce)
             }
             Admission::Refused(_) => unreachable!(),
         }
@@ -203,32 +215,34 @@ impl Book {
 
     /// Takes the next number, for a visit of a target that is admitted.
     ///
-    /// The ticket can be run. Where each page of the book has the state of its chain, it is for the visit of the target, and so
-    /// it is for a start. Where memory runs out, nothing changes.
+    /// It asks for a present setup of at most 255 scripts. The ticket can be run. Where each page of the book has the state of its
+    /// chain, it is for the visit of the target, and so it is for a start. Where memory runs out, nothing changes.
     pub fn ticket(
         &mut self,
         alloc: Global,
-        setup: &Setup,
+        library: &Library,
         target: &Target,
         answer: Value,
         nonce: u64,
     ) -> Result<Ticket, AllocError>
-        requires admitted { refusal_for setup.now self.old target.now ≡ None }
+        requires few { HasFew (library_of library.now) }
+        requires admitted { refusal_for (library_of library.now) self.old target.now ≡ None }
         requires numbers { self.old.drawn < 2 ^ 62 }
-        requires placed { HasPlaces (scripts_of setup.now) self.old }
-        requires kept { HasSomeStates (scripts_of setup.now) self.old }
+        requires placed { HasPlaces (library_of library.now).all self.old }
+        requires kept { HasSomeStates (library_of library.now).all self.old }
         ensures drawn { OnOk result (Makes spec.draw self.old self.new) }
         ensures ticket { IfOk result (IsTicketFor target.now answer self.old.drawn nonce) }
-        ensures fits { FitsInKept setup.now self.old target.now result }
-        ensures starts { IfOk result (StartsIn setup.now self.old target.now) }
-        ensures runs { IfOk result (IsRunnable (scripts_of setup.now)) }
-        ensures cells { IfOk result (HasCellsBy (admission_for setup.now self.old target.now)) }
+        ensures fits { FitsInKept (library_of library.now) self.old target.now result }
+        ensures starts { IfOk result (StartsIn (library_of library.now) self.old target.now) }
+        ensures runs { IfOk result (IsRunnable (library_of library.now).all) }
+        ensures cells { IfOk result
+            (HasCellsBy (admission_for (library_of library.now) self.old target.now)) }
         ensures err { OnErr result (StaysSame self.old self.new) }
         ensures placed { KeepsPlaces self.old self.new }
         ensures states { KeepsStates self.old self.new }
     {
         let number = self.drawn;
-        let ticket = self.made(alloc, setup, target, answer, number, nonce)?;
+        let ticket = self.made(alloc, library, target, answer, number, nonce)?;
         self.out.try_reserve(1)?;
         self.drawn += 1;
         self.out.push(number)?;
@@ -245,7 +259,7 @@ impl Book {
         self.out.retain(|other| *other != number);
     }
 
-    /// Goes on to a tick, frees each instance whose pages are all expired then, and tells how many. It takes no memory.
+    /// Goes on to a tick, frees each instance whose pages are all expired then or evicted, and tells how many. It takes no memory.
     pub fn free_expired(&mut self, tick: u64) -> u32
         requires later { self.old.clock < tick }
         requires low { tick < 2 ^ 62 }

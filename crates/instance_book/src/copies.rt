@@ -1,12 +1,10 @@
-ghost use Rattle.std.specs.Prelude.{◌≡◌, IfOk, map};
-ghost use Rattle.instance_cells.specs.Views.{effect_of};
+ghost use Rattle.std.specs.Prelude.{◌≡◌, IfOk};
+ghost use Rattle.journal_records.specs.Views.{ending_of, finish_of};
 ghost use Rattle.instance_book.specs.Lists.{HasRoom};
-ghost use Rattle.instance_book.specs.Views.{page_of};
-ghost use Rattle.machine_states.specs.Views.{suspended_of};
+ghost use Rattle.instance_book.specs.Views.{page_of, mark_of};
 ghost use Rattle.instance_book.specs.Places.{kept_at, StayPlaced, StayKept};
 ghost use Rattle.instance_book.specs.Makes.{AllBecome, StaysSame, KeepsPlaces, KeepsStates};
-ghost use Rattle.instance_book.specs.Changes.{opening_of, ending_of, finish_of};
-ghost use Rattle.instance_book.specs.Copies.{IsSamePages, IsSameInstance, BeginsAlike, IsSameShow, IsSameExtension, IsSameChange, IsSameIf, IsSame, TellsAlike, HasSamePages};
+ghost use Rattle.instance_book.specs.Copies.{IsSamePages, IsSameInstance, BeginsAlike, IsSameShow, IsSamePage, IsSameExtension, IsSameChange, IsSameIf, IsSame, TellsAlike, BeginsOverSame};
 
 use crate::after::{After, Show};
 use crate::book::Book;
@@ -15,14 +13,14 @@ use crate::instance::KeptInstance;
 use crate::numbered::Numbered;
 use crate::page::KeptPage;
 use crate::prepared::{Change, Ending, Extension, Finish, Opening, Prepared};
-use instance_cells::{Effect, clone_effects};
-use script_value::TxName;
+use crate::records::{clone_ended, clone_finish, clone_page};
 use std::alloc::{AllocError, Global};
 
 impl Numbered<KeptPage> {
     /// A copy, equal to its source.
     pub fn try_clone(&self, alloc: Global) -> Result<Numbered<KeptPage>, AllocError>
         ensures page { IfOk result (λ copy. page_of copy ≡ page_of self.now) }
+        ensures mark { IfOk result (λ copy. mark_of copy ≡ mark_of self.now) }
         ensures state { IfOk result (λ copy. kept_at copy ≡ kept_at self.now) }
     {
         Ok(Numbered {
@@ -34,6 +32,8 @@ impl Numbered<KeptPage> {
                 reads: self.item.reads.try_clone(alloc)?,
                 inside: self.item.inside.as_slice().to_vec(alloc)?,
                 deadline: self.item.deadline,
+                last: self.item.last,
+                gone: self.item.gone,
                 state: self.item.state.try_clone(alloc)?,
             },
         })
@@ -135,39 +135,24 @@ impl Show {
     }
 }
 
-// Copies of what a segment did, and of the transactions that it left.
-fn clone_done(
-    alloc: Global,
-    effects: &[Effect],
-    left: &[TxName],
-) -> Result<(Vec<Effect>, Vec<TxName>), AllocError>
-    ensures effects { IfOk result (λ both. map effect_of both.0.items ≡ map effect_of effects.now) }
-    ensures left { IfOk result (λ both. both.1.items ≡ left.now) }
-{
-    let names = left.to_vec(alloc)?;
-    Ok((clone_effects(alloc, effects)?, names))
-}
-
 impl Opening {
     /// A copy, equal to its source, with room for its page.
     pub fn try_clone(&self, alloc: Global) -> Result<Opening, AllocError>
-        ensures opening { IfOk result (λ copy. opening_of copy ≡ opening_of self.now) }
+        ensures told { IfOk result (λ copy. IsSamePage self.now.record copy.record) }
         ensures page { IfOk result (λ copy. page_of copy.page ≡ page_of self.now.page) }
-        ensures state { IfOk result (λ copy. kept_at copy.page ≡ kept_at self.now.page) }
-        ensures told { IfOk result (TellsAlike self.now) }
+        ensures kept { IfOk result (λ copy. kept_at copy.page ≡ kept_at self.now.page) }
+        ensures state { IfOk result (TellsAlike self.now) }
         ensures script { IfOk result (λ copy. copy.instance.script ≡ self.now.instance.script) }
-        ensures pages { IfOk result (HasSamePages self.now) }
+        ensures pages { IfOk result (BeginsOverSame self.now) }
         ensures begun { IfOk result (BeginsAlike self.now) }
         ensures room { IfOk result (λ copy. HasRoom copy.instance.pages) }
     {
-        let (effects, left) = clone_done(alloc, &self.effects, &self.left)?;
+        let record = clone_page(alloc, &self.record)?;
         let state = self.state.try_clone(alloc)?;
         let page = self.page.try_clone(alloc)?;
         let instance = self.instance.clone_with_room(alloc)?;
         Ok(Opening {
-            effects,
-            left,
-            kind: self.kind,
+            record,
             page,
             state,
             instance,
@@ -180,14 +165,10 @@ impl Extension {
     pub fn try_clone(&self, alloc: Global) -> Result<Extension, AllocError>
         ensures { IfOk result (IsSameExtension self.now) }
     {
-        let (effects, left) = clone_done(alloc, &self.effects, &self.left)?;
+        let record = clone_page(alloc, &self.record)?;
         Ok(Extension {
             instance: self.instance,
-            answered: self.answered,
-            answer: self.answer.try_clone(alloc)?,
-            effects,
-            left,
-            kind: self.kind,
+            record,
             state: self.state.try_clone(alloc)?,
             show: self.show.try_clone(alloc)?,
         })
@@ -197,18 +178,13 @@ impl Extension {
 impl Ending {
     /// A copy, equal to its source.
     pub fn try_clone(&self, alloc: Global) -> Result<Ending, AllocError>
-        ensures ending { IfOk result (λ copy. ending_of copy ≡ ending_of self.now) }
+        ensures told { IfOk result (λ copy. ending_of copy.record ≡ ending_of self.now.record) }
         ensures inside { IfOk result (λ copy. copy.inside.items ≡ self.now.inside.items) }
         ensures after { IfOk result (λ copy. copy.after ≡ self.now.after) }
     {
-        let (effects, left) = clone_done(alloc, &self.effects, &self.left)?;
+        let record = clone_ended(alloc, &self.record)?;
         Ok(Ending {
-            number: self.number,
-            instance: self.instance,
-            answered: self.answered,
-            answer: self.answer.try_clone(alloc)?,
-            effects,
-            left,
+            record,
             inside: self.inside.as_slice().to_vec(alloc)?,
             after: self.after.try_clone(alloc)?,
         })
@@ -218,15 +194,12 @@ impl Ending {
 impl Finish {
     /// A copy, equal to its source.
     pub fn try_clone(&self, alloc: Global) -> Result<Finish, AllocError>
-        ensures finish { IfOk result (λ copy. finish_of copy ≡ finish_of self.now) }
+        ensures told { IfOk result (λ copy. finish_of copy.record ≡ finish_of self.now.record) }
         ensures inside { IfOk result (λ copy. copy.inside.items ≡ self.now.inside.items) }
     {
+        let record = clone_finish(alloc, &self.record)?;
         Ok(Finish {
-            number: self.number,
-            instance: self.instance,
-            answered: self.answered,
-            answer: self.answer.try_clone(alloc)?,
-            effects: clone_effects(alloc, &self.effects)?,
+            record,
             inside: self.inside.as_slice().to_vec(alloc)?,
         })
     }

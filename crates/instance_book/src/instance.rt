@@ -6,7 +6,7 @@ use transactions::Closed;
 /// What is kept of a run of a script, under its number.
 #[derive(Drop)]
 pub struct KeptInstance {
-    /// The place of the script in the setup.
+    /// The place of the script among all that the journal told.
     pub script: usize,
     pub cells: Cells,
     pub closed: Closed,

@@ -5,7 +5,7 @@ ghost use Rattle.instance_book.specs.Lists.{HasRoom};
 ghost use Rattle.instance_book.specs.Views.{HasRoomAt};
 ghost use Rattle.instance_book.specs.Places.{StayKept, StayKeptWith, StayPlaced, StayPlacedWith};
 ghost use Rattle.instance_book.specs.Makes.{AllBecome, PutsInstance, IsInstanceAt, IsPlacedAmong, IsKeptAmong, StayKeptNext};
-ghost use Rattle.instance_book.specs.Changes.{ended_with, shown_with};
+ghost use Rattle.instance_book.specs.Changes.{CanShowAt, ended_with, shown_with};
 
 use crate::after::{After, Show};
 use crate::in_order::InOrder;
@@ -62,30 +62,32 @@ impl InOrder<KeptInstance> {
         ensures states { StayKept self.old self.new }
     {
         self.things
-            .retain(|instance| !instance.item.pages.all_expired(tick));
+            .retain(|instance| !instance.item.pages.all_over(tick));
     }
 
-    /// The instances where that of a number is behind a segment.
-    pub fn end(&mut self, number: u64, after: After)
-        ensures instances { AllBecome (mend number (ended_with after)) self.old self.new }
+    /// The instances where that of a number is behind a segment of another number that answered this page and ended.
+    pub fn end(&mut self, instance: u64, page: u64, number: u64, after: After)
+        ensures instances { AllBecome
+            (mend instance (ended_with page number after)) self.old self.new }
         ensures placed { StayPlaced self.old self.new }
         ensures states { StayKept self.old self.new }
     {
-        match self.place(number) {
-            Some(place) => self.things[place].item.end(after),
+        match self.place(instance) {
+            Some(place) => self.things[place].item.end(page, number, after),
             None => (),
         }
     }
 
-    /// The instances where that of a number is behind a segment that showed a page.
-    pub fn show(&mut self, number: u64, show: Show)
-        requires { HasRoomAt number self.old }
-        ensures instances { AllBecome (mend number (shown_with show)) self.old self.new }
+    /// The instances where that of a number is behind a segment that showed a page, for which these went.
+    pub fn show(&mut self, instance: u64, show: Show, gone: &[u64])
+        requires { CanShowAt instance show gone.now self.old }
+        ensures instances { AllBecome
+            (mend instance (shown_with show gone.now)) self.old self.new }
         ensures placed { StayPlaced self.old self.new }
-        ensures states { StayKeptNext number show.page self.old self.new }
+        ensures states { StayKeptNext instance show.page self.old self.new }
     {
-        match self.place(number) {
-            Some(place) => self.things[place].item.show(show),
+        match self.place(instance) {
+            Some(place) => self.things[place].item.show(show, gone),
             None => (),
         }
     }

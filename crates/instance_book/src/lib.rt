@@ -6,9 +6,11 @@ ghost use Rattle.instance_book.specs.Laws.{AShownPageHasItsState};
 
 mod admission;
 mod after;
+mod before;
 mod book;
 mod calls;
 mod copies;
+mod goes;
 mod home;
 mod in_order;
 mod install;
@@ -21,10 +23,10 @@ mod page;
 mod pages;
 mod prepare;
 mod prepared;
-mod retold;
+mod records;
+mod redo;
 mod shown;
 mod ticket;
-mod told;
 
 pub use after::{After, Show};
 pub use book::Book;
@@ -33,7 +35,6 @@ pub use instance::KeptInstance;
 pub use numbered::Numbered;
 pub use page::KeptPage;
 pub use prepared::{Change, Ending, Extension, Finish, Opening, Prepared};
-pub use shown::ShownPage;
 pub use ticket::Ticket;
 
 /// Where each page of an instance has the state of its chain, so it is with one more page whose state is that of its chain.

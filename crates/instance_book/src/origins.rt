@@ -55,7 +55,7 @@ fn front_of(
 }
 
 // The state of a page.
-fn state_of(
+pub(crate) fn state_of(
     alloc: Global,
     script: &NamedScript,
     pages: &InOrder<KeptPage>,

@@ -1,3 +1,4 @@
+use expiry::expired;
 use kept_states::KeptState;
 use script_value::TxName;
 use stored_values::{StoredValue, StoredValues};
@@ -16,6 +17,36 @@ pub struct KeptPage {
     pub inside: Vec<TxName>,
     /// From this tick on it can't be answered, in seconds.
     pub deadline: u64,
+    /// The greatest number of a segment that showed or answered it.
+    pub last: u64,
+    /// The page for which it went, if it did.
+    pub gone: Option<u64>,
     /// What is kept of the state of its script: an answer goes on from there.
     pub state: KeptState,
+}
+
+impl KeptPage {
+    ghost use Rattle.std.specs.Prelude.{◌≡◌, Some, max};
+    ghost use Rattle.instance_book.specs.Uses.{is_over_by};
+
+    /// A segment of this number answered the page.
+    pub fn answer(&mut self, number: u64)
+        ensures { self.new ≡ record (self.old) { last = max self.old.last number } }
+    {
+        self.last = self.last.max(number);
+    }
+
+    /// The page goes for the one of this number.
+    pub fn evict(&mut self, number: u64)
+        ensures { self.new ≡ record (self.old) { gone = Some number } }
+    {
+        self.gone = Some(number);
+    }
+
+    /// Whether it can't be answered at this tick: its time is over, or it went for another.
+    pub fn is_over(&self, tick: u64) -> bool
+        ensures { result ≡ is_over_by tick self.now.deadline self.now.gone }
+    {
+        expired(tick, self.deadline) || self.gone.is_some()
+    }
 }

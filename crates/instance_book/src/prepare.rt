@@ -1,15 +1,17 @@
 ghost use Rattle.std.specs.Prelude.{◌≡◌, ◌<◌, ◌≤◌, ◌+◌, ◌^◌, ◌++◌, [], None, Ok, IfOk, IfErr, OnOk, map, length, Contains};
+ghost use Rattle.script_value.specs.Val.{list, no_vals};
 ghost use Rattle.instance_cells.specs.Cells.{AreOn, reads_of};
 ghost use Rattle.instance_cells.specs.Views.{effect_of};
 ghost use Rattle.machine_states.specs.Views.{segment_of};
+ghost use Rattle.kept_states.specs.Kept.{kept_of};
+ghost use Rattle.replay_spec.specs.Book.{page_at};
 ghost use Rattle.instance_book.specs.Lists.{HasRoom};
 ghost use Rattle.instance_book.specs.Views.{pages_of, HasRoomAt, reply_of};
 ghost use Rattle.instance_book.specs.Places.{shown_in};
 ghost use Rattle.instance_book.specs.Makes.{StaysSame, KeepsPlaces, KeepsStates};
-ghost use Rattle.instance_book.specs.Changes.{renewed, HasDeadlineBy, HasRoomFor};
-ghost use Rattle.instance_book.specs.Prepares.{IsOfRun, WantsRoom, StartsOn, AnswersBy, IsOnCells, AreOnCells, IsPreparedBy, StartKeepsState, KeepsAnswerState, KeepsItsState, IsOfStart, IsOfAnswer, IsOfItsSegment};
-ghost use Rattle.instance_book.specs.Segments.{Revokes, BeginsBy, IsLeftBy, Shows, EndsOn, FinishesOn, OpensOn, KeepsFirstState, KeepsNextState};
-ghost use Rattle.instance_book.specs.Told.{IsExtendedBy};
+ghost use Rattle.instance_book.specs.Changes.{renewed, HasDeadlineBy, HasRoomToOpen, HasRoomFor};
+ghost use Rattle.instance_book.specs.Prepares.{IsOfRun, WantsRoom, StartsOn, AnswersBy, IsOnCells, AreOnCells, IsNewIn, IsNew, IsPreparedBy, StartKeepsState, KeepsAnswerState, KeepsItsState, IsOfStart, IsOfAnswer, IsOfItsSegment};
+ghost use Rattle.instance_book.specs.Segments.{Revokes, BeginsBy, IsLeftBy, effects_in, new_in, IsNewPage, IsOpenedBy, IsExtendedBy, Shows, CanBeShown, EndsOn, FinishesOn, OpensOn, KeepsFirstState, KeepsNextState};
 
 use crate::after::{After, Show};
 use crate::book::Book;
@@ -17,13 +19,14 @@ use crate::in_order::InOrder;
 use crate::instance::KeptInstance;
 use crate::numbered::Numbered;
 use crate::page::KeptPage;
-use crate::prepared::{Change, Ending, Extension, Finish, Prepared};
-use crate::shown::ShownPage;
+use crate::prepared::{Change, Ending, Extension, Finish, Opening, Prepared};
+use crate::shown::{ShownPage, ShownState};
 use crate::ticket::Ticket;
 use expiry::{LONGEST_LIFE, deadline};
-use instance_cells::Effect;
+use instance_cells::{Cells, Effect};
+use journal_records::{EndedRecord, FinishRecord, PageRecord};
 use kept_states::KeptState;
-use machine_states::{Outcome, Segment};
+use machine_states::{Origin, Outcome, Segment};
 use page_names::{PageName, Target};
 use script_nodes::SendKind;
 use script_value::{Bytes, Items, Refusal, Reply, TxName, Value};
@@ -121,23 +124,60 @@ fn unchanged(reply: Reply) -> Prepared
     }
 }
 
-// The instance of a start, which has room for its page.
-pub(crate) fn begun(
+// What a page has that answers none: the empty list.
+fn no_answer(alloc: Global) -> Result<StoredValue, AllocError>
+    ensures { IfOk result (λ answer. answer ≡ list no_vals) }
+{
+    StoredValue::of(alloc, &Value::List(Items::new(alloc)))
+}
+
+// What is kept of the page of a record, which answers this one, if any, with this.
+fn new_page(
     alloc: Global,
-    ticket: &Ticket,
+    told: &PageRecord,
+    parent: Option<u64>,
+    answer: StoredValue,
+    inside: Vec<TxName>,
+    kept: KeptState,
+) -> Result<Numbered<KeptPage>, AllocError>
+    ensures { IfOk result
+        (IsNewPage (new_in told.now parent answer inside.items) (kept_of kept)) }
+{
+    let reads = reads_in(alloc, &told.effects)?;
+    Ok(Numbered {
+        number: told.ticket,
+        item: KeptPage {
+            nonce: told.nonce,
+            parent,
+            answer,
+            reads,
+            inside,
+            deadline: told.deadline,
+            last: told.ticket,
+            gone: None,
+            state: kept,
+        },
+    })
+}
+
+// The instance of a start of the script of this place over these cells, which has room for its page.
+fn begun(
+    alloc: Global,
+    place: usize,
+    cells: &Cells,
     effects: &[Effect],
     left: &[TxName],
 ) -> Result<KeptInstance, AllocError>
-    requires { AreOn (length ticket.now.cells) (map effect_of effects.now) }
-    ensures instance { IfOk result (BeginsBy ticket.now effects.now left.now) }
+    requires { AreOn (length cells.now) (map effect_of effects.now) }
+    ensures instance { IfOk result (BeginsBy place cells.now effects.now left.now) }
     ensures room { IfOk result (λ instance. HasRoom instance.pages) }
-    ensures script { IfOk result (λ instance. instance.script ≡ ticket.now.script) }
+    ensures script { IfOk result (λ instance. instance.script ≡ place) }
     ensures pages { IfOk result (λ instance. pages_of instance.pages ≡ []) }
     ensures shown { IfOk result (λ instance. shown_in instance.pages ≡ []) }
 {
     Ok(KeptInstance {
-        script: ticket.script,
-        cells: ticket.cells.committed(alloc, effects)?,
+        script: place,
+        cells: cells.committed(alloc, effects)?,
         closed: closed_with(Closed::new(alloc), left)?,
         revoked: InOrder::new(alloc),
         pages: InOrder::with_room(alloc)?,
@@ -163,51 +203,39 @@ impl KeptInstance {
 }
 
 impl Numbered<KeptInstance> {
-    // The extension of a ticket's page, behind the page of the instance that was answered.
+    // The extension that a record tells of: an answer to this page of the instance, with this.
     pub(crate) fn extended(
         &self,
         alloc: Global,
-        ticket: &Ticket,
+        told: PageRecord,
         answered: u64,
-        page: ShownPage,
+        answer: StoredValue,
+        page: ShownState,
     ) -> Result<Extension, AllocError>
-        requires { AreOn (length self.now.item.cells) (map effect_of page.effects.items) }
-        ensures { IfOk result (IsExtendedBy ticket.now answered page self.now) }
+        requires { AreOn (length self.now.item.cells) (effects_in told) }
+        ensures { IfOk result (IsExtendedBy told answered answer page self.now) }
     {
-        let after = self.item.after(alloc, &page.effects, &page.left)?;
-        let revoked = revoked_after(alloc, page.kind, &self.item.pages)?;
-        let reads = reads_in(alloc, &page.effects)?;
-        let stored = StoredValue::of(alloc, &ticket.answer)?;
-        let state = KeptState::of(alloc, &ticket.from, ticket.links, &page.state)?;
-        let answer = ticket.answer.try_clone(alloc)?;
+        let ShownState {
+            inside,
+            state,
+            kept,
+        } = page;
+        let after = self.item.after(alloc, &told.effects, &told.left)?;
+        let revoked = revoked_after(alloc, told.kind, &self.item.pages)?;
+        let page = new_page(alloc, &told, Some(answered), answer, inside, kept)?;
         Ok(Extension {
             instance: self.number,
-            answered,
-            answer,
-            effects: page.effects,
-            left: page.left,
-            kind: page.kind,
-            state: page.state,
+            record: told,
+            state,
             show: Show {
-                page: Numbered {
-                    number: ticket.number,
-                    item: KeptPage {
-                        nonce: ticket.nonce,
-                        parent: Some(answered),
-                        answer: stored,
-                        reads,
-                        inside: page.inside,
-                        deadline: page.deadline,
-                        state,
-                    },
-                },
+                page,
                 revoked,
                 after,
             },
         })
     }
 
-    // An answer to a page of the instance showed a page.
+    // An answer to a page of the instance showed a page, for which others go, where so many may be left.
     fn extension(
         &self,
         alloc: Global,
@@ -215,14 +243,42 @@ impl Numbered<KeptInstance> {
         answered: u64,
         bytes: Bytes,
         page: ShownPage,
+        limit: u32,
     ) -> Result<Prepared, AllocError>
         requires on { AreOn (length self.now.item.cells) (map effect_of page.effects.items) }
         requires number { ticket.now.number < 2 ^ 63 }
+        requires unused { page_at ticket.now.number (pages_of self.now.item.pages) ≡ None }
         ensures state { IfOk result (KeepsNextState ticket.now self.now.number answered page) }
-        ensures shows { IfOk result (Shows ticket.now answered bytes page self.now) }
+        ensures shows { IfOk result (Shows ticket.now answered bytes page limit self.now) }
+        ensures shown { IfOk result (CanBeShown self.now) }
     {
         let reply = shown(alloc, bytes, ticket)?;
-        let extension = self.extended(alloc, ticket, answered, page)?;
+        let evicted = self
+            .item
+            .pages
+            .goes_for(alloc, answered, ticket.number, limit)?;
+        let answer = StoredValue::of(alloc, &ticket.answer)?;
+        let kept = KeptState::of(alloc, &ticket.from, ticket.links, &page.state)?;
+        let record = PageRecord {
+            ticket: ticket.number,
+            nonce: ticket.nonce,
+            origin: journal_records::Origin::Answer {
+                instance: self.number,
+                page: answered,
+                answer: ticket.answer.try_clone(alloc)?,
+            },
+            effects: page.effects,
+            left: page.left,
+            kind: page.kind,
+            deadline: page.deadline,
+            evicted,
+        };
+        let state = ShownState {
+            inside: page.inside,
+            state: page.state,
+            kept,
+        };
+        let extension = self.extended(alloc, record, answered, answer, state)?;
         Ok(Prepared {
             reply,
             logged: ticket.number + 1,
@@ -249,12 +305,14 @@ impl Numbered<KeptInstance> {
             reply: Reply::Ended(page),
             logged: ticket.number + 1,
             change: Some(Change::Ends(Ending {
-                number: ticket.number,
-                instance: self.number,
-                answered,
-                answer,
-                effects: done.effects,
-                left: done.left,
+                record: EndedRecord {
+                    ticket: ticket.number,
+                    instance: self.number,
+                    page: answered,
+                    answer,
+                    effects: done.effects,
+                    left: done.left,
+                },
                 inside: done.inside,
                 after,
             })),
@@ -280,17 +338,53 @@ fn finish(
         reply: Reply::Finished(page),
         logged: ticket.number + 1,
         change: Some(Change::Finishes(Finish {
-            number: ticket.number,
-            instance,
-            answered,
-            answer: ticket.answer.try_clone(alloc)?,
-            effects,
+            record: FinishRecord {
+                ticket: ticket.number,
+                instance,
+                page: answered,
+                answer: ticket.answer.try_clone(alloc)?,
+                effects,
+            },
             inside,
         })),
     })
 }
 
 impl Book {
+    // The opening that a record tells of: a start of the script of this place over these cells; and the room that it takes.
+    pub(crate) fn opened(
+        &mut self,
+        alloc: Global,
+        place: usize,
+        cells: &Cells,
+        told: PageRecord,
+        page: ShownState,
+    ) -> Result<Opening, AllocError>
+        requires on { AreOn (length cells.now) (effects_in told) }
+        requires few { length self.old.instances.things.items + 1 < 2 ^ 32 }
+        ensures book { StaysSame self.old self.new }
+        ensures placed { KeepsPlaces self.old self.new }
+        ensures states { KeepsStates self.old self.new }
+        ensures room { IfOk result (λ o. HasRoomToOpen o self.new) }
+        ensures opens { IfOk result (IsOpenedBy place cells.now told page) }
+    {
+        let ShownState {
+            inside,
+            state,
+            kept,
+        } = page;
+        let answer = no_answer(alloc)?;
+        let page = new_page(alloc, &told, None, answer, inside, kept)?;
+        let instance = begun(alloc, place, cells, &told.effects, &told.left)?;
+        self.instances.make_room()?;
+        Ok(Opening {
+            record: told,
+            page,
+            state,
+            instance,
+        })
+    }
+
     // A start showed a page.
     fn opening(
         &mut self,
@@ -310,7 +404,25 @@ impl Book {
         ensures opens { IfOk result (OpensOn ticket.now bytes page) }
     {
         let reply = shown(alloc, bytes, ticket)?;
-        let opening = self.opened(alloc, ticket, page)?;
+        let kept = KeptState::of(alloc, &Origin::Start, 0, &page.state)?;
+        let record = PageRecord {
+            ticket: ticket.number,
+            nonce: ticket.nonce,
+            origin: journal_records::Origin::Start {
+                script: ticket.start,
+            },
+            effects: page.effects,
+            left: page.left,
+            kind: page.kind,
+            deadline: page.deadline,
+            evicted: Vec::new(alloc),
+        };
+        let state = ShownState {
+            inside: page.inside,
+            state: page.state,
+            kept,
+        };
+        let opening = self.opened(alloc, ticket.script, &ticket.cells, record, state)?;
         Ok(Prepared {
             reply,
             logged: ticket.number + 1,
@@ -375,7 +487,7 @@ impl Book {
     }
 
     // Room for one page more in an instance.
-    fn room_in(&mut self, instance: u64) -> Result<(), AllocError>
+    pub(crate) fn room_in(&mut self, instance: u64) -> Result<(), AllocError>
         ensures book { StaysSame self.old self.new }
         ensures placed { KeepsPlaces self.old self.new }
         ensures states { KeepsStates self.old self.new }
@@ -416,6 +528,7 @@ impl Book {
         requires on { IsOnCells self.old page.now.instance (map effect_of segment.effects.items) }
         requires life { life ≤ LONGEST_LIFE }
         requires number { ticket.now.number < 2 ^ 63 }
+        requires unused { IsNewIn self.old page.now.instance ticket.now.number }
         ensures book { StaysSame self.old self.new }
         ensures placed { KeepsPlaces self.old self.new }
         ensures states { KeepsStates self.old self.new }
@@ -443,10 +556,6 @@ impl Book {
                 kind,
                 state,
             } => {
-                let count = instance.item.pages.len();
-                if count >= pages as usize {
-                    return Err(Reply::InstanceFull(count as u64));
-                }
                 let deadline = deadline(self.clock, life);
                 let next = ShownPage {
                     kind,
@@ -456,7 +565,7 @@ impl Book {
                     deadline,
                     state,
                 };
-                let made = instance.extension(alloc, ticket, page.page, bytes, next);
+                let made = instance.extension(alloc, ticket, page.page, bytes, next, pages);
                 self.with_room(page.instance, made)
             }
             Outcome::Ended(bytes) => {
@@ -491,11 +600,11 @@ impl Book {
 
     /// Makes the reply and the change of a visit, and room for the change; nothing that the book stands for changes.
     ///
-    /// It asks for a number that is out, for a life in its range in seconds, and for effects on the cells of the visit's
-    /// instance. The segment is the one over the present cells of an admitted target: then what is prepared is what the visit
-    /// comes to, and carries it out. A page that it shows keeps the state of the segment. Whatever the ticket is for, what is
-    /// prepared is a change of its segment, or none, and carries itself out; its reply is one of a run, and a refusal is
-    /// `ShelfFull`, `InstanceFull` or want of memory.
+    /// It asks for a number that is out and that is new in the visit's instance, for a life in its range in seconds, and for
+    /// effects on the instance's cells. The segment is the one over the present cells of an admitted target: then what is
+    /// prepared is what the visit comes to, and carries it out. For a page that it shows the least used pages go, so that no more
+    /// than `pages` are left, and it keeps the state of the segment. Whatever the ticket is for, what is prepared is a change of
+    /// its segment, or none, and carries itself out; its reply is one of a run, and a refusal is `ShelfFull` or want of memory.
     pub fn prepare(
         &mut self,
         alloc: Global,
@@ -508,6 +617,7 @@ impl Book {
         requires out { Contains self.old.out.items ticket.now.number }
         requires life { life ≤ LONGEST_LIFE }
         requires on { AreOnCells self.old ticket.now (map effect_of segment.effects.items) }
+        requires unused { IsNew self.old ticket.now }
         ensures book { StaysSame self.old self.new }
         ensures placed { KeepsPlaces self.old self.new }
         ensures states { KeepsStates self.old self.new }

@@ -2,17 +2,14 @@ use crate::after::{After, Show};
 use crate::instance::KeptInstance;
 use crate::numbered::Numbered;
 use crate::page::KeptPage;
-use instance_cells::Effect;
+use journal_records::{EndedRecord, FinishRecord, PageRecord};
 use machine_states::Suspended;
-use script_nodes::SendKind;
-use script_value::{Reply, TxName, Value};
+use script_value::{Reply, TxName};
 
 /// A start showed a page.
 #[derive(Drop)]
 pub struct Opening {
-    pub effects: Vec<Effect>,
-    pub left: Vec<TxName>,
-    pub kind: SendKind,
+    pub record: PageRecord,
     /// The page, whose number is also that of its instance.
     pub page: Numbered<KeptPage>,
     /// The state of the page, for its record.
@@ -24,13 +21,9 @@ pub struct Opening {
 /// An answer to a page showed a page.
 #[derive(Drop)]
 pub struct Extension {
+    /// The instance whose page was answered; the record tells the page.
     pub instance: u64,
-    /// The number of the page that was answered.
-    pub answered: u64,
-    pub answer: Value,
-    pub effects: Vec<Effect>,
-    pub left: Vec<TxName>,
-    pub kind: SendKind,
+    pub record: PageRecord,
     /// The state of the page, for its record.
     pub state: Suspended,
     /// The page, and what its segment makes of the instance.
@@ -40,13 +33,7 @@ pub struct Extension {
 /// An answer to a page ended with a last page.
 #[derive(Drop)]
 pub struct Ending {
-    pub number: u64,
-    pub instance: u64,
-    /// The number of the page that was answered.
-    pub answered: u64,
-    pub answer: Value,
-    pub effects: Vec<Effect>,
-    pub left: Vec<TxName>,
+    pub record: EndedRecord,
     /// The transactions that were open where it ended.
     pub inside: Vec<TxName>,
     /// What it leaves of the instance.
@@ -56,12 +43,7 @@ pub struct Ending {
 /// An answer to a page freed its instance.
 #[derive(Drop)]
 pub struct Finish {
-    pub number: u64,
-    pub instance: u64,
-    /// The number of the page that was answered.
-    pub answered: u64,
-    pub answer: Value,
-    pub effects: Vec<Effect>,
+    pub record: FinishRecord,
     /// The transactions that were open where it stopped.
     pub inside: Vec<TxName>,
 }

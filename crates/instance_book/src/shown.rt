@@ -1,9 +1,10 @@
 use instance_cells::Effect;
+use kept_states::KeptState;
 use machine_states::Suspended;
 use script_nodes::SendKind;
 use script_value::TxName;
 
-/// A page that a segment showed, or that a record tells of, with what its segment did.
+/// A page that a segment showed, with what its segment did.
 #[derive(Drop)]
 pub struct ShownPage {
     pub kind: SendKind,
@@ -14,4 +15,14 @@ pub struct ShownPage {
     /// From this tick on it can't be answered, in seconds.
     pub deadline: u64,
     pub state: Suspended,
+}
+
+/// What a page has that its record does not tell: its transactions and its state.
+#[derive(Drop)]
+pub struct ShownState {
+    /// The transactions that it is inside, the outermost first.
+    pub inside: Vec<TxName>,
+    pub state: Suspended,
+    /// What is kept of the state.
+    pub kept: KeptState,
 }

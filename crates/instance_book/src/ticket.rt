@@ -12,8 +12,10 @@ use std::alloc::{AllocError, Global};
 pub struct Ticket {
     pub number: u64,
     pub nonce: u64,
-    /// The place of the script in the setup.
+    /// The place of the script among all that the journal told.
     pub script: usize,
+    /// The place of a start's script in the present setup; 0 where a page is answered.
+    pub start: u8,
     pub target: Target,
     /// The URL that a page of the segment would have.
     pub url: Str,
@@ -48,6 +50,7 @@ impl Ticket {
             number: self.number,
             nonce: self.nonce,
             script: self.script,
+            start: self.start,
             target: self.target,
             url: self.url.try_clone(alloc)?,
             from: self.from.try_clone(alloc)?,

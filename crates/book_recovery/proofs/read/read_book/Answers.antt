@@ -1,7 +1,7 @@
 use Rattle.std.proofs.Common.{◌≡◌, sym, subst, ℕ, length}
-use Rattle.script_nodes.specs.Views.{scripts_of}
 use Rattle.page_journal.specs.Records.{at_rest}
 use Rattle.page_journal.specs.Settled.{bodies_in, length_of}
+use Rattle.setup_reader.specs.Texts.{setup_of_texts}
 use Rattle.journal_spec.specs.Making.{book_of}
 use Rattle.book_recovery.specs.declared.found.Found.{Found}
 use Rattle.book_recovery.specs.Found.{Finds, IsFoundInOrder, HasStates}
@@ -11,37 +11,31 @@ use Rattle.book_recovery.proofs.read.read_book.Goals as goal
 
 pub returns-clause-found : goal.returns-clause-found
 returns-clause-found g c told =
-    let setup = c.args.setup.now in
-    let scripts = scripts_of setup in
     let shelf = c.args.shelf in
     let bodies = bodies_in g.D.Disk.view c.args.journal.now in
     let old = c.new-reader.result in
     let new = c.for_each.new.taker in
     let start = c.new-reader.ensures in
     let took = c.in_ok-for_each.ensures.taken told in
-    let all = taken_all setup shelf bodies old new start.setup start.shelf start.found start.seen took c.finish.ensures.sound in
+    let all = taken_all shelf bodies old new start.shelf start.found start.seen took c.finish.ensures.sound in
+    let made = book_of setup_of_texts shelf bodies in
     let long : length (at_rest bodies) ≡ length_of {D = g.row.D.Denot} c.args.journal.now = sym (c.requires.settled told).end in
-    let here = subst (λ (n : ℕ). Gives scripts n new.found new.seen (book_of scripts shelf bodies)) long all.1 in
-    subst (λ (f : Found). Finds scripts shelf (length_of {D = g.row.D.Denot} c.args.journal.now) f (book_of scripts shelf bodies)) (sym c.finish.ensures.found)
-    (finds scripts shelf (length_of {D = g.row.D.Denot} c.args.journal.now) new.found new.seen (book_of scripts shelf bodies) all.0 here)
+    let here = subst (λ (n : ℕ). Gives shelf n new.alone new.found new.seen made) long all.1 in
+    subst (λ (f : Found). Finds shelf (length_of {D = g.row.D.Denot} c.args.journal.now) f made) (sym c.finish.ensures.found)
+    (finds shelf (length_of {D = g.row.D.Denot} c.args.journal.now) new.alone new.found new.seen made all.0 here)
 
 pub returns-clause-states : goal.returns-clause-states
 returns-clause-states g c told own =
-    let setup = c.args.setup.now in
-    let scripts = scripts_of setup in
     let shelf = c.args.shelf in
     let bodies = bodies_in g.D.Disk.view c.args.journal.now in
     let old = c.new-reader.result in
     let new = c.for_each.new.taker in
     let start = c.new-reader.ensures in
     let took = c.in_ok-for_each.ensures.taken told in
-    subst (λ (f : Found). HasStates scripts f) (sym c.finish.ensures.found)
-    (owned_of_all setup shelf bodies old new start.setup start.shelf start.found start.seen took own)
+    subst (λ (f : Found). HasStates f) (sym c.finish.ensures.found) (owned_of_all shelf bodies old new start.shelf start.found start.seen took own)
 
 pub returns-clause-in_order : goal.returns-clause-in_order
 returns-clause-in_order g c =
-    let setup = c.args.setup.now in
-    let scripts = scripts_of setup in
     let shelf = c.args.shelf in
     let handed = c.in_ok-for_each.ensures.handed in
     let bodies = handed.0 in
@@ -49,6 +43,6 @@ returns-clause-in_order g c =
     let new = c.for_each.new.taker in
     let start = c.new-reader.ensures in
     let took = handed.1 in
-    let all = taken_all setup shelf bodies old new start.setup start.shelf start.found start.seen took c.finish.ensures.sound in
-    subst (λ (f : Found). IsFoundInOrder scripts shelf f) (sym c.finish.ensures.found)
-    (in_order c.bodies_make_fitting_books.ensures scripts shelf bodies c.each_is_whole.ensures (all_bytes 8 bodies old new took) (length (at_rest bodies)) new.found new.seen all.0 all.1)
+    let all = taken_all shelf bodies old new start.shelf start.found start.seen took c.finish.ensures.sound in
+    subst (λ (f : Found). IsFoundInOrder shelf f) (sym c.finish.ensures.found)
+    (in_order c.bodies_make_fitting_books.ensures shelf bodies (all_bytes 8 bodies old new took) (length (at_rest bodies)) new.alone new.found new.seen all.0 all.1)

@@ -1,4 +1,4 @@
-use Rattle.book_recovery.proofs.Retold.{whole_named}
+use Rattle.book_recovery.proofs.Longer.{whole_named}
 use Rattle.book_recovery.proofs.setup_scripts.is_whole.Goals as goal
 
 pub returns : goal.returns

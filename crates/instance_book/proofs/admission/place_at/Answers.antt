@@ -2,7 +2,7 @@ use Rattle.std.proofs.Common.{◌≡◌, ◌∙◌, ap, sym, subst, Bool, false,
 use Rattle.std.specs.Str.{bytes_eq}
 use Rattle.std.proofs.lemmas.Option.{same_Some, none-some, get_or_from_slice_get}
 use Rattle.script_nodes.specs.Setup.{Named}
-use Rattle.script_nodes.specs.Views.{scripts_of, named_of}
+use Rattle.script_nodes.specs.Views.{library_of, named_of}
 use Rattle.page_names.specs.Views.{name_of}
 use Rattle.page_names.specs.declared.names.PageName.{PageName}
 use Rattle.replay_spec.specs.Book.{Book, Instance, Page, instance_at, page_at}
@@ -41,14 +41,14 @@ returns-then-is_named-clause-states c = λ source all. c.in_ok-place.ensures.sta
 
 pub returns-else-is_named-clause-place : goal.returns-else-is_named-clause-place
 returns-else-is_named-clause-place c =
-    let scripts = scripts_of c.args.setup.now in
+    let library = library_of c.args.library.now in
     let place = c.in_ok-place.place in
-    let at = place_of scripts place in
+    let at = place_of library.all place in
     let i = place.instance.now in
     let named = named_of place.script.now in
     let n = c.args.page.now in
     let name = name_of c.args.name.now in
-    let its : script_in scripts i.item.script ≡ named = get_or_from_slice_get scripts i.item.script named no_script c.in_ok-place.ensures.placed in
-    let other : is_so (book_under c.args.setup.now c.args.book.now) name n at ≡ false =
+    let its : script_in library.all i.item.script ≡ named = get_or_from_slice_get library.all i.item.script named no_script c.in_ok-place.ensures.placed in
+    let other : is_so (book_under (library_of c.args.library.now) c.args.book.now) name n at ≡ false =
     ap (λ (s : Named). n.shelf == c.args.book.now.shelf && bytes_eq s.name name && place.page.now.item.nonce == n.nonce) its ∙ (sym c.is_named.ensures ∙ c.if-is_named.false) in
-    not_so (book_under c.args.setup.now c.args.book.now) name n at other c.in_ok-place.ensures.place
+    not_so (book_under (library_of c.args.library.now) c.args.book.now) name n at other c.in_ok-place.ensures.place

@@ -1,26 +1,30 @@
-use Rattle.std.proofs.Common.{◌≡◌, sym, [], Some, refl, rules}
-use Rattle.journal_spec.specs.Before.{state_at}
-use Rattle.script_nodes.specs.Views.{scripts_of}
-use Rattle.journal_records.specs.Views.{logged_of}
+use Rattle.std.proofs.Common.{◌≡◌, ◌∙◌, ap, sym, subst, map, List, Some, option_map}
+use Rattle.script_nodes.specs.declared.library.ScriptText.{ScriptText}
+use Rattle.setup_reader.proofs.Retold.{setup_kept}
+use Rattle.journal_records.specs.Records.{begins}
 use Rattle.journal_records.specs.Reading.{read_record}
-use Rattle.journal_records.specs.Laws.{IsBodyOf}
-use Rattle.journal_records.specs.Records.{begin_of}
-use Rattle.book_recovery.proofs.Made.{first_made, first_kept}
+use Rattle.journal_records.specs.Views.{logged_of, script_of}
+use Rattle.journal_records.specs.declared.records.Logged.{Logged}
+use Rattle.book_recovery.specs.Reading.{Begins}
+use Rattle.book_recovery.proofs.Way.{first_gives, first_kept, first_states}
 use Rattle.book_recovery.proofs.reader.Reader.first.Goals as goal
 
-pub returns-then-begins-clause-gives : goal.returns-then-begins-clause-gives
-returns-then-begins-clause-gives c m is =
+pub returns-in-Begin-clause-gives : goal.returns-in-Begin-clause-gives
+returns-in-Begin-clause-gives c m is =
     let w = c.in-Ok-Some in
-    let r = logged_of w.logged in
-    let read : read_record c.args.body.now ≡ Some r = sym (search (rules, w.ensures.read, w.field-0-is, w.logged-is)) in
-    let spelled : IsBodyOf c.args.body.now r = search (rules, w.ensures.spelled, w.field-0-is, w.logged-is) in
-    let begin : r ≡ begin_of c.args.self.now.shelf (scripts_of c.args.self.now.setup.now) = c.if-begins.ensures.0 refl in
-    first_made c.only_its_begin_begins.ensures (scripts_of c.args.self.now.setup.now) c.args.self.now.shelf c.args.place c.args.body.now r read spelled begin c.empty.result c.empty.ensures.book (c.empty.ensures.told (λ n. state_at n []) (scripts_of c.args.self.now.setup.now)) c.args.self.now.seen m is
+    let v = c.in-Begin in
+    let shelf = c.args.self.now.shelf in
+    let named = map script_of v.scripts.items in
+    let reads : read_record c.args.body.now ≡ Some (begins v.shelf named) =
+    sym w.ensures.read ∙ (ap (option_map logged_of) w.field-0-is ∙ ap (λ (l : Logged). Some (logged_of l)) v.is) in
+    let made : Begins shelf c.args.place v.shelf named c.begun.result =
+    subst (λ (ts : List ScriptText). Begins shelf c.args.place v.shelf (map script_of ts) c.begun.result) c.deref.ensures.value c.begun.ensures in
+    first_gives shelf c.args.place c.args.body.now v.shelf named c.args.self.now.seen c.begun.result reads made m is
 
-pub returns-then-begins-clause-kept : goal.returns-then-begins-clause-kept
-returns-then-begins-clause-kept c none =
-    let scripts = scripts_of c.args.self.now.setup.now in
-    first_kept scripts c.args.self.now.shelf c.empty.result c.empty.ensures.book (c.empty.ensures.placed scripts) (c.empty.ensures.told (λ n. state_at n []) scripts) c.args.self.now.seen none
+pub returns-in-Begin-clause-owns : goal.returns-in-Begin-clause-owns
+returns-in-Begin-clause-owns c =
+    first_states c.args.self.now.shelf c.args.place c.in-Begin.shelf (map script_of c.deref.result.now) c.begun.result c.begun.ensures
 
-pub returns-then-begins-clause-owns : goal.returns-then-begins-clause-owns
-returns-then-begins-clause-owns c = c.empty.ensures.states (scripts_of c.args.self.now.setup.now)
+pub returns-in-Begin-clause-kept : goal.returns-in-Begin-clause-kept
+returns-in-Begin-clause-kept c none =
+    first_kept c.args.self.now.shelf c.args.place c.in-Begin.shelf (map script_of c.deref.result.now) c.args.self.now.seen c.begun.result setup_kept c.begun.ensures none

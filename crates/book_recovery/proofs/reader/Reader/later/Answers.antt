@@ -1,52 +1,91 @@
-use Rattle.std.proofs.Common.{◌≡◌, ◌∙◌, sym, subst, Option, Some, IfSome, true, length, rules}
-use Rattle.script_nodes.specs.Views.{scripts_of}
+use Rattle.std.proofs.Common.{◌≡◌, ◌∙◌, ap, sym, subst, ℕ, true, map, List, length, Option, Some, None, IfSome, option_map}
+use Rattle.script_nodes.specs.Views.{library_of}
+use Rattle.script_nodes.specs.declared.library.ScriptText.{ScriptText}
+use Rattle.setup_reader.proofs.Retold.{setup_kept}
 use Rattle.instance_book.specs.declared.book.Book.{Book}
-use Rattle.instance_book.specs.Makes.{HasPlaces, HasItsStates}
-use Rattle.journal_records.specs.Views.{logged_of}
+use Rattle.instance_book.specs.Makes.{HasPlaces}
+use Rattle.instance_book.proofs.Redone.{of_some}
+use Rattle.journal_records.specs.Laws.{IsBodyOf}
+use Rattle.journal_records.specs.Records.{renews}
 use Rattle.journal_records.specs.Reading.{read_record}
-use Rattle.book_recovery.specs.Reading.{is_later, IsRemade, IsOwnBehind}
-use Rattle.book_recovery.proofs.Made.{later_made, later_damaged, later_kept}
+use Rattle.journal_records.specs.Views.{logged_of, script_of}
+use Rattle.journal_records.specs.declared.records.Logged.{Logged}
+use Rattle.book_recovery.specs.Reading.{may_stand, IsMadeOf, IsOwnBehind, Renews}
+use Rattle.book_recovery.proofs.Made.{later_made, later_damaged}
+use Rattle.book_recovery.proofs.Way.{is_nine, later_way, later_owns, renewed_gives, renewed_kept, renewed_states}
 use Rattle.book_recovery.proofs.reader.Reader.later.Goals as goal
+
+pub returns-in-Texts-clause-gives : goal.returns-in-Texts-clause-gives
+returns-in-Texts-clause-gives c m is =
+    let w = c.in-Ok-Some in
+    let v = c.in-Texts in
+    let l = library_of c.args.library in
+    let named = map script_of v.scripts.items in
+    let made : Renews c.args.place c.args.book l named c.renewed.result =
+    subst (λ (ts : List ScriptText). Renews c.args.place c.args.book l (map script_of ts) c.renewed.result) c.deref.ensures.value c.renewed.ensures in
+    let reads : read_record c.args.body.now ≡ Some (renews named) =
+    sym w.ensures.read ∙ (ap (option_map logged_of) w.field-0-is ∙ ap (λ (x : Logged). Some (logged_of x)) v.is) in
+    renewed_gives c.args.self.now.shelf c.args.place c.args.body.now l c.args.self.now.alone c.args.self.now.seen c.args.book named c.renewed.result reads c.requires.kept.placed made m is
+
+pub returns-in-Texts-clause-owns : goal.returns-in-Texts-clause-owns
+returns-in-Texts-clause-owns c left states =
+    renewed_states c.args.place (library_of c.args.library) c.args.book (map script_of c.deref.result.now) c.renewed.result c.renewed.ensures states
+
+pub returns-in-Texts-clause-kept : goal.returns-in-Texts-clause-kept
+returns-in-Texts-clause-kept c =
+    renewed_kept c.args.self.now.shelf c.args.place (library_of c.args.library) c.args.self.now.alone c.args.self.now.seen c.args.book (map script_of c.deref.result.now) c.renewed.result setup_kept
+    c.requires.kept c.renewed.ensures
 
 pub returns-in-Ok-Some-redo-clause-gives : goal.returns-in-Ok-Some-redo-clause-gives
 returns-in-Ok-Some-redo-clause-gives c m is =
     let w = c.in-Ok-Some in
+    let old = c.args.self.now in
+    let l = library_of c.args.library in
+    let r = logged_of w.logged in
+    let reads : read_record c.args.body.now ≡ Some r = sym w.ensures.read ∙ ap (option_map logged_of) w.field-0-is in
+    let stands : may_stand old.alone (length l.setup) r ≡ true =
+    ap (λ (n : ℕ). may_stand old.alone n r) (sym c.present.ensures) ∙ (sym c.may_stand.ensures ∙ c.if-not-may_stand.false) in
     let v = c.in-Ok-Some-redo in
-    let scripts = scripts_of c.args.self.now.setup.now in
-    let r = logged_of w.logged in
-    let read : read_record c.args.body.now ≡ Some r = sym (search (rules, w.ensures.read, w.field-0-is, w.logged-is)) in
-    let later : is_later (length scripts) r ≡ true = sym c.is_later.ensures ∙ c.if-not-is_later.false in
-    later_made scripts c.args.self.now.shelf c.args.place c.args.body.now r read later c.args.self.now.seen c.redo.new.self.seen c.args.book v.book
-    (subst (λ (o : Option Book). IsRemade scripts c.args.self.now.seen r c.args.book o) v.field-0-is v.ensures.made) v.ensures.sees m is
-
-pub returns-in-Ok-None-redo-clause-gives : goal.returns-in-Ok-None-redo-clause-gives
-returns-in-Ok-None-redo-clause-gives c m is =
-    let w = c.in-Ok-Some in
-    let v = c.in-Ok-None-redo in
-    let scripts = scripts_of c.args.self.now.setup.now in
-    let r = logged_of w.logged in
-    let read : read_record c.args.body.now ≡ Some r = sym (search (rules, w.ensures.read, w.field-0-is, w.logged-is)) in
-    let later : is_later (length scripts) r ≡ true = sym c.is_later.ensures ∙ c.if-not-is_later.false in
-    later_damaged scripts c.args.self.now.shelf c.args.place c.args.body.now r read later c.args.self.now.seen c.args.book
-    (subst (λ (o : Option Book). IsRemade scripts c.args.self.now.seen r c.args.book o) v.field-0-is v.ensures.made) m is
-
-pub returns-in-Ok-Some-redo-clause-kept : goal.returns-in-Ok-Some-redo-clause-kept
-returns-in-Ok-Some-redo-clause-kept c =
-    let w = c.in-Ok-Some in
-    let v = c.in-Ok-Some-redo in
-    let scripts = scripts_of c.args.self.now.setup.now in
-    let r = logged_of w.logged in
-    let later : is_later (length scripts) r ≡ true = sym c.is_later.ensures ∙ c.if-not-is_later.false in
-    later_kept scripts c.args.self.now.shelf r later c.args.self.now.seen c.redo.new.self.seen c.args.book v.book c.requires.kept
-    (subst (λ (o : Option Book). IsRemade scripts c.args.self.now.seen r c.args.book o) v.field-0-is v.ensures.made) v.ensures.sees
-    (subst (λ (o : Option Book). IfSome o (HasPlaces scripts)) v.field-0-is v.ensures.placed)
+    let made : IsMadeOf l old.seen r c.args.book (Some v.book) = subst (λ (o : Option Book). IsMadeOf l old.seen r c.args.book o) v.field-0-is v.ensures.made in
+    let spelled = of_some w.field-0 w.logged (λ (x : Logged). IsBodyOf c.args.body.now (logged_of x)) w.field-0-is w.ensures.spelled in
+    later_made old.shelf c.args.place c.args.body.now l old.alone old.seen c.redo.new.self.seen c.args.book v.book r reads (is_nine c.args.body.now r spelled.spelled) stands made v.ensures.sees m is
 
 pub returns-in-Ok-Some-redo-clause-owns : goal.returns-in-Ok-Some-redo-clause-owns
 returns-in-Ok-Some-redo-clause-owns c own states =
     let w = c.in-Ok-Some in
-    let v = c.in-Ok-Some-redo in
-    let scripts = scripts_of c.args.self.now.setup.now in
+    let old = c.args.self.now in
+    let l = library_of c.args.library in
     let r = logged_of w.logged in
-    let read : read_record c.args.body.now ≡ Some r = sym (search (rules, w.ensures.read, w.field-0-is, w.logged-is)) in
-    let later : is_later (length scripts) r ≡ true = sym c.is_later.ensures ∙ c.if-not-is_later.false in
-    subst (λ (o : Option Book). IfSome o (HasItsStates scripts)) v.field-0-is (v.ensures.states later (subst (IsOwnBehind scripts c.args.self.now.seen c.args.book) read own) states)
+    let reads : read_record c.args.body.now ≡ Some r = sym w.ensures.read ∙ ap (option_map logged_of) w.field-0-is in
+    let stands : may_stand old.alone (length l.setup) r ≡ true =
+    ap (λ (n : ℕ). may_stand old.alone n r) (sym c.present.ensures) ∙ (sym c.may_stand.ensures ∙ c.if-not-may_stand.false) in
+    let v = c.in-Ok-Some-redo in
+    let made : IsMadeOf l old.seen r c.args.book (Some v.book) = subst (λ (o : Option Book). IsMadeOf l old.seen r c.args.book o) v.field-0-is v.ensures.made in
+    later_owns l old.seen c.args.book v.book r made (subst (IsOwnBehind l old.seen c.args.book) reads own) states
+
+pub returns-in-Ok-Some-redo-clause-kept : goal.returns-in-Ok-Some-redo-clause-kept
+returns-in-Ok-Some-redo-clause-kept c =
+    let w = c.in-Ok-Some in
+    let old = c.args.self.now in
+    let l = library_of c.args.library in
+    let r = logged_of w.logged in
+    let reads : read_record c.args.body.now ≡ Some r = sym w.ensures.read ∙ ap (option_map logged_of) w.field-0-is in
+    let stands : may_stand old.alone (length l.setup) r ≡ true =
+    ap (λ (n : ℕ). may_stand old.alone n r) (sym c.present.ensures) ∙ (sym c.may_stand.ensures ∙ c.if-not-may_stand.false) in
+    let v = c.in-Ok-Some-redo in
+    let made : IsMadeOf l old.seen r c.args.book (Some v.book) = subst (λ (o : Option Book). IsMadeOf l old.seen r c.args.book o) v.field-0-is v.ensures.made in
+    later_way old.shelf l old.alone old.seen c.redo.new.self.seen c.args.book v.book r c.requires.kept stands made v.ensures.sees
+    (subst (λ (o : Option Book). IfSome o (HasPlaces l.all)) v.field-0-is v.ensures.placed)
+
+pub returns-in-Ok-None-redo-clause-gives : goal.returns-in-Ok-None-redo-clause-gives
+returns-in-Ok-None-redo-clause-gives c m is =
+    let w = c.in-Ok-Some in
+    let old = c.args.self.now in
+    let l = library_of c.args.library in
+    let r = logged_of w.logged in
+    let reads : read_record c.args.body.now ≡ Some r = sym w.ensures.read ∙ ap (option_map logged_of) w.field-0-is in
+    let stands : may_stand old.alone (length l.setup) r ≡ true =
+    ap (λ (n : ℕ). may_stand old.alone n r) (sym c.present.ensures) ∙ (sym c.may_stand.ensures ∙ c.if-not-may_stand.false) in
+    let v = c.in-Ok-None-redo in
+    let made : IsMadeOf l old.seen r c.args.book None = subst (λ (o : Option Book). IsMadeOf l old.seen r c.args.book o) v.field-0-is v.ensures.made in
+    later_damaged old.shelf c.args.place c.args.body.now l old.alone old.seen c.args.book r reads stands made m is

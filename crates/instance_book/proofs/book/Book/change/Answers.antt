@@ -1,11 +1,10 @@
 use Rattle.std.proofs.Common.{◌≡◌, ◌∙◌, ◌<◌, ap, sym, subst, ℕ, List, [], length, map, arith, not, ◌==◌}
 use Rattle.replay_spec.specs.Book.{Instance}
-use Rattle.replay_spec.specs.Change.{put_instance, mend, without}
-use Rattle.instance_book.specs.Views.{instance_of, instances_of}
-use Rattle.instance_book.specs.Places.{IsNextAt}
-use Rattle.instance_book.specs.Changes.{ended_with, shown_with, OpensKept}
+use Rattle.replay_spec.specs.Change.{put_instance, without}
+use Rattle.instance_book.specs.Views.{instance_of}
+use Rattle.instance_book.specs.Changes.{OpensKept}
 use Rattle.instance_book.specs.Makes.{shelf_from}
-use Rattle.instance_book.proofs.Seen.{length_mend, length_put, length_kept, length_seen}
+use Rattle.instance_book.proofs.Seen.{length_put, length_kept, length_seen}
 use Rattle.instance_book.proofs.States.{kept_first}
 use Rattle.instance_book.proofs.book.Book.change.Goals as goal
 
@@ -18,29 +17,11 @@ invariant_of-self c =
     let room = rw (c.in-Some.is, c.in-Opens.is) at c.requires in
     record { ticks = c.args.self.now.ticks; numbers = c.args.self.now.numbers; few = omega (arith, before, more, after, room.few); below = c.args.self.now.below }
 
-pub invariant_of-self-in-Extends : goal.invariant_of-self-in-Extends
-invariant_of-self-in-Extends c =
-    let is = map (instance_of []) c.args.self.now.instances.things.items in
-    let before = length_seen (instance_of []) c.args.self.now.instances.things.items in
-    let x = c.in-Extends.extension in
-    let after : length c.show.new.self.things.items ≡ length (mend x.instance (shown_with x.show) is) = sym (length_seen (instance_of []) c.show.new.self.things.items) ∙ ap (λ (js : List Instance). length js) (c.show.ensures.instances []) in
-    let same = length_mend x.instance (shown_with x.show) is in
-    record { ticks = c.args.self.now.ticks; numbers = c.args.self.now.numbers; few = omega (arith, before, same, after, c.args.self.now.few); below = c.args.self.now.below }
-
-pub invariant_of-self-in-Ends : goal.invariant_of-self-in-Ends
-invariant_of-self-in-Ends c =
-    let is = map (instance_of []) c.args.self.now.instances.things.items in
-    let before = length_seen (instance_of []) c.args.self.now.instances.things.items in
-    let e = c.in-Ends.ending in
-    let after : length c.end.new.self.things.items ≡ length (mend e.instance (ended_with e.after) is) = sym (length_seen (instance_of []) c.end.new.self.things.items) ∙ ap (λ (js : List Instance). length js) (c.end.ensures.instances []) in
-    let same = length_mend e.instance (ended_with e.after) is in
-    record { ticks = c.args.self.now.ticks; numbers = c.args.self.now.numbers; few = omega (arith, before, same, after, c.args.self.now.few); below = c.args.self.now.below }
-
 pub invariant_of-self-in-Finishes : goal.invariant_of-self-in-Finishes
 invariant_of-self-in-Finishes c =
     let is = map (instance_of []) c.args.self.now.instances.things.items in
     let before = length_seen (instance_of []) c.args.self.now.instances.things.items in
-    let n = c.in-Finishes.finish.instance in
+    let n = c.in-Finishes.finish.record.instance in
     let after : length c.free.new.self.things.items ≡ length (without n is) = sym (length_seen (instance_of []) c.free.new.self.things.items) ∙ ap (λ (js : List Instance). length js) (c.free.ensures.instances []) in
     let fewer = length_kept (λ (i : Instance). not (i.number == n)) is in
     record { ticks = c.args.self.now.ticks; numbers = c.args.self.now.numbers; few = omega (arith, before, fewer, after, c.args.self.now.few); below = c.args.self.now.below }
@@ -60,7 +41,7 @@ returns-in-Opens-clause-placed c scripts placed all =
     c.put_instance.ensures.placed scripts (subst (λ (k : ℕ). k < length scripts) (sym c.begin.ensures.script) own) all
 
 pub returns-in-Extends-clause-placed : goal.returns-in-Extends-clause-placed
-returns-in-Extends-clause-placed c scripts placed all = c.show.ensures.placed scripts all
+returns-in-Extends-clause-placed c scripts placed all = c.extend.ensures.placed scripts all
 
 pub returns-in-Ends-clause-placed : goal.returns-in-Ends-clause-placed
 returns-in-Ends-clause-placed c scripts placed all = c.end.ensures.placed scripts all
@@ -70,13 +51,16 @@ returns-in-Finishes-clause-placed c scripts placed all = c.free.ensures.placed s
 
 pub returns-in-Extends-clause-states : goal.returns-in-Extends-clause-states
 returns-in-Extends-clause-states c source scripts kept all =
-    let x = c.in-Extends.extension in
-    let shelf = shelf_from source c.args.self.now.shelf in
-    let own : IsNextAt shelf (instances_of scripts c.args.self.now.instances) x.instance x.show.page = rw (c.in-Some.is, c.in-Extends.is) at kept in
-    c.show.ensures.states scripts shelf own all
+    c.extend.ensures.states source scripts (rw (c.in-Some.is, c.in-Extends.is) at kept) all
 
 pub returns-in-Ends-clause-states : goal.returns-in-Ends-clause-states
-returns-in-Ends-clause-states c source scripts kept all = c.end.ensures.states scripts (shelf_from source c.args.self.now.shelf) all
+returns-in-Ends-clause-states c source scripts kept all = c.end.ensures.states source scripts all
 
 pub returns-in-Finishes-clause-states : goal.returns-in-Finishes-clause-states
 returns-in-Finishes-clause-states c source scripts kept all = c.free.ensures.states scripts (shelf_from source c.args.self.now.shelf) all
+
+pub returns-in-Extends-clause-book : goal.returns-in-Extends-clause-book
+returns-in-Extends-clause-book c library beside = rw (c.in-Some.is, c.in-Extends.is) (c.extend.ensures.book library beside)
+
+pub returns-in-Ends-clause-book : goal.returns-in-Ends-clause-book
+returns-in-Ends-clause-book c library beside = rw (c.in-Some.is, c.in-Ends.is) (c.end.ensures.book library beside)

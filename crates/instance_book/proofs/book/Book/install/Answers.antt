@@ -5,10 +5,10 @@ use Rattle.instance_book.specs.Changes.{changed_by}
 use Rattle.instance_book.proofs.book.Book.install.Goals as goal
 
 pub returns-clause-book : goal.returns-clause-book
-returns-clause-book c scripts journal down =
+returns-clause-book c library beside =
     let p = c.args.prepared in
-    let b = book_of scripts journal down c.args.self.now in
-    let changed = c.change.ensures.book scripts journal down in
+    let b = book_of library beside c.args.self.now in
+    let changed = c.change.ensures.book library beside in
     let greater : c.max-self.result ≡ max c.change.new.self.logged p.logged = search rules in
     let logged : c.max-self.result ≡ max b.logged p.logged = greater ∙ ap (λ (x : spec.Book). max x.logged p.logged) changed in
-    ap (λ (x : spec.Book). record x { logged = c.max-self.result }) changed ∙ ap (λ (n : ℕ). record (changed_by scripts p.change b) { logged = n }) logged
+    ap (λ (x : spec.Book). record x { logged = c.max-self.result }) changed ∙ ap (λ (n : ℕ). record (changed_by library p.change b) { logged = n }) logged

@@ -1,5 +1,5 @@
 use Rattle.std.proofs.Common.{subst, IfOk}
-use Rattle.script_nodes.specs.Views.{scripts_of}
+use Rattle.script_nodes.specs.Views.{library_of}
 use Rattle.replay_spec.specs.Admission.{Admission}
 use Rattle.instance_book.specs.Places.{own, given}
 use Rattle.instance_book.specs.Fits.{FitsAs}
@@ -13,6 +13,6 @@ page_ticket-requires-clause-kept c =
 
 pub returns-in-Resumes-clause-fits : goal.returns-in-Resumes-clause-fits
 returns-in-Resumes-clause-fits c = λ all.
-    let setup = c.args.setup.now in
-    subst (λ (a : Admission). IfOk c.page_ticket.result (λ t. FitsAs (scripts_of setup) (book_under setup c.args.self.now) t a)) c.in-Resumes.ensures.admission
+    let setup = (library_of c.args.library.now) in
+    subst (λ (a : Admission). IfOk c.page_ticket.result (λ t. FitsAs (setup.all) (book_under setup c.args.self.now) t a)) c.in-Resumes.ensures.admission
     (c.page_ticket.ensures.fits (c.in-Resumes.ensures.states (own tt) all))

@@ -1,38 +1,35 @@
-use Rattle.std.proofs.Common.{◌≡◌, ◌∙◌, ◌∷◌, [], ap, map, refl, None}
-use Rattle.instance_cells.specs.Views.{effect_of}
+use Rattle.std.proofs.Common.{◌∙◌, ◌∷◌, [], ap, subst, refl, None}
+use Rattle.script_value.specs.Val.{Val, list, no_vals}
 use Rattle.replay_spec.specs.Book as spec
-use Rattle.replay_spec.specs.Change.{put_page}
-use Rattle.instance_book.specs.declared.numbered.Numbered.{Numbered}
-use Rattle.instance_book.specs.declared.page.KeptPage.{KeptPage}
-use Rattle.instance_book.specs.Views.{page_of}
-use Rattle.instance_book.specs.Prepares.{first_page, begun_by}
-use Rattle.instance_book.specs.Segments.{BeginsBy}
+use Rattle.page_marks.specs.Marks.{Mark, uses_of, evictions_of}
+use Rattle.kept_states.specs.Kept.{kept_of}
+use Rattle.instance_book.specs.Views.{page_of, mark_of}
+use Rattle.instance_book.specs.Prepares.{begun_at}
+use Rattle.instance_book.specs.Segments.{effects_in, new_in, IsNewPage, BeginsBy}
 use Rattle.instance_book.proofs.book.Book.opened.Goals as goal
 
 pub returns-clause-opens : goal.returns-clause-opens
 returns-clause-opens c =
-    let t = c.args.ticket.now in
-    let p = c.args.page in
-    let effects = map effect_of p.effects.items in
-    let begins : BeginsBy t p.effects.items p.left.items c.in_ok-instance.instance = rw (c.deref-2.ensures.value, c.deref-3.ensures.value) at c.in_ok-instance.ensures.instance in
-    let reads = rw c.deref.ensures.value at c.in_ok-reads.ensures in
-    let first : Numbered KeptPage = record {
-      number = t.number;
-      item = record { nonce = t.nonce; parent = None; answer = c.in_ok-answer.answer; reads = c.in_ok-reads.reads; inside = p.inside; deadline = p.deadline; state = c.in_ok-kept.kept };
-    } in
-    let page : page_of first ≡ first_page t effects p.inside.items p.deadline = rw (reads, c.in_ok-answer.ensures) refl in
+    let r = c.args.told in
+    let inside = c.args.page.inside.items in
+    let cells = c.args.cells.now in
+    let effects = effects_in r in
+    let left = r.left.items in
+    let begins : BeginsBy c.args.place cells r.effects.items left c.in_ok-instance.instance = rw (c.deref.ensures.value, c.deref-2.ensures.value) at c.in_ok-instance.ensures.instance in
+    let p = c.in_ok-page.page in
+    let next : spec.Page = new_in r None (list no_vals) inside in
+    let new : IsNewPage next (kept_of c.args.page.kept) p =
+    subst (λ (v : Val). IsNewPage (new_in r None v inside) (kept_of c.args.page.kept) p) c.in_ok-answer.ensures c.in_ok-page.ensures in
     record {
-      opening = rw c.in_ok-instance.ensures.script refl;
-      inside_is = refl;
+      told = refl;
+      page = new;
+      script = c.in_ok-instance.ensures.script;
+      pages = c.in_ok-instance.ensures.pages;
+      shown = c.in_ok-instance.ensures.shown;
       begun = λ scripts.
-          ap (λ (i : spec.Instance). record i { pages = put_page (page_of first) i.pages }) (begins scripts t.number)
-          ∙ ap (λ (q : spec.Page). record (begun_by scripts t t.number effects p.left.items) { pages = q ∷ [] }) page;
-      kept = record {
-        script = c.in_ok-instance.ensures.script;
-        pages = c.in_ok-instance.ensures.pages;
-        shown = c.in_ok-instance.ensures.shown;
-        page = page;
-        state = c.in_ok-kept.ensures;
-        told = refl;
-      };
+          let with : spec.Page → Mark → spec.Instance → spec.Instance = λ q m i. record i { used = uses_of (m ∷ []); evicted = evictions_of (m ∷ []); pages = q ∷ [] } in
+          ap (with (page_of p) (mark_of p)) (begins scripts p.number)
+          ∙ (ap (λ (q : spec.Page). with q (mark_of p) (begun_at scripts c.args.place cells q.number effects left)) new.page
+          ∙ ap (λ (m : Mark). with next m (begun_at scripts c.args.place cells next.number effects left)) new.mark);
+      state = refl;
     }

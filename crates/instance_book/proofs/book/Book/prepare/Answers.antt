@@ -15,14 +15,14 @@ pub prepare_page-requires-clause-number : goal.prepare_page-requires-clause-numb
 prepare_page-requires-clause-number c = omega (arith, c.args.self.now.below c.args.ticket.now.number c.requires.out, c.args.self.now.numbers)
 
 pub returns-in-Start-clause-decided : goal.returns-in-Start-clause-decided
-returns-in-Start-clause-decided c scripts journal down fuel a adm admitted fits =
-    start_prepared scripts journal down fuel c.args.life c.args.instances c.args.pages c.args.self.now c.args.ticket.now (segment_of c.args.segment) c.prepare_start.result (name_of c.in-Start.field-0) a
-    (ap (λ (t : Target). admit (book_of scripts journal down c.args.self.now) (target_of t)) (sym c.in-Start.is) ∙ adm) admitted fits c.prepare_start.ensures.decided
+returns-in-Start-clause-decided c library beside fuel a adm admitted fits =
+    start_prepared library beside fuel c.args.life c.args.instances c.args.pages c.args.self.now c.args.ticket.now (segment_of c.args.segment) c.prepare_start.result (name_of c.in-Start.field-0) a
+    (ap (λ (t : Target). admit (book_of library beside c.args.self.now) (target_of t)) (sym c.in-Start.is) ∙ adm) admitted fits c.prepare_start.ensures.decided
 
 pub returns-in-Page-clause-decided : goal.returns-in-Page-clause-decided
-returns-in-Page-clause-decided c scripts journal down fuel a adm admitted fits =
-    page_prepared scripts journal down fuel c.args.life c.args.instances c.args.pages c.args.self.now c.args.ticket.now (segment_of c.args.segment) c.prepare_page.result (name_of c.in-Page.field-0) c.in-Page.page a
-    (ap (λ (t : Target). admit (book_of scripts journal down c.args.self.now) (target_of t)) (sym c.in-Page.is) ∙ adm) admitted fits c.prepare_page.ensures.decided
+returns-in-Page-clause-decided c library beside fuel a adm admitted fits =
+    page_prepared library beside fuel c.args.life c.args.instances c.args.pages c.args.self.now c.args.ticket.now (segment_of c.args.segment) c.prepare_page.result (name_of c.in-Page.field-0) c.in-Page.page a
+    (ap (λ (t : Target). admit (book_of library beside c.args.self.now) (target_of t)) (sym c.in-Page.is) ∙ adm) admitted fits c.prepare_page.ensures.decided
 
 pub returns-in-Start-clause-state : goal.returns-in-Start-clause-state
 returns-in-Start-clause-state c =

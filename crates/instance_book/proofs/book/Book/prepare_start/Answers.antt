@@ -10,13 +10,13 @@ use Rattle.instance_book.proofs.Timely.{timely}
 use Rattle.instance_book.proofs.book.Book.prepare_start.Goals as goal
 
 pub returns-in-Ok-clause-decided : goal.returns-in-Ok-clause-decided
-returns-in-Ok-clause-decided c scripts journal down fuel pages k named fits =
-    let b = book_of scripts journal down c.args.self.now in
-    let many = length_seen (instance_of scripts) c.args.self.now.instances.things.items in
+returns-in-Ok-clause-decided c library beside fuel pages k named fits =
+    let b = book_of library beside c.args.self.now in
+    let many = length_seen (instance_of library.all) c.args.self.now.instances.things.items in
     let full : nat_le c.args.instances (length b.instances) ≡ false = grind (arith, nat_tests, many, c.if-count-instances.false, c.len-count.ensures) in
     let s = segment_of c.args.segment in
     let opens = subst (λ (d : ℕ). IsOpening c.in-Ok.prepared c.args.ticket.now c.in-Shown.page s.effects s.entered s.left c.in-Shown.kind d) c.deadline.ensures c.in-Ok.ensures.opens in
-    opening_lands scripts fuel c.args.life c.args.instances pages b c.args.ticket.now refl k named s c.in-Shown.kind c.in-Shown.page c.in-Ok.prepared
+    opening_lands library fuel c.args.life c.args.instances pages b c.args.ticket.now refl k named s c.in-Shown.kind c.in-Shown.page c.in-Ok.prepared
     fits (ap outcome_of c.in-Shown.is) full opens
 
 pub returns-in-Ok-clause-state : goal.returns-in-Ok-clause-state

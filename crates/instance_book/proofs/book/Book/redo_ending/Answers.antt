@@ -1,31 +1,37 @@
-use Rattle.std.proofs.Common.{◌≡◌, subst, List, map, None}
+use Rattle.std.proofs.Common.{subst, refl, inl, inr, map, List, Option, Bor}
 use Rattle.instance_cells.specs.Views.{effect_of}
 use Rattle.instance_cells.specs.declared.effect.Effect.{Effect}
-use Rattle.instance_book.specs.Views.{instance_of}
-use Rattle.instance_book.specs.Told.{book_beside, ended_in, IsEndedIn}
-use Rattle.instance_book.proofs.Recorded.{ending_passed, ending_redone}
+use Rattle.script_value.specs.declared.outcome.TxName.{TxName}
+use Rattle.instance_book.specs.declared.numbered.Numbered.{Numbered}
+use Rattle.instance_book.specs.declared.instance.KeptInstance.{KeptInstance}
+use Rattle.replay_spec.specs.Book.{ends}
+use Rattle.journal_records.specs.Views.{ending_of}
+use Rattle.instance_book.specs.Redo.{EndsIn}
+use Rattle.instance_book.specs.Segments.{IsLeftBy}
+use Rattle.instance_book.proofs.Redone.{plain_off, ending_lands}
 use Rattle.instance_book.proofs.book.Book.redo_ending.Goals as goal
 
-pub returns-in_default-clause-redone : goal.returns-in_default-clause-redone
-returns-in_default-clause-redone c scripts length =
-    let b = book_beside scripts length c.args.self.now in
-    ending_passed c.args.number c.args.instance c.args.page c.args.answer (map effect_of c.args.effects.items) c.args.left.items b (book_beside scripts length c.pass_over.new.self)
-    (subst (λ (es : List Effect). ended_in b c.args.instance c.args.page (map effect_of es) ≡ None) c.deref.ensures.value (c.in_default.ensures scripts length))
-    (c.pass_over.ensures.book scripts length None)
+pub returns-then-again-clause-landed : goal.returns-then-again-clause-landed
+returns-then-again-clause-landed c library =
+    plain_off library (ends (ending_of c.args.ended)) c.args.again c.args.ended.ticket c.args.self.now _ refl (λ earlier. refl) (inl c.if-again.true) c.pass_over.ensures.book c.pass_over.ensures.states
 
-pub returns-clause-redone : goal.returns-clause-redone
-returns-clause-redone c scripts length =
-    let b = book_beside scripts length c.args.self.now in
+pub returns-in_default-clause-landed : goal.returns-in_default-clause-landed
+returns-in_default-clause-landed c library =
+    let r = c.args.ended in
+    let none = subst (λ (o : Option (Bor (Numbered KeptInstance))). EndsIn c.args.self.now r.instance r.page (map effect_of r.effects.items) o) c.in_default.is
+    (subst (λ (es : List Effect). EndsIn c.args.self.now r.instance r.page (map effect_of es) c.ended.result) c.deref.ensures.value c.ended.ensures) in
+    plain_off library (ends (ending_of r)) c.args.again r.ticket c.args.self.now _ refl (λ earlier. refl) (inr (none library)) c.pass_over-in_default.ensures.book c.pass_over-in_default.ensures.states
+
+pub returns-clause-landed : goal.returns-clause-landed
+returns-clause-landed c library =
+    let r = c.args.ended in
     let i = c.in-Some.kept.now in
-    let there : IsEndedIn c.args.self.now c.args.instance c.args.page (map effect_of c.args.effects.items) i =
-    subst (λ (es : List Effect). IsEndedIn c.args.self.now c.args.instance c.args.page (map effect_of es) i) c.deref.ensures.value c.in-Some.ensures in
-    let left_by = rw (c.deref-2.ensures.value, c.deref-3.ensures.value) at (c.in_ok-after.ensures scripts i.number) in
-    ending_redone c.args.number c.args.instance c.args.page c.args.answer (map effect_of c.args.effects.items) c.args.left.items b (book_beside scripts length c.pass_over-2.new.self)
-    (book_beside scripts length c.change.new.self) c.in_ok-after.after (instance_of scripts i)
-    (there.so scripts length) (there.here scripts) left_by (c.change.ensures.book scripts length None) (c.pass_over-2.ensures.book scripts length None)
+    let is = subst (λ (o : Option (Bor (Numbered KeptInstance))). EndsIn c.args.self.now r.instance r.page (map effect_of r.effects.items) o) c.in-Some.is
+    (subst (λ (es : List Effect). EndsIn c.args.self.now r.instance r.page (map effect_of es) c.ended.result) c.deref.ensures.value c.ended.ensures) in
+    let left : IsLeftBy r.effects.items r.left.items i.item c.in_ok-after.after =
+    subst (λ (es : List Effect). IsLeftBy es r.left.items i.item c.in_ok-after.after) c.deref-2.ensures.value
+    (subst (λ (ns : List TxName). IsLeftBy c.deref-2.result.now ns i.item c.in_ok-after.after) c.deref-3.ensures.value c.in_ok-after.ensures) in
+    ending_lands library c.args.again c.args.self.now _ r i c.in_ok-after.after c.if-again.false is left c.land.ensures.book (λ source all has. c.land.ensures.states source all tt has)
 
 pub returns-clause-placed : goal.returns-clause-placed
-returns-clause-placed c scripts all = c.pass_over-2.ensures.placed scripts (c.change.ensures.placed scripts tt all)
-
-pub returns-clause-states : goal.returns-clause-states
-returns-clause-states c source scripts all = c.pass_over-2.ensures.states source scripts (c.change.ensures.states source scripts tt all)
+returns-clause-placed c all has = c.land.ensures.placed all tt has

@@ -1,10 +1,16 @@
-use Rattle.std.proofs.Common.{◌∙◌}
-use Rattle.instance_book.specs.Told.{book_beside}
-use Rattle.instance_book.proofs.Recorded.{sweep_redone}
-use Rattle.std.proofs.Common.{None}
+use Rattle.std.proofs.Common.{◌≤◌, ◌^◌, ℕ, ap, sym, subst, [], arith}
+use Rattle.replay_spec.specs.Book.{Book}
+use Rattle.instance_book.specs.Views.{no_journal}
+use Rattle.instance_book.proofs.Redone.{sweep_off, sweep_on}
 use Rattle.instance_book.proofs.book.Book.redo_sweep.Goals as goal
 
-pub returns-then-self-tick-clause-redone : goal.returns-then-self-tick-clause-redone
-returns-then-self-tick-clause-redone c scripts length =
-    c.free_expired.ensures.book scripts length None
-    ∙ sweep_redone (book_beside scripts length c.args.self.now) c.args.tick c.if-self-tick.true
+pub returns-then-tick-self-clause-landed : goal.returns-then-tick-self-clause-landed
+returns-then-tick-self-clause-landed c library = sweep_off library c.args.tick c.args.self.now c.if-tick-self.true
+
+pub returns-clause-landed : goal.returns-clause-landed
+returns-clause-landed c library =
+    let not_late = c.if-tick-self.false in
+    sweep_on library c.args.tick c.args.self.now _ (omega (arith, not_late)) c.free_expired.ensures.book c.free_expired.ensures.states
+
+pub returns-clause-low : goal.returns-clause-low
+returns-clause-low c below = subst (λ (n : ℕ). n ≤ 2 ^ 62) (sym (ap (λ (b : Book). b.logged) (c.free_expired.ensures.book (record { all = []; setup = [] }) no_journal))) below

@@ -18,8 +18,8 @@ invariant_of-self c =
     }
 
 pub returns-clause-book : goal.returns-clause-book
-returns-clause-book c scripts journal down =
-    ap (λ (ms : List ℕ). record (book_of scripts journal down c.args.self.now) { out = ms })
+returns-clause-book c library beside =
+    ap (λ (ms : List ℕ). record (book_of library beside c.args.self.now) { out = ms })
     (filter_same _ (λ m. not (m == c.args.number)) _ (λ x b q h. (search rules, search rules)) _ _ c.retain.ensures.filtered)
 
 pub returns-clause-states : goal.returns-clause-states

@@ -1,7 +1,7 @@
 use Rattle.std.proofs.Common.{◌≡◌, ◌∙◌, ◌++◌, ◌∷◌, [], ◌<◌, ap, map, subst, length, get_or, ◌≤◌, List}
 use Rattle.replay_spec.specs.Book.{Page}
 use Rattle.kept_states.specs.Kept.{Kept}
-use Rattle.instance_book.specs.Views.{page_of}
+use Rattle.instance_book.specs.Views.{page_of, mark_of}
 use Rattle.instance_book.specs.Places.{kept_at, shown_of}
 use Rattle.instance_book.specs.declared.numbered.Numbered.{Numbered}
 use Rattle.instance_book.specs.declared.page.KeptPage.{KeptPage}
@@ -30,6 +30,7 @@ loop-page-preserved c =
     record {
       pages = ap (map page_of) items ∙ copied_more page_of xs ys i x y c.loop-page.invariant.pages within here c.in_ok-try_clone.ensures.page;
       shown = ap (map shown_of) items ∙ copied_more shown_of xs ys i x y c.loop-page.invariant.shown within here both;
+      marks = ap (map mark_of) items ∙ copied_more mark_of xs ys i x y c.loop-page.invariant.marks within here c.in_ok-try_clone.ensures.mark;
     }
 
 pub returns : goal.returns
@@ -39,4 +40,5 @@ returns c =
     record {
       pages = c.loop-page.invariant.pages ∙ ap (map page_of) (taken xs c.loop-page.page-index end);
       shown = c.loop-page.invariant.shown ∙ ap (map shown_of) (taken xs c.loop-page.page-index end);
+      marks = c.loop-page.invariant.marks ∙ ap (map mark_of) (taken xs c.loop-page.page-index end);
     }

@@ -1,10 +1,7 @@
-use Rattle.std.proofs.Common.{ap, refl}
+use Rattle.std.proofs.Common.{refl}
 use Rattle.instance_book.specs.declared.numbered.Numbered.{Numbered}
 use Rattle.instance_book.specs.declared.instance.KeptInstance.{KeptInstance}
-use Rattle.instance_book.specs.declared.in_order.InOrder.{InOrder}
-use Rattle.instance_book.specs.declared.page.KeptPage.{KeptPage}
-use Rattle.instance_book.specs.Views.{pages_of}
-use Rattle.instance_book.specs.Places.{shown_in, IsPlaced, IsKept}
+use Rattle.instance_book.specs.Places.{IsPlaced, IsKept}
 use Rattle.instance_book.specs.Changes.{ended_with}
 use Rattle.instance_book.proofs.States.{kept_alike, placed_alike}
 use Rattle.instance_book.proofs.Lists.{within}
@@ -15,27 +12,27 @@ pub invariant_of-self : goal.invariant_of-self
 invariant_of-self c =
     let x = c.index_mut.result.now in
     let y : Numbered KeptInstance = record { number = x.number; item = c.end.new.self } in
-    record { rising = rises_set c.args.self.now.things.items c.args.number c.in-Some.place x y c.args.self.now.rising c.in-Some.ensures.found c.index_mut.ensures.value refl }
+    record { rising = rises_set c.args.self.now.things.items c.args.instance c.in-Some.place x y c.args.self.now.rising c.in-Some.ensures.found c.index_mut.ensures.value refl }
 
 pub returns-in-Some-clause-instances : goal.returns-in-Some-clause-instances
 returns-in-Some-clause-instances c scripts =
     let x = c.index_mut.result.now in
     let y : Numbered KeptInstance = record { number = x.number; item = c.end.new.self } in
-    mended scripts c.args.self.now.things.items c.args.number c.in-Some.place (ended_with c.args.after) x y c.args.self.now.rising c.in-Some.ensures.found c.index_mut.ensures.value refl (c.end.ensures.instance scripts x.number)
+    mended scripts c.args.self.now.things.items c.args.instance c.in-Some.place (ended_with c.args.page c.args.number c.args.after) x y c.args.self.now.rising c.in-Some.ensures.found c.index_mut.ensures.value refl (c.end.ensures.instance scripts x.number)
 
 pub returns-in-None-clause-instances : goal.returns-in-None-clause-instances
-returns-in-None-clause-instances c scripts = unmended scripts c.args.self.now.things.items c.args.number (ended_with c.args.after) c.in-None.ensures.absent
+returns-in-None-clause-instances c scripts = unmended scripts c.args.self.now.things.items c.args.instance (ended_with c.args.page c.args.number c.args.after) c.in-None.ensures.absent
 
 pub returns-in-Some-clause-states : goal.returns-in-Some-clause-states
 returns-in-Some-clause-states c scripts shelf all =
     let x = c.index_mut.result.now in
     let y : Numbered KeptInstance = record { number = x.number; item = c.end.new.self } in
-    all_set (IsKept scripts shelf) c.args.self.now.things.items c.in-Some.place x y c.index_mut.ensures.value (within c.args.self.now.things.items c.args.number c.in-Some.place c.in-Some.ensures.found)
-    (kept_alike scripts shelf y x refl c.end.ensures.script (ap (λ (ps : InOrder KeptPage). pages_of ps) c.end.ensures.pages) (ap (λ (ps : InOrder KeptPage). shown_in ps) c.end.ensures.pages)) all
+    all_set (IsKept scripts shelf) c.args.self.now.things.items c.in-Some.place x y c.index_mut.ensures.value (within c.args.self.now.things.items c.args.instance c.in-Some.place c.in-Some.ensures.found)
+    (kept_alike scripts shelf y x refl c.end.ensures.script c.end.ensures.pages.pages c.end.ensures.pages.shown) all
 
 pub returns-in-Some-clause-placed : goal.returns-in-Some-clause-placed
 returns-in-Some-clause-placed c scripts all =
     let x = c.index_mut.result.now in
     let y : Numbered KeptInstance = record { number = x.number; item = c.end.new.self } in
-    all_set (IsPlaced scripts) c.args.self.now.things.items c.in-Some.place x y c.index_mut.ensures.value (within c.args.self.now.things.items c.args.number c.in-Some.place c.in-Some.ensures.found)
+    all_set (IsPlaced scripts) c.args.self.now.things.items c.in-Some.place x y c.index_mut.ensures.value (within c.args.self.now.things.items c.args.instance c.in-Some.place c.in-Some.ensures.found)
     (placed_alike scripts y x c.end.ensures.script) all

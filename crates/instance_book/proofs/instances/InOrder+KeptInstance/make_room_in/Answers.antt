@@ -1,9 +1,10 @@
 use Rattle.std.proofs.Common.{◌≡◌, ◌∙◌, ap, subst, refl, map, List, Result, Ok, Err, OnOk}
+use Rattle.page_marks.specs.Marks.{uses_of, evictions_of}
 use Rattle.instance_book.specs.declared.numbered.Numbered.{Numbered}
 use Rattle.instance_book.specs.declared.page.KeptPage.{KeptPage}
 use Rattle.instance_book.specs.declared.instance.KeptInstance.{KeptInstance}
 use Rattle.instance_book.specs.Lists.{HasRoom}
-use Rattle.instance_book.specs.Views.{page_of, instance_of}
+use Rattle.instance_book.specs.Views.{page_of, mark_of, instance_of}
 use Rattle.instance_book.specs.Places.{shown_of, IsPlaced, IsKept}
 use Rattle.instance_book.proofs.Lists.{within}
 use Rattle.instance_book.proofs.States.{kept_alike, placed_alike}
@@ -20,7 +21,7 @@ pub returns-in-Some-clause-instances : goal.returns-in-Some-clause-instances
 returns-in-Some-clause-instances c scripts =
     let x = c.index_mut.result.now in
     let y : Numbered KeptInstance = record { number = x.number; item = record x.item { pages = c.make_room.new.self } } in
-    let same : instance_of scripts y ≡ instance_of scripts x = ap (λ (ps : List (Numbered KeptPage)). record (instance_of scripts x) { pages = map page_of ps }) c.make_room.ensures.things in
+    let same : instance_of scripts y ≡ instance_of scripts x = ap (λ (ps : List (Numbered KeptPage)). record (instance_of scripts x) { used = uses_of (map mark_of ps); evicted = evictions_of (map mark_of ps); pages = map page_of ps }) c.make_room.ensures.things in
     mended scripts c.args.self.now.things.items c.args.number c.in-Some.place (λ i. i) x y c.args.self.now.rising c.in-Some.ensures.found c.index_mut.ensures.value refl same
     ∙ mend_nothing scripts c.args.number (map (instance_of scripts) c.args.self.now.things.items)
 

@@ -1,0 +1,23 @@
+use Rattle.std.proofs.Common.{◌∙◌, ap, sym, subst, map, List, Some}
+use Rattle.script_nodes.specs.Setup.{Named}
+use Rattle.journal_records.specs.Views.{script_of}
+use Rattle.journal_spec.specs.Whole.{AreWhole}
+use Rattle.book_recovery.specs.Reading.{IsSetupOf}
+use Rattle.instance_book.proofs.Redone.{of_some}
+use Rattle.book_recovery.proofs.reader.Reader.begun.Goals as goal
+
+pub returns : goal.returns
+returns c =
+    let w = c.in-Ok-Some in
+    let is = of_some w.field-0 w.setup (IsSetupOf (map script_of c.args.texts.now)) w.field-0-is w.ensures.some in (
+      c.if-shelf-self.false,
+      record {
+        empty = c.empty.ensures.book;
+        placed = c.empty.ensures.placed;
+        states = c.empty.ensures.states;
+        told = c.empty.ensures.told;
+        read = is.read ∙ ap (λ (xs : List Named). Some xs) (sym c.of.ensures.setup);
+        all = c.of.ensures.all ∙ sym c.of.ensures.setup;
+        whole = subst (λ (xs : List Named). AreWhole xs) (sym c.of.ensures.setup) is.whole;
+      },
+    )

@@ -1,8 +1,0 @@
-use Rattle.std.proofs.Common.{◌≡◌, map, drop}
-use Rattle.std.specs.List.{list_all}
-use Rattle.replay_spec.specs.Book.{is_expired}
-use Rattle.instance_book.specs.Views.{page_of}
-use Rattle.instance_book.proofs.pages.InOrder+KeptPage.all_expired.Given as goal
-
-abbrev pub invariant-loop-page : goal.invariant-loop-page
-invariant-loop-page l = list_all (is_expired l.tick) (map page_of l.self.things.items) ≡ list_all (is_expired l.tick) (map page_of (drop l.page-index l.self.things.items))
